@@ -1,0 +1,1 @@
+//! Cuts of a text around a byte, as concatenations.
