@@ -2,3 +2,9 @@ pub mod Value
 pub mod Bytes
 pub mod Escapes
 pub mod Addresses
+pub mod Cuts
+pub mod Hosts
+pub mod Schemes
+pub mod Authority
+pub mod Grammar
+pub mod Flaws

@@ -28,8 +28,8 @@ abbrev pub fields : Location → Location
 fields v = record v { spelling = None }
 
 -- a scheme, the alternative-form flag and a path, and nothing else
-abbrev pub bare : Protocol → Bool → List ℕ → Location
-bare named flagged whole = record {
+abbrev pub path_alone : Protocol → Bool → List ℕ → Location
+path_alone named flagged whole = record {
   scheme = named;
   user = None;
   password = None;

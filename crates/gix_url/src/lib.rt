@@ -2,5 +2,10 @@
 #![tactic(auto)]
 
 mod bytes;
+mod error;
 mod escape;
 pub mod ipv6;
+
+ghost use Rattle.gix_url.specs.Authority.{Authority, FitsText};
+ghost use Rattle.gix_url.specs.Grammar.{Spells};
+ghost use Rattle.gix_url.specs.Flaws.{Flaw};
