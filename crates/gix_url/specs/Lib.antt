@@ -8,3 +8,4 @@ pub mod Schemes
 pub mod Authority
 pub mod Grammar
 pub mod Flaws
+pub mod HostPieces
