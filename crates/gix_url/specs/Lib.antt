@@ -9,3 +9,8 @@ pub mod Authority
 pub mod Grammar
 pub mod Flaws
 pub mod HostPieces
+pub mod Views
+pub mod Url
+pub mod AddressTest
+pub mod Text
+pub mod Settled

@@ -1,0 +1,247 @@
+-- The settled class: the locations whose text reads as the same fields, one definition for each kind.
+use Rattle.std.specs.Prelude.{◌≡◌, ◌≢◌, ℕ, ◌<◌, Bool, true, false, not, ◌&&◌, ◌||◌, ◌==◌, ◌⊎◌, List, [], ◌∷◌, ◌++◌, length, codes, bytes_eq, Option, Some, None, IsSome, IfSome, Ok, IsUtf8, All}
+use Rattle.std.specs.List.{list_all}
+use Rattle.percent_encoding.specs.Percent.{percent_decode}
+use Rattle.gix_url.specs.Value.{Protocol, Location}
+use Rattle.gix_url.specs.Value.Protocol.{file, git, ssh, http, https, ext, helper, helper_url}
+use Rattle.gix_url.specs.Bytes.{slash, colon, at_sign, left_bracket, backslash, right_bracket, tilde, FreeOf, begins_by, begins_with, Holds, IsLowercase, LacksWhiteSpace, is_scheme_text, is_helper_name}
+use Rattle.gix_url.specs.Cuts.{is_path_start}
+use Rattle.gix_url.specs.Escapes.{is_sound, has_percent}
+use Rattle.gix_url.specs.Addresses.{IsIpv6Text, Literal}
+use Rattle.gix_url.specs.Hosts.{normal_host, is_http_host_byte}
+use Rattle.gix_url.specs.Schemes.{is_known_scheme}
+use Rattle.gix_url.specs.Authority.{FitsText}
+use Rattle.gix_url.specs.Grammar.{IsNeither, IsScpShaped}
+use Rattle.gix_url.specs.Text.{text}
+
+-- what holds of every value of the code: its texts are UTF-8, its bytes are bytes and its port is one
+pub record IsValue (v : Location) : Type 0 where
+  pub user : IfSome v.user IsUtf8
+  pub password : IfSome v.password IsUtf8
+  pub host : IfSome v.host IsUtf8
+  pub port : IfSome v.port (λ p. p < 65536)
+  pub path : All (λ b. b < 256) v.path
+  pub spelling : IfSome v.spelling (λ s. All (λ b. b < 256) s)
+
+-- ---- what the URL forms have in common
+
+-- the spelling of the path is retained, and decodes to it
+abbrev pub HasMatch : Location → Type 0
+HasMatch v = (spelling : List ℕ) × (v.spelling ≡ Some spelling) × (percent_decode spelling ≡ v.path)
+
+-- the first byte of a text, if it has one
+abbrev pub first_byte : List ℕ → Option ℕ
+first_byte [] = None
+first_byte (b ∷ bs) = Some b
+
+-- a spelling that is written and read again as itself
+pub record IsFairSpelling (spelling path : List ℕ) : Type 0 where
+  pub text : IsUtf8 spelling
+  pub sound : is_sound spelling ≡ true
+  pub escaped : has_percent spelling ≡ true
+  pub no_white_space : LacksWhiteSpace spelling
+  pub front : first_byte spelling ≡ first_byte path
+
+-- the text is not empty, and free of `:`, `[` and `]`
+pub record IsOpenName (host : List ℕ) : Type 0 where
+  pub nonempty : 0 < length host
+  pub no_colon : FreeOf colon host
+  pub no_left_bracket : FreeOf left_bracket host
+  pub no_right_bracket : FreeOf right_bracket host
+
+-- the location has neither user nor password nor port
+pub record HasHostAlone (v : Location) : Type 0 where
+  pub no_user : v.user ≡ None
+  pub no_password : v.password ≡ None
+  pub no_port : v.port ≡ None
+
+-- the location has a text, and it is short enough
+abbrev pub HasFittingText : Location → Type 0
+HasFittingText v = (t : List ℕ) × (text v ≡ Ok t) × FitsText t
+
+-- common to the URLs of HTTP, of Git's own transports and of helpers
+pub record IsSettledUrl (v : Location) : Type 0 where
+  pub unflagged : v.flag ≡ false
+  pub password : IfSome v.password (λ p. (0 < length p) × IsSome v.user)
+  pub user : v.user ≡ Some [] → IsSome v.password
+  pub user_hosted : IsSome v.user → IsSome v.host
+  pub port_hosted : IsSome v.port → IsSome v.host
+  pub fits : HasFittingText v
+  pub path_text : IsUtf8 v.path
+  pub spelling : (s : List ℕ) → v.spelling ≡ Some s → percent_decode s ≡ v.path → IsFairSpelling s v.path
+
+-- ---- HTTP
+
+-- a host of HTTP outside brackets that stays as it is
+pub record IsWebName (host : List ℕ) : Type 0 where
+  pub nonempty : 0 < length host
+  pub bytes : list_all is_http_host_byte host ≡ true
+  pub sound : is_sound host ≡ true
+  pub normal : normal_host host ≡ host
+
+-- a settled host of HTTP: a literal in brackets or a name, and a colon behind it only without a port
+pub data IsWebHost (port : Option ℕ) (host : List ℕ) : Type 0 where
+  literal : (n : List ℕ) → Literal n n → host ≡ left_bracket ∷ (n ++ right_bracket ∷ []) → IsWebHost port host
+  literal_colon : (n : List ℕ) → Literal n n → port ≡ None → host ≡ left_bracket ∷ (n ++ right_bracket ∷ (colon ∷ [])) → IsWebHost port host
+  named : IsWebName host → IsWebHost port host
+  named_colon : (n : List ℕ) → IsWebName n → has_percent n ≡ false → port ≡ None → host ≡ n ++ colon ∷ [] → IsWebHost port host
+
+-- a settled location of HTTP
+pub record IsSettledWeb (v : Location) : Type 0 where
+  pub common : IsSettledUrl v
+  pub host : (h : List ℕ) × (v.host ≡ Some h) × IsWebHost v.port h
+  pub port : v.port ≢ Some 0
+  pub path : begins_by (is_path_start true) v.path ≡ true
+
+-- ---- Secure Shell, Git's own protocol and helper URLs
+
+-- a settled name of a host
+pub record IsNormalName (host : List ℕ) : Type 0 where
+  pub unbracketed : IsOpenName host
+  pub normal : normal_host host ≡ host
+
+-- a lowercase IPv6 text
+pub record IsNormalAddress (host : List ℕ) : Type 0 where
+  pub address : IsIpv6Text host
+  pub lower : IsLowercase host
+
+-- a settled host without brackets, as Secure Shell has it
+abbrev pub IsBareHost : List ℕ → Type 0
+IsBareHost host = IsNormalName host ⊎ IsNormalAddress host
+
+-- a settled host with brackets around an address
+abbrev pub IsBracketedHost : List ℕ → Type 0
+IsBracketedHost host = IsNormalName host ⊎ ((address : List ℕ) × IsNormalAddress address × (host ≡ left_bracket ∷ (address ++ right_bracket ∷ [])))
+
+-- the path is written raw where no spelling matches it
+abbrev pub IsRawPath : Location → Type 0
+IsRawPath v = ¬ HasMatch v → (has_percent v.path ≡ false) × LacksWhiteSpace v.path
+
+-- the text begins with `/~`
+abbrev pub begins_at_home : List ℕ → Bool
+begins_at_home [] = false
+begins_at_home (a ∷ []) = false
+begins_at_home (a ∷ b ∷ rest) = a == slash && b == tilde
+
+-- a rooted path, or one below a home folder, which has no spelling that matches
+abbrev pub IsTransportPath : Location → Type 0
+IsTransportPath v = ((begins_with slash v.path ≡ true) × (begins_at_home v.path ≡ false)) ⊎ ((begins_with tilde v.path ≡ true) × (¬ HasMatch v))
+
+-- a settled URL of Secure Shell
+pub record IsSettledSecure (v : Location) : Type 0 where
+  pub common : IsSettledUrl v
+  pub host : (h : List ℕ) × (v.host ≡ Some h) × IsBareHost h
+  pub path : IsTransportPath v
+  pub raw : IsRawPath v
+
+-- a settled URL of Git's own protocol
+pub record IsSettledGit (v : Location) : Type 0 where
+  pub common : IsSettledUrl v
+  pub host : (h : List ℕ) × (v.host ≡ Some h) × IsBracketedHost h
+  pub path : IsTransportPath v
+  pub raw : IsRawPath v
+
+-- the name is of FTP, whose URLs need a host
+abbrev pub is_ftp : List ℕ → Bool
+is_ftp name = bytes_eq name (codes "ftp") || bytes_eq name (codes "ftps")
+
+-- a settled URL of another scheme
+pub record IsSettledHelperUrl (name : List ℕ) (v : Location) : Type 0 where
+  pub common : IsSettledUrl v
+  pub scheme_text : is_scheme_text name ≡ true
+  pub unknown : is_known_scheme name ≡ false
+  pub host : IfSome v.host IsBracketedHost
+  pub hosted : is_ftp name ≡ true → IsSome v.host
+  pub path : (v.path ≡ []) ⊎ (begins_with slash v.path ≡ true)
+  pub raw : IsRawPath v
+
+-- ---- the local file system
+
+-- a host of a file URL that stays as it is
+pub record IsFileHost (host : List ℕ) : Type 0 where
+  pub nonempty : 0 < length host
+  pub no_slash : FreeOf slash host
+  pub unbracketed : (begins_with left_bracket host ≡ true) ⊎ (FreeOf colon host ⊎ (has_percent host ≡ false))
+
+-- a settled file URL
+pub record IsSettledFile (v : Location) : Type 0 where
+  pub unflagged : v.flag ≡ false
+  pub alone : HasHostAlone v
+  pub no_match : ¬ HasMatch v
+  pub host : IfSome v.host IsFileHost
+  pub path_text : IsUtf8 v.path
+  pub rooted : begins_with slash v.path ≡ true
+
+-- a settled local path
+pub record IsSettledLocal (v : Location) : Type 0 where
+  pub flagged : v.flag ≡ true
+  pub alone : HasHostAlone v
+  pub no_host : v.host ≡ None
+  pub nonempty : 0 < length v.path
+  pub neither : IsNeither v.path
+  pub no_scp : ¬ IsScpShaped v.path
+
+-- ---- the scp form
+
+-- a settled name of a host in the scp form
+pub record IsScpName (host : List ℕ) : Type 0 where
+  pub normal : IsNormalName host
+  pub no_at : FreeOf at_sign host
+  pub no_slash : FreeOf slash host
+  pub no_backslash : FreeOf backslash host
+  pub no_white_space : LacksWhiteSpace host
+
+-- a settled user in the scp form; it may be empty
+pub record IsScpUser (user : List ℕ) : Type 0 where
+  pub no_colon : FreeOf colon user
+  pub no_slash : FreeOf slash user
+  pub no_bracket : begins_with left_bracket user ≡ false
+
+-- the text begins with `//`
+abbrev pub begins_with_slashes : List ℕ → Bool
+begins_with_slashes [] = false
+begins_with_slashes (a ∷ []) = false
+begins_with_slashes (a ∷ b ∷ rest) = a == slash && b == slash
+
+-- without a user the text of host and path would be that of a remote helper
+abbrev pub LooksLikeHelper : Location → List ℕ → Type 0
+LooksLikeHelper v host = (v.user ≡ None) × (is_helper_name host ≡ true) × (begins_with colon v.path ≡ true)
+
+-- a settled location in the scp form
+pub record IsSettledScp (v : Location) : Type 0 where
+  pub flagged : v.flag ≡ true
+  pub no_password : v.password ≡ None
+  pub no_port : v.port ≡ None
+  pub path_text : IsUtf8 v.path
+  pub nonempty : 0 < length v.path
+  pub not_home : begins_at_home v.path ≡ false
+  pub not_slashes : begins_with_slashes v.path ≡ false
+  pub no_mark : ¬ Holds (codes "://") v.path
+  pub user : IfSome v.user IsScpUser
+  pub host : (h : List ℕ) × (v.host ≡ Some h) × (IsScpName h ⊎ IsNormalAddress h) × ¬ LooksLikeHelper v h
+
+-- ---- remote helpers
+
+-- a settled remote helper
+pub record IsSettledHelper (name : List ℕ) (v : Location) : Type 0 where
+  pub flagged : v.flag ≡ true
+  pub alone : HasHostAlone v
+  pub no_host : v.host ≡ None
+  pub named : is_helper_name name ≡ true
+
+-- ---- all kinds
+
+-- the location is settled, by its protocol
+abbrev pub IsSettledBy : Protocol → Location → Type 0
+IsSettledBy file v = IsSettledLocal v ⊎ IsSettledFile v
+IsSettledBy ssh v = IsSettledScp v ⊎ IsSettledSecure v
+IsSettledBy git v = IsSettledGit v
+IsSettledBy http v = IsSettledWeb v
+IsSettledBy https v = IsSettledWeb v
+IsSettledBy ext v = IsSettledHelper (codes "ext") v
+IsSettledBy (helper name) v = IsSettledHelper name v × (bytes_eq name (codes "ext") ≡ false)
+IsSettledBy (helper_url name) v = IsSettledHelperUrl name v
+
+-- the location is settled
+abbrev pub IsSettled : Location → Type 0
+IsSettled v = IsSettledBy v.scheme v

@@ -1,0 +1,193 @@
+-- The text of a location: first the choice of its form, then one concatenation for each form.
+use Rattle.std.specs.Prelude.{ℕ, Bool, true, false, not, ◌&&◌, ◌||◌, ◌==◌, List, [], ◌∷◌, ◌++◌, codes, bytes_eq, decimal, Option, Some, None, is_some, is_none, Result, Ok, Err, if◌then◌else◌}
+use Rattle.std.specs.List.{list_any}
+use Rattle.percent_encoding.specs.Percent.{percent_encode, percent_decode}
+use Rattle.gix_url.specs.declared.error.WriteFault.{WriteFault}
+use Rattle.gix_url.specs.declared.error.WriteFault.TheVariants.{HelperName, HelperParts, RelativeSsh, UserWithoutHost}
+use Rattle.gix_url.specs.declared.escape.TheConstants.{PATH, PASSWORD, USER}
+use Rattle.gix_url.specs.Value.{Protocol, Location}
+use Rattle.gix_url.specs.Value.Protocol.{file, git, ssh, http, https, ext, helper, helper_url}
+use Rattle.gix_url.specs.Bytes.{slash, colon, at_sign, left_bracket, right_bracket, tilde, begins_with, is_helper_name}
+use Rattle.gix_url.specs.Escapes.{has_percent, escaped_percents}
+use Rattle.gix_url.specs.AddressTest.{is_ipv6_text}
+use Rattle.gix_url.specs.Schemes.{protocol_text}
+
+-- the forms of a text
+pub data Form : Type 0 where
+  helper_form : Form
+  path_form : Form
+  scp_form : Form
+  canonical_form : Form
+
+-- a form in which a user comes only with a host
+abbrev pub with_host : Location → Form → Result Form WriteFault
+with_host v form = if is_some v.user && is_none v.host then Err UserWithoutHost else Ok form
+
+-- the location has a user, a password, a host or a port
+abbrev pub has_authority : Location → Bool
+has_authority v = is_some v.user || (is_some v.password || (is_some v.host || is_some v.port))
+
+-- the form of a remote helper of this name
+abbrev pub helper_choice : List ℕ → Location → Result Form WriteFault
+helper_choice name v = if is_helper_name name then (if has_authority v then Err HelperParts else Ok helper_form) else Err HelperName
+
+-- the location asks for the form that is no URL, and can have it
+abbrev pub is_alternative : Location → Bool
+is_alternative v = v.flag && (is_none v.password && is_none v.port)
+
+-- the path is neither empty nor rooted nor below a home folder
+abbrev pub is_relative : List ℕ → Bool
+is_relative [] = false
+is_relative (b ∷ bs) = not (b == slash) && not (b == tilde)
+
+-- the form of a location of Secure Shell
+abbrev pub ssh_choice : Location → Result Form WriteFault
+ssh_choice v =
+    if is_relative v.path
+    then (if is_some v.host && (is_none v.password && is_none v.port) then Ok scp_form else Err RelativeSsh)
+    else (if is_alternative v then with_host v scp_form else with_host v canonical_form)
+
+-- the form of a location, by its protocol
+abbrev pub choice_by : Protocol → Location → Result Form WriteFault
+choice_by ext v = helper_choice (codes "ext") v
+choice_by (helper name) v = helper_choice name v
+choice_by ssh v = ssh_choice v
+choice_by file v = if is_alternative v then with_host v path_form else with_host v canonical_form
+choice_by git v = with_host v canonical_form
+choice_by http v = with_host v canonical_form
+choice_by https v = with_host v canonical_form
+choice_by (helper_url name) v = with_host v canonical_form
+
+abbrev pub choice : Location → Result Form WriteFault
+choice v = choice_by v.scheme v
+
+-- ---- the helper form
+
+abbrev pub helper_text : Location → List ℕ
+helper_text v = protocol_text v.scheme ++ (colon ∷ (colon ∷ v.path))
+
+-- ---- path and scp form
+
+-- the text holds a colon
+abbrev pub has_colon : List ℕ → Bool
+has_colon text = list_any (λ b. b == colon) text
+
+-- colons stand in the host, and no bracket at its front
+abbrev pub wants_brackets : List ℕ → Bool
+wants_brackets host = has_colon host && not (begins_with left_bracket host)
+
+-- the user and `@`, raw
+abbrev pub raw_user : Option (List ℕ) → List ℕ
+raw_user None = []
+raw_user (Some user) = user ++ at_sign ∷ []
+
+-- the host, raw, in brackets where it wants them
+abbrev pub raw_host : Option (List ℕ) → List ℕ
+raw_host None = []
+raw_host (Some host) = if wants_brackets host then left_bracket ∷ (host ++ right_bracket ∷ []) else host
+
+abbrev pub path_text : Location → List ℕ
+path_text v = raw_user v.user ++ (raw_host v.host ++ v.path)
+
+abbrev pub scp_text : Location → List ℕ
+scp_text v = raw_user v.user ++ (raw_host v.host ++ colon ∷ v.path)
+
+-- ---- the canonical form
+
+-- the password behind its colon, escaped
+abbrev pub escaped_password : Option (List ℕ) → List ℕ
+escaped_password None = []
+escaped_password (Some password) = colon ∷ percent_encode PASSWORD password
+
+-- the user information and `@`, escaped: a password without a user is left out
+abbrev pub user_information : Option (List ℕ) → Option (List ℕ) → List ℕ
+user_information None password = []
+user_information (Some user) password = percent_encode USER user ++ (escaped_password password ++ at_sign ∷ [])
+
+-- the protocol's hosts are written as they are
+abbrev pub keeps_host : Protocol → Bool
+keeps_host file = true
+keeps_host http = true
+keeps_host https = true
+keeps_host git = false
+keeps_host ssh = false
+keeps_host ext = false
+keeps_host (helper name) = false
+keeps_host (helper_url name) = false
+
+-- a host outside brackets: as it is, or escaped, but for the colons of an address
+abbrev pub open_host : Protocol → List ℕ → List ℕ
+open_host protocol host = if keeps_host protocol then host else (if is_ipv6_text host then percent_encode PASSWORD host else percent_encode USER host)
+
+-- the host goes between brackets: it wants them, and a port or an escape would mislead without
+abbrev pub needs_brackets : Option ℕ → List ℕ → Bool
+needs_brackets port host = wants_brackets host && (is_some port || has_percent host)
+
+-- the host of a URL
+abbrev pub canonical_host : Location → List ℕ → List ℕ
+canonical_host v host = if needs_brackets v.port host then left_bracket ∷ (escaped_percents host ++ right_bracket ∷ []) else open_host v.scheme host
+
+abbrev pub host_part : Location → Option (List ℕ) → List ℕ
+host_part v None = []
+host_part v (Some host) = canonical_host v host
+
+-- the port behind its colon
+abbrev pub port_part : Option ℕ → List ℕ
+port_part None = []
+port_part (Some port) = colon ∷ decimal port
+
+-- the protocol's URLs have a rooted path
+abbrev pub roots_path : Protocol → Bool
+roots_path ssh = true
+roots_path git = true
+roots_path file = false
+roots_path http = false
+roots_path https = false
+roots_path ext = false
+roots_path (helper name) = false
+roots_path (helper_url name) = false
+
+-- the `/` before a path that has none, where one is needed
+abbrev pub root_part : Location → List ℕ
+root_part v = if roots_path v.scheme && not (begins_with slash v.path) then slash ∷ [] else []
+
+-- the path as it is written without a spelling: escaped for HTTP, raw else
+abbrev pub plain_path : Protocol → List ℕ → List ℕ
+plain_path http path = percent_encode PATH path
+plain_path https path = percent_encode PATH path
+plain_path file path = path
+plain_path git path = path
+plain_path ssh path = path
+plain_path ext path = path
+plain_path (helper name) path = path
+plain_path (helper_url name) path = path
+
+-- the spelling where it matches the path, and else what stands in for it
+abbrev pub matching_or : Option (List ℕ) → List ℕ → List ℕ → List ℕ
+matching_or None path other = other
+matching_or (Some spelling) path other = if bytes_eq (percent_decode spelling) path then spelling else other
+
+-- the path of a URL
+abbrev pub canonical_path : Location → List ℕ
+canonical_path v = root_part v ++ matching_or v.spelling v.path (plain_path v.scheme v.path)
+
+abbrev pub canonical_text : Location → List ℕ
+canonical_text v = protocol_text v.scheme ++ (codes "://" ++ (user_information v.user v.password ++ (host_part v v.host ++ (port_part v.port ++ canonical_path v))))
+
+-- ---- the text
+
+-- the text of a location in this form
+abbrev pub written : Form → Location → List ℕ
+written helper_form v = helper_text v
+written path_form v = path_text v
+written scp_form v = scp_text v
+written canonical_form v = canonical_text v
+
+-- the text in the form that was chosen, or the fault
+abbrev pub in_form : Result Form WriteFault → Location → Result (List ℕ) WriteFault
+in_form (Ok form) v = Ok (written form v)
+in_form (Err fault) v = Err fault
+
+-- the text of a location, or why it has none
+abbrev pub text : Location → Result (List ℕ) WriteFault
+text v = in_form (choice v) v

@@ -1,0 +1,19 @@
+-- The location that a `Url` stands for.
+use Rattle.std.specs.Prelude.{string_bytes, option_map}
+use Rattle.bstr.specs.Owned.{bstring_bytes}
+use Rattle.gix_url.specs.declared.location.Url.TheInside.{Inside}
+use Rattle.gix_url.specs.Value.{Location}
+use Rattle.gix_url.specs.Views.{protocol}
+
+-- the eight parts of a `Url`, as plain values
+abbrev pub location : Inside → Location
+location u = record {
+  scheme = protocol u.scheme;
+  user = option_map string_bytes u.user;
+  password = option_map string_bytes u.password;
+  host = option_map string_bytes u.host;
+  flag = u.serialize_alternative_form;
+  port = u.port;
+  path = bstring_bytes u.path;
+  spelling = option_map bstring_bytes u.spelling;
+}

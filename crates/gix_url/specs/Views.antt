@@ -1,0 +1,17 @@
+-- The protocol that a scheme of the code stands for.
+use Rattle.std.specs.Prelude.{string_bytes}
+use Rattle.gix_url.specs.declared.scheme.Scheme.{Scheme}
+use Rattle.gix_url.specs.declared.scheme.Scheme.TheVariants.{File, Git, Ssh, Http, Https, Ext, Helper, HelperUrl}
+use Rattle.gix_url.specs.Value.{Protocol}
+use Rattle.gix_url.specs.Value.Protocol.{file, git, ssh, http, https, ext, helper, helper_url}
+
+-- the protocol of a scheme
+abbrev pub protocol : Scheme → Protocol
+protocol File = file
+protocol Git = git
+protocol Ssh = ssh
+protocol Http = http
+protocol Https = https
+protocol Ext = ext
+protocol (Helper name) = helper (string_bytes name)
+protocol (HelperUrl name) = helper_url (string_bytes name)
