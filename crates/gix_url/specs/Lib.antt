@@ -1,4 +1,5 @@
 pub mod Value
 pub mod Bytes
+pub mod Cuts
 pub mod Escapes
 pub mod Addresses
