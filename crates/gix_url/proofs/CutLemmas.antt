@@ -1,17 +1,17 @@
 -- Texts cut around a byte or a mark: what the pieces lack, that the text determines them, and what classes of bytes lack.
-use Rattle.std.proofs.Common.{◌≡◌, ℕ, zero, suc, ◌+◌, ◌<◌, ◌≤◌, Bool, true, false, not, Option, ◌==◌, ◌||◌, ◌&&◌, ◌⊎◌, inl, inr, List, [], ◌∷◌, ◌++◌, length, take, drop, get_or, refl, sym, ap, subst, ◌∙◌, arith, append_assoc, add-one, codes, eqb, Some, None}
+use Rattle.std.proofs.Common.{◌≡◌, ℕ, zero, suc, ◌+◌, ◌<◌, ◌≤◌, Bool, true, false, not, Option, ◌==◌, ◌||◌, ◌⊎◌, inl, inr, List, [], ◌∷◌, ◌++◌, length, take, drop, get_or, refl, sym, ap, subst, ◌∙◌, arith, append_assoc, add-one, eqb, Some, None}
 use Rattle.std.specs.List.{list_any, list_all, position, position_or_len}
 use Rattle.std.specs.Char.{is_ascii_digit, is_ascii_uppercase, is_ascii_lowercase, is_ascii_alphabetic, is_ascii_alphanumeric}
 use Rattle.std.specs.Option.{unwrap_or}
 use Rattle.std.proofs.lemmas.Bool.Decides.{nat_tests}
 use Rattle.std.proofs.lemmas.List.Sums.{prefix_len-le-length, fails_before_first, passes_at_first}
-use Rattle.std.proofs.lemmas.Bool.{both_ways, cases_lt, and_from, or_left, eqb-true, eq-eqb, and_parts, or_parts, or_from, false_from_ne_true}
+use Rattle.std.proofs.lemmas.Bool.{both_ways, false≢true, cases_Bool, cases_lt, and_from, or_left, eqb-true, eq-eqb, and_parts, or_parts, or_from, false_from_ne_true}
 use Rattle.std.proofs.lemmas.Grind.{same_number_lists}
-use Rattle.std.proofs.lemmas.List.{at_drop_more, drop_all, append_cancel_left, take-append-drop, drop-drop, get_or-take, get_or-drop, get_or-append-add, get_or_append_left, length-take-le, length-take, length-drop, length-append, same_from_push}
+use Rattle.std.proofs.lemmas.List.{at_drop_more, drop_all, take-append-drop, drop-drop, get_or-take, get_or-drop, get_or-append-add, get_or_append_left, length-take-le, length-take, length-drop, length-append, same_from_push}
 use Rattle.bstr.specs.Find.{OccursAt}
 use Rattle.memchr.specs.Find.{IsFirstByte, IsLastByte, FindsNeedle, is_byte}
-use Rattle.gix_url.specs.Bytes.{colon, Lacks, FreeOf, Holds, begins_by, is_name_byte, is_scheme_mark, is_scheme_text, is_helper_name}
-use Rattle.gix_url.specs.Cuts.{mark, is_path_start, StartsPath}
+use Rattle.gix_url.specs.Bytes.{colon, Lacks, FreeOf, Holds, begins_by, begins_with, is_name_byte, is_scheme_mark, is_scheme_text, is_helper_name}
+use Rattle.gix_url.specs.Cuts.{url_mark, is_path_start, StartsPath}
 
 -- ---- heads and tails
 
@@ -108,6 +108,23 @@ free_of_all test c (b ∷ bs) h k =
 pub free_of_lacked : (test : ℕ → Bool) (c : ℕ) (bs : List ℕ) → Lacks test bs → test c ≡ true → FreeOf c bs
 free_of_lacked test c bs h k = lacks_weaker (λ b. b == c) test (λ b e. ap test (eqb-true b c e) ∙ k) bs h
 
+-- a text is free of a byte, or is what stands before the first such byte, the byte, and what stands behind it
+pub free_or_cut : (c : ℕ) (bs : List ℕ) → FreeOf c bs ⊎ ((x : List ℕ) × (y : List ℕ) × FreeOf c x × (bs ≡ x ++ c ∷ y))
+free_or_cut c [] = inl refl
+free_or_cut c (b ∷ bs) =
+    elim (cases_Bool (b == c)) [
+      | inl same ↦ inr ([], bs, refl, ap (λ d. d ∷ bs) (eqb-true b c same))
+      | inr other ↦ elim (free_or_cut c bs) [
+        | inl h ↦ inl (free-cons c b bs other h)
+        | inr (x, y, h, e) ↦ inr (b ∷ x, y, free-cons c b x other h, ap (λ z. b ∷ z) e)
+      ]
+    ]
+
+-- a text that begins with a byte is the byte and what follows
+pub begins_cut : (c : ℕ) (bs : List ℕ) → begins_with c bs ≡ true → (rest : List ℕ) × (bs ≡ c ∷ rest)
+begins_cut c [] h = absurd (false≢true h)
+begins_cut c (b ∷ bs) h = (bs, ap (λ d. d ∷ bs) (eqb-true b c h))
+
 -- a text with a byte in it is not free of the byte
 pub not_free : (c : ℕ) (x y : List ℕ) → FreeOf c (x ++ c ∷ y) → ⊥
 not_free c x y h =
@@ -163,7 +180,7 @@ cut_occurs front needle rest = record {
 pub none_held_before : (hay needle : List ℕ) (k : ℕ) → 0 < length needle → ((j : ℕ) → j < k → ¬ OccursAt hay needle j) → ¬ Holds needle (take k hay)
 none_held_before hay needle k some h (front, rest, e) =
     let whole : hay ≡ front ++ (needle ++ (rest ++ drop k hay)) =
-        sym (take-append-drop k hay) ∙ ap (λ x. x ++ drop k hay) e ∙ append_assoc front (needle ++ rest) (drop k hay) ∙ ap (λ x. front ++ x) (append_assoc needle rest (drop k hay)) in
+    sym (take-append-drop k hay) ∙ ap (λ x. x ++ drop k hay) e ∙ append_assoc front (needle ++ rest) (drop k hay) ∙ ap (λ x. front ++ x) (append_assoc needle rest (drop k hay)) in
     h (length front) (omega (arith, length-take k hay, ap length e, length-append front (needle ++ rest), length-append needle rest)) (subst (λ x. OccursAt x needle (length front)) (sym whole) (cut_occurs front needle (rest ++ drop k hay)))
 
 -- a mark that stands at no place isn't in the text
@@ -172,12 +189,12 @@ none_held hay needle h (front, rest, e) =
     h (length front) (omega (arith, ap length e, length-append front (needle ++ rest))) (subst (λ x. OccursAt x needle (length front)) (sym e) (cut_occurs front needle rest))
 
 -- the pieces around the first `://`
-pub mark_found : (bs : List ℕ) (n : ℕ) → FindsNeedle bs mark 0 (Some n) → (¬ Holds mark (take n bs)) × (bs ≡ take n bs ++ (mark ++ drop (n + 3) bs))
-mark_found bs n h = (none_held_before bs mark n (omega arith) (λ j l. h.0.before j (omega arith) l), occurs_cut bs mark n h.1)
+pub mark_found : (bs : List ℕ) (n : ℕ) → FindsNeedle bs url_mark 0 (Some n) → (¬ Holds url_mark (take n bs)) × (bs ≡ take n bs ++ (url_mark ++ drop (n + 3) bs))
+mark_found bs n h = (none_held_before bs url_mark n (omega arith) (λ j l. h.0.before j (omega arith) l), occurs_cut bs url_mark n h.1)
 
 -- `://` that has no first place stands nowhere
-pub no_mark_found : (bs : List ℕ) → FindsNeedle bs mark 0 None → ¬ Holds mark bs
-no_mark_found bs h = none_held bs mark (λ j l. h j (omega arith) l)
+pub no_mark_found : (bs : List ℕ) → FindsNeedle bs url_mark 0 None → ¬ Holds url_mark bs
+no_mark_found bs h = none_held bs url_mark (λ j l. h j (omega arith) l)
 
 -- ---- cuts before a path
 
@@ -250,15 +267,15 @@ last_cut_unique c (d ∷ a) (k ∷ b) x y f g e =
     (cc rest.0, rest.1)
 
 -- a text free of `:` doesn't hold `://`
-pub held_free : (bs : List ℕ) → FreeOf colon bs → ¬ Holds mark bs
+pub held_free : (bs : List ℕ) → FreeOf colon bs → ¬ Holds url_mark bs
 held_free bs h (front, rest, e) = not_free colon front (47 ∷ 47 ∷ rest) (subst (λ z. FreeOf colon z) e h)
 
 -- what follows the first byte of a text without `://` holds none
-not_held_behind : (b : ℕ) (bs : List ℕ) → ¬ Holds mark (b ∷ bs) → ¬ Holds mark bs
+not_held_behind : (b : ℕ) (bs : List ℕ) → ¬ Holds url_mark (b ∷ bs) → ¬ Holds url_mark bs
 not_held_behind b bs h (front, rest, e) = h (b ∷ front, rest, ap (λ z. b ∷ z) e)
 
 -- no text that holds no `://` has one that reaches from it into another that follows
-no_overlap : (b : ℕ) (bs x y : List ℕ) → ¬ Holds mark (b ∷ bs) → mark ++ x ≡ b ∷ (bs ++ (mark ++ y)) → ⊥
+no_overlap : (b : ℕ) (bs x y : List ℕ) → ¬ Holds url_mark (b ∷ bs) → url_mark ++ x ≡ b ∷ (bs ++ (url_mark ++ y)) → ⊥
 no_overlap b [] x y h e = different_bytes 47 58 refl (tails e)
 no_overlap b (c ∷ []) x y h e = different_bytes 47 58 refl (tails (tails e))
 no_overlap b (c ∷ d ∷ bs) x y h e =
@@ -268,7 +285,7 @@ no_overlap b (c ∷ d ∷ bs) x y h e =
     h ([], bs, ap (λ z. z ∷ c ∷ d ∷ bs) first ∙ ap (λ z. 58 ∷ z ∷ d ∷ bs) second ∙ ap (λ z. 58 ∷ 47 ∷ z ∷ bs) third)
 
 -- the pieces around `://`, of which the first doesn't hold it
-pub mark_cut_unique : (a b x y : List ℕ) → ¬ Holds mark a → ¬ Holds mark b → a ++ (mark ++ x) ≡ b ++ (mark ++ y) → (a ≡ b) × (x ≡ y)
+pub mark_cut_unique : (a b x y : List ℕ) → ¬ Holds url_mark a → ¬ Holds url_mark b → a ++ (url_mark ++ x) ≡ b ++ (url_mark ++ y) → (a ≡ b) × (x ≡ y)
 mark_cut_unique [] [] x y f g e = (refl, tails (tails (tails e)))
 mark_cut_unique [] (d ∷ b) x y f g e = absurd (no_overlap d b x y g e)
 mark_cut_unique (d ∷ a) [] x y f g e = absurd (no_overlap d a y x f (sym e))

@@ -1,11 +1,11 @@
 -- What the cuts of a text answer: the pieces joined are the text, and one of them is free of what was searched for.
 use Rattle.std.specs.Prelude.{◌≡◌, ℕ, Bool, true, false, ◌&&◌, ◌||◌, ◌==◌, ◌⊎◌, List, [], ◌∷◌, ◌++◌, Option, MatchOption, codes}
 use Rattle.std.specs.Borrow.{Bor}
-use Rattle.gix_url.specs.Bytes.{slash, question_mark, number_sign, Lacks, FreeOf, Holds, begins_by, begins_with}
+use Rattle.gix_url.specs.Bytes.{slash, question_mark, number_sign, FreeOf, Holds, begins_by, begins_with}
 
 -- the mark behind the scheme of a URL
-abbrev pub mark : List ℕ
-mark = codes "://"
+abbrev pub url_mark : List ℕ
+url_mark = codes "://"
 
 -- the pieces around the first c, or none where no byte is c
 abbrev pub CutsAt : ℕ → List ℕ → Option (Bor (List ℕ) × Bor (List ℕ)) → Type 0
@@ -17,15 +17,15 @@ CutsAtLast c b r = MatchOption r (FreeOf c b) (λ p. FreeOf c p.1.now × (b ≡ 
 
 -- the pieces around the first `://`, or none where it stands nowhere
 abbrev pub CutsAtMark : List ℕ → Option (Bor (List ℕ) × Bor (List ℕ)) → Type 0
-CutsAtMark b r = MatchOption r (¬ Holds mark b) (λ p. (¬ Holds mark p.0.now) × (b ≡ p.0.now ++ (mark ++ p.1.now)))
+CutsAtMark b r = MatchOption r (¬ Holds url_mark b) (λ p. (¬ Holds url_mark p.0.now) × (b ≡ p.0.now ++ (url_mark ++ p.1.now)))
 
 -- what follows a first c, or none where the first byte is no c
-abbrev pub Begins : ℕ → List ℕ → Option (Bor (List ℕ)) → Type 0
-Begins c b r = MatchOption r (begins_with c b ≡ false) (λ rest. b ≡ c ∷ rest.now)
+abbrev pub StripsFirst : ℕ → List ℕ → Option (Bor (List ℕ)) → Type 0
+StripsFirst c b r = MatchOption r (begins_with c b ≡ false) (λ rest. b ≡ c ∷ rest.now)
 
 -- what stands before a last c, or none where the last byte is no c
-abbrev pub Ends : ℕ → List ℕ → Option (Bor (List ℕ)) → Type 0
-Ends c b r = MatchOption r ((front : List ℕ) → ¬ (b ≡ front ++ c ∷ [])) (λ front. b ≡ front.now ++ c ∷ [])
+abbrev pub StripsLast : ℕ → List ℕ → Option (Bor (List ℕ)) → Type 0
+StripsLast c b r = MatchOption r ((front : List ℕ) → ¬ (b ≡ front ++ c ∷ [])) (λ front. b ≡ front.now ++ c ∷ [])
 
 -- a path may start at the byte: at a `/`, and on the web also at a `?` or a `#`
 abbrev pub is_path_start : Bool → ℕ → Bool
@@ -34,7 +34,3 @@ is_path_start web b = b == slash || (web && (b == question_mark || b == number_s
 -- the text is empty or starts as a path may
 abbrev pub StartsPath : Bool → List ℕ → Type 0
 StartsPath web p = (p ≡ []) ⊎ (begins_by (is_path_start web) p ≡ true)
-
--- the front up to the first byte at which a path may start, and the rest
-abbrev pub CutsBeforePath : Bool → List ℕ → List ℕ → List ℕ → Type 0
-CutsBeforePath web b front rest = (b ≡ front ++ rest) × Lacks (is_path_start web) front × StartsPath web rest

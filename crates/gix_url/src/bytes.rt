@@ -4,10 +4,10 @@
 //! answers is told as a concatenation: the pieces joined are the text, and one of them is free of what was
 //! searched for, so that no caller sees an index.
 
-ghost use Rattle.std.specs.Prelude.{◌≡◌, ◌↔◌, IsTrue};
+ghost use Rattle.std.specs.Prelude.{◌≡◌, ◌↔◌, ◌++◌, IsTrue};
 ghost use Rattle.std.specs.List.{list_all, position};
-ghost use Rattle.gix_url.specs.Bytes.{FreeOf, IsLowercase, begins_with, is_helper_name, is_name_byte, is_scheme_text};
-ghost use Rattle.gix_url.specs.Cuts.{CutsAt, CutsAtLast, CutsAtMark, CutsBeforePath, Ends, Begins, is_path_start};
+ghost use Rattle.gix_url.specs.Bytes.{FreeOf, IsLowercase, Lacks, begins_with, is_helper_name, is_name_byte, is_scheme_text};
+ghost use Rattle.gix_url.specs.Cuts.{CutsAt, CutsAtLast, CutsAtMark, StartsPath, StripsFirst, StripsLast, is_path_start};
 
 use bstr::ByteSlice;
 
@@ -37,7 +37,7 @@ pub(crate) fn cut_at_mark(bytes: &[u8]) -> Option<(&[u8], &[u8])>
 
 /// What follows a first byte `c`.
 pub(crate) fn after(bytes: &[u8], c: u8) -> Option<&[u8]>
-    ensures { Begins c bytes.now result }
+    ensures { StripsFirst c bytes.now result }
 {
     match bytes {
         [first, rest @ ..] if *first == c => Some(rest),
@@ -47,7 +47,7 @@ pub(crate) fn after(bytes: &[u8], c: u8) -> Option<&[u8]>
 
 /// What stands before a last byte `c`.
 pub(crate) fn before(bytes: &[u8], c: u8) -> Option<&[u8]>
-    ensures { Ends c bytes.now result }
+    ensures { StripsLast c bytes.now result }
 {
     match bytes {
         [rest @ .., last] if *last == c => Some(rest),
@@ -71,7 +71,9 @@ fn path_start(bytes: &[u8], web: bool) -> Option<usize>
 
 /// The front up to where a path may first start, and the rest.
 pub(crate) fn cut_before_path(bytes: &[u8], web: bool) -> (&[u8], &[u8])
-    ensures { CutsBeforePath web bytes.now result.0.now result.1.now }
+    ensures joined { bytes.now ≡ result.0.now ++ result.1.now }
+    ensures front { Lacks (is_path_start web) result.0.now }
+    ensures rest { StartsPath web result.1.now }
 {
     let at = path_start(bytes, web).unwrap_or(bytes.len());
     bytes.split_at(at)

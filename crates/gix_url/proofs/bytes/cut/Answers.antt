@@ -1,5 +1,4 @@
 -- The pieces around the place of the byte that was found.
-use Rattle.std.proofs.Common.{◌≡◌, arith}
 use Rattle.gix_url.proofs.CutLemmas.{first_found, none_found}
 use Rattle.gix_url.proofs.bytes.cut.Goals as goal
 

@@ -14,4 +14,9 @@ pub returns : goal.returns
 returns c =
     let test = is_path_start c.args.web in
     let at = first_place test c.args.bytes.now _ _ c.path_start.ensures c.unwrap_or-at.ensures in
-    rw (c.split_at.ensures.front, c.split_at.ensures.back, at) (cut_at_first test c.args.bytes.now)
+    let pieces = cut_at_first test c.args.bytes.now in
+    record {
+      joined = rw (c.split_at.ensures.front, c.split_at.ensures.back, at) pieces.0;
+      front = rw (c.split_at.ensures.front, at) pieces.1;
+      rest = rw (c.split_at.ensures.back, at) pieces.2;
+    }

@@ -1,5 +1,4 @@
 -- The pieces around the place of the byte that was found.
-use Rattle.std.proofs.Common.{◌≡◌, arith}
 use Rattle.gix_url.proofs.CutLemmas.{last_found, none_last}
 use Rattle.gix_url.proofs.bytes.last_cut.Goals as goal
 
