@@ -1,5 +1,6 @@
 pub mod Value
 pub mod Bytes
+pub mod Cuts
 pub mod Escapes
 pub mod Addresses
 pub mod Cuts
