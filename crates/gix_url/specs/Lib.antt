@@ -15,3 +15,4 @@ pub mod Url
 pub mod AddressTest
 pub mod Text
 pub mod Settled
+pub mod AddressTest

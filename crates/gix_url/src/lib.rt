@@ -1,6 +1,7 @@
 //! Git locations: remote helpers, URLs, the scp form and local paths, read, written and told apart.
 #![tactic(auto)]
 
+mod address_law;
 mod bytes;
 mod error;
 mod escape;
