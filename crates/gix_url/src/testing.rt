@@ -1,0 +1,57 @@
+//! Values for tests: a location from its parts, with no check.
+
+ghost use Rattle.std.specs.Prelude.{◌≡◌, None, option_map, string_bytes};
+ghost use Rattle.bstr.specs.Owned.{bstring_bytes};
+ghost use Rattle.gix_url.specs.Views.{protocol};
+
+use crate::location::Url;
+use crate::scheme::Scheme;
+use bstr::BString;
+
+/// What tests want of a [`Url`] beyond what programs may have.
+pub trait TestUrlExtension {
+    /// The location with these parts and no retained spelling, as they are: nothing is read, nothing is refused,
+    /// and the location may have no text. It takes no memory.
+    fn from_parts_unchecked(
+        scheme: Scheme,
+        user: Option<String>,
+        password: Option<String>,
+        host: Option<String>,
+        port: Option<u16>,
+        path: BString,
+        serialize_alternative_form: bool,
+    ) -> Url
+        ensures { result ≡ record {
+            scheme = protocol scheme;
+            user = option_map string_bytes user;
+            password = option_map string_bytes password;
+            host = option_map string_bytes host;
+            flag = serialize_alternative_form;
+            port = port;
+            path = bstring_bytes path;
+            spelling = None;
+        } };
+}
+
+impl TestUrlExtension for Url {
+    fn from_parts_unchecked(
+        scheme: Scheme,
+        user: Option<String>,
+        password: Option<String>,
+        host: Option<String>,
+        port: Option<u16>,
+        path: BString,
+        serialize_alternative_form: bool,
+    ) -> Url {
+        Url {
+            scheme,
+            user,
+            password,
+            host,
+            serialize_alternative_form,
+            port,
+            path,
+            spelling: None,
+        }
+    }
+}
