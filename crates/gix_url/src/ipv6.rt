@@ -1,1 +1,24 @@
-//! IPv6 texts.
+//! IPv6 texts, as a host of a location may be one.
+//!
+//! Stands on std's reader of addresses alone and takes no memory. Offers one test, over bytes inside the crate and
+//! over text to its users, which is true exactly for an IPv6 text.
+
+ghost use Rattle.gix_url.specs.Addresses.{IsIpv6Text};
+ghost use Rattle.std.specs.Prelude.{IsTrue, ◌↔◌};
+
+use std::net::Ipv6Addr;
+
+/// Whether the text is eight groups of one to four hexadecimal digits joined by `:`, where one `::` may stand for one
+/// or more groups that are zero, and an IPv4 text for the last two.
+pub fn is_ipv6(text: &str) -> bool
+    ensures { IsTrue result ↔ IsIpv6Text text.now }
+{
+    is_address(text.as_bytes())
+}
+
+/// The same of bytes.
+pub(crate) fn is_address(text: &[u8]) -> bool
+    ensures { IsTrue result ↔ IsIpv6Text text.now }
+{
+    Ipv6Addr::parse_ascii(text).is_ok()
+}
