@@ -1,2 +1,3 @@
 -- Lemmas by topic.
+pub mod AddressLemmas
 pub mod AddressReader

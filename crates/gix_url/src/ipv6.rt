@@ -22,3 +22,48 @@ pub(crate) fn is_address(text: &[u8]) -> bool
 {
     Ipv6Addr::parse_ascii(text).is_ok()
 }
+
+#[cfg(test)]
+mod tests {
+    use super::is_ipv6;
+
+    #[test]
+    fn addresses(rt: HostRuntime) {
+        assert!(rt; is_ipv6("::"));
+        assert!(rt; is_ipv6("::1"));
+        assert!(rt; is_ipv6("1::"));
+        assert!(rt; is_ipv6("1:2:3:4:5:6:7:8"));
+        assert!(rt; is_ipv6("1:2:3:4:5:6:7::"));
+        assert!(rt; is_ipv6("::1:2:3:4:5:6:7"));
+        assert!(rt; is_ipv6("::1.2.3.4"));
+        assert!(rt; is_ipv6("1:2:3:4:5:6:1.2.3.4"));
+        assert!(rt; is_ipv6("::1:2:3:4:5:1.2.3.4"));
+        assert!(rt; is_ipv6("ABCD::0001"));
+    }
+
+    #[test]
+    fn too_few_or_too_many_groups(rt: HostRuntime) {
+        assert!(rt; !is_ipv6(""));
+        assert!(rt; !is_ipv6(":"));
+        assert!(rt; !is_ipv6(":::"));
+        assert!(rt; !is_ipv6("1"));
+        assert!(rt; !is_ipv6("1:2:3:4:5:6:7"));
+        assert!(rt; !is_ipv6("1:2:3:4:5:6:7:8:9"));
+        assert!(rt; !is_ipv6("1::2:3:4:5:6:7:8"));
+        assert!(rt; !is_ipv6("1::2::3"));
+        assert!(rt; !is_ipv6("::1:"));
+    }
+
+    #[test]
+    fn other_than_groups(rt: HostRuntime) {
+        assert!(rt; !is_ipv6("12345::"));
+        assert!(rt; !is_ipv6("g::"));
+        assert!(rt; !is_ipv6("1.2.3.4::"));
+        assert!(rt; !is_ipv6("::1.2.3"));
+        assert!(rt; !is_ipv6("::01.2.3.4"));
+        assert!(rt; !is_ipv6("::256.1.1.1"));
+        assert!(rt; !is_ipv6("1.2.3.4"));
+        assert!(rt; !is_ipv6("fe80::1%eth0"));
+        assert!(rt; !is_ipv6("[::1]"));
+    }
+}
