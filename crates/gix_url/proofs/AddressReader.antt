@@ -1,5 +1,5 @@
 -- std's relation between a text and the IPv6 address that it writes, against the definition of an IPv6 text.
-use Rattle.std.proofs.Common.{◌≡◌, ℕ, suc, ◌+◌, ◌<◌, ◌≤◌, Bool, true, false, List, [], ◌∷◌, ◌++◌, length, replicate, ◌-◌, decimal, Ok, Err, Result, IsTrue, ◌↔◌, refl, sym, ap, ◌∙◌, subst, inl, inr, append_assoc, append-nil, arith}
+use Rattle.std.proofs.Common.{◌≡◌, ℕ, ◌+◌, ◌<◌, Bool, true, false, List, [], ◌∷◌, ◌++◌, length, replicate, ◌-◌, decimal, Ok, Err, Result, IsTrue, ◌↔◌, refl, sym, ap, ◌∙◌, subst, inl, inr, append_assoc, append-nil, arith}
 use Rattle.std.proofs.lemmas.Bool.{and_parts, and_from, false≢true}
 use Rattle.std.proofs.lemmas.Bool.Decides.{nat_tests}
 use Rattle.std.specs.List.{list_all}
@@ -11,7 +11,7 @@ use Rattle.std.specs.Net.Text.{dotted_text}
 use Rattle.std.specs.Result.{is_ok}
 use Rattle.std.specs.declared.net.ipv6_addr.Ipv6Addr.{Ipv6Addr}
 use Rattle.gix_url.specs.Bytes.{colon, dot}
-use Rattle.gix_url.specs.Addresses.{IsGroup, IsOctet, IsIpv4Text, joined_by, AreItems, IsFullAddress, IsShortAddress, IsIpv6Text}
+use Rattle.gix_url.specs.Addresses.{IsGroup, IsIpv4Text, joined_by, AreItems, IsIpv6Text}
 
 -- a hexadecimal digit by its class is one by its value
 digit_by_value : (b : ℕ) → is_ascii_hexdigit b ≡ true → digit_value b < 16
@@ -139,18 +139,20 @@ address_written t (inl full) =
     (s, inl (rw full.joined groups, count))
 address_written t (inr short) =
     let (head, head_count, head_groups) = list_written false short.front short.front_count short.front_items in
-    let (tail, tail_count, tail_groups) = list_written true short.back short.back_count short.back_items in
-    (head ++ replicate (8 - length head - length tail) 0 ++ tail, inr record {
-      head_text = joined_by colon short.front;
-      tail_text = joined_by colon short.back;
-      head = head;
-      tail = tail;
-      spelled = short.joined ∙ sym (append_assoc (joined_by colon short.front) (colon ∷ colon ∷ []) (joined_by colon short.back));
-      head_groups = head_groups;
-      tail_groups = tail_groups;
-      room = omega (arith, short.short);
-      value = refl;
-    })
+    let (tail, tail_count, tail_groups) = list_written true short.back short.back_count short.back_items in (
+      head ++ replicate (8 - length head - length tail) 0 ++ tail,
+      inr record {
+        head_text = joined_by colon short.front;
+        tail_text = joined_by colon short.back;
+        head = head;
+        tail = tail;
+        spelled = short.joined ∙ sym (append_assoc (joined_by colon short.front) (colon ∷ colon ∷ []) (joined_by colon short.back));
+        head_groups = head_groups;
+        tail_groups = tail_groups;
+        room = omega (arith, short.short);
+        value = refl;
+      },
+    )
 
 -- what writes the segments of an address is an IPv6 text
 address_read : (t s : List ℕ) → std.IsColonHex t s → IsIpv6Text t

@@ -17,6 +17,7 @@ pub fn is_ipv6(text: &str) -> bool
 }
 
 /// The same of bytes.
+#[tactic(auto, using(crate::proofs::AddressReader::reads_addresses))]
 pub(crate) fn is_address(text: &[u8]) -> bool
     ensures { IsTrue result ↔ IsIpv6Text text.now }
 {
