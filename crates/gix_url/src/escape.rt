@@ -190,3 +190,114 @@ pub(crate) fn decoded_text(alloc: Global, text: &[u8]) -> Result<String, AllocEr
     };
     Ok(text)
 }
+
+#[cfg(test)]
+mod tests {
+    use super::*;
+    use percent_encoding::percent_encode;
+    use std::test::Fail;
+
+    #[test]
+    fn writes_escapes(rt: HostRuntime) -> Result<(), Fail> {
+        let cases = [
+            ("a@b:c", USER, "a%40b%3Ac"),
+            ("a@b:c", PASSWORD, "a%40b:c"),
+            ("/a b%?#", PATH, "/a%20b%25?#"),
+            ("ö", PATH, "%C3%B6"),
+            ("ö", PASSWORD, "%C3%B6"),
+            ("ö", USER, "%C3%B6"),
+        ];
+        for (text, set, written) in cases {
+            let escaped = percent_encode(text.as_bytes(), set).to_string(rt.alloc())?;
+            assert_eq!(rt; escaped.as_str(), written);
+        }
+        Ok(())
+    }
+
+    #[test]
+    fn reads_escapes(rt: HostRuntime) -> Result<(), Fail> {
+        let cases = [
+            ("%2f%2F%2", "//%2"),
+            ("", ""),
+            ("%", "%"),
+            ("%zz%4g", "%zz%4g"),
+            ("%%41", "%A"),
+            ("%2541", "%41"),
+            ("/my%20repo", "/my repo"),
+            ("%C3%B6ö", "öö"),
+        ];
+        for (spelling, path) in cases {
+            let (spelling, path) = (spelling.as_bytes(), path.as_bytes());
+            let bytes = decoded(rt.alloc(), spelling)?;
+            assert_eq!(rt; bytes.as_slice(), path);
+            assert!(rt; decodes_to(spelling, path));
+            assert!(rt; decodes_to_utf8(spelling));
+            if decodes_to_utf8(spelling) {
+                let text = decoded_text(rt.alloc(), spelling)?;
+                assert_eq!(rt; text.as_bytes(), path);
+            }
+        }
+        for (spelling, path) in [
+            ("a", ""),
+            ("", "a"),
+            ("%41b", "A"),
+            ("%41", "Ab"),
+            ("%2F", "%2F"),
+        ] {
+            assert!(rt;
+                !decodes_to(spelling.as_bytes(), path.as_bytes()),
+                "{spelling}"
+            );
+        }
+        Ok(())
+    }
+
+    #[test]
+    fn finds_text_that_is_not_utf8(rt: HostRuntime) {
+        for text in [
+            "%F0%9F%92%96",
+            "abc%C3%B6",
+            "%E2%82%AC%",
+            "%C",
+            "%C3%B6%E2%82%AC",
+        ] {
+            assert!(rt; decodes_to_utf8(text.as_bytes()), "{text}");
+        }
+        for text in [
+            "%FF",
+            "%C3",
+            "%C3b",
+            "%C3ö",
+            "%E2%82",
+            "abcd%F0%9F%92",
+            "%ED%A0%80",
+            "%C0%80",
+        ] {
+            assert!(rt; !decodes_to_utf8(text.as_bytes()), "{text}");
+        }
+        assert!(rt; decodes_to_utf8(b"\xC3%B6"));
+        assert!(rt; !decodes_to_utf8(b"\xFF"));
+    }
+
+    #[test]
+    fn finds_broken_escapes(rt: HostRuntime) {
+        for text in ["", "a", "%41", "%25%aF", "a%00b"] {
+            assert!(rt; is_sound(text.as_bytes()), "{text}");
+        }
+        for text in ["%", "%4", "a%2", "%4g", "%g4", "%%41", "%41%"] {
+            assert!(rt; !is_sound(text.as_bytes()), "{text}");
+            assert!(rt; has_percent(text.as_bytes()), "{text}");
+        }
+        assert!(rt; !has_percent(b"a25"));
+    }
+
+    #[test]
+    fn finds_white_space(rt: HostRuntime) {
+        for text in ["", "a", "ö\u{200b}"] {
+            assert!(rt; lacks_white_space(text), "{text}");
+        }
+        for text in ["a b", "\n", "\u{a0}", "a\u{2028}", "\u{3000}b"] {
+            assert!(rt; !lacks_white_space(text), "{text}");
+        }
+    }
+}
