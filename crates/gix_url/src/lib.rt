@@ -8,6 +8,7 @@ mod escape;
 mod host;
 pub mod ipv6;
 mod length;
+pub mod lines;
 mod location;
 pub mod parse;
 mod scheme;

@@ -19,6 +19,12 @@ pub fn parse(alloc: Global, input: BStr<'_>) -> Result<Url, Error>
     ensures refused { IfErr result (λ e. Refuses (bstr_bytes input.entry) e) }
     ensures flaw { IfErr result (λ e. Flaw (bstr_bytes input.entry) e) }
 {
-    let _ = (alloc, input);
-    Err(Error::EmptyLocal)
+    if input.as_bytes().is_empty() {
+        return Err(Error::EmptyLocal);
+    }
+    let text = bstr::BString::from_slice(alloc, input.as_bytes())?;
+    Err(Error::MissingPath {
+        kind: UrlKind::Local,
+        input: text,
+    })
 }

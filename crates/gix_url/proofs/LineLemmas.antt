@@ -1,0 +1,140 @@
+-- Lines and their answers, one after another.
+use Rattle.std.proofs.Common.{◌≡◌, ℕ, Bool, true, false, List, [], ◌∷◌, ◌++◌, refl, sym, ap, subst, ◌∙◌, append_assoc, append-nil, All, length, arith, eqb-true}
+use Rattle.std.specs.Prelude.{◌&&◌, ◌==◌, Some, None, Option, Result, Ok, Err, codes, is_err, flat_map}
+use Rattle.std.proofs.lemmas.List.Elements.{All-append, All-cons, All-nil}
+use Rattle.gix_url.specs.declared.error.WriteFault.{WriteFault}
+use Rattle.gix_url.specs.Value.{Location}
+use Rattle.gix_url.specs.Bytes.{newline, FreeOf}
+use Rattle.gix_url.specs.Text.{text}
+use Rattle.gix_url.specs.declared.error.Error.{Error}
+use Rattle.gix_url.specs.declared.error.Error.TheVariants as error
+use Rattle.gix_url.specs.declared.lines.RunError.{RunError}
+use Rattle.gix_url.specs.Grammar.{Spells}
+use Rattle.gix_url.specs.Flaws.{Flaw}
+use Rattle.std.specs.Io.KnownBytes.{Appends}
+use Rattle.gix_url.specs.Readings.{Refuses, Written}
+use Rattle.gix_url.specs.Answers.{ended, last_line, SplitsLines, IsAnswer, AnswersEach, Answers, AppendsAnswer, Tells, TellsRefusal}
+use Rattle.gix_url.specs.Answers.IsAnswer.{refused}
+
+-- "and" doesn't mind the order
+and_turns : (a b : Bool) → (a && b) ≡ (b && a)
+and_turns true true = refl
+and_turns true false = refl
+and_turns false true = refl
+and_turns false false = refl
+
+-- one more line, at the end
+pub answers_push : (lines : List (List ℕ)) (out : List ℕ) (good : Bool) (line answer : List ℕ) (first : Bool) → AnswersEach lines out good → IsAnswer line answer first → AnswersEach (lines ++ line ∷ []) (out ++ answer) (good && first)
+answers_push [] out good line answer first each one =
+    (answer, [], first, true, one, (refl, refl), ap (λ o. o ++ answer) each.0 ∙ sym (append-nil answer), ap (λ g. g && first) each.1 ∙ and_turns true first)
+answers_push (l ∷ ls) out good line answer first (a, m, f, o, is, others, joined, all) one =
+    (a, m ++ answer, f, (o && first), is, answers_push ls m o line answer first others one,
+      ap (λ t. t ++ answer) joined ∙ append_assoc a m answer,
+      ap (λ g. g && first) all ∙ and_grouped f o first)
+  where
+  and_grouped : (x y z : Bool) → ((x && y) && z) ≡ (x && (y && z))
+  and_grouped true y z = refl
+  and_grouped false y z = refl
+
+-- a line and its end go from what is left to what is done
+pub ended_push : (done : List (List ℕ)) (line rest : List ℕ) → ended (done ++ line ∷ []) ++ rest ≡ ended done ++ (line ++ newline ∷ rest)
+ended_push [] line rest = append_assoc (line ++ newline ∷ []) [] rest ∙ append_assoc line (newline ∷ []) rest
+ended_push (l ∷ ls) line rest =
+    append_assoc (l ++ newline ∷ []) (ended (ls ++ line ∷ [])) rest
+    ∙ ap (λ t. (l ++ newline ∷ []) ++ t) (ended_push ls line rest)
+    ∙ sym (append_assoc (l ++ newline ∷ []) (ended ls) (line ++ newline ∷ rest))
+
+-- what stands after some lines: the lines that are done, and their answers
+pub record Done (whole rest out : List ℕ) (good : Bool) : Type 0 where
+  pub lines : List (List ℕ)
+  pub each : All (FreeOf newline) lines
+  pub joined : whole ≡ ended lines ++ rest
+  pub answered : AnswersEach lines out good
+
+pub done_none : (whole : List ℕ) → Done whole whole [] true
+done_none whole = record { lines = []; each = All-nil (FreeOf newline); joined = refl; answered = (refl, refl) }
+
+pub done_more : (whole rest out line behind answer : List ℕ) (good first : Bool) → Done whole rest out good → FreeOf newline line → rest ≡ line ++ newline ∷ behind → IsAnswer line answer first → Done whole behind (out ++ answer) (good && first)
+done_more whole rest out line behind answer good first done free cut one = record {
+  lines = done.lines ++ line ∷ [];
+  each = All-append (FreeOf newline) done.lines (line ∷ []) done.each (All-cons (FreeOf newline) line [] free (All-nil (FreeOf newline)));
+  joined = done.joined ∙ ap (λ t. ended done.lines ++ t) cut ∙ sym (ended_push done.lines line behind);
+  answered = answers_push done.lines out good line answer first done.answered one;
+}
+
+-- one more line, as the loop takes it
+pub done_step : (whole rest out line behind new : List ℕ) (good first : Bool) → Done whole rest out good → FreeOf newline line × (rest ≡ line ++ newline ∷ behind) → AppendsAnswer line out new (Ok first) → Done whole behind new (good && first)
+done_step whole rest out line behind new good first done (free, cut) (answer, one, joined) =
+    subst (λ t. Done whole behind t (good && first)) (sym joined) (done_more whole rest out line behind answer good first done free cut one)
+
+-- the last line is empty
+pub done_all : (whole rest out : List ℕ) (good : Bool) → Done whole rest out good → FreeOf newline rest → (length rest == 0) ≡ true → Answers whole out good
+done_all whole [] out good done free empty =
+    (done.lines, record {
+      full = done.lines;
+      last = [];
+      each = done.each;
+      open_ended = free;
+      joined = done.joined;
+      counted = sym (append-nil done.lines);
+    }, done.answered)
+done_all whole (b ∷ bs) out good done free empty = absurd (omega (arith, eqb-true _ _ empty))
+
+-- the last line has no end
+pub done_last : (whole rest out new : List ℕ) (good first : Bool) → Done whole rest out good → FreeOf newline rest → (length rest == 0) ≡ false → AppendsAnswer rest out new (Ok first) → Answers whole new (good && first)
+done_last whole [] out new good first done free filled one = absurd (cc)
+done_last whole (b ∷ bs) out new good first done free filled (answer, one, joined) =
+    subst (λ t. Answers whole t (good && first)) (sym joined)
+    (done.lines ++ (b ∷ bs) ∷ [], record {
+      full = done.lines;
+      last = b ∷ bs;
+      each = done.each;
+      open_ended = free;
+      joined = done.joined;
+      counted = refl;
+    }, answers_push done.lines out good (b ∷ bs) answer first done.answered one)
+
+-- a text or a fault: which it is
+pub has_text : (v : Location) → is_err (text v) ≡ false → (t : List ℕ) × (text v ≡ Ok t)
+has_text v e = has_ok (text v) e
+  where
+  has_ok : (r : Result (List ℕ) WriteFault) → is_err r ≡ false → (t : List ℕ) × (r ≡ Ok t)
+  has_ok (Ok t) e = (t, refl)
+  has_ok (Err f) e = absurd (cc)
+
+pub has_fault : (v : Location) → is_err (text v) ≡ true → (f : WriteFault) × (text v ≡ Err f)
+has_fault v e = has_err (text v) e
+  where
+  has_err : (r : Result (List ℕ) WriteFault) → is_err r ≡ true → (f : WriteFault) × (r ≡ Err f)
+  has_err (Ok t) e = absurd (cc)
+  has_err (Err f) e = (f, refl)
+
+-- what is told of a location is the answer to each line that spells it
+pub told_answer : (read line old new : List ℕ) (v : Location) (r : Result Bool RunError) → read ≡ line → Spells read v → Tells v old new r → AppendsAnswer line old new r
+told_answer read line old new v (Ok good) same spelled (answer, each, joined) = (answer, each line (subst (λ b. Spells b v) same spelled), joined)
+told_answer read line old new v (Err fault) same spelled told = told
+
+-- what is told of a refusal is the answer to a line that is refused so
+pub refused_answer : (read line old new : List ℕ) (e : Error) (r : Result Bool RunError) → read ≡ line → Refuses read e → Flaw read e → TellsRefusal e old new r → AppendsAnswer line old new r
+refused_answer read line old new e r same none flaw told =
+    refusal_told line old new e r (subst (λ b. Refuses b e) same none) (subst (λ b. Flaw b e) same flaw) told
+  where
+  refusal_told : (line old new : List ℕ) (e : Error) (r : Result Bool RunError) → Refuses line e → Flaw line e → TellsRefusal e old new r → AppendsAnswer line old new r
+  refusal_told line old new e (Err fault) none flaw told = told
+  refusal_told line old new error.Memory (Ok good) none flaw told = absurd told.0
+  refusal_told line old new error.EmptyLocal (Ok good) none flaw told = (_, refused error.EmptyLocal none flaw refl told.1, told.2)
+  refusal_told line old new (error.MissingPath kind input) (Ok good) none flaw told = (_, refused (error.MissingPath kind input) none flaw refl told.1, told.2)
+  refusal_told line old new (error.NotUtf8 kind input) (Ok good) none flaw told = (_, refused (error.NotUtf8 kind input) none flaw refl told.1, told.2)
+  refusal_told line old new (error.TooLong shown total) (Ok good) none flaw told = (_, refused (error.TooLong shown total) none flaw refl told.1, told.2)
+  refusal_told line old new (error.BadUrl kind named input) (Ok good) none flaw told = (_, refused (error.BadUrl kind named input) none flaw refl told.1, told.2)
+  refusal_told line old new (error.Unwritable named) (Ok good) none flaw told = (_, refused (error.Unwritable named) none flaw refl told.1, told.2)
+
+-- where a text was written there is one, and it was appended
+pub text_appended : {W : Type 0} (contents : W → Option (List ℕ)) (old new : W) (r : Result (List ℕ) WriteFault) → Written contents old new r (Ok tt) → (t : List ℕ) × (r ≡ Ok t) × Appends (contents old) (contents new) t
+text_appended contents old new (Ok t) appended = (t, refl, appended)
+text_appended contents old new (Err fault) told = absurd (cc told.0)
+
+-- three appended texts, grouped to the right
+pub appended_line : (old word t end first second third : List ℕ) → first ≡ old ++ word → second ≡ first ++ t → third ≡ second ++ end → third ≡ old ++ (word ++ (t ++ end))
+appended_line old word t end first second third a b c =
+    c ∙ ap (λ x. x ++ end) (b ∙ ap (λ x. x ++ t) a) ∙ append_assoc (old ++ word) t end ∙ append_assoc old word (t ++ end)

@@ -1,0 +1,132 @@
+-- What `lines::run` answers: a line for each line.
+use Rattle.std.specs.Prelude.{◌≡◌, ℕ, Bool, true, false, ◌&&◌, List, [], ◌∷◌, ◌++◌, All, flat_map, codes, Option, Some, None, Result, Ok, Err, IfSome}
+use Rattle.std.specs.Borrow.{Bor}
+use Rattle.std.specs.Io.KnownBytes.{Appends}
+use Rattle.gix_url.specs.declared.error.UrlFault.{UrlFault}
+use Rattle.gix_url.specs.declared.error.UrlFault.TheVariants as fault
+use Rattle.gix_url.specs.declared.error.WriteFault.{WriteFault}
+use Rattle.gix_url.specs.declared.error.Error.{Error}
+use Rattle.gix_url.specs.declared.error.Error.TheVariants as error
+use Rattle.gix_url.specs.declared.lines.RunError.{RunError}
+use Rattle.gix_url.specs.declared.lines.RunError.TheVariants as run
+use Rattle.gix_url.specs.Value.{Location}
+use Rattle.gix_url.specs.Bytes.{newline, FreeOf}
+use Rattle.gix_url.specs.Schemes.{protocol_text}
+use Rattle.gix_url.specs.Grammar.{Spells}
+use Rattle.gix_url.specs.Text.{text}
+use Rattle.gix_url.specs.Settled.{IsSettled}
+use Rattle.gix_url.specs.Flaws.{Flaw}
+
+-- lines, each with the line end behind it
+abbrev pub ended : List (List ℕ) → List ℕ
+ended lines = flat_map (λ line. line ++ newline ∷ []) lines
+
+-- a last line without a line end counts where it isn't empty
+abbrev pub last_line : List ℕ → List (List ℕ)
+last_line [] = []
+last_line (b ∷ bs) = (b ∷ bs) ∷ []
+
+-- the text is these lines
+pub record SplitsLines (b : List ℕ) (lines : List (List ℕ)) : Type 0 where
+  pub full : List (List ℕ)
+  pub last : List ℕ
+  pub each : All (FreeOf newline) full
+  pub open_ended : FreeOf newline last
+  pub joined : b ≡ ended full ++ last
+  pub counted : lines ≡ full ++ last_line last
+
+-- the name of a fault
+abbrev pub fault_name : UrlFault → List ℕ
+fault_name fault.NoScheme = codes "NoScheme"
+fault_name fault.BadPort = codes "BadPort"
+fault_name fault.BadCharacter = codes "BadCharacter"
+fault_name fault.HostRequired = codes "HostRequired"
+
+-- the word for an error that a text is refused with
+abbrev pub refusal : Error → List ℕ
+refusal error.Memory = codes "Memory"
+refusal error.EmptyLocal = codes "EmptyLocal"
+refusal (error.MissingPath kind input) = codes "MissingPath"
+refusal (error.NotUtf8 kind input) = codes "NotUtf8"
+refusal (error.TooLong shown total) = codes "TooLong"
+refusal (error.BadUrl kind named input) = codes "BadUrl " ++ fault_name named
+refusal (error.Unwritable named) = codes "Unwritable"
+
+-- a word and what it is said of, on a line
+abbrev pub told : List ℕ → List ℕ → List ℕ
+told word of_what = word ++ (9 ∷ (of_what ++ newline ∷ []))
+
+-- the answer to a line, and whether the line is settled
+pub data IsAnswer (line answer : List ℕ) (good : Bool) : Type 0 where
+  -- a settled location: its text
+  settled : (v : Location) (t : List ℕ) → Spells line v → text v ≡ Ok t → IsSettled v
+      → answer ≡ told (codes "settled") t → good ≡ true → IsAnswer line answer good
+  -- another that has a text: its scheme
+  unsettled : (v : Location) (t : List ℕ) → Spells line v → text v ≡ Ok t → ¬ IsSettled v
+      → answer ≡ told (codes "unsettled") (protocol_text v.scheme) → good ≡ false → IsAnswer line answer good
+  -- a location without a text: its scheme
+  unwritable : (v : Location) (f : WriteFault) → Spells line v → text v ≡ Err f
+      → answer ≡ told (codes "unwritable") (protocol_text v.scheme) → good ≡ false → IsAnswer line answer good
+  -- a text that spells no location: an error whose flaw stands in it
+  refused : (e : Error) → ((v : Location) → ¬ Spells line v) → Flaw line e
+      → answer ≡ told (codes "refused") (refusal e) → good ≡ false → IsAnswer line answer good
+
+-- the answers to lines, in order, and whether each line is settled
+abbrev pub AnswersEach : List (List ℕ) → List ℕ → Bool → Type 0
+AnswersEach [] out good = (out ≡ []) × (good ≡ true)
+AnswersEach (line ∷ lines) out good =
+    (answer : List ℕ) × (more : List ℕ) × (first : Bool) × (others : Bool)
+    × IsAnswer line answer first × AnswersEach lines more others × (out ≡ answer ++ more) × (good ≡ (first && others))
+
+-- the answers to all lines of a text
+abbrev pub Answers : List ℕ → List ℕ → Bool → Type 0
+Answers b out good = (lines : List (List ℕ)) × SplitsLines b lines × AnswersEach lines out good
+
+-- what a run left: on `Ok` all of the input is answered; where memory or the reader failed nothing is written
+abbrev pub Ran : {W : Type 0} → (W → Option (List ℕ)) → Option (List ℕ) → W → W → Result Bool RunError → Type 0
+Ran contents input old new (Ok good) = IfSome input (λ b. (out : List ℕ) × Answers b out good × Appends (contents old) (contents new) out)
+Ran contents input old new (Err run.Memory) = new ≡ old
+Ran contents input old new (Err (run.Read e)) = new ≡ old
+Ran contents input old new (Err (run.Write e)) = Unit {0}
+
+-- the call appended the answer to the line, and told whether it is settled
+abbrev pub AppendsAnswer : List ℕ → List ℕ → List ℕ → Result Bool RunError → Type 0
+AppendsAnswer line old new (Ok good) = (answer : List ℕ) × IsAnswer line answer good × (new ≡ old ++ answer)
+AppendsAnswer line old new (Err fault) = Unit {0}
+
+-- the call appended the answer to a line that spells this location, and told whether it is settled
+abbrev pub Tells : Location → List ℕ → List ℕ → Result Bool RunError → Type 0
+Tells v old new (Ok good) = (answer : List ℕ) × ((line : List ℕ) → Spells line v → IsAnswer line answer good) × (new ≡ old ++ answer)
+Tells v old new (Err fault) = Unit {0}
+
+-- the error is a refusal, and no want of memory
+abbrev pub IsRefusal : Error → Type 0
+IsRefusal error.Memory = ⊥
+IsRefusal error.EmptyLocal = Unit {0}
+IsRefusal (error.MissingPath kind input) = Unit {0}
+IsRefusal (error.NotUtf8 kind input) = Unit {0}
+IsRefusal (error.TooLong shown total) = Unit {0}
+IsRefusal (error.BadUrl kind named input) = Unit {0}
+IsRefusal (error.Unwritable named) = Unit {0}
+
+-- the word for an error, if it is a refusal
+abbrev pub NamesRefusal : Error → Option (Bor (List ℕ)) → Type 0
+NamesRefusal e None = Unit {0}
+NamesRefusal e (Some name) = IsRefusal e × (name.now ≡ refusal e)
+
+-- the call appended the answer to a line that is refused with this error
+abbrev pub TellsRefusal : Error → List ℕ → List ℕ → Result Bool RunError → Type 0
+TellsRefusal e old new (Ok good) = IsRefusal e × (good ≡ false) × (new ≡ old ++ told (codes "refused") (refusal e))
+TellsRefusal e old new (Err fault) = Unit {0}
+
+-- what the program says of a fault
+abbrev pub fault_text : RunError → List ℕ
+fault_text run.Memory = codes "locations: out of memory"
+fault_text (run.Read e) = codes "locations: cannot read"
+fault_text (run.Write e) = codes "locations: cannot write"
+
+-- the exit status of the program
+abbrev pub status_of : Result Bool RunError → ℕ
+status_of (Ok true) = 0
+status_of (Ok false) = 1
+status_of (Err fault) = 2

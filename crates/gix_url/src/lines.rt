@@ -1,0 +1,217 @@
+//! The program's work: reads locations, a line each, and answers a line for each.
+//!
+//! It uses `parse`, the settled test and the writer. Its contract: all of the input is answered, line by line, as
+//! the definitions have it; nothing is written before the whole answer stands.
+
+ghost use Rattle.std.specs.Prelude.{◌≡◌, ℕ, ◌++◌, List, codes, IfOk, IfSome, OnOk};
+ghost use Rattle.gix_url.specs.Answers.{Answers, AppendsAnswer, NamesRefusal, Ran, Tells, TellsRefusal, fault_name, fault_text, status_of, told};
+ghost use Rattle.gix_url.specs.Schemes.{protocol_text};
+ghost use Rattle.gix_url.specs.Text.{text};
+
+use crate::bytes;
+use crate::error::{Error, UrlFault};
+use crate::location::Url;
+use crate::parse::parse;
+use bstr::BStr;
+use std::alloc::{AllocError, Global};
+use std::io::{self, ErrorKind, Read, Write};
+use thiserror::Error as ThisError;
+
+/// Why a run ended without an answer.
+#[derive(Debug, Drop, ThisError)]
+pub enum RunError {
+    /// Memory was refused. Nothing was written.
+    #[error("out of memory")]
+    Memory,
+    /// The input can't be read to its end. Nothing was written.
+    #[error("cannot read")]
+    Read(io::Error),
+    /// The answer can't be written. Nothing is said of how much of it went out.
+    #[error("cannot write")]
+    Write(io::Error),
+}
+
+impl From<AllocError> for RunError {
+    ghost use Rattle.gix_url.specs.declared.lines.RunError.TheVariants.{Memory};
+
+    ghost from_gives = { λ _ e. e ≡ Memory };
+
+    fn from(_: AllocError) -> RunError {
+        RunError::Memory
+    }
+}
+
+/// How often the input is read at most: a reader that hasn't ended by then is given up.
+const MOST_READS: u64 = 1 << 40;
+
+/// The line, without its end, that the program says of a fault on standard error. It takes no memory.
+pub fn fault_line(fault: &RunError) -> &'static str
+    ensures { result.now ≡ fault_text fault.now }
+{
+    match fault {
+        RunError::Memory => "locations: out of memory",
+        RunError::Read(_) => "locations: cannot read",
+        RunError::Write(_) => "locations: cannot write",
+    }
+}
+
+/// The exit status of the program: 0 where every line was settled, 1 where one was not, 2 for a fault.
+pub fn status(outcome: &Result<bool, RunError>) -> u8
+    ensures { result ≡ status_of outcome.now }
+{
+    match outcome {
+        Ok(true) => 0,
+        Ok(false) => 1,
+        Err(_) => 2,
+    }
+}
+
+/// Reads all of the input, answers each of its lines by a line, and writes the answers. Lines end at byte 10; a
+/// last line without it counts where it isn't empty; byte 13 is a part of its line.
+///
+/// The answer is `settled`, a tab and the location's text, where it is settled; `unsettled` or `unwritable`, a tab
+/// and its scheme, where it has a text or none; `refused`, a tab and the error's name, where the line is no
+/// location.
+///
+/// `Ok(true)` says that every line was settled. The errors are those of [`RunError`]; a reader that hasn't ended
+/// after 2^40 calls is answered `Read`. The whole answer is built in memory before it is written.
+pub fn run<R: Read, W: Write>(alloc: Global, input: &mut R, output: &mut W) -> Result<bool, RunError>
+    ensures { Ran W.contents (R.remaining input.old) output.old output.new result }
+{
+    let text = read_all(alloc, input)?;
+    let (answer, all) = answers(alloc, text.as_slice())?;
+    output
+        .write_all(answer.as_slice())
+        .map_err(RunError::Write)?;
+    Ok(all)
+}
+
+/// All bytes of a reader.
+fn read_all<R: Read>(alloc: Global, input: &mut R) -> Result<Vec<u8>, RunError>
+    ensures { IfOk result (λ all. IfSome (R.remaining input.old) (λ b. all.items ≡ b)) }
+{
+    let mut all = Vec::new(alloc);
+    let mut buffer = [0u8; 4096];
+    for _turn in 0..MOST_READS {
+        match input.read(&mut buffer) {
+            Err(fault) => return Err(RunError::Read(fault)),
+            Ok(0) => return Ok(all),
+            Ok(count) => all.extend_from_slice(&buffer[..count])?,
+        }
+    }
+    Err(RunError::Read(io::Error::from(ErrorKind::Other)))
+}
+
+/// The answers to all lines of a text, and whether each line is settled.
+fn answers(alloc: Global, text: &[u8]) -> Result<(Vec<u8>, bool), RunError>
+    ensures { IfOk result (λ found. Answers text.now found.0.items found.1) }
+{
+    let mut out = Vec::new(alloc);
+    let mut all = true;
+    let mut rest = text;
+    while let Some((line, behind)) = bytes::cut(rest, b'\n') {
+        let settled = answer(alloc, line, &mut out)?;
+        all &= settled;
+        rest = behind;
+    }
+    if rest.is_empty() {
+        return Ok((out, all));
+    }
+    let settled = answer(alloc, rest, &mut out)?;
+    Ok((out, all & settled))
+}
+
+/// Appends the answer to a line, and says whether the line is settled.
+fn answer(alloc: Global, line: &[u8], out: &mut Vec<u8>) -> Result<bool, RunError>
+    ensures { AppendsAnswer line.now out.old.items out.new.items result }
+{
+    match parse(alloc, BStr::new(line)) {
+        Ok(url) => tell(&url, out),
+        Err(error) => refuse(&error, out),
+    }
+}
+
+/// Appends the answer for a location that a line spells, and says whether it is settled.
+fn tell(url: &Url, out: &mut Vec<u8>) -> Result<bool, RunError>
+    ensures { Tells url.now out.old.items out.new.items result }
+{
+    if url.text_len().is_err() {
+        put_scheme(out, "unwritable", url)?;
+        return Ok(false);
+    }
+    if url.is_settled() {
+        put_text(out, url)?;
+        return Ok(true);
+    }
+    put_scheme(out, "unsettled", url)?;
+    Ok(false)
+}
+
+/// Appends the answer for a line that is refused.
+fn refuse(error: &Error, out: &mut Vec<u8>) -> Result<bool, RunError>
+    ensures { TellsRefusal error.now out.old.items out.new.items result }
+{
+    let Some(name) = refusal_name(error) else {
+        return Err(RunError::Memory);
+    };
+    put_line(out, "refused", name.as_bytes())?;
+    Ok(false)
+}
+
+/// The name of an error that a line is refused with: none for want of memory.
+fn refusal_name(error: &Error) -> Option<&'static str>
+    ensures { NamesRefusal error.now result }
+{
+    match error {
+        Error::Memory => None,
+        Error::EmptyLocal => Some("EmptyLocal"),
+        Error::MissingPath { .. } => Some("MissingPath"),
+        Error::NotUtf8 { .. } => Some("NotUtf8"),
+        Error::TooLong { .. } => Some("TooLong"),
+        Error::BadUrl { fault, .. } => Some(bad_url_name(*fault)),
+        Error::Unwritable(_) => Some("Unwritable"),
+    }
+}
+
+/// The words for a fault of a URL.
+fn bad_url_name(fault: UrlFault) -> &'static str
+    ensures { result.now ≡ codes "BadUrl " ++ fault_name fault }
+{
+    match fault {
+        UrlFault::NoScheme => "BadUrl NoScheme",
+        UrlFault::BadPort => "BadUrl BadPort",
+        UrlFault::BadCharacter => "BadUrl BadCharacter",
+        UrlFault::HostRequired => "BadUrl HostRequired",
+    }
+}
+
+/// Appends the line of a location that isn't settled: a word and the scheme.
+fn put_scheme(out: &mut Vec<u8>, word: &str, url: &Url) -> Result<(), RunError>
+    ensures { OnOk result (out.new.items ≡ out.old.items ++ told word.now (protocol_text url.now.scheme)) }
+{
+    put_line(out, word, url.scheme.as_str().as_bytes())
+}
+
+/// Appends a line: a word, a tab, and what it is said of.
+fn put_line(out: &mut Vec<u8>, word: &str, of_what: &[u8]) -> Result<(), RunError>
+    ensures { OnOk result (out.new.items ≡ out.old.items ++ told word.now of_what.now) }
+{
+    out.extend_from_slice(word.as_bytes())?;
+    out.extend_from_slice(b"\t")?;
+    out.extend_from_slice(of_what)?;
+    out.extend_from_slice(b"\n")?;
+    Ok(())
+}
+
+/// Appends the line of a settled location: its text.
+fn put_text(out: &mut Vec<u8>, url: &Url) -> Result<(), RunError>
+    ensures { OnOk result ((t : List ℕ) × (text url.now ≡ Ok t) × (out.new.items ≡ out.old.items ++ told (codes "settled") t)) }
+{
+    out.extend_from_slice(b"settled\t")?;
+    match url.write_to(out) {
+        Ok(()) => {}
+        Err(_) => return Err(RunError::Memory),
+    }
+    out.extend_from_slice(b"\n")?;
+    Ok(())
+}
