@@ -1,2 +1,3 @@
 -- Lemmas by topic.
 pub mod EscapeLemmas
+pub mod EscapeSets
