@@ -1,27 +1,28 @@
 -- Escaped texts: where they are sound, how they decode in parts, and how they are UTF-8 in parts.
-use Rattle.std.proofs.Common.{◌≡◌, ◌∙◌, ◌↔◌, ◌<◌, ◌≤◌, ◌+◌, ℕ, Bool, true, false, not, ◌&&◌, ◌||◌, ◌==◌, List, [], ◌∷◌, ◌++◌, Option, Some, None, length, take, drop, slice_index, ◌⊎◌, ◌*◌, ◌/◌, ◌%◌, nat_lt, All, IsAscii, get_or, inl, inr, arith, refl, sym, ap, subst, ⊎_elim}
-use Rattle.std.specs.Char.{is_digit, digit_value, is_whitespace}
+use Rattle.std.proofs.Common.{◌≡◌, ◌∙◌, ◌↔◌, ◌<◌, ◌≤◌, ◌+◌, ℕ, Bool, true, false, not, ◌&&◌, ◌||◌, ◌==◌, List, [], ◌∷◌, ◌++◌, Option, Some, None, length, take, drop, ◌*◌, ◌/◌, ◌%◌, nat_lt, cond, All, Fits, w8, IsAscii, get_or, arith, refl, sym, ap, subst, ⊎_elim}
+use Rattle.std.specs.Char.{is_digit, digit_value, is_whitespace, is_ascii_whitespace, encode_utf8}
 use Rattle.std.specs.Option.{MatchOption, is_some}
 use Rattle.std.specs.Str.{IsUtf8, encode_utf8_all, chars}
-use Rattle.std.proofs.lemmas.Bool.{cond-true, cond-false, cases_Bool, and_parts, and_from, and_left, and_right, and_cases, or_parts, or_from, false_from_ne_true, or_cases, or_left, or_right, not-true, both_ways, eqb-true, eqb-false, ltb-true, true≢false, false≢true}
+use Rattle.std.proofs.Math.Bool.{or-false}
+use Rattle.std.proofs.lemmas.Bool.{cond-false, cond_both, ltb-false, cases_lt, cases_Bool, and_parts, and_from, and_left, and_right, or_parts, or_from, false_from_ne_true, or_cases, or_left, or_right, not-true, both_ways, eqb-true, eqb-false, ne_eqb, ltb-true, true≢false, false≢true}
 use Rattle.std.proofs.lemmas.Bool.Decides.{nat_tests}
 use Rattle.std.proofs.lemmas.List.{append_cancel_left, drop-drop, length-take, length-drop, length-append, nil_from_length, take_at, drop_at, get_or_at}
-use Rattle.std.proofs.lemmas.Str.{IsUtf8-append, IsUtf8-past_char, IsUtf8-encode, IsUtf8-take, IsUtf8-drop, IsUtf8-from_ascii, IsCharBoundary-from_take, IsCharBoundary-at_seam, IsCharBoundary-before_ascii, chars-append, chars-IsAscii}
-use lib.Utf8.{scalars}
+use Rattle.std.proofs.lemmas.Str.{IsUtf8-append, IsUtf8-past_char, IsUtf8-encode, IsUtf8-take, IsUtf8-drop, IsUtf8-from_ascii, IsCharBoundary-from_take, IsCharBoundary-at_seam, IsCharBoundary-before_ascii, chars-append, chars-IsAscii, encodes-chars, chars_from_encodes, encode_ascii}
+use lib.Utf8.{scalar, scalars, scalar_cases}
 use Rattle.bstr.specs.Utf8.{Decoded, decoded}
 use Rattle.bstr.proofs.lemmas.PieceLemmas.{decoded_by-cut, piece-bounds}
 use Rattle.bstr.proofs.lemmas.SoundLemmas.{SpellsChar-decoded}
 use Rattle.bstr.proofs.lemmas.EncodeLemmas.{decoded-encode}
 use Rattle.std.proofs.lemmas.Str.Ascii.{IsAscii-from_all}
-use Rattle.std.proofs.lemmas.List.Elements.{All-cons, All-nil}
+use Rattle.std.proofs.lemmas.List.Elements.{All-cons, All-nil, All-append, All-weaker, All-from_get_or}
 use Rattle.std.specs.List.{list_any}
 use Rattle.std.specs.Fmt.{digit_glyph}
 use Rattle.std.proofs.lemmas.List.Folds.{list_any_none, list_any-append}
 use Rattle.percent_encoding.specs.declared.ascii_set.AsciiSet.{AsciiSet}
 use Rattle.percent_encoding.specs.AsciiSet.{contains, should_percent_encode}
-use Rattle.percent_encoding.proofs.AsciiSetLemmas.{ascii_from_kept, outside_from_kept}
-use Rattle.percent_encoding.specs.Percent.{is_escape, percent_decode, percent_encode, percent_encode_byte}
-use Rattle.percent_encoding.proofs.PercentLemmas.{IsEscapeByte, All-percent_encode, IsAscii-percent_encode, percent_encode-nil, percent_encode-append, percent_encode_escaped, percent_encode_kept, round_trip, percent_decode-nil, percent_decode_not_percent, percent_decode_escape, length-percent_decode}
+use Rattle.percent_encoding.proofs.AsciiSetLemmas.{ascii_from_kept, outside_from_kept, kept_from_outside}
+use Rattle.percent_encoding.specs.Percent.{percent_decode, percent_encode, percent_encode_byte}
+use Rattle.percent_encoding.proofs.PercentLemmas.{IsEscapeByte, All-percent_encode, All-percent_encode_byte, percent_encode_nonempty, IsAscii-percent_encode, percent_encode-nil, percent_encode-append, percent_encode_escaped, percent_encode_kept, round_trip, percent_decode-nil, percent_decode_not_percent, percent_decode_escape, length-percent_decode}
 use Rattle.gix_url.specs.Bytes.{percent_sign, Lacks, FreeOf, LacksWhiteSpace}
 use Rattle.gix_url.specs.Escapes.{is_sound, begins_with_digits, escaped_percents}
 
@@ -302,6 +303,46 @@ pub encode_lacks : (test : ℕ → Bool) (set : AsciiSet) (t : List ℕ) → ((b
 encode_lacks test set t kept escapes =
     list_any_none test _ (All-percent_encode (λ b. test b ≡ false) set t (λ b keeps. kept b (ascii_from_kept set b keeps) (outside_from_kept set b keeps)) (λ b escape. escapes b (escape_byte_passes b escape)))
 
+-- the empty text is written empty
+pub encode_nil : (set : AsciiSet) → percent_encode set [] ≡ []
+encode_nil set = percent_encode-nil set
+
+-- only the empty text is written empty
+pub encode_empty : (set : AsciiSet) (t : List ℕ) → percent_encode set t ≡ [] → t ≡ []
+encode_empty set [] none = refl
+encode_empty set (b ∷ bs) none =
+    let some = percent_encode_nonempty set (b ∷ bs) (omega arith) in
+    absurd (omega (arith, ap length none, some))
+
+-- an ASCII byte that is not in the set stays
+pub encode_byte_kept : (set : AsciiSet) (b : ℕ) (bs : List ℕ) → b < 128 → contains set b ≡ false → percent_encode set (b ∷ bs) ≡ b ∷ percent_encode set bs
+encode_byte_kept set b bs ascii out = percent_encode_kept set b bs (kept_from_outside set b ascii out)
+
+-- what is written lacks what the text lacks, but for the bytes of an escape
+pub encode_lacks_kept : (test : ℕ → Bool) (set : AsciiSet) (t : List ℕ) → ((b : ℕ) → is_escape_byte b ≡ true → test b ≡ false) → Lacks test t → Lacks test (percent_encode set t)
+encode_lacks_kept test set [] escapes lacks = rw percent_encode-nil refl
+encode_lacks_kept test set (b ∷ bs) escapes lacks =
+    let parts = or_parts (test b) (list_any test bs) lacks in
+    let rest = encode_lacks_kept test set bs escapes parts.1 in
+    let escape : Lacks test (percent_encode_byte b) = list_any_none test _ (All-weaker IsEscapeByte (λ c. test c ≡ false) (λ c h. escapes c (escape_byte_passes c h)) (percent_encode_byte b) (All-percent_encode_byte b)) in
+    ⊎_elim
+    (λ escaped. rw (percent_encode_escaped set b bs escaped, list_any-append test (percent_encode_byte b) (percent_encode set bs)) (or_from _ _ escape rest))
+    (λ kept. rw (percent_encode_kept set b bs kept) (or_from _ _ parts.0 rest))
+    (cases_Bool (should_percent_encode set b))
+
+-- the text lacks what its writing lacks, where the test passes no byte that is escaped
+pub lacks_from_encode : (test : ℕ → Bool) (set : AsciiSet) (t : List ℕ) → ((b : ℕ) → should_percent_encode set b ≡ true → test b ≡ false) → Lacks test (percent_encode set t) → Lacks test t
+lacks_from_encode test set [] escaped lacks = refl
+lacks_from_encode test set (b ∷ bs) escaped lacks = ⊎_elim
+    (λ out.
+    let whole : (list_any test (percent_encode_byte b) || list_any test (percent_encode set bs)) ≡ false = sym (list_any-append test (percent_encode_byte b) (percent_encode set bs)) ∙ ap (list_any test) (sym (percent_encode_escaped set b bs out)) ∙ lacks in
+    or_from _ _ (escaped b out) (lacks_from_encode test set bs escaped (or_parts _ _ whole).1))
+    (λ kept.
+    let whole : (test b || list_any test (percent_encode set bs)) ≡ false = ap (list_any test) (sym (percent_encode_kept set b bs kept)) ∙ lacks in
+    let parts = or_parts _ _ whole in
+    or_from _ _ parts.0 (lacks_from_encode test set bs escaped parts.1))
+    (cases_Bool (should_percent_encode set b))
+
 -- what is written lacks a byte of the set that no escape has
 pub encode_free : (set : AsciiSet) (t : List ℕ) (c : ℕ) → contains set c ≡ true → is_escape_byte c ≡ false → FreeOf c (percent_encode set t)
 encode_free set t c has other =
@@ -415,6 +456,16 @@ utf8_parts xs ys c whole ascii =
 pub utf8_joined : (xs ys : List ℕ) (c : ℕ) → IsUtf8 xs → c < 128 → IsUtf8 ys → IsUtf8 (xs ++ c ∷ ys)
 utf8_joined xs ys c front ascii rest = IsUtf8-append xs (c ∷ ys) front (IsUtf8-append (c ∷ []) ys (utf8_byte c ascii) rest)
 
+-- a decoding that is UTF-8 is so on both sides of an ASCII byte that no escape has
+pub utf8_decoded_parts : (xs ys : List ℕ) (c : ℕ) → is_digit c 16 ≡ false → (c == 37) ≡ false → c < 128 → IsUtf8 (percent_decode (xs ++ c ∷ ys)) → IsUtf8 (percent_decode xs) × IsUtf8 (percent_decode ys)
+utf8_decoded_parts xs ys c other plain ascii whole =
+    utf8_parts (percent_decode xs) (percent_decode ys) c (subst IsUtf8 (decodes_around xs ys c other plain) whole) ascii
+
+-- decodings that are UTF-8 are so joined by such a byte
+pub utf8_decoded_joined : (xs ys : List ℕ) (c : ℕ) → is_digit c 16 ≡ false → (c == 37) ≡ false → c < 128 → IsUtf8 (percent_decode xs) → IsUtf8 (percent_decode ys) → IsUtf8 (percent_decode (xs ++ c ∷ ys))
+utf8_decoded_joined xs ys c other plain ascii front rest =
+    subst IsUtf8 (sym (decodes_around xs ys c other plain)) (utf8_joined (percent_decode xs) (percent_decode ys) c front ascii rest)
+
 -- two parts lack white space where their whole does
 pub white_space_parts : (xs ys : List ℕ) → IsUtf8 xs → LacksWhiteSpace (xs ++ ys) → LacksWhiteSpace xs × LacksWhiteSpace ys
 white_space_parts xs ys front lacks =
@@ -432,3 +483,141 @@ white_space_ascii t ascii lacks = ap (list_any is_whitespace) (chars-IsAscii t a
 -- an ASCII byte that is no white space
 pub white_space_byte : (c : ℕ) → c < 128 → is_whitespace c ≡ false → LacksWhiteSpace (c ∷ [])
 white_space_byte c ascii other = white_space_ascii (c ∷ []) (ascii_byte c ascii) (or_from _ _ other refl)
+
+-- ---- bytes and characters
+
+-- what lacks a wider test lacks a narrower one
+pub lacks_narrower : (narrow wide : ℕ → Bool) (xs : List ℕ) → ((b : ℕ) → wide b ≡ false → narrow b ≡ false) → Lacks wide xs → Lacks narrow xs
+lacks_narrower narrow wide [] less lacks = refl
+lacks_narrower narrow wide (x ∷ xs) less lacks =
+    let parts = or_parts (wide x) (list_any wide xs) lacks in
+    or_from _ _ (less x parts.0) (lacks_narrower narrow wide xs less parts.1)
+
+-- no byte past ASCII passes the test
+abbrev pub IsAsciiTest : (ℕ → Bool) → Type 0
+IsAsciiTest test = (b : ℕ) → 128 ≤ b → test b ≡ false
+
+-- the bytes of a character: itself where it is ASCII, and else bytes past ASCII
+All-encode : (P : ℕ → Type 0) (c : ℕ) → (c < 128 → P c) → (128 ≤ c → (b : ℕ) → 128 ≤ b → (c < 1114112 → b < 256) → P b) → All P (encode_utf8 c)
+unfolding encode_utf8
+All-encode P c own past =
+    let two = (192 + c / 64) ∷ (128 + c % 64) ∷ [] in
+    let three = (224 + c / 4096) ∷ (128 + (c / 64) % 64) ∷ (128 + c % 64) ∷ [] in
+    let four = (240 + c / 262144) ∷ (128 + (c / 4096) % 64) ∷ (128 + (c / 64) % 64) ∷ (128 + c % 64) ∷ [] in
+    cond_both (nat_lt c 128) (c ∷ []) (cond (nat_lt c 2048) two (cond (nat_lt c 65536) three four)) (All P)
+    (λ low. All-cons P c [] (own (ltb-true c 128 low)) (All-nil P))
+    (λ no_1.
+    let high = past (ltb-false c 128 no_1) in
+    let next = λ (d : ℕ). high (128 + d % 64) (omega arith) (λ _. omega arith) in
+    let last = All-cons P (128 + c % 64) [] (next c) (All-nil P) in
+    let last_two = All-cons P (128 + (c / 64) % 64) ((128 + c % 64) ∷ []) (next (c / 64)) last in
+    cond_both (nat_lt c 2048) two (cond (nat_lt c 65536) three four) (All P)
+    (λ low. let small : c < 2048 = ltb-true c 2048 low in All-cons P (192 + c / 64) ((128 + c % 64) ∷ []) (high (192 + c / 64) (omega arith) (λ _. omega arith)) last)
+    (λ no_2. cond_both (nat_lt c 65536) three four (All P)
+    (λ low.
+    let small : c < 65536 = ltb-true c 65536 low in
+    All-cons P (224 + c / 4096) ((128 + (c / 64) % 64) ∷ (128 + c % 64) ∷ []) (high (224 + c / 4096) (omega arith) (λ _. omega arith)) last_two)
+    (λ no_3.
+    let last_three = All-cons P (128 + (c / 4096) % 64) ((128 + (c / 64) % 64) ∷ (128 + c % 64) ∷ []) (next (c / 4096)) last_two in
+    All-cons P (240 + c / 262144) ((128 + (c / 4096) % 64) ∷ (128 + (c / 64) % 64) ∷ (128 + c % 64) ∷ []) (high (240 + c / 262144) (omega arith) (λ bound. omega arith)) last_three)))
+
+any_encode : (test : ℕ → Bool) → IsAsciiTest test → (c : ℕ) → list_any test (encode_utf8 c) ≡ test c
+any_encode test ascii c = ⊎_elim
+    (λ low. ap (list_any test) (encode_ascii c low) ∙ or-false (test c))
+    (λ high.
+    let none = All-encode (λ b. test b ≡ false) c (λ low. absurd (omega arith)) (λ _ b past _. ascii b past) in
+    list_any_none test (encode_utf8 c) none ∙ sym (ascii c high))
+    (cases_lt c 128)
+
+any_encodes : (test : ℕ → Bool) → IsAsciiTest test → (cs : List ℕ) → list_any test (encode_utf8_all cs) ≡ list_any test cs
+any_encodes test ascii [] = refl
+any_encodes test ascii (c ∷ cs) =
+    let first = any_encode test ascii c in
+    let rest = any_encodes test ascii cs in
+    rw (list_any-append test (encode_utf8 c) (encode_utf8_all cs), first, rest) refl
+
+-- a test of ASCII bytes says of the characters of a text what it says of its bytes
+pub any_chars : (test : ℕ → Bool) (t : List ℕ) → IsAsciiTest test → IsUtf8 t → list_any test (chars t) ≡ list_any test t
+any_chars test t ascii utf8 = sym (any_encodes test ascii (chars t)) ∙ ap (list_any test) (encodes-chars t utf8)
+
+-- a text without white space lacks each ASCII test of white space
+pub lacks_narrower_white_space : (test : ℕ → Bool) (t : List ℕ) → IsAsciiTest test → ((b : ℕ) → is_whitespace b ≡ false → test b ≡ false) → IsUtf8 t → LacksWhiteSpace t → Lacks test t
+lacks_narrower_white_space test t ascii less utf8 lacks =
+    sym (any_chars test t ascii utf8) ∙ lacks_narrower test is_whitespace (chars t) less lacks
+
+-- a text without white space lacks that of ASCII
+pub lacks_ascii_white_space : (t : List ℕ) → IsUtf8 t → LacksWhiteSpace t → Lacks is_ascii_whitespace t
+lacks_ascii_white_space t =
+    lacks_narrower_white_space is_ascii_whitespace t (λ b high. grind (arith, nat_tests)) (λ b other. grind (arith, nat_tests))
+
+escaped_encode : (c : ℕ) (cs : List ℕ) → escaped_percents (encode_utf8_all cs) ≡ encode_utf8_all (escaped_percents cs) → escaped_percents (encode_utf8_all (c ∷ cs)) ≡ encode_utf8_all (escaped_percents (c ∷ cs))
+escaped_encode c cs rest = ⊎_elim
+    (λ percent.
+    let sign : c ≡ 37 = eqb-true c 37 percent in
+    let bytes : encode_utf8 c ≡ 37 ∷ [] = encode_ascii c (omega arith) ∙ ap (λ b. b ∷ []) sign in
+    rw (percent, bytes, encode_ascii 37 (omega arith), encode_ascii 50 (omega arith), encode_ascii 53 (omega arith)) (ap (λ t. 37 ∷ 50 ∷ 53 ∷ t) rest))
+    (λ other.
+    let none : FreeOf percent_sign (encode_utf8 c) = any_encode (λ b. b == 37) (λ b high. ne_eqb b 37 (λ e. omega arith)) c ∙ other in
+    rw other (escaped_percents-append (encode_utf8 c) (encode_utf8_all cs) ∙ ap (λ t. t ++ escaped_percents (encode_utf8_all cs)) (escaped_percents_kept (encode_utf8 c) none) ∙ ap (λ t. encode_utf8 c ++ t) rest))
+    (cases_Bool (c == 37))
+
+escaped_encodes : (cs : List ℕ) → escaped_percents (encode_utf8_all cs) ≡ encode_utf8_all (escaped_percents cs)
+escaped_encodes [] = refl
+escaped_encodes (c ∷ cs) = escaped_encode c cs (escaped_encodes cs)
+
+scalars_escaped : (cs : List ℕ) → scalars cs ≡ true → scalars (escaped_percents cs) ≡ true
+scalars_escaped [] all = refl
+scalars_escaped (c ∷ cs) all =
+    let parts = and_parts (scalar c) (scalars cs) all in
+    let rest = scalars_escaped cs parts.1 in
+    ⊎_elim (λ percent. rw percent rest) (λ other. rw other (and_from _ _ parts.0 rest)) (cases_Bool (c == 37))
+
+-- a UTF-8 text with its `%` as escapes is UTF-8
+pub utf8_escaped_percents : (t : List ℕ) → IsUtf8 t → IsUtf8 (escaped_percents t)
+utf8_escaped_percents t utf8 =
+    (escaped_percents utf8.0, (scalars_escaped utf8.0 utf8.1.0, sym (escaped_encodes utf8.0) ∙ ap escaped_percents utf8.1.1))
+
+-- its characters are those of the text with each `%` as an escape
+pub chars_escaped_percents : (t : List ℕ) → IsUtf8 t → chars (escaped_percents t) ≡ escaped_percents (chars t)
+chars_escaped_percents t utf8 =
+    sym (chars_from_encodes (escaped_percents (chars t)) (escaped_percents t) (utf8_escaped_percents t utf8) (sym (escaped_encodes (chars t)) ∙ ap escaped_percents (encodes-chars t utf8)))
+
+-- it lacks white space where the text does
+pub white_space_escaped_percents : (t : List ℕ) → IsUtf8 t → LacksWhiteSpace t → LacksWhiteSpace (escaped_percents t)
+white_space_escaped_percents t utf8 lacks =
+    ap (list_any is_whitespace) (chars_escaped_percents t utf8) ∙ lacks_escaped_percents is_whitespace (chars t) refl refl refl lacks
+
+small_encode : (c : ℕ) → scalar c ≡ true → All (λ b. b < 256) (encode_utf8 c)
+small_encode c is =
+    let bound : c < 1114112 = ⊎_elim (λ low. omega arith) (λ high. high.1) (scalar_cases c is) in
+    All-encode (λ b. b < 256) c (λ low. omega arith) (λ _ b _ small. small bound)
+
+small_encodes : (cs : List ℕ) → scalars cs ≡ true → All (λ b. b < 256) (encode_utf8_all cs)
+small_encodes [] all = All-nil (λ b. b < 256)
+small_encodes (c ∷ cs) all =
+    let parts = and_parts (scalar c) (scalars cs) all in
+    All-append (λ b. b < 256) (encode_utf8 c) (encode_utf8_all cs) (small_encode c parts.0) (small_encodes cs parts.1)
+
+-- a text whose numbers fit a byte is made of bytes
+pub bytes_from_fits : (t : List ℕ) → ((i : ℕ) → Fits w8 (get_or t i 0)) → All (λ b. b < 256) t
+bytes_from_fits t fits = All-from_get_or (λ b. b < 256) t 0 (λ i within. omega (arith, fits i))
+
+-- a UTF-8 text is made of bytes
+pub bytes_from_utf8 : (t : List ℕ) → IsUtf8 t → All (λ b. b < 256) t
+bytes_from_utf8 t utf8 = subst (All (λ b. b < 256)) utf8.1.1 (small_encodes utf8.0 utf8.1.0)
+
+-- decoding undoes encoding of a UTF-8 text by a set that has `%`
+pub decode_encode_utf8 : (set : AsciiSet) (t : List ℕ) → contains set 37 ≡ true → IsUtf8 t → percent_decode (percent_encode set t) ≡ t
+decode_encode_utf8 set t has utf8 = decode_encode set t has (bytes_from_utf8 t utf8)
+
+-- what is written is UTF-8
+pub utf8_encode : (set : AsciiSet) (t : List ℕ) → IsUtf8 (percent_encode set t)
+utf8_encode set t = IsUtf8-from_ascii (percent_encode set t) (IsAscii-encode set t)
+
+space_kept : (set : AsciiSet) (b : ℕ) → ((c : ℕ) → c < 128 → is_whitespace c ≡ true → contains set c ≡ true) → b < 128 → contains set b ≡ false → is_whitespace b ≡ false
+space_kept set b spaces ascii kept = false_from_ne_true _ (λ space. both_ways _ kept (spaces b ascii space))
+
+-- what is written by a set that has the ASCII white space lacks white space
+pub white_space_encode : (set : AsciiSet) (t : List ℕ) → ((b : ℕ) → b < 128 → is_whitespace b ≡ true → contains set b ≡ true) → LacksWhiteSpace (percent_encode set t)
+white_space_encode set t spaces =
+    white_space_ascii (percent_encode set t) (IsAscii-encode set t) (encode_lacks is_whitespace set t (λ b ascii kept. space_kept set b spaces ascii kept) (λ b escape. grind (arith, nat_tests)))
