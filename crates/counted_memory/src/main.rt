@@ -30,7 +30,7 @@ fn call(alloc: Global, line: &str) -> Outcome {
 
 /// Reads a text.
 fn read(alloc: Global, text: &str) -> Outcome {
-    match gix_url::parse::parse(alloc, bstr::BStr::new(text.as_bytes())) {
+    match Url::from_text(alloc, text) {
         Ok(_) => Outcome::Read,
         Err(error) => Outcome::Refused(error),
     }
@@ -38,8 +38,8 @@ fn read(alloc: Global, text: &str) -> Outcome {
 
 /// Reads a text and asks for the text of what was read.
 fn write(alloc: Global, text: &str) -> Outcome {
-    match gix_url::parse::parse(alloc, bstr::BStr::new(text.as_bytes())) {
-        Ok(_) => Outcome::Wrote(30),
+    match Url::from_text(alloc, text).and_then(|url| url.to_bstring(alloc)) {
+        Ok(written) => Outcome::Wrote(written.len()),
         Err(error) => Outcome::Refused(error),
     }
 }

@@ -1,7 +1,7 @@
 //! IPv6 texts, and the names and ports of schemes.
 
-use gix_url::ipv6::is_ipv6;
 use gix_url::Scheme;
+use gix_url::ipv6::is_ipv6;
 use std::test::Fail;
 
 /// Texts that are addresses.
@@ -73,12 +73,19 @@ fn schemes(rt: HostRuntime) -> Result<(), Fail> {
         assert_eq!(rt; scheme.as_str(), name);
         assert_eq!(rt; scheme.to_string(alloc)?.as_str(), name);
         assert_eq!(rt; scheme.default_port(), port, "{text}");
-        assert_eq!(rt; matches!(scheme, Scheme::HelperUrl(_)), !known(text), "{text}");
+        assert_eq!(rt;
+            matches!(scheme, Scheme::HelperUrl(_)),
+            !known(text),
+            "{text}"
+        );
     }
     Ok(())
 }
 
 /// Whether the text names a scheme with a variant of its own.
 fn known(text: &str) -> bool {
-    matches!(text, "ssh" | "ssh+git" | "git+ssh" | "git" | "http" | "https" | "file" | "ext")
+    matches!(
+        text,
+        "ssh" | "ssh+git" | "git+ssh" | "git" | "http" | "https" | "file" | "ext"
+    )
 }

@@ -24,7 +24,10 @@ static URLS: [(&str, &str); 58] = [
     ("ssh://[h]:x/p", "BadUrl BadPort Url"),
     ("user@[::1]://p", "BadUrl NoScheme Url"),
     ("http://example.com:65536/path", "BadUrl BadPort Url"),
-    ("http://redirected.example\\@original.example/repo", "BadUrl BadCharacter Url"),
+    (
+        "http://redirected.example\\@original.example/repo",
+        "BadUrl BadCharacter Url",
+    ),
     ("http://example.com:abc/", "BadUrl BadPort Url"),
     ("http://foo:bar:baz/", "BadUrl BadCharacter Url"),
     ("http://[not-ip]/", "BadUrl BadCharacter Url"),
@@ -40,7 +43,10 @@ static URLS: [(&str, &str); 58] = [
     ("http://example%zz.com/", "BadUrl BadCharacter Url"),
     ("http://has a space", "BadUrl BadCharacter Url"),
     ("http://has a space/path", "BadUrl BadCharacter Url"),
-    ("https://example.com with space/path", "BadUrl BadCharacter Url"),
+    (
+        "https://example.com with space/path",
+        "BadUrl BadCharacter Url",
+    ),
     ("http://has\ta\ttab", "BadUrl BadCharacter Url"),
     ("http://has\na\nnewline", "BadUrl BadCharacter Url"),
     ("ssh://h", "MissingPath Url"),

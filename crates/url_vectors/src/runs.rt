@@ -1,13 +1,19 @@
 //! The program's work: how the input is cut into lines, and what is answered.
 
-use gix_url::lines::{fault_line, run, status, RunError};
+use gix_url::lines::{RunError, fault_line, run, status};
 use std::alloc::Global;
 use std::io::{self, ErrorKind};
 use std::process::Abort;
 use std::test::Fail;
 
 /// Checks what an input is answered, and whether every line of it is settled.
-fn answers(rt: &impl Abort, alloc: Global, input: &str, answer: &str, all: bool) -> Result<(), Fail> {
+fn answers(
+    rt: &impl Abort,
+    alloc: Global,
+    input: &str,
+    answer: &str,
+    all: bool,
+) -> Result<(), Fail> {
     let mut left = input.as_bytes();
     let mut out = Vec::new(alloc);
     let outcome = run(alloc, &mut left, &mut out);
@@ -21,15 +27,27 @@ fn answers(rt: &impl Abort, alloc: Global, input: &str, answer: &str, all: bool)
 /// An input, its answer, and whether every line is settled.
 static INPUTS: [(&str, &str, bool); 10] = [
     ("", "", true),
-    ("/a\nssh+git:///p\n\n", "settled\t/a\nunsettled\tssh\nrefused\tEmptyLocal\n", false),
-    ("a::b://c\n/srv/repo.git\n", "settled\ta::b://c\nsettled\t/srv/repo.git\n", true),
+    (
+        "/a\nssh+git:///p\n\n",
+        "settled\t/a\nunsettled\tssh\nrefused\tEmptyLocal\n",
+        false,
+    ),
+    (
+        "a::b://c\n/srv/repo.git\n",
+        "settled\ta::b://c\nsettled\t/srv/repo.git\n",
+        true,
+    ),
     ("/a", "settled\t/a\n", true),
     ("/a\nhttp://h", "settled\t/a\nsettled\thttp://h/\n", true),
     ("\n", "refused\tEmptyLocal\n", false),
     ("\n\n", "refused\tEmptyLocal\nrefused\tEmptyLocal\n", false),
     ("\n/a", "refused\tEmptyLocal\nsettled\t/a\n", false),
     ("/a\r\n\r\n", "settled\t/a\r\nsettled\t\r\n", true),
-    ("http://h/\r\nssh://h", "refused\tBadUrl BadCharacter\nrefused\tMissingPath\n", false),
+    (
+        "http://h/\r\nssh://h",
+        "refused\tBadUrl BadCharacter\nrefused\tMissingPath\n",
+        false,
+    ),
 ];
 
 #[test]
@@ -45,7 +63,10 @@ fn bytes_that_are_no_text(rt: HostRuntime) -> Result<(), Fail> {
     let mut left = b"/\xff\nh:\xff\n".as_slice();
     let mut out = Vec::new(rt.alloc());
     assert_eq!(rt; run(rt.alloc(), &mut left, &mut out)?, false);
-    assert_eq!(rt; out.as_slice(), b"settled\t/\xff\nrefused\tNotUtf8\n".as_slice());
+    assert_eq!(rt;
+        out.as_slice(),
+        b"settled\t/\xff\nrefused\tNotUtf8\n".as_slice()
+    );
     Ok(())
 }
 

@@ -1,7 +1,7 @@
 //! How locations and refusals are told in tables, and the checks of a row.
 
 use bstr::{BStr, BString};
-use gix_url::parse::{parse, UrlKind};
+use gix_url::parse::{UrlKind, parse};
 use gix_url::testing::TestUrlExtension;
 use gix_url::{Error, Scheme, Url, UrlFault, WriteFault};
 use std::alloc::Global;
@@ -10,12 +10,22 @@ use std::process::Abort;
 use std::test::Fail;
 
 /// Checks what a text is read as, part by part, and how that is written.
-pub fn reads(rt: &impl Abort, alloc: Global, text: &str, parts: &str, written: &str) -> Result<(), Fail> {
+pub fn reads(
+    rt: &impl Abort,
+    alloc: Global,
+    text: &str,
+    parts: &str,
+    written: &str,
+) -> Result<(), Fail> {
     let outcome = Url::from_text(alloc, text);
     assert!(rt; outcome.is_ok(), "{text} is refused");
     let url = outcome?;
     assert_eq!(rt; told_parts(alloc, &url)?.as_str(), parts, "parts of {text}");
-    assert_eq!(rt; told_text(rt, alloc, &url)?.as_str(), written, "text of {text}");
+    assert_eq!(rt;
+        told_text(rt, alloc, &url)?.as_str(),
+        written,
+        "text of {text}"
+    );
     Ok(())
 }
 
@@ -25,8 +35,15 @@ pub fn refuses(rt: &impl Abort, alloc: Global, bytes: &[u8], told: &str) -> Resu
     match parse(alloc, shown) {
         Ok(_) => assert!(rt; false, "{shown} is read"),
         Err(error) => {
-            assert_eq!(rt; told_error(alloc, &error)?.as_str(), told, "the error for {shown}");
-            assert!(rt; keeps(&error, bytes), "the error for {shown} keeps other bytes");
+            assert_eq!(rt;
+                told_error(alloc, &error)?.as_str(),
+                told,
+                "the error for {shown}"
+            );
+            assert!(rt;
+                keeps(&error, bytes),
+                "the error for {shown} keeps other bytes"
+            );
         }
     }
     Ok(())
@@ -91,11 +108,19 @@ pub fn told_text(rt: &impl Abort, alloc: Global, url: &Url) -> Result<String, Fa
     let outcome = url.write_to(&mut bytes);
     match url.to_bstring(alloc) {
         Ok(text) => {
-            out.push_str(if url.is_settled() { "settled" } else { "unsettled" })?;
+            out.push_str(if url.is_settled() {
+                "settled"
+            } else {
+                "unsettled"
+            })?;
             write!(out, " {text}")?;
             assert!(rt; outcome.is_ok(), "{text} is not written");
             assert_eq!(rt; bytes.as_slice(), text.as_bytes(), "what is written");
-            assert_eq!(rt; url.text_len(), Ok(text.len() as u128), "the length of {text}");
+            assert_eq!(rt;
+                url.text_len(),
+                Ok(text.len() as u128),
+                "the length of {text}"
+            );
         }
         Err(Error::Unwritable(fault)) => {
             write!(out, "unwritable {}", fault_name(fault))?;
@@ -104,7 +129,7 @@ pub fn told_text(rt: &impl Abort, alloc: Global, url: &Url) -> Result<String, Fa
             assert_eq!(rt; url.text_len(), Err(fault), "what has no text has a length");
             assert!(rt; !url.is_settled(), "what has no text is settled");
         }
-        Err(_) => out.push_str("another error")?,
+        Err(_other) => out.push_str("another error")?,
     }
     Ok(out)
 }
@@ -128,7 +153,12 @@ fn told_error(alloc: Global, error: &Error) -> Result<String, Fail> {
         Error::NotUtf8 { kind, .. } => write!(out, "NotUtf8 {}", kind_name(*kind))?,
         Error::TooLong { shown, total } => write!(out, "TooLong {} of {total}", shown.len())?,
         Error::BadUrl { kind, fault, .. } => {
-            write!(out, "BadUrl {} {}", url_fault_name(*fault), kind_name(*kind))?
+            write!(
+                out,
+                "BadUrl {} {}",
+                url_fault_name(*fault),
+                kind_name(*kind)
+            )?
         }
         _ => out.push_str("another error")?,
     }
@@ -157,9 +187,9 @@ fn url_fault_name(fault: UrlFault) -> &'static str {
 /// Whether the error keeps the bytes that were refused, or their front where it shows no more.
 fn keeps(error: &Error, bytes: &[u8]) -> bool {
     match error {
-        Error::MissingPath { input, .. } | Error::NotUtf8 { input, .. } | Error::BadUrl { input, .. } => {
-            input.as_bytes() == bytes
-        }
+        Error::MissingPath { input, .. }
+        | Error::NotUtf8 { input, .. }
+        | Error::BadUrl { input, .. } => { input.as_bytes() == bytes }
         Error::TooLong { shown, .. } => bytes.starts_with(shown.as_bytes()),
         _ => true,
     }

@@ -1,8 +1,8 @@
 //! Values that no text is read as: the edges of the settled class, faults of writing, and every byte in every part.
 
 use crate::told::{told_front, told_text, unchecked};
-use gix_url::parse::parse;
 use gix_url::Url;
+use gix_url::parse::parse;
 use std::alloc::Global;
 use std::process::Abort;
 use std::test::Fail;
@@ -20,50 +20,164 @@ type Parts = (
 
 /// Locations of these parts, and how they are written. Nearly all are just outside the settled class.
 static EDGES: [(Parts, &str); 37] = [
-    (("Https", Some("u"), Some(""), Some("h"), None, "/p", false), "unsettled https://u:@h/p"),
-    (("Https", Some(""), None, Some("h"), None, "/p", false), "unsettled https://@h/p"),
-    (("Https", None, None, Some("h"), None, "/p", true), "unsettled https://h/p"),
-    (("Https", None, Some("x"), Some("h"), None, "/p", false), "unsettled https://h/p"),
-    (("Https", None, None, Some("H"), None, "/p", false), "unsettled https://H/p"),
-    (("Https", None, None, Some("h"), Some(0), "/p", false), "unsettled https://h:0/p"),
-    (("Https", None, None, Some("h"), None, "p", false), "unsettled https://hp"),
-    (("Http", None, None, Some("h%41:"), None, "/p", false), "unsettled http://[h%2541:]/p"),
-    (("Ssh", None, None, Some("h"), Some(22), "/p", true), "unsettled ssh://h:22/p"),
-    (("Ssh", None, None, Some("h"), None, "/~a", false), "unsettled ssh://h/~a"),
-    (("Ssh", None, None, Some("h"), None, "~a b", false), "unsettled ssh://h/~a b"),
-    (("Ssh", None, None, Some("h"), None, "/a%20b", false), "unsettled ssh://h/a%20b"),
-    (("Ssh", None, None, Some("h"), None, "//p", true), "unsettled h://p"),
-    (("Ssh", Some("a:b"), None, Some("h"), None, "p", true), "unsettled a:b@h:p"),
-    (("Ssh", Some("u"), None, Some("::1"), None, "p", true), "settled u@[::1]:p"),
+    (
+        ("Https", Some("u"), Some(""), Some("h"), None, "/p", false),
+        "unsettled https://u:@h/p",
+    ),
+    (
+        ("Https", Some(""), None, Some("h"), None, "/p", false),
+        "unsettled https://@h/p",
+    ),
+    (
+        ("Https", None, None, Some("h"), None, "/p", true),
+        "unsettled https://h/p",
+    ),
+    (
+        ("Https", None, Some("x"), Some("h"), None, "/p", false),
+        "unsettled https://h/p",
+    ),
+    (
+        ("Https", None, None, Some("H"), None, "/p", false),
+        "unsettled https://H/p",
+    ),
+    (
+        ("Https", None, None, Some("h"), Some(0), "/p", false),
+        "unsettled https://h:0/p",
+    ),
+    (
+        ("Https", None, None, Some("h"), None, "p", false),
+        "unsettled https://hp",
+    ),
+    (
+        ("Http", None, None, Some("h%41:"), None, "/p", false),
+        "unsettled http://[h%2541:]/p",
+    ),
+    (
+        ("Ssh", None, None, Some("h"), Some(22), "/p", true),
+        "unsettled ssh://h:22/p",
+    ),
+    (
+        ("Ssh", None, None, Some("h"), None, "/~a", false),
+        "unsettled ssh://h/~a",
+    ),
+    (
+        ("Ssh", None, None, Some("h"), None, "~a b", false),
+        "unsettled ssh://h/~a b",
+    ),
+    (
+        ("Ssh", None, None, Some("h"), None, "/a%20b", false),
+        "unsettled ssh://h/a%20b",
+    ),
+    (
+        ("Ssh", None, None, Some("h"), None, "//p", true),
+        "unsettled h://p",
+    ),
+    (
+        ("Ssh", Some("a:b"), None, Some("h"), None, "p", true),
+        "unsettled a:b@h:p",
+    ),
+    (
+        ("Ssh", Some("u"), None, Some("::1"), None, "p", true),
+        "settled u@[::1]:p",
+    ),
     (("Ssh", None, None, None, None, "/p", true), "unsettled :/p"),
-    (("Ssh", None, None, None, None, "", false), "unsettled ssh:///"),
-    (("Git", None, None, Some("h"), None, "p", false), "unsettled git://h/p"),
-    (("Git", None, None, Some("[x]y"), None, "/p", false), "unsettled git://%5Bx%5Dy/p"),
-    (("HelperUrl ssh", None, None, Some("h"), None, "/p", false), "unsettled ssh://h/p"),
-    (("HelperUrl ftp", None, None, None, None, "/p", false), "unsettled ftp:///p"),
-    (("HelperUrl x", None, None, None, Some(1), "/p", false), "unsettled x://:1/p"),
-    (("File", None, None, Some("a/b"), None, "/p", false), "unsettled file://a/b/p"),
-    (("File", None, None, None, None, "a:b", true), "unsettled a:b"),
-    (("File", None, None, None, None, "a::b", true), "unsettled a::b"),
-    (("File", None, None, Some("h"), None, "/p", true), "unsettled h/p"),
+    (
+        ("Ssh", None, None, None, None, "", false),
+        "unsettled ssh:///",
+    ),
+    (
+        ("Git", None, None, Some("h"), None, "p", false),
+        "unsettled git://h/p",
+    ),
+    (
+        ("Git", None, None, Some("[x]y"), None, "/p", false),
+        "unsettled git://%5Bx%5Dy/p",
+    ),
+    (
+        ("HelperUrl ssh", None, None, Some("h"), None, "/p", false),
+        "unsettled ssh://h/p",
+    ),
+    (
+        ("HelperUrl ftp", None, None, None, None, "/p", false),
+        "unsettled ftp:///p",
+    ),
+    (
+        ("HelperUrl x", None, None, None, Some(1), "/p", false),
+        "unsettled x://:1/p",
+    ),
+    (
+        ("File", None, None, Some("a/b"), None, "/p", false),
+        "unsettled file://a/b/p",
+    ),
+    (
+        ("File", None, None, None, None, "a:b", true),
+        "unsettled a:b",
+    ),
+    (
+        ("File", None, None, None, None, "a::b", true),
+        "unsettled a::b",
+    ),
+    (
+        ("File", None, None, Some("h"), None, "/p", true),
+        "unsettled h/p",
+    ),
     (("File", None, None, None, None, "", true), "unsettled "),
-    (("Helper ext", None, None, None, None, "a", true), "unsettled ext::a"),
-    (("Helper a", None, None, None, None, "b", false), "unsettled a::b"),
-    (("Ssh", Some("u"), None, None, None, "/p", false), "unwritable UserWithoutHost"),
-    (("Ssh", None, None, Some("h"), Some(22), "p", false), "unwritable RelativeSsh"),
-    (("Ssh", Some("u"), None, None, None, "p", false), "unwritable RelativeSsh"),
-    (("Helper a", None, None, Some("h"), None, "x", true), "unwritable HelperParts"),
-    (("Helper -a", None, None, None, None, "x", true), "unwritable HelperName"),
-    (("Ext", None, None, None, Some(1), "x", true), "unwritable HelperParts"),
-    (("File", Some("u"), None, None, None, "/p", true), "unwritable UserWithoutHost"),
-    (("Ssh", Some("a@b/c:d"), None, Some("h"), None, "/p", false), "settled ssh://a%40b%2Fc%3Ad@h/p"),
+    (
+        ("Helper ext", None, None, None, None, "a", true),
+        "unsettled ext::a",
+    ),
+    (
+        ("Helper a", None, None, None, None, "b", false),
+        "unsettled a::b",
+    ),
+    (
+        ("Ssh", Some("u"), None, None, None, "/p", false),
+        "unwritable UserWithoutHost",
+    ),
+    (
+        ("Ssh", None, None, Some("h"), Some(22), "p", false),
+        "unwritable RelativeSsh",
+    ),
+    (
+        ("Ssh", Some("u"), None, None, None, "p", false),
+        "unwritable RelativeSsh",
+    ),
+    (
+        ("Helper a", None, None, Some("h"), None, "x", true),
+        "unwritable HelperParts",
+    ),
+    (
+        ("Helper -a", None, None, None, None, "x", true),
+        "unwritable HelperName",
+    ),
+    (
+        ("Ext", None, None, None, Some(1), "x", true),
+        "unwritable HelperParts",
+    ),
+    (
+        ("File", Some("u"), None, None, None, "/p", true),
+        "unwritable UserWithoutHost",
+    ),
+    (
+        ("Ssh", Some("a@b/c:d"), None, Some("h"), None, "/p", false),
+        "settled ssh://a%40b%2Fc%3Ad@h/p",
+    ),
 ];
 
 #[test]
 fn edges_of_the_settled_class(rt: HostRuntime) -> Result<(), Fail> {
     let alloc = rt.alloc();
     for &((scheme, user, password, host, port, path, flag), written) in EDGES.as_slice() {
-        let url = unchecked(alloc, scheme, user, password, host, port, path.as_bytes(), flag)?;
+        let url = unchecked(
+            alloc,
+            scheme,
+            user,
+            password,
+            host,
+            port,
+            path.as_bytes(),
+            flag,
+        )?;
         assert_eq!(rt; told_text(&rt, alloc, &url)?.as_str(), written);
     }
     Ok(())
@@ -72,7 +186,10 @@ fn edges_of_the_settled_class(rt: HostRuntime) -> Result<(), Fail> {
 /// Locations of which a part is every character up to U+00FF in turn, where it has a `*`; and how many of the 256
 /// are settled.
 static EVERY_CHARACTER: [(Parts, usize); 6] = [
-    (("Https", Some("*"), None, Some("h"), None, "/p", false), 256),
+    (
+        ("Https", Some("*"), None, Some("h"), None, "/p", false),
+        256,
+    ),
     (("Https", None, None, Some("*"), None, "/p", false), 51),
     (("Https", None, None, Some("h"), None, "/*", false), 256),
     (("Ssh", None, None, Some("*"), None, "/p", false), 227),
@@ -103,7 +220,16 @@ fn with_character(alloc: Global, parts: Parts, character: char) -> Result<Url, F
     let user = filled_part(alloc, user, character)?;
     let host = filled_part(alloc, host, character)?;
     let path = filled(alloc, path, character)?;
-    unchecked(alloc, scheme, user.as_deref(), password, host.as_deref(), port, path.as_bytes(), flag)
+    unchecked(
+        alloc,
+        scheme,
+        user.as_deref(),
+        password,
+        host.as_deref(),
+        port,
+        path.as_bytes(),
+        flag,
+    )
 }
 
 /// Whether the location is settled. One that is has to come back from its text.
@@ -113,8 +239,16 @@ fn counts(rt: &impl Abort, alloc: Global, url: &Url) -> Result<bool, Fail> {
     }
     let text = url.to_bstring(alloc)?;
     let again = parse(alloc, text.as_bstr())?;
-    assert_eq!(rt; again.path.as_bytes(), url.path.as_bytes(), "the path of {text}");
-    assert_eq!(rt; told_front(alloc, &again)?.as_str(), told_front(alloc, url)?.as_str(), "the parts of {text}");
+    assert_eq!(rt;
+        again.path.as_bytes(),
+        url.path.as_bytes(),
+        "the path of {text}"
+    );
+    assert_eq!(rt;
+        told_front(alloc, &again)?.as_str(),
+        told_front(alloc, url)?.as_str(),
+        "the parts of {text}"
+    );
     Ok(true)
 }
 
@@ -125,7 +259,9 @@ fn every_character_in_every_part(rt: HostRuntime) -> Result<(), Fail> {
         let mut settled = 0usize;
         for character in '\0'..='\u{ff}' {
             let url = with_character(alloc, parts, character)?;
-            settled += usize::from(counts(&rt, alloc, &url)?);
+            if counts(&rt, alloc, &url)? {
+                settled = settled.saturating_add(1);
+            }
         }
         assert_eq!(rt; settled, want);
     }
