@@ -16,3 +16,4 @@ pub mod Url
 pub mod HostPieces
 pub mod UrlPieces
 pub mod Readings
+pub mod Laws

@@ -1,0 +1,51 @@
+-- The forms of a text exclude one another.
+use Rattle.std.proofs.Common.{◌≡◌, ℕ, ◌==◌, ◌⊎◌, inl, inr, Bool, true, false, List, [], ◌∷◌, ◌++◌, length, refl, sym, ap, subst, ◌∙◌, append_assoc, codes, bytes_eq}
+use Rattle.std.proofs.lemmas.Bool.{both_ways, cases_Bool, eq-eqb}
+use Rattle.gix_url.specs.Bytes.{slash, colon, at_sign, left_bracket, right_bracket, FreeOf, begins_with, Holds, is_helper_name}
+use Rattle.gix_url.specs.Cuts.{url_mark}
+use Rattle.gix_url.specs.Addresses.{IsIpv6Text}
+use Rattle.gix_url.specs.Grammar.{HasHelperForm, ScpFront, ScpShape, AddressedShape}
+use Rattle.gix_url.proofs.CutLemmas.{tails, different_bytes, cut_unique, helper_name_free, free-append, free_parts, free_or_cut, begins_cut, not_free}
+use Rattle.gix_url.proofs.AddressLemmas.{address_free, address_two_colons}
+
+-- ---- marks
+
+-- what stands before `://` and holds no colon is determined, and so is what stands behind
+pub scheme_cut_unique : (s t x y : List ℕ) → FreeOf colon s → FreeOf colon t → s ++ (url_mark ++ x) ≡ t ++ (url_mark ++ y) → (s ≡ t) × (x ≡ y)
+scheme_cut_unique s t x y f g e =
+    let pieces = cut_unique colon s t (slash ∷ slash ∷ x) (slash ∷ slash ∷ y) f g e in
+    (pieces.0, tails (tails pieces.1))
+
+-- a text whose first colon begins `://` doesn't have the form of a remote helper
+pub mark_no_helper : (b scheme rest : List ℕ) → FreeOf colon scheme → b ≡ scheme ++ (url_mark ++ rest) → ¬ HasHelperForm b
+mark_no_helper b scheme rest free joined (name, address, parts) =
+    let pieces = cut_unique colon scheme name (slash ∷ slash ∷ rest) (colon ∷ address) free (helper_name_free name colon parts.named refl) (sym joined ∙ parts.joined) in
+    different_bytes 47 58 refl pieces.1
+
+-- a text with another scheme than `file` is no file URL
+pub scheme_not_file : (scheme rest other : List ℕ) → FreeOf colon scheme → bytes_eq scheme (codes "file") ≡ false → scheme ++ (url_mark ++ rest) ≡ codes "file://" ++ other → ⊥
+scheme_not_file scheme rest other free apart e =
+    let pieces = scheme_cut_unique scheme (codes "file") rest other free refl e in
+    both_ways (bytes_eq scheme (codes "file")) apart (ap (λ s. bytes_eq s (codes "file")) pieces.0)
+
+-- ---- the shape `user@[address]:path`
+
+-- an address around its first colon
+pub address_cut : (t : List ℕ) → IsIpv6Text t → (x : List ℕ) × (y : List ℕ) × FreeOf colon x × (t ≡ x ++ colon ∷ y)
+address_cut t h = elim (free_or_cut colon t) [
+  | inl free ↦
+    let (x, y, z, e) = address_two_colons t h in
+    absurd (not_free colon x (y ++ colon ∷ z) (subst (λ s. FreeOf colon s) e free))
+  | inr found ↦ found
+]
+
+-- the text around its first colon, which stands in the address
+pub addressed_joined : (user address path x y : List ℕ) → address ≡ x ++ colon ∷ y → user ++ at_sign ∷ (left_bracket ∷ (address ++ right_bracket ∷ (colon ∷ path))) ≡ (user ++ at_sign ∷ (left_bracket ∷ x)) ++ colon ∷ (y ++ right_bracket ∷ (colon ∷ path))
+addressed_joined user address path x y e =
+    ap (λ t. user ++ at_sign ∷ (left_bracket ∷ (t ++ right_bracket ∷ (colon ∷ path)))) e
+    ∙ ap (λ t. user ++ at_sign ∷ (left_bracket ∷ t)) (append_assoc x (colon ∷ y) (right_bracket ∷ (colon ∷ path)))
+    ∙ sym (append_assoc user (at_sign ∷ (left_bracket ∷ x)) (colon ∷ (y ++ right_bracket ∷ (colon ∷ path))))
+
+-- what stands before that colon holds none
+pub addressed_front_free : (user x : List ℕ) → FreeOf colon user → FreeOf colon x → FreeOf colon (user ++ at_sign ∷ (left_bracket ∷ x))
+addressed_front_free user x f g = free-append colon user (at_sign ∷ (left_bracket ∷ x)) f g
