@@ -5,8 +5,8 @@ use Rattle.gix_url.specs.Bytes.{slash, colon, at_sign, left_bracket, right_brack
 use Rattle.gix_url.specs.Cuts.{url_mark}
 use Rattle.gix_url.specs.Addresses.{IsIpv6Text}
 use Rattle.gix_url.specs.Grammar.{HasHelperForm, ScpFront, ScpShape, AddressedShape}
-use Rattle.gix_url.proofs.CutLemmas.{tails, different_bytes, cut_unique, helper_name_free, free-append, free_parts, free_or_cut, begins_cut, not_free}
-use Rattle.gix_url.proofs.AddressLemmas.{address_free, address_two_colons}
+use Rattle.gix_url.proofs.CutLemmas.{tails, different_bytes, cut_unique, helper_name_free, free-append, free_parts, free_head_tail, free_or_cut, begins_cut, not_free}
+use Rattle.gix_url.proofs.AddressLemmas.{is_address_byte, address_free, address_two_colons}
 
 -- ---- marks
 
@@ -49,3 +49,13 @@ addressed_joined user address path x y e =
 -- what stands before that colon holds none
 pub addressed_front_free : (user x : List ℕ) → FreeOf colon user → FreeOf colon x → FreeOf colon (user ++ at_sign ∷ (left_bracket ∷ x))
 addressed_front_free user x f g = free-append colon user (at_sign ∷ (left_bracket ∷ x)) f g
+
+-- the pieces of an address are free of what no address holds
+address_pieces_free : (c : ℕ) (t x y : List ℕ) → is_address_byte c ≡ false → IsIpv6Text t → t ≡ x ++ colon ∷ y → FreeOf c x × FreeOf c (colon ∷ y)
+address_pieces_free c t x y other h e = free_parts c x (colon ∷ y) (subst (λ s. FreeOf c s) e (address_free c t other h))
+
+pub address_front_free : (c : ℕ) (t x y : List ℕ) → is_address_byte c ≡ false → IsIpv6Text t → t ≡ x ++ colon ∷ y → FreeOf c x
+address_front_free c t x y other h e = (address_pieces_free c t x y other h e).0
+
+pub address_back_free : (c : ℕ) (t x y : List ℕ) → is_address_byte c ≡ false → IsIpv6Text t → t ≡ x ++ colon ∷ y → FreeOf c y
+address_back_free c t x y other h e = (free_head_tail c colon y (address_pieces_free c t x y other h e).1).1

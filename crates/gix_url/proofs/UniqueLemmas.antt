@@ -1,17 +1,20 @@
 -- Bytes spell one location at most: inside each form the bytes determine the pieces, and the forms exclude one another.
 use Rattle.std.proofs.Common.{◌≡◌, ℕ, ◌==◌, ◌⊎◌, inl, inr, Bool, true, false, List, [], ◌∷◌, ◌++◌, length, Option, Some, None, refl, sym, ap, subst, ◌∙◌, append_assoc, codes, bytes_eq}
 use Rattle.std.proofs.lemmas.Bool.{both_ways, false≢true, cases_Bool, eq-eqb, eqb-false}
+use Rattle.std.proofs.lemmas.Option.{same_Some}
 use Rattle.percent_encoding.specs.Percent.{percent_decode}
 use Rattle.gix_url.specs.Value.{Protocol, Location, path_alone}
 use Rattle.gix_url.specs.Value.Protocol.{file, git, ssh, http, https, ext, helper, helper_url}
-use Rattle.gix_url.specs.Bytes.{slash, colon, at_sign, left_bracket, right_bracket, Lacks, FreeOf, begins_with}
+use Rattle.gix_url.specs.Bytes.{slash, colon, at_sign, left_bracket, right_bracket, Lacks, FreeOf, begins_with, lowercase}
 use Rattle.gix_url.specs.Cuts.{is_path_start, StartsPath}
+use Rattle.gix_url.specs.Escapes.{escaped_percents}
 use Rattle.gix_url.specs.Hosts.{Mode, Names}
+use Rattle.gix_url.specs.Hosts.Mode.{bare}
 use Rattle.gix_url.specs.Schemes.{is_web_scheme, protocol_of, mode_of}
 use Rattle.gix_url.specs.Authority.{unless_empty, user_beside, Credentials, Authority}
-use Rattle.gix_url.specs.Grammar.{helper_protocol, SpellsHelper, UrlParts, SpellsParts, IsBracketed, IsBracketedColon, EndsInColon, Peels, HostFor, path_for, retained, MeansByProtocol, MeansAs, SpellsUrl, SpellsFile}
+use Rattle.gix_url.specs.Grammar.{helper_protocol, SpellsHelper, UrlParts, SpellsParts, IsBracketed, IsBracketedColon, EndsInColon, Peels, HostFor, path_for, retained, MeansByProtocol, MeansAs, SpellsUrl, SpellsFile, ScpFront, ScpShape, AddressedShape, ScpUser, Unbrackets, ScpHost, scp_location, SpellsScpBefore, SpellsScpAddressed, SpellsScp, SpellsLocal, Spells}
 use Rattle.gix_url.proofs.CutLemmas.{heads, tails, class_cut_unique, path_cut_unique, cut_unique, last_cut_unique, last_unique, scheme_text_free, helper_name_free, not_free}
-use Rattle.gix_url.proofs.FormLemmas.{scheme_cut_unique}
+use Rattle.gix_url.proofs.FormLemmas.{scheme_cut_unique, address_cut, addressed_joined, addressed_front_free, address_front_free, address_back_free}
 use Rattle.gix_url.proofs.NamesHole.{names_unique}
 
 -- ---- remote helpers
@@ -76,7 +79,7 @@ begins_apart x (d ∷ y) z c f e other = both_ways (d == left_bracket) f (eq-eqb
 pub peels_unique : (host x y : List ℕ) → Peels host x → Peels host y → x ≡ y
 peels_unique host x y (Peels.brackets e) (Peels.brackets f) = (last_unique x y right_bracket right_bracket (tails (sym e ∙ f))).0
 peels_unique host x y (Peels.brackets e) (Peels.brackets_colon f) = absurd (brackets_apart x y (sym e ∙ f))
-peels_unique host x y (Peels.brackets e) (Peels.last_colon free bare f) =
+peels_unique host x y (Peels.brackets e) (Peels.last_colon free blank f) =
     absurd (eqb-false right_bracket colon refl (last_unique (left_bracket ∷ x) y right_bracket colon (sym e ∙ f)).1)
 peels_unique host x y (Peels.brackets e) (Peels.same no_brackets no_colon no_end f) = absurd (no_brackets (x, e))
 peels_unique host x y (Peels.brackets_colon e) (Peels.brackets f) = absurd (brackets_apart y x (sym f ∙ e))
@@ -84,16 +87,16 @@ peels_unique host x y (Peels.brackets_colon e) (Peels.brackets_colon f) =
     let fronts : (x ++ right_bracket ∷ []) ++ colon ∷ [] ≡ (y ++ right_bracket ∷ []) ++ colon ∷ [] =
     append_assoc x (right_bracket ∷ []) (colon ∷ []) ∙ tails (sym e ∙ f) ∙ sym (append_assoc y (right_bracket ∷ []) (colon ∷ [])) in
     (last_unique x y right_bracket right_bracket (last_unique (x ++ right_bracket ∷ []) (y ++ right_bracket ∷ []) colon colon fronts).0).0
-peels_unique host x y (Peels.brackets_colon e) (Peels.last_colon free bare f) = absurd (begins_apart _ y [] colon bare (sym e ∙ f) refl)
+peels_unique host x y (Peels.brackets_colon e) (Peels.last_colon free blank f) = absurd (begins_apart _ y [] colon blank (sym e ∙ f) refl)
 peels_unique host x y (Peels.brackets_colon e) (Peels.same no_brackets no_colon no_end f) = absurd (no_colon (x, e))
-peels_unique host x y (Peels.last_colon free bare e) (Peels.brackets f) =
+peels_unique host x y (Peels.last_colon free blank e) (Peels.brackets f) =
     absurd (eqb-false right_bracket colon refl (last_unique (left_bracket ∷ y) x right_bracket colon (sym f ∙ e)).1)
-peels_unique host x y (Peels.last_colon free bare e) (Peels.brackets_colon f) = absurd (begins_apart _ x [] colon bare (sym f ∙ e) refl)
-peels_unique host x y (Peels.last_colon free bare e) (Peels.last_colon also closed f) = (last_unique x y colon colon (sym e ∙ f)).0
-peels_unique host x y (Peels.last_colon free bare e) (Peels.same no_brackets no_colon no_end f) = absurd (no_end (x, free, bare, e))
+peels_unique host x y (Peels.last_colon free blank e) (Peels.brackets_colon f) = absurd (begins_apart _ x [] colon blank (sym f ∙ e) refl)
+peels_unique host x y (Peels.last_colon free blank e) (Peels.last_colon also closed f) = (last_unique x y colon colon (sym e ∙ f)).0
+peels_unique host x y (Peels.last_colon free blank e) (Peels.same no_brackets no_colon no_end f) = absurd (no_end (x, free, blank, e))
 peels_unique host x y (Peels.same no_brackets no_colon no_end e) (Peels.brackets f) = absurd (no_brackets (y, f))
 peels_unique host x y (Peels.same no_brackets no_colon no_end e) (Peels.brackets_colon f) = absurd (no_colon (y, f))
-peels_unique host x y (Peels.same no_brackets no_colon no_end e) (Peels.last_colon free bare f) = absurd (no_end (y, free, bare, f))
+peels_unique host x y (Peels.same no_brackets no_colon no_end e) (Peels.last_colon free blank f) = absurd (no_end (y, free, blank, f))
 peels_unique host x y (Peels.same no_brackets no_colon no_end e) (Peels.same a b c f) = e ∙ sym f
 
 -- a location has one host for the host that its URL names
@@ -155,3 +158,84 @@ file_unique b v w h k =
     let whole = scheme_cut_unique (codes "file") (codes "file") (h.host ++ h.path) (k.host ++ k.path) refl refl (sym h.joined ∙ k.joined) in
     let pieces = class_cut_unique (λ d. d == slash) h.host k.host h.path k.path h.no_slash k.no_slash (inr h.rooted) (inr k.rooted) whole.1 in
     h.value ∙ ap (λ x. file_location x h.path) pieces.0 ∙ ap (λ x. file_location k.host x) pieces.1 ∙ sym k.value
+
+-- ---- the scp form
+
+-- a front free of colons doesn't begin with brackets around a text
+plain_apart : (b front path inside after : List ℕ) → (begins_with left_bracket front ≡ false) ⊎ FreeOf right_bracket b → b ≡ front ++ colon ∷ path → b ≡ left_bracket ∷ (inside ++ right_bracket ∷ after) → ⊥
+plain_apart b front path inside after (inl blank) e f = begins_apart (inside ++ right_bracket ∷ after) front path colon blank (sym f ∙ e) refl
+plain_apart b front path inside after (inr free) e f = not_free right_bracket (left_bracket ∷ inside) after (subst (λ s. FreeOf right_bracket s) f free)
+
+-- a text whose front has brackets at its own front
+bracket_joined : (b front path inside after : List ℕ) → b ≡ front ++ colon ∷ path → front ≡ left_bracket ∷ (inside ++ right_bracket ∷ after) → b ≡ left_bracket ∷ (inside ++ right_bracket ∷ (after ++ colon ∷ path))
+bracket_joined b front path inside after e f =
+    e ∙ ap (λ s. s ++ colon ∷ path) f ∙ ap (λ s. left_bracket ∷ s) (append_assoc inside (right_bracket ∷ after) (colon ∷ path))
+
+-- the text determines the front and the path of the scp form
+fronts_unique : (b front other path second : List ℕ) → ScpFront b front → ScpFront b other → b ≡ front ++ colon ∷ path → b ≡ other ++ colon ∷ second → (front ≡ other) × (path ≡ second)
+fronts_unique b front other path second (ScpFront.plain f blank) (ScpFront.plain g also) e k = cut_unique colon front other path second f g (sym e ∙ k)
+fronts_unique b front other path second (ScpFront.plain f blank) (ScpFront.bracketed x y g n j) e k =
+    absurd (plain_apart b front path x (y ++ colon ∷ second) blank e (bracket_joined b other second x y k j))
+fronts_unique b front other path second (ScpFront.bracketed x y f m i) (ScpFront.plain g blank) e k =
+    absurd (plain_apart b other second x (y ++ colon ∷ path) blank k (bracket_joined b front path x y e i))
+fronts_unique b front other path second (ScpFront.bracketed x y f m i) (ScpFront.bracketed z q g n j) e k =
+    let whole = tails (sym (bracket_joined b front path x y e i) ∙ bracket_joined b other second z q k j) in
+    let outer = cut_unique right_bracket x z (y ++ colon ∷ path) (q ++ colon ∷ second) f g whole in
+    let inner = cut_unique colon y q path second m n outer.1 in
+    (i ∙ ap (λ s. left_bracket ∷ (s ++ right_bracket ∷ y)) outer.0 ∙ ap (λ s. left_bracket ∷ (z ++ right_bracket ∷ s)) inner.0 ∙ sym j, inner.1)
+
+-- a front holds one user and one host free of `@`
+scp_user_unique : (front : List ℕ) (user other : Option (List ℕ)) (host second : List ℕ) → FreeOf at_sign host → FreeOf at_sign second → ScpUser front user host → ScpUser front other second → (user ≡ other) × (host ≡ second)
+scp_user_unique front user other host second f g (ScpUser.host_alone e n) (ScpUser.host_alone k m) = (n ∙ sym m, sym e ∙ k)
+scp_user_unique front user other host second f g (ScpUser.host_alone e n) (ScpUser.with_user u k m) =
+    absurd (not_free at_sign u second (subst (λ s. FreeOf at_sign s) (sym e ∙ k) f))
+scp_user_unique front user other host second f g (ScpUser.with_user u e n) (ScpUser.host_alone k m) =
+    absurd (not_free at_sign u host (subst (λ s. FreeOf at_sign s) (sym k ∙ e) g))
+scp_user_unique front user other host second f g (ScpUser.with_user u e n) (ScpUser.with_user y k m) =
+    let pieces = last_cut_unique at_sign u y host second f g (sym e ∙ k) in
+    (n ∙ ap (λ z. Some z) pieces.0 ∙ sym m, pieces.1)
+
+-- brackets are taken off in one way
+unbrackets_unique : (host x y : List ℕ) → Unbrackets host x → Unbrackets host y → x ≡ y
+unbrackets_unique host x y (Unbrackets.brackets e) (Unbrackets.brackets f) = (last_unique x y right_bracket right_bracket (tails (sym e ∙ f))).0
+unbrackets_unique host x y (Unbrackets.brackets e) (Unbrackets.same n f) = absurd (n (x, e))
+unbrackets_unique host x y (Unbrackets.same n e) (Unbrackets.brackets f) = absurd (n (y, f))
+unbrackets_unique host x y (Unbrackets.same n e) (Unbrackets.same m f) = e ∙ sym f
+
+-- a host in the scp form stands for one
+scp_host_unique : (host other x y : List ℕ) → host ≡ other → ScpHost host x → ScpHost other y → x ≡ y
+scp_host_unique host other x y same h k =
+    let names = names_unique bare (escaped_percents other) (Some h.named) (Some k.named) None None (subst (λ z. Names bare (escaped_percents z) (Some h.named) None) same h.names) k.names in
+    unbrackets_unique k.named x y (subst (λ z. Unbrackets z x) (same_Some h.named k.named names.0) h.unbracketed) k.unbracketed
+
+-- the value of the scp form
+scp_same : (user other : Option (List ℕ)) (host second path last : List ℕ) → user ≡ other → host ≡ second → path ≡ last → scp_location user host path ≡ scp_location other second last
+scp_same user other host second path last e f g = λ i. scp_location (e i) (f i) (g i)
+
+-- the scp form's bytes spell one location in it, where the shape `user@[address]:path` isn't used
+pub scp_before_unique : (b : List ℕ) (v w : Location) → SpellsScpBefore b v → SpellsScpBefore b w → v ≡ w
+scp_before_unique b v w h k =
+    let whole = fronts_unique b h.front k.front h.path k.path h.shape.shape k.shape.shape h.shape.joined k.shape.joined in
+    let pieces = scp_user_unique k.front h.user k.user h.host k.host h.hosted.no_at k.hosted.no_at (subst (λ f. ScpUser f h.user h.host) whole.0 h.split) k.split in
+    h.value ∙ scp_same h.user k.user h.meant k.meant h.path k.path pieces.0 (scp_host_unique h.host k.host h.meant k.meant pieces.1 h.hosted k.hosted) whole.1 ∙ sym k.value
+
+-- ---- the shape `user@[address]:path`
+
+-- the text determines user, address and path of the shape
+pub addressed_unique : (b user other address second path last : List ℕ) → AddressedShape b user address path → AddressedShape b other second last → (user ≡ other) × (address ≡ second) × (path ≡ last)
+addressed_unique b user other address second path last h k =
+    let (x, y, f, e) = address_cut address h.addressed in
+    let (z, q, g, j) = address_cut second k.addressed in
+    let whole = sym (addressed_joined user address path x y e) ∙ sym h.joined ∙ k.joined ∙ addressed_joined other second last z q j in
+    let outer = cut_unique colon (user ++ at_sign ∷ (left_bracket ∷ x)) (other ++ at_sign ∷ (left_bracket ∷ z)) (y ++ right_bracket ∷ (colon ∷ path)) (q ++ right_bracket ∷ (colon ∷ last)) (addressed_front_free user x h.no_colon f) (addressed_front_free other z k.no_colon g) whole in
+    let fronts = last_cut_unique at_sign user other (left_bracket ∷ x) (left_bracket ∷ z) (address_front_free at_sign address x y refl h.addressed e) (address_front_free at_sign second z q refl k.addressed j) outer.0 in
+    let backs = cut_unique right_bracket y q (colon ∷ path) (colon ∷ last) (address_back_free right_bracket address x y refl h.addressed e) (address_back_free right_bracket second z q refl k.addressed j) outer.1 in
+    (fronts.0, e ∙ (λ i. tails fronts.1 i ++ colon ∷ backs.0 i) ∙ sym j, tails backs.1)
+
+-- the shape's bytes spell one location
+pub scp_addressed_unique : (b : List ℕ) (v w : Location) → SpellsScpAddressed b v → SpellsScpAddressed b w → v ≡ w
+scp_addressed_unique b v w h k =
+    let pieces = addressed_unique b h.user k.user h.address k.address h.path k.path h.shape k.shape in
+    h.value
+    ∙ scp_same (Some h.user) (Some k.user) (lowercase h.address) (lowercase k.address) h.path k.path (ap (λ z. Some z) pieces.0) (ap (λ z. lowercase z) pieces.1) pieces.2
+    ∙ sym k.value
