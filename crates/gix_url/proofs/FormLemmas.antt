@@ -1,11 +1,12 @@
 -- The forms of a text exclude one another.
 use Rattle.std.proofs.Common.{◌≡◌, ℕ, ◌==◌, ◌⊎◌, inl, inr, Bool, true, false, List, [], ◌∷◌, ◌++◌, length, refl, sym, ap, subst, ◌∙◌, append_assoc, codes, bytes_eq}
 use Rattle.std.proofs.lemmas.Bool.{both_ways, cases_Bool, eq-eqb}
+use Rattle.gix_url.specs.Value.{Location}
 use Rattle.gix_url.specs.Bytes.{slash, colon, at_sign, left_bracket, right_bracket, FreeOf, begins_with, Holds, is_helper_name}
 use Rattle.gix_url.specs.Cuts.{url_mark}
 use Rattle.gix_url.specs.Addresses.{IsIpv6Text}
-use Rattle.gix_url.specs.Grammar.{HasHelperForm, ScpFront, ScpShape, AddressedShape}
-use Rattle.gix_url.proofs.CutLemmas.{tails, different_bytes, cut_unique, helper_name_free, free-append, free_parts, free_head_tail, free_or_cut, begins_cut, not_free}
+use Rattle.gix_url.specs.Grammar.{HasHelperForm, IsNeither, ScpFront, ScpShape, AddressedShape, SpellsHelper, SpellsUrl, SpellsFile, SpellsScp, SpellsLocal}
+use Rattle.gix_url.proofs.CutLemmas.{tails, different_bytes, cut_unique, helper_name_free, scheme_text_free, free-append, free_parts, free_head_tail, free_or_cut, begins_cut, not_free}
 use Rattle.gix_url.proofs.AddressLemmas.{is_address_byte, address_free, address_two_colons}
 
 -- ---- marks
@@ -59,3 +60,44 @@ address_front_free c t x y other h e = (address_pieces_free c t x y other h e).0
 
 pub address_back_free : (c : ℕ) (t x y : List ℕ) → is_address_byte c ≡ false → IsIpv6Text t → t ≡ x ++ colon ∷ y → FreeOf c y
 address_back_free c t x y other h e = (free_head_tail c colon y (address_pieces_free c t x y other h e).1).1
+
+-- ---- the forms exclude one another
+
+-- the scheme of a URL has no colon
+url_scheme_free : {b : List ℕ} {v : Location} (h : SpellsUrl b v) → FreeOf colon h.parts.scheme
+url_scheme_free h = scheme_text_free h.parts.scheme colon h.spelled.scheme_text refl
+
+-- a URL that isn't a file URL is none
+pub url_no_file : {b : List ℕ} {v w : Location} → SpellsUrl b v → SpellsFile b w → ⊥
+url_no_file h k =
+    scheme_not_file h.parts.scheme (h.spelled.authority ++ h.parts.path) (k.host ++ k.path) (url_scheme_free h) h.spelled.not_file (sym h.spelled.joined ∙ k.joined)
+
+-- nor is it a remote helper
+pub url_no_helper : {b : List ℕ} {v w : Location} → SpellsUrl b v → SpellsHelper b w → ⊥
+url_no_helper {b} h k = mark_no_helper b h.parts.scheme (h.spelled.authority ++ h.parts.path) (url_scheme_free h) h.spelled.joined (k.name, k.address, k.parts)
+
+-- nor has it the scp form or is it a local path
+pub url_not_neither : {b : List ℕ} {v : Location} → SpellsUrl b v → IsNeither b → ⊥
+url_not_neither h k = k.no_mark (h.parts.scheme, h.spelled.authority ++ h.parts.path, h.spelled.joined)
+
+-- a file URL is no remote helper
+pub file_no_helper : {b : List ℕ} {v w : Location} → SpellsFile b v → SpellsHelper b w → ⊥
+file_no_helper {b} h k = mark_no_helper b (codes "file") (h.host ++ h.path) refl h.joined (k.name, k.address, k.parts)
+
+-- nor has it the scp form or is it a local path
+pub file_not_neither : {b : List ℕ} {v : Location} → SpellsFile b v → IsNeither b → ⊥
+file_not_neither h k = k.no_mark (codes "file", h.host ++ h.path, h.joined)
+
+-- a remote helper hasn't the scp form and is no local path
+pub helper_not_neither : {b : List ℕ} {v : Location} → SpellsHelper b v → IsNeither b → ⊥
+helper_not_neither h k = k.no_helper (h.name, h.address, h.parts)
+
+-- what has the scp form is neither a remote helper nor a URL
+pub scp_neither : {b : List ℕ} {v : Location} → SpellsScp b v → IsNeither b
+scp_neither (inl h) = h.shape.neither
+scp_neither (inr h) = h.shape.neither
+
+-- what has the scp form is no local path
+pub scp_no_local : {b : List ℕ} {v w : Location} → SpellsScp b v → SpellsLocal b w → ⊥
+scp_no_local (inl h) k = k.no_scp (inl (h.front, h.path, h.shape))
+scp_no_local (inr h) k = k.no_scp (inr (h.user, h.address, h.path, h.shape))

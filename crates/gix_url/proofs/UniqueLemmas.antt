@@ -1,20 +1,23 @@
 -- Bytes spell one location at most: inside each form the bytes determine the pieces, and the forms exclude one another.
-use Rattle.std.proofs.Common.{◌≡◌, ℕ, ◌==◌, ◌⊎◌, inl, inr, Bool, true, false, List, [], ◌∷◌, ◌++◌, length, Option, Some, None, refl, sym, ap, subst, ◌∙◌, append_assoc, codes, bytes_eq}
+use Rattle.std.proofs.Common.{◌≡◌, ℕ, ◌==◌, ◌⊎◌, inl, inr, Bool, true, false, List, [], ◌∷◌, ◌++◌, length, Option, Some, None, refl, sym, ap, subst, ◌∙◌, append_assoc, codes, bytes_eq, IsUtf8}
 use Rattle.std.proofs.lemmas.Bool.{both_ways, false≢true, cases_Bool, eq-eqb, eqb-false}
 use Rattle.std.proofs.lemmas.Option.{same_Some}
 use Rattle.percent_encoding.specs.Percent.{percent_decode}
 use Rattle.gix_url.specs.Value.{Protocol, Location, path_alone}
 use Rattle.gix_url.specs.Value.Protocol.{file, git, ssh, http, https, ext, helper, helper_url}
-use Rattle.gix_url.specs.Bytes.{slash, colon, at_sign, left_bracket, right_bracket, Lacks, FreeOf, begins_with, lowercase}
+use Rattle.gix_url.specs.Bytes.{percent_sign, slash, colon, at_sign, left_bracket, right_bracket, Lacks, FreeOf, begins_with, lowercase}
 use Rattle.gix_url.specs.Cuts.{is_path_start, StartsPath}
 use Rattle.gix_url.specs.Escapes.{escaped_percents}
-use Rattle.gix_url.specs.Hosts.{Mode, Names}
+use Rattle.gix_url.specs.Addresses.{IsIpv6Text, Literal}
+use Rattle.gix_url.specs.Hosts.{Mode, Bracketed, IsAddressPiece, IsPlainHost, Names}
 use Rattle.gix_url.specs.Hosts.Mode.{bare}
 use Rattle.gix_url.specs.Schemes.{is_web_scheme, protocol_of, mode_of}
 use Rattle.gix_url.specs.Authority.{unless_empty, user_beside, Credentials, Authority}
 use Rattle.gix_url.specs.Grammar.{helper_protocol, SpellsHelper, UrlParts, SpellsParts, IsBracketed, IsBracketedColon, EndsInColon, Peels, HostFor, path_for, retained, MeansByProtocol, MeansAs, SpellsUrl, SpellsFile, ScpFront, ScpShape, AddressedShape, ScpUser, Unbrackets, ScpHost, scp_location, SpellsScpBefore, SpellsScpAddressed, SpellsScp, SpellsLocal, Spells}
-use Rattle.gix_url.proofs.CutLemmas.{heads, tails, class_cut_unique, path_cut_unique, cut_unique, last_cut_unique, last_unique, scheme_text_free, helper_name_free, not_free}
-use Rattle.gix_url.proofs.FormLemmas.{scheme_cut_unique, address_cut, addressed_joined, addressed_front_free, address_front_free, address_back_free}
+use Rattle.gix_url.proofs.CutLemmas.{heads, tails, class_cut_unique, path_cut_unique, cut_unique, last_cut_unique, last_unique, scheme_text_free, helper_name_free, free-append, free_parts, free_head_tail, free_or_cut, not_free}
+use Rattle.gix_url.proofs.AddressLemmas.{address_free, address-lowercase}
+use Rattle.gix_url.proofs.EscapeLemmas.{decode_kept, lacks_escaped_percents, escaped_percents_kept, utf8_joined}
+use Rattle.gix_url.proofs.FormLemmas.{scheme_cut_unique, address_cut, addressed_joined, addressed_front_free, address_front_free, address_back_free, url_no_file, url_no_helper, url_not_neither, file_no_helper, file_not_neither, helper_not_neither, scp_neither, scp_no_local}
 use Rattle.gix_url.proofs.NamesHole.{names_unique}
 
 -- ---- remote helpers
@@ -239,3 +242,146 @@ scp_addressed_unique b v w h k =
     h.value
     ∙ scp_same (Some h.user) (Some k.user) (lowercase h.address) (lowercase k.address) h.path k.path (ap (λ z. Some z) pieces.0) (ap (λ z. lowercase z) pieces.1) pieces.2
     ∙ sym k.value
+
+-- ---- the shape `user@[address]:path` in the earlier grammar
+
+-- a text that begins with a bracket doesn't pass as one that doesn't
+bracket_first : (x : List ℕ) → begins_with left_bracket (left_bracket ∷ x) ≡ false → ⊥
+bracket_first x h = false≢true (sym h)
+
+-- nor is it an address, with or without a colon behind it
+bracket_no_address : (x : List ℕ) → IsAddressPiece (left_bracket ∷ x) → ⊥
+bracket_no_address x (inl h) = false≢true (sym (free_head_tail left_bracket left_bracket x (address_free left_bracket (left_bracket ∷ x) refl h)).0)
+bracket_no_address x (inr (address, h, e)) =
+    let free : FreeOf left_bracket (left_bracket ∷ x) = subst (λ s. FreeOf left_bracket s) (sym e) (free-append left_bracket address (colon ∷ []) (address_free left_bracket address refl h) refl) in
+    false≢true (sym (free_head_tail left_bracket left_bracket x free).0)
+
+-- nor a host outside brackets with something behind it
+bracket_no_plain : (x text rest : List ℕ) → IsPlainHost text → left_bracket ∷ x ≡ text ++ colon ∷ rest → ⊥
+bracket_no_plain x text rest h e = begins_apart x text rest colon h.no_bracket e refl
+
+-- a bracket that nothing closes names no host
+open_bracket_unnamed : (x named : List ℕ) → FreeOf right_bracket x → Names bare (left_bracket ∷ x) (Some named) None → ⊥
+open_bracket_unnamed x named f (Names.nothing e h p) = let wrong : left_bracket ∷ x ≡ [] = e in cc
+open_bracket_unnamed x named f (Names.bracketed y inner g i e h p) = not_free right_bracket y [] (subst (λ s. FreeOf right_bracket s) (tails e) f)
+open_bracket_unnamed x named f (Names.bracketed_colon y inner g i e h p) = not_free right_bracket y (colon ∷ []) (subst (λ s. FreeOf right_bracket s) (tails e) f)
+open_bracket_unnamed x named f (Names.bracketed_port y inner digits number g i d e h p) = not_free right_bracket y (colon ∷ digits) (subst (λ s. FreeOf right_bracket s) (tails e) f)
+open_bracket_unnamed x named f (Names.unbracketed a h p) = bracket_no_address x a.1
+open_bracket_unnamed x named f (Names.plain y g i h p) = bracket_first x g.no_bracket
+open_bracket_unnamed x named f (Names.plain_colon text y g i e h p) = bracket_no_plain x text [] g e
+open_bracket_unnamed x named f (Names.plain_port text y digits number g i d e h p) = bracket_no_plain x text digits g e
+open_bracket_unnamed x named f (Names.colons y m a g i t h p) = bracket_first x g
+
+-- such a host isn't one of the scp form
+open_bracket_no_host : (host x meant : List ℕ) → host ≡ left_bracket ∷ x → FreeOf right_bracket x → ScpHost host meant → ⊥
+open_bracket_no_host host x meant e f h =
+    open_bracket_unnamed (escaped_percents x) h.named (lacks_escaped_percents (λ b. b == right_bracket) x refl refl refl f) (subst (λ z. Names bare (escaped_percents z) (Some h.named) None) e h.names)
+
+-- the lower case of an address is UTF-8 and has no escape
+lowercase_kept : (a : List ℕ) → IsIpv6Text a → percent_decode (lowercase a) ≡ lowercase a
+lowercase_kept a h = decode_kept (lowercase a) (address_free percent_sign (lowercase a) refl (address-lowercase a h))
+
+lowercase_utf8 : (a : List ℕ) → IsIpv6Text a → IsUtf8 (lowercase a)
+lowercase_utf8 a h = ?
+
+-- an address in brackets names itself in lower case
+bracketed_address_named : (a : List ℕ) → IsIpv6Text a → Names bare (left_bracket ∷ (a ++ right_bracket ∷ [])) (Some (left_bracket ∷ (lowercase a ++ right_bracket ∷ []))) None
+bracketed_address_named a h =
+    Names.bracketed a (lowercase a) (address_free right_bracket a refl h) (Bracketed.literal (lowercase a) (Literal.address h refl) (sym (lowercase_kept a h)) (lowercase_utf8 a h)) refl refl refl
+
+-- such a host of the scp form stands for the address in lower case
+bracketed_address_host : (host a meant : List ℕ) → host ≡ left_bracket ∷ (a ++ right_bracket ∷ []) → IsIpv6Text a → ScpHost host meant → meant ≡ lowercase a
+bracketed_address_host host a meant e address h =
+    let free : FreeOf percent_sign (a ++ right_bracket ∷ []) = free-append percent_sign a (right_bracket ∷ []) (address_free percent_sign a refl address) refl in
+    let kept : escaped_percents host ≡ left_bracket ∷ (a ++ right_bracket ∷ []) = ap (λ z. escaped_percents z) e ∙ escaped_percents_kept (left_bracket ∷ (a ++ right_bracket ∷ [])) free in
+    let names = names_unique bare (left_bracket ∷ (a ++ right_bracket ∷ [])) (Some h.named) (Some (left_bracket ∷ (lowercase a ++ right_bracket ∷ []))) None None (subst (λ z. Names bare z (Some h.named) None) kept h.names) (bracketed_address_named a address) in
+    unbrackets_unique h.named meant (lowercase a) h.unbracketed (Unbrackets.brackets (same_Some h.named (left_bracket ∷ (lowercase a ++ right_bracket ∷ [])) names.0))
+
+-- what the front of such a text can be: it ends within the address, or behind its bracket
+abbrev FrontOf : List ℕ → List ℕ → List ℕ → List ℕ → List ℕ → List ℕ → Type 0
+FrontOf user address path x front second =
+    (front ≡ user ++ at_sign ∷ (left_bracket ∷ x)) ⊎ ((front ≡ user ++ at_sign ∷ (left_bracket ∷ (address ++ right_bracket ∷ []))) × (second ≡ path))
+
+-- a user without `]`: the brackets are those around the address
+closed_front : (user address path inside after front second : List ℕ) → FreeOf right_bracket user → FreeOf right_bracket address → FreeOf right_bracket inside → FreeOf colon after → front ≡ left_bracket ∷ (inside ++ right_bracket ∷ after) → left_bracket ∷ (inside ++ right_bracket ∷ (after ++ colon ∷ second)) ≡ user ++ at_sign ∷ (left_bracket ∷ (address ++ right_bracket ∷ (colon ∷ path))) → (front ≡ user ++ at_sign ∷ (left_bracket ∷ (address ++ right_bracket ∷ []))) × (second ≡ path)
+closed_front user address path inside after front second u a i n e whole =
+    let outer = cut_unique right_bracket (left_bracket ∷ inside) (user ++ at_sign ∷ (left_bracket ∷ address)) (after ++ colon ∷ second) (colon ∷ path) i (free-append right_bracket user (at_sign ∷ (left_bracket ∷ address)) u a) (whole ∙ sym (append_assoc user (at_sign ∷ (left_bracket ∷ address)) (right_bracket ∷ (colon ∷ path)))) in
+    let inner = cut_unique colon after [] second path n refl outer.1 in
+    (e ∙ (λ j. outer.0 j ++ right_bracket ∷ inner.0 j) ∙ append_assoc user (at_sign ∷ (left_bracket ∷ address)) (right_bracket ∷ []), inner.1)
+
+-- a user with `]`: its first one closes the brackets
+inner_front : (user x y z rest inside after front second : List ℕ) → user ≡ y ++ right_bracket ∷ z → FreeOf right_bracket y → FreeOf colon user → FreeOf colon x → FreeOf right_bracket inside → FreeOf colon after → front ≡ left_bracket ∷ (inside ++ right_bracket ∷ after) → left_bracket ∷ (inside ++ right_bracket ∷ (after ++ colon ∷ second)) ≡ (user ++ at_sign ∷ (left_bracket ∷ x)) ++ colon ∷ rest → front ≡ user ++ at_sign ∷ (left_bracket ∷ x)
+inner_front user x y z rest inside after front second cut f u c i n e whole =
+    let moved : (user ++ at_sign ∷ (left_bracket ∷ x)) ++ colon ∷ rest ≡ y ++ right_bracket ∷ ((z ++ at_sign ∷ (left_bracket ∷ x)) ++ colon ∷ rest) =
+    ap (λ s. (s ++ at_sign ∷ (left_bracket ∷ x)) ++ colon ∷ rest) cut
+    ∙ ap (λ s. s ++ colon ∷ rest) (append_assoc y (right_bracket ∷ z) (at_sign ∷ (left_bracket ∷ x)))
+    ∙ append_assoc y (right_bracket ∷ (z ++ at_sign ∷ (left_bracket ∷ x))) (colon ∷ rest) in
+    let outer = cut_unique right_bracket (left_bracket ∷ inside) y (after ++ colon ∷ second) ((z ++ at_sign ∷ (left_bracket ∷ x)) ++ colon ∷ rest) i f (whole ∙ moved) in
+    let behind : FreeOf colon z = (free_head_tail colon right_bracket z (free_parts colon y (right_bracket ∷ z) (subst (λ s. FreeOf colon s) cut u)).1).1 in
+    let inner = cut_unique colon after (z ++ at_sign ∷ (left_bracket ∷ x)) second rest n (addressed_front_free z x behind c) outer.1 in
+    e ∙ (λ j. outer.0 j ++ right_bracket ∷ inner.0 j) ∙ sym (append_assoc y (right_bracket ∷ z) (at_sign ∷ (left_bracket ∷ x))) ∙ ap (λ s. s ++ at_sign ∷ (left_bracket ∷ x)) (sym cut)
+
+-- the fronts of the scp form in a text with the shape
+front_of_addressed : (b user address path x y front second : List ℕ) → AddressedShape b user address path → FreeOf colon x → address ≡ x ++ colon ∷ y → b ≡ front ++ colon ∷ second → ScpFront b front → FrontOf user address path x front second
+front_of_addressed b user address path x y front second h f e j (ScpFront.plain g blank) =
+    inl (cut_unique colon front (user ++ at_sign ∷ (left_bracket ∷ x)) second (y ++ right_bracket ∷ (colon ∷ path)) g (addressed_front_free user x h.no_colon f) (sym j ∙ h.joined ∙ addressed_joined user address path x y e)).0
+front_of_addressed b user address path x y front second h f e j (ScpFront.bracketed inside after i n k) =
+    let whole = sym (bracket_joined b front second inside after j k) ∙ h.joined in
+    elim (free_or_cut right_bracket user) [
+      | inl u ↦ inr (closed_front user address path inside after front second u (address_free right_bracket address refl h.addressed) i n k whole)
+      | inr (s, t, u, cut) ↦
+        inl (inner_front user x s t (y ++ right_bracket ∷ (colon ∷ path)) inside after front second cut u h.no_colon f i n k (whole ∙ addressed_joined user address path x y e))
+    ]
+
+-- where both spell the bytes, they spell one location
+pub scp_forms_agree : (b : List ℕ) (v w : Location) → SpellsScpBefore b v → SpellsScpAddressed b w → v ≡ w
+scp_forms_agree b v w h k =
+    let (x, y, f, e) = address_cut k.address k.shape.addressed in
+    elim (front_of_addressed b k.user k.address k.path x y h.front h.path k.shape f e h.shape.joined h.shape.shape) [
+      | inl within ↦
+        let pieces = scp_user_unique h.front h.user (Some k.user) h.host (left_bracket ∷ x) h.hosted.no_at (address_front_free at_sign k.address x y refl k.shape.addressed e) h.split (ScpUser.with_user k.user within refl) in
+        absurd (open_bracket_no_host h.host x h.meant pieces.1 (address_front_free right_bracket k.address x y refl k.shape.addressed e) h.hosted)
+      | inr (behind, paths) ↦
+        let free : FreeOf at_sign (k.address ++ right_bracket ∷ []) = free-append at_sign k.address (right_bracket ∷ []) (address_free at_sign k.address refl k.shape.addressed) refl in
+        let pieces = scp_user_unique h.front h.user (Some k.user) h.host (left_bracket ∷ (k.address ++ right_bracket ∷ [])) h.hosted.no_at free h.split (ScpUser.with_user k.user behind refl) in
+        h.value
+        ∙ scp_same h.user (Some k.user) h.meant (lowercase k.address) h.path k.path pieces.0 (bracketed_address_host h.host k.address h.meant pieces.1 k.shape.addressed h.hosted) paths
+        ∙ sym k.value
+    ]
+
+-- the scp form's bytes spell one location in it
+pub scp_unique : (b : List ℕ) (v w : Location) → SpellsScp b v → SpellsScp b w → v ≡ w
+scp_unique b v w (inl h) (inl k) = scp_before_unique b v w h k
+scp_unique b v w (inl h) (inr k) = scp_forms_agree b v w h k
+scp_unique b v w (inr h) (inl k) = sym (scp_forms_agree b w v k h)
+scp_unique b v w (inr h) (inr k) = scp_addressed_unique b v w h k
+
+-- ---- all forms
+
+-- bytes spell one location at most
+pub spells_unique : (b : List ℕ) (v w : Location) → Spells b v → Spells b w → v ≡ w
+spells_unique b v w (Spells.url h) (Spells.url k) = url_unique b v w h k
+spells_unique b v w (Spells.url h) (Spells.file_url k) = absurd (url_no_file h k)
+spells_unique b v w (Spells.url h) (Spells.remote_helper k) = absurd (url_no_helper h k)
+spells_unique b v w (Spells.url h) (Spells.scp_form k) = absurd (url_not_neither h (scp_neither k))
+spells_unique b v w (Spells.url h) (Spells.local_path k) = absurd (url_not_neither h k.neither)
+spells_unique b v w (Spells.file_url h) (Spells.url k) = absurd (url_no_file k h)
+spells_unique b v w (Spells.file_url h) (Spells.file_url k) = file_unique b v w h k
+spells_unique b v w (Spells.file_url h) (Spells.remote_helper k) = absurd (file_no_helper h k)
+spells_unique b v w (Spells.file_url h) (Spells.scp_form k) = absurd (file_not_neither h (scp_neither k))
+spells_unique b v w (Spells.file_url h) (Spells.local_path k) = absurd (file_not_neither h k.neither)
+spells_unique b v w (Spells.remote_helper h) (Spells.url k) = absurd (url_no_helper k h)
+spells_unique b v w (Spells.remote_helper h) (Spells.file_url k) = absurd (file_no_helper k h)
+spells_unique b v w (Spells.remote_helper h) (Spells.remote_helper k) = helper_unique b v w h k
+spells_unique b v w (Spells.remote_helper h) (Spells.scp_form k) = absurd (helper_not_neither h (scp_neither k))
+spells_unique b v w (Spells.remote_helper h) (Spells.local_path k) = absurd (helper_not_neither h k.neither)
+spells_unique b v w (Spells.scp_form h) (Spells.url k) = absurd (url_not_neither k (scp_neither h))
+spells_unique b v w (Spells.scp_form h) (Spells.file_url k) = absurd (file_not_neither k (scp_neither h))
+spells_unique b v w (Spells.scp_form h) (Spells.remote_helper k) = absurd (helper_not_neither k (scp_neither h))
+spells_unique b v w (Spells.scp_form h) (Spells.scp_form k) = scp_unique b v w h k
+spells_unique b v w (Spells.scp_form h) (Spells.local_path k) = absurd (scp_no_local h k)
+spells_unique b v w (Spells.local_path h) (Spells.url k) = absurd (url_not_neither k h.neither)
+spells_unique b v w (Spells.local_path h) (Spells.file_url k) = absurd (file_not_neither k h.neither)
+spells_unique b v w (Spells.local_path h) (Spells.remote_helper k) = absurd (helper_not_neither k h.neither)
+spells_unique b v w (Spells.local_path h) (Spells.scp_form k) = absurd (scp_no_local k h)
+spells_unique b v w (Spells.local_path h) (Spells.local_path k) = h.value ∙ sym k.value
