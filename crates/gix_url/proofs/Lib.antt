@@ -1,1 +1,2 @@
 -- Lemmas by topic.
+pub mod CutLemmas

@@ -1,11 +1,36 @@
--- Where a path starts, and what a cut in front of it leaves.
-use Rattle.std.specs.Prelude.{◌≡◌, ℕ, Bool, true, ◌&&◌, ◌||◌, ◌==◌, ◌⊎◌, List, []}
-use Rattle.gix_url.specs.Bytes.{slash, question_mark, number_sign, begins_by}
+-- What the cuts of a text answer: the pieces joined are the text, and one of them is free of what was searched for.
+use Rattle.std.specs.Prelude.{◌≡◌, ℕ, Bool, true, false, ◌&&◌, ◌||◌, ◌==◌, ◌⊎◌, List, [], ◌∷◌, ◌++◌, Option, MatchOption, codes}
+use Rattle.std.specs.Borrow.{Bor}
+use Rattle.gix_url.specs.Bytes.{slash, question_mark, number_sign, FreeOf, Holds, begins_by, begins_with}
 
--- a path starts at this byte: `/`, and on the web also `?` and `#`
+-- the mark behind the scheme of a URL
+abbrev pub url_mark : List ℕ
+url_mark = codes "://"
+
+-- the pieces around the first c, or none where no byte is c
+abbrev pub CutsAt : ℕ → List ℕ → Option (Bor (List ℕ) × Bor (List ℕ)) → Type 0
+CutsAt c b r = MatchOption r (FreeOf c b) (λ p. FreeOf c p.0.now × (b ≡ p.0.now ++ c ∷ p.1.now))
+
+-- the pieces around the last c, or none where no byte is c
+abbrev pub CutsAtLast : ℕ → List ℕ → Option (Bor (List ℕ) × Bor (List ℕ)) → Type 0
+CutsAtLast c b r = MatchOption r (FreeOf c b) (λ p. FreeOf c p.1.now × (b ≡ p.0.now ++ c ∷ p.1.now))
+
+-- the pieces around the first `://`, or none where it stands nowhere
+abbrev pub CutsAtMark : List ℕ → Option (Bor (List ℕ) × Bor (List ℕ)) → Type 0
+CutsAtMark b r = MatchOption r (¬ Holds url_mark b) (λ p. (¬ Holds url_mark p.0.now) × (b ≡ p.0.now ++ (url_mark ++ p.1.now)))
+
+-- what follows a first c, or none where the first byte is no c
+abbrev pub StripsFirst : ℕ → List ℕ → Option (Bor (List ℕ)) → Type 0
+StripsFirst c b r = MatchOption r (begins_with c b ≡ false) (λ rest. b ≡ c ∷ rest.now)
+
+-- what stands before a last c, or none where the last byte is no c
+abbrev pub StripsLast : ℕ → List ℕ → Option (Bor (List ℕ)) → Type 0
+StripsLast c b r = MatchOption r ((front : List ℕ) → ¬ (b ≡ front ++ c ∷ [])) (λ front. b ≡ front.now ++ c ∷ [])
+
+-- a path may start at the byte: at a `/`, and on the web also at a `?` or a `#`
 abbrev pub is_path_start : Bool → ℕ → Bool
 is_path_start web b = b == slash || (web && (b == question_mark || b == number_sign))
 
--- the text is empty or begins where a path starts
+-- the text is empty or starts as a path may
 abbrev pub StartsPath : Bool → List ℕ → Type 0
-StartsPath web path = (path ≡ []) ⊎ (begins_by (is_path_start web) path ≡ true)
+StartsPath web p = (p ≡ []) ⊎ (begins_by (is_path_start web) p ≡ true)

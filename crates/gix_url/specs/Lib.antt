@@ -1,8 +1,8 @@
 pub mod Value
 pub mod Bytes
+pub mod Cuts
 pub mod Escapes
 pub mod Addresses
-pub mod Cuts
 pub mod Hosts
 pub mod Schemes
 pub mod Authority
