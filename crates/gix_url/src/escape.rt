@@ -1,10 +1,21 @@
-//! Percent-encoding: the sets of bytes that are escaped, and decoding without memory.
+//! Percent-encoding: the sets of bytes that are escaped, tests of escaped texts, and decoding.
 //!
-//! It uses the crate `percent_encoding` and nothing else of this crate.
+//! It uses the crates `percent_encoding` and `bstr`, and nothing else of this crate. Each test is exactly
+//! the definition in `specs/Escapes.antt` or `specs/Bytes.antt` that it is named after, and asks for no
+//! memory. `decoded` and `decoded_text` ask once, and not at all where the text is empty.
 
-ghost use Rattle.std.specs.Prelude.{◌≡◌};
+ghost use Rattle.std.specs.Prelude.{◌≡◌, ℕ, List, ◌+◌, ◌≤◌, ◌↔◌, IsTrue, IfOk, IsUtf8, length, take, drop, chars, string_bytes};
+ghost use Rattle.std.specs.Char.{is_digit, is_whitespace};
+ghost use Rattle.std.specs.List.{list_any};
+ghost use Rattle.percent_encoding.specs.Percent as percent;
+ghost use Rattle.percent_encoding.specs.Iter.{decoded_bytes};
+ghost use Rattle.gix_url.specs.Escapes as spec;
+ghost use Rattle.gix_url.specs.Escapes.{HoldsExactly};
+ghost use Rattle.gix_url.specs.Bytes.{LacksWhiteSpace};
 
-use percent_encoding::{AsciiSet, CONTROLS, ascii_set};
+use bstr::decode_utf8;
+use percent_encoding::{AsciiSet, CONTROLS, PercentDecode, ascii_set, percent_decode};
+use std::alloc::{AllocError, Global};
 
 /// The bytes that the path of an HTTP location is not written with.
 pub const PATH: AsciiSet = ascii_set!(
@@ -34,3 +45,148 @@ pub const PASSWORD: AsciiSet = ascii_set!(
 
 /// The bytes that a user is not written with: those of the password, and `:`.
 pub const USER: AsciiSet = ascii_set!(PASSWORD.add(b':'));
+
+/// Each set holds exactly the ASCII bytes that its definition names.
+fn law_sets()
+    ensures path { HoldsExactly PATH spec.is_path_escaped }
+    ensures password { HoldsExactly PASSWORD spec.is_password_escaped }
+    ensures user { HoldsExactly USER spec.is_user_escaped }
+{}
+
+/// Whether every `%` of the text has two hexadecimal digits behind it.
+pub(crate) fn is_sound(text: &[u8]) -> bool
+    ensures { result ≡ spec.is_sound text.now }
+{
+    let mut rest = text;
+    while let Some((first, tail)) = rest.split_first() {
+        if *first == b'%' && !begins_with_digits(tail) {
+            return false;
+        }
+        rest = tail;
+    }
+    true
+}
+
+/// Whether the text begins with two hexadecimal digits.
+fn begins_with_digits(text: &[u8]) -> bool
+    ensures { result ≡ spec.begins_with_digits text.now }
+{
+    match text {
+        [high, low, ..] => is_hexadecimal(*high) && is_hexadecimal(*low),
+        _ => false,
+    }
+}
+
+/// Whether the byte is a hexadecimal digit of either case.
+fn is_hexadecimal(byte: u8) -> bool
+    ensures { result ≡ is_digit byte 16 }
+{
+    char::from(byte).is_digit(16)
+}
+
+/// Whether `%` stands somewhere in the text.
+pub(crate) fn has_percent(text: &[u8]) -> bool
+    ensures { result ≡ spec.has_percent text.now }
+{
+    text.iter().any(|byte| *byte == b'%')
+}
+
+/// Whether the text decodes to UTF-8.
+pub(crate) fn decodes_to_utf8(text: &[u8]) -> bool
+    ensures { IsTrue result ↔ IsUtf8 (percent.percent_decode text.now) }
+{
+    let mut rest = percent_decode(text);
+    loop {
+        let (window, count) = front(rest);
+        if count == 0 {
+            return true;
+        }
+        let (found, size) = decode_utf8(&window[..count]);
+        if found.is_none() {
+            return false;
+        }
+        rest = skip(rest, size);
+    }
+}
+
+/// The next four bytes of a decoding, or as many as there are, and their count.
+fn front(rest: PercentDecode<'_>) -> ([u8; 4], usize)
+    ensures small { result.1 ≤ 4 }
+    ensures full { length (take result.1 result.0) ≡ result.1 }
+    ensures bytes { take result.1 result.0 ≡ take 4 (decoded_bytes rest.entry) }
+{
+    let mut window = [0; 4];
+    let mut count = 0;
+    for byte in rest {
+        if count == 4 {
+            break;
+        }
+        window[count] = byte;
+        count += 1;
+    }
+    (window, count)
+}
+
+/// What is left of a decoding behind its next `count` bytes.
+fn skip(mut rest: PercentDecode<'_>, count: usize) -> PercentDecode<'_>
+    ensures { decoded_bytes result ≡ drop count (decoded_bytes rest.entry) }
+{
+    for _turn in 0..count {
+        let _ = rest.next();
+    }
+    rest
+}
+
+/// Whether the spelling decodes to the path.
+pub(crate) fn decodes_to(spelling: &[u8], path: &[u8]) -> bool
+    ensures { IsTrue result ↔ (percent.percent_decode spelling.now ≡ path.now) }
+{
+    let mut rest = path;
+    for byte in percent_decode(spelling) {
+        let Some((first, tail)) = rest.split_first() else {
+            return false;
+        };
+        if *first != byte {
+            return false;
+        }
+        rest = tail;
+    }
+    rest.is_empty()
+}
+
+/// Whether no character of the text is white space, as Unicode has it.
+pub(crate) fn lacks_white_space(text: &str) -> bool
+    ensures { IsTrue result ↔ LacksWhiteSpace text.now }
+{
+    !has_white_space(text)
+}
+
+/// Whether some character of the text is white space.
+fn has_white_space(text: &str) -> bool
+    ensures { result ≡ list_any is_whitespace (chars text.now) }
+{
+    text.chars().any(|character| character.is_whitespace())
+}
+
+/// The bytes that the text decodes to.
+pub(crate) fn decoded(alloc: Global, text: &[u8]) -> Result<Vec<u8>, AllocError>
+    ensures { IfOk result (λ v. v.items ≡ percent.percent_decode text.now) }
+{
+    let mut bytes = Vec::with_capacity(alloc, text.len())?;
+    let appended = percent_decode(text).append_to(&mut bytes);
+    prove!(appended.is_ok());
+    let _ = appended;
+    Ok(bytes)
+}
+
+/// The text that decodes to UTF-8, decoded.
+pub(crate) fn decoded_text(alloc: Global, text: &[u8]) -> Result<String, AllocError>
+    requires { IsUtf8 (percent.percent_decode text.now) }
+    ensures { IfOk result (λ s. string_bytes s ≡ percent.percent_decode text.now) }
+{
+    let bytes = decoded(alloc, text)?;
+    let Ok(text) = String::from_utf8(bytes) else {
+        unreachable!()
+    };
+    Ok(text)
+}
