@@ -1,3 +1,5 @@
 -- Lemmas by topic.
 pub mod CutLemmas
 pub mod EscapeLemmas
+pub mod AddressLemmas
+pub mod AddressReader
