@@ -52,8 +52,3 @@ escaped_percents (b ∷ bs) = if b == percent_sign then 37 ∷ 50 ∷ 53 ∷ esc
 abbrev pub Matches : Option (List ℕ) → List ℕ → Type 0
 Matches None path = Unit {0} → ⊥
 Matches (Some spelling) path = percent_decode spelling ≡ path
-
--- the text with each `%` written as the escape of `%`
-abbrev pub escaped_percents : List ℕ → List ℕ
-escaped_percents [] = []
-escaped_percents (b ∷ bs) = if b == percent_sign then percent_sign ∷ (50 ∷ (53 ∷ escaped_percents bs)) else b ∷ escaped_percents bs
