@@ -3,3 +3,4 @@ pub mod CutLemmas
 pub mod EscapeLemmas
 pub mod AddressLemmas
 pub mod AddressReader
+pub mod HostLemmas

@@ -1,0 +1,207 @@
+-- Hosts and ports: what a piece of an authority looks like, that it names one host and one port at most, and none where a flaw stands.
+use Rattle.std.proofs.Common.{◌≡◌, ℕ, ◌+◌, ◌<◌, ◌≤◌, Bool, true, false, ◌==◌, ◌||◌, ◌⊎◌, inl, inr, List, [], ◌∷◌, ◌++◌, length, Option, Some, None, refl, sym, ap, subst, ◌∙◌, arith, append_assoc, length-append, codes}
+use Rattle.std.specs.List.{list_all, list_any}
+use Rattle.std.specs.Char.{is_ascii_digit}
+use Rattle.std.proofs.lemmas.Bool.{both_ways, false≢true}
+use Rattle.std.proofs.lemmas.List.{append-nil}
+use Rattle.percent_encoding.specs.Percent.{percent_decode}
+use Rattle.gix_url.specs.declared.error.UrlFault.{UrlFault}
+use Rattle.gix_url.specs.declared.error.UrlFault.TheVariants as fault
+use Rattle.gix_url.specs.Bytes.{colon, left_bracket, right_bracket, percent_sign, FreeOf, begins_with, lowercase}
+use Rattle.gix_url.specs.Addresses.{IsIpv6Text, IsZone, Literal}
+use Rattle.gix_url.specs.Addresses.Literal.{address, zoned}
+use Rattle.gix_url.specs.Hosts as spec
+use Rattle.gix_url.specs.Hosts.{Mode, HostText, IsLiteral, Bracketed, Inner, IsDigits, Number, IsAddressPiece, ReadsAddress, HoldsTwoColons, IsManyColoned, IsPlainHost, Names, normal_host}
+use Rattle.gix_url.specs.Hosts.Mode.{strict, bare, loose}
+use Rattle.gix_url.specs.Flaws.{IsNoPort, HasBadPort, IsPortPlace, IsNoHost, IsNoInner, BracketsAround, HasBadHost, NameFlaw}
+use Rattle.gix_url.specs.HostPieces.{Follows, in_brackets}
+use Rattle.gix_url.proofs.CutLemmas.{heads, tails, class_cut_unique, cut_unique, free-append, free_head_tail, free_of_all, not_free}
+use Rattle.gix_url.proofs.AddressLemmas.{address_free, address_two_colons, address_nonempty}
+
+-- ---- ports
+
+-- decimal digits hold no colon
+digits_free : (text : List ℕ) → IsDigits text → FreeOf colon text
+digits_free text h = free_of_all is_ascii_digit colon text h.1 refl
+
+-- digits spell one port
+pub number_unique : (mode : Mode) (text : List ℕ) (m n : ℕ) → Number mode text m → Number mode text n → m ≡ n
+number_unique mode text m n h k = h.value ∙ sym k.value
+
+-- ---- literals and texts
+
+-- an address holds no `%`
+address_no_percent : (t : List ℕ) → IsIpv6Text t → FreeOf percent_sign t
+address_no_percent t h = address_free percent_sign t refl h
+
+-- an IPv6 literal has one normal form
+pub literal_unique : (t m n : List ℕ) → Literal t m → Literal t n → m ≡ n
+literal_unique t m n (address h e) (address k f) = e ∙ sym f
+literal_unique t m n (address h e) (zoned a z k zone whole f) =
+    absurd (not_free percent_sign a (50 ∷ 53 ∷ z) (subst (λ x. FreeOf percent_sign x) whole (address_no_percent t h)))
+literal_unique t m n (zoned a z h zone whole e) (address k f) =
+    absurd (not_free percent_sign a (50 ∷ 53 ∷ z) (subst (λ x. FreeOf percent_sign x) whole (address_no_percent t k)))
+literal_unique t m n (zoned a z h zone whole e) (zoned b y k zone' whole' f) =
+    let parts = cut_unique percent_sign a b (50 ∷ 53 ∷ z) (50 ∷ 53 ∷ y) (address_no_percent a h) (address_no_percent b k) (sym whole ∙ whole') in
+    e ∙ ap (λ x. lowercase x ++ (codes "%25" ++ z)) parts.0 ∙ ap (λ x. lowercase b ++ (percent_sign ∷ x)) parts.1 ∙ sym f
+
+-- a text between brackets stands for one text, outside HTTP
+bracketed_unique : (t m n : List ℕ) → Bracketed t m → Bracketed t n → m ≡ n
+bracketed_unique t m n (spec.Bracketed.literal x h e u) (spec.Bracketed.literal y k f v) = e ∙ ap percent_decode (literal_unique t x y h k) ∙ sym f
+bracketed_unique t m n (spec.Bracketed.literal x h e u) (spec.Bracketed.other k f v) = absurd (k (x, h))
+bracketed_unique t m n (spec.Bracketed.other h e u) (spec.Bracketed.literal y k f v) = absurd (h (y, k))
+bracketed_unique t m n (spec.Bracketed.other h e u) (spec.Bracketed.other k f v) = e ∙ sym f
+
+-- and in every mode
+pub inner_unique : (mode : Mode) (t m n : List ℕ) → Inner mode t m → Inner mode t n → m ≡ n
+inner_unique strict = literal_unique
+inner_unique bare = bracketed_unique
+inner_unique loose = bracketed_unique
+
+-- a text outside brackets stands for one host
+pub host_text_unique : (mode : Mode) (t m n : List ℕ) → HostText mode t m → HostText mode t n → m ≡ n
+host_text_unique strict t m n h k = h.1 ∙ sym k.1
+host_text_unique bare t m n h k = h.1 ∙ sym k.1
+host_text_unique loose t m n h k = h.1 ∙ sym k.1
+
+-- ---- what follows a host
+
+-- a port's place follows
+follows_place : {mode : Mode} {base rest : List ℕ} {host : Option (List ℕ)} {port : Option ℕ} → Follows mode base rest host port → IsPortPlace rest
+follows_place (Follows.nothing e h p) = inl e
+follows_place (Follows.lone_colon e h p) = inr ([], refl, e)
+follows_place (Follows.number digits n k e h p) = inr (digits, digits_free digits k.digits, e)
+
+-- digits aren't empty
+no_digits : {A : Type 0} {mode : Mode} {digits : List ℕ} {n : ℕ} → Number mode digits n → digits ≡ [] → A
+no_digits h e = absurd (omega (arith, ap length e, h.digits.0))
+
+-- what follows a host tells what is added to it, and the port
+follows_unique : {mode : Mode} {rest : List ℕ} (base other : List ℕ) (host second : Option (List ℕ)) (port last : Option ℕ) → base ≡ other → Follows mode base rest host port → Follows mode other rest second last → (host ≡ second) × (port ≡ last)
+follows_unique base other host second port last same (Follows.nothing e h p) (Follows.nothing f k q) = (cc, cc)
+follows_unique base other host second port last same (Follows.nothing e h p) (Follows.lone_colon f k q) = let wrong = sym e ∙ f in cc
+follows_unique base other host second port last same (Follows.nothing e h p) (Follows.number d n l f k q) = let wrong = sym e ∙ f in cc
+follows_unique base other host second port last same (Follows.lone_colon e h p) (Follows.nothing f k q) = let wrong = sym e ∙ f in cc
+follows_unique base other host second port last same (Follows.lone_colon e h p) (Follows.lone_colon f k q) = (h ∙ ap (λ x. Some (x ++ colon ∷ [])) same ∙ sym k, cc)
+follows_unique base other host second port last same (Follows.lone_colon e h p) (Follows.number d n l f k q) = no_digits l (sym (tails (sym e ∙ f)))
+follows_unique base other host second port last same (Follows.number c m j e h p) (Follows.nothing f k q) = let wrong = sym e ∙ f in cc
+follows_unique base other host second port last same (Follows.number c m j e h p) (Follows.lone_colon f k q) = no_digits j (tails (sym e ∙ f))
+follows_unique {mode} base other host second port last same (Follows.number c m j e h p) (Follows.number d n l f k q) =
+    let digits : c ≡ d = tails (sym e ∙ f) in
+    let number : m ≡ n = number_unique mode d m n (subst (λ x. Number mode x m) digits j) l in
+    (h ∙ ap Some same ∙ sym k, p ∙ ap Some number ∙ sym q)
+
+-- ---- the looks of a piece
+
+-- a text that is free of a byte doesn't begin with it
+free_begins : (c : ℕ) (t : List ℕ) → FreeOf c t → begins_with c t ≡ false
+free_begins c [] h = refl
+free_begins c (b ∷ t) h = (free_head_tail c b t h).0
+
+-- how a text begins, so does the whole with another text behind it
+begins-append : (c : ℕ) (t rest : List ℕ) → 0 < length t → begins_with c (t ++ rest) ≡ begins_with c t
+begins-append c [] rest some = absurd (omega arith)
+begins-append c (b ∷ t) rest some = refl
+
+-- a host and a port's place
+abbrev pub IsPlainPiece : List ℕ → Type 0
+IsPlainPiece piece = (text : List ℕ) × (rest : List ℕ) × IsPlainHost text × IsPortPlace rest × (piece ≡ text ++ rest)
+
+-- colons that mark no port, and no bracket in front
+abbrev pub IsManyPiece : List ℕ → Type 0
+IsManyPiece piece = (begins_with left_bracket piece ≡ false) × IsManyColoned piece
+
+-- a host and a port's place don't begin with a bracket
+plain_no_bracket : (piece : List ℕ) → IsPlainPiece piece → begins_with left_bracket piece ≡ false
+plain_no_bracket piece (text, rest, h, place, e) = ap (begins_with left_bracket) e ∙ begins-append left_bracket text rest h.nonempty ∙ h.no_bracket
+
+-- they aren't nothing
+plain_some : {A : Type 0} (piece : List ℕ) → IsPlainPiece piece → piece ≡ [] → A
+plain_some piece (text, rest, h, place, e) none = absurd (omega (arith, h.nonempty, length-append text rest, ap length (sym e ∙ none)))
+
+-- nor are colons
+many_some : {A : Type 0} (piece : List ℕ) → IsManyColoned piece → piece ≡ [] → A
+many_some piece (inl h) none = absurd (both_ways (begins_with colon piece) (ap (begins_with colon) none) h)
+many_some piece (inr (x, y, z, e)) none = absurd (omega (arith, length-append x (colon ∷ (y ++ colon ∷ z)), ap length (sym e ∙ none)))
+
+-- a bracket in front
+bracket_begins : (piece behind : List ℕ) → piece ≡ left_bracket ∷ behind → begins_with left_bracket piece ≡ true
+bracket_begins piece behind e = ap (begins_with left_bracket) e
+
+-- behind the only colon of a text stands none
+behind_colon_free : (text digits x y : List ℕ) → FreeOf colon text → FreeOf colon digits → text ++ colon ∷ digits ≡ x ++ colon ∷ y → FreeOf colon y
+behind_colon_free [] digits [] y f g e = subst (λ t. FreeOf colon t) (tails e) g
+behind_colon_free [] digits (c ∷ x) y f g e = absurd (not_free colon x y (subst (λ t. FreeOf colon t) (tails e) g))
+behind_colon_free (b ∷ text) digits [] y f g e =
+    let other = (free_head_tail colon b text f).0 in
+    absurd (both_ways (b == colon) other (ap (λ a. a == colon) (heads e)))
+behind_colon_free (b ∷ text) digits (c ∷ x) y f g e = behind_colon_free text digits x y (free_head_tail colon b text f).1 g (tails e)
+
+-- a host and a port's place have no two colons
+plain_one_colon : (text rest : List ℕ) → FreeOf colon text → IsPortPlace rest → HoldsTwoColons (text ++ rest) → ⊥
+plain_one_colon text rest f (inl e) (x, y, z, is) =
+    not_free colon x (y ++ colon ∷ z) (subst (λ t. FreeOf colon t) (sym (ap (λ t. text ++ t) e ∙ append-nil text) ∙ is) f)
+plain_one_colon text rest f (inr (digits, g, e)) (x, y, z, is) =
+    not_free colon y z (behind_colon_free text digits x (y ++ colon ∷ z) f g (sym (ap (λ t. text ++ t) e) ∙ is))
+
+-- their colon, if there is one, marks a port's place
+plain_not_many : {A : Type 0} (piece : List ℕ) → IsPlainPiece piece → IsManyColoned piece → A
+plain_not_many piece (text, rest, h, place, e) (inl begins) =
+    let none = free_begins colon text h.no_colon in
+    absurd (both_ways (begins_with colon text) none (sym (begins-append colon text rest h.nonempty) ∙ ap (begins_with colon) (sym e) ∙ begins))
+plain_not_many piece (text, rest, h, place, e) (inr two) = absurd (plain_one_colon text rest h.no_colon place (subst HoldsTwoColons e two))
+
+-- a port's place is empty or begins with a colon
+place_begins : (rest : List ℕ) → IsPortPlace rest → (rest ≡ []) ⊎ (begins_with colon rest ≡ true)
+place_begins rest (inl e) = inl e
+place_begins rest (inr (digits, g, e)) = inr (ap (begins_with colon) e)
+
+-- a piece is one host and one port's place
+plain_unique : (text other rest last : List ℕ) → IsPlainHost text → IsPlainHost other → IsPortPlace rest → IsPortPlace last → text ++ rest ≡ other ++ last → (text ≡ other) × (rest ≡ last)
+plain_unique text other rest last h k p q e =
+    class_cut_unique (λ b. b == colon) text other rest last h.no_colon k.no_colon (place_begins rest p) (place_begins last q) e
+
+-- ---- addresses without brackets
+
+-- an address without brackets holds colons that mark no port
+address_piece_many : (piece : List ℕ) → IsAddressPiece piece → IsManyPiece piece
+address_piece_many piece (inl h) = (free_begins left_bracket piece (address_free left_bracket piece refl h), inr (address_two_colons piece h))
+address_piece_many piece (inr (a, h, e)) =
+    let (x, y, z, is) = address_two_colons a h in
+    let free : FreeOf left_bracket (a ++ colon ∷ []) = free-append left_bracket a (colon ∷ []) (address_free left_bracket a refl h) refl in
+    let two : HoldsTwoColons (a ++ colon ∷ []) = (x, y, z ++ colon ∷ [], ap (λ t. t ++ colon ∷ []) is ∙ append_assoc x (colon ∷ (y ++ colon ∷ z)) (colon ∷ []) ∙ ap (λ t. x ++ colon ∷ t) (append_assoc y (colon ∷ z) (colon ∷ []))) in
+    (free_begins left_bracket piece (subst (λ t. FreeOf left_bracket t) (sym e) free), inr (subst HoldsTwoColons (sym e) two))
+
+-- ---- the shapes of a name
+
+-- the whole of a piece with such colons is the host
+data ManyNames (mode : Mode) (piece : List ℕ) (host : Option (List ℕ)) : Type 0 where
+  unbracketed : ReadsAddress mode piece → host ≡ Some (lowercase piece) → ManyNames mode piece host
+  whole : (named : List ℕ) → ¬ (mode ≡ strict) → ¬ ReadsAddress mode piece → HostText mode piece named → host ≡ Some named → ManyNames mode piece host
+
+-- a name by the looks of its piece
+data Shape (mode : Mode) (piece : List ℕ) (host : Option (List ℕ)) (port : Option ℕ) : Type 0 where
+  nothing : piece ≡ [] → host ≡ None → port ≡ None → Shape mode piece host port
+  bracketed : (x inner rest : List ℕ) → FreeOf right_bracket x → Inner mode x inner → piece ≡ left_bracket ∷ (x ++ right_bracket ∷ rest)
+      → Follows mode (in_brackets inner) rest host port → Shape mode piece host port
+  plain : (text named rest : List ℕ) → IsPlainHost text → HostText mode text named → piece ≡ text ++ rest
+      → Follows mode named rest host port → Shape mode piece host port
+  many : IsManyPiece piece → ManyNames mode piece host → port ≡ None → Shape mode piece host port
+
+-- brackets with a colon behind them
+brackets_colon : (inner : List ℕ) → in_brackets inner ++ colon ∷ [] ≡ left_bracket ∷ (inner ++ right_bracket ∷ (colon ∷ []))
+brackets_colon inner = ap (λ t. left_bracket ∷ t) (append_assoc inner (right_bracket ∷ []) (colon ∷ []))
+
+-- every name has a shape
+name_shape : {mode : Mode} {piece : List ℕ} {host : Option (List ℕ)} {port : Option ℕ} → Names mode piece host port → Shape mode piece host port
+name_shape (Names.nothing e h p) = Shape.nothing e h p
+name_shape (Names.bracketed x inner f i e h p) = Shape.bracketed x inner [] f i e (Follows.nothing refl h p)
+name_shape (Names.bracketed_colon x inner f i e h p) = Shape.bracketed x inner (colon ∷ []) f i e (Follows.lone_colon refl (h ∙ ap Some (sym (brackets_colon inner))) p)
+name_shape (Names.bracketed_port x inner digits n f i k e h p) = Shape.bracketed x inner (colon ∷ digits) f i e (Follows.number digits n k refl h p)
+name_shape {mode} {piece} (Names.unbracketed r h p) = Shape.many (address_piece_many piece r.1) (ManyNames.unbracketed r h) p
+name_shape {mode} {piece} (Names.plain named h t is p) = Shape.plain piece named [] h t (sym (append-nil piece)) (Follows.nothing refl is p)
+name_shape (Names.plain_colon text named h t e is p) = Shape.plain text named (colon ∷ []) h t e (Follows.lone_colon refl is p)
+name_shape (Names.plain_port text named digits n h t k e is p) = Shape.plain text named (colon ∷ digits) h t e (Follows.number digits n k refl is p)
+name_shape (Names.colons named s r b m t is p) = Shape.many (b, m) (ManyNames.whole named s r t is) p
+
+-- and every shape has a name
