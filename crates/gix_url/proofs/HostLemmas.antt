@@ -205,3 +205,144 @@ name_shape (Names.plain_port text named digits n h t k e is p) = Shape.plain tex
 name_shape (Names.colons named s r b m t is p) = Shape.many (b, m) (ManyNames.whole named s r t is) p
 
 -- and every shape has a name
+
+-- the shape of a name tells the host and the port
+many_unique : (mode : Mode) (piece : List ℕ) (host second : Option (List ℕ)) → ManyNames mode piece host → ManyNames mode piece second → host ≡ second
+many_unique mode piece host second (ManyNames.unbracketed r h) (ManyNames.unbracketed s k) = h ∙ sym k
+many_unique mode piece host second (ManyNames.unbracketed r h) (ManyNames.whole n s u t k) = absurd (u r)
+many_unique mode piece host second (ManyNames.whole m s u t h) (ManyNames.unbracketed r k) = absurd (u r)
+many_unique mode piece host second (ManyNames.whole m s u t h) (ManyNames.whole n v w x k) = h ∙ ap Some (host_text_unique mode piece m n t x) ∙ sym k
+
+-- what is read between brackets: the cut and what follows
+bracket_cut : (x y rest last piece : List ℕ) → FreeOf right_bracket x → FreeOf right_bracket y → piece ≡ left_bracket ∷ (x ++ right_bracket ∷ rest) → piece ≡ left_bracket ∷ (y ++ right_bracket ∷ last) → (x ≡ y) × (rest ≡ last)
+bracket_cut x y rest last piece f g e k = cut_unique right_bracket x y rest last f g (tails (sym e ∙ k))
+
+-- no two shapes look alike
+shape_unique : (mode : Mode) (piece : List ℕ) (host second : Option (List ℕ)) (port last : Option ℕ) → Shape mode piece host port → Shape mode piece second last → (host ≡ second) × (port ≡ last)
+shape_unique mode piece host second port last (Shape.nothing e h p) (Shape.nothing f k q) = (h ∙ sym k, p ∙ sym q)
+shape_unique mode piece host second port last (Shape.nothing e h p) (Shape.bracketed x inner rest f i k g) = let wrong = sym e ∙ k in cc
+shape_unique mode piece host second port last (Shape.nothing e h p) (Shape.plain text named rest f i k g) = plain_some piece (text, rest, f, follows_place g, k) e
+shape_unique mode piece host second port last (Shape.nothing e h p) (Shape.many m n q) = many_some piece m.1 e
+shape_unique mode piece host second port last (Shape.bracketed x inner rest f i k g) (Shape.nothing e h p) = let wrong = sym e ∙ k in cc
+shape_unique mode piece host second port last (Shape.bracketed x inner rest f i k g) (Shape.bracketed y other end h j l m) =
+    let (same, ends) = bracket_cut x y rest end piece f h k l in
+    let inners = inner_unique mode y inner other (subst (λ t. Inner mode t inner) same i) j in
+    follows_unique (in_brackets inner) (in_brackets other) host second port last (ap in_brackets inners) (subst (λ t. Follows mode (in_brackets inner) t host port) ends g) m
+shape_unique mode piece host second port last (Shape.bracketed x inner rest f i k g) (Shape.plain text named end h j l m) =
+    absurd (both_ways _ (plain_no_bracket piece (text, end, h, follows_place m, l)) (bracket_begins piece _ k))
+shape_unique mode piece host second port last (Shape.bracketed x inner rest f i k g) (Shape.many m n q) =
+    absurd (both_ways _ m.0 (bracket_begins piece _ k))
+shape_unique mode piece host second port last (Shape.plain text named rest f i k g) (Shape.nothing e h p) = plain_some piece (text, rest, f, follows_place g, k) e
+shape_unique mode piece host second port last (Shape.plain text named end h j l m) (Shape.bracketed x inner rest f i k g) =
+    absurd (both_ways _ (plain_no_bracket piece (text, end, h, follows_place m, l)) (bracket_begins piece _ k))
+shape_unique mode piece host second port last (Shape.plain text named rest f i k g) (Shape.plain other called end h j l m) =
+    let (same, ends) = plain_unique text other rest end f h (follows_place g) (follows_place m) (sym k ∙ l) in
+    let hosts = host_text_unique mode other named called (subst (λ t. HostText mode t named) same i) j in
+    follows_unique named called host second port last hosts (subst (λ t. Follows mode named t host port) ends g) m
+shape_unique mode piece host second port last (Shape.plain text named rest f i k g) (Shape.many m n q) = plain_not_many piece (text, rest, f, follows_place g, k) m.1
+shape_unique mode piece host second port last (Shape.many m n q) (Shape.nothing e h p) = many_some piece m.1 e
+shape_unique mode piece host second port last (Shape.many m n q) (Shape.bracketed x inner rest f i k g) =
+    absurd (both_ways _ m.0 (bracket_begins piece _ k))
+shape_unique mode piece host second port last (Shape.many m n q) (Shape.plain text named rest f i k g) = plain_not_many piece (text, rest, f, follows_place g, k) m.1
+shape_unique mode piece host second port last (Shape.many m n p) (Shape.many k l q) = (many_unique mode piece host second n l, p ∙ sym q)
+
+-- a piece names one host and one port
+pub names_unique : (mode : Mode) (piece : List ℕ) (host second : Option (List ℕ)) (port last : Option ℕ) → Names mode piece host port → Names mode piece second last → (host ≡ second) × (port ≡ last)
+names_unique mode piece host second port last h k = shape_unique mode piece host second port last (name_shape h) (name_shape k)
+
+-- ---- flaws
+
+-- what stands in a port's place and is no port follows no host
+no_port_follows : {mode : Mode} {base digits rest : List ℕ} {host : Option (List ℕ)} {port : Option ℕ} → IsNoPort mode digits → rest ≡ colon ∷ digits → Follows mode base rest host port → ⊥
+no_port_follows h e (Follows.nothing f k p) = let wrong = sym e ∙ f in cc
+no_port_follows h e (Follows.lone_colon f k p) = omega (arith, h.0, ap length (tails (sym e ∙ f)))
+no_port_follows {mode} h e (Follows.number d n k f is p) = h.1 n (subst (λ t. Number mode t n) (tails (sym f ∙ e)) k)
+
+-- a name between brackets
+record InBrackets (mode : Mode) (piece : List ℕ) (host : Option (List ℕ)) (port : Option ℕ) : Type 0 where
+  x : List ℕ
+  inner : List ℕ
+  rest : List ℕ
+  around : BracketsAround piece x rest
+  stands : Inner mode x inner
+  follows : Follows mode (in_brackets inner) rest host port
+
+-- a name outside them
+record Outside (mode : Mode) (piece : List ℕ) (host : Option (List ℕ)) (port : Option ℕ) : Type 0 where
+  front : List ℕ
+  named : List ℕ
+  rest : List ℕ
+  is_plain : IsPlainHost front
+  stands : HostText mode front named
+  joined : piece ≡ front ++ rest
+  follows : Follows mode named rest host port
+
+-- a piece with a bracket in front is named between brackets
+named_in_brackets : (mode : Mode) (piece : List ℕ) (host : Option (List ℕ)) (port : Option ℕ) → begins_with left_bracket piece ≡ true → Shape mode piece host port → InBrackets mode piece host port
+named_in_brackets mode piece host port b (Shape.nothing e h p) = absurd (false≢true (sym (ap (begins_with left_bracket) e) ∙ b))
+named_in_brackets mode piece host port b (Shape.bracketed x inner rest f i e g) =
+    record { x = x; inner = inner; rest = rest; around = record { closed = f; joined = e; followed = place_begins rest (follows_place g) }; stands = i; follows = g }
+named_in_brackets mode piece host port b (Shape.plain front named rest h t e g) = absurd (both_ways _ (plain_no_bracket piece (front, rest, h, follows_place g, e)) b)
+named_in_brackets mode piece host port b (Shape.many m n p) = absurd (both_ways _ m.0 b)
+
+-- a host and a port's place are named outside of them
+named_outside : (mode : Mode) (piece : List ℕ) (host : Option (List ℕ)) (port : Option ℕ) → IsPlainPiece piece → Shape mode piece host port → Outside mode piece host port
+named_outside mode piece host port b (Shape.nothing e h p) = plain_some piece b e
+named_outside mode piece host port b (Shape.bracketed x inner rest f i e g) = absurd (both_ways _ (plain_no_bracket piece b) (bracket_begins piece _ e))
+named_outside mode piece host port b (Shape.plain front named rest h t e g) =
+    record { front = front; named = named; rest = rest; is_plain = h; stands = t; joined = e; follows = g }
+named_outside mode piece host port b (Shape.many m n p) = plain_not_many piece b m.1
+
+-- colons that mark no port are named as a whole
+named_whole : (mode : Mode) (piece : List ℕ) (host : Option (List ℕ)) (port : Option ℕ) → IsManyPiece piece → Shape mode piece host port → ManyNames mode piece host
+named_whole mode piece host port b (Shape.nothing e h p) = many_some piece b.1 e
+named_whole mode piece host port b (Shape.bracketed x inner rest f i e g) = absurd (both_ways _ b.0 (bracket_begins piece _ e))
+named_whole mode piece host port b (Shape.plain front named rest h t e g) = plain_not_many piece (front, rest, h, follows_place g, e) b.1
+named_whole mode piece host port b (Shape.many m n p) = n
+
+-- the mode of HTTP is not that of Git
+strict_not_bare : strict ≡ bare → ⊥
+strict_not_bare e = cc
+
+-- where no port stands in its place, nothing is named
+bad_port_unnamed : (mode : Mode) (piece : List ℕ) (host : Option (List ℕ)) (port : Option ℕ) → HasBadPort mode piece → Shape mode piece host port → ⊥
+bad_port_unnamed mode piece host port (HasBadPort.plain front digits h free e none) s =
+    let place : IsPortPlace (colon ∷ digits) = inr (digits, free, refl) in
+    let n = named_outside mode piece host port (front, colon ∷ digits, h, place, e) s in
+    let parts = plain_unique n.front front n.rest (colon ∷ digits) n.is_plain h (follows_place n.follows) place (sym n.joined ∙ e) in
+    no_port_follows none parts.1 n.follows
+bad_port_unnamed mode piece host port (HasBadPort.bracketed x digits free e none) s =
+    let n = named_in_brackets mode piece host port (bracket_begins piece _ e) s in
+    let parts = bracket_cut n.x x n.rest (colon ∷ digits) piece n.around.closed free n.around.joined e in
+    no_port_follows none parts.1 n.follows
+
+-- nor where a byte is not allowed
+bad_host_unnamed : (mode : Mode) (piece : List ℕ) (host : Option (List ℕ)) (port : Option ℕ) → HasBadHost mode piece → Shape mode piece host port → ⊥
+bad_host_unnamed mode piece host port (HasBadHost.plain front rest h place e none) s =
+    let n = named_outside mode piece host port (front, rest, h, place, e) s in
+    let parts = plain_unique n.front front n.rest rest n.is_plain h (follows_place n.follows) place (sym n.joined ∙ e) in
+    none n.named (subst (λ t. HostText mode t n.named) parts.0 n.stands)
+bad_host_unnamed mode piece host port (HasBadHost.colons_on_the_web e b m) s =
+    elim (named_whole mode piece host port (b, m) s) [
+      | ManyNames.unbracketed r h ↦ strict_not_bare (sym e ∙ r.0)
+      | ManyNames.whole n w r t h ↦ w e
+    ]
+bad_host_unnamed mode piece host port (HasBadHost.colons w r b m none) s =
+    elim (named_whole mode piece host port (b, m) s) [
+      | ManyNames.unbracketed q h ↦ r q
+      | ManyNames.whole n v q t h ↦ none n t
+    ]
+bad_host_unnamed mode piece host port (HasBadHost.open_bracket b none) s =
+    let n = named_in_brackets mode piece host port b s in
+    none n.x n.rest n.around
+bad_host_unnamed mode piece host port (HasBadHost.brackets x rest a none) s =
+    let n = named_in_brackets mode piece host port (bracket_begins piece _ a.joined) s in
+    let parts = bracket_cut n.x x n.rest rest piece n.around.closed a.closed n.around.joined a.joined in
+    none n.inner (subst (λ t. Inner mode t n.inner) parts.0 n.stands)
+
+-- a piece with a flaw names nothing
+pub flawed_unnamed : (mode : Mode) (piece : List ℕ) (named : UrlFault) → NameFlaw mode piece named → (host : Option (List ℕ)) (port : Option ℕ) → ¬ Names mode piece host port
+flawed_unnamed mode piece fault.BadPort h host port n = bad_port_unnamed mode piece host port h (name_shape n)
+flawed_unnamed mode piece fault.BadCharacter h host port n = bad_host_unnamed mode piece host port h (name_shape n)
+flawed_unnamed mode piece fault.NoScheme h host port n = h
+flawed_unnamed mode piece fault.HostRequired h host port n = h
