@@ -1,9 +1,14 @@
 -- Hosts and ports: what a piece of an authority looks like, that it names one host and one port at most, and none where a flaw stands.
-use Rattle.std.proofs.Common.{◌≡◌, ℕ, ◌+◌, ◌<◌, ◌≤◌, Bool, true, false, ◌==◌, ◌||◌, ◌⊎◌, inl, inr, List, [], ◌∷◌, ◌++◌, length, Option, Some, None, refl, sym, ap, subst, ◌∙◌, arith, append_assoc, length-append, codes}
+use Rattle.std.proofs.Common.{◌≡◌, ℕ, zero, suc, ◌+◌, ◌<◌, ◌≤◌, Bool, true, false, ◌==◌, ◌||◌, ◌⊎◌, inl, inr, List, [], ◌∷◌, ◌++◌, length, Option, Some, None, Err, ◌^◌, rules, refl, sym, ap, subst, ◌∙◌, arith, append_assoc, length-append, codes}
 use Rattle.std.specs.List.{list_all, list_any}
 use Rattle.std.specs.Char.{is_ascii_digit}
-use Rattle.std.proofs.lemmas.Bool.{both_ways, false≢true}
+use Rattle.std.specs.Str.Parse.{IsNumeral, digits_value, without_leading_plus}
+use Rattle.std.proofs.lemmas.Str.Parse.{IsNumeralModel, numerals_by_value, parse_digits}
+use Rattle.std.proofs.lemmas.Bool.{both_ways, false≢true, and_parts}
+use Rattle.std.proofs.lemmas.Bool.Decides.{nat_tests}
 use Rattle.std.proofs.lemmas.List.{append-nil}
+use Rattle.std.proofs.lemmas.Str.{IsUtf8-from_ascii}
+use Rattle.std.specs.Str.{IsAscii, IsUtf8}
 use Rattle.percent_encoding.specs.Percent.{percent_decode}
 use Rattle.gix_url.specs.declared.error.UrlFault.{UrlFault}
 use Rattle.gix_url.specs.declared.error.UrlFault.TheVariants as fault
@@ -23,6 +28,14 @@ use Rattle.gix_url.proofs.AddressLemmas.{address_free, address_two_colons, addre
 -- decimal digits hold no colon
 digits_free : (text : List ℕ) → IsDigits text → FreeOf colon text
 digits_free text h = free_of_all is_ascii_digit colon text h.1 refl
+
+-- a text of decimal digits, as std tells them
+digits_model : IsNumeralModel (λ ds. list_all is_ascii_digit ds ≡ true) (digits_value 10)
+digits_model = numerals_by_value (λ ds. list_all is_ascii_digit ds ≡ true) (search rules)
+
+-- digits that std reads as no number of 16 bits spell no port
+pub not_parsed : (mode : Mode) (text : List ℕ) → list_all is_ascii_digit text ≡ true → ¬ (IsNumeral 10 (without_leading_plus text) × (digits_value 10 (without_leading_plus text) < 2 ^ 16)) → (port : ℕ) → ¬ Number mode text port
+not_parsed mode text digits fails port n = parse_digits digits_model {E = ℕ} 16 text (Err 0) fails digits (n.digits.0, omega (arith, n.value, n.within))
 
 -- digits spell one port
 pub number_unique : (mode : Mode) (text : List ℕ) (m n : ℕ) → Number mode text m → Number mode text n → m ≡ n
@@ -346,3 +359,18 @@ flawed_unnamed mode piece fault.BadPort h host port n = bad_port_unnamed mode pi
 flawed_unnamed mode piece fault.BadCharacter h host port n = bad_host_unnamed mode piece host port h (name_shape n)
 flawed_unnamed mode piece fault.NoScheme h host port n = h
 flawed_unnamed mode piece fault.HostRequired h host port n = h
+
+-- ---- ASCII and UTF-8
+
+-- bytes of a class are ASCII where the class is
+ascii_class : (test : ℕ → Bool) → ((b : ℕ) → test b ≡ true → b < 128) → (bs : List ℕ) → list_all test bs ≡ true → IsAscii bs
+ascii_class test within [] h i = omega arith
+ascii_class test within (b ∷ bs) h zero = within b (and_parts (test b) (list_all test bs) h).0
+ascii_class test within (b ∷ bs) h (suc i) = ascii_class test within bs (and_parts (test b) (list_all test bs) h).1 i
+
+-- decimal digits are
+digit_ascii : (b : ℕ) → is_ascii_digit b ≡ true → b < 128
+digit_ascii b h = grind (arith, nat_tests)
+
+pub digits_utf8 : (bs : List ℕ) → list_all is_ascii_digit bs ≡ true → IsUtf8 bs
+digits_utf8 bs h = IsUtf8-from_ascii bs (ascii_class is_ascii_digit digit_ascii bs h)

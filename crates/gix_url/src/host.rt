@@ -190,9 +190,13 @@ fn read_port(mode: Mode, digits: &[u8]) -> Option<u16>
     let Ok(digits) = str::from_utf8(digits) else {
         return None;
     };
-    match digits.parse::<u16>() {
-        Ok(port) if allows_port(mode, port) => Some(port),
-        _ => None,
+    let Ok(port) = digits.parse::<u16>() else {
+        return None;
+    };
+    if allows_port(mode, port) {
+        Some(port)
+    } else {
+        None
     }
 }
 
