@@ -7,3 +7,7 @@ pub mod EscapeLemmas
 pub mod FormLemmas
 pub mod NamesHole
 pub mod UniqueLemmas
+pub mod EscapeLemmas
+pub mod AddressLemmas
+pub mod AddressReader
+pub mod HostLemmas
