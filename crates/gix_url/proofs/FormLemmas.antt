@@ -5,7 +5,8 @@ use Rattle.gix_url.specs.Value.{Location}
 use Rattle.gix_url.specs.Bytes.{slash, colon, at_sign, left_bracket, right_bracket, FreeOf, begins_with, Holds, is_helper_name}
 use Rattle.gix_url.specs.Cuts.{url_mark}
 use Rattle.gix_url.specs.Addresses.{IsIpv6Text}
-use Rattle.gix_url.specs.Grammar.{HasHelperForm, IsNeither, ScpFront, ScpShape, AddressedShape, SpellsHelper, SpellsUrl, SpellsFile, SpellsScp, SpellsLocal}
+use Rattle.gix_url.specs.Grammar.{HasHelperForm, IsNeither, ScpFront, ScpShape, AddressedShape, IsScpShaped, SpellsHelper, SpellsUrl, SpellsFile, SpellsScp, SpellsLocal, Spells}
+use Rattle.gix_url.specs.Laws.{IsAddressed, SpellsLocalBefore, SpellsBefore}
 use Rattle.gix_url.proofs.CutLemmas.{tails, different_bytes, cut_unique, helper_name_free, scheme_text_free, free-append, free_parts, free_head_tail, free_or_cut, begins_cut, not_free}
 use Rattle.gix_url.proofs.AddressLemmas.{is_address_byte, address_free, address_two_colons}
 
@@ -101,3 +102,97 @@ scp_neither (inr h) = h.shape.neither
 pub scp_no_local : {b : List ℕ} {v w : Location} → SpellsScp b v → SpellsLocal b w → ⊥
 scp_no_local (inl h) k = k.no_scp (inl (h.front, h.path, h.shape))
 scp_no_local (inr h) k = k.no_scp (inr (h.user, h.address, h.path, h.shape))
+
+-- ---- the shape `user@[address]:path` is one of the earlier scp form too
+
+-- a text in front of an `@` that begins with no bracket
+begins_before_at : (user rest : List ℕ) → begins_with left_bracket user ≡ false → begins_with left_bracket (user ++ at_sign ∷ rest) ≡ false
+begins_before_at [] rest h = refl
+begins_before_at (c ∷ user) rest h = h
+
+-- a front that ends within the address
+within_shape : (b user address path x y : List ℕ) → AddressedShape b user address path → FreeOf colon x → address ≡ x ++ colon ∷ y → ScpFront b (user ++ at_sign ∷ (left_bracket ∷ x)) → ScpShape b (user ++ at_sign ∷ (left_bracket ∷ x)) (y ++ right_bracket ∷ (colon ∷ path))
+within_shape b user address path x y h f e shape = record {
+  joined = h.joined ∙ addressed_joined user address path x y e;
+  neither = h.neither;
+  no_slash = free-append slash user (at_sign ∷ (left_bracket ∷ x)) h.no_slash (address_front_free slash address x y refl h.addressed e);
+  shape = shape;
+}
+
+-- a front that ends behind the bracket
+behind_shape : (b user address path : List ℕ) → AddressedShape b user address path → ScpFront b (user ++ at_sign ∷ (left_bracket ∷ (address ++ right_bracket ∷ []))) → ScpShape b (user ++ at_sign ∷ (left_bracket ∷ (address ++ right_bracket ∷ []))) path
+behind_shape b user address path h shape = record {
+  joined =
+      h.joined
+      ∙ ap (λ s. user ++ at_sign ∷ (left_bracket ∷ s)) (sym (append_assoc address (right_bracket ∷ []) (colon ∷ path)))
+      ∙ sym (append_assoc user (at_sign ∷ (left_bracket ∷ (address ++ right_bracket ∷ []))) (colon ∷ path));
+  neither = h.neither;
+  no_slash = free-append slash user (at_sign ∷ (left_bracket ∷ (address ++ right_bracket ∷ []))) h.no_slash (free-append slash address (right_bracket ∷ []) (address_free slash address refl h.addressed) refl);
+  shape = shape;
+}
+
+-- a user with brackets at its front: they end in the user
+closed_user_front : (b user x s t : List ℕ) → user ≡ left_bracket ∷ (s ++ right_bracket ∷ t) → FreeOf right_bracket s → FreeOf colon user → FreeOf colon x → ScpFront b (user ++ at_sign ∷ (left_bracket ∷ x))
+closed_user_front b user x s t cut g u f =
+    let whole : FreeOf colon (left_bracket ∷ (s ++ right_bracket ∷ t)) = subst (λ z. FreeOf colon z) cut u in
+    let behind : FreeOf colon t = (free_head_tail colon right_bracket t (free_parts colon s (right_bracket ∷ t) (free_head_tail colon left_bracket (s ++ right_bracket ∷ t) whole).1).1).1 in
+    ScpFront.bracketed s (t ++ at_sign ∷ (left_bracket ∷ x)) g (addressed_front_free t x behind f) (ap (λ z. z ++ at_sign ∷ (left_bracket ∷ x)) cut ∙ ap (λ z. left_bracket ∷ z) (append_assoc s (right_bracket ∷ t) (at_sign ∷ (left_bracket ∷ x))))
+
+-- or they end behind the address
+open_user_front : (b user address r : List ℕ) → user ≡ left_bracket ∷ r → FreeOf right_bracket r → FreeOf right_bracket address → ScpFront b (user ++ at_sign ∷ (left_bracket ∷ (address ++ right_bracket ∷ [])))
+open_user_front b user address r begins g a =
+    ScpFront.bracketed (r ++ at_sign ∷ (left_bracket ∷ address)) [] (free-append right_bracket r (at_sign ∷ (left_bracket ∷ address)) g a) refl (ap (λ z. z ++ at_sign ∷ (left_bracket ∷ (address ++ right_bracket ∷ []))) begins ∙ ap (λ z. left_bracket ∷ z) (sym (append_assoc r (at_sign ∷ (left_bracket ∷ address)) (right_bracket ∷ []))))
+
+-- a text has a scp shape of the earlier form
+abbrev pub WasScpShaped : List ℕ → Type 0
+WasScpShaped b = (front : List ℕ) × (path : List ℕ) × ScpShape b front path
+
+-- the front for a user that begins with a bracket
+bracket_user_shape : (b user address path x y r : List ℕ) → AddressedShape b user address path → FreeOf colon x → address ≡ x ++ colon ∷ y → user ≡ left_bracket ∷ r → WasScpShaped b
+bracket_user_shape b user address path x y r h f e begins = elim (free_or_cut right_bracket r) [
+  | inl g ↦
+    (user ++ at_sign ∷ (left_bracket ∷ (address ++ right_bracket ∷ [])), path, behind_shape b user address path h (open_user_front b user address r begins g (address_free right_bracket address refl h.addressed)))
+  | inr (s, t, g, cut) ↦
+    (user ++ at_sign ∷ (left_bracket ∷ x), y ++ right_bracket ∷ (colon ∷ path), within_shape b user address path x y h f e (closed_user_front b user x s t (begins ∙ ap (λ z. left_bracket ∷ z) cut) g h.no_colon f))
+]
+
+-- the shape has an earlier one
+pub addressed_scp : (b user address path : List ℕ) → AddressedShape b user address path → WasScpShaped b
+addressed_scp b user address path h =
+    let (x, y, f, e) = address_cut address h.addressed in
+    elim (cases_Bool (begins_with left_bracket user)) [
+      | inl bracket ↦ let (r, begins) = begins_cut left_bracket user bracket in bracket_user_shape b user address path x y r h f e begins
+      | inr other ↦
+        (user ++ at_sign ∷ (left_bracket ∷ x), y ++ right_bracket ∷ (colon ∷ path), within_shape b user address path x y h f e (ScpFront.plain (addressed_front_free user x h.no_colon f) (inl (begins_before_at user (left_bracket ∷ x) other))))
+    ]
+
+-- what has no earlier scp shape has none
+pub not_scp : (b : List ℕ) → ((front path : List ℕ) → ¬ ScpShape b front path) → ¬ IsScpShaped b
+not_scp b h (inl (front, path, shape)) = h front path shape
+not_scp b h (inr (user, address, path, shape)) = let (front, second, earlier) = addressed_scp b user address path shape in h front second earlier
+
+-- ---- the earlier grammar
+
+-- what was a local path is one
+was_local : (b : List ℕ) (v : Location) → SpellsLocalBefore b v → SpellsLocal b v
+was_local b v h = record { nonempty = h.nonempty; neither = h.neither; no_scp = not_scp b h.no_scp; value = h.value }
+
+is_local_before : (b : List ℕ) (v : Location) → SpellsLocal b v → SpellsLocalBefore b v
+is_local_before b v h = record { nonempty = h.nonempty; neither = h.neither; no_scp = λ front path shape. h.no_scp (inl (front, path, shape)); value = h.value }
+
+-- what was spelled is
+pub spelled_from_before : (b : List ℕ) (v : Location) → SpellsBefore b v → Spells b v
+spelled_from_before b v (SpellsBefore.url h) = Spells.url h
+spelled_from_before b v (SpellsBefore.file_url h) = Spells.file_url h
+spelled_from_before b v (SpellsBefore.remote_helper h) = Spells.remote_helper h
+spelled_from_before b v (SpellsBefore.scp_form h) = Spells.scp_form (inl h)
+spelled_from_before b v (SpellsBefore.local_path h) = Spells.local_path (was_local b v h)
+
+-- what is spelled was, but for the shape
+pub spelled_to_before : (b : List ℕ) (v : Location) → ¬ IsAddressed b → Spells b v → SpellsBefore b v
+spelled_to_before b v other (Spells.url h) = SpellsBefore.url h
+spelled_to_before b v other (Spells.file_url h) = SpellsBefore.file_url h
+spelled_to_before b v other (Spells.remote_helper h) = SpellsBefore.remote_helper h
+spelled_to_before b v other (Spells.scp_form (inl h)) = SpellsBefore.scp_form h
+spelled_to_before b v other (Spells.scp_form (inr h)) = absurd (other (h.user, h.address, h.path, h.shape))
+spelled_to_before b v other (Spells.local_path h) = SpellsBefore.local_path (is_local_before b v h)

@@ -4,10 +4,7 @@ pub mod AddressTestLemmas
 pub mod AddressLemmas
 pub mod AddressReader
 pub mod EscapeLemmas
-pub mod FormLemmas
-pub mod NamesHole
-pub mod UniqueLemmas
-pub mod EscapeLemmas
-pub mod AddressLemmas
-pub mod AddressReader
 pub mod HostLemmas
+pub mod FormLemmas
+pub mod UniqueLemmas
+pub mod KeptLemmas

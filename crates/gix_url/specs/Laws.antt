@@ -1,5 +1,5 @@
 -- The laws of the library, over the definitions alone: one definition for each.
-use Rattle.std.specs.Prelude.{◌≡◌, ℕ, ◌<◌, Bool, true, false, ◌⊎◌, ◌↔◌, List, [], ◌∷◌, ◌++◌, length, codes, Result, Ok}
+use Rattle.std.specs.Prelude.{◌≡◌, ℕ, ◌<◌, Bool, true, false, ◌⊎◌, List, length, Ok}
 use Rattle.gix_url.specs.Value.{Protocol, Location, fields, path_alone}
 use Rattle.gix_url.specs.Value.Protocol.{file, git, ssh, http, https, ext, helper, helper_url}
 use Rattle.gix_url.specs.Grammar.{IsNeither, ScpShape, AddressedShape, SpellsHelper, SpellsUrl, SpellsFile, SpellsScpBefore, SpellsLocal, Spells}
@@ -42,9 +42,9 @@ pub record ComesBack (v : Location) : Type 0 where
 abbrev pub SettledAgain : Type 0
 SettledAgain = (v : Location) → KeepsBytes v → IsSettled v → (back : ComesBack v) × IsSettled back.reread
 
--- nothing outside the settled class comes back
+-- what is not settled has the fields of nothing that is spelled
 abbrev pub Exact : Type 0
-Exact = (v : Location) → KeepsBytes v → ComesBack v → IsSettled v
+Exact = (v : Location) → KeepsBytes v → (b : List ℕ) (w : Location) → Spells b w → fields w ≡ fields v → IsSettled v
 
 -- what is spelled is settled
 abbrev pub Closed : Type 0
@@ -75,7 +75,6 @@ pub data SpellsBefore (b : List ℕ) (v : Location) : Type 0 where
   scp_form : SpellsScpBefore b v → SpellsBefore b v
   local_path : SpellsLocalBefore b v → SpellsBefore b v
 
--- what the earlier grammar spelled is spelled, with that value and by uniqueness with no other; bytes without the shape
--- spell nothing else
+-- what the earlier grammar spelled is spelled; bytes without the shape spell nothing else
 abbrev pub KeepsEarlier : Type 0
 KeepsEarlier = (b : List ℕ) (v : Location) → (SpellsBefore b v → Spells b v) × (¬ IsAddressed b → Spells b v → SpellsBefore b v)
