@@ -1,8 +1,8 @@
 -- The forms of a text exclude one another.
-use Rattle.std.proofs.Common.{◌≡◌, ℕ, ◌==◌, ◌⊎◌, inl, inr, Bool, true, false, List, [], ◌∷◌, ◌++◌, length, refl, sym, ap, subst, ◌∙◌, append_assoc, codes, bytes_eq}
-use Rattle.std.proofs.lemmas.Bool.{both_ways, cases_Bool, eq-eqb}
+use Rattle.std.proofs.Common.{◌≡◌, ℕ, inl, inr, false, List, [], ◌∷◌, ◌++◌, refl, sym, ap, subst, ◌∙◌, append_assoc, codes, bytes_eq}
+use Rattle.std.proofs.lemmas.Bool.{both_ways, cases_Bool}
 use Rattle.gix_url.specs.Value.{Location}
-use Rattle.gix_url.specs.Bytes.{slash, colon, at_sign, left_bracket, right_bracket, FreeOf, begins_with, Holds, is_helper_name}
+use Rattle.gix_url.specs.Bytes.{slash, colon, at_sign, left_bracket, right_bracket, FreeOf, begins_with}
 use Rattle.gix_url.specs.Cuts.{url_mark}
 use Rattle.gix_url.specs.Addresses.{IsIpv6Text}
 use Rattle.gix_url.specs.Grammar.{HasHelperForm, IsNeither, ScpFront, ScpShape, AddressedShape, IsScpShaped, SpellsHelper, SpellsUrl, SpellsFile, SpellsScp, SpellsLocal, Spells}
@@ -36,8 +36,8 @@ scheme_not_file scheme rest other free apart e =
 pub address_cut : (t : List ℕ) → IsIpv6Text t → (x : List ℕ) × (y : List ℕ) × FreeOf colon x × (t ≡ x ++ colon ∷ y)
 address_cut t h = elim (free_or_cut colon t) [
   | inl free ↦
-    let (x, y, z, e) = address_two_colons t h in
-    absurd (not_free colon x (y ++ colon ∷ z) (subst (λ s. FreeOf colon s) e free))
+      let (x, y, z, e) = address_two_colons t h in
+      absurd (not_free colon x (y ++ colon ∷ z) (subst (λ s. FreeOf colon s) e free))
   | inr found ↦ found
 ]
 
@@ -151,9 +151,9 @@ WasScpShaped b = (front : List ℕ) × (path : List ℕ) × ScpShape b front pat
 bracket_user_shape : (b user address path x y r : List ℕ) → AddressedShape b user address path → FreeOf colon x → address ≡ x ++ colon ∷ y → user ≡ left_bracket ∷ r → WasScpShaped b
 bracket_user_shape b user address path x y r h f e begins = elim (free_or_cut right_bracket r) [
   | inl g ↦
-    (user ++ at_sign ∷ (left_bracket ∷ (address ++ right_bracket ∷ [])), path, behind_shape b user address path h (open_user_front b user address r begins g (address_free right_bracket address refl h.addressed)))
+      (user ++ at_sign ∷ (left_bracket ∷ (address ++ right_bracket ∷ [])), path, behind_shape b user address path h (open_user_front b user address r begins g (address_free right_bracket address refl h.addressed)))
   | inr (s, t, g, cut) ↦
-    (user ++ at_sign ∷ (left_bracket ∷ x), y ++ right_bracket ∷ (colon ∷ path), within_shape b user address path x y h f e (closed_user_front b user x s t (begins ∙ ap (λ z. left_bracket ∷ z) cut) g h.no_colon f))
+      (user ++ at_sign ∷ (left_bracket ∷ x), y ++ right_bracket ∷ (colon ∷ path), within_shape b user address path x y h f e (closed_user_front b user x s t (begins ∙ ap (λ z. left_bracket ∷ z) cut) g h.no_colon f))
 ]
 
 -- the shape has an earlier one
@@ -163,7 +163,7 @@ addressed_scp b user address path h =
     elim (cases_Bool (begins_with left_bracket user)) [
       | inl bracket ↦ let (r, begins) = begins_cut left_bracket user bracket in bracket_user_shape b user address path x y r h f e begins
       | inr other ↦
-        (user ++ at_sign ∷ (left_bracket ∷ x), y ++ right_bracket ∷ (colon ∷ path), within_shape b user address path x y h f e (ScpFront.plain (addressed_front_free user x h.no_colon f) (inl (begins_before_at user (left_bracket ∷ x) other))))
+          (user ++ at_sign ∷ (left_bracket ∷ x), y ++ right_bracket ∷ (colon ∷ path), within_shape b user address path x y h f e (ScpFront.plain (addressed_front_free user x h.no_colon f) (inl (begins_before_at user (left_bracket ∷ x) other))))
     ]
 
 -- what has no earlier scp shape has none

@@ -1,14 +1,14 @@
 -- Remote helpers and local paths: what is read as one is settled and is written as it was read; a settled one comes back, and nothing else does.
-use Rattle.std.proofs.Common.{◌≡◌, ℕ, ◌<◌, Bool, true, false, ◌||◌, ◌⊎◌, inl, inr, List, [], ◌∷◌, ◌++◌, length, Option, Some, None, Ok, refl, sym, ap, subst, ◌∙◌, codes, bytes_eq, if◌then◌else◌}
-use Rattle.std.proofs.lemmas.Bool.{both_ways, false≢true, cases_Bool}
+use Rattle.std.proofs.Common.{◌≡◌, ℕ, ◌<◌, Bool, true, false, inl, inr, List, ◌∷◌, ◌++◌, length, Option, None, Ok, refl, sym, ap, subst, ◌∙◌, codes, bytes_eq, if◌then◌else◌}
+use Rattle.std.proofs.lemmas.Bool.{both_ways, false≢true}
 use Rattle.std.proofs.lemmas.Slice.Eq.{bytes_eq-Decides}
 use Rattle.gix_url.specs.Value.{Protocol, Location, fields, path_alone}
 use Rattle.gix_url.specs.Value.Protocol.{file, git, ssh, http, https, ext, helper, helper_url}
 use Rattle.gix_url.specs.Bytes.{colon, is_helper_name}
 use Rattle.gix_url.specs.Schemes.{is_ssh_scheme, protocol_of}
-use Rattle.gix_url.specs.Grammar.{IsNeither, IsScpShaped, helper_protocol, SpellsHelper, UrlParts, MeansByProtocol, MeansAs, SpellsUrl, SpellsFile, SpellsScp, SpellsLocal, Spells}
+use Rattle.gix_url.specs.Grammar.{IsNeither, IsScpShaped, helper_protocol, SpellsHelper, UrlParts, MeansByProtocol, MeansAs, SpellsScp, SpellsLocal, Spells}
 use Rattle.gix_url.specs.Text.{text}
-use Rattle.gix_url.specs.Settled.{HasHostAlone, IsSettledLocal, IsSettledFile, IsSettledHelper, IsSettledBy, IsSettled}
+use Rattle.gix_url.specs.Settled.{HasHostAlone, IsSettledLocal, IsSettledHelper, IsSettledBy, IsSettled}
 use Rattle.gix_url.specs.Laws.{keeps_bytes, KeepsBytes, ComesBack}
 
 -- ---- values
@@ -66,9 +66,9 @@ helper_text name path named = helper_text_as (bytes_eq name (codes "ext")) name 
 -- what a remote helper's form spells is settled, and written as it was read
 pub helper_unchanged : (b : List ℕ) (v : Location) → SpellsHelper b v → IsSettled v × (text v ≡ Ok b)
 helper_unchanged b v h = (
-      subst (λ l. IsSettled l) (sym h.value) (helper_settled h.name h.address h.parts.named),
-      ap (λ l. text l) h.value ∙ helper_text h.name h.address h.parts.named ∙ ap (λ t. Ok t) (sym h.parts.joined),
-    )
+  subst (λ l. IsSettled l) (sym h.value) (helper_settled h.name h.address h.parts.named),
+  ap (λ l. text l) h.value ∙ helper_text h.name h.address h.parts.named ∙ ap (λ t. Ok t) (sym h.parts.joined),
+)
 
 -- a local path without a spelling is settled
 local_settled : (b : List ℕ) → 0 < length b → IsNeither b → ¬ IsScpShaped b → IsSettled (path_alone file true b)
@@ -84,9 +84,9 @@ local_settled b nonempty neither no_scp = inl record {
 -- what a local path spells is settled, and written as it was read
 pub local_unchanged : (b : List ℕ) (v : Location) → SpellsLocal b v → IsSettled v × (text v ≡ Ok b)
 local_unchanged b v h = (
-      subst (λ l. IsSettled l) (sym h.value) (local_settled b h.nonempty h.neither h.no_scp),
-      ap (λ l. text l) h.value ∙ local_written b None,
-    )
+  subst (λ l. IsSettled l) (sym h.value) (local_settled b h.nonempty h.neither h.no_scp),
+  ap (λ l. text l) h.value ∙ local_written b None,
+)
 
 -- ---- closure
 
@@ -197,16 +197,16 @@ kept_exact v keeps b w spelled same =
 -- a location with a value of this kind comes back as the value without a spelling
 kept_back : (v : Location) (protocol : Protocol) (t : List ℕ) → v ≡ kept protocol v.path v.spelling → ((spelling : Option (List ℕ)) → text (kept protocol v.path spelling) ≡ Ok t) → Spells t (path_alone protocol true v.path) → IsSettled (path_alone protocol true v.path) → (back : ComesBack v) × IsSettled back.reread
 kept_back v protocol t value writes spelled settled = (
-      record {
-        written = t;
-        reread = path_alone protocol true v.path;
-        has_text = ap (λ l. text l) value ∙ writes v.spelling;
-        spelled = spelled;
-        same_fields = sym (ap (λ l. fields l) value);
-        same_text = writes None;
-      },
-      settled,
-    )
+  record {
+    written = t;
+    reread = path_alone protocol true v.path;
+    has_text = ap (λ l. text l) value ∙ writes v.spelling;
+    spelled = spelled;
+    same_fields = sym (ap (λ l. fields l) value);
+    same_text = writes None;
+  },
+  settled,
+)
 
 -- the name, `::` and a path spell a remote helper
 helper_spelled : (name path : List ℕ) → is_helper_name name ≡ true → Spells (name ++ colon ∷ (colon ∷ path)) (path_alone (helper_protocol name) true path)

@@ -1,6 +1,6 @@
 -- Bytes spell one location at most: inside each form the bytes determine the pieces, and the forms exclude one another.
-use Rattle.std.proofs.Common.{◌≡◌, ℕ, ◌<◌, ◌==◌, All, arith, ◌⊎◌, inl, inr, Bool, true, false, List, [], ◌∷◌, ◌++◌, length, Option, Some, None, refl, sym, ap, subst, ◌∙◌, append_assoc, codes, bytes_eq, IsUtf8}
-use Rattle.std.proofs.lemmas.Bool.{and_parts, both_ways, false≢true, cases_Bool, eq-eqb, eqb-false}
+use Rattle.std.proofs.Common.{◌≡◌, ℕ, ◌<◌, ◌==◌, All, arith, ◌⊎◌, inl, inr, true, false, List, [], ◌∷◌, ◌++◌, Option, Some, None, refl, sym, ap, subst, ◌∙◌, append_assoc, codes, IsUtf8}
+use Rattle.std.proofs.lemmas.Bool.{and_parts, both_ways, false≢true, eq-eqb, eqb-false}
 use Rattle.std.proofs.lemmas.Bool.Decides.{nat_tests}
 use Rattle.std.proofs.lemmas.List.Elements.{All-cons, All-nil}
 use Rattle.std.proofs.lemmas.Str.{IsUtf8-from_ascii}
@@ -18,10 +18,10 @@ use Rattle.gix_url.specs.Hosts.{Mode, Bracketed, IsAddressPiece, IsPlainHost, Na
 use Rattle.gix_url.specs.Hosts.Mode.{bare}
 use Rattle.gix_url.specs.Schemes.{is_web_scheme, protocol_of, mode_of}
 use Rattle.gix_url.specs.Authority.{unless_empty, user_beside, Credentials, Authority}
-use Rattle.gix_url.specs.Grammar.{helper_protocol, SpellsHelper, UrlParts, SpellsParts, IsBracketed, IsBracketedColon, EndsInColon, Peels, HostFor, path_for, retained, MeansByProtocol, MeansAs, SpellsUrl, SpellsFile, ScpFront, ScpShape, AddressedShape, ScpUser, Unbrackets, ScpHost, scp_location, SpellsScpBefore, SpellsScpAddressed, SpellsScp, SpellsLocal, Spells}
+use Rattle.gix_url.specs.Grammar.{helper_protocol, SpellsHelper, UrlParts, SpellsParts, Peels, HostFor, path_for, retained, MeansByProtocol, MeansAs, SpellsUrl, SpellsFile, ScpFront, AddressedShape, ScpUser, Unbrackets, ScpHost, scp_location, SpellsScpBefore, SpellsScpAddressed, SpellsScp, Spells}
 use Rattle.gix_url.proofs.CutLemmas.{heads, tails, class_cut_unique, path_cut_unique, cut_unique, last_cut_unique, last_unique, scheme_text_free, helper_name_free, free-append, free_parts, free_head_tail, free_or_cut, not_free}
 use Rattle.gix_url.proofs.AddressLemmas.{is_address_byte, address_bytes, address_free, address-lowercase}
-use Rattle.gix_url.proofs.EscapeLemmas.{decode_kept, lacks_escaped_percents, escaped_percents_kept, utf8_joined}
+use Rattle.gix_url.proofs.EscapeLemmas.{decode_kept, lacks_escaped_percents, escaped_percents_kept}
 use Rattle.gix_url.proofs.FormLemmas.{scheme_cut_unique, address_cut, addressed_joined, addressed_front_free, address_front_free, address_back_free, url_no_file, url_no_helper, url_not_neither, file_no_helper, file_not_neither, helper_not_neither, scp_neither, scp_no_local}
 use Rattle.gix_url.proofs.HostLemmas.{names_unique}
 
@@ -346,7 +346,7 @@ front_of_addressed b user address path x y front second h f e j (ScpFront.bracke
     elim (free_or_cut right_bracket user) [
       | inl u ↦ inr (closed_front user address path inside after front second u (address_free right_bracket address refl h.addressed) i n k whole)
       | inr (s, t, u, cut) ↦
-        inl (inner_front user x s t (y ++ right_bracket ∷ (colon ∷ path)) inside after front second cut u h.no_colon f i n k (whole ∙ addressed_joined user address path x y e))
+          inl (inner_front user x s t (y ++ right_bracket ∷ (colon ∷ path)) inside after front second cut u h.no_colon f i n k (whole ∙ addressed_joined user address path x y e))
     ]
 
 -- where both spell the bytes, they spell one location
@@ -355,14 +355,14 @@ scp_forms_agree b v w h k =
     let (x, y, f, e) = address_cut k.address k.shape.addressed in
     elim (front_of_addressed b k.user k.address k.path x y h.front h.path k.shape f e h.shape.joined h.shape.shape) [
       | inl within ↦
-        let pieces = scp_user_unique h.front h.user (Some k.user) h.host (left_bracket ∷ x) h.hosted.no_at (address_front_free at_sign k.address x y refl k.shape.addressed e) h.split (ScpUser.with_user k.user within refl) in
-        absurd (open_bracket_no_host h.host x h.meant pieces.1 (address_front_free right_bracket k.address x y refl k.shape.addressed e) h.hosted)
+          let pieces = scp_user_unique h.front h.user (Some k.user) h.host (left_bracket ∷ x) h.hosted.no_at (address_front_free at_sign k.address x y refl k.shape.addressed e) h.split (ScpUser.with_user k.user within refl) in
+          absurd (open_bracket_no_host h.host x h.meant pieces.1 (address_front_free right_bracket k.address x y refl k.shape.addressed e) h.hosted)
       | inr (behind, paths) ↦
-        let free : FreeOf at_sign (k.address ++ right_bracket ∷ []) = free-append at_sign k.address (right_bracket ∷ []) (address_free at_sign k.address refl k.shape.addressed) refl in
-        let pieces = scp_user_unique h.front h.user (Some k.user) h.host (left_bracket ∷ (k.address ++ right_bracket ∷ [])) h.hosted.no_at free h.split (ScpUser.with_user k.user behind refl) in
-        h.value
-        ∙ scp_same h.user (Some k.user) h.meant (lowercase k.address) h.path k.path pieces.0 (bracketed_address_host h.host k.address h.meant pieces.1 k.shape.addressed h.hosted) paths
-        ∙ sym k.value
+          let free : FreeOf at_sign (k.address ++ right_bracket ∷ []) = free-append at_sign k.address (right_bracket ∷ []) (address_free at_sign k.address refl k.shape.addressed) refl in
+          let pieces = scp_user_unique h.front h.user (Some k.user) h.host (left_bracket ∷ (k.address ++ right_bracket ∷ [])) h.hosted.no_at free h.split (ScpUser.with_user k.user behind refl) in
+          h.value
+          ∙ scp_same h.user (Some k.user) h.meant (lowercase k.address) h.path k.path pieces.0 (bracketed_address_host h.host k.address h.meant pieces.1 k.shape.addressed h.hosted) paths
+          ∙ sym k.value
     ]
 
 -- the scp form's bytes spell one location in it

@@ -5,12 +5,13 @@
 
 ghost use Rattle.gix_url.specs.Laws.{Closed, Exact, KeepsEarlier, SettledAgain, Unchanged, Unique};
 
-/// Locations that are written apart are apart.
+/// Texts tell locations apart.
 ///
 /// - `unique`: no bytes spell two locations, the retained spelling included. So what `parse` answers is the one
-///   location of its input, and settled locations with one text agree in every public field.
+///   location of its input.
 /// - `settled_again`: the text of a settled remote helper or local path spells a location with the same public
-///   fields, which is settled and has that text. Rewriters of remotes read back what they wrote.
+///   fields, which is settled and has that text; so two of them with one text agree in every public field. Rewriters
+///   of remotes read back what they wrote.
 /// - `before`: each location that bytes spelled before the scp form took `user@[address]:path` is still what they
 ///   spell, and bytes without that shape spell nothing else. Who stored such texts reads them as before.
 pub fn law_separation()
