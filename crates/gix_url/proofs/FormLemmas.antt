@@ -56,9 +56,11 @@ addressed_front_free user x f g = free-append colon user (at_sign ∷ (left_brac
 address_pieces_free : (c : ℕ) (t x y : List ℕ) → is_address_byte c ≡ false → IsIpv6Text t → t ≡ x ++ colon ∷ y → FreeOf c x × FreeOf c (colon ∷ y)
 address_pieces_free c t x y other h e = free_parts c x (colon ∷ y) (subst (λ s. FreeOf c s) e (address_free c t other h))
 
+-- so is its front
 pub address_front_free : (c : ℕ) (t x y : List ℕ) → is_address_byte c ≡ false → IsIpv6Text t → t ≡ x ++ colon ∷ y → FreeOf c x
 address_front_free c t x y other h e = (address_pieces_free c t x y other h e).0
 
+-- and what follows the colon
 pub address_back_free : (c : ℕ) (t x y : List ℕ) → is_address_byte c ≡ false → IsIpv6Text t → t ≡ x ++ colon ∷ y → FreeOf c y
 address_back_free c t x y other h e = (free_head_tail c colon y (address_pieces_free c t x y other h e).1).1
 
@@ -177,6 +179,7 @@ not_scp b h (inr (user, address, path, shape)) = let (front, second, earlier) = 
 was_local : (b : List ℕ) (v : Location) → SpellsLocalBefore b v → SpellsLocal b v
 was_local b v h = record { nonempty = h.nonempty; neither = h.neither; no_scp = not_scp b h.no_scp; value = h.value }
 
+-- and what is one was
 is_local_before : (b : List ℕ) (v : Location) → SpellsLocal b v → SpellsLocalBefore b v
 is_local_before b v h = record { nonempty = h.nonempty; neither = h.neither; no_scp = λ front path shape. h.no_scp (inl (front, path, shape)); value = h.value }
 

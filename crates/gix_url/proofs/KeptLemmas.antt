@@ -55,6 +55,7 @@ helper_settled_as false name path other named = (record { flagged = refl; alone 
 helper_settled : (name path : List ℕ) → is_helper_name name ≡ true → IsSettled (path_alone (helper_protocol name) true path)
 helper_settled name path named = helper_settled_as (bytes_eq name (codes "ext")) name path refl named
 
+-- the text, by whether the name is `ext`
 helper_text_as : (is_ext : Bool) (name path : List ℕ) → bytes_eq name (codes "ext") ≡ is_ext → is_helper_name name ≡ true → text (path_alone (if is_ext then ext else helper name) true path) ≡ Ok (name ++ colon ∷ (colon ∷ path))
 helper_text_as true name path same named = ap (λ n. Ok (n ++ colon ∷ (colon ∷ path))) (sym ((bytes_eq-Decides name (codes "ext")).0 same))
 helper_text_as false name path other named = helper_written name path None named

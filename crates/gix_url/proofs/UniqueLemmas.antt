@@ -290,6 +290,7 @@ lowercase_kept a h = decode_kept (lowercase a) (address_free percent_sign (lower
 address_byte_ascii : (b : ℕ) → is_address_byte b ≡ true → b < 128
 address_byte_ascii b h = grind (arith, nat_tests)
 
+-- so are all
 address_bytes_ascii : (t : List ℕ) → list_all is_address_byte t ≡ true → All (λ b. b < 128) t
 address_bytes_ascii [] h = All-nil (λ b. b < 128)
 address_bytes_ascii (b ∷ t) h =
