@@ -6,3 +6,7 @@ pub mod AddressReader
 pub mod EscapeLemmas
 pub mod LineLemmas
 pub mod EscapeSets
+pub mod HostLemmas
+pub mod FormLemmas
+pub mod UniqueLemmas
+pub mod KeptLemmas

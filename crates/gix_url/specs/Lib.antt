@@ -17,3 +17,4 @@ pub mod HostPieces
 pub mod UrlPieces
 pub mod Readings
 pub mod Answers
+pub mod Laws
