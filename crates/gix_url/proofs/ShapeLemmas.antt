@@ -1,14 +1,31 @@
 -- The forms of a text: where its pieces are cut, that they are cut in one way, and that one form excludes the others.
-use Rattle.std.proofs.Common.{◌≡◌, ℕ, ◌+◌, ◌<◌, ◌≤◌, Bool, true, false, ◌⊎◌, inl, inr, List, [], ◌∷◌, ◌++◌, length, take, drop, refl, sym, ap, subst, ◌∙◌, arith, append_assoc, length-append, ◌==◌, eq-eqb}
-use Rattle.std.proofs.lemmas.Bool.{both_ways, false≢true}
-use Rattle.std.proofs.lemmas.List.{take_at, drop_at}
-use Rattle.gix_url.specs.Bytes.{slash, colon, at_sign, left_bracket, right_bracket, FreeOf, begins_with, is_helper_name}
+use Rattle.std.proofs.Common.{◌≡◌, ℕ, ◌+◌, ◌<◌, ◌≤◌, Bool, true, false, ◌⊎◌, inl, inr, List, [], ◌∷◌, ◌++◌, length, take, drop, refl, sym, ap, subst, ◌∙◌, arith, append_assoc, length-append, ◌==◌, eq-eqb, IsUtf8, All, codes}
+use Rattle.std.proofs.lemmas.Bool.{both_ways, false≢true, and_parts, and_from, or_left}
+use Rattle.std.proofs.lemmas.Bool.Decides.{nat_tests}
+use Rattle.std.proofs.lemmas.List.{take_at, drop_at, append_cancel_left}
+use Rattle.std.proofs.lemmas.List.Elements.{All-cons, All-nil}
+use Rattle.std.proofs.lemmas.Str.{IsUtf8-from_ascii}
+use Rattle.std.proofs.lemmas.Str.Ascii.{IsAscii-from_all}
+use Rattle.std.specs.List.{list_all}
+use lib.Utf8.{encode}
+use Rattle.std.specs.Char.{is_ascii_alphanumeric}
+use Rattle.gix_url.specs.declared.error.UrlKind.TheVariants as kind
+use Rattle.gix_url.specs.declared.error.Error.{Error}
+use Rattle.gix_url.specs.declared.error.Error.TheVariants as error
+use Rattle.gix_url.specs.Value.{Location, path_alone}
+use Rattle.gix_url.specs.Value.Protocol.{file}
+use Rattle.gix_url.specs.Bytes.{slash, colon, at_sign, left_bracket, right_bracket, FreeOf, begins_with, is_helper_name, is_name_byte}
 use Rattle.gix_url.specs.Addresses.{IsIpv6Text}
-use Rattle.gix_url.specs.Grammar.{HelperParts, HasHelperForm, IsNeither, ScpFront, ScpShape, AddressedShape, IsScpShaped}
+use Rattle.gix_url.specs.Grammar.{HelperParts, HasHelperForm, IsNeither, ScpFront, ScpShape, AddressedShape, IsScpShaped, SpellsFile}
 use Rattle.gix_url.specs.Grammar.ScpFront.{plain, bracketed}
+use Rattle.gix_url.specs.Authority.{unless_empty}
+use Rattle.gix_url.specs.Flaws.{UrlShape, MissesPath}
+use Rattle.gix_url.specs.Flaws.MissesPath.{in_file}
+use Rattle.gix_url.specs.Readings.{NoneBut}
 use Rattle.gix_url.specs.Shapes.{FrontCut, HasFrontCut, LacksBrackets, ScpCut, HasScpCut, AddressedCut, AddressedFront, HasAddressedCut, IsAddressed, PlainScp, LocalShape}
-use Rattle.gix_url.proofs.CutLemmas.{heads, tails, different_bytes, not_free, free-append, free-cons, free_parts, free_head_tail, free_or_cut, cut_unique, last_cut_unique, helper_name_free}
+use Rattle.gix_url.proofs.CutLemmas.{heads, tails, different_bytes, begins_cut, not_free, free-append, free-cons, free_parts, free_head_tail, free_or_cut, cut_unique, last_cut_unique, helper_name_free}
 use Rattle.gix_url.proofs.AddressLemmas.{address_two_colons, address_free}
+use Rattle.gix_url.proofs.EscapeLemmas.{utf8_behind, utf8_parts}
 
 -- ---- remote helpers
 
@@ -234,3 +251,80 @@ local_shape b some neither none uncut = record {
     | inr (u, a, p, s) ↦ none (u, a, p, addressed_cut b u a p s)
   ];
 }
+
+-- ---- what is refused
+
+-- where nothing fits, nothing fits unless memory ran out
+pub none_but : (fits : Location → Type 0) → ((v : Location) → ¬ fits v) → (e : Error) → NoneBut fits e
+none_but fits none error.Memory = tt
+none_but fits none error.EmptyLocal = none
+none_but fits none (error.MissingPath kind input) = none
+none_but fits none (error.NotUtf8 kind input) = none
+none_but fits none (error.TooLong shown total) = none
+none_but fits none (error.BadUrl kind fault input) = none
+none_but fits none (error.Unwritable fault) = none
+
+-- ---- remote helpers as text
+
+-- a byte of a name is ASCII
+name_byte_ascii : (b : ℕ) → is_name_byte b ≡ true → b < 128
+name_byte_ascii b h = grind (arith, nat_tests)
+
+-- bytes of a name are ASCII
+name_bytes_ascii : (bs : List ℕ) → list_all is_name_byte bs ≡ true → All (λ b. b < 128) bs
+name_bytes_ascii [] h = All-nil (λ b. b < 128)
+name_bytes_ascii (b ∷ bs) h =
+    let parts = and_parts (is_name_byte b) (list_all is_name_byte bs) h in
+    All-cons (λ b. b < 128) b bs (name_byte_ascii b parts.0) (name_bytes_ascii bs parts.1)
+
+-- the name of a helper is UTF-8
+pub helper_name_utf8 : (name : List ℕ) → is_helper_name name ≡ true → IsUtf8 name
+helper_name_utf8 [] h = absurd (false≢true h)
+helper_name_utf8 (b ∷ bs) h =
+    let parts = and_parts (is_ascii_alphanumeric b) (list_all is_name_byte bs) h in
+    IsUtf8-from_ascii (b ∷ bs) (IsAscii-from_all (b ∷ bs) (name_bytes_ascii (b ∷ bs) (and_from _ _ (or_left _ _ parts.0) parts.1)))
+
+-- ---- file URLs
+
+-- what stands behind `file://` is a host and a path
+file_rest : (b rest : List ℕ) (v : Location) → UrlShape b (codes "file") rest → (h : SpellsFile b v) → rest ≡ h.host ++ h.path
+file_rest b rest v s h = append_cancel_left (codes "file://") rest (h.host ++ h.path) (sym s.joined ∙ h.joined)
+
+-- no path without a `/`
+pub no_file_path : (b rest : List ℕ) → UrlShape b (codes "file") rest → FreeOf slash rest → (v : Location) → ¬ SpellsFile b v
+no_file_path b rest s free v h =
+    let (tail, is) = begins_cut slash h.path h.rooted in
+    not_free slash h.host tail (subst (λ t. FreeOf slash t) (file_rest b rest v s h ∙ ap (λ t. h.host ++ t) is) free)
+
+-- such a text misses its path
+pub file_misses_path : (b rest : List ℕ) → UrlShape b (codes "file") rest → FreeOf slash rest → MissesPath b kind.Url
+file_misses_path b rest s free = in_file rest free s.joined
+
+-- the mark of a file URL is UTF-8
+file_mark_utf8 : IsUtf8 (codes "file://")
+unfolding encode
+file_mark_utf8 = (codes "file://", (refl, refl))
+
+-- the host is UTF-8
+pub file_host_utf8 : (b rest host behind : List ℕ) → UrlShape b (codes "file") rest → IsUtf8 b → rest ≡ host ++ slash ∷ behind → IsUtf8 host
+file_host_utf8 b rest host behind s text e =
+    let tail = utf8_behind (codes "file://") rest (subst IsUtf8 s.joined text) file_mark_utf8 in
+    (utf8_parts host behind slash (subst IsUtf8 e tail) (omega arith)).0
+
+-- not UTF-8
+pub no_file_text : (b : List ℕ) → ¬ IsUtf8 b → (v : Location) → ¬ SpellsFile b v
+no_file_text b other v h = other h.text
+
+-- the host and the path of a file URL
+pub file_found : (b rest host behind path : List ℕ) (v : Location) → UrlShape b (codes "file") rest → IsUtf8 b → FreeOf slash host → rest ≡ host ++ slash ∷ behind → path ≡ drop (length host) rest → v ≡ record (path_alone file false path) { host = unless_empty host } → SpellsFile b v
+file_found b rest host behind path v s text free e is value =
+    let tail : path ≡ slash ∷ behind = is ∙ ap (drop (length host)) e ∙ drop_at host (slash ∷ behind) (length host) refl in
+    record {
+      host = host;
+      path = path;
+      joined = s.joined ∙ ap (λ t. codes "file://" ++ t) (e ∙ ap (λ t. host ++ t) (sym tail));
+      text = text;
+      no_slash = free;
+      rooted = ap (begins_with slash) tail;
+      value = value;
+    }

@@ -7,6 +7,8 @@ ghost use Rattle.gix_url.specs.Flaws.{Flaw};
 ghost use Rattle.gix_url.specs.Readings.{Refuses};
 
 mod classify;
+mod copies;
+mod forms;
 
 use crate::error::Error;
 use crate::location::Url;
