@@ -4,4 +4,5 @@ pub mod AddressTestLemmas
 pub mod AddressLemmas
 pub mod AddressReader
 pub mod EscapeLemmas
+pub mod HostLemmas
 pub mod ShapeLemmas
