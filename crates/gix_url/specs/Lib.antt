@@ -16,4 +16,5 @@ pub mod Url
 pub mod HostPieces
 pub mod UrlPieces
 pub mod Shapes
+pub mod ScpPieces
 pub mod Readings

@@ -9,6 +9,7 @@ ghost use Rattle.gix_url.specs.Readings.{Refuses};
 mod classify;
 mod copies;
 mod forms;
+mod scp;
 
 use crate::error::Error;
 use crate::location::Url;
