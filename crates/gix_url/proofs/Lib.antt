@@ -6,3 +6,6 @@ pub mod AddressReader
 pub mod EscapeLemmas
 pub mod HostLemmas
 pub mod ShapeLemmas
+pub mod FormLemmas
+pub mod UniqueLemmas
+pub mod KeptLemmas

@@ -18,3 +18,4 @@ pub mod UrlPieces
 pub mod Shapes
 pub mod ScpPieces
 pub mod Readings
+pub mod Laws
