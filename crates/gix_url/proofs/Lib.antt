@@ -9,3 +9,4 @@ pub mod ShapeLemmas
 pub mod FormLemmas
 pub mod UniqueLemmas
 pub mod KeptLemmas
+pub mod ScpLemmas

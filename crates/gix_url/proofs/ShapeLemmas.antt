@@ -22,7 +22,7 @@ use Rattle.gix_url.specs.Authority.{unless_empty}
 use Rattle.gix_url.specs.Flaws.{UrlShape, MissesPath}
 use Rattle.gix_url.specs.Flaws.MissesPath.{in_file}
 use Rattle.gix_url.specs.Readings.{NoneBut}
-use Rattle.gix_url.specs.Shapes.{FrontCut, HasFrontCut, LacksBrackets, ScpCut, HasScpCut, AddressedCut, AddressedFront, HasAddressedCut, IsAddressed, PlainScp, LocalShape}
+use Rattle.gix_url.specs.Shapes.{FrontCut, HasFrontCut, LacksBrackets, ScpCut, HasScpCut, AddressedCut, AddressedFront, HasAddressedCut, PlainScp, LocalShape}
 use Rattle.gix_url.proofs.CutLemmas.{heads, tails, different_bytes, begins_cut, not_free, free-append, free-cons, free_parts, free_head_tail, free_or_cut, cut_unique, last_cut_unique, helper_name_free}
 use Rattle.gix_url.proofs.AddressLemmas.{address_two_colons, address_free}
 use Rattle.gix_url.proofs.EscapeLemmas.{utf8_behind, utf8_parts}

@@ -5,11 +5,12 @@ use Rattle.gix_url.specs.declared.error.UrlFault.{UrlFault}
 use Rattle.gix_url.specs.declared.error.UrlFault.TheVariants as fault
 use Rattle.gix_url.specs.declared.parse.scp.HostRefusal.{HostRefusal}
 use Rattle.gix_url.specs.declared.parse.scp.HostRefusal.TheVariants as refusal
+use Rattle.gix_url.specs.Value.{Location}
 use Rattle.gix_url.specs.Bytes.{colon, at_sign, right_bracket, FreeOf}
 use Rattle.gix_url.specs.Hosts.{Names}
 use Rattle.gix_url.specs.Hosts.Mode.{bare}
-use Rattle.gix_url.specs.Grammar.{ScpUser, Unbrackets, ScpHost}
-use Rattle.gix_url.specs.Flaws.{NameFlaw, ScpHostFlaw}
+use Rattle.gix_url.specs.Grammar.{ScpUser, Unbrackets, ScpHost, SpellsScpBefore}
+use Rattle.gix_url.specs.Flaws.{NameFlaw, ScpHostFlaw, ScpFlaw}
 
 -- the front is cut at its last `@`
 pub record CutsUser (front : List ℕ) (user : Option (Bor (List ℕ))) (host : List ℕ) : Type 0 where
@@ -44,3 +45,8 @@ RefusesPiece piece (refusal.Fault named) = ((meant : List ℕ) → ¬ NamesHost 
 abbrev pub RefusesHost : List ℕ → HostRefusal → Type 0
 RefusesHost host refusal.Memory = Unit {0}
 RefusesHost host (refusal.Fault named) = ((meant : List ℕ) → ¬ ScpHost host meant) × ScpHostFlaw host named
+
+-- the text spells nothing in the scp form for its host, unless memory ran out
+abbrev pub RefusesScp : List ℕ → HostRefusal → Type 0
+RefusesScp b refusal.Memory = Unit {0}
+RefusesScp b (refusal.Fault named) = ((v : Location) → ¬ SpellsScpBefore b v) × ScpFlaw b named

@@ -6,6 +6,7 @@ use Rattle.gix_url.specs.Bytes.{slash, colon, at_sign, left_bracket, right_brack
 use Rattle.gix_url.specs.Addresses.{IsIpv6Text}
 use Rattle.gix_url.specs.Grammar.{HelperParts, IsNeither, ScpFront, ScpShape, AddressedShape, IsScpShaped}
 use Rattle.gix_url.specs.Flaws.{UrlShape}
+use Rattle.gix_url.specs.Laws.{IsAddressed}
 
 -- the pieces around the colon of the scp form
 pub record FrontCut (b front path : List ℕ) : Type 0 where
@@ -45,10 +46,6 @@ pub record AddressedFront (b user behind : List ℕ) : Type 0 where
   pub joined : b ≡ user ++ at_sign ∷ (left_bracket ∷ behind)
   pub no_colon : FreeOf colon user
   pub only : (u a p : List ℕ) → AddressedCut b u a p → (u ≡ user) × (behind ≡ a ++ right_bracket ∷ (colon ∷ p))
-
--- the text has the shape `user@[address]:path`
-abbrev pub IsAddressed : List ℕ → Type 0
-IsAddressed b = (user : List ℕ) × (address : List ℕ) × (path : List ℕ) × AddressedShape b user address path
 
 -- the text has the shape of the scp form with this front and this path, and not the shape `user@[address]:path`
 pub record PlainScp (b front path : List ℕ) : Type 0 where

@@ -10,7 +10,7 @@ ghost use Rattle.gix_url.specs.Escapes as spec;
 ghost use Rattle.gix_url.specs.Flaws.{Flaw};
 ghost use Rattle.gix_url.specs.Grammar.{AddressedShape, IsBracketed, ScpHost, ScpShape, SpellsScp, SpellsScpAddressed, SpellsScpBefore, Unbrackets, from_home, scp_location};
 ghost use Rattle.gix_url.specs.Readings.{NoneBut};
-ghost use Rattle.gix_url.specs.ScpPieces.{ColonsInside, CutsUser, NamesHost, NamesNoPort, RefusesHost, RefusesPiece};
+ghost use Rattle.gix_url.specs.ScpPieces.{ColonsInside, CutsUser, NamesHost, NamesNoPort, RefusesHost, RefusesPiece, RefusesScp};
 
 use super::copies::{bad_url, copied, copied_text, is_text, missing_path, not_utf8};
 use super::forms::plain_location;
@@ -47,8 +47,19 @@ pub(super) fn read_scp(alloc: Global, input: &[u8], front: &[u8], path: &[u8]) -
     let (user, host) = cut_user(front);
     match read_scp_host(alloc, host) {
         Ok(host) => Ok(scp_location(alloc, user, host, path)?),
-        Err(HostRefusal::Memory) => Err(Error::Memory),
-        Err(HostRefusal::Fault(fault)) => Err(bad_url(alloc, UrlKind::Scp, fault, input)),
+        Err(refusal) => Err(host_error(alloc, refusal, input)),
+    }
+}
+
+/// The error of a text whose host was refused.
+fn host_error(alloc: Global, refusal: HostRefusal, input: &[u8]) -> Error
+    requires { RefusesScp input.now refusal }
+    ensures refused { NoneBut (SpellsScpBefore input.now) result }
+    ensures flaw { Flaw input.now result }
+{
+    match refusal {
+        HostRefusal::Memory => Error::Memory,
+        HostRefusal::Fault(fault) => bad_url(alloc, UrlKind::Scp, fault, input),
     }
 }
 
@@ -111,7 +122,10 @@ fn read_scp_host(alloc: Global, host: &[u8]) -> Result<String, HostRefusal>
     ensures found { IfOk result (λ meant. ScpHost host.now (string_bytes meant)) }
     ensures refused { IfErr result (λ refusal. RefusesHost host.now refusal) }
 {
-    if holds_white_space(host) || !is_free_of(host, b'\\') {
+    if !has_no_white_space(host) {
+        return Err(HostRefusal::Fault(UrlFault::BadCharacter));
+    }
+    if !is_free_of(host, b'\\') {
         return Err(HostRefusal::Fault(UrlFault::BadCharacter));
     }
     if !has_percent(host) {
@@ -123,13 +137,13 @@ fn read_scp_host(alloc: Global, host: &[u8]) -> Result<String, HostRefusal>
     }
 }
 
-/// Whether the text holds white space.
-fn holds_white_space(text: &[u8]) -> bool
+/// Whether the text holds no white space.
+fn has_no_white_space(text: &[u8]) -> bool
     requires { IsUtf8 text.now }
-    ensures { IsTrue result ↔ ¬ LacksWhiteSpace text.now }
+    ensures { IsTrue result ↔ LacksWhiteSpace text.now }
 {
     match str::from_utf8(text) {
-        Ok(text) => !lacks_white_space(text),
+        Ok(text) => lacks_white_space(text),
         Err(_) => unreachable!(),
     }
 }
