@@ -139,18 +139,20 @@ address_written t (inl full) =
     (s, inl (rw full.joined groups, count))
 address_written t (inr short) =
     let (head, head_count, head_groups) = list_written false short.front short.front_count short.front_items in
-    let (tail, tail_count, tail_groups) = list_written true short.back short.back_count short.back_items in
-    (head ++ replicate (8 - length head - length tail) 0 ++ tail, inr record {
-      head_text = joined_by colon short.front;
-      tail_text = joined_by colon short.back;
-      head = head;
-      tail = tail;
-      spelled = short.joined ∙ sym (append_assoc (joined_by colon short.front) (colon ∷ colon ∷ []) (joined_by colon short.back));
-      head_groups = head_groups;
-      tail_groups = tail_groups;
-      room = omega (arith, short.short);
-      value = refl;
-    })
+    let (tail, tail_count, tail_groups) = list_written true short.back short.back_count short.back_items in (
+      head ++ replicate (8 - length head - length tail) 0 ++ tail,
+      inr record {
+        head_text = joined_by colon short.front;
+        tail_text = joined_by colon short.back;
+        head = head;
+        tail = tail;
+        spelled = short.joined ∙ sym (append_assoc (joined_by colon short.front) (colon ∷ colon ∷ []) (joined_by colon short.back));
+        head_groups = head_groups;
+        tail_groups = tail_groups;
+        room = omega (arith, short.short);
+        value = refl;
+      },
+    )
 
 -- what writes the segments of an address is an IPv6 text
 address_read : (t s : List ℕ) → std.IsColonHex t s → IsIpv6Text t

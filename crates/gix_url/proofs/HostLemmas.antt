@@ -1,13 +1,15 @@
 -- Hosts and ports: what a piece of an authority looks like, that it names one host and one port at most, and none where a flaw stands.
-use Rattle.std.proofs.Common.{◌≡◌, ℕ, zero, suc, ◌+◌, ◌<◌, ◌≤◌, Bool, true, false, ◌==◌, ◌||◌, ◌⊎◌, inl, inr, List, [], ◌∷◌, ◌++◌, length, Option, Some, None, Err, ◌^◌, rules, refl, sym, ap, subst, ◌∙◌, arith, append_assoc, length-append, codes}
+use Rattle.std.proofs.Common.{◌≡◌, ℕ, zero, suc, ◌+◌, ◌<◌, ◌≤◌, Bool, true, false, ◌==◌, ◌||◌, ◌⊎◌, inl, inr, List, [], ◌∷◌, ◌++◌, length, drop, Option, Some, None, Err, ◌^◌, rules, refl, sym, ap, subst, ◌∙◌, arith, append_assoc, length-append, codes}
 use Rattle.std.specs.List.{list_all, list_any}
-use Rattle.std.specs.Char.{is_ascii_digit}
+use Rattle.std.specs.Char.{is_ascii_digit, to_ascii_lowercase}
 use Rattle.std.specs.Str.Parse.{IsNumeral, digits_value, without_leading_plus}
 use Rattle.std.proofs.lemmas.Str.Parse.{IsNumeralModel, numerals_by_value, parse_digits}
-use Rattle.std.proofs.lemmas.Bool.{both_ways, false≢true, and_parts}
+use Rattle.std.proofs.lemmas.Bool.{both_ways, false≢true, and_parts, eq-eqb, eqb-true}
 use Rattle.std.proofs.lemmas.Bool.Decides.{nat_tests}
 use Rattle.std.proofs.lemmas.List.{append-nil}
-use Rattle.std.proofs.lemmas.Str.{IsUtf8-from_ascii}
+use Rattle.std.proofs.Math.Seq.{drop-append_seam}
+use Rattle.std.proofs.lemmas.Str.{IsUtf8-from_ascii, IsUtf8-append}
+use Rattle.percent_encoding.proofs.PercentLemmas.{percent_decode-nil, percent_decode_escape, percent_decode_not_percent}
 use Rattle.std.specs.Str.{IsAscii, IsUtf8}
 use Rattle.percent_encoding.specs.Percent.{percent_decode}
 use Rattle.gix_url.specs.declared.error.UrlFault.{UrlFault}
@@ -19,9 +21,9 @@ use Rattle.gix_url.specs.Hosts as spec
 use Rattle.gix_url.specs.Hosts.{Mode, HostText, IsLiteral, Bracketed, Inner, IsDigits, Number, IsAddressPiece, ReadsAddress, HoldsTwoColons, IsManyColoned, IsPlainHost, Names, normal_host}
 use Rattle.gix_url.specs.Hosts.Mode.{strict, bare, loose}
 use Rattle.gix_url.specs.Flaws.{IsNoPort, HasBadPort, IsPortPlace, IsNoHost, IsNoInner, BracketsAround, HasBadHost, NameFlaw}
-use Rattle.gix_url.specs.HostPieces.{Follows, in_brackets}
-use Rattle.gix_url.proofs.CutLemmas.{heads, tails, class_cut_unique, cut_unique, free-append, free_head_tail, free_of_all, not_free}
-use Rattle.gix_url.proofs.AddressLemmas.{address_free, address_two_colons, address_nonempty}
+use Rattle.gix_url.specs.HostPieces.{EndsHost, Follows, IsEscapedZone, IsInner, IsLiteralOf, in_brackets, shown_literal}
+use Rattle.gix_url.proofs.CutLemmas.{heads, tails, class_cut_unique, cut_unique, free-append, free-cons, free_head_tail, free_of_all, free_or_cut, not_free}
+use Rattle.gix_url.proofs.AddressLemmas.{is_address_byte, address_bytes, address_free, address_two_colons, address_nonempty}
 
 -- ---- ports
 
@@ -190,7 +192,7 @@ address_piece_many piece (inr (a, h, e)) =
 -- the whole of a piece with such colons is the host
 data ManyNames (mode : Mode) (piece : List ℕ) (host : Option (List ℕ)) : Type 0 where
   unbracketed : ReadsAddress mode piece → host ≡ Some (lowercase piece) → ManyNames mode piece host
-  whole : (named : List ℕ) → ¬ (mode ≡ strict) → ¬ ReadsAddress mode piece → HostText mode piece named → host ≡ Some named → ManyNames mode piece host
+  other_host : (named : List ℕ) → ¬ (mode ≡ strict) → ¬ ReadsAddress mode piece → HostText mode piece named → host ≡ Some named → ManyNames mode piece host
 
 -- a name by the looks of its piece
 data Shape (mode : Mode) (piece : List ℕ) (host : Option (List ℕ)) (port : Option ℕ) : Type 0 where
@@ -215,16 +217,16 @@ name_shape {mode} {piece} (Names.unbracketed r h p) = Shape.many (address_piece_
 name_shape {mode} {piece} (Names.plain named h t is p) = Shape.plain piece named [] h t (sym (append-nil piece)) (Follows.nothing refl is p)
 name_shape (Names.plain_colon text named h t e is p) = Shape.plain text named (colon ∷ []) h t e (Follows.lone_colon refl is p)
 name_shape (Names.plain_port text named digits n h t k e is p) = Shape.plain text named (colon ∷ digits) h t e (Follows.number digits n k refl is p)
-name_shape (Names.colons named s r b m t is p) = Shape.many (b, m) (ManyNames.whole named s r t is) p
+name_shape (Names.colons named s r b m t is p) = Shape.many (b, m) (ManyNames.other_host named s r t is) p
 
 -- and every shape has a name
 
 -- the shape of a name tells the host and the port
 many_unique : (mode : Mode) (piece : List ℕ) (host second : Option (List ℕ)) → ManyNames mode piece host → ManyNames mode piece second → host ≡ second
 many_unique mode piece host second (ManyNames.unbracketed r h) (ManyNames.unbracketed s k) = h ∙ sym k
-many_unique mode piece host second (ManyNames.unbracketed r h) (ManyNames.whole n s u t k) = absurd (u r)
-many_unique mode piece host second (ManyNames.whole m s u t h) (ManyNames.unbracketed r k) = absurd (u r)
-many_unique mode piece host second (ManyNames.whole m s u t h) (ManyNames.whole n v w x k) = h ∙ ap Some (host_text_unique mode piece m n t x) ∙ sym k
+many_unique mode piece host second (ManyNames.unbracketed r h) (ManyNames.other_host n s u t k) = absurd (u r)
+many_unique mode piece host second (ManyNames.other_host m s u t h) (ManyNames.unbracketed r k) = absurd (u r)
+many_unique mode piece host second (ManyNames.other_host m s u t h) (ManyNames.other_host n v w x k) = h ∙ ap Some (host_text_unique mode piece m n t x) ∙ sym k
 
 -- what is read between brackets: the cut and what follows
 bracket_cut : (x y rest last piece : List ℕ) → FreeOf right_bracket x → FreeOf right_bracket y → piece ≡ left_bracket ∷ (x ++ right_bracket ∷ rest) → piece ≡ left_bracket ∷ (y ++ right_bracket ∷ last) → (x ≡ y) × (rest ≡ last)
@@ -338,12 +340,12 @@ bad_host_unnamed mode piece host port (HasBadHost.plain front rest h place e non
 bad_host_unnamed mode piece host port (HasBadHost.colons_on_the_web e b m) s =
     elim (named_whole mode piece host port (b, m) s) [
       | ManyNames.unbracketed r h ↦ strict_not_bare (sym e ∙ r.0)
-      | ManyNames.whole n w r t h ↦ w e
+      | ManyNames.other_host n w r t h ↦ w e
     ]
 bad_host_unnamed mode piece host port (HasBadHost.colons w r b m none) s =
     elim (named_whole mode piece host port (b, m) s) [
       | ManyNames.unbracketed q h ↦ r q
-      | ManyNames.whole n v q t h ↦ none n t
+      | ManyNames.other_host n v q t h ↦ none n t
     ]
 bad_host_unnamed mode piece host port (HasBadHost.open_bracket b none) s =
     let n = named_in_brackets mode piece host port b s in
@@ -368,9 +370,178 @@ ascii_class test within [] h i = omega arith
 ascii_class test within (b ∷ bs) h zero = within b (and_parts (test b) (list_all test bs) h).0
 ascii_class test within (b ∷ bs) h (suc i) = ascii_class test within bs (and_parts (test b) (list_all test bs) h).1 i
 
--- decimal digits are
+-- one such byte is text
+one_ascii : (b : ℕ) → b < 128 → IsAscii (b ∷ [])
+one_ascii b h zero = h
+one_ascii b h (suc i) = omega arith
+
+one_utf8 : (b : ℕ) → b < 128 → IsUtf8 (b ∷ [])
+one_utf8 b h = IsUtf8-from_ascii (b ∷ []) (one_ascii b h)
+
+-- decimal digits are ASCII
 digit_ascii : (b : ℕ) → is_ascii_digit b ≡ true → b < 128
 digit_ascii b h = grind (arith, nat_tests)
 
 pub digits_utf8 : (bs : List ℕ) → list_all is_ascii_digit bs ≡ true → IsUtf8 bs
 digits_utf8 bs h = IsUtf8-from_ascii bs (ascii_class is_ascii_digit digit_ascii bs h)
+
+-- a byte of an address is ASCII
+address_byte_ascii : (b : ℕ) → is_address_byte b ≡ true → b < 128
+address_byte_ascii b h = grind (arith, nat_tests)
+
+-- lower case keeps ASCII
+byte_lowercase_ascii : (b : ℕ) → b < 128 → to_ascii_lowercase b < 128
+byte_lowercase_ascii b h = grind (arith, nat_tests)
+
+lowercase_ascii : (bs : List ℕ) → IsAscii bs → IsAscii (lowercase bs)
+lowercase_ascii [] h i = omega arith
+lowercase_ascii (b ∷ bs) h zero = byte_lowercase_ascii b (h 0)
+lowercase_ascii (b ∷ bs) h (suc i) = lowercase_ascii bs (λ k. h (suc k)) i
+
+-- so an address in lower case is text
+address_lowercase_ascii : (t : List ℕ) → IsIpv6Text t → IsAscii (lowercase t)
+address_lowercase_ascii t h = lowercase_ascii t (ascii_class is_address_byte address_byte_ascii t (address_bytes t h))
+
+address_lowercase_utf8 : (t : List ℕ) → IsIpv6Text t → IsUtf8 (lowercase t)
+address_lowercase_utf8 t h = IsUtf8-from_ascii (lowercase t) (address_lowercase_ascii t h)
+
+-- ---- decoding behind an address
+
+-- what holds no `%` stays, with another text behind it
+decoded_behind : (a rest : List ℕ) → FreeOf percent_sign a → percent_decode (a ++ rest) ≡ a ++ percent_decode rest
+decoded_behind [] rest h = refl
+decoded_behind (b ∷ a) rest h =
+    let (other, more) = free_head_tail percent_sign b a h in
+    percent_decode_not_percent b (a ++ rest) (λ e. both_ways (b == percent_sign) other (eq-eqb b percent_sign e)) ∙ ap (λ t. b ∷ t) (decoded_behind a rest more)
+
+-- lower case brings no `%`
+byte_lowercase_percent : (b : ℕ) → (b == percent_sign) ≡ false → (to_ascii_lowercase b == percent_sign) ≡ false
+byte_lowercase_percent b h = grind (arith, nat_tests)
+
+lowercase_no_percent : (a : List ℕ) → FreeOf percent_sign a → FreeOf percent_sign (lowercase a)
+lowercase_no_percent [] h = refl
+lowercase_no_percent (b ∷ a) h =
+    let (other, more) = free_head_tail percent_sign b a h in
+    free-cons percent_sign (to_ascii_lowercase b) (lowercase a) (byte_lowercase_percent b other) (lowercase_no_percent a more)
+
+-- the address of a literal stays where the literal is decoded
+literal_decoded : (a z : List ℕ) → FreeOf percent_sign a → percent_decode (lowercase a ++ z) ≡ lowercase a ++ percent_decode z
+literal_decoded a z h = decoded_behind (lowercase a) z (lowercase_no_percent a h)
+
+-- a decoded literal is text
+literal_utf8 : (t n : List ℕ) → Literal t n → IsUtf8 (percent_decode n)
+literal_utf8 t n (address h e) =
+    let whole : percent_decode n ≡ lowercase t ++ percent_decode [] = ap percent_decode (e ∙ sym (append-nil (lowercase t))) ∙ literal_decoded t [] (address_no_percent t h) in
+    subst IsUtf8 (sym (whole ∙ ap (λ x. lowercase t ++ x) percent_decode-nil ∙ append-nil (lowercase t))) (address_lowercase_utf8 t h)
+literal_utf8 t n (zoned a z h zone whole e) =
+    let shown : percent_decode n ≡ lowercase a ++ (percent_sign ∷ percent_decode z) =
+    ap percent_decode e ∙ literal_decoded a (percent_sign ∷ (50 ∷ (53 ∷ z))) (address_no_percent a h)
+    ∙ ap (λ x. lowercase a ++ x) (percent_decode_escape percent_sign 50 53 z refl (omega arith) (omega arith)) in
+    subst IsUtf8 (sym shown) (IsUtf8-append (lowercase a) (percent_sign ∷ percent_decode z) (address_lowercase_utf8 a h) (IsUtf8-append (percent_sign ∷ []) (percent_decode z) (one_utf8 percent_sign (omega arith)) zone.text))
+
+-- a literal between brackets stands for what is shown of it
+pub literal_inner : (mode : Mode) (t a z : List ℕ) → IsLiteralOf t a z → Inner mode t (shown_literal mode a z)
+literal_inner strict t a z h = h.0
+literal_inner bare t a z h = spec.Bracketed.literal (lowercase a ++ z) h.0 (sym (literal_decoded a z h.1)) (subst IsUtf8 (literal_decoded a z h.1) (literal_utf8 t (lowercase a ++ z) h.0))
+literal_inner loose t a z h = spec.Bracketed.literal (lowercase a ++ z) h.0 (sym (literal_decoded a z h.1)) (subst IsUtf8 (literal_decoded a z h.1) (literal_utf8 t (lowercase a ++ z) h.0))
+
+-- ---- literals as they are read
+
+-- an address alone
+pub literal_alone : (t : List ℕ) → IsIpv6Text t → IsLiteralOf t t []
+literal_alone t h = (address h (append-nil (lowercase t)), address_no_percent t h)
+
+-- an address, `%25` and a zone
+pub literal_zoned : (t a e : List ℕ) → t ≡ a ++ percent_sign ∷ e → IsIpv6Text a → IsEscapedZone e → IsLiteralOf t a (percent_sign ∷ e)
+literal_zoned t a e whole h (z, zone, is) =
+    (zoned a z h zone (whole ∙ ap (λ x. a ++ percent_sign ∷ x) is) (ap (λ x. lowercase a ++ percent_sign ∷ x) is), address_no_percent a h)
+
+-- what stands behind a front
+pub behind_front : (t front rest : List ℕ) → t ≡ front ++ rest → drop (length front) t ≡ rest
+behind_front t front rest e = ap (λ x. drop (length front) x) e ∙ drop-append_seam front rest
+
+-- a text without `%` is a literal only as an address
+pub no_literal : (t : List ℕ) → FreeOf percent_sign t → ¬ IsIpv6Text t → ¬ IsLiteral t
+no_literal t f none (n, address h e) = none h
+no_literal t f none (n, zoned a z h zone whole e) = not_free percent_sign a (50 ∷ 53 ∷ z) (subst (λ x. FreeOf percent_sign x) whole f)
+
+-- a text with a `%` is one only as an address and a zone
+pub literal_parts : (t a e : List ℕ) → FreeOf percent_sign a → t ≡ a ++ percent_sign ∷ e → IsLiteral t → IsIpv6Text a × IsEscapedZone e
+literal_parts t a e f whole (n, address h k) = absurd (not_free percent_sign a e (subst (λ x. FreeOf percent_sign x) whole (address_no_percent t h)))
+literal_parts t a e f whole (n, zoned b z h zone is k) =
+    let parts = cut_unique percent_sign b a (50 ∷ 53 ∷ z) e (address_no_percent b h) f (sym is ∙ whole) in
+    (subst IsIpv6Text parts.0 h, (z, zone, sym parts.1))
+
+-- ---- a host and a port as they are read
+
+-- a text whose length isn't tested to be 0
+pub some_tested : (t : List ℕ) → false ≡ (length t == 0) → 0 < length t
+some_tested [] e = absurd (false≢true e)
+some_tested (b ∷ t) e = omega arith
+
+-- nothing is in front of a first colon: no port is marked
+pub colon_first : (piece front rest : List ℕ) → true ≡ (length front == 0) → piece ≡ front ++ colon ∷ rest → IsManyColoned piece
+colon_first piece [] rest none e = inl (ap (begins_with colon) e)
+colon_first piece (b ∷ front) rest none e = absurd (omega (arith, eqb-true (length (b ∷ front)) 0 (sym none)))
+
+-- nor is one where another colon follows
+pub colon_again : (piece front rest : List ℕ) → ¬ FreeOf colon rest → piece ≡ front ++ colon ∷ rest → IsManyColoned piece
+colon_again piece front rest held e =
+    elim (free_or_cut colon rest) [
+      | inl h ↦ absurd (held h)
+      | inr (y, z, f, k) ↦ inr (front, y, z, e ∙ ap (λ t. front ++ colon ∷ t) k)
+    ]
+
+-- what stands before the first colon, if anything, is a host outside brackets
+pub plain_front : (piece front rest : List ℕ) → false ≡ (length front == 0) → FreeOf colon front → begins_with left_bracket piece ≡ false → piece ≡ front ++ rest → IsPlainHost front
+plain_front piece front rest some free none e =
+    record { nonempty = some_tested front some; no_colon = free; no_bracket = sym (begins-append left_bracket front rest (some_tested front some)) ∙ ap (begins_with left_bracket) (sym e) ∙ none }
+
+-- a piece without a colon is one
+pub plain_piece : (piece : List ℕ) → 0 < length piece → FreeOf colon piece → begins_with left_bracket piece ≡ false → IsPlainHost piece
+plain_piece piece some free none = record { nonempty = some; no_colon = free; no_bracket = none }
+
+-- a byte that is no digit spells no port
+pub not_digits : (mode : Mode) (digits : List ℕ) → false ≡ list_all is_ascii_digit digits → IsNoPort mode digits
+not_digits mode [] e = absurd (false≢true e)
+not_digits mode (b ∷ digits) e = (omega arith, λ port n. both_ways _ (sym e) n.digits.1)
+
+-- a host in brackets, and what follows
+pub bracketed_name : (mode : Mode) (behind x rest shown : List ℕ) (host : Option (List ℕ)) (port : Option ℕ) → FreeOf right_bracket x → behind ≡ x ++ right_bracket ∷ rest → IsInner mode x shown → Follows mode shown rest host port → Names mode (left_bracket ∷ behind) host port
+bracketed_name mode behind x rest shown host port free e (inner, stands, is) (Follows.nothing f h p) =
+    Names.bracketed x inner free stands (ap (λ t. left_bracket ∷ t) (e ∙ ap (λ t. x ++ right_bracket ∷ t) f)) (h ∙ ap Some is) p
+bracketed_name mode behind x rest shown host port free e (inner, stands, is) (Follows.lone_colon f h p) =
+    Names.bracketed_colon x inner free stands (ap (λ t. left_bracket ∷ t) (e ∙ ap (λ t. x ++ right_bracket ∷ t) f)) (h ∙ ap (λ t. Some (t ++ colon ∷ [])) is ∙ ap Some (brackets_colon inner)) p
+bracketed_name mode behind x rest shown host port free e (inner, stands, is) (Follows.number d n k f h p) =
+    Names.bracketed_port x inner d n free stands k (ap (λ t. left_bracket ∷ t) (e ∙ ap (λ t. x ++ right_bracket ∷ t) f)) (h ∙ ap Some is) p
+
+-- a host outside them, and a colon and what follows
+pub plain_name : (mode : Mode) (piece front rest named : List ℕ) (host : Option (List ℕ)) (port : Option ℕ) → IsPlainHost front → piece ≡ front ++ colon ∷ rest → HostText mode front named → Follows mode named (colon ∷ rest) host port → Names mode piece host port
+plain_name mode piece front rest named host port h e t (Follows.nothing f is p) = cc
+plain_name mode piece front rest named host port h e t (Follows.lone_colon f is p) = Names.plain_colon front named h t (e ∙ ap (λ x. front ++ x) f) is p
+plain_name mode piece front rest named host port h e t (Follows.number d n k f is p) = Names.plain_port front named d n h t k (e ∙ ap (λ x. front ++ x) f) is p
+
+-- an opening bracket that none closes
+pub not_closed : (mode : Mode) (behind : List ℕ) → FreeOf right_bracket behind → HasBadHost mode (left_bracket ∷ behind)
+not_closed mode behind free =
+    HasBadHost.open_bracket refl (λ x rest a. not_free right_bracket x rest (subst (λ t. FreeOf right_bracket t) (tails a.joined) free))
+
+-- a closing one that another byte than a colon follows
+pub not_ended : (mode : Mode) (behind x rest : List ℕ) → FreeOf right_bracket x → behind ≡ x ++ right_bracket ∷ rest → ¬ EndsHost rest → HasBadHost mode (left_bracket ∷ behind)
+not_ended mode behind x rest free e open_end =
+    HasBadHost.open_bracket refl (λ y last a. open_end (subst EndsHost (cut_unique right_bracket y x last rest a.closed free (sym (tails a.joined) ∙ e)).1 a.followed))
+
+-- brackets around what stands for nothing
+pub not_inner : (mode : Mode) (behind x rest : List ℕ) → FreeOf right_bracket x → behind ≡ x ++ right_bracket ∷ rest → EndsHost rest → IsNoInner mode x → HasBadHost mode (left_bracket ∷ behind)
+not_inner mode behind x rest free e ended none =
+    HasBadHost.brackets x rest record { closed = free; joined = ap (λ t. left_bracket ∷ t) e; followed = ended } none
+
+-- brackets with a colon and no port behind them
+pub no_port_behind : (mode : Mode) (behind x rest digits : List ℕ) → FreeOf right_bracket x → behind ≡ x ++ right_bracket ∷ rest → rest ≡ colon ∷ digits → IsNoPort mode digits → HasBadPort mode (left_bracket ∷ behind)
+no_port_behind mode behind x rest digits free e f none =
+    HasBadPort.bracketed x digits free (ap (λ t. left_bracket ∷ t) (e ∙ ap (λ t. x ++ right_bracket ∷ t) f)) none
+
+-- nothing follows where no colon does
+pub nothing_follows : (rest : List ℕ) → EndsHost rest → begins_with colon rest ≡ false → rest ≡ []
+nothing_follows rest (inl e) none = e
+nothing_follows rest (inr h) none = absurd (both_ways _ none h)
