@@ -1,5 +1,5 @@
 -- std's relation between a text and the IPv6 address that it writes, against the definition of an IPv6 text.
-use Rattle.std.proofs.Common.{◌≡◌, ℕ, suc, ◌+◌, ◌<◌, ◌≤◌, Bool, true, false, List, [], ◌∷◌, ◌++◌, length, replicate, ◌-◌, decimal, Ok, Err, Result, IsTrue, ◌↔◌, refl, sym, ap, ◌∙◌, subst, inl, inr, append_assoc, append-nil, arith}
+use Rattle.std.proofs.Common.{◌≡◌, ℕ, ◌+◌, ◌<◌, Bool, true, false, List, [], ◌∷◌, ◌++◌, length, replicate, ◌-◌, decimal, Ok, Err, Result, IsTrue, ◌↔◌, refl, sym, ap, ◌∙◌, subst, inl, inr, append_assoc, append-nil, arith}
 use Rattle.std.proofs.lemmas.Bool.{and_parts, and_from, false≢true}
 use Rattle.std.proofs.lemmas.Bool.Decides.{nat_tests}
 use Rattle.std.specs.List.{list_all}
@@ -11,7 +11,7 @@ use Rattle.std.specs.Net.Text.{dotted_text}
 use Rattle.std.specs.Result.{is_ok}
 use Rattle.std.specs.declared.net.ipv6_addr.Ipv6Addr.{Ipv6Addr}
 use Rattle.gix_url.specs.Bytes.{colon, dot}
-use Rattle.gix_url.specs.Addresses.{IsGroup, IsOctet, IsIpv4Text, joined_by, AreItems, IsFullAddress, IsShortAddress, IsIpv6Text}
+use Rattle.gix_url.specs.Addresses.{IsGroup, IsIpv4Text, joined_by, AreItems, IsIpv6Text}
 
 -- a hexadecimal digit by its class is one by its value
 digit_by_value : (b : ℕ) → is_ascii_hexdigit b ≡ true → digit_value b < 16
