@@ -103,10 +103,6 @@ nothing_named piece port (Names.plain_colon _ _ _ _ _ h _) = cc
 nothing_named piece port (Names.plain_port _ _ _ _ _ _ _ _ h _) = cc
 nothing_named piece port (Names.colons _ _ _ _ _ _ h _) = cc
 
--- a host that is named is text
-pub bare_utf8 : (piece host : List ℕ) (port : Option ℕ) → Names bare piece (Some host) port → IsUtf8 host
-bare_utf8 piece host port h = ?
-
 -- where nothing is named no host is
 pub nothing_means : (piece meant : List ℕ) (port : Option ℕ) → Names bare piece None port → ¬ NamesHost piece meant
 nothing_means piece meant port h k =

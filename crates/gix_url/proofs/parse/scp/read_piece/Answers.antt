@@ -1,12 +1,14 @@
 -- The host that a piece names is text, and comes without a port.
 use Rattle.std.proofs.Common.{None, Some, string_bytes}
 use Rattle.gix_url.specs.HostPieces.{host_text}
+use Rattle.gix_url.specs.Hosts.Mode.{bare}
 use Rattle.gix_url.specs.ScpPieces.{PieceFlaw}
-use Rattle.gix_url.proofs.ScpLemmas.{bare_utf8, nothing_named, nothing_means, piece_found}
+use Rattle.gix_url.proofs.HostLemmas.{names_utf8}
+use Rattle.gix_url.proofs.ScpLemmas.{nothing_named, nothing_means, piece_found}
 use Rattle.gix_url.proofs.parse.scp.read_piece.Goals as goal
 
 pub build-requires : goal.build-requires
-build-requires c = bare_utf8 c.args.piece.now (host_text c.in-Ok-Some.named) c.in-Ok-Some.named.port (rw c.in-Ok-Some.field-0-is at c.in-Ok-Some.ensures.named)
+build-requires c = names_utf8 bare c.args.piece.now (host_text c.in-Ok-Some.named) c.in-Ok-Some.named.port (rw c.in-Ok-Some.field-0-is at c.in-Ok-Some.ensures.named)
 
 pub returns-in-Err-clause-refused : goal.returns-in-Err-clause-refused
 returns-in-Err-clause-refused c =
