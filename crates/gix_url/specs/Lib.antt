@@ -7,6 +7,7 @@ pub mod AddressTest
 pub mod Hosts
 pub mod Schemes
 pub mod Authority
+pub mod Walks
 pub mod Grammar
 pub mod Text
 pub mod Settled
