@@ -11,6 +11,7 @@ pub mod Walks
 pub mod Grammar
 pub mod Text
 pub mod Settled
+pub mod SettledParts
 pub mod Flaws
 pub mod Views
 pub mod Url
