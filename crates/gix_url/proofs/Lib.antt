@@ -5,3 +5,7 @@ pub mod AddressLemmas
 pub mod AddressReader
 pub mod EscapeLemmas
 pub mod LengthLemmas
+pub mod EscapeLemmas
+pub mod AddressLemmas
+pub mod AddressReader
+pub mod HostLemmas

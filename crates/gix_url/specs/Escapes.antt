@@ -43,7 +43,12 @@ is_user_escaped b = is_password_escaped b || b == colon
 abbrev pub HoldsExactly : AsciiSet → (ℕ → Bool) → Type 0
 HoldsExactly set test = (b : ℕ) → b < 128 → contains set b ≡ test b
 
--- the text with each `%` written as the escape of `%`
+-- the text with each `%` written as its own escape, which decodes to the text
 abbrev pub escaped_percents : List ℕ → List ℕ
 escaped_percents [] = []
 escaped_percents (b ∷ bs) = if b == percent_sign then 37 ∷ 50 ∷ 53 ∷ escaped_percents bs else b ∷ escaped_percents bs
+
+-- a retained spelling matches where it decodes to the path
+abbrev pub Matches : Option (List ℕ) → List ℕ → Type 0
+Matches None path = Unit {0} → ⊥
+Matches (Some spelling) path = percent_decode spelling ≡ path
