@@ -9,3 +9,4 @@ pub mod EscapeLemmas
 pub mod AddressLemmas
 pub mod AddressReader
 pub mod HostLemmas
+pub mod ShapeLemmas

@@ -17,4 +17,5 @@ pub mod Views
 pub mod Url
 pub mod HostPieces
 pub mod UrlPieces
+pub mod Shapes
 pub mod Readings

@@ -6,6 +6,8 @@ ghost use Rattle.gix_url.specs.Grammar.{Spells};
 ghost use Rattle.gix_url.specs.Flaws.{Flaw};
 ghost use Rattle.gix_url.specs.Readings.{Refuses};
 
+mod classify;
+
 use crate::error::Error;
 use crate::location::Url;
 use bstr::BStr;
