@@ -10,3 +10,4 @@ pub mod AddressLemmas
 pub mod AddressReader
 pub mod HostLemmas
 pub mod ShapeLemmas
+pub mod SettledLemmas

@@ -6,7 +6,7 @@ use Rattle.gix_url.specs.Value.{Location}
 use Rattle.gix_url.specs.Value.Protocol.{ssh, git, http, https, helper_url}
 use Rattle.gix_url.specs.Bytes.{colon, left_bracket, right_bracket, slash, FreeOf, begins_with, Holds, is_scheme_text}
 use Rattle.gix_url.specs.Escapes.{has_percent}
-use Rattle.gix_url.specs.Addresses.{IsZone, Literal}
+use Rattle.gix_url.specs.Addresses.{Literal}
 use Rattle.gix_url.specs.Schemes.{is_known_scheme, protocol_text}
 use Rattle.gix_url.specs.Text.{text, canonical_text}
 use Rattle.gix_url.specs.Settled.{HasHostAlone, HasFittingText, IsFairSpelling, IsRawPath, IsScpName, IsScpUser, IsNormalAddress, IsSettledUrl, IsWebName, LooksLikeHelper, begins_at_home, begins_with_slashes}
@@ -58,10 +58,6 @@ IsBracketedAddress host = (address : List ℕ) × IsNormalAddress address × (ho
 -- what stands between brackets, or none where the text isn't in brackets
 abbrev pub StripsBrackets : List ℕ → Option (Bor (List ℕ)) → Type 0
 StripsBrackets host r = MatchOption r ((inner : List ℕ) → ¬ (host ≡ left_bracket ∷ (inner ++ right_bracket ∷ []))) (λ inner. host ≡ left_bracket ∷ (inner.now ++ right_bracket ∷ []))
-
--- `25`, as it stands behind a `%`, and a zone
-abbrev pub IsEscapedZone : List ℕ → Type 0
-IsEscapedZone text = (zone : List ℕ) × IsZone zone × (text ≡ 50 ∷ (53 ∷ zone))
 
 -- a host of HTTP that may have a colon behind it
 abbrev pub IsClosedHost : List ℕ → Type 0

@@ -6,7 +6,7 @@ ghost use Rattle.gix_url.specs.Grammar.{Spells};
 ghost use Rattle.gix_url.specs.Flaws.{Flaw};
 ghost use Rattle.gix_url.specs.Readings.{Refuses};
 
-mod classify;
+pub(crate) mod classify;
 
 use crate::error::Error;
 use crate::location::Url;

@@ -1,14 +1,13 @@
 //! The settled hosts of URLs.
 
 ghost use Rattle.std.specs.Prelude.{◌≡◌, ◌↔◌, IsTrue, Option};
-ghost use Rattle.gix_url.specs.Addresses.{IsZone};
 ghost use Rattle.gix_url.specs.Settled.{IsBareHost, IsBracketedHost, IsWebHost, IsWebName};
-ghost use Rattle.gix_url.specs.SettledParts.{IsBracketedAddress, IsBracketedLiteral, IsClosedHost, IsEscapedZone, IsNormalLiteral, StripsBrackets};
+ghost use Rattle.gix_url.specs.SettledParts.{IsBracketedAddress, IsBracketedLiteral, IsClosedHost, IsNormalLiteral, StripsBrackets};
 
 use super::parts::{is_normal, is_normal_address, is_normal_name};
 use crate::bytes::{after, before, cut};
 use crate::escape::{has_percent, is_sound};
-use crate::host::{are_http_host_bytes, is_zone};
+use crate::host::{are_http_host_bytes, is_escaped_zone};
 
 /// Whether the text is a settled host of HTTP, beside this port.
 pub(crate) fn is_web_host(host: &[u8], port: Option<u16>) -> bool
@@ -58,16 +57,6 @@ fn is_normal_literal(text: &[u8]) -> bool
     match cut(text, b'%') {
         None => is_normal_address(text),
         Some((address, escaped)) => is_normal_address(address) && is_escaped_zone(escaped),
-    }
-}
-
-/// Whether the text is `25`, as it stands behind a `%`, and a zone.
-fn is_escaped_zone(text: &[u8]) -> bool
-    ensures { IsTrue result ↔ IsEscapedZone text.now }
-{
-    match text {
-        [b'2', b'5', zone @ ..] => is_zone(zone),
-        _ => false,
     }
 }
 
