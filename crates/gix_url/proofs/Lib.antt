@@ -10,3 +10,10 @@ pub mod FormLemmas
 pub mod UniqueLemmas
 pub mod KeptLemmas
 pub mod ScpLemmas
+pub mod LengthLemmas
+pub mod EscapeLemmas
+pub mod AddressLemmas
+pub mod AddressReader
+pub mod HostLemmas
+pub mod ShapeLemmas
+pub mod SettledLemmas

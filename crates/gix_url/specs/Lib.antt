@@ -7,9 +7,11 @@ pub mod AddressTest
 pub mod Hosts
 pub mod Schemes
 pub mod Authority
+pub mod Walks
 pub mod Grammar
 pub mod Text
 pub mod Settled
+pub mod SettledParts
 pub mod Flaws
 pub mod Views
 pub mod Url

@@ -288,7 +288,7 @@ fn read_text(mode: Mode, text: &[u8]) -> Option<HostPiece<'_>>
 }
 
 /// Whether each byte may stand in the host of an HTTP location.
-fn are_http_host_bytes(text: &[u8]) -> bool
+pub(crate) fn are_http_host_bytes(text: &[u8]) -> bool
     ensures { result ≡ list_all spec.is_http_host_byte text.now }
 {
     text.iter().all(|byte| is_http_host_byte(*byte))
@@ -355,7 +355,7 @@ fn is_literal(text: &[u8]) -> bool
 }
 
 /// Whether the text is `25`, as it stands behind a `%`, and a zone.
-fn is_escaped_zone(text: &[u8]) -> bool
+pub(crate) fn is_escaped_zone(text: &[u8]) -> bool
     ensures { IsTrue result ↔ IsEscapedZone text.now }
 {
     let Some(rest) = after(text, b'2') else {
