@@ -4,3 +4,6 @@ pub mod AddressTestLemmas
 pub mod AddressLemmas
 pub mod AddressReader
 pub mod EscapeLemmas
+pub mod EscapeLemmas
+pub mod AddressLemmas
+pub mod AddressReader
