@@ -1,8 +1,13 @@
--- What the slices stand for that the reader of URLs answers.
-use Rattle.std.specs.Prelude.{ℕ, List, Option, option_map}
+-- What the slices stand for that the reader of URLs answers, and what it tells of them.
+use Rattle.std.specs.Prelude.{◌≡◌, ℕ, Bool, true, List, ◌∷◌, ◌++◌, Option, option_map, IsSome, IsUtf8}
 use Rattle.std.specs.Borrow.{Bor}
 use Rattle.percent_encoding.specs.Percent.{percent_decode}
 use Rattle.gix_url.specs.declared.simple_url.ParsedUrl.{ParsedUrl}
+use Rattle.gix_url.specs.declared.simple_url.AuthorityParts.{AuthorityParts}
+use Rattle.gix_url.specs.declared.simple_url.CredentialParts.{CredentialParts}
+use Rattle.gix_url.specs.Bytes.{colon, FreeOf}
+use Rattle.gix_url.specs.Hosts.{Mode}
+use Rattle.gix_url.specs.Authority.{Credentials, Authority}
 use Rattle.gix_url.specs.Grammar.{UrlParts}
 use Rattle.gix_url.specs.HostPieces.{host_of, port_of}
 
@@ -10,13 +15,42 @@ use Rattle.gix_url.specs.HostPieces.{host_of, port_of}
 abbrev pub decoded_piece : Bor (List ℕ) → List ℕ
 decoded_piece piece = percent_decode piece.now
 
+-- the text that an escaped piece stands for, if there is one
+abbrev pub decoded_option : Option (Bor (List ℕ)) → Option (List ℕ)
+decoded_option piece = option_map decoded_piece piece
+
 -- the parts of a URL that was read
 abbrev pub parts_of : ParsedUrl → UrlParts
 parts_of url = record {
   scheme = url.scheme.now;
-  user = option_map decoded_piece url.user;
-  password = option_map decoded_piece url.password;
+  user = decoded_option url.user;
+  password = decoded_option url.password;
   host = host_of url.host;
   port = port_of url.host;
   path = url.path.now;
 }
+
+-- user information holds the user and the password that were read of it
+abbrev pub HoldsCredentials : List ℕ → CredentialParts → Type 0
+HoldsCredentials information parts = Credentials information (decoded_option parts.user) (decoded_option parts.password)
+
+-- a part of user information decodes to no text
+pub data HasNoText (information : List ℕ) : Type 0 where
+  user : FreeOf colon information → ¬ IsUtf8 (percent_decode information) → HasNoText information
+  user_before_password : (u w : List ℕ) → FreeOf colon u → information ≡ u ++ colon ∷ w → ¬ IsUtf8 (percent_decode u) → HasNoText information
+  password : (u w : List ℕ) → FreeOf colon u → information ≡ u ++ colon ∷ w → ¬ IsUtf8 (percent_decode w) → HasNoText information
+
+-- an authority holds these, and a host where one is needed
+pub record HoldsHosted (mode : Mode) (needed : Bool) (authority : List ℕ) (user password host : Option (List ℕ)) (port : Option ℕ) : Type 0 where
+  pub named : Authority mode authority user password host port
+  pub hosted : needed ≡ true → IsSome host
+
+-- an authority holds the parts that were read of it
+abbrev pub HoldsParts : Mode → Bool → List ℕ → AuthorityParts → Type 0
+HoldsParts mode needed authority parts =
+    HoldsHosted mode needed authority (decoded_option parts.credentials.user) (decoded_option parts.credentials.password) (host_of parts.host) (port_of parts.host)
+
+-- an authority holds nothing, or not the host that is needed
+abbrev pub IsNoAuthority : Mode → Bool → List ℕ → Type 0
+IsNoAuthority mode needed authority =
+    (user password host : Option (List ℕ)) (port : Option ℕ) → ¬ HoldsHosted mode needed authority user password host port
