@@ -4,6 +4,4 @@ pub mod AddressTestLemmas
 pub mod AddressLemmas
 pub mod AddressReader
 pub mod EscapeLemmas
-pub mod EscapeLemmas
-pub mod AddressLemmas
-pub mod AddressReader
+pub mod UrlLemmas
