@@ -1,6 +1,6 @@
 -- URLs: what their text determines of their pieces, and what leaves no reading.
 use Rattle.std.proofs.Common.{◌≡◌, ℕ, ◌+◌, ◌<◌, Bool, true, false, ◌⊎◌, inl, inr, List, [], ◌∷◌, ◌++◌, length, Option, Some, None, refl, sym, ap, subst, ◌∙◌, arith, codes, length-append, append_assoc}
-use Rattle.std.specs.Prelude.{IsSome, IsUtf8, IsTrue, bytes_eq}
+use Rattle.std.specs.Prelude.{IsSome, is_some, IsUtf8, IsTrue, bytes_eq}
 use Rattle.std.proofs.lemmas.Bool.{both_ways, false≢true}
 use Rattle.std.proofs.lemmas.List.{nil_from_length}
 use Rattle.percent_encoding.specs.Percent.{percent_decode}
@@ -17,6 +17,8 @@ use Rattle.gix_url.specs.Authority.Credentials.{user_alone, with_password}
 use Rattle.gix_url.specs.Authority.Authority.{host_alone, with_user}
 use Rattle.gix_url.specs.Grammar.{UrlParts, SpellsParts}
 use Rattle.gix_url.specs.Flaws.{NameFlaw, AuthorityFlaw, HasBadUser, PieceOf, UrlShape, OtherShape, UrlCut, UrlFlaw}
+use Rattle.gix_url.specs.declared.host.NamedHost.{NamedHost}
+use Rattle.gix_url.specs.HostPieces.{host_of, port_of}
 use Rattle.gix_url.specs.UrlPieces.{HasNoText, HoldsHosted, IsNoAuthority}
 use Rattle.gix_url.proofs.CutLemmas.{not_free, cut_unique, last_cut_unique, path_cut_unique, mark_cut_unique, held_free, scheme_text_free}
 use Rattle.gix_url.proofs.AddressLemmas.{address_nonempty}
@@ -110,6 +112,16 @@ pub none_not_some : {A B : Type 0} (host : Option A) → host ≡ None → IsSom
 none_not_some None e h = absurd (false≢true h)
 none_not_some (Some x) e h = absurd (cc)
 
+-- a host that was read is one that is named
+pub some_host : (host : Option NamedHost) → is_some host ≡ true → IsSome (host_of host)
+some_host None e = absurd (false≢true e)
+some_host (Some named) e = refl
+
+-- and where none was read, none is named
+pub none_host : (host : Option NamedHost) → is_some host ≡ false → host_of host ≡ None
+none_host None e = refl
+none_host (Some named) e = absurd (both_ways true e refl)
+
 -- ---- authorities
 
 -- an authority without user information is a host and a port
@@ -148,9 +160,9 @@ no_host_behind mode needed text information piece free joined empty user passwor
     none_not_some host (empty_names_nothing mode piece host port empty pieces.1) pieces.2
 
 -- no authority stands where a host is needed and there is nothing
-pub no_host_alone : (mode : Mode) (text : List ℕ) → FreeOf at_sign text → text ≡ [] → IsNoAuthority mode true text
-no_host_alone mode text free empty user password host port h =
-    none_not_some host (empty_names_nothing mode text host port empty (authority_alone mode text user password host port free h.named)) (h.hosted refl)
+pub no_host_alone : (mode : Mode) (needed : Bool) (text : List ℕ) → needed ≡ true → FreeOf at_sign text → text ≡ [] → IsNoAuthority mode needed text
+no_host_alone mode needed text need free empty user password host port h =
+    none_not_some host (empty_names_nothing mode text host port empty (authority_alone mode text user password host port free h.named)) (h.hosted need)
 
 -- user information that holds what is no text is a flaw of its authority
 pub bad_user_flaw : (mode : Mode) (needed : Bool) (text information piece : List ℕ) → FreeOf at_sign piece → text ≡ information ++ at_sign ∷ piece → HasNoText information → AuthorityFlaw mode needed text fault.BadCharacter
