@@ -19,7 +19,7 @@ use Rattle.gix_url.specs.Grammar.{UrlParts, SpellsParts}
 use Rattle.gix_url.specs.Flaws.{NameFlaw, AuthorityFlaw, HasBadUser, PieceOf, UrlShape, OtherShape, UrlCut, UrlFlaw}
 use Rattle.gix_url.specs.declared.host.NamedHost.{NamedHost}
 use Rattle.gix_url.specs.HostPieces.{host_of, port_of}
-use Rattle.gix_url.specs.UrlPieces.{HasNoText, HoldsHosted, IsNoAuthority}
+use Rattle.gix_url.specs.UrlPieces.{CutsRest, HasNoText, HoldsHosted, IsNoAuthority}
 use Rattle.gix_url.proofs.CutLemmas.{not_free, cut_unique, last_cut_unique, path_cut_unique, mark_cut_unique, held_free, scheme_text_free}
 use Rattle.gix_url.proofs.AddressLemmas.{address_nonempty}
 use Rattle.gix_url.proofs.EscapeLemmas.{decode_empty}
@@ -192,6 +192,34 @@ parts_cut b scheme authority path parts cut h =
     let starts = subst (λ s. StartsPath (is_web_scheme s) parts.path) pieces.0 h.path_starts in
     let rest = path_cut_unique (is_web_scheme scheme) h.authority authority parts.path path before cut.before_path starts cut.path_starts pieces.1 in
     (pieces.0, rest.0, rest.1)
+
+-- a scheme, and what follows its `://` cut into an authority and a path, cut the URL
+pub url_cut : {b scheme rest authority path : List ℕ} → OtherShape b scheme rest → true ≡ is_scheme_text scheme → CutsRest scheme rest authority path → UrlCut b scheme authority path
+url_cut {b} {scheme} shape named cut = record {
+  shape = subst (λ x. OtherShape b scheme x) cut.joined shape;
+  scheme_text = sym named;
+  before_path = cut.before_path;
+  path_starts = cut.path_starts;
+}
+
+-- a text that passes each check is a URL
+pub spelled : {b scheme authority path : List ℕ} {user password host : Option (List ℕ)} {port : Option ℕ} → UrlCut b scheme authority path → IsUtf8 b → LacksWhiteSpace b → true ≡ is_sound b → FreeOf backslash authority → Fits scheme (authority ++ path) → HoldsHosted (mode_of scheme) (requires_host scheme) authority user password host port → IsUtf8 (percent_decode path) → SpellsParts b (record { scheme = scheme; user = user; password = password; host = host; port = port; path = path })
+spelled {b} {scheme} {authority} {path} cut text no_white_space sound no_backslash fits held path_text = record {
+  authority = authority;
+  joined = cut.shape.shape.joined;
+  scheme_text = cut.scheme_text;
+  not_file = cut.shape.not_file;
+  no_backslash = no_backslash;
+  before_path = cut.before_path;
+  path_starts = cut.path_starts;
+  text = text;
+  sound = sym sound;
+  no_white_space = no_white_space;
+  fits = fits;
+  named = held.named;
+  hosted = held.hosted;
+  path_text = path_text;
+}
 
 -- no URL stands where what is before `://` is no scheme
 pub no_scheme_refutes : (b front rest : List ℕ) (parts : UrlParts) → OtherShape b front rest → is_scheme_text front ≡ false → ¬ SpellsParts b parts

@@ -5,8 +5,10 @@ use Rattle.percent_encoding.specs.Percent.{percent_decode}
 use Rattle.gix_url.specs.declared.simple_url.ParsedUrl.{ParsedUrl}
 use Rattle.gix_url.specs.declared.simple_url.AuthorityParts.{AuthorityParts}
 use Rattle.gix_url.specs.declared.simple_url.CredentialParts.{CredentialParts}
-use Rattle.gix_url.specs.Bytes.{colon, FreeOf}
+use Rattle.gix_url.specs.Bytes.{colon, Lacks, FreeOf}
+use Rattle.gix_url.specs.Cuts.{is_path_start, StartsPath}
 use Rattle.gix_url.specs.Hosts.{Mode}
+use Rattle.gix_url.specs.Schemes.{is_web_scheme}
 use Rattle.gix_url.specs.Authority.{Credentials, Authority}
 use Rattle.gix_url.specs.Grammar.{UrlParts}
 use Rattle.gix_url.specs.HostPieces.{host_of, port_of}
@@ -29,6 +31,12 @@ parts_of url = record {
   port = port_of url.host;
   path = url.path.now;
 }
+
+-- what follows the `://` of a URL with this scheme is its authority and its path
+pub record CutsRest (scheme rest authority path : List ℕ) : Type 0 where
+  pub joined : rest ≡ authority ++ path
+  pub before_path : Lacks (is_path_start (is_web_scheme scheme)) authority
+  pub path_starts : StartsPath (is_web_scheme scheme) path
 
 -- user information holds the user and the password that were read of it
 abbrev pub HoldsCredentials : List ℕ → CredentialParts → Type 0

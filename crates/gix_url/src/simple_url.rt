@@ -12,7 +12,7 @@ ghost use Rattle.gix_url.specs.Grammar.{SpellsParts, UrlParts};
 ghost use Rattle.gix_url.specs.HostPieces.{strictness};
 ghost use Rattle.gix_url.specs.Schemes as schemes;
 ghost use Rattle.gix_url.specs.Bytes.{FreeOf, at_sign, colon};
-ghost use Rattle.gix_url.specs.UrlPieces.{HasNoText, HoldsCredentials, HoldsParts, IsNoAuthority, decoded_option, parts_of};
+ghost use Rattle.gix_url.specs.UrlPieces.{CutsRest, HasNoText, HoldsCredentials, HoldsParts, IsNoAuthority, decoded_option, parts_of};
 
 use crate::bytes::{cut, cut_before_path, is_free_of, is_scheme_text, last_cut};
 use crate::error::UrlFault;
@@ -70,7 +70,7 @@ pub(crate) fn read_url<'a>(text: &'a str, scheme: &'a [u8], rest: &'a [u8]) -> R
     if !is_scheme_text(scheme) {
         return Err(UrlFault::NoScheme);
     }
-    let (authority, path) = cut_before_path(rest, is_web_scheme(scheme));
+    let (authority, path) = cut_rest(scheme, rest);
     if !is_free_of(authority, b'\\') {
         return Err(UrlFault::BadCharacter);
     }
@@ -85,6 +85,13 @@ pub(crate) fn read_url<'a>(text: &'a str, scheme: &'a [u8], rest: &'a [u8]) -> R
         host: parts.host,
         path,
     })
+}
+
+/// The authority and the path of a URL with this scheme.
+fn cut_rest<'a>(scheme: &[u8], rest: &'a [u8]) -> (&'a [u8], &'a [u8])
+    ensures { CutsRest scheme.now rest.now result.0.now result.1.now }
+{
+    cut_before_path(rest, is_web_scheme(scheme))
 }
 
 /// Reads an authority, in which a host may be needed.
