@@ -1,5 +1,5 @@
 -- What the slices stand for that the reader of hosts answers, and what it tells of them.
-use Rattle.std.specs.Prelude.{◌≡◌, ℕ, Bool, List, [], ◌∷◌, ◌++◌, Option, Some, None, option_map, Result, MatchResult, if◌then◌else◌}
+use Rattle.std.specs.Prelude.{◌≡◌, ℕ, Bool, true, ◌⊎◌, List, [], ◌∷◌, ◌++◌, Option, Some, None, codes, option_map, Result, MatchResult, if◌then◌else◌}
 use Rattle.percent_encoding.specs.Percent.{percent_decode}
 use Rattle.gix_url.specs.declared.error.UrlFault.{UrlFault}
 use Rattle.gix_url.specs.declared.host.Mode as rust
@@ -7,8 +7,10 @@ use Rattle.gix_url.specs.declared.host.Mode.TheVariants as read
 use Rattle.gix_url.specs.declared.host.HostPiece.{HostPiece}
 use Rattle.gix_url.specs.declared.host.HostPiece.TheVariants.{Address, Kept, Decoded, Literal, DecodedLiteral, Bracketed}
 use Rattle.gix_url.specs.declared.host.NamedHost.{NamedHost}
-use Rattle.gix_url.specs.Bytes.{colon, left_bracket, right_bracket, lowercase}
-use Rattle.gix_url.specs.Hosts.{Mode, normal_host, Names, Number}
+use Rattle.gix_url.specs.Bytes.{colon, percent_sign, left_bracket, right_bracket, FreeOf, begins_with, lowercase}
+use Rattle.gix_url.specs.Addresses as Addresses
+use Rattle.gix_url.specs.Addresses.{IsZone}
+use Rattle.gix_url.specs.Hosts.{Mode, Inner, normal_host, Names, Number}
 use Rattle.gix_url.specs.Hosts.Mode.{strict, bare, loose}
 use Rattle.gix_url.specs.Flaws.{NameFlaw}
 
@@ -42,6 +44,28 @@ host_of named = option_map host_text named
 abbrev pub port_of : Option NamedHost → Option ℕ
 port_of None = None
 port_of (Some named) = named.port
+
+-- a host may end before the text: it is empty or begins with a colon
+abbrev pub EndsHost : List ℕ → Type 0
+EndsHost rest = (rest ≡ []) ⊎ (begins_with colon rest ≡ true)
+
+-- the text is an IPv6 literal: an address, and a zone with `%25` before it or nothing
+abbrev pub IsLiteralOf : List ℕ → List ℕ → List ℕ → Type 0
+IsLiteralOf text address zone = Addresses.Literal text (lowercase address ++ zone) × FreeOf percent_sign address
+
+-- `25` and a zone
+abbrev pub IsEscapedZone : List ℕ → Type 0
+IsEscapedZone text = (zone : List ℕ) × IsZone zone × (text ≡ codes "25" ++ zone)
+
+-- what the host of a literal holds: outside HTTP its zone is decoded
+abbrev pub shown_literal : Mode → List ℕ → List ℕ → List ℕ
+shown_literal strict address zone = lowercase address ++ zone
+shown_literal bare address zone = lowercase address ++ percent_decode zone
+shown_literal loose address zone = lowercase address ++ percent_decode zone
+
+-- the text between brackets stands for another, and the host is that one in brackets
+abbrev pub IsInner : Mode → List ℕ → List ℕ → Type 0
+IsInner mode text host = (inner : List ℕ) × Inner mode text inner × (host ≡ in_brackets inner)
 
 -- nothing follows a host, or a colon that stays with it, or a colon and a port
 pub data Follows (mode : Mode) (base rest : List ℕ) (host : Option (List ℕ)) (port : Option ℕ) : Type 0 where

@@ -12,9 +12,9 @@ ghost use Rattle.gix_url.specs.Bytes.{begins_with, colon, left_bracket, lowercas
 ghost use Rattle.gix_url.specs.Flaws.{IsNoHost, IsNoInner, IsNoPort, NameFlaw};
 ghost use Rattle.gix_url.specs.Hosts as spec;
 ghost use Rattle.gix_url.specs.Hosts.{HostText, Inner, IsAddressPiece, IsLiteral, IsManyColoned, Names, Number, ReadsAddress};
-ghost use Rattle.gix_url.specs.HostPieces.{Follows, ReadsName, host_of, host_text, in_brackets, meant, port_of, strictness};
+ghost use Rattle.gix_url.specs.HostPieces.{EndsHost, Follows, IsEscapedZone, IsInner, IsLiteralOf, ReadsName, host_of, host_text, in_brackets, meant, port_of, shown_literal, strictness};
 
-use crate::bytes::{after, before, cut, is_free_of};
+use crate::bytes::{after, before, cut, is_free_of, starts_with_byte};
 use crate::error::UrlFault;
 use crate::escape::{decodes_to_utf8, is_sound};
 use crate::ipv6::is_address;
@@ -58,7 +58,7 @@ pub(crate) struct NamedHost<'a> {
     pub(crate) port: Option<u16>,
 }
 
-/// Reads a host and a port, where the piece isn't empty.
+/// Reads a host and a port: none where the piece is empty.
 pub(crate) fn read_host(mode: Mode, piece: &[u8]) -> Result<Option<NamedHost<'_>>, UrlFault>
     ensures named { IfOk result (λ named. Names (strictness mode) piece.now (host_of named) (port_of named)) }
     ensures unnamed { IfErr result (λ fault. (host : Option (List ℕ)) (port : Option ℕ) → ¬ Names (strictness mode) piece.now host port) }
@@ -67,11 +67,19 @@ pub(crate) fn read_host(mode: Mode, piece: &[u8]) -> Result<Option<NamedHost<'_>
     if piece.is_empty() {
         return Ok(None);
     }
-    let named = match after(piece, b'[') {
-        Some(behind) => read_bracketed(mode, behind)?,
-        None => read_unbracketed(mode, piece)?,
-    };
+    let named = read_some(mode, piece)?;
     Ok(Some(named))
+}
+
+/// Reads a host and a port, where there is something to read.
+fn read_some(mode: Mode, piece: &[u8]) -> Result<NamedHost<'_>, UrlFault>
+    requires { 0 < length piece.now }
+    ensures { ReadsName (strictness mode) piece.now result }
+{
+    match after(piece, b'[') {
+        Some(behind) => read_bracketed(mode, behind),
+        None => read_unbracketed(mode, piece),
+    }
 }
 
 /// Reads what stands behind an opening bracket.
@@ -81,19 +89,26 @@ fn read_bracketed(mode: Mode, behind: &[u8]) -> Result<NamedHost<'_>, UrlFault>
     let Some((inner, rest)) = cut(behind, b']') else {
         return Err(UrlFault::BadCharacter);
     };
-    let Some(piece) = read_inner(mode, inner) else {
+    if !ends_host(rest) {
         return Err(UrlFault::BadCharacter);
-    };
-    if rest.is_empty() {
-        return Ok(alone(piece));
     }
-    let Some(digits) = after(rest, b':') else {
+    let Some(host) = read_inner(mode, inner) else {
         return Err(UrlFault::BadCharacter);
     };
-    match with_port(mode, piece, digits) {
+    let Some(digits) = after(rest, b':') else {
+        return Ok(alone(host));
+    };
+    match with_port(mode, host, digits) {
         Some(named) => Ok(named),
         None => Err(UrlFault::BadPort),
     }
+}
+
+/// Whether a host may end before the text: it is empty or begins with a colon.
+fn ends_host(rest: &[u8]) -> bool
+    ensures { IsTrue result ↔ EndsHost rest.now }
+{
+    rest.is_empty() || starts_with_byte(rest, b':')
 }
 
 /// Reads a piece without an opening bracket.
@@ -190,9 +205,13 @@ fn read_port(mode: Mode, digits: &[u8]) -> Option<u16>
     let Ok(digits) = str::from_utf8(digits) else {
         return None;
     };
-    match digits.parse::<u16>() {
-        Ok(port) if allows_port(mode, port) => Some(port),
-        _ => None,
+    let Ok(port) = digits.parse::<u16>() else {
+        return None;
+    };
+    if allows_port(mode, port) {
+        Some(port)
+    } else {
+        None
     }
 }
 
@@ -287,23 +306,17 @@ fn is_http_host_byte(byte: u8) -> bool
 
 /// The host that a text between brackets stands for.
 fn read_inner(mode: Mode, text: &[u8]) -> Option<HostPiece<'_>>
-    ensures { MatchOption result (IsNoInner (strictness mode) text.now) (λ piece. (inner : List ℕ) × Inner (strictness mode) text.now inner × (meant piece ≡ in_brackets inner)) }
+    ensures { MatchOption result (IsNoInner (strictness mode) text.now) (λ piece. IsInner (strictness mode) text.now (meant piece)) }
 {
     match read_literal(text) {
         Some((address, zone)) => Some(literal(mode, address, zone)),
-        None => {
-            if is_strict(mode) || !decodes_to_utf8(text) {
-                None
-            } else {
-                Some(HostPiece::Bracketed(text))
-            }
-        }
+        None => read_other(mode, text),
     }
 }
 
 /// The piece of a literal, which is decoded but for HTTP.
 fn literal<'a>(mode: Mode, address: &'a [u8], zone: &'a [u8]) -> HostPiece<'a>
-    ensures strict { strictness mode ≡ spec.Mode.strict → meant result ≡ in_brackets (lowercase address.now ++ zone.now) }
+    ensures { meant result ≡ in_brackets (shown_literal (strictness mode) address.now zone.now) }
 {
     match mode {
         Mode::Strict => HostPiece::Literal { address, zone },
@@ -311,30 +324,52 @@ fn literal<'a>(mode: Mode, address: &'a [u8], zone: &'a [u8]) -> HostPiece<'a>
     }
 }
 
+/// The host that a text between brackets stands for that is no literal.
+fn read_other(mode: Mode, text: &[u8]) -> Option<HostPiece<'_>>
+    requires { ¬ IsLiteral text.now }
+    ensures { MatchOption result (IsNoInner (strictness mode) text.now) (λ piece. IsInner (strictness mode) text.now (meant piece)) }
+{
+    match mode {
+        Mode::Strict => None,
+        Mode::Bare | Mode::Loose => {
+            if decodes_to_utf8(text) {
+                Some(HostPiece::Bracketed(text))
+            } else {
+                None
+            }
+        }
+    }
+}
+
 /// The address of an IPv6 literal, and its zone with the `%25` before it, or nothing where there is none.
 fn read_literal(text: &[u8]) -> Option<(&[u8], &[u8])>
-    ensures { MatchOption result (¬ IsLiteral text.now) (λ parts. address.Literal text.now (lowercase parts.0.now ++ parts.1.now)) }
+    ensures { MatchOption result (¬ IsLiteral text.now) (λ parts. IsLiteralOf text.now parts.0.now parts.1.now) }
 {
     let Some((address, escaped)) = cut(text, b'%') else {
-        return if is_address(text) {
-            Some((text, b""))
-        } else {
-            None
-        };
+        if is_address(text) {
+            return Some((text, b""));
+        }
+        return None;
     };
-    if is_address(address) && is_escaped_zone(escaped) {
-        Some((address, text.split_at(address.len()).1))
-    } else {
-        None
+    if !is_address(address) {
+        return None;
     }
+    if !is_escaped_zone(escaped) {
+        return None;
+    }
+    Some((address, text.split_at(address.len()).1))
 }
 
 /// Whether the text is `25`, as it stands behind a `%`, and a zone.
 fn is_escaped_zone(text: &[u8]) -> bool
+    ensures { IsTrue result ↔ IsEscapedZone text.now }
 {
-    match text {
-        [b'2', b'5', zone @ ..] => is_zone(zone),
-        _ => false,
+    let Some(rest) = after(text, b'2') else {
+        return false;
+    };
+    match after(rest, b'5') {
+        Some(zone) => is_zone(zone),
+        None => false,
     }
 }
 
