@@ -9,8 +9,7 @@ use Rattle.gix_url.specs.declared.error.UrlFault.TheVariants as fault
 use Rattle.gix_url.specs.Bytes.{colon, at_sign, backslash, left_bracket, Lacks, FreeOf, begins_with, Holds, LacksWhiteSpace, is_scheme_text}
 use Rattle.gix_url.specs.Cuts.{url_mark, is_path_start, StartsPath}
 use Rattle.gix_url.specs.Escapes.{is_sound}
-use Rattle.gix_url.specs.Addresses.{IsIpv6Text}
-use Rattle.gix_url.specs.Hosts.{Mode, HostText, Names, HoldsTwoColons, IsManyColoned, IsPlainHost, ReadsAddress}
+use Rattle.gix_url.specs.Hosts.{Mode, Names}
 use Rattle.gix_url.specs.Schemes.{is_web_scheme, mode_of, requires_host}
 use Rattle.gix_url.specs.Authority.{unless_empty, user_beside, Credentials, Authority, Fits}
 use Rattle.gix_url.specs.Authority.Credentials.{user_alone, with_password}
@@ -21,7 +20,7 @@ use Rattle.gix_url.specs.declared.host.NamedHost.{NamedHost}
 use Rattle.gix_url.specs.HostPieces.{host_of, port_of}
 use Rattle.gix_url.specs.UrlPieces.{CutsRest, HasNoText, HoldsHosted, IsNoAuthority}
 use Rattle.gix_url.proofs.CutLemmas.{not_free, cut_unique, last_cut_unique, path_cut_unique, mark_cut_unique, held_free, scheme_text_free}
-use Rattle.gix_url.proofs.AddressLemmas.{address_nonempty}
+use Rattle.gix_url.proofs.HostLemmas.{names_unique}
 use Rattle.gix_url.proofs.EscapeLemmas.{decode_empty}
 use Rattle.percent_encoding.proofs.PercentLemmas.{percent_decode-nil}
 
@@ -76,36 +75,9 @@ nothing_named mode piece host port (Names.plain_colon text named a t e h p) none
 nothing_named mode piece host port (Names.plain_port text named digits n a t d e h p) none = let wrong = sym h ∙ none in cc
 nothing_named mode piece host port (Names.colons named s r b m t h p) none = let wrong = sym h ∙ none in cc
 
--- a text with a byte in it isn't empty
-not_nothing : {A : Type 0} (x y : List ℕ) (c : ℕ) → [] ≡ x ++ c ∷ y → A
-not_nothing [] y c e = absurd (cc)
-not_nothing (b ∷ x) y c e = absurd (cc)
-
--- nothing is no address
-no_address : {A : Type 0} (mode : Mode) → ReadsAddress mode [] → A
-no_address mode (m, inl h) = absurd (omega (arith, address_nonempty [] h))
-no_address mode (m, inr (a, h, e)) = not_nothing a [] colon e
-
--- nothing holds no colons
-no_colons : {A : Type 0} → IsManyColoned [] → A
-no_colons (inl h) = absurd (false≢true h)
-no_colons (inr (x, y, z, e)) = not_nothing x (y ++ colon ∷ z) colon e
-
--- no text names no host
-named_nothing : (mode : Mode) (host : Option (List ℕ)) (port : Option ℕ) → Names mode [] host port → host ≡ None
-named_nothing mode host port (Names.nothing e h p) = h
-named_nothing mode host port (Names.bracketed x inner f i e h p) = absurd (cc)
-named_nothing mode host port (Names.bracketed_colon x inner f i e h p) = absurd (cc)
-named_nothing mode host port (Names.bracketed_port x inner digits n f i d e h p) = absurd (cc)
-named_nothing mode host port (Names.unbracketed a h p) = no_address mode a
-named_nothing mode host port (Names.plain named a t h p) = let some : 0 < 0 = a.nonempty in absurd (omega arith)
-named_nothing mode host port (Names.plain_colon text named a t e h p) = not_nothing text [] colon e
-named_nothing mode host port (Names.plain_port text named digits n a t d e h p) = not_nothing text digits colon e
-named_nothing mode host port (Names.colons named s r b m t h p) = no_colons m
-
 -- an empty text names no host
 pub empty_names_nothing : (mode : Mode) (piece : List ℕ) (host : Option (List ℕ)) (port : Option ℕ) → piece ≡ [] → Names mode piece host port → host ≡ None
-empty_names_nothing mode piece host port e h = named_nothing mode host port (subst (λ x. Names mode x host port) e h)
+empty_names_nothing mode piece host port e h = (names_unique mode piece host None port None h (Names.nothing e refl refl)).0
 
 -- nothing is not something
 pub none_not_some : {A B : Type 0} (host : Option A) → host ≡ None → IsSome host → B

@@ -1,11 +1,11 @@
 -- What the slices stand for that the reader of URLs answers, and what it tells of them.
-use Rattle.std.specs.Prelude.{◌≡◌, ℕ, Bool, true, List, ◌∷◌, ◌++◌, Option, option_map, IsSome, IsUtf8}
+use Rattle.std.specs.Prelude.{◌≡◌, ℕ, Bool, true, ◌⊎◌, List, [], ◌∷◌, ◌++◌, Option, option_map, IfSome, IsSome, IsUtf8}
 use Rattle.std.specs.Borrow.{Bor}
 use Rattle.percent_encoding.specs.Percent.{percent_decode}
 use Rattle.gix_url.specs.declared.simple_url.ParsedUrl.{ParsedUrl}
 use Rattle.gix_url.specs.declared.simple_url.AuthorityParts.{AuthorityParts}
 use Rattle.gix_url.specs.declared.simple_url.CredentialParts.{CredentialParts}
-use Rattle.gix_url.specs.Bytes.{colon, Lacks, FreeOf}
+use Rattle.gix_url.specs.Bytes.{colon, left_bracket, right_bracket, Lacks, FreeOf}
 use Rattle.gix_url.specs.Cuts.{is_path_start, StartsPath}
 use Rattle.gix_url.specs.Hosts.{Mode}
 use Rattle.gix_url.specs.Schemes.{is_web_scheme}
@@ -62,3 +62,19 @@ HoldsParts mode needed authority parts =
 abbrev pub IsNoAuthority : Mode → Bool → List ℕ → Type 0
 IsNoAuthority mode needed authority =
     (user password host : Option (List ℕ)) (port : Option ℕ) → ¬ HoldsHosted mode needed authority user password host port
+
+-- the user, the password and the host are UTF-8
+pub record AreTexts (parts : UrlParts) : Type 0 where
+  pub user : IfSome parts.user IsUtf8
+  pub password : IfSome parts.password IsUtf8
+  pub host : IfSome parts.host IsUtf8
+
+-- the text is brackets around another, with nothing or a colon behind them
+abbrev pub InBrackets : List ℕ → List ℕ → Type 0
+InBrackets text inside =
+    (text ≡ left_bracket ∷ (inside ++ right_bracket ∷ [])) ⊎ (text ≡ left_bracket ∷ (inside ++ right_bracket ∷ (colon ∷ [])))
+
+-- the text without a last c, where it ends in one, and else the text
+pub data DropsLast (c : ℕ) (text rest : List ℕ) : Type 0 where
+  dropped : text ≡ rest ++ c ∷ [] → DropsLast c text rest
+  kept : ((front : List ℕ) → ¬ (text ≡ front ++ c ∷ [])) → rest ≡ text → DropsLast c text rest

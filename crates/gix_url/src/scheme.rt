@@ -3,7 +3,7 @@
 //! It uses nothing of this crate. Its contract: names and default ports are those of the definitions, and a
 //! scheme's text stands for its protocol to the letter.
 
-ghost use Rattle.std.specs.Prelude.{◌≡◌, IfErr, IfOk, IsOk, MatchOption, bytes_eq, false, true};
+ghost use Rattle.std.specs.Prelude.{◌≡◌, IfErr, IfOk, IsOk, IsUtf8, MatchOption, bytes_eq, false, true};
 ghost use Rattle.gix_url.specs.Schemes.{protocol_of, protocol_text, default_port_of, is_known_scheme, is_ssh_scheme, is_web_scheme};
 ghost use Rattle.gix_url.specs.Views.{protocol};
 
@@ -44,6 +44,18 @@ impl Scheme {
             Some(scheme) => Ok(scheme),
             None => other(alloc, text),
         }
+    }
+
+    /// The same of bytes that are text.
+    pub(crate) fn from_bytes(alloc: Global, text: &[u8]) -> Result<Scheme, Error>
+        requires { IsUtf8 text.now }
+        ensures found { IfOk result (λ scheme. protocol scheme ≡ protocol_of text.now) }
+        ensures memory { IfErr result (λ e. e ≡ Error.Memory) }
+    {
+        let Ok(text) = str::from_utf8(text) else {
+            unreachable!()
+        };
+        Scheme::from_text(alloc, text)
     }
 
     /// The text that the scheme is written with. It takes no memory.

@@ -4,7 +4,7 @@
 //! stands for the location that the definitions give its parts, and each refusal has its flaw. Each part is
 //! decoded once, into memory of its own, and is edited in place; the text is copied into an error alone.
 
-ghost use Rattle.std.specs.Prelude.{◌≡◌, ◌<◌, ℕ, List, IfErr, IfOk, IfSome, IsUtf8, MatchOption, true, false, length, option_map, string_bytes};
+ghost use Rattle.std.specs.Prelude.{◌≡◌, ◌<◌, ◌⊎◌, ◌↔◌, ℕ, List, IsTrue, IfErr, IfOk, IfSome, IsUtf8, MatchOption, true, false, length, option_map, string_bytes};
 ghost use Rattle.bstr.specs.Owned.{bstring_bytes};
 ghost use Rattle.percent_encoding.specs.Percent.{percent_decode};
 ghost use Rattle.gix_url.specs.Authority.{Fits};
@@ -16,7 +16,8 @@ ghost use Rattle.gix_url.specs.HostPieces.{host_of};
 ghost use Rattle.gix_url.specs.Readings.{NoneBut};
 ghost use Rattle.gix_url.specs.Settled.{begins_at_home};
 ghost use Rattle.gix_url.specs.UrlPieces.{AreTexts, DropsLast, InBrackets, decoded_option, parts_of};
-ghost use Rattle.gix_url.specs.Value.{Location};
+ghost use Rattle.gix_url.specs.Value.{Location, path_alone};
+ghost use Rattle.gix_url.specs.Value.Protocol.{ext, http, https, ssh};
 ghost use Rattle.gix_url.specs.Views.{protocol};
 
 use crate::bytes::{after, before, is_free_of, starts_with_byte};
