@@ -5,4 +5,5 @@ pub mod AddressLemmas
 pub mod AddressReader
 pub mod EscapeLemmas
 pub mod UrlLemmas
+pub mod UrlLocationLemmas
 pub mod HostLemmas

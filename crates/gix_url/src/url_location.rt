@@ -12,7 +12,7 @@ ghost use Rattle.gix_url.specs.Bytes.{begins_with, left_bracket};
 ghost use Rattle.gix_url.specs.Flaws.{Flaw, MissesPath, OtherShape, UrlFlaw};
 ghost use Rattle.gix_url.specs.Grammar as grammar;
 ghost use Rattle.gix_url.specs.Grammar.{HostFor, MeansByProtocol, Peels, SpellsParts, SpellsUrl, path_for};
-ghost use Rattle.gix_url.specs.HostPieces.{host_of};
+ghost use Rattle.gix_url.specs.HostPieces.{host_of, port_of};
 ghost use Rattle.gix_url.specs.Readings.{NoneBut};
 ghost use Rattle.gix_url.specs.Settled.{begins_at_home};
 ghost use Rattle.gix_url.specs.UrlPieces.{AreTexts, DropsLast, InBrackets, decoded_option, parts_of};
