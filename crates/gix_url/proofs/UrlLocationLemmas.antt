@@ -151,7 +151,7 @@ path_missed {b} {parts} h need empty =
     MissesPath.in_url parts.scheme h.authority need (free_of_lacked (is_path_start (is_web_scheme parts.scheme)) slash h.authority h.before_path refl) (h.joined ∙ ap (λ p. parts.scheme ++ (codes "://" ++ (h.authority ++ p))) empty ∙ ap (λ a. parts.scheme ++ (codes "://" ++ a)) (append-nil h.authority))
 
 -- where the protocol is not that of `ext`, the parts decide
-pub means_as : (p : Protocol) (b : List ℕ) (parts : UrlParts) (v : Location) → ¬ (p ≡ ext) → MeansByProtocol p parts v → MeansAs p b parts v
+means_as : (p : Protocol) (b : List ℕ) (parts : UrlParts) (v : Location) → ¬ (p ≡ ext) → MeansByProtocol p parts v → MeansAs p b parts v
 means_as ssh b parts v other h = h
 means_as git b parts v other h = h
 means_as http b parts v other h = h
@@ -160,3 +160,11 @@ means_as file b parts v other h = h
 means_as ext b parts v other h = absurd (other refl)
 means_as (helper name) b parts v other h = h
 means_as (helper_url name) b parts v other h = h
+
+-- a URL that was read stands for what its parts mean, by the protocol of its scheme
+pub spelled_url : {b : List ℕ} {parts : UrlParts} {p : Protocol} {v : Location} → SpellsParts b parts → p ≡ protocol_of parts.scheme → ¬ (p ≡ ext) → MeansByProtocol p parts v → SpellsUrl b v
+spelled_url {b} {parts} {p} {v} h e other means = record {
+  parts = parts;
+  spelled = h;
+  means = subst (λ q. MeansAs q b parts v) e (means_as p b parts v other means);
+}

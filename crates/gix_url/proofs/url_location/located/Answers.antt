@@ -1,5 +1,6 @@
 -- The scheme decides: `ext` keeps the text, a missing path is told, and any other URL stands for its parts.
-use Rattle.gix_url.proofs.UrlLocationLemmas.{texts, scheme_utf8, needs_path, nil_tested, no_path_refutes, path_missed}
+use Rattle.std.proofs.lemmas.Bool.{false≢true}
+use Rattle.gix_url.proofs.UrlLocationLemmas.{texts, scheme_utf8, needs_path, nil_tested, no_path_refutes, path_missed, spelled_url}
 use Rattle.gix_url.proofs.url_location.located.Goals as goal
 
 pub from_bytes-requires : goal.from_bytes-requires
@@ -15,3 +16,10 @@ missing_path-requires-clause-flaw c =
 
 pub build-requires-clause-texts : goal.build-requires-clause-texts
 build-requires-clause-texts c = texts c.requires
+
+pub returns : goal.returns
+returns c = record {
+  found = spelled_url c.requires c.in_ok-scheme.ensures.found (λ e. false≢true (c.if-is_ext.ensures.1 e)) c.in_ok-build.ensures;
+  refused = tt;
+  flaw = tt;
+}
