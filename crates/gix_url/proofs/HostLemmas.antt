@@ -1,13 +1,12 @@
 -- Hosts and ports: what a piece of an authority looks like, that it names one host and one port at most, and none where a flaw stands.
-use Rattle.std.proofs.Common.{◌≡◌, ℕ, zero, suc, ◌+◌, ◌<◌, ◌≤◌, Bool, true, false, ◌==◌, ◌||◌, ◌⊎◌, inl, inr, List, [], ◌∷◌, ◌++◌, length, drop, Option, Some, None, Err, ◌^◌, rules, refl, sym, ap, subst, ◌∙◌, arith, append_assoc, length-append, codes}
+use Rattle.std.proofs.Common.{◌≡◌, ℕ, zero, suc, ◌+◌, ◌<◌, ◌≤◌, Bool, true, false, ◌==◌, ◌||◌, ◌⊎◌, inl, inr, List, [], ◌∷◌, ◌++◌, length, Option, Some, None, Err, ◌^◌, rules, refl, sym, ap, subst, ◌∙◌, arith, append_assoc, length-append, codes}
 use Rattle.std.specs.List.{list_all, list_any}
 use Rattle.std.specs.Char.{is_ascii_digit, to_ascii_lowercase}
 use Rattle.std.specs.Str.Parse.{IsNumeral, digits_value, without_leading_plus}
 use Rattle.std.proofs.lemmas.Str.Parse.{IsNumeralModel, numerals_by_value, parse_digits}
-use Rattle.std.proofs.lemmas.Bool.{both_ways, false≢true, and_parts, eq-eqb, eqb-true}
+use Rattle.std.proofs.lemmas.Bool.{cond-false, both_ways, false≢true, and_parts, eq-eqb, eqb-true}
 use Rattle.std.proofs.lemmas.Bool.Decides.{nat_tests}
 use Rattle.std.proofs.lemmas.List.{append-nil}
-use Rattle.std.proofs.Math.Seq.{drop-append_seam}
 use Rattle.std.proofs.lemmas.Str.{IsUtf8-from_ascii, IsUtf8-append}
 use Rattle.percent_encoding.proofs.PercentLemmas.{percent_decode-nil, percent_decode_escape, percent_decode_not_percent}
 use Rattle.std.specs.Str.{IsAscii, IsUtf8}
@@ -21,7 +20,7 @@ use Rattle.gix_url.specs.Hosts as spec
 use Rattle.gix_url.specs.Hosts.{Mode, HostText, IsLiteral, Bracketed, Inner, IsDigits, Number, IsAddressPiece, ReadsAddress, HoldsTwoColons, IsManyColoned, IsPlainHost, Names, normal_host}
 use Rattle.gix_url.specs.Hosts.Mode.{strict, bare, loose}
 use Rattle.gix_url.specs.Flaws.{IsNoPort, HasBadPort, IsPortPlace, IsNoHost, IsNoInner, BracketsAround, HasBadHost, NameFlaw}
-use Rattle.gix_url.specs.HostPieces.{EndsHost, Follows, IsEscapedZone, IsInner, IsLiteralOf, in_brackets, shown_literal}
+use Rattle.gix_url.specs.HostPieces.{EndsHost, Follows, IsEscapedZone, IsInner, in_brackets, lowercase_address, shown_literal}
 use Rattle.gix_url.proofs.CutLemmas.{heads, tails, class_cut_unique, cut_unique, free-append, free-cons, free_head_tail, free_of_all, free_or_cut, not_free}
 use Rattle.gix_url.proofs.AddressLemmas.{is_address_byte, address_bytes, address_free, address_two_colons, address_nonempty}
 
@@ -49,16 +48,28 @@ number_unique mode text m n h k = h.value ∙ sym k.value
 address_no_percent : (t : List ℕ) → IsIpv6Text t → FreeOf percent_sign t
 address_no_percent t h = address_free percent_sign t refl h
 
--- an IPv6 literal has one normal form
+-- an address in lower case, alone and with a `%` behind it
+lowercase_address_alone : (a : List ℕ) → FreeOf percent_sign a → lowercase_address a ≡ lowercase a
+lowercase_address_alone [] h = refl
+lowercase_address_alone (b ∷ a) h =
+    let (other, more) = free_head_tail percent_sign b a h in
+    cond-false (b == percent_sign) _ _ other ∙ ap (λ t. to_ascii_lowercase b ∷ t) (lowercase_address_alone a more)
+
+lowercase_address_before : (a z : List ℕ) → FreeOf percent_sign a → lowercase_address (a ++ percent_sign ∷ z) ≡ lowercase a ++ percent_sign ∷ z
+lowercase_address_before [] z h = refl
+lowercase_address_before (b ∷ a) z h =
+    let (other, more) = free_head_tail percent_sign b a h in
+    cond-false (b == percent_sign) _ _ other ∙ ap (λ t. to_ascii_lowercase b ∷ t) (lowercase_address_before a z more)
+
+-- the normal form of an IPv6 literal is in lower case up to its `%`
+pub literal_normal : (t n : List ℕ) → Literal t n → n ≡ lowercase_address t
+literal_normal t n (address h e) = e ∙ sym (lowercase_address_alone t (address_no_percent t h))
+literal_normal t n (zoned a z h zone is e) =
+    e ∙ sym (ap lowercase_address is ∙ lowercase_address_before a (50 ∷ (53 ∷ z)) (address_no_percent a h))
+
+-- so it is one
 pub literal_unique : (t m n : List ℕ) → Literal t m → Literal t n → m ≡ n
-literal_unique t m n (address h e) (address k f) = e ∙ sym f
-literal_unique t m n (address h e) (zoned a z k zone whole f) =
-    absurd (not_free percent_sign a (50 ∷ 53 ∷ z) (subst (λ x. FreeOf percent_sign x) whole (address_no_percent t h)))
-literal_unique t m n (zoned a z h zone whole e) (address k f) =
-    absurd (not_free percent_sign a (50 ∷ 53 ∷ z) (subst (λ x. FreeOf percent_sign x) whole (address_no_percent t k)))
-literal_unique t m n (zoned a z h zone whole e) (zoned b y k zone' whole' f) =
-    let parts = cut_unique percent_sign a b (50 ∷ 53 ∷ z) (50 ∷ 53 ∷ y) (address_no_percent a h) (address_no_percent b k) (sym whole ∙ whole') in
-    e ∙ ap (λ x. lowercase x ++ (codes "%25" ++ z)) parts.0 ∙ ap (λ x. lowercase b ++ (percent_sign ∷ x)) parts.1 ∙ sym f
+literal_unique t m n h k = literal_normal t m h ∙ sym (literal_normal t n k)
 
 -- a text between brackets stands for one text, outside HTTP
 bracketed_unique : (t m n : List ℕ) → Bracketed t m → Bracketed t n → m ≡ n
@@ -424,46 +435,59 @@ lowercase_no_percent (b ∷ a) h =
     let (other, more) = free_head_tail percent_sign b a h in
     free-cons percent_sign (to_ascii_lowercase b) (lowercase a) (byte_lowercase_percent b other) (lowercase_no_percent a more)
 
--- the address of a literal stays where the literal is decoded
-literal_decoded : (a z : List ℕ) → FreeOf percent_sign a → percent_decode (lowercase a ++ z) ≡ lowercase a ++ percent_decode z
-literal_decoded a z h = decoded_behind (lowercase a) z (lowercase_no_percent a h)
+-- an address stays as it is decoded
+address_decoded : (a : List ℕ) → FreeOf percent_sign a → percent_decode a ≡ a
+address_decoded a h = ap percent_decode (sym (append-nil a)) ∙ decoded_behind a [] h ∙ ap (λ t. a ++ t) percent_decode-nil ∙ append-nil a
+
+-- and `%25` behind it is a `%`
+zone_decoded : (a z : List ℕ) → FreeOf percent_sign a → percent_decode (a ++ percent_sign ∷ (50 ∷ (53 ∷ z))) ≡ a ++ percent_sign ∷ percent_decode z
+zone_decoded a z h =
+    decoded_behind a (percent_sign ∷ (50 ∷ (53 ∷ z))) h ∙ ap (λ t. a ++ t) (percent_decode_escape percent_sign 50 53 z refl (omega arith) (omega arith))
+
+-- a literal is decoded before or after it is lowercased
+literal_decoded : (t n : List ℕ) → Literal t n → percent_decode n ≡ lowercase_address (percent_decode t)
+literal_decoded t n (address h e) =
+    let free = address_no_percent t h in
+    ap percent_decode e ∙ address_decoded (lowercase t) (lowercase_no_percent t free) ∙ sym (ap lowercase_address (address_decoded t free) ∙ lowercase_address_alone t free)
+literal_decoded t n (zoned a z h zone is e) =
+    let free = address_no_percent a h in
+    ap percent_decode e ∙ zone_decoded (lowercase a) z (lowercase_no_percent a free)
+    ∙ sym (ap (λ x. lowercase_address (percent_decode x)) is ∙ ap lowercase_address (zone_decoded a z free) ∙ lowercase_address_before a (percent_decode z) free)
 
 -- a decoded literal is text
 literal_utf8 : (t n : List ℕ) → Literal t n → IsUtf8 (percent_decode n)
 literal_utf8 t n (address h e) =
-    let whole : percent_decode n ≡ lowercase t ++ percent_decode [] = ap percent_decode (e ∙ sym (append-nil (lowercase t))) ∙ literal_decoded t [] (address_no_percent t h) in
-    subst IsUtf8 (sym (whole ∙ ap (λ x. lowercase t ++ x) percent_decode-nil ∙ append-nil (lowercase t))) (address_lowercase_utf8 t h)
-literal_utf8 t n (zoned a z h zone whole e) =
-    let shown : percent_decode n ≡ lowercase a ++ (percent_sign ∷ percent_decode z) =
-    ap percent_decode e ∙ literal_decoded a (percent_sign ∷ (50 ∷ (53 ∷ z))) (address_no_percent a h)
-    ∙ ap (λ x. lowercase a ++ x) (percent_decode_escape percent_sign 50 53 z refl (omega arith) (omega arith)) in
+    let shown = ap percent_decode e ∙ address_decoded (lowercase t) (lowercase_no_percent t (address_no_percent t h)) in
+    subst IsUtf8 (sym shown) (address_lowercase_utf8 t h)
+literal_utf8 t n (zoned a z h zone is e) =
+    let shown = ap percent_decode e ∙ zone_decoded (lowercase a) z (lowercase_no_percent a (address_no_percent a h)) in
     subst IsUtf8 (sym shown) (IsUtf8-append (lowercase a) (percent_sign ∷ percent_decode z) (address_lowercase_utf8 a h) (IsUtf8-append (percent_sign ∷ []) (percent_decode z) (one_utf8 percent_sign (omega arith)) zone.text))
 
+-- outside HTTP a literal between brackets stands for its decoding
+bracketed_literal : (t n : List ℕ) → Literal t n → Bracketed t (lowercase_address (percent_decode t))
+bracketed_literal t n h = spec.Bracketed.literal n h (sym (literal_decoded t n h)) (subst IsUtf8 (literal_decoded t n h) (literal_utf8 t n h))
+
 -- a literal between brackets stands for what is shown of it
-pub literal_inner : (mode : Mode) (t a z : List ℕ) → IsLiteralOf t a z → Inner mode t (shown_literal mode a z)
-literal_inner strict t a z h = h.0
-literal_inner bare t a z h = spec.Bracketed.literal (lowercase a ++ z) h.0 (sym (literal_decoded a z h.1)) (subst IsUtf8 (literal_decoded a z h.1) (literal_utf8 t (lowercase a ++ z) h.0))
-literal_inner loose t a z h = spec.Bracketed.literal (lowercase a ++ z) h.0 (sym (literal_decoded a z h.1)) (subst IsUtf8 (literal_decoded a z h.1) (literal_utf8 t (lowercase a ++ z) h.0))
+pub literal_inner : (mode : Mode) (t : List ℕ) → IsLiteral t → Inner mode t (shown_literal mode t)
+literal_inner strict t (n, h) = subst (λ x. Literal t x) (literal_normal t n h) h
+literal_inner bare t (n, h) = bracketed_literal t n h
+literal_inner loose t (n, h) = bracketed_literal t n h
 
 -- ---- literals as they are read
 
 -- an address alone
-pub literal_alone : (t : List ℕ) → IsIpv6Text t → IsLiteralOf t t []
-literal_alone t h = (address h (append-nil (lowercase t)), address_no_percent t h)
+pub literal_alone : (t : List ℕ) → IsIpv6Text t → IsLiteral t
+literal_alone t h = (lowercase t, address h refl)
 
 -- an address, `%25` and a zone
-pub literal_zoned : (t a e : List ℕ) → t ≡ a ++ percent_sign ∷ e → IsIpv6Text a → IsEscapedZone e → IsLiteralOf t a (percent_sign ∷ e)
+pub literal_zoned : (t a e : List ℕ) → t ≡ a ++ percent_sign ∷ e → IsIpv6Text a → IsEscapedZone e → IsLiteral t
 literal_zoned t a e whole h (z, zone, is) =
-    (zoned a z h zone (whole ∙ ap (λ x. a ++ percent_sign ∷ x) is) (ap (λ x. lowercase a ++ percent_sign ∷ x) is), address_no_percent a h)
-
--- what stands behind a front
-pub behind_front : (t front rest : List ℕ) → t ≡ front ++ rest → drop (length front) t ≡ rest
-behind_front t front rest e = ap (λ x. drop (length front) x) e ∙ drop-append_seam front rest
+    (lowercase a ++ percent_sign ∷ (50 ∷ (53 ∷ z)), zoned a z h zone (whole ∙ ap (λ x. a ++ percent_sign ∷ x) is) refl)
 
 -- a text without `%` is a literal only as an address
-pub no_literal : (t : List ℕ) → FreeOf percent_sign t → ¬ IsIpv6Text t → ¬ IsLiteral t
-no_literal t f none (n, address h e) = none h
-no_literal t f none (n, zoned a z h zone whole e) = not_free percent_sign a (50 ∷ 53 ∷ z) (subst (λ x. FreeOf percent_sign x) whole f)
+pub literal_address : (t : List ℕ) → FreeOf percent_sign t → IsLiteral t → IsIpv6Text t
+literal_address t f (n, address h e) = h
+literal_address t f (n, zoned a z h zone whole e) = absurd (not_free percent_sign a (50 ∷ 53 ∷ z) (subst (λ x. FreeOf percent_sign x) whole f))
 
 -- a text with a `%` is one only as an address and a zone
 pub literal_parts : (t a e : List ℕ) → FreeOf percent_sign a → t ≡ a ++ percent_sign ∷ e → IsLiteral t → IsIpv6Text a × IsEscapedZone e
