@@ -1,23 +1,24 @@
 -- Hosts and ports: what a piece of an authority looks like, that it names one host and one port at most, and none where a flaw stands.
-use Rattle.std.proofs.Common.{◌≡◌, ℕ, zero, suc, ◌+◌, ◌<◌, ◌≤◌, Bool, true, false, ◌==◌, ◌||◌, ◌⊎◌, inl, inr, List, [], ◌∷◌, ◌++◌, length, Option, Some, None, Err, ◌^◌, rules, refl, sym, ap, subst, ◌∙◌, arith, append_assoc, length-append, codes}
+use Rattle.std.proofs.Common.{◌≡◌, ℕ, zero, suc, ◌+◌, ◌<◌, ◌≤◌, Bool, true, false, ◌==◌, ◌||◌, ◌⊎◌, inl, inr, List, [], ◌∷◌, ◌++◌, length, take, drop, Option, Some, None, Err, ◌^◌, rules, refl, sym, ap, subst, ◌∙◌, arith, append_assoc, length-append, codes}
 use Rattle.std.specs.List.{list_all, list_any}
 use Rattle.std.specs.Char.{is_ascii_digit, to_ascii_lowercase}
 use Rattle.std.specs.Str.Parse.{IsNumeral, digits_value, without_leading_plus}
 use Rattle.std.proofs.lemmas.Str.Parse.{IsNumeralModel, numerals_by_value, parse_digits}
-use Rattle.std.proofs.lemmas.Bool.{cond-false, both_ways, false≢true, and_parts, eq-eqb, eqb-true}
+use Rattle.std.proofs.lemmas.Bool.{cond-false, cond_both, both_ways, false≢true, and_parts, eq-eqb, eqb-true}
 use Rattle.std.proofs.lemmas.Bool.Decides.{nat_tests}
-use Rattle.std.proofs.lemmas.List.{append-nil}
+use Rattle.std.proofs.lemmas.List.{append-nil, map-append, take_all, drop_all}
+use Rattle.std.proofs.Math.Seq.{take-append_seam, drop-append_seam}
 use Rattle.std.proofs.lemmas.Str.{IsUtf8-from_ascii, IsUtf8-append}
-use Rattle.percent_encoding.proofs.PercentLemmas.{percent_decode-nil, percent_decode_escape, percent_decode_not_percent}
+use Rattle.percent_encoding.proofs.PercentLemmas.{length-percent_decode, percent_decode-nil, percent_decode_escape, percent_decode_not_percent}
 use Rattle.std.specs.Str.{IsAscii, IsUtf8}
 use Rattle.percent_encoding.specs.Percent.{percent_decode}
 use Rattle.gix_url.specs.declared.error.UrlFault.{UrlFault}
 use Rattle.gix_url.specs.declared.error.UrlFault.TheVariants as fault
 use Rattle.gix_url.specs.Bytes.{colon, left_bracket, right_bracket, percent_sign, FreeOf, begins_with, lowercase}
-use Rattle.gix_url.specs.Addresses.{IsIpv6Text, IsZone, Literal}
+use Rattle.gix_url.specs.Addresses.{IsIpv6Text, IsZone, is_zone_byte, Literal}
 use Rattle.gix_url.specs.Addresses.Literal.{address, zoned}
 use Rattle.gix_url.specs.Hosts as spec
-use Rattle.gix_url.specs.Hosts.{Mode, HostText, IsLiteral, Bracketed, Inner, IsDigits, Number, IsAddressPiece, ReadsAddress, HoldsTwoColons, IsManyColoned, IsPlainHost, Names, normal_host}
+use Rattle.gix_url.specs.Hosts.{Mode, is_dns_byte, is_http_host_byte, HostText, IsLiteral, Bracketed, Inner, IsDigits, Number, IsAddressPiece, ReadsAddress, HoldsTwoColons, IsManyColoned, IsPlainHost, Names, normal_host}
 use Rattle.gix_url.specs.Hosts.Mode.{strict, bare, loose}
 use Rattle.gix_url.specs.Flaws.{IsNoPort, HasBadPort, IsPortPlace, IsNoHost, IsNoInner, BracketsAround, HasBadHost, NameFlaw}
 use Rattle.gix_url.specs.HostPieces.{EndsHost, Follows, IsEscapedZone, IsInner, in_brackets, lowercase_address, shown_literal}
@@ -60,6 +61,19 @@ lowercase_address_before [] z h = refl
 lowercase_address_before (b ∷ a) z h =
     let (other, more) = free_head_tail percent_sign b a h in
     cond-false (b == percent_sign) _ _ other ∙ ap (λ t. to_ascii_lowercase b ∷ t) (lowercase_address_before a z more)
+
+-- the same by the length of what stands before the `%`
+pub lowercase_address_cut : (t a z : List ℕ) → FreeOf percent_sign a → t ≡ a ++ percent_sign ∷ z → lowercase_address t ≡ lowercase (take (length a) t) ++ drop (length a) t
+lowercase_address_cut t a z free e =
+    let front : take (length a) t ≡ a = ap (λ x. take (length a) x) e ∙ take-append_seam a (percent_sign ∷ z) in
+    let behind : drop (length a) t ≡ percent_sign ∷ z = ap (λ x. drop (length a) x) e ∙ drop-append_seam a (percent_sign ∷ z) in
+    ap lowercase_address e ∙ lowercase_address_before a z free
+    ∙ sym (ap (λ x. lowercase x ++ drop (length a) t) front ∙ ap (λ x. lowercase a ++ x) behind)
+
+pub lowercase_address_whole : (t : List ℕ) → FreeOf percent_sign t → lowercase_address t ≡ lowercase (take (length t) t) ++ drop (length t) t
+lowercase_address_whole t free =
+    lowercase_address_alone t free ∙ sym (append-nil (lowercase t))
+    ∙ sym (ap (λ x. lowercase x ++ drop (length t) t) (take_all (length t) t (omega arith)) ∙ ap (λ x. lowercase t ++ x) (drop_all (length t) t (omega arith)))
 
 -- the normal form of an IPv6 literal is in lower case up to its `%`
 pub literal_normal : (t n : List ℕ) → Literal t n → n ≡ lowercase_address t
@@ -569,3 +583,94 @@ no_port_behind mode behind x rest digits free e f none =
 pub nothing_follows : (rest : List ℕ) → EndsHost rest → begins_with colon rest ≡ false → rest ≡ []
 nothing_follows rest (inl e) none = e
 nothing_follows rest (inr h) none = absurd (both_ways _ none h)
+
+-- there is room for one more byte of a decoding, where there is for the text
+pub room_for_next : (text yielded rest : List ℕ) (byte : ℕ) (left : List ℕ) → percent_decode text ≡ yielded ++ rest → rest ≡ byte ∷ left → length yielded + 1 ≤ length text
+room_for_next text yielded rest byte left e f =
+    omega (arith, (length-percent_decode text).0, ap length e, length-append yielded rest, ap length f)
+
+pub room_for_all : (text yielded rest : List ℕ) → percent_decode text ≡ yielded ++ rest → length yielded ≤ length text
+room_for_all text yielded rest e = omega (arith, (length-percent_decode text).0, ap length e, length-append yielded rest)
+
+-- ---- hosts are text
+
+-- a byte that looks like a part of a domain name is ASCII
+dns_byte_ascii : (b : ℕ) → is_dns_byte b ≡ true → b < 128
+dns_byte_ascii b h = grind (arith, nat_tests)
+
+-- so is a byte of a host of HTTP
+http_byte_ascii : (b : ℕ) → is_http_host_byte b ≡ true → b < 128
+http_byte_ascii b h = grind (arith, nat_tests)
+
+-- and one of a zone
+zone_byte_ascii : (b : ℕ) → is_zone_byte b ≡ true → b < 128
+zone_byte_ascii b h = grind (arith, nat_tests)
+
+-- the normal form of a host that is text is text
+normal_utf8 : (host : List ℕ) → IsUtf8 host → IsUtf8 (normal_host host)
+normal_utf8 host u =
+    cond_both (list_all is_dns_byte host) (lowercase host) host IsUtf8
+    (λ h. IsUtf8-from_ascii (lowercase host) (lowercase_ascii host (ascii_class is_dns_byte dns_byte_ascii host h)))
+    (λ h. u)
+
+-- a host outside brackets is text
+host_text_utf8 : (mode : Mode) (t named : List ℕ) → HostText mode t named → IsUtf8 named
+host_text_utf8 strict t named h = subst IsUtf8 (sym h.1) (normal_utf8 t (IsUtf8-from_ascii t (ascii_class is_http_host_byte http_byte_ascii t h.0)))
+host_text_utf8 bare t named h = subst IsUtf8 (sym h.1) (normal_utf8 (percent_decode t) h.0)
+host_text_utf8 loose t named h = subst IsUtf8 (sym h.1) (normal_utf8 (percent_decode t) h.0)
+
+-- a byte in front of or behind a text
+utf8_cons : (b : ℕ) (t : List ℕ) → b < 128 → IsUtf8 t → IsUtf8 (b ∷ t)
+utf8_cons b t h u = IsUtf8-append (b ∷ []) t (one_utf8 b h) u
+
+utf8_push : (b : ℕ) (t : List ℕ) → b < 128 → IsUtf8 t → IsUtf8 (t ++ b ∷ [])
+utf8_push b t h u = IsUtf8-append t (b ∷ []) u (one_utf8 b h)
+
+-- the normal form of a literal is text
+literal_normal_utf8 : (t n : List ℕ) → Literal t n → IsUtf8 n
+literal_normal_utf8 t n (address h e) = subst IsUtf8 (sym e) (address_lowercase_utf8 t h)
+literal_normal_utf8 t n (zoned a z h zone is e) =
+    let text : IsUtf8 z = IsUtf8-from_ascii z (ascii_class is_zone_byte zone_byte_ascii z zone.bytes) in
+    subst IsUtf8 (sym e) (IsUtf8-append (lowercase a) (percent_sign ∷ (50 ∷ (53 ∷ z))) (address_lowercase_utf8 a h)
+    (utf8_cons percent_sign _ (omega arith) (utf8_cons 50 _ (omega arith) (utf8_cons 53 z (omega arith) text))))
+
+-- what stands between brackets is text
+inner_utf8 : (mode : Mode) (t n : List ℕ) → Inner mode t n → IsUtf8 n
+inner_utf8 strict t n h = literal_normal_utf8 t n h
+inner_utf8 bare t n (spec.Bracketed.literal x h e u) = u
+inner_utf8 bare t n (spec.Bracketed.other h e u) = u
+inner_utf8 loose t n (spec.Bracketed.literal x h e u) = u
+inner_utf8 loose t n (spec.Bracketed.other h e u) = u
+
+brackets_utf8 : (inner : List ℕ) → IsUtf8 inner → IsUtf8 (in_brackets inner)
+brackets_utf8 inner u = utf8_cons left_bracket (inner ++ right_bracket ∷ []) (omega arith) (utf8_push right_bracket inner (omega arith) u)
+
+-- a value is told by its option
+some_same : {x y : List ℕ} → Some x ≡ Some y → x ≡ y
+some_same e = cc
+
+some_not_none : {x : List ℕ} → Some x ≡ None → ⊥
+some_not_none e = cc
+
+-- a host that something follows is text
+follows_utf8 : {mode : Mode} {rest : List ℕ} {port : Option ℕ} (base host : List ℕ) → IsUtf8 base → Follows mode base rest (Some host) port → IsUtf8 host
+follows_utf8 base host u (Follows.nothing e h p) = subst IsUtf8 (sym (some_same h)) u
+follows_utf8 base host u (Follows.lone_colon e h p) = subst IsUtf8 (sym (some_same h)) (utf8_push colon base (omega arith) u)
+follows_utf8 base host u (Follows.number d n k e h p) = subst IsUtf8 (sym (some_same h)) u
+
+-- a lowercased address, with or without a colon
+address_piece_utf8 : (piece : List ℕ) → IsAddressPiece piece → IsUtf8 (lowercase piece)
+address_piece_utf8 piece (inl h) = address_lowercase_utf8 piece h
+address_piece_utf8 piece (inr (a, h, e)) =
+    subst IsUtf8 (sym (ap lowercase e ∙ map-append to_ascii_lowercase a (colon ∷ []))) (utf8_push colon (lowercase a) (omega arith) (address_lowercase_utf8 a h))
+
+shape_utf8 : (mode : Mode) (piece host : List ℕ) (port : Option ℕ) → Shape mode piece (Some host) port → IsUtf8 host
+shape_utf8 mode piece host port (Shape.nothing e h p) = absurd (some_not_none h)
+shape_utf8 mode piece host port (Shape.bracketed x inner rest f i e g) = follows_utf8 (in_brackets inner) host (brackets_utf8 inner (inner_utf8 mode x inner i)) g
+shape_utf8 mode piece host port (Shape.plain front named rest h t e g) = follows_utf8 named host (host_text_utf8 mode front named t) g
+shape_utf8 mode piece host port (Shape.many m (ManyNames.unbracketed r h) p) = subst IsUtf8 (sym (some_same h)) (address_piece_utf8 piece r.1)
+shape_utf8 mode piece host port (Shape.many m (ManyNames.other_host n s r t h) p) = subst IsUtf8 (sym (some_same h)) (host_text_utf8 mode piece n t)
+
+-- a host that is named is text
+pub names_utf8 : (mode : Mode) (piece host : List ℕ) (port : Option ℕ) → Names mode piece (Some host) port → IsUtf8 host
+names_utf8 mode piece host port h = shape_utf8 mode piece host port (name_shape h)

@@ -538,9 +538,9 @@ fn append_decoded(out: &mut Vec<u8>, text: &[u8])
     ensures capacity { vec_capacity out.old ≤ vec_capacity out.new }
     ensures len { vec_len out.new ≤ vec_len out.old + length text.now }
 {
-    let appended = percent_decode(text).append_to(out);
-    prove!(appended.is_ok());
-    let _ = appended;
+    for byte in percent_decode(text) {
+        append_within(out, &[byte]);
+    }
 }
 
 /// Writes bytes into a buffer that has room for them.
