@@ -14,6 +14,8 @@ pub mod LengthLemmas
 pub mod EscapeLemmas
 pub mod AddressLemmas
 pub mod AddressReader
+pub mod UrlLemmas
+pub mod UrlLocationLemmas
 pub mod HostLemmas
 pub mod ShapeLemmas
 pub mod SettledLemmas
