@@ -1,5 +1,5 @@
 -- The forms of a text: where its pieces are cut, that they are cut in one way, and that one form excludes the others.
-use Rattle.std.proofs.Common.{◌≡◌, ℕ, ◌+◌, ◌<◌, ◌≤◌, Bool, true, false, ◌⊎◌, inl, inr, List, [], ◌∷◌, ◌++◌, length, take, drop, refl, sym, ap, subst, ◌∙◌, arith, append_assoc, length-append, ◌==◌, eq-eqb, IsUtf8, All, codes}
+use Rattle.std.proofs.Common.{◌≡◌, ℕ, ◌+◌, ◌<◌, ◌≤◌, Bool, true, false, ◌⊎◌, inl, inr, List, [], ◌∷◌, ◌++◌, length, take, drop, refl, sym, ap, subst, ◌∙◌, arith, append_assoc, length-append, ◌==◌, eq-eqb, IsUtf8, All, codes, bytes_eq}
 use Rattle.std.proofs.lemmas.Bool.{both_ways, false≢true, and_parts, and_from, or_left}
 use Rattle.std.proofs.lemmas.Bool.Decides.{nat_tests}
 use Rattle.std.proofs.lemmas.List.{take_at, drop_at, append_cancel_left}
@@ -16,14 +16,15 @@ use Rattle.gix_url.specs.Value.{Location, path_alone}
 use Rattle.gix_url.specs.Value.Protocol.{file}
 use Rattle.gix_url.specs.Bytes.{slash, colon, at_sign, left_bracket, right_bracket, FreeOf, begins_with, is_helper_name, is_name_byte}
 use Rattle.gix_url.specs.Addresses.{IsIpv6Text}
-use Rattle.gix_url.specs.Grammar.{HelperParts, HasHelperForm, IsNeither, ScpFront, ScpShape, AddressedShape, IsScpShaped, SpellsFile}
+use Rattle.gix_url.specs.Grammar.{HelperParts, HasHelperForm, IsNeither, ScpFront, ScpShape, AddressedShape, IsScpShaped, SpellsUrl, SpellsFile, SpellsScpBefore, SpellsScp, Spells}
+use Rattle.gix_url.specs.Grammar.Spells.{url, file_url, remote_helper, scp_form, local_path}
 use Rattle.gix_url.specs.Grammar.ScpFront.{plain, bracketed}
-use Rattle.gix_url.specs.Authority.{unless_empty}
-use Rattle.gix_url.specs.Flaws.{UrlShape, MissesPath}
+use Rattle.gix_url.specs.Authority.{unless_empty, Fits}
+use Rattle.gix_url.specs.Flaws.{UrlShape, OtherShape, MissesPath}
 use Rattle.gix_url.specs.Flaws.MissesPath.{in_file}
 use Rattle.gix_url.specs.Readings.{NoneBut}
 use Rattle.gix_url.specs.Shapes.{FrontCut, HasFrontCut, LacksBrackets, ScpCut, HasScpCut, AddressedCut, AddressedFront, HasAddressedCut, PlainScp, LocalShape}
-use Rattle.gix_url.proofs.CutLemmas.{heads, tails, different_bytes, begins_cut, not_free, free-append, free-cons, free_parts, free_head_tail, free_or_cut, cut_unique, last_cut_unique, helper_name_free}
+use Rattle.gix_url.proofs.CutLemmas.{heads, tails, different_bytes, begins_cut, not_free, free-append, free-cons, free_parts, free_head_tail, free_or_cut, cut_unique, last_cut_unique, mark_cut_unique, held_free, helper_name_free, scheme_text_free}
 use Rattle.gix_url.proofs.AddressLemmas.{address_two_colons, address_free}
 use Rattle.gix_url.proofs.EscapeLemmas.{utf8_behind, utf8_parts}
 
@@ -328,3 +329,94 @@ file_found b rest host behind path v s text free e is value =
       rooted = ap (begins_with slash) tail;
       value = value;
     }
+
+-- ---- one form alone
+
+-- joined texts aren't empty where one isn't
+joined_nonempty : (x y : List ℕ) → 0 < length y → ¬ ([] ≡ x ++ y)
+joined_nonempty x y h e = absurd (omega (arith, ap length e, length-append x y))
+
+-- nothing spells nothing
+pub empty_unspelled : (v : Location) → ¬ Spells [] v
+empty_unspelled v (url h) = joined_nonempty h.parts.scheme (codes "://" ++ (h.spelled.authority ++ h.parts.path)) (omega arith) h.spelled.joined
+empty_unspelled v (file_url h) = joined_nonempty [] (codes "file://" ++ (h.host ++ h.path)) (omega arith) h.joined
+empty_unspelled v (remote_helper h) = joined_nonempty h.name (colon ∷ (colon ∷ h.address)) (omega arith) h.parts.joined
+empty_unspelled v (scp_form (inl h)) = joined_nonempty h.front (colon ∷ h.path) (omega arith) h.shape.joined
+empty_unspelled v (scp_form (inr h)) = joined_nonempty h.user (at_sign ∷ (left_bracket ∷ (h.address ++ right_bracket ∷ (colon ∷ h.path)))) (omega arith) h.shape.joined
+empty_unspelled v (local_path h) = absurd (omega (arith, h.nonempty))
+
+-- what has a mark isn't neither
+url_not_shaped : (b front rest : List ℕ) → UrlShape b front rest → ¬ IsNeither b
+url_not_shaped b front rest s n = n.no_mark (front, rest, s.joined)
+
+-- the scheme of a URL stands before the first `://`
+pub url_pieces : (b front rest : List ℕ) (v : Location) → UrlShape b front rest → (h : SpellsUrl b v) → (h.parts.scheme ≡ front) × (h.spelled.authority ++ h.parts.path ≡ rest)
+url_pieces b front rest v s h =
+    mark_cut_unique h.parts.scheme front (h.spelled.authority ++ h.parts.path) rest (held_free h.parts.scheme (scheme_text_free h.parts.scheme colon h.spelled.scheme_text refl)) s.first (sym h.spelled.joined ∙ s.joined)
+
+-- so does that of a file URL
+pub file_pieces : (b front rest : List ℕ) (v : Location) → UrlShape b front rest → SpellsFile b v → codes "file" ≡ front
+file_pieces b front rest v s h = (mark_cut_unique (codes "file") front (h.host ++ h.path) rest (held_free (codes "file") refl) s.first (sym h.joined ∙ s.joined)).0
+
+-- a file URL is spelled as one alone
+pub spelled_as_file : (b rest : List ℕ) → UrlShape b (codes "file") rest → (v : Location) → Spells b v → SpellsFile b v
+spelled_as_file b rest s v (url h) =
+    absurd (both_ways (bytes_eq h.parts.scheme (codes "file")) h.spelled.not_file (ap (λ t. bytes_eq t (codes "file")) (url_pieces b (codes "file") rest v s h).0))
+spelled_as_file b rest s v (file_url h) = h
+spelled_as_file b rest s v (remote_helper h) = absurd (s.no_helper (h.name, h.address, h.parts))
+spelled_as_file b rest s v (scp_form (inl h)) = absurd (url_not_shaped b (codes "file") rest s h.shape.neither)
+spelled_as_file b rest s v (scp_form (inr h)) = absurd (url_not_shaped b (codes "file") rest s h.shape.neither)
+spelled_as_file b rest s v (local_path h) = absurd (url_not_shaped b (codes "file") rest s h.neither)
+
+-- so is any other URL
+pub spelled_as_url : (b front rest : List ℕ) → OtherShape b front rest → (v : Location) → Spells b v → SpellsUrl b v
+spelled_as_url b front rest s v (url h) = h
+spelled_as_url b front rest s v (file_url h) =
+    absurd (both_ways (bytes_eq front (codes "file")) s.not_file (ap (λ t. bytes_eq t (codes "file")) (sym (file_pieces b front rest v s.shape h))))
+spelled_as_url b front rest s v (remote_helper h) = absurd (s.shape.no_helper (h.name, h.address, h.parts))
+spelled_as_url b front rest s v (scp_form (inl h)) = absurd (url_not_shaped b front rest s.shape h.shape.neither)
+spelled_as_url b front rest s v (scp_form (inr h)) = absurd (url_not_shaped b front rest s.shape h.shape.neither)
+spelled_as_url b front rest s v (local_path h) = absurd (url_not_shaped b front rest s.shape h.neither)
+
+-- what is neither a helper nor a URL is spelled in the scp form or as a local path
+url_not_neither : (b : List ℕ) (v : Location) → SpellsUrl b v → ¬ IsNeither b
+url_not_neither b v h n = n.no_mark (h.parts.scheme, h.spelled.authority ++ h.parts.path, h.spelled.joined)
+
+file_not_neither : (b : List ℕ) (v : Location) → SpellsFile b v → ¬ IsNeither b
+file_not_neither b v h n = n.no_mark (codes "file", h.host ++ h.path, h.joined)
+
+-- a text with a shape of the scp form is spelled in it alone
+pub spelled_as_scp : (b : List ℕ) → IsNeither b → IsScpShaped b → (v : Location) → Spells b v → SpellsScp b v
+spelled_as_scp b n s v (url h) = absurd (url_not_neither b v h n)
+spelled_as_scp b n s v (file_url h) = absurd (file_not_neither b v h n)
+spelled_as_scp b n s v (remote_helper h) = absurd (n.no_helper (h.name, h.address, h.parts))
+spelled_as_scp b n s v (scp_form h) = h
+spelled_as_scp b n s v (local_path h) = absurd (h.no_scp s)
+
+-- the same of the shape `user@[address]:path`
+pub spelled_as_addressed : (b user address path : List ℕ) → AddressedShape b user address path → (v : Location) → Spells b v → SpellsScp b v
+spelled_as_addressed b user address path s = spelled_as_scp b s.neither (inr (user, address, path, s))
+
+-- and of the others
+pub spelled_as_plain : (b front path : List ℕ) → PlainScp b front path → (v : Location) → Spells b v → SpellsScpBefore b v
+spelled_as_plain b front path s v h =
+    elim (spelled_as_scp b s.shape.neither (inl (front, path, s.shape)) v h) [ inl k ↦ k | inr k ↦ absurd (s.not_addressed (k.user, k.address, k.path, k.shape)) ]
+
+-- what is refused of a wider form is refused of a narrower one
+pub none_weaker : (fits more : Location → Type 0) → ((v : Location) → more v → fits v) → (e : Error) → NoneBut fits e → NoneBut more e
+none_weaker fits more within error.Memory h = tt
+none_weaker fits more within error.EmptyLocal h = λ v k. h v (within v k)
+none_weaker fits more within (error.MissingPath kind input) h = λ v k. h v (within v k)
+none_weaker fits more within (error.NotUtf8 kind input) h = λ v k. h v (within v k)
+none_weaker fits more within (error.TooLong shown total) h = λ v k. h v (within v k)
+none_weaker fits more within (error.BadUrl kind fault input) h = λ v k. h v (within v k)
+none_weaker fits more within (error.Unwritable fault) h = λ v k. h v (within v k)
+
+-- a URL that is too long, or no text, is none
+pub unfit_url : (b front rest : List ℕ) → OtherShape b front rest → ¬ Fits front rest → (v : Location) → ¬ SpellsUrl b v
+unfit_url b front rest s unfit v h =
+    let (front_is, rest_is) = url_pieces b front rest v s.shape h in
+    unfit (subst (λ t. Fits front t) rest_is (subst (λ t. Fits t (h.spelled.authority ++ h.parts.path)) front_is h.spelled.fits))
+
+pub no_url_text : (b : List ℕ) → ¬ IsUtf8 b → (v : Location) → ¬ SpellsUrl b v
+no_url_text b other v h = other h.spelled.text

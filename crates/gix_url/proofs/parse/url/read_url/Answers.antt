@@ -1,0 +1,18 @@
+-- What is refused as a URL of one kind is refused.
+use Rattle.std.proofs.lemmas.Result.{IfErr-weaker}
+use Rattle.gix_url.specs.Grammar.{Spells, SpellsFile, SpellsUrl}
+use Rattle.gix_url.specs.Readings.{NoneBut, Refuses}
+use Rattle.gix_url.proofs.ShapeLemmas.{none_weaker, spelled_as_file, spelled_as_url}
+use Rattle.gix_url.proofs.parse.url.read_url.Goals as goal
+
+pub returns-then-eq-clause-refused : goal.returns-then-eq-clause-refused
+returns-then-eq-clause-refused c =
+    IfErr-weaker c.read_file.result (NoneBut (SpellsFile c.args.input.now)) (Refuses c.args.input.now)
+    (none_weaker (SpellsFile c.args.input.now) (Spells c.args.input.now) (spelled_as_file c.args.input.now c.args.rest.now ?))
+    c.read_file.ensures.refused
+
+pub returns-else-eq-clause-refused : goal.returns-else-eq-clause-refused
+returns-else-eq-clause-refused c =
+    IfErr-weaker c.read_other.result (NoneBut (SpellsUrl c.args.input.now)) (Refuses c.args.input.now)
+    (none_weaker (SpellsUrl c.args.input.now) (Spells c.args.input.now) (spelled_as_url c.args.input.now c.args.scheme.now c.args.rest.now (record { shape = c.requires; not_file = ? })))
+    c.read_other.ensures.refused
