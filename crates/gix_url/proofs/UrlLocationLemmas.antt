@@ -21,6 +21,7 @@ use Rattle.gix_url.specs.Flaws.{MissesPath}
 use Rattle.gix_url.specs.UrlPieces.{AreTexts, InBrackets, DropsLast}
 use Rattle.gix_url.proofs.CutLemmas.{tails, last_unique, mark_cut_unique, path_cut_unique, free_of_lacked}
 use Rattle.gix_url.proofs.EscapeLemmas.{decode_byte, decode_empty, utf8_parts}
+use Rattle.gix_url.proofs.HostLemmas.{names_utf8}
 use Rattle.gix_url.proofs.UrlLemmas.{scheme_no_mark}
 
 -- ---- paths
@@ -89,12 +90,17 @@ user_text : (text : List ℕ) (user password : Option (List ℕ)) → Credential
 user_text text user password (user_alone f h e k) = subst (λ p. IfSome p IsUtf8) (sym k) (unless_empty_text (percent_decode text) h)
 user_text text user password (with_password u w f e h k p q) = subst (λ p. IfSome p IsUtf8) (sym q) (user_beside_text password (percent_decode u) h)
 
+-- a host is text
+host_text : (mode : Mode) (piece : List ℕ) (host : Option (List ℕ)) (port : Option ℕ) → Names mode piece host port → IfSome host IsUtf8
+host_text mode piece None port h = tt
+host_text mode piece (Some host) port h = names_utf8 mode piece host port h
+
 -- what an authority holds is text
 authority_texts : (mode : Mode) (text : List ℕ) (user password host : Option (List ℕ)) (port : Option ℕ) → Authority mode text user password host port → IfSome user IsUtf8 × IfSome password IsUtf8 × IfSome host IsUtf8
 authority_texts mode text user password host port (host_alone f h u p) =
-    (subst (λ o. IfSome o IsUtf8) (sym u) tt, subst (λ o. IfSome o IsUtf8) (sym p) tt, ?)
+    (subst (λ o. IfSome o IsUtf8) (sym u) tt, subst (λ o. IfSome o IsUtf8) (sym p) tt, host_text mode text host port h)
 authority_texts mode text user password host port (with_user i piece f e c h s) =
-    (user_text i user password c, password_text i user password c, ?)
+    (user_text i user password c, password_text i user password c, host_text mode piece host port h)
 
 -- what a URL holds is text
 pub texts : {b : List ℕ} {parts : UrlParts} → SpellsParts b parts → AreTexts parts
