@@ -1,6 +1,6 @@
 -- The location of a URL: its parts are text, its host without marks, its path, and that it has no other.
-use Rattle.std.proofs.Common.{◌≡◌, ℕ, ◌+◌, ◌<◌, Bool, true, false, ◌⊎◌, inl, inr, List, [], ◌∷◌, ◌++◌, length, Option, Some, None, refl, sym, ap, subst, ◌∙◌, arith, codes, length-append, append_assoc, lit<, ◌==◌, eq-eqb}
-use Rattle.std.specs.Prelude.{IsSome, is_some, IfSome, IsUtf8, MatchOption, bytes_eq, string_bytes, option_map}
+use Rattle.std.proofs.Common.{◌≡◌, ℕ, ◌<◌, true, inl, inr, List, [], ◌∷◌, ◌++◌, length, Option, Some, None, refl, sym, ap, subst, ◌∙◌, arith, codes, append_assoc, lit<, ◌==◌, eq-eqb}
+use Rattle.std.specs.Prelude.{IfSome, IsUtf8, MatchOption}
 use Rattle.std.specs.Borrow.{Bor}
 use Rattle.std.proofs.lemmas.Bool.{both_ways, false≢true, eqb-true}
 use Rattle.std.proofs.lemmas.List.{nil_from_length, append-nil}
@@ -9,14 +9,14 @@ use Rattle.percent_encoding.proofs.PercentLemmas.{percent_decode-nil}
 use Rattle.gix_url.specs.declared.error.UrlKind.TheVariants as kind
 use Rattle.gix_url.specs.Value.{Protocol, Location}
 use Rattle.gix_url.specs.Value.Protocol.{file, git, ssh, http, https, ext, helper, helper_url}
-use Rattle.gix_url.specs.Bytes.{colon, slash, at_sign, left_bracket, right_bracket, FreeOf, Lacks, begins_with}
-use Rattle.gix_url.specs.Cuts.{url_mark, is_path_start, StartsPath, StripsLast}
+use Rattle.gix_url.specs.Bytes.{colon, slash, left_bracket, right_bracket, Lacks}
+use Rattle.gix_url.specs.Cuts.{is_path_start, StartsPath, StripsLast}
 use Rattle.gix_url.specs.Schemes.{is_web_scheme, protocol_of, mode_of}
 use Rattle.gix_url.specs.Hosts.{Mode, Names}
 use Rattle.gix_url.specs.Authority.{unless_empty, user_beside, Credentials, Authority}
 use Rattle.gix_url.specs.Authority.Credentials.{user_alone, with_password}
 use Rattle.gix_url.specs.Authority.Authority.{host_alone, with_user}
-use Rattle.gix_url.specs.Grammar.{UrlParts, SpellsParts, SpellsUrl, MeansAs, MeansByProtocol, Peels, HostFor, or_root, path_for, retained, requires_path}
+use Rattle.gix_url.specs.Grammar.{UrlParts, SpellsParts, SpellsUrl, MeansAs, MeansByProtocol, Peels, or_root, requires_path}
 use Rattle.gix_url.specs.Flaws.{MissesPath}
 use Rattle.gix_url.specs.UrlPieces.{AreTexts, InBrackets, DropsLast}
 use Rattle.gix_url.proofs.CutLemmas.{tails, last_unique, mark_cut_unique, path_cut_unique, free_of_lacked}
