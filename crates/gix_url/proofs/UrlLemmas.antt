@@ -1,23 +1,22 @@
 -- URLs: what their text determines of their pieces, and what leaves no reading.
-use Rattle.std.proofs.Common.{◌≡◌, ℕ, ◌+◌, ◌<◌, Bool, true, false, ◌⊎◌, inl, inr, List, [], ◌∷◌, ◌++◌, length, Option, Some, None, refl, sym, ap, subst, ◌∙◌, arith, codes, length-append, append_assoc}
-use Rattle.std.specs.Prelude.{IsSome, is_some, IsUtf8, IsTrue, bytes_eq}
+use Rattle.std.proofs.Common.{◌≡◌, ℕ, ◌<◌, Bool, true, false, List, [], ◌∷◌, ◌++◌, length, Option, Some, None, refl, sym, ap, subst, ◌∙◌, arith}
+use Rattle.std.specs.Prelude.{IsSome, is_some, IsUtf8}
 use Rattle.std.proofs.lemmas.Bool.{both_ways, false≢true}
 use Rattle.std.proofs.lemmas.List.{nil_from_length}
 use Rattle.percent_encoding.specs.Percent.{percent_decode}
-use Rattle.gix_url.specs.declared.error.UrlFault.{UrlFault}
 use Rattle.gix_url.specs.declared.error.UrlFault.TheVariants as fault
-use Rattle.gix_url.specs.Bytes.{colon, at_sign, backslash, left_bracket, Lacks, FreeOf, begins_with, Holds, LacksWhiteSpace, is_scheme_text}
+use Rattle.gix_url.specs.Bytes.{colon, at_sign, backslash, Lacks, FreeOf, Holds, LacksWhiteSpace, is_scheme_text}
 use Rattle.gix_url.specs.Cuts.{url_mark, is_path_start, StartsPath}
 use Rattle.gix_url.specs.Escapes.{is_sound}
 use Rattle.gix_url.specs.Hosts.{Mode, Names}
 use Rattle.gix_url.specs.Schemes.{is_web_scheme, mode_of, requires_host}
-use Rattle.gix_url.specs.Authority.{unless_empty, user_beside, Credentials, Authority, Fits}
+use Rattle.gix_url.specs.Authority.{unless_empty, Credentials, Authority, Fits}
 use Rattle.gix_url.specs.Authority.Credentials.{user_alone, with_password}
 use Rattle.gix_url.specs.Authority.Authority.{host_alone, with_user}
 use Rattle.gix_url.specs.Grammar.{UrlParts, SpellsParts}
-use Rattle.gix_url.specs.Flaws.{NameFlaw, AuthorityFlaw, HasBadUser, PieceOf, UrlShape, OtherShape, UrlCut, UrlFlaw}
+use Rattle.gix_url.specs.Flaws.{AuthorityFlaw, HasBadUser, OtherShape, UrlCut}
 use Rattle.gix_url.specs.declared.host.NamedHost.{NamedHost}
-use Rattle.gix_url.specs.HostPieces.{host_of, port_of}
+use Rattle.gix_url.specs.HostPieces.{host_of}
 use Rattle.gix_url.specs.UrlPieces.{CutsRest, HasNoText, HoldsHosted, IsNoAuthority}
 use Rattle.gix_url.proofs.CutLemmas.{not_free, cut_unique, last_cut_unique, path_cut_unique, mark_cut_unique, held_free, scheme_text_free}
 use Rattle.gix_url.proofs.HostLemmas.{names_unique}

@@ -1,6 +1,6 @@
 -- The location of a URL: its parts are text, its host without marks, its path, and that it has no other.
-use Rattle.std.proofs.Common.{◌≡◌, ℕ, ◌+◌, ◌<◌, Bool, true, false, ◌⊎◌, inl, inr, List, [], ◌∷◌, ◌++◌, length, Option, Some, None, refl, sym, ap, subst, ◌∙◌, arith, codes, length-append, append_assoc, lit<, ◌==◌, eq-eqb}
-use Rattle.std.specs.Prelude.{IsSome, is_some, IfSome, IsUtf8, MatchOption, bytes_eq, string_bytes, option_map}
+use Rattle.std.proofs.Common.{◌≡◌, ℕ, ◌<◌, true, inl, inr, List, [], ◌∷◌, ◌++◌, length, Option, Some, None, refl, sym, ap, subst, ◌∙◌, arith, codes, append_assoc, lit<, ◌==◌, eq-eqb}
+use Rattle.std.specs.Prelude.{IfSome, IsUtf8, MatchOption}
 use Rattle.std.specs.Borrow.{Bor}
 use Rattle.std.proofs.lemmas.Bool.{both_ways, false≢true, eqb-true}
 use Rattle.std.proofs.lemmas.List.{nil_from_length, append-nil}
@@ -9,18 +9,19 @@ use Rattle.percent_encoding.proofs.PercentLemmas.{percent_decode-nil}
 use Rattle.gix_url.specs.declared.error.UrlKind.TheVariants as kind
 use Rattle.gix_url.specs.Value.{Protocol, Location}
 use Rattle.gix_url.specs.Value.Protocol.{file, git, ssh, http, https, ext, helper, helper_url}
-use Rattle.gix_url.specs.Bytes.{colon, slash, at_sign, left_bracket, right_bracket, FreeOf, Lacks, begins_with}
-use Rattle.gix_url.specs.Cuts.{url_mark, is_path_start, StartsPath, StripsLast}
+use Rattle.gix_url.specs.Bytes.{colon, slash, left_bracket, right_bracket, Lacks}
+use Rattle.gix_url.specs.Cuts.{is_path_start, StartsPath, StripsLast}
 use Rattle.gix_url.specs.Schemes.{is_web_scheme, protocol_of, mode_of}
 use Rattle.gix_url.specs.Hosts.{Mode, Names}
 use Rattle.gix_url.specs.Authority.{unless_empty, user_beside, Credentials, Authority}
 use Rattle.gix_url.specs.Authority.Credentials.{user_alone, with_password}
 use Rattle.gix_url.specs.Authority.Authority.{host_alone, with_user}
-use Rattle.gix_url.specs.Grammar.{UrlParts, SpellsParts, SpellsUrl, MeansAs, MeansByProtocol, Peels, HostFor, or_root, path_for, retained, requires_path}
+use Rattle.gix_url.specs.Grammar.{UrlParts, SpellsParts, SpellsUrl, MeansAs, MeansByProtocol, Peels, or_root, requires_path}
 use Rattle.gix_url.specs.Flaws.{MissesPath}
 use Rattle.gix_url.specs.UrlPieces.{AreTexts, InBrackets, DropsLast}
 use Rattle.gix_url.proofs.CutLemmas.{tails, last_unique, mark_cut_unique, path_cut_unique, free_of_lacked}
 use Rattle.gix_url.proofs.EscapeLemmas.{decode_byte, decode_empty, utf8_parts}
+use Rattle.gix_url.proofs.HostLemmas.{names_utf8}
 use Rattle.gix_url.proofs.UrlLemmas.{scheme_no_mark}
 
 -- ---- paths
@@ -89,12 +90,17 @@ user_text : (text : List ℕ) (user password : Option (List ℕ)) → Credential
 user_text text user password (user_alone f h e k) = subst (λ p. IfSome p IsUtf8) (sym k) (unless_empty_text (percent_decode text) h)
 user_text text user password (with_password u w f e h k p q) = subst (λ p. IfSome p IsUtf8) (sym q) (user_beside_text password (percent_decode u) h)
 
+-- a host is text
+host_text : (mode : Mode) (piece : List ℕ) (host : Option (List ℕ)) (port : Option ℕ) → Names mode piece host port → IfSome host IsUtf8
+host_text mode piece None port h = tt
+host_text mode piece (Some host) port h = names_utf8 mode piece host port h
+
 -- what an authority holds is text
 authority_texts : (mode : Mode) (text : List ℕ) (user password host : Option (List ℕ)) (port : Option ℕ) → Authority mode text user password host port → IfSome user IsUtf8 × IfSome password IsUtf8 × IfSome host IsUtf8
 authority_texts mode text user password host port (host_alone f h u p) =
-    (subst (λ o. IfSome o IsUtf8) (sym u) tt, subst (λ o. IfSome o IsUtf8) (sym p) tt, ?)
+    (subst (λ o. IfSome o IsUtf8) (sym u) tt, subst (λ o. IfSome o IsUtf8) (sym p) tt, host_text mode text host port h)
 authority_texts mode text user password host port (with_user i piece f e c h s) =
-    (user_text i user password c, password_text i user password c, ?)
+    (user_text i user password c, password_text i user password c, host_text mode piece host port h)
 
 -- what a URL holds is text
 pub texts : {b : List ℕ} {parts : UrlParts} → SpellsParts b parts → AreTexts parts

@@ -54,7 +54,11 @@ struct CredentialParts<'a> {
 }
 
 /// Reads the URL with this scheme and this rest behind `://`. It is no file URL, and no remote helper.
-pub(crate) fn read_url<'a>(text: &'a str, scheme: &'a [u8], rest: &'a [u8]) -> Result<ParsedUrl<'a>, UrlFault>
+pub(crate) fn read_url<'a>(
+    text: &'a str,
+    scheme: &'a [u8],
+    rest: &'a [u8],
+) -> Result<ParsedUrl<'a>, UrlFault>
     requires shape { OtherShape text.now scheme.now rest.now }
     requires fits { Fits scheme.now rest.now }
     ensures read { IfOk result (λ url. SpellsParts text.now (parts_of url)) }
@@ -95,7 +99,11 @@ fn cut_rest<'a>(scheme: &[u8], rest: &'a [u8]) -> (&'a [u8], &'a [u8])
 }
 
 /// Reads an authority, in which a host may be needed.
-fn read_authority(mode: Mode, needed: bool, authority: &[u8]) -> Result<AuthorityParts<'_>, UrlFault>
+fn read_authority(
+    mode: Mode,
+    needed: bool,
+    authority: &[u8],
+) -> Result<AuthorityParts<'_>, UrlFault>
     ensures read { IfOk result (λ parts. HoldsParts (strictness mode) needed authority.now parts) }
     ensures refused { IfErr result (λ fault. IsNoAuthority (strictness mode) needed authority.now) }
     ensures flaw { IfErr result (λ fault. AuthorityFlaw (strictness mode) needed authority.now fault) }
@@ -116,7 +124,11 @@ fn read_authority(mode: Mode, needed: bool, authority: &[u8]) -> Result<Authorit
 }
 
 /// Reads an authority without user information.
-fn read_host_alone(mode: Mode, needed: bool, authority: &[u8]) -> Result<AuthorityParts<'_>, UrlFault>
+fn read_host_alone(
+    mode: Mode,
+    needed: bool,
+    authority: &[u8],
+) -> Result<AuthorityParts<'_>, UrlFault>
     requires { FreeOf at_sign authority.now }
     ensures read { IfOk result (λ parts. HoldsParts (strictness mode) needed authority.now parts) }
     ensures refused { IfErr result (λ fault. IsNoAuthority (strictness mode) needed authority.now) }

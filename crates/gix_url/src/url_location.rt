@@ -31,7 +31,12 @@ use bstr::BString;
 use std::alloc::{AllocError, Global};
 
 /// The location of the URL with this scheme and this rest behind `://`. It is no file URL, and no remote helper.
-pub(crate) fn url_location(alloc: Global, text: &str, scheme: &[u8], rest: &[u8]) -> Result<Url, Error>
+pub(crate) fn url_location(
+    alloc: Global,
+    text: &str,
+    scheme: &[u8],
+    rest: &[u8],
+) -> Result<Url, Error>
     requires shape { OtherShape text.now scheme.now rest.now }
     requires fits { Fits scheme.now rest.now }
     ensures found { IfOk result (λ v. SpellsUrl text.now v) }

@@ -1,10 +1,8 @@
 -- User information, and a host and a port, are what stands around the last `@`.
-use Rattle.std.proofs.Common.{◌∷◌, [], ◌++◌, Option, None, refl, ap, subst, ◌∙◌}
+use Rattle.std.proofs.Common.{◌∷◌, ◌++◌, refl, ap, ◌∙◌}
 use Rattle.std.proofs.lemmas.Result.{err_from_is_err_and}
 use Rattle.gix_url.specs.Bytes.{at_sign}
-use Rattle.gix_url.specs.declared.host.NamedHost.{NamedHost}
-use Rattle.gix_url.specs.HostPieces.{strictness, host_of, port_of}
-use Rattle.gix_url.specs.Hosts.{Names}
+use Rattle.gix_url.specs.HostPieces.{host_of}
 use Rattle.gix_url.specs.Authority.Authority.{with_user}
 use Rattle.gix_url.specs.Flaws.{AuthorityFlaw, PieceOf}
 use Rattle.gix_url.proofs.UrlLemmas.{nothing_named, no_name_behind, no_text_before, no_host_behind, bad_user_flaw}
