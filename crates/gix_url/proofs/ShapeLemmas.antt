@@ -1,6 +1,6 @@
 -- The forms of a text: where its pieces are cut, that they are cut in one way, and that one form excludes the others.
 use Rattle.std.proofs.Common.{◌≡◌, ℕ, ◌+◌, ◌<◌, ◌≤◌, Bool, true, false, ◌⊎◌, inl, inr, List, [], ◌∷◌, ◌++◌, length, take, drop, refl, sym, ap, subst, ◌∙◌, arith, append_assoc, length-append, ◌==◌, eq-eqb, IsUtf8, All, codes, bytes_eq}
-use Rattle.std.proofs.lemmas.Bool.{both_ways, false≢true, and_parts, and_from, or_left}
+use Rattle.std.proofs.lemmas.Bool.{eqb-true, both_ways, false≢true, and_parts, and_from, or_left}
 use Rattle.std.proofs.lemmas.Bool.Decides.{nat_tests}
 use Rattle.std.proofs.lemmas.List.{take_at, drop_at, append_cancel_left}
 use Rattle.std.proofs.lemmas.List.Elements.{All-cons, All-nil}
@@ -358,6 +358,17 @@ url_pieces b front rest v s h =
 pub file_pieces : (b front rest : List ℕ) (v : Location) → UrlShape b front rest → SpellsFile b v → codes "file" ≡ front
 file_pieces b front rest v s h = (mark_cut_unique (codes "file") front (h.host ++ h.path) rest (held_free (codes "file") refl) s.first (sym h.joined ∙ s.joined)).0
 
+-- texts of equal bytes are one
+pointwise_same : (xs ys : List ℕ) → bytes_eq xs ys ≡ true → xs ≡ ys
+pointwise_same [] [] h = refl
+pointwise_same [] (y ∷ ys) h = absurd (false≢true h)
+pointwise_same (x ∷ xs) [] h = absurd (false≢true h)
+pointwise_same (x ∷ xs) (y ∷ ys) h =
+    let parts = and_parts (x == y) (bytes_eq xs ys) h in
+    let rest = pointwise_same xs ys parts.1 in
+    let first = eqb-true x y parts.0 in
+    cc
+
 -- a file URL is spelled as one alone
 pub spelled_as_file : (b rest : List ℕ) → UrlShape b (codes "file") rest → (v : Location) → Spells b v → SpellsFile b v
 spelled_as_file b rest s v (url h) =
@@ -367,6 +378,14 @@ spelled_as_file b rest s v (remote_helper h) = absurd (s.no_helper (h.name, h.ad
 spelled_as_file b rest s v (scp_form (inl h)) = absurd (url_not_shaped b (codes "file") rest s h.shape.neither)
 spelled_as_file b rest s v (scp_form (inr h)) = absurd (url_not_shaped b (codes "file") rest s h.shape.neither)
 spelled_as_file b rest s v (local_path h) = absurd (url_not_shaped b (codes "file") rest s h.neither)
+
+-- a scheme that passed the test
+pub file_shape : (b scheme rest : List ℕ) → UrlShape b scheme rest → true ≡ bytes_eq scheme (codes "file") → UrlShape b (codes "file") rest
+file_shape b scheme rest s h = subst (λ t. UrlShape b t rest) (pointwise_same scheme (codes "file") (sym h)) s
+
+-- and one that failed it
+pub other_shape : (b scheme rest : List ℕ) → UrlShape b scheme rest → false ≡ bytes_eq scheme (codes "file") → OtherShape b scheme rest
+other_shape b scheme rest s h = record { shape = s; not_file = sym h }
 
 -- so is any other URL
 pub spelled_as_url : (b front rest : List ℕ) → OtherShape b front rest → (v : Location) → Spells b v → SpellsUrl b v

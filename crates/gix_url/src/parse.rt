@@ -8,6 +8,7 @@ ghost use Rattle.bstr.specs.BStr.{bstr_bytes};
 ghost use Rattle.gix_url.specs.Flaws.{Flaw};
 ghost use Rattle.gix_url.specs.Grammar.{Spells};
 ghost use Rattle.gix_url.specs.Readings.{Refuses};
+ghost use Rattle.gix_url.specs.Shapes.{Classifies};
 
 pub(crate) mod classify;
 mod copies;

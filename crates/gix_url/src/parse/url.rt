@@ -3,7 +3,7 @@
 //! It may use `length`, `url_location`, `copies` and `forms`. Its contract: a location is read exactly where the
 //! definitions spell one, and each refusal has its flaw.
 
-ghost use Rattle.std.specs.Prelude.{IfErr, IfOk};
+ghost use Rattle.std.specs.Prelude.{◌≡◌, IfErr, IfOk, bytes_eq, codes};
 ghost use Rattle.gix_url.specs.Flaws.{Flaw, OtherShape, UrlShape};
 ghost use Rattle.gix_url.specs.Grammar.{Spells, SpellsUrl};
 ghost use Rattle.gix_url.specs.Readings.{NoneBut, Refuses};
@@ -23,11 +23,18 @@ pub(super) fn read_url(alloc: Global, input: &[u8], scheme: &[u8], rest: &[u8]) 
     ensures refused { IfErr result (λ e. Refuses input.now e) }
     ensures flaw { IfErr result (λ e. Flaw input.now e) }
 {
-    if scheme == b"file".as_slice() {
+    if is_file(scheme) {
         read_file(alloc, input, rest)
     } else {
         read_other(alloc, input, scheme, rest)
     }
+}
+
+/// Whether the scheme is that of file URLs.
+fn is_file(scheme: &[u8]) -> bool
+    ensures { result ≡ bytes_eq scheme.now (codes "file") }
+{
+    scheme == b"file".as_slice()
 }
 
 /// A URL that is no file URL.
