@@ -1,27 +1,29 @@
 -- Hosts and ports: what a piece of an authority looks like, that it names one host and one port at most, and none where a flaw stands.
-use Rattle.std.proofs.Common.{◌≡◌, ℕ, zero, suc, ◌+◌, ◌<◌, ◌≤◌, Bool, true, false, ◌==◌, ◌||◌, ◌⊎◌, inl, inr, List, [], ◌∷◌, ◌++◌, length, Option, Some, None, Err, ◌^◌, rules, refl, sym, ap, subst, ◌∙◌, arith, append_assoc, length-append, codes}
+use Rattle.std.proofs.Common.{◌≡◌, ℕ, zero, suc, ◌+◌, ◌<◌, ◌≤◌, Bool, true, false, ◌==◌, ◌||◌, ◌⊎◌, inl, inr, List, [], ◌∷◌, ◌++◌, length, take, drop, Option, Some, None, Err, ◌^◌, rules, refl, sym, ap, subst, ◌∙◌, arith, append_assoc, length-append, codes}
 use Rattle.std.specs.List.{list_all, list_any}
-use Rattle.std.specs.Char.{is_ascii_digit}
+use Rattle.std.specs.Char.{is_ascii_digit, to_ascii_lowercase}
 use Rattle.std.specs.Str.Parse.{IsNumeral, digits_value, without_leading_plus}
 use Rattle.std.proofs.lemmas.Str.Parse.{IsNumeralModel, numerals_by_value, parse_digits}
-use Rattle.std.proofs.lemmas.Bool.{both_ways, false≢true, and_parts}
+use Rattle.std.proofs.lemmas.Bool.{cond-false, cond_both, both_ways, false≢true, and_parts, eq-eqb, eqb-true}
 use Rattle.std.proofs.lemmas.Bool.Decides.{nat_tests}
-use Rattle.std.proofs.lemmas.List.{append-nil}
-use Rattle.std.proofs.lemmas.Str.{IsUtf8-from_ascii}
+use Rattle.std.proofs.lemmas.List.{append-nil, map-append, take_all, drop_all}
+use Rattle.std.proofs.Math.Seq.{take-append_seam, drop-append_seam}
+use Rattle.std.proofs.lemmas.Str.{IsUtf8-from_ascii, IsUtf8-append}
+use Rattle.percent_encoding.proofs.PercentLemmas.{length-percent_decode, percent_decode-nil, percent_decode_escape, percent_decode_not_percent}
 use Rattle.std.specs.Str.{IsAscii, IsUtf8}
 use Rattle.percent_encoding.specs.Percent.{percent_decode}
 use Rattle.gix_url.specs.declared.error.UrlFault.{UrlFault}
 use Rattle.gix_url.specs.declared.error.UrlFault.TheVariants as fault
 use Rattle.gix_url.specs.Bytes.{colon, left_bracket, right_bracket, percent_sign, FreeOf, begins_with, lowercase}
-use Rattle.gix_url.specs.Addresses.{IsIpv6Text, IsZone, Literal}
+use Rattle.gix_url.specs.Addresses.{IsIpv6Text, IsZone, is_zone_byte, Literal}
 use Rattle.gix_url.specs.Addresses.Literal.{address, zoned}
 use Rattle.gix_url.specs.Hosts as spec
-use Rattle.gix_url.specs.Hosts.{Mode, HostText, IsLiteral, Bracketed, Inner, IsDigits, Number, IsAddressPiece, ReadsAddress, HoldsTwoColons, IsManyColoned, IsPlainHost, Names, normal_host}
+use Rattle.gix_url.specs.Hosts.{Mode, is_dns_byte, is_http_host_byte, HostText, IsLiteral, Bracketed, Inner, IsDigits, Number, IsAddressPiece, ReadsAddress, HoldsTwoColons, IsManyColoned, IsPlainHost, Names, normal_host}
 use Rattle.gix_url.specs.Hosts.Mode.{strict, bare, loose}
 use Rattle.gix_url.specs.Flaws.{IsNoPort, HasBadPort, IsPortPlace, IsNoHost, IsNoInner, BracketsAround, HasBadHost, NameFlaw}
-use Rattle.gix_url.specs.HostPieces.{Follows, in_brackets}
-use Rattle.gix_url.proofs.CutLemmas.{heads, tails, class_cut_unique, cut_unique, free-append, free_head_tail, free_of_all, not_free}
-use Rattle.gix_url.proofs.AddressLemmas.{address_free, address_two_colons, address_nonempty}
+use Rattle.gix_url.specs.HostPieces.{EndsHost, Follows, IsEscapedZone, IsInner, in_brackets, lowercase_address, shown_literal}
+use Rattle.gix_url.proofs.CutLemmas.{heads, tails, class_cut_unique, cut_unique, free-append, free-cons, free_head_tail, free_of_all, free_or_cut, not_free}
+use Rattle.gix_url.proofs.AddressLemmas.{is_address_byte, address_bytes, address_free, address_two_colons, address_nonempty}
 
 -- ---- ports
 
@@ -47,16 +49,41 @@ number_unique mode text m n h k = h.value ∙ sym k.value
 address_no_percent : (t : List ℕ) → IsIpv6Text t → FreeOf percent_sign t
 address_no_percent t h = address_free percent_sign t refl h
 
--- an IPv6 literal has one normal form
+-- an address in lower case, alone and with a `%` behind it
+lowercase_address_alone : (a : List ℕ) → FreeOf percent_sign a → lowercase_address a ≡ lowercase a
+lowercase_address_alone [] h = refl
+lowercase_address_alone (b ∷ a) h =
+    let (other, more) = free_head_tail percent_sign b a h in
+    cond-false (b == percent_sign) _ _ other ∙ ap (λ t. to_ascii_lowercase b ∷ t) (lowercase_address_alone a more)
+
+lowercase_address_before : (a z : List ℕ) → FreeOf percent_sign a → lowercase_address (a ++ percent_sign ∷ z) ≡ lowercase a ++ percent_sign ∷ z
+lowercase_address_before [] z h = refl
+lowercase_address_before (b ∷ a) z h =
+    let (other, more) = free_head_tail percent_sign b a h in
+    cond-false (b == percent_sign) _ _ other ∙ ap (λ t. to_ascii_lowercase b ∷ t) (lowercase_address_before a z more)
+
+-- the same by the length of what stands before the `%`
+pub lowercase_address_cut : (t a z : List ℕ) → FreeOf percent_sign a → t ≡ a ++ percent_sign ∷ z → lowercase_address t ≡ lowercase (take (length a) t) ++ drop (length a) t
+lowercase_address_cut t a z free e =
+    let front : take (length a) t ≡ a = ap (λ x. take (length a) x) e ∙ take-append_seam a (percent_sign ∷ z) in
+    let behind : drop (length a) t ≡ percent_sign ∷ z = ap (λ x. drop (length a) x) e ∙ drop-append_seam a (percent_sign ∷ z) in
+    ap lowercase_address e ∙ lowercase_address_before a z free
+    ∙ sym (ap (λ x. lowercase x ++ drop (length a) t) front ∙ ap (λ x. lowercase a ++ x) behind)
+
+pub lowercase_address_whole : (t : List ℕ) → FreeOf percent_sign t → lowercase_address t ≡ lowercase (take (length t) t) ++ drop (length t) t
+lowercase_address_whole t free =
+    lowercase_address_alone t free ∙ sym (append-nil (lowercase t))
+    ∙ sym (ap (λ x. lowercase x ++ drop (length t) t) (take_all (length t) t (omega arith)) ∙ ap (λ x. lowercase t ++ x) (drop_all (length t) t (omega arith)))
+
+-- the normal form of an IPv6 literal is in lower case up to its `%`
+pub literal_normal : (t n : List ℕ) → Literal t n → n ≡ lowercase_address t
+literal_normal t n (address h e) = e ∙ sym (lowercase_address_alone t (address_no_percent t h))
+literal_normal t n (zoned a z h zone is e) =
+    e ∙ sym (ap lowercase_address is ∙ lowercase_address_before a (50 ∷ (53 ∷ z)) (address_no_percent a h))
+
+-- so it is one
 pub literal_unique : (t m n : List ℕ) → Literal t m → Literal t n → m ≡ n
-literal_unique t m n (address h e) (address k f) = e ∙ sym f
-literal_unique t m n (address h e) (zoned a z k zone whole f) =
-    absurd (not_free percent_sign a (50 ∷ 53 ∷ z) (subst (λ x. FreeOf percent_sign x) whole (address_no_percent t h)))
-literal_unique t m n (zoned a z h zone whole e) (address k f) =
-    absurd (not_free percent_sign a (50 ∷ 53 ∷ z) (subst (λ x. FreeOf percent_sign x) whole (address_no_percent t k)))
-literal_unique t m n (zoned a z h zone whole e) (zoned b y k zone' whole' f) =
-    let parts = cut_unique percent_sign a b (50 ∷ 53 ∷ z) (50 ∷ 53 ∷ y) (address_no_percent a h) (address_no_percent b k) (sym whole ∙ whole') in
-    e ∙ ap (λ x. lowercase x ++ (codes "%25" ++ z)) parts.0 ∙ ap (λ x. lowercase b ++ (percent_sign ∷ x)) parts.1 ∙ sym f
+literal_unique t m n h k = literal_normal t m h ∙ sym (literal_normal t n k)
 
 -- a text between brackets stands for one text, outside HTTP
 bracketed_unique : (t m n : List ℕ) → Bracketed t m → Bracketed t n → m ≡ n
@@ -190,7 +217,7 @@ address_piece_many piece (inr (a, h, e)) =
 -- the whole of a piece with such colons is the host
 data ManyNames (mode : Mode) (piece : List ℕ) (host : Option (List ℕ)) : Type 0 where
   unbracketed : ReadsAddress mode piece → host ≡ Some (lowercase piece) → ManyNames mode piece host
-  whole : (named : List ℕ) → ¬ (mode ≡ strict) → ¬ ReadsAddress mode piece → HostText mode piece named → host ≡ Some named → ManyNames mode piece host
+  other_host : (named : List ℕ) → ¬ (mode ≡ strict) → ¬ ReadsAddress mode piece → HostText mode piece named → host ≡ Some named → ManyNames mode piece host
 
 -- a name by the looks of its piece
 data Shape (mode : Mode) (piece : List ℕ) (host : Option (List ℕ)) (port : Option ℕ) : Type 0 where
@@ -215,16 +242,16 @@ name_shape {mode} {piece} (Names.unbracketed r h p) = Shape.many (address_piece_
 name_shape {mode} {piece} (Names.plain named h t is p) = Shape.plain piece named [] h t (sym (append-nil piece)) (Follows.nothing refl is p)
 name_shape (Names.plain_colon text named h t e is p) = Shape.plain text named (colon ∷ []) h t e (Follows.lone_colon refl is p)
 name_shape (Names.plain_port text named digits n h t k e is p) = Shape.plain text named (colon ∷ digits) h t e (Follows.number digits n k refl is p)
-name_shape (Names.colons named s r b m t is p) = Shape.many (b, m) (ManyNames.whole named s r t is) p
+name_shape (Names.colons named s r b m t is p) = Shape.many (b, m) (ManyNames.other_host named s r t is) p
 
 -- and every shape has a name
 
 -- the shape of a name tells the host and the port
 many_unique : (mode : Mode) (piece : List ℕ) (host second : Option (List ℕ)) → ManyNames mode piece host → ManyNames mode piece second → host ≡ second
 many_unique mode piece host second (ManyNames.unbracketed r h) (ManyNames.unbracketed s k) = h ∙ sym k
-many_unique mode piece host second (ManyNames.unbracketed r h) (ManyNames.whole n s u t k) = absurd (u r)
-many_unique mode piece host second (ManyNames.whole m s u t h) (ManyNames.unbracketed r k) = absurd (u r)
-many_unique mode piece host second (ManyNames.whole m s u t h) (ManyNames.whole n v w x k) = h ∙ ap Some (host_text_unique mode piece m n t x) ∙ sym k
+many_unique mode piece host second (ManyNames.unbracketed r h) (ManyNames.other_host n s u t k) = absurd (u r)
+many_unique mode piece host second (ManyNames.other_host m s u t h) (ManyNames.unbracketed r k) = absurd (u r)
+many_unique mode piece host second (ManyNames.other_host m s u t h) (ManyNames.other_host n v w x k) = h ∙ ap Some (host_text_unique mode piece m n t x) ∙ sym k
 
 -- what is read between brackets: the cut and what follows
 bracket_cut : (x y rest last piece : List ℕ) → FreeOf right_bracket x → FreeOf right_bracket y → piece ≡ left_bracket ∷ (x ++ right_bracket ∷ rest) → piece ≡ left_bracket ∷ (y ++ right_bracket ∷ last) → (x ≡ y) × (rest ≡ last)
@@ -338,12 +365,12 @@ bad_host_unnamed mode piece host port (HasBadHost.plain front rest h place e non
 bad_host_unnamed mode piece host port (HasBadHost.colons_on_the_web e b m) s =
     elim (named_whole mode piece host port (b, m) s) [
       | ManyNames.unbracketed r h ↦ strict_not_bare (sym e ∙ r.0)
-      | ManyNames.whole n w r t h ↦ w e
+      | ManyNames.other_host n w r t h ↦ w e
     ]
 bad_host_unnamed mode piece host port (HasBadHost.colons w r b m none) s =
     elim (named_whole mode piece host port (b, m) s) [
       | ManyNames.unbracketed q h ↦ r q
-      | ManyNames.whole n v q t h ↦ none n t
+      | ManyNames.other_host n v q t h ↦ none n t
     ]
 bad_host_unnamed mode piece host port (HasBadHost.open_bracket b none) s =
     let n = named_in_brackets mode piece host port b s in
@@ -368,9 +395,282 @@ ascii_class test within [] h i = omega arith
 ascii_class test within (b ∷ bs) h zero = within b (and_parts (test b) (list_all test bs) h).0
 ascii_class test within (b ∷ bs) h (suc i) = ascii_class test within bs (and_parts (test b) (list_all test bs) h).1 i
 
--- decimal digits are
+-- one such byte is text
+one_ascii : (b : ℕ) → b < 128 → IsAscii (b ∷ [])
+one_ascii b h zero = h
+one_ascii b h (suc i) = omega arith
+
+one_utf8 : (b : ℕ) → b < 128 → IsUtf8 (b ∷ [])
+one_utf8 b h = IsUtf8-from_ascii (b ∷ []) (one_ascii b h)
+
+-- decimal digits are ASCII
 digit_ascii : (b : ℕ) → is_ascii_digit b ≡ true → b < 128
 digit_ascii b h = grind (arith, nat_tests)
 
 pub digits_utf8 : (bs : List ℕ) → list_all is_ascii_digit bs ≡ true → IsUtf8 bs
 digits_utf8 bs h = IsUtf8-from_ascii bs (ascii_class is_ascii_digit digit_ascii bs h)
+
+-- a byte of an address is ASCII
+address_byte_ascii : (b : ℕ) → is_address_byte b ≡ true → b < 128
+address_byte_ascii b h = grind (arith, nat_tests)
+
+-- lower case keeps ASCII
+byte_lowercase_ascii : (b : ℕ) → b < 128 → to_ascii_lowercase b < 128
+byte_lowercase_ascii b h = grind (arith, nat_tests)
+
+lowercase_ascii : (bs : List ℕ) → IsAscii bs → IsAscii (lowercase bs)
+lowercase_ascii [] h i = omega arith
+lowercase_ascii (b ∷ bs) h zero = byte_lowercase_ascii b (h 0)
+lowercase_ascii (b ∷ bs) h (suc i) = lowercase_ascii bs (λ k. h (suc k)) i
+
+-- so an address in lower case is text
+address_lowercase_ascii : (t : List ℕ) → IsIpv6Text t → IsAscii (lowercase t)
+address_lowercase_ascii t h = lowercase_ascii t (ascii_class is_address_byte address_byte_ascii t (address_bytes t h))
+
+address_lowercase_utf8 : (t : List ℕ) → IsIpv6Text t → IsUtf8 (lowercase t)
+address_lowercase_utf8 t h = IsUtf8-from_ascii (lowercase t) (address_lowercase_ascii t h)
+
+-- ---- decoding behind an address
+
+-- what holds no `%` stays, with another text behind it
+decoded_behind : (a rest : List ℕ) → FreeOf percent_sign a → percent_decode (a ++ rest) ≡ a ++ percent_decode rest
+decoded_behind [] rest h = refl
+decoded_behind (b ∷ a) rest h =
+    let (other, more) = free_head_tail percent_sign b a h in
+    percent_decode_not_percent b (a ++ rest) (λ e. both_ways (b == percent_sign) other (eq-eqb b percent_sign e)) ∙ ap (λ t. b ∷ t) (decoded_behind a rest more)
+
+-- lower case brings no `%`
+byte_lowercase_percent : (b : ℕ) → (b == percent_sign) ≡ false → (to_ascii_lowercase b == percent_sign) ≡ false
+byte_lowercase_percent b h = grind (arith, nat_tests)
+
+lowercase_no_percent : (a : List ℕ) → FreeOf percent_sign a → FreeOf percent_sign (lowercase a)
+lowercase_no_percent [] h = refl
+lowercase_no_percent (b ∷ a) h =
+    let (other, more) = free_head_tail percent_sign b a h in
+    free-cons percent_sign (to_ascii_lowercase b) (lowercase a) (byte_lowercase_percent b other) (lowercase_no_percent a more)
+
+-- an address stays as it is decoded
+address_decoded : (a : List ℕ) → FreeOf percent_sign a → percent_decode a ≡ a
+address_decoded a h = ap percent_decode (sym (append-nil a)) ∙ decoded_behind a [] h ∙ ap (λ t. a ++ t) percent_decode-nil ∙ append-nil a
+
+-- and `%25` behind it is a `%`
+zone_decoded : (a z : List ℕ) → FreeOf percent_sign a → percent_decode (a ++ percent_sign ∷ (50 ∷ (53 ∷ z))) ≡ a ++ percent_sign ∷ percent_decode z
+zone_decoded a z h =
+    decoded_behind a (percent_sign ∷ (50 ∷ (53 ∷ z))) h ∙ ap (λ t. a ++ t) (percent_decode_escape percent_sign 50 53 z refl (omega arith) (omega arith))
+
+-- a literal is decoded before or after it is lowercased
+literal_decoded : (t n : List ℕ) → Literal t n → percent_decode n ≡ lowercase_address (percent_decode t)
+literal_decoded t n (address h e) =
+    let free = address_no_percent t h in
+    ap percent_decode e ∙ address_decoded (lowercase t) (lowercase_no_percent t free) ∙ sym (ap lowercase_address (address_decoded t free) ∙ lowercase_address_alone t free)
+literal_decoded t n (zoned a z h zone is e) =
+    let free = address_no_percent a h in
+    ap percent_decode e ∙ zone_decoded (lowercase a) z (lowercase_no_percent a free)
+    ∙ sym (ap (λ x. lowercase_address (percent_decode x)) is ∙ ap lowercase_address (zone_decoded a z free) ∙ lowercase_address_before a (percent_decode z) free)
+
+-- a decoded literal is text
+literal_utf8 : (t n : List ℕ) → Literal t n → IsUtf8 (percent_decode n)
+literal_utf8 t n (address h e) =
+    let shown = ap percent_decode e ∙ address_decoded (lowercase t) (lowercase_no_percent t (address_no_percent t h)) in
+    subst IsUtf8 (sym shown) (address_lowercase_utf8 t h)
+literal_utf8 t n (zoned a z h zone is e) =
+    let shown = ap percent_decode e ∙ zone_decoded (lowercase a) z (lowercase_no_percent a (address_no_percent a h)) in
+    subst IsUtf8 (sym shown) (IsUtf8-append (lowercase a) (percent_sign ∷ percent_decode z) (address_lowercase_utf8 a h) (IsUtf8-append (percent_sign ∷ []) (percent_decode z) (one_utf8 percent_sign (omega arith)) zone.text))
+
+-- outside HTTP a literal between brackets stands for its decoding
+bracketed_literal : (t n : List ℕ) → Literal t n → Bracketed t (lowercase_address (percent_decode t))
+bracketed_literal t n h = spec.Bracketed.literal n h (sym (literal_decoded t n h)) (subst IsUtf8 (literal_decoded t n h) (literal_utf8 t n h))
+
+-- a literal between brackets stands for what is shown of it
+pub literal_inner : (mode : Mode) (t : List ℕ) → IsLiteral t → Inner mode t (shown_literal mode t)
+literal_inner strict t (n, h) = subst (λ x. Literal t x) (literal_normal t n h) h
+literal_inner bare t (n, h) = bracketed_literal t n h
+literal_inner loose t (n, h) = bracketed_literal t n h
+
+-- ---- literals as they are read
+
+-- an address alone
+pub literal_alone : (t : List ℕ) → IsIpv6Text t → IsLiteral t
+literal_alone t h = (lowercase t, address h refl)
+
+-- an address, `%25` and a zone
+pub literal_zoned : (t a e : List ℕ) → t ≡ a ++ percent_sign ∷ e → IsIpv6Text a → IsEscapedZone e → IsLiteral t
+literal_zoned t a e whole h (z, zone, is) =
+    (lowercase a ++ percent_sign ∷ (50 ∷ (53 ∷ z)), zoned a z h zone (whole ∙ ap (λ x. a ++ percent_sign ∷ x) is) refl)
+
+-- a text without `%` is a literal only as an address
+pub literal_address : (t : List ℕ) → FreeOf percent_sign t → IsLiteral t → IsIpv6Text t
+literal_address t f (n, address h e) = h
+literal_address t f (n, zoned a z h zone whole e) = absurd (not_free percent_sign a (50 ∷ 53 ∷ z) (subst (λ x. FreeOf percent_sign x) whole f))
+
+-- a text with a `%` is one only as an address and a zone
+pub literal_parts : (t a e : List ℕ) → FreeOf percent_sign a → t ≡ a ++ percent_sign ∷ e → IsLiteral t → IsIpv6Text a × IsEscapedZone e
+literal_parts t a e f whole (n, address h k) = absurd (not_free percent_sign a e (subst (λ x. FreeOf percent_sign x) whole (address_no_percent t h)))
+literal_parts t a e f whole (n, zoned b z h zone is k) =
+    let parts = cut_unique percent_sign b a (50 ∷ 53 ∷ z) e (address_no_percent b h) f (sym is ∙ whole) in
+    (subst IsIpv6Text parts.0 h, (z, zone, sym parts.1))
+
+-- ---- a host and a port as they are read
+
+-- a text whose length isn't tested to be 0
+pub some_tested : (t : List ℕ) → false ≡ (length t == 0) → 0 < length t
+some_tested [] e = absurd (false≢true e)
+some_tested (b ∷ t) e = omega arith
+
+-- nothing is in front of a first colon: no port is marked
+pub colon_first : (piece front rest : List ℕ) → true ≡ (length front == 0) → piece ≡ front ++ colon ∷ rest → IsManyColoned piece
+colon_first piece [] rest none e = inl (ap (begins_with colon) e)
+colon_first piece (b ∷ front) rest none e = absurd (omega (arith, eqb-true (length (b ∷ front)) 0 (sym none)))
+
+-- nor is one where another colon follows
+pub colon_again : (piece front rest : List ℕ) → ¬ FreeOf colon rest → piece ≡ front ++ colon ∷ rest → IsManyColoned piece
+colon_again piece front rest held e =
+    elim (free_or_cut colon rest) [
+      | inl h ↦ absurd (held h)
+      | inr (y, z, f, k) ↦ inr (front, y, z, e ∙ ap (λ t. front ++ colon ∷ t) k)
+    ]
+
+-- what stands before the first colon, if anything, is a host outside brackets
+pub plain_front : (piece front rest : List ℕ) → false ≡ (length front == 0) → FreeOf colon front → begins_with left_bracket piece ≡ false → piece ≡ front ++ rest → IsPlainHost front
+plain_front piece front rest some free none e =
+    record { nonempty = some_tested front some; no_colon = free; no_bracket = sym (begins-append left_bracket front rest (some_tested front some)) ∙ ap (begins_with left_bracket) (sym e) ∙ none }
+
+-- a piece without a colon is one
+pub plain_piece : (piece : List ℕ) → 0 < length piece → FreeOf colon piece → begins_with left_bracket piece ≡ false → IsPlainHost piece
+plain_piece piece some free none = record { nonempty = some; no_colon = free; no_bracket = none }
+
+-- a byte that is no digit spells no port
+pub not_digits : (mode : Mode) (digits : List ℕ) → false ≡ list_all is_ascii_digit digits → IsNoPort mode digits
+not_digits mode [] e = absurd (false≢true e)
+not_digits mode (b ∷ digits) e = (omega arith, λ port n. both_ways _ (sym e) n.digits.1)
+
+-- a host in brackets, and what follows
+pub bracketed_name : (mode : Mode) (behind x rest shown : List ℕ) (host : Option (List ℕ)) (port : Option ℕ) → FreeOf right_bracket x → behind ≡ x ++ right_bracket ∷ rest → IsInner mode x shown → Follows mode shown rest host port → Names mode (left_bracket ∷ behind) host port
+bracketed_name mode behind x rest shown host port free e (inner, stands, is) (Follows.nothing f h p) =
+    Names.bracketed x inner free stands (ap (λ t. left_bracket ∷ t) (e ∙ ap (λ t. x ++ right_bracket ∷ t) f)) (h ∙ ap Some is) p
+bracketed_name mode behind x rest shown host port free e (inner, stands, is) (Follows.lone_colon f h p) =
+    Names.bracketed_colon x inner free stands (ap (λ t. left_bracket ∷ t) (e ∙ ap (λ t. x ++ right_bracket ∷ t) f)) (h ∙ ap (λ t. Some (t ++ colon ∷ [])) is ∙ ap Some (brackets_colon inner)) p
+bracketed_name mode behind x rest shown host port free e (inner, stands, is) (Follows.number d n k f h p) =
+    Names.bracketed_port x inner d n free stands k (ap (λ t. left_bracket ∷ t) (e ∙ ap (λ t. x ++ right_bracket ∷ t) f)) (h ∙ ap Some is) p
+
+-- a host outside them, and a colon and what follows
+pub plain_name : (mode : Mode) (piece front rest named : List ℕ) (host : Option (List ℕ)) (port : Option ℕ) → IsPlainHost front → piece ≡ front ++ colon ∷ rest → HostText mode front named → Follows mode named (colon ∷ rest) host port → Names mode piece host port
+plain_name mode piece front rest named host port h e t (Follows.nothing f is p) = cc
+plain_name mode piece front rest named host port h e t (Follows.lone_colon f is p) = Names.plain_colon front named h t (e ∙ ap (λ x. front ++ x) f) is p
+plain_name mode piece front rest named host port h e t (Follows.number d n k f is p) = Names.plain_port front named d n h t k (e ∙ ap (λ x. front ++ x) f) is p
+
+-- an opening bracket that none closes
+pub not_closed : (mode : Mode) (behind : List ℕ) → FreeOf right_bracket behind → HasBadHost mode (left_bracket ∷ behind)
+not_closed mode behind free =
+    HasBadHost.open_bracket refl (λ x rest a. not_free right_bracket x rest (subst (λ t. FreeOf right_bracket t) (tails a.joined) free))
+
+-- a closing one that another byte than a colon follows
+pub not_ended : (mode : Mode) (behind x rest : List ℕ) → FreeOf right_bracket x → behind ≡ x ++ right_bracket ∷ rest → ¬ EndsHost rest → HasBadHost mode (left_bracket ∷ behind)
+not_ended mode behind x rest free e open_end =
+    HasBadHost.open_bracket refl (λ y last a. open_end (subst EndsHost (cut_unique right_bracket y x last rest a.closed free (sym (tails a.joined) ∙ e)).1 a.followed))
+
+-- brackets around what stands for nothing
+pub not_inner : (mode : Mode) (behind x rest : List ℕ) → FreeOf right_bracket x → behind ≡ x ++ right_bracket ∷ rest → EndsHost rest → IsNoInner mode x → HasBadHost mode (left_bracket ∷ behind)
+not_inner mode behind x rest free e ended none =
+    HasBadHost.brackets x rest record { closed = free; joined = ap (λ t. left_bracket ∷ t) e; followed = ended } none
+
+-- brackets with a colon and no port behind them
+pub no_port_behind : (mode : Mode) (behind x rest digits : List ℕ) → FreeOf right_bracket x → behind ≡ x ++ right_bracket ∷ rest → rest ≡ colon ∷ digits → IsNoPort mode digits → HasBadPort mode (left_bracket ∷ behind)
+no_port_behind mode behind x rest digits free e f none =
+    HasBadPort.bracketed x digits free (ap (λ t. left_bracket ∷ t) (e ∙ ap (λ t. x ++ right_bracket ∷ t) f)) none
+
+-- nothing follows where no colon does
+pub nothing_follows : (rest : List ℕ) → EndsHost rest → begins_with colon rest ≡ false → rest ≡ []
+nothing_follows rest (inl e) none = e
+nothing_follows rest (inr h) none = absurd (both_ways _ none h)
+
+-- there is room for one more byte of a decoding, where there is for the text
+pub room_for_next : (text yielded rest : List ℕ) (byte : ℕ) (left : List ℕ) → percent_decode text ≡ yielded ++ rest → rest ≡ byte ∷ left → length yielded + 1 ≤ length text
+room_for_next text yielded rest byte left e f =
+    omega (arith, (length-percent_decode text).0, ap length e, length-append yielded rest, ap length f)
+
+pub room_for_all : (text yielded rest : List ℕ) → percent_decode text ≡ yielded ++ rest → length yielded ≤ length text
+room_for_all text yielded rest e = omega (arith, (length-percent_decode text).0, ap length e, length-append yielded rest)
+
+-- ---- hosts are text
+
+-- a byte that looks like a part of a domain name is ASCII
+dns_byte_ascii : (b : ℕ) → is_dns_byte b ≡ true → b < 128
+dns_byte_ascii b h = grind (arith, nat_tests)
+
+-- so is a byte of a host of HTTP
+http_byte_ascii : (b : ℕ) → is_http_host_byte b ≡ true → b < 128
+http_byte_ascii b h = grind (arith, nat_tests)
+
+-- and one of a zone
+zone_byte_ascii : (b : ℕ) → is_zone_byte b ≡ true → b < 128
+zone_byte_ascii b h = grind (arith, nat_tests)
+
+-- the normal form of a host that is text is text
+normal_utf8 : (host : List ℕ) → IsUtf8 host → IsUtf8 (normal_host host)
+normal_utf8 host u =
+    cond_both (list_all is_dns_byte host) (lowercase host) host IsUtf8
+    (λ h. IsUtf8-from_ascii (lowercase host) (lowercase_ascii host (ascii_class is_dns_byte dns_byte_ascii host h)))
+    (λ h. u)
+
+-- a host outside brackets is text
+host_text_utf8 : (mode : Mode) (t named : List ℕ) → HostText mode t named → IsUtf8 named
+host_text_utf8 strict t named h = subst IsUtf8 (sym h.1) (normal_utf8 t (IsUtf8-from_ascii t (ascii_class is_http_host_byte http_byte_ascii t h.0)))
+host_text_utf8 bare t named h = subst IsUtf8 (sym h.1) (normal_utf8 (percent_decode t) h.0)
+host_text_utf8 loose t named h = subst IsUtf8 (sym h.1) (normal_utf8 (percent_decode t) h.0)
+
+-- a byte in front of or behind a text
+utf8_cons : (b : ℕ) (t : List ℕ) → b < 128 → IsUtf8 t → IsUtf8 (b ∷ t)
+utf8_cons b t h u = IsUtf8-append (b ∷ []) t (one_utf8 b h) u
+
+utf8_push : (b : ℕ) (t : List ℕ) → b < 128 → IsUtf8 t → IsUtf8 (t ++ b ∷ [])
+utf8_push b t h u = IsUtf8-append t (b ∷ []) u (one_utf8 b h)
+
+-- the normal form of a literal is text
+literal_normal_utf8 : (t n : List ℕ) → Literal t n → IsUtf8 n
+literal_normal_utf8 t n (address h e) = subst IsUtf8 (sym e) (address_lowercase_utf8 t h)
+literal_normal_utf8 t n (zoned a z h zone is e) =
+    let text : IsUtf8 z = IsUtf8-from_ascii z (ascii_class is_zone_byte zone_byte_ascii z zone.bytes) in
+    subst IsUtf8 (sym e) (IsUtf8-append (lowercase a) (percent_sign ∷ (50 ∷ (53 ∷ z))) (address_lowercase_utf8 a h)
+    (utf8_cons percent_sign _ (omega arith) (utf8_cons 50 _ (omega arith) (utf8_cons 53 z (omega arith) text))))
+
+-- what stands between brackets is text
+inner_utf8 : (mode : Mode) (t n : List ℕ) → Inner mode t n → IsUtf8 n
+inner_utf8 strict t n h = literal_normal_utf8 t n h
+inner_utf8 bare t n (spec.Bracketed.literal x h e u) = u
+inner_utf8 bare t n (spec.Bracketed.other h e u) = u
+inner_utf8 loose t n (spec.Bracketed.literal x h e u) = u
+inner_utf8 loose t n (spec.Bracketed.other h e u) = u
+
+brackets_utf8 : (inner : List ℕ) → IsUtf8 inner → IsUtf8 (in_brackets inner)
+brackets_utf8 inner u = utf8_cons left_bracket (inner ++ right_bracket ∷ []) (omega arith) (utf8_push right_bracket inner (omega arith) u)
+
+-- a value is told by its option
+some_same : {x y : List ℕ} → Some x ≡ Some y → x ≡ y
+some_same e = cc
+
+some_not_none : {x : List ℕ} → Some x ≡ None → ⊥
+some_not_none e = cc
+
+-- a host that something follows is text
+follows_utf8 : {mode : Mode} {rest : List ℕ} {port : Option ℕ} (base host : List ℕ) → IsUtf8 base → Follows mode base rest (Some host) port → IsUtf8 host
+follows_utf8 base host u (Follows.nothing e h p) = subst IsUtf8 (sym (some_same h)) u
+follows_utf8 base host u (Follows.lone_colon e h p) = subst IsUtf8 (sym (some_same h)) (utf8_push colon base (omega arith) u)
+follows_utf8 base host u (Follows.number d n k e h p) = subst IsUtf8 (sym (some_same h)) u
+
+-- a lowercased address, with or without a colon
+address_piece_utf8 : (piece : List ℕ) → IsAddressPiece piece → IsUtf8 (lowercase piece)
+address_piece_utf8 piece (inl h) = address_lowercase_utf8 piece h
+address_piece_utf8 piece (inr (a, h, e)) =
+    subst IsUtf8 (sym (ap lowercase e ∙ map-append to_ascii_lowercase a (colon ∷ []))) (utf8_push colon (lowercase a) (omega arith) (address_lowercase_utf8 a h))
+
+shape_utf8 : (mode : Mode) (piece host : List ℕ) (port : Option ℕ) → Shape mode piece (Some host) port → IsUtf8 host
+shape_utf8 mode piece host port (Shape.nothing e h p) = absurd (some_not_none h)
+shape_utf8 mode piece host port (Shape.bracketed x inner rest f i e g) = follows_utf8 (in_brackets inner) host (brackets_utf8 inner (inner_utf8 mode x inner i)) g
+shape_utf8 mode piece host port (Shape.plain front named rest h t e g) = follows_utf8 named host (host_text_utf8 mode front named t) g
+shape_utf8 mode piece host port (Shape.many m (ManyNames.unbracketed r h) p) = subst IsUtf8 (sym (some_same h)) (address_piece_utf8 piece r.1)
+shape_utf8 mode piece host port (Shape.many m (ManyNames.other_host n s r t h) p) = subst IsUtf8 (sym (some_same h)) (host_text_utf8 mode piece n t)
+
+-- a host that is named is text
+pub names_utf8 : (mode : Mode) (piece host : List ℕ) (port : Option ℕ) → Names mode piece (Some host) port → IsUtf8 host
+names_utf8 mode piece host port h = shape_utf8 mode piece host port (name_shape h)

@@ -7,6 +7,12 @@ pub mod EscapeLemmas
 pub mod LineLemmas
 pub mod EscapeSets
 pub mod HostLemmas
+pub mod LengthLemmas
+pub mod UrlLemmas
+pub mod UrlLocationLemmas
+pub mod ShapeLemmas
 pub mod FormLemmas
 pub mod UniqueLemmas
 pub mod KeptLemmas
+pub mod ScpLemmas
+pub mod SettledLemmas

@@ -193,7 +193,7 @@ fronts_unique b front other path second (ScpFront.bracketed x y f m i) (ScpFront
     (i ∙ ap (λ s. left_bracket ∷ (s ++ right_bracket ∷ y)) outer.0 ∙ ap (λ s. left_bracket ∷ (z ++ right_bracket ∷ s)) inner.0 ∙ sym j, inner.1)
 
 -- a front holds one user and one host free of `@`
-scp_user_unique : (front : List ℕ) (user other : Option (List ℕ)) (host second : List ℕ) → FreeOf at_sign host → FreeOf at_sign second → ScpUser front user host → ScpUser front other second → (user ≡ other) × (host ≡ second)
+pub scp_user_unique : (front : List ℕ) (user other : Option (List ℕ)) (host second : List ℕ) → FreeOf at_sign host → FreeOf at_sign second → ScpUser front user host → ScpUser front other second → (user ≡ other) × (host ≡ second)
 scp_user_unique front user other host second f g (ScpUser.host_alone e n) (ScpUser.host_alone k m) = (n ∙ sym m, sym e ∙ k)
 scp_user_unique front user other host second f g (ScpUser.host_alone e n) (ScpUser.with_user u k m) =
     absurd (not_free at_sign u second (subst (λ s. FreeOf at_sign s) (sym e ∙ k) f))
@@ -278,7 +278,7 @@ open_bracket_unnamed x named f (Names.plain_port text y digits number g i d e h 
 open_bracket_unnamed x named f (Names.colons y m a g i t h p) = bracket_first x g
 
 -- such a host isn't one of the scp form
-open_bracket_no_host : (host x meant : List ℕ) → host ≡ left_bracket ∷ x → FreeOf right_bracket x → ScpHost host meant → ⊥
+pub open_bracket_no_host : (host x meant : List ℕ) → host ≡ left_bracket ∷ x → FreeOf right_bracket x → ScpHost host meant → ⊥
 open_bracket_no_host host x meant e f h =
     open_bracket_unnamed (escaped_percents x) h.named (lacks_escaped_percents (λ b. b == right_bracket) x refl refl refl f) (subst (λ z. Names bare (escaped_percents z) (Some h.named) None) e h.names)
 
@@ -298,7 +298,7 @@ address_bytes_ascii (b ∷ t) h =
     All-cons (λ b. b < 128) b t (address_byte_ascii b parts.0) (address_bytes_ascii t parts.1)
 
 -- an address is UTF-8
-address_utf8 : (a : List ℕ) → IsIpv6Text a → IsUtf8 a
+pub address_utf8 : (a : List ℕ) → IsIpv6Text a → IsUtf8 a
 address_utf8 a h = IsUtf8-from_ascii a (IsAscii-from_all a (address_bytes_ascii a (address_bytes a h)))
 
 -- an address in brackets names itself in lower case
@@ -315,7 +315,7 @@ bracketed_address_host host a meant e address h =
     unbrackets_unique h.named meant (lowercase a) h.unbracketed (Unbrackets.brackets (same_Some h.named (left_bracket ∷ (lowercase a ++ right_bracket ∷ [])) names.0))
 
 -- what the front of such a text can be: it ends within the address, or behind its bracket
-abbrev FrontOf : List ℕ → List ℕ → List ℕ → List ℕ → List ℕ → List ℕ → Type 0
+abbrev pub FrontOf : List ℕ → List ℕ → List ℕ → List ℕ → List ℕ → List ℕ → Type 0
 FrontOf user address path x front second =
     (front ≡ user ++ at_sign ∷ (left_bracket ∷ x)) ⊎ ((front ≡ user ++ at_sign ∷ (left_bracket ∷ (address ++ right_bracket ∷ []))) × (second ≡ path))
 
@@ -339,7 +339,7 @@ inner_front user x y z rest inside after front second cut f u c i n e whole =
     e ∙ (λ j. outer.0 j ++ right_bracket ∷ inner.0 j) ∙ sym (append_assoc y (right_bracket ∷ z) (at_sign ∷ (left_bracket ∷ x))) ∙ ap (λ s. s ++ at_sign ∷ (left_bracket ∷ x)) (sym cut)
 
 -- the fronts of the scp form in a text with the shape
-front_of_addressed : (b user address path x y front second : List ℕ) → AddressedShape b user address path → FreeOf colon x → address ≡ x ++ colon ∷ y → b ≡ front ++ colon ∷ second → ScpFront b front → FrontOf user address path x front second
+pub front_of_addressed : (b user address path x y front second : List ℕ) → AddressedShape b user address path → FreeOf colon x → address ≡ x ++ colon ∷ y → b ≡ front ++ colon ∷ second → ScpFront b front → FrontOf user address path x front second
 front_of_addressed b user address path x y front second h f e j (ScpFront.plain g blank) =
     inl (cut_unique colon front (user ++ at_sign ∷ (left_bracket ∷ x)) second (y ++ right_bracket ∷ (colon ∷ path)) g (addressed_front_free user x h.no_colon f) (sym j ∙ h.joined ∙ addressed_joined user address path x y e)).0
 front_of_addressed b user address path x y front second h f e j (ScpFront.bracketed inside after i n k) =

@@ -4,7 +4,7 @@
 //! definitions name them, as slices of the piece, and each refusal has its flaw. It takes no memory but for the
 //! text of a host, when that is built.
 
-ghost use Rattle.std.specs.Prelude.{◌≡◌, ℕ, ◌<◌, ◌↔◌, ◌++◌, ◌∷◌, [], List, Option, Some, None, IsTrue, IfOk, IfErr, MatchOption, true, false, length};
+ghost use Rattle.std.specs.Prelude.{◌≡◌, ℕ, ◌+◌, ◌≤◌, vec_len, vec_capacity, string_bytes, IsUtf8, ◌<◌, ◌↔◌, ◌++◌, ◌∷◌, [], List, take, drop, Option, Some, None, IsTrue, IfOk, IfErr, MatchOption, true, false, length};
 ghost use Rattle.std.specs.Char.{is_ascii_digit};
 ghost use Rattle.std.specs.List.{list_all};
 ghost use Rattle.gix_url.specs.Addresses as address;
@@ -12,12 +12,15 @@ ghost use Rattle.gix_url.specs.Bytes.{begins_with, colon, left_bracket, lowercas
 ghost use Rattle.gix_url.specs.Flaws.{IsNoHost, IsNoInner, IsNoPort, NameFlaw};
 ghost use Rattle.gix_url.specs.Hosts as spec;
 ghost use Rattle.gix_url.specs.Hosts.{HostText, Inner, IsAddressPiece, IsLiteral, IsManyColoned, Names, Number, ReadsAddress};
-ghost use Rattle.gix_url.specs.HostPieces.{Follows, ReadsName, host_of, host_text, in_brackets, meant, port_of, strictness};
+ghost use Rattle.gix_url.specs.HostPieces.{EndsHost, Follows, IsEscapedZone, IsInner, ReadsName, host_of, host_text, in_brackets, is_bracketed, lowercase_address, meant, piece_text, port_of, settled, shown_literal, strictness, unescaped};
+ghost use Rattle.percent_encoding.specs.Percent as percent;
 
-use crate::bytes::{after, before, cut, is_free_of};
+use crate::bytes::{after, before, cut, is_free_of, starts_with_byte};
 use crate::error::UrlFault;
 use crate::escape::{decodes_to_utf8, is_sound};
 use crate::ipv6::is_address;
+use percent_encoding::percent_decode;
+use std::alloc::{AllocError, Global};
 
 /// How strictly a host is read.
 #[derive(Clone, Copy, Debug, PartialEq, Eq)]
@@ -40,9 +43,9 @@ pub(crate) enum HostPiece<'a> {
     /// Any other host outside brackets: it is decoded.
     Decoded(&'a [u8]),
     /// An IPv6 literal between brackets, in HTTP: the address is lowercased, the zone with its `%25` stays.
-    Literal { address: &'a [u8], zone: &'a [u8] },
-    /// The same elsewhere: it is then decoded.
-    DecodedLiteral { address: &'a [u8], zone: &'a [u8] },
+    Literal(&'a [u8]),
+    /// The same elsewhere: it is decoded, and the address lowercased.
+    DecodedLiteral(&'a [u8]),
     /// Any other text between brackets: it is decoded.
     Bracketed(&'a [u8]),
 }
@@ -58,7 +61,7 @@ pub(crate) struct NamedHost<'a> {
     pub(crate) port: Option<u16>,
 }
 
-/// Reads a host and a port, where the piece isn't empty.
+/// Reads a host and a port: none where the piece is empty.
 pub(crate) fn read_host(mode: Mode, piece: &[u8]) -> Result<Option<NamedHost<'_>>, UrlFault>
     ensures named { IfOk result (λ named. Names (strictness mode) piece.now (host_of named) (port_of named)) }
     ensures unnamed { IfErr result (λ fault. (host : Option (List ℕ)) (port : Option ℕ) → ¬ Names (strictness mode) piece.now host port) }
@@ -67,11 +70,19 @@ pub(crate) fn read_host(mode: Mode, piece: &[u8]) -> Result<Option<NamedHost<'_>
     if piece.is_empty() {
         return Ok(None);
     }
-    let named = match after(piece, b'[') {
-        Some(behind) => read_bracketed(mode, behind)?,
-        None => read_unbracketed(mode, piece)?,
-    };
+    let named = read_some(mode, piece)?;
     Ok(Some(named))
+}
+
+/// Reads a host and a port, where there is something to read.
+fn read_some(mode: Mode, piece: &[u8]) -> Result<NamedHost<'_>, UrlFault>
+    requires { 0 < length piece.now }
+    ensures { ReadsName (strictness mode) piece.now result }
+{
+    match after(piece, b'[') {
+        Some(behind) => read_bracketed(mode, behind),
+        None => read_unbracketed(mode, piece),
+    }
 }
 
 /// Reads what stands behind an opening bracket.
@@ -81,19 +92,26 @@ fn read_bracketed(mode: Mode, behind: &[u8]) -> Result<NamedHost<'_>, UrlFault>
     let Some((inner, rest)) = cut(behind, b']') else {
         return Err(UrlFault::BadCharacter);
     };
-    let Some(piece) = read_inner(mode, inner) else {
+    if !ends_host(rest) {
         return Err(UrlFault::BadCharacter);
-    };
-    if rest.is_empty() {
-        return Ok(alone(piece));
     }
-    let Some(digits) = after(rest, b':') else {
+    let Some(host) = read_inner(mode, inner) else {
         return Err(UrlFault::BadCharacter);
     };
-    match with_port(mode, piece, digits) {
+    let Some(digits) = after(rest, b':') else {
+        return Ok(alone(host));
+    };
+    match with_port(mode, host, digits) {
         Some(named) => Ok(named),
         None => Err(UrlFault::BadPort),
     }
+}
+
+/// Whether a host may end before the text: it is empty or begins with a colon.
+fn ends_host(rest: &[u8]) -> bool
+    ensures { IsTrue result ↔ EndsHost rest.now }
+{
+    rest.is_empty() || starts_with_byte(rest, b':')
 }
 
 /// Reads a piece without an opening bracket.
@@ -270,7 +288,7 @@ fn read_text(mode: Mode, text: &[u8]) -> Option<HostPiece<'_>>
 }
 
 /// Whether each byte may stand in the host of an HTTP location.
-fn are_http_host_bytes(text: &[u8]) -> bool
+pub(crate) fn are_http_host_bytes(text: &[u8]) -> bool
     ensures { result ≡ list_all spec.is_http_host_byte text.now }
 {
     text.iter().all(|byte| is_http_host_byte(*byte))
@@ -291,54 +309,61 @@ fn is_http_host_byte(byte: u8) -> bool
 
 /// The host that a text between brackets stands for.
 fn read_inner(mode: Mode, text: &[u8]) -> Option<HostPiece<'_>>
-    ensures { MatchOption result (IsNoInner (strictness mode) text.now) (λ piece. (inner : List ℕ) × Inner (strictness mode) text.now inner × (meant piece ≡ in_brackets inner)) }
+    ensures { MatchOption result (IsNoInner (strictness mode) text.now) (λ piece. IsInner (strictness mode) text.now (meant piece)) }
 {
-    match read_literal(text) {
-        Some((address, zone)) => Some(literal(mode, address, zone)),
-        None => {
-            if is_strict(mode) || !decodes_to_utf8(text) {
-                None
-            } else {
+    if is_literal(text) {
+        return Some(literal(mode, text));
+    }
+    read_other(mode, text)
+}
+
+/// The piece of a literal, which is decoded but for HTTP.
+fn literal(mode: Mode, text: &[u8]) -> HostPiece<'_>
+    ensures { meant result ≡ in_brackets (shown_literal (strictness mode) text.now) }
+{
+    match mode {
+        Mode::Strict => HostPiece::Literal(text),
+        Mode::Bare | Mode::Loose => HostPiece::DecodedLiteral(text),
+    }
+}
+
+/// The host that a text between brackets stands for that is no literal.
+fn read_other(mode: Mode, text: &[u8]) -> Option<HostPiece<'_>>
+    requires { ¬ IsLiteral text.now }
+    ensures { MatchOption result (IsNoInner (strictness mode) text.now) (λ piece. IsInner (strictness mode) text.now (meant piece)) }
+{
+    match mode {
+        Mode::Strict => None,
+        Mode::Bare | Mode::Loose => {
+            if decodes_to_utf8(text) {
                 Some(HostPiece::Bracketed(text))
+            } else {
+                None
             }
         }
     }
 }
 
-/// The piece of a literal, which is decoded but for HTTP.
-fn literal<'a>(mode: Mode, address: &'a [u8], zone: &'a [u8]) -> HostPiece<'a>
-    ensures strict { strictness mode ≡ spec.Mode.strict → meant result ≡ in_brackets (lowercase address.now ++ zone.now) }
+/// Whether the text is an IPv6 literal: an address, or one with `%25` and a zone behind it.
+fn is_literal(text: &[u8]) -> bool
+    ensures { IsTrue result ↔ IsLiteral text.now }
 {
-    match mode {
-        Mode::Strict => HostPiece::Literal { address, zone },
-        Mode::Bare | Mode::Loose => HostPiece::DecodedLiteral { address, zone },
-    }
-}
-
-/// The address of an IPv6 literal, and its zone with the `%25` before it, or nothing where there is none.
-fn read_literal(text: &[u8]) -> Option<(&[u8], &[u8])>
-    ensures { MatchOption result (¬ IsLiteral text.now) (λ parts. address.Literal text.now (lowercase parts.0.now ++ parts.1.now)) }
-{
-    let Some((address, escaped)) = cut(text, b'%') else {
-        return if is_address(text) {
-            Some((text, b""))
-        } else {
-            None
-        };
-    };
-    if is_address(address) && is_escaped_zone(escaped) {
-        Some((address, text.split_at(address.len()).1))
-    } else {
-        None
+    match cut(text, b'%') {
+        Some((address, escaped)) => is_address(address) && is_escaped_zone(escaped),
+        None => is_address(text),
     }
 }
 
 /// Whether the text is `25`, as it stands behind a `%`, and a zone.
-fn is_escaped_zone(text: &[u8]) -> bool
+pub(crate) fn is_escaped_zone(text: &[u8]) -> bool
+    ensures { IsTrue result ↔ IsEscapedZone text.now }
 {
-    match text {
-        [b'2', b'5', zone @ ..] => is_zone(zone),
-        _ => false,
+    let Some(rest) = after(text, b'2') else {
+        return false;
+    };
+    match after(rest, b'5') {
+        Some(zone) => is_zone(zone),
+        None => false,
     }
 }
 
@@ -366,4 +391,166 @@ fn is_zone_byte(byte: u8) -> bool
         || byte == b'_'
         || byte == b'~'
         || byte == b'%'
+}
+
+impl NamedHost<'_> {
+    /// The text of the host.
+    pub(crate) fn build(self, alloc: Global) -> Result<String, AllocError>
+        requires { IsUtf8 (host_text self) }
+        ensures { IfOk result (λ s. string_bytes s ≡ host_text self.entry) }
+    {
+        let mut text = Vec::with_capacity(alloc, piece_text(self.piece).len() + 3)?;
+        append_piece(&mut text, self.piece);
+        if self.keeps_colon {
+            append_within(&mut text, b":");
+        }
+        let Ok(text) = String::from_utf8(text) else {
+            unreachable!()
+        };
+        Ok(text)
+    }
+}
+
+/// The slice that a piece holds.
+fn piece_text(piece: HostPiece<'_>) -> &[u8]
+    ensures { result.now ≡ piece_text piece.entry }
+{
+    match piece {
+        HostPiece::Address(text)
+        | HostPiece::Kept(text)
+        | HostPiece::Decoded(text)
+        | HostPiece::Literal(text)
+        | HostPiece::DecodedLiteral(text)
+        | HostPiece::Bracketed(text) => text,
+    }
+}
+
+/// Writes the host that a piece stands for into a buffer that has room for it.
+fn append_piece(out: &mut Vec<u8>, piece: HostPiece<'_>)
+    requires { vec_len out.old + length (piece_text piece) + 2 ≤ vec_capacity out.old }
+    ensures items { out.new.items ≡ out.old.items ++ meant piece.entry }
+    ensures capacity { vec_capacity out.old ≤ vec_capacity out.new }
+    ensures len { vec_len out.new ≤ vec_len out.old + length (piece_text piece.entry) + 2 }
+{
+    let brackets = is_bracketed(piece);
+    if brackets {
+        append_within(out, b"[");
+    }
+    append_shown(out, piece);
+    if brackets {
+        append_within(out, b"]");
+    }
+}
+
+/// Whether brackets stand around the host.
+fn is_bracketed(piece: HostPiece<'_>) -> bool
+    ensures { result ≡ is_bracketed piece.entry }
+{
+    match piece {
+        HostPiece::Address(_) | HostPiece::Kept(_) | HostPiece::Decoded(_) => false,
+        HostPiece::Literal(_) | HostPiece::DecodedLiteral(_) | HostPiece::Bracketed(_) => true,
+    }
+}
+
+/// Writes what a piece shows, without its brackets.
+fn append_shown(out: &mut Vec<u8>, piece: HostPiece<'_>)
+    requires { vec_len out.old + length (piece_text piece) ≤ vec_capacity out.old }
+    ensures items { out.new.items ≡ out.old.items ++ settled piece.entry (unescaped piece.entry) }
+    ensures capacity { vec_capacity out.old ≤ vec_capacity out.new }
+    ensures len { vec_len out.new ≤ vec_len out.old + length (piece_text piece.entry) }
+{
+    let start = out.len();
+    append_unescaped(out, piece);
+    settle(&mut out[start..], piece);
+}
+
+/// Writes the text of a piece, decoded where it has to be.
+fn append_unescaped(out: &mut Vec<u8>, piece: HostPiece<'_>)
+    requires { vec_len out.old + length (piece_text piece) ≤ vec_capacity out.old }
+    ensures items { out.new.items ≡ out.old.items ++ unescaped piece.entry }
+    ensures capacity { vec_capacity out.old ≤ vec_capacity out.new }
+    ensures len { vec_len out.new ≤ vec_len out.old + length (piece_text piece.entry) }
+{
+    match piece {
+        HostPiece::Address(text) | HostPiece::Kept(text) | HostPiece::Literal(text) => append_within(out, text),
+        HostPiece::Decoded(text) | HostPiece::DecodedLiteral(text) | HostPiece::Bracketed(text) => append_decoded(out, text),
+    }
+}
+
+/// Brings the letters of a host to the case that they are shown in.
+fn settle(host: &mut [u8], piece: HostPiece<'_>)
+    ensures { host.new ≡ settled piece.entry host.old }
+{
+    match piece {
+        HostPiece::Address(_) => host.make_ascii_lowercase(),
+        HostPiece::Kept(_) | HostPiece::Decoded(_) => normalize(host),
+        HostPiece::Literal(_) | HostPiece::DecodedLiteral(_) => lowercase_address(host),
+        HostPiece::Bracketed(_) => {}
+    }
+}
+
+/// Lowercases a host that looks like a domain name.
+fn normalize(host: &mut [u8])
+    ensures { host.new ≡ spec.normal_host host.old }
+{
+    if looks_like_domain(host) {
+        host.make_ascii_lowercase();
+    }
+}
+
+/// Whether each byte is a letter, a digit, `-`, `.`, `_` or `*`.
+fn looks_like_domain(host: &[u8]) -> bool
+    ensures { result ≡ list_all spec.is_dns_byte host.now }
+{
+    host.iter().all(|byte| is_dns_byte(*byte))
+}
+
+/// Whether the byte is a letter, a digit, `-`, `.`, `_` or `*`.
+fn is_dns_byte(byte: u8) -> bool
+    ensures { result ≡ spec.is_dns_byte byte }
+{
+    byte.is_ascii_alphanumeric() || byte == b'-' || byte == b'.' || byte == b'_' || byte == b'*'
+}
+
+/// Lowercases what stands before the first `%`, or all where there is none.
+fn lowercase_address(literal: &mut [u8])
+    ensures { literal.new ≡ lowercase_address literal.old }
+{
+    let end = address_len(literal);
+    literal[..end].make_ascii_lowercase();
+}
+
+/// How many bytes stand before the first `%`.
+fn address_len(literal: &[u8]) -> usize
+    ensures within { result ≤ length literal.now }
+    ensures cut { lowercase_address literal.now ≡ lowercase (take result literal.now) ++ drop result literal.now }
+{
+    match cut(literal, b'%') {
+        Some((address, _)) => address.len(),
+        None => literal.len(),
+    }
+}
+
+/// Writes the decoding of a text into a buffer that has room for the text.
+fn append_decoded(out: &mut Vec<u8>, text: &[u8])
+    requires { vec_len out.old + length text.now ≤ vec_capacity out.old }
+    ensures items { out.new.items ≡ out.old.items ++ percent.percent_decode text.now }
+    ensures capacity { vec_capacity out.old ≤ vec_capacity out.new }
+    ensures len { vec_len out.new ≤ vec_len out.old + length text.now }
+{
+    for byte in percent_decode(text) {
+        append_within(out, &[byte]);
+    }
+}
+
+/// Writes bytes into a buffer that has room for them.
+fn append_within(out: &mut Vec<u8>, bytes: &[u8])
+    requires { vec_len out.old + length bytes.now ≤ vec_capacity out.old }
+    ensures items { out.new.items ≡ out.old.items ++ bytes.now }
+    ensures capacity { vec_capacity out.old ≤ vec_capacity out.new }
+    ensures len { vec_len out.new ≡ vec_len out.old + length bytes.now }
+{
+    let appended = out.extend_from_slice(bytes);
+    prove!(appended.is_ok());
+    let _ = appended;
 }

@@ -16,6 +16,7 @@ mod scheme;
 mod settled;
 mod simple_url;
 pub mod testing;
+mod url_location;
 mod writer;
 
 pub use error::{Error, UrlFault, WriteError, WriteFault};

@@ -1,14 +1,11 @@
-use Rattle.std.proofs.Common.{rules, ◌≡◌, ℕ, ◌<◌, ◌↔◌, ◌++◌, ◌∷◌, [], List, Option, Some, None, IsTrue, IfOk, IfErr, MatchOption, true, false, length, ◌+◌, ◌-◌, ◌*◌, ◌≤◌, ◌/◌, ◌%◌, Bool, nat_eq, nat_lt, slice_index_or, slice_set, bit_and, bit_or, Fits, w8, w32, w64, Bor, MutBor}
-use Rattle.std.specs.Char.{is_ascii_digit}
-use Rattle.std.specs.List.{list_all}
-use Rattle.gix_url.specs.Addresses as address
-use Rattle.gix_url.specs.Hosts as spec
-use Rattle.gix_url.specs.Bytes.{begins_with, colon, left_bracket, lowercase}
-use Rattle.gix_url.specs.Flaws.{IsNoHost, IsNoInner, IsNoPort, NameFlaw}
-use Rattle.gix_url.specs.Hosts.{HostText, Inner, IsAddressPiece, IsLiteral, IsManyColoned, Names, Number, ReadsAddress}
-use Rattle.gix_url.specs.HostPieces.{Follows, ReadsName, host_of, host_text, in_brackets, meant, port_of, strictness}
+-- The whole piece is the host.
+use Rattle.std.proofs.Common.{ap, Some}
+use Rattle.std.proofs.lemmas.Bool.{false≢true}
+use Rattle.gix_url.specs.Hosts.{Names}
+use Rattle.gix_url.specs.HostPieces.{meant}
 use Rattle.gix_url.proofs.host.read_colons.Goals as goal
 
--- src/host.rt:135:1
 pub returns-in-Some : goal.returns-in-Some
-returns-in-Some c = ?
+returns-in-Some c =
+    Names.colons (meant c.in-Some.host) (λ h. false≢true (c.if-is_strict.ensures.1 h)) (λ h. false≢true (c.if-reads_address.ensures.1 h))
+    c.requires.no_bracket c.requires.colons c.in-Some.ensures (ap Some c.alone-in-Some.ensures.host) c.alone-in-Some.ensures.port

@@ -1,18 +1,9 @@
-use Rattle.std.proofs.Common.{rules, ◌≡◌, ℕ, ◌<◌, ◌↔◌, ◌++◌, ◌∷◌, [], List, Option, Some, None, IsTrue, IfOk, IfErr, MatchOption, true, false, length, ◌+◌, ◌-◌, ◌*◌, ◌≤◌, ◌/◌, ◌%◌, Bool, nat_eq, nat_lt, slice_index_or, slice_set, bit_and, bit_or, Fits, w8, w32, w64, Bor, MutBor}
-use Rattle.std.specs.Char.{is_ascii_digit}
-use Rattle.std.specs.List.{list_all}
-use Rattle.gix_url.specs.Addresses as address
-use Rattle.gix_url.specs.Hosts as spec
-use Rattle.gix_url.specs.Bytes.{begins_with, colon, left_bracket, lowercase}
-use Rattle.gix_url.specs.Flaws.{IsNoHost, IsNoInner, IsNoPort, NameFlaw}
-use Rattle.gix_url.specs.Hosts.{HostText, Inner, IsAddressPiece, IsLiteral, IsManyColoned, Names, Number, ReadsAddress}
-use Rattle.gix_url.specs.HostPieces.{Follows, ReadsName, host_of, host_text, in_brackets, meant, port_of, strictness}
+-- A literal is decoded but for HTTP.
+use Rattle.std.proofs.Common.{refl}
+use Rattle.gix_url.specs.HostPieces.{shown_literal, strictness}
+use Rattle.gix_url.proofs.HostLemmas.{literal_inner}
 use Rattle.gix_url.proofs.host.read_inner.Goals as goal
 
--- src/host.rt:293:1
-pub returns-in-Some : goal.returns-in-Some
-returns-in-Some c = ?
-
--- src/host.rt:293:1
-pub returns-else-not-decodes_to_utf8 : goal.returns-else-not-decodes_to_utf8
-returns-else-not-decodes_to_utf8 c = ?
+pub returns-then-is_literal : goal.returns-then-is_literal
+returns-then-is_literal c =
+    (shown_literal (strictness c.args.mode) c.args.text.now, literal_inner (strictness c.args.mode) c.args.text.now (c.if-is_literal.ensures.0 refl), c.literal.ensures)
