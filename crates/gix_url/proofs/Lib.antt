@@ -6,3 +6,4 @@ pub mod AddressReader
 pub mod EscapeLemmas
 pub mod LineLemmas
 pub mod EscapeSets
+pub mod RowLemmas

@@ -10,6 +10,9 @@ pub mod Authority
 pub mod Grammar
 pub mod Text
 pub mod Settled
+pub mod Components
+pub mod Homes
+pub mod Records
 pub mod Flaws
 pub mod Views
 pub mod Url
@@ -17,3 +20,4 @@ pub mod HostPieces
 pub mod UrlPieces
 pub mod Readings
 pub mod Answers
+pub mod Rows

@@ -1,0 +1,37 @@
+//! Rows: that the definitions say of written-out texts and values what they should.
+//!
+//! It has no code and uses nothing: the contract of each function is a group of rows.
+
+ghost use Rattle.gix_url.specs.Rows.{EscapeRows, HostRows, SchemeRows, PathRows, OtherTextRows, UrlTextRows, UserTextRows, FaultRows, RecordRows, PieceRows, ParentRows, ExpandedRows};
+
+/// Escapes, written and read.
+fn law_escapes()
+    ensures { EscapeRows }
+{}
+
+/// Hosts, schemes and paths in their normal forms.
+fn law_names()
+    ensures hosts { HostRows }
+    ensures schemes { SchemeRows }
+    ensures paths { PathRows }
+{}
+
+/// Texts of locations, and locations without one.
+fn law_texts()
+    ensures other { OtherTextRows }
+    ensures url { UrlTextRows }
+    ensures user { UserTextRows }
+    ensures fault { FaultRows }
+{}
+
+/// Stored locations.
+fn law_records()
+    ensures { RecordRows }
+{}
+
+/// Paths as text and home folders.
+fn law_homes()
+    ensures pieces { PieceRows }
+    ensures parents { ParentRows }
+    ensures expanded { ExpandedRows }
+{}
