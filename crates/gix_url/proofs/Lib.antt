@@ -7,3 +7,7 @@ pub mod EscapeLemmas
 pub mod LineLemmas
 pub mod EscapeSets
 pub mod RowLemmas
+pub mod EscapeLemmas
+pub mod AddressLemmas
+pub mod AddressReader
+pub mod HostLemmas

@@ -4,6 +4,21 @@
 //! definitions name them, as slices of the piece, and each refusal has its flaw. It takes no memory but for the
 //! text of a host, when that is built.
 
+ghost use Rattle.std.specs.Prelude.{◌≡◌, ℕ, ◌<◌, ◌↔◌, ◌++◌, ◌∷◌, [], List, Option, Some, None, IsTrue, IfOk, IfErr, MatchOption, true, false, length};
+ghost use Rattle.std.specs.Char.{is_ascii_digit};
+ghost use Rattle.std.specs.List.{list_all};
+ghost use Rattle.gix_url.specs.Addresses as address;
+ghost use Rattle.gix_url.specs.Bytes.{begins_with, colon, left_bracket, lowercase};
+ghost use Rattle.gix_url.specs.Flaws.{IsNoHost, IsNoInner, IsNoPort, NameFlaw};
+ghost use Rattle.gix_url.specs.Hosts as spec;
+ghost use Rattle.gix_url.specs.Hosts.{HostText, Inner, IsAddressPiece, IsLiteral, IsManyColoned, Names, Number, ReadsAddress};
+ghost use Rattle.gix_url.specs.HostPieces.{EndsHost, Follows, IsEscapedZone, IsInner, IsLiteralOf, ReadsName, host_of, host_text, in_brackets, meant, port_of, shown_literal, strictness};
+
+use crate::bytes::{after, before, cut, is_free_of, starts_with_byte};
+use crate::error::UrlFault;
+use crate::escape::{decodes_to_utf8, is_sound};
+use crate::ipv6::is_address;
+
 /// How strictly a host is read.
 #[derive(Clone, Copy, Debug, PartialEq, Eq)]
 pub(crate) enum Mode {
@@ -41,4 +56,345 @@ pub(crate) struct NamedHost<'a> {
     pub(crate) keeps_colon: bool,
     /// The port.
     pub(crate) port: Option<u16>,
+}
+
+/// Reads a host and a port: none where the piece is empty.
+pub(crate) fn read_host(mode: Mode, piece: &[u8]) -> Result<Option<NamedHost<'_>>, UrlFault>
+    ensures named { IfOk result (λ named. Names (strictness mode) piece.now (host_of named) (port_of named)) }
+    ensures unnamed { IfErr result (λ fault. (host : Option (List ℕ)) (port : Option ℕ) → ¬ Names (strictness mode) piece.now host port) }
+    ensures flaw { IfErr result (λ fault. NameFlaw (strictness mode) piece.now fault) }
+{
+    if piece.is_empty() {
+        return Ok(None);
+    }
+    let named = read_some(mode, piece)?;
+    Ok(Some(named))
+}
+
+/// Reads a host and a port, where there is something to read.
+fn read_some(mode: Mode, piece: &[u8]) -> Result<NamedHost<'_>, UrlFault>
+    requires { 0 < length piece.now }
+    ensures { ReadsName (strictness mode) piece.now result }
+{
+    match after(piece, b'[') {
+        Some(behind) => read_bracketed(mode, behind),
+        None => read_unbracketed(mode, piece),
+    }
+}
+
+/// Reads what stands behind an opening bracket.
+fn read_bracketed(mode: Mode, behind: &[u8]) -> Result<NamedHost<'_>, UrlFault>
+    ensures { ReadsName (strictness mode) (left_bracket ∷ behind.now) result }
+{
+    let Some((inner, rest)) = cut(behind, b']') else {
+        return Err(UrlFault::BadCharacter);
+    };
+    if !ends_host(rest) {
+        return Err(UrlFault::BadCharacter);
+    }
+    let Some(host) = read_inner(mode, inner) else {
+        return Err(UrlFault::BadCharacter);
+    };
+    let Some(digits) = after(rest, b':') else {
+        return Ok(alone(host));
+    };
+    match with_port(mode, host, digits) {
+        Some(named) => Ok(named),
+        None => Err(UrlFault::BadPort),
+    }
+}
+
+/// Whether a host may end before the text: it is empty or begins with a colon.
+fn ends_host(rest: &[u8]) -> bool
+    ensures { IsTrue result ↔ EndsHost rest.now }
+{
+    rest.is_empty() || starts_with_byte(rest, b':')
+}
+
+/// Reads a piece without an opening bracket.
+fn read_unbracketed(mode: Mode, piece: &[u8]) -> Result<NamedHost<'_>, UrlFault>
+    requires some { 0 < length piece.now }
+    requires no_bracket { begins_with left_bracket piece.now ≡ false }
+    ensures { ReadsName (strictness mode) piece.now result }
+{
+    let Some((text, digits)) = cut(piece, b':') else {
+        return read_plain(mode, piece);
+    };
+    if text.is_empty() || !is_free_of(digits, b':') {
+        return read_colons(mode, piece);
+    }
+    if !are_digits(digits) {
+        return Err(UrlFault::BadPort);
+    }
+    let Some(host) = read_text(mode, text) else {
+        return Err(UrlFault::BadCharacter);
+    };
+    match with_port(mode, host, digits) {
+        Some(named) => Ok(named),
+        None => Err(UrlFault::BadPort),
+    }
+}
+
+/// Reads a piece without a colon.
+fn read_plain(mode: Mode, piece: &[u8]) -> Result<NamedHost<'_>, UrlFault>
+    requires { spec.IsPlainHost piece.now }
+    ensures { ReadsName (strictness mode) piece.now result }
+{
+    match read_text(mode, piece) {
+        Some(host) => Ok(alone(host)),
+        None => Err(UrlFault::BadCharacter),
+    }
+}
+
+/// Reads a piece whose colons mark no port.
+fn read_colons(mode: Mode, piece: &[u8]) -> Result<NamedHost<'_>, UrlFault>
+    requires no_bracket { begins_with left_bracket piece.now ≡ false }
+    requires colons { IsManyColoned piece.now }
+    ensures { ReadsName (strictness mode) piece.now result }
+{
+    if is_strict(mode) {
+        return Err(UrlFault::BadCharacter);
+    }
+    if reads_address(mode, piece) {
+        return Ok(alone(HostPiece::Address(piece)));
+    }
+    match read_text(mode, piece) {
+        Some(host) => Ok(alone(host)),
+        None => Err(UrlFault::BadCharacter),
+    }
+}
+
+/// A host with nothing behind it.
+fn alone(piece: HostPiece<'_>) -> NamedHost<'_>
+    ensures host { host_text result ≡ meant piece.entry }
+    ensures port { result.port ≡ None }
+{
+    NamedHost {
+        piece,
+        keeps_colon: false,
+        port: None,
+    }
+}
+
+/// A host with a colon and this text behind it: the colon stays where the text is empty, else the text is the port.
+fn with_port<'a>(mode: Mode, piece: HostPiece<'a>, digits: &[u8]) -> Option<NamedHost<'a>>
+    ensures { MatchOption result (IsNoPort (strictness mode) digits.now) (λ named. Follows (strictness mode) (meant piece.entry) (colon ∷ digits.now) (Some (host_text named)) named.port) }
+{
+    if digits.is_empty() {
+        return Some(NamedHost {
+            piece,
+            keeps_colon: true,
+            port: None,
+        });
+    }
+    let port = read_port(mode, digits)?;
+    Some(NamedHost {
+        piece,
+        keeps_colon: false,
+        port: Some(port),
+    })
+}
+
+/// The port that the digits spell.
+fn read_port(mode: Mode, digits: &[u8]) -> Option<u16>
+    ensures { MatchOption result ((port : ℕ) → ¬ Number (strictness mode) digits.now port) (λ port. Number (strictness mode) digits.now port) }
+{
+    if !are_digits(digits) {
+        return None;
+    }
+    let Ok(digits) = str::from_utf8(digits) else {
+        return None;
+    };
+    let Ok(port) = digits.parse::<u16>() else {
+        return None;
+    };
+    if allows_port(mode, port) {
+        Some(port)
+    } else {
+        None
+    }
+}
+
+/// Whether each byte is a decimal digit.
+fn are_digits(text: &[u8]) -> bool
+    ensures { result ≡ list_all is_ascii_digit text.now }
+{
+    text.iter().all(|byte| byte.is_ascii_digit())
+}
+
+/// Whether the port is allowed.
+fn allows_port(mode: Mode, port: u16) -> bool
+    ensures { IsTrue result ↔ spec.AllowsPort (strictness mode) port }
+{
+    match mode {
+        Mode::Strict => port > 0,
+        Mode::Bare | Mode::Loose => true,
+    }
+}
+
+/// Whether the mode is that of HTTP.
+fn is_strict(mode: Mode) -> bool
+    ensures { IsTrue result ↔ (strictness mode ≡ spec.Mode.strict) }
+{
+    matches!(mode, Mode::Strict)
+}
+
+/// Whether the piece is an address that needs no brackets.
+fn reads_address(mode: Mode, piece: &[u8]) -> bool
+    ensures { IsTrue result ↔ ReadsAddress (strictness mode) piece.now }
+{
+    match mode {
+        Mode::Bare => is_address_piece(piece),
+        Mode::Strict | Mode::Loose => false,
+    }
+}
+
+/// Whether the piece is an IPv6 text, perhaps with a colon behind it.
+fn is_address_piece(piece: &[u8]) -> bool
+    ensures { IsTrue result ↔ IsAddressPiece piece.now }
+{
+    if is_address(piece) {
+        return true;
+    }
+    match before(piece, b':') {
+        Some(address) => is_address(address),
+        None => false,
+    }
+}
+
+/// The host that a text outside brackets stands for.
+fn read_text(mode: Mode, text: &[u8]) -> Option<HostPiece<'_>>
+    ensures { MatchOption result (IsNoHost (strictness mode) text.now) (λ piece. HostText (strictness mode) text.now (meant piece)) }
+{
+    match mode {
+        Mode::Strict => {
+            if are_http_host_bytes(text) {
+                Some(HostPiece::Kept(text))
+            } else {
+                None
+            }
+        }
+        Mode::Bare | Mode::Loose => {
+            if decodes_to_utf8(text) {
+                Some(HostPiece::Decoded(text))
+            } else {
+                None
+            }
+        }
+    }
+}
+
+/// Whether each byte may stand in the host of an HTTP location.
+fn are_http_host_bytes(text: &[u8]) -> bool
+    ensures { result ≡ list_all spec.is_http_host_byte text.now }
+{
+    text.iter().all(|byte| is_http_host_byte(*byte))
+}
+
+/// Whether the byte is a letter, a digit or one of `-._~!$&'()*+,;=%`.
+fn is_http_host_byte(byte: u8) -> bool
+    ensures { result ≡ spec.is_http_host_byte byte }
+{
+    byte.is_ascii_alphanumeric()
+        || (b'$' <= byte && byte <= b'.')
+        || byte == b'!'
+        || byte == b';'
+        || byte == b'='
+        || byte == b'_'
+        || byte == b'~'
+}
+
+/// The host that a text between brackets stands for.
+fn read_inner(mode: Mode, text: &[u8]) -> Option<HostPiece<'_>>
+    ensures { MatchOption result (IsNoInner (strictness mode) text.now) (λ piece. IsInner (strictness mode) text.now (meant piece)) }
+{
+    match read_literal(text) {
+        Some((address, zone)) => Some(literal(mode, address, zone)),
+        None => read_other(mode, text),
+    }
+}
+
+/// The piece of a literal, which is decoded but for HTTP.
+fn literal<'a>(mode: Mode, address: &'a [u8], zone: &'a [u8]) -> HostPiece<'a>
+    ensures { meant result ≡ in_brackets (shown_literal (strictness mode) address.now zone.now) }
+{
+    match mode {
+        Mode::Strict => HostPiece::Literal { address, zone },
+        Mode::Bare | Mode::Loose => HostPiece::DecodedLiteral { address, zone },
+    }
+}
+
+/// The host that a text between brackets stands for that is no literal.
+fn read_other(mode: Mode, text: &[u8]) -> Option<HostPiece<'_>>
+    requires { ¬ IsLiteral text.now }
+    ensures { MatchOption result (IsNoInner (strictness mode) text.now) (λ piece. IsInner (strictness mode) text.now (meant piece)) }
+{
+    match mode {
+        Mode::Strict => None,
+        Mode::Bare | Mode::Loose => {
+            if decodes_to_utf8(text) {
+                Some(HostPiece::Bracketed(text))
+            } else {
+                None
+            }
+        }
+    }
+}
+
+/// The address of an IPv6 literal, and its zone with the `%25` before it, or nothing where there is none.
+fn read_literal(text: &[u8]) -> Option<(&[u8], &[u8])>
+    ensures { MatchOption result (¬ IsLiteral text.now) (λ parts. IsLiteralOf text.now parts.0.now parts.1.now) }
+{
+    let Some((address, escaped)) = cut(text, b'%') else {
+        if is_address(text) {
+            return Some((text, b""));
+        }
+        return None;
+    };
+    if !is_address(address) {
+        return None;
+    }
+    if !is_escaped_zone(escaped) {
+        return None;
+    }
+    Some((address, text.split_at(address.len()).1))
+}
+
+/// Whether the text is `25`, as it stands behind a `%`, and a zone.
+fn is_escaped_zone(text: &[u8]) -> bool
+    ensures { IsTrue result ↔ IsEscapedZone text.now }
+{
+    let Some(rest) = after(text, b'2') else {
+        return false;
+    };
+    match after(rest, b'5') {
+        Some(zone) => is_zone(zone),
+        None => false,
+    }
+}
+
+/// Whether the text is the zone of an address.
+fn is_zone(text: &[u8]) -> bool
+    ensures { IsTrue result ↔ address.IsZone text.now }
+{
+    !text.is_empty() && is_sound(text) && are_zone_bytes(text) && decodes_to_utf8(text)
+}
+
+/// Whether each byte may stand in a zone.
+fn are_zone_bytes(text: &[u8]) -> bool
+    ensures { result ≡ list_all address.is_zone_byte text.now }
+{
+    text.iter().all(|byte| is_zone_byte(*byte))
+}
+
+/// Whether the byte is a letter, a digit, `-`, `.`, `_`, `~` or `%`.
+fn is_zone_byte(byte: u8) -> bool
+    ensures { result ≡ address.is_zone_byte byte }
+{
+    byte.is_ascii_alphanumeric()
+        || byte == b'-'
+        || byte == b'.'
+        || byte == b'_'
+        || byte == b'~'
+        || byte == b'%'
 }
