@@ -13,7 +13,7 @@ ghost use Rattle.gix_url.specs.Escapes as spec;
 ghost use Rattle.gix_url.specs.Escapes.{HoldsExactly};
 ghost use Rattle.gix_url.specs.Bytes.{LacksWhiteSpace};
 
-use bstr::decode_utf8;
+use bstr::{ByteSlice, decode_utf8};
 use percent_encoding::{AsciiSet, CONTROLS, PercentDecode, ascii_set, percent_decode};
 use std::alloc::{AllocError, Global};
 
@@ -95,7 +95,17 @@ pub(crate) fn has_percent(text: &[u8]) -> bool
 pub(crate) fn decodes_to_utf8(text: &[u8]) -> bool
     ensures { IsTrue result ↔ IsUtf8 (percent.percent_decode text.now) }
 {
-    let mut rest = percent_decode(text);
+    if has_percent(text) {
+        decoding_is_utf8(percent_decode(text))
+    } else {
+        text.is_utf8()
+    }
+}
+
+/// Whether what is left of a decoding is UTF-8.
+fn decoding_is_utf8(mut rest: PercentDecode<'_>) -> bool
+    ensures { IsTrue result ↔ IsUtf8 (decoded_bytes rest.entry) }
+{
     loop {
         let (window, count) = front(rest);
         if count == 0 {
@@ -173,6 +183,7 @@ pub(crate) fn decoded(alloc: Global, text: &[u8]) -> Result<Vec<u8>, AllocError>
     ensures { IfOk result (λ v. v.items ≡ percent.percent_decode text.now) }
 {
     let mut bytes = Vec::with_capacity(alloc, text.len())?;
+    // The room is there, as a decoding is no longer than its text.
     let appended = percent_decode(text).append_to(&mut bytes);
     prove!(appended.is_ok());
     let _ = appended;

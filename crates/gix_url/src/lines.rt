@@ -66,8 +66,8 @@ pub fn status(outcome: &Result<bool, RunError>) -> u8
     }
 }
 
-/// Reads all of the input, answers each of its lines by a line, and writes the answers. Lines end at byte 10; a
-/// last line without it counts where it isn't empty; byte 13 is a part of its line.
+/// Reads all of the input, answers each of its lines by a line, and writes the answers. Byte 10 ends a line and
+/// byte 13 is nothing special; a last line may lack its end, and counts unless it is empty.
 ///
 /// The answer is `settled`, a tab and the location's text, where it is settled; `unsettled` or `unwritable`, a tab
 /// and its scheme, where it has a text or none; `refused`, a tab and the error's name, where the line is no
