@@ -6,8 +6,7 @@ pub mod AddressReader
 pub mod EscapeLemmas
 pub mod LineLemmas
 pub mod EscapeSets
-pub mod RowLemmas
-pub mod EscapeLemmas
-pub mod AddressLemmas
-pub mod AddressReader
 pub mod HostLemmas
+pub mod RowLemmas
+pub mod RowNameLemmas
+pub mod RowPartLemmas

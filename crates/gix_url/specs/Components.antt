@@ -61,9 +61,9 @@ pub record CutsFields (text : List ℕ) (fields : List (List ℕ)) : Type 0 wher
   pub joined : text ≡ joined_by ampersand fields
 
 -- a field is a name, or a name, `=` and a value
-pub data CutsField (field name value : List ℕ) : Type 0 where
-  name_alone : FreeOf equals_sign field → name ≡ field → value ≡ [] → CutsField field name value
-  with_value : FreeOf equals_sign name → field ≡ name ++ equals_sign ∷ value → CutsField field name value
+pub data SplitsField (field name value : List ℕ) : Type 0 where
+  name_alone : FreeOf equals_sign field → name ≡ field → value ≡ [] → SplitsField field name value
+  with_value : FreeOf equals_sign name → field ≡ name ++ equals_sign ∷ value → SplitsField field name value
 
 -- ---- what the pieces stand for
 
@@ -81,7 +81,7 @@ PairsOf v [] pairs = pairs ≡ []
 PairsOf v ([] ∷ fields) pairs = PairsOf v fields pairs
 PairsOf v ((b ∷ bs) ∷ fields) pairs =
     (name : List ℕ) × (value : List ℕ) × (others : List (List ℕ × List ℕ))
-    × CutsField (b ∷ bs) name value × PairsOf v fields others × (pairs ≡ (term_of v name, term_of v value) ∷ others)
+    × SplitsField (b ∷ bs) name value × PairsOf v fields others × (pairs ≡ (term_of v name, term_of v value) ∷ others)
 
 -- the query, where there is one, stands for these names and values
 abbrev pub QueryOf : Location → Option (List ℕ) → Option (List (List ℕ × List ℕ)) → Type 0

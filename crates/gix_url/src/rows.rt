@@ -2,7 +2,7 @@
 //!
 //! It has no code and uses nothing: the contract of each function is a group of rows.
 
-ghost use Rattle.gix_url.specs.Rows.{EscapeRows, HostRows, SchemeRows, PathRows, OtherTextRows, UrlTextRows, UserTextRows, FaultRows, RecordRows, PieceRows, ParentRows, ExpandedRows};
+ghost use Rattle.gix_url.specs.Rows.{EscapeRows, HostRows, SchemeRows, PathRows, OtherTextRows, UrlTextRows, UserTextRows, FaultRows, RecordRows, PieceRows, ParentRows, ExpandedRows, SplitRows, SpelledPartRows, RawPartRows, LiteralRows, NameRows, NoNameRows, AuthorityRows, NoAuthorityRows};
 
 /// Escapes, written and read.
 fn law_escapes()
@@ -34,4 +34,24 @@ fn law_homes()
     ensures pieces { PieceRows }
     ensures parents { ParentRows }
     ensures expanded { ExpandedRows }
+    ensures split { SplitRows }
+{}
+
+/// Components of paths.
+fn law_parts()
+    ensures spelled { SpelledPartRows }
+    ensures raw { RawPartRows }
+{}
+
+/// Hosts and ports.
+fn law_hosts()
+    ensures literals { LiteralRows }
+    ensures named { NameRows }
+    ensures unnamed { NoNameRows }
+{}
+
+/// Users and passwords.
+fn law_authorities()
+    ensures found { AuthorityRows }
+    ensures none { NoAuthorityRows }
 {}
