@@ -10,3 +10,5 @@ pub mod HostLemmas
 pub mod RowLemmas
 pub mod RowNameLemmas
 pub mod RowPartLemmas
+pub mod RowFormLemmas
+pub mod RowClassLemmas

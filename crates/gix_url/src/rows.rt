@@ -2,7 +2,7 @@
 //!
 //! It has no code and uses nothing: the contract of each function is a group of rows.
 
-ghost use Rattle.gix_url.specs.Rows.{EscapeRows, HostRows, SchemeRows, PathRows, OtherTextRows, UrlTextRows, UserTextRows, FaultRows, RecordRows, PieceRows, ParentRows, ExpandedRows, SplitRows, SpelledPartRows, RawPartRows, LiteralRows, NameRows, NoNameRows, AuthorityRows, NoAuthorityRows};
+ghost use Rattle.gix_url.specs.Rows.{EscapeRows, HostRows, SchemeRows, PathRows, OtherTextRows, UrlTextRows, UserTextRows, FaultRows, RecordRows, PieceRows, ParentRows, ExpandedRows, SplitRows, SpelledPartRows, RawPartRows, LiteralRows, NameRows, NoNameRows, AuthorityRows, NoAuthorityRows, UrlRows, FormRows, NoFormRows, SettledRows, WebHostRows, UnsettledWebRows, UnsettledUrlRows, UnsettledOtherRows};
 
 /// Escapes, written and read.
 fn law_escapes()
@@ -54,4 +54,20 @@ fn law_hosts()
 fn law_authorities()
     ensures found { AuthorityRows }
     ensures none { NoAuthorityRows }
+{}
+
+/// Whole texts.
+fn law_forms()
+    ensures urls { UrlRows }
+    ensures others { FormRows }
+    ensures none { NoFormRows }
+{}
+
+/// The settled class.
+fn law_class()
+    ensures settled { SettledRows }
+    ensures hosts { WebHostRows }
+    ensures web { UnsettledWebRows }
+    ensures urls { UnsettledUrlRows }
+    ensures others { UnsettledOtherRows }
 {}
