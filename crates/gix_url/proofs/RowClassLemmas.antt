@@ -18,7 +18,7 @@ use Rattle.gix_url.specs.Rows.{no_text, at_host, in_scp, SettledRows, WebHostRow
 use Rattle.gix_url.proofs.CutLemmas.{different_bytes, last_unique}
 use Rattle.gix_url.proofs.AddressTestLemmas.{ipv6_text_from, ipv6_text_to}
 use Rattle.gix_url.proofs.RowNameLemmas.{none_is_some, some_is_none, other_byte}
-use Rattle.gix_url.proofs.RowFormLemmas.{holds, begins_as, not_held, neither_free, neither_at, no_scp_free, dot_path_no_scp, shape_row, fits_row}
+use Rattle.gix_url.proofs.RowFormLemmas.{not_held, neither_free, neither_at, no_scp_free, dot_path_no_scp, shape_row, fits_row}
 
 -- some are the same that have the same
 some_same : (x y : List ℕ) → Some x ≡ Some y → x ≡ y
@@ -83,7 +83,7 @@ loopback_row = record { address = ipv6_text_from (codes "::1") refl; lower = ref
 
 -- settled locations
 pub settled_rows : SettledRows
-unfolding percent_encoding_on_literals computing chars is_ipv6_text holds begins_as
+unfolding percent_encoding_on_literals computing chars is_ipv6_text
 settled_rows = (
     (record { flagged = refl; alone = record { no_user = refl; no_password = refl; no_port = refl }; no_host = refl; named = refl }, refl),
     record { flagged = refl; alone = record { no_user = refl; no_password = refl; no_port = refl }; no_host = refl; named = refl },
@@ -253,7 +253,6 @@ slash_in_host (inr s) = false≢true (sym s.host.no_slash)
 
 -- a local path has no shape of the scp form
 scp_path : ¬ IsSettled (path_alone file true (codes "a:b"))
-unfolding holds begins_as
 scp_path (inl s) = s.no_scp (inl (codes "a", codes "b", shape_row (codes "a") (codes "b") refl refl refl refl refl))
 scp_path (inr s) = false≢true (sym s.unflagged)
 

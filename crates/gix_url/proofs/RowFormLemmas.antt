@@ -24,28 +24,25 @@ use Rattle.gix_url.proofs.RowNameLemmas.{plain_row}
 -- ---- what a text doesn't hold
 
 -- the text begins with the mark
-pub begins_as : List ℕ → List ℕ → Bool
+abbrev pub begins_as : List ℕ → List ℕ → Bool
 begins_as [] bs = true
 begins_as (m ∷ mark) [] = false
 begins_as (m ∷ mark) (b ∷ bs) = b == m && begins_as mark bs
 
 -- the mark stands somewhere in the text
-pub holds : List ℕ → List ℕ → Bool
+abbrev pub holds : List ℕ → List ℕ → Bool
 holds mark [] = begins_as mark []
 holds mark (b ∷ bs) = begins_as mark (b ∷ bs) || holds mark bs
 
 begins-append : (mark rest : List ℕ) → begins_as mark (mark ++ rest) ≡ true
-unfolding begins_as
 begins-append [] rest = refl
 begins-append (m ∷ mark) rest = and_from _ _ (eq-eqb m m refl) (begins-append mark rest)
 
 held_here : (mark bs : List ℕ) → begins_as mark bs ≡ true → holds mark bs ≡ true
-unfolding holds
 held_here mark [] h = h
 held_here mark (b ∷ bs) h = or_left _ _ h
 
 held : (front mark rest : List ℕ) → holds mark (front ++ (mark ++ rest)) ≡ true
-unfolding holds
 held [] mark rest = held_here mark (mark ++ rest) (begins-append mark rest)
 held (b ∷ front) mark rest = or_right _ _ (held front mark rest)
 
@@ -210,7 +207,7 @@ pub neither_at : (bs front rest : List ℕ) → bs ≡ front ++ colon ∷ rest �
 neither_at bs front rest e free other none = record { no_helper = no_helper_at bs front rest e free other; no_mark = not_held (codes "://") bs none }
 
 -- a front without colons and brackets
-shape_row : (front path : List ℕ) → FreeOf colon front → begins_with left_bracket front ≡ false → FreeOf slash front → (is_helper_name front && begins_with colon path) ≡ false → holds (codes "://") (front ++ colon ∷ path) ≡ false → ScpShape (front ++ colon ∷ path) front path
+pub shape_row : (front path : List ℕ) → FreeOf colon front → begins_with left_bracket front ≡ false → FreeOf slash front → (is_helper_name front && begins_with colon path) ≡ false → holds (codes "://") (front ++ colon ∷ path) ≡ false → ScpShape (front ++ colon ∷ path) front path
 shape_row front path free apart lacks other none =
     record { joined = refl; neither = neither_at (front ++ colon ∷ path) front path refl free other none; no_slash = lacks; shape = ScpFront.plain free (inl apart) }
 
@@ -224,7 +221,7 @@ dot_path_no_scp = no_scp_behind_slash (codes "./a:b") (codes "./a") (codes "b") 
 
 -- the other forms
 pub form_rows : FormRows
-unfolding percent_encoding_on_literals computing chars is_ipv6_text holds begins_as
+unfolding percent_encoding_on_literals computing chars is_ipv6_text
 form_rows = (
     record { name = codes "a"; address = codes "b://c"; parts = record { named = refl; joined = refl }; value = refl },
     record { name = codes "ext"; address = codes "sh -c x"; parts = record { named = refl; joined = refl }; value = refl },
@@ -363,7 +360,6 @@ host_before_colons_no_scp v = helper_no_scp (codes "h::p") v (codes "h", codes "
 
 -- a text in the scp form is no local path
 scp_no_local : (v : Location) → ¬ SpellsLocal (codes "h:p") v
-unfolding holds begins_as
 scp_no_local v s = s.no_scp (inl (codes "h", codes "p", shape_row (codes "h") (codes "p") refl refl refl refl refl))
 
 -- a text with `://` is no local path
