@@ -12,3 +12,4 @@ pub mod RowNameLemmas
 pub mod RowPartLemmas
 pub mod RowFormLemmas
 pub mod RowClassLemmas
+pub mod RowFlawLemmas

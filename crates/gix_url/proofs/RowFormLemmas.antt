@@ -1,5 +1,6 @@
 -- Rows on whole texts: what a text spells, by giving its parts, and what it doesn't.
-use Rattle.std.proofs.Common.{◌≡◌, ℕ, ◌<◌, ◌≤◌, Bool, true, false, nat_lt, nat_le, ◌&&◌, ◌||◌, ◌==◌, ◌⊎◌, inl, inr, List, [], ◌∷◌, ◌++◌, length, Option, Some, None, codes, refl, sym, ap, subst, ◌∙◌, arith}
+use Rattle.std.proofs.Common.{◌≡◌, ℕ, ◌<◌, ◌≤◌, Bool, true, false, nat_lt, nat_le, ◌&&◌, ◌||◌, ◌==◌, ◌⊎◌, inl, inr, List, [], ◌∷◌, ◌++◌, length, Option, Some, None, codes, refl, sym, ap, subst, ◌∙◌, arith, append_assoc}
+use Rattle.std.specs.List.{list_any}
 use Rattle.std.proofs.lemmas.Bool.{both_ways, false≢true, and_from, and_parts, eq-eqb, ltb-true, leb-true, or_left, or_right}
 use Rattle.std.proofs.lemmas.List.{append_cancel_left}
 use Rattle.std.proofs.lemmas.Str.{IsUtf8-from_is_utf8}
@@ -7,7 +8,7 @@ use Rattle.std.specs.Str.{chars}
 use Rattle.percent_encoding.proofs.OnLiterals.{percent_encoding_on_literals}
 use Rattle.bstr.proofs.Computing.{computing}
 use Rattle.gix_url.specs.Value.{Location}
-use Rattle.gix_url.specs.Bytes.{slash, colon, at_sign, left_bracket, right_bracket, Lacks, FreeOf, Holds, begins_by, begins_with, is_helper_name}
+use Rattle.gix_url.specs.Bytes.{percent_sign, slash, colon, at_sign, left_bracket, right_bracket, Lacks, FreeOf, Holds, begins_by, begins_with, is_helper_name}
 use Rattle.gix_url.specs.Cuts.{is_path_start, StartsPath}
 use Rattle.gix_url.specs.AddressTest.{is_ipv6_text}
 use Rattle.gix_url.specs.Addresses.{Literal}
@@ -15,11 +16,12 @@ use Rattle.gix_url.specs.Hosts.{Mode, Bracketed, Names}
 use Rattle.gix_url.specs.Hosts.Mode.{strict, bare, loose}
 use Rattle.gix_url.specs.Schemes.{is_web_scheme}
 use Rattle.gix_url.specs.Authority.{Authority, without_white_space, is_any_slash, IsWithinLimit, Fits}
-use Rattle.gix_url.specs.Grammar.{HasHelperForm, Peels, ScpFront, IsNeither, ScpShape, AddressedShape, IsScpShaped, IsBracketed, ScpUser, Unbrackets, ScpHost, SpellsFile, SpellsScp, SpellsLocal}
+use Rattle.gix_url.specs.Grammar.{HasHelperForm, Peels, ScpFront, IsNeither, ScpShape, AddressedShape, IsScpShaped, IsBracketed, ScpUser, Unbrackets, ScpHost, SpellsFile, SpellsScp, SpellsScpAddressed, SpellsLocal}
 use Rattle.gix_url.specs.Rows.{no_text, UrlRows, FormRows, NoFormRows}
-use Rattle.gix_url.proofs.CutLemmas.{different_bytes, tails, cut_unique, not_free, free_parts, free_head_tail, helper_name_free}
+use Rattle.gix_url.proofs.CutLemmas.{different_bytes, tails, cut_unique, not_free, free_parts, free_head_tail, free_or_cut, helper_name_free}
 use Rattle.gix_url.proofs.AddressTestLemmas.{ipv6_text_from}
-use Rattle.gix_url.proofs.RowNameLemmas.{plain_row}
+use Rattle.gix_url.proofs.AddressLemmas.{address_free}
+use Rattle.gix_url.proofs.RowNameLemmas.{plain_row, not_literal_free}
 
 -- ---- what a text doesn't hold
 
@@ -330,6 +332,56 @@ form_rows = (
       };
       value = refl;
     }),
+    inl (record {
+      front = codes "[host]";
+      path = codes ":path";
+      user = None;
+      host = codes "[host]";
+      meant = codes "host";
+      shape = record {
+        joined = refl;
+        neither = neither_at (codes "[host]::path") (codes "[host]") (codes ":path") refl refl refl refl;
+        no_slash = refl;
+        shape = ScpFront.bracketed (codes "host") [] refl refl refl;
+      };
+      text = IsUtf8-from_is_utf8 _ refl;
+      pathed = ltb-true _ _ refl;
+      split = ScpUser.host_alone refl refl;
+      hosted = record {
+        named = codes "[host]";
+        no_at = refl;
+        no_backslash = refl;
+        no_white_space = refl;
+        names = Names.bracketed (codes "host") (codes "host") refl (Bracketed.other (not_literal_free (codes "host") refl refl) refl (IsUtf8-from_is_utf8 _ refl)) refl refl refl;
+        unbracketed = Unbrackets.brackets refl;
+      };
+      value = refl;
+    }),
+    inl (record {
+      front = codes "[a@b]";
+      path = codes "p";
+      user = Some (codes "[a");
+      host = codes "b]";
+      meant = codes "b]";
+      shape = record {
+        joined = refl;
+        neither = neither_at (codes "[a@b]:p") (codes "[a@b]") (codes "p") refl refl refl refl;
+        no_slash = refl;
+        shape = ScpFront.bracketed (codes "a@b") [] refl refl refl;
+      };
+      text = IsUtf8-from_is_utf8 _ refl;
+      pathed = ltb-true _ _ refl;
+      split = ScpUser.with_user (codes "[a") refl refl;
+      hosted = record {
+        named = codes "b]";
+        no_at = refl;
+        no_backslash = refl;
+        no_white_space = refl;
+        names = Names.plain (codes "b]") (plain_row (codes "b]") refl refl refl) (IsUtf8-from_is_utf8 _ refl, refl) refl refl;
+        unbracketed = Unbrackets.same (not_bracketed (codes "b]") refl) refl;
+      };
+      value = refl;
+    }),
     record {
       user = codes "u";
       address = codes "::";
@@ -378,6 +430,23 @@ file_wants_path v s =
     let lacks : FreeOf slash (codes "host") = refl in
     free_begins_not slash s.path (free_parts slash s.host s.path (subst (λ t. FreeOf slash t) behind lacks)).1 s.rooted
 
+-- an address behind a user has no zone
+zone_not_addressed : (v : Location) → ¬ SpellsScpAddressed (codes "u@[::1%eth0]:p") v
+zone_not_addressed v s =
+    let rest = left_bracket ∷ (s.address ++ right_bracket ∷ (colon ∷ s.path)) in
+    let whole : codes "u@[::1%eth0]:p" ≡ s.user ++ at_sign ∷ rest = s.shape.joined in
+    let lacks : FreeOf at_sign (codes "[::1%eth0]:p") = refl in
+    let lone : FreeOf percent_sign s.address = address_free percent_sign s.address refl s.shape.addressed in
+    elim (free_or_cut at_sign s.user) [
+      | inl free ↦
+      let behind = (cut_unique at_sign (codes "u") s.user (codes "[::1%eth0]:p") rest refl free whole).1 in
+      let inside = (cut_unique right_bracket (codes "::1%eth0") s.address (codes ":p") (colon ∷ s.path) refl (address_free right_bracket s.address refl s.shape.addressed) (tails behind)).0 in
+      both_ways _ lone (ap (list_any (λ b. b == percent_sign)) (sym inside))
+      | inr (x, y, free, e) ↦
+      let behind = (cut_unique at_sign (codes "u") x (codes "[::1%eth0]:p") (y ++ at_sign ∷ rest) refl free (whole ∙ ap (λ t. t ++ at_sign ∷ rest) e ∙ append_assoc x (at_sign ∷ y) (at_sign ∷ rest))).1 in
+      not_free at_sign y rest (subst (λ t. FreeOf at_sign t) behind lacks)
+    ]
+
 -- a text with the form of a helper is no scp form, and one with `://` is no local path
 pub no_form_rows : NoFormRows
-no_form_rows = (helper_no_scp, host_before_colons_no_scp, scp_no_local, mark_no_local, file_wants_path)
+no_form_rows = (helper_no_scp, host_before_colons_no_scp, scp_no_local, mark_no_local, file_wants_path, zone_not_addressed)

@@ -48,13 +48,13 @@ number_row : (mode : Mode) (t : List ℕ) (port : ℕ) → nat_lt 0 (length t) �
 number_row mode t port some each value within allowed = record { digits = (ltb-true _ _ some, each); value = value; within = leb-true _ _ within; allowed = allowed }
 
 -- a text that is no address, cut at its first `%`, is no literal where no zone stands behind it
-not_literal : (t a rest : List ℕ) → is_ipv6_text t ≡ false → FreeOf percent_sign a → t ≡ a ++ percent_sign ∷ rest → ((z : List ℕ) → rest ≡ 50 ∷ 53 ∷ z → ¬ IsZone z) → ¬ IsLiteral t
+pub not_literal : (t a rest : List ℕ) → is_ipv6_text t ≡ false → FreeOf percent_sign a → t ≡ a ++ percent_sign ∷ rest → ((z : List ℕ) → rest ≡ 50 ∷ 53 ∷ z → ¬ IsZone z) → ¬ IsLiteral t
 not_literal t a rest other free e none (n, Literal.address h k) = both_ways (is_ipv6_text t) other (ipv6_text_to t h)
 not_literal t a rest other free e none (n, Literal.zoned b z h zone whole k) =
     none z (cut_unique percent_sign a b rest (50 ∷ 53 ∷ z) free (address_free percent_sign b refl h) (sym e ∙ whole)).1 zone
 
 -- a text without a `%` that is no address is no literal
-not_literal_free : (t : List ℕ) → is_ipv6_text t ≡ false → FreeOf percent_sign t → ¬ IsLiteral t
+pub not_literal_free : (t : List ℕ) → is_ipv6_text t ≡ false → FreeOf percent_sign t → ¬ IsLiteral t
 not_literal_free t other free (n, Literal.address h k) = both_ways (is_ipv6_text t) other (ipv6_text_to t h)
 not_literal_free t other free (n, Literal.zoned b z h zone whole k) = not_free percent_sign b (50 ∷ 53 ∷ z) (subst (λ x. FreeOf percent_sign x) whole free)
 
@@ -104,13 +104,13 @@ port_alone_no_address (e, inl h) = both_ways _ refl (ipv6_text_to (codes ":80") 
 port_alone_no_address (e, inr (a, h, is)) = other_byte 48 58 refl (last_unique (codes ":8") a 48 58 is).1
 
 -- the modes are three
-loose_not_strict : ¬ (loose ≡ strict)
+pub loose_not_strict : ¬ (loose ≡ strict)
 loose_not_strict e = cc
 
 bare_not_strict : ¬ (bare ≡ strict)
 bare_not_strict e = cc
 
-loose_not_bare : ¬ (loose ≡ bare)
+pub loose_not_bare : ¬ (loose ≡ bare)
 loose_not_bare e = cc
 
 -- what a piece names
@@ -148,13 +148,13 @@ web_brackets_literal x free other host port =
     flawed_unnamed strict _ fault.BadCharacter (HasBadHost.brackets x (colon ∷ []) around (λ inner h. other (inner, h))) host port
 
 -- zero is no port of HTTP
-web_port_not_zero : (port : ℕ) → ¬ Number strict (codes "0") port
+pub web_port_not_zero : (port : ℕ) → ¬ Number strict (codes "0") port
 web_port_not_zero port n =
     let value : port ≡ 0 = n.value in
     omega (arith, value, n.allowed)
 
 -- a port has 16 bits
-port_not_too_large : (port : ℕ) → ¬ Number bare (codes "65616") port
+pub port_not_too_large : (port : ℕ) → ¬ Number bare (codes "65616") port
 port_not_too_large port n =
     let value : port ≡ 65616 = n.value in
     omega (arith, value, n.within)

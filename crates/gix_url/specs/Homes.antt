@@ -4,6 +4,7 @@ use Rattle.std.specs.List.{list_any, slice_split}
 use Rattle.bstr.specs.Utf8.{lossy_chars}
 use Rattle.gix_url.specs.Bytes.{dot, slash, tilde, FreeOf, begins_with}
 use Rattle.gix_url.specs.Addresses.{joined_by}
+use Rattle.gix_url.specs.Grammar.{or_root}
 use Rattle.gix_url.specs.Settled.{begins_at_home}
 
 -- ---- whose home folder
@@ -101,22 +102,16 @@ abbrev pub before_last : List (List ℕ) → List (List ℕ)
 before_last [] = []
 before_last (segment ∷ behind) = if list_any counts behind then segment ∷ before_last behind else []
 
--- a folder by its segments: one that is nothing but an empty segment is the root
-abbrev pub folder_of : List ℕ → List (List ℕ) → List ℕ
-folder_of [] [] = slash ∷ []
-folder_of [] (segment ∷ behind) = slash ∷ joined_by slash (segment ∷ behind)
-folder_of (b ∷ bs) [] = b ∷ bs
-folder_of (b ∷ bs) (segment ∷ behind) = (b ∷ bs) ++ slash ∷ joined_by slash (segment ∷ behind)
-
 -- nothing lies above the root; above a lone piece lies the empty text
 abbrev pub above_first : List ℕ → Option (List ℕ)
 above_first [] = None
 above_first (b ∷ bs) = Some []
 
--- the parent by segments: up to the end of the piece before the last piece
+-- the parent by segments: the front up to the end of the piece before the last piece; it is the root where no such
+-- piece stands behind the first `/`
 abbrev pub parent_of : List (List ℕ) → Option (List ℕ)
 parent_of [] = None
-parent_of (first ∷ behind) = if list_any counts behind then Some (folder_of first (up_to_last (before_last behind))) else above_first first
+parent_of (first ∷ behind) = if list_any counts behind then Some (or_root (joined_by slash (first ∷ up_to_last (before_last behind)))) else above_first first
 
 -- the parent of a text
 abbrev pub parent : List ℕ → Option (List ℕ)

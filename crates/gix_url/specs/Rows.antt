@@ -1,7 +1,9 @@
 -- Rows: what the definitions say of texts and values that are written out. Each group is one statement.
 use Rattle.std.specs.Prelude.{◌≡◌, ℕ, true, false, List, [], ◌∷◌, ◌++◌, codes, Option, Some, None, Ok, Err}
 use Rattle.percent_encoding.specs.Percent.{percent_encode, percent_decode}
-use Rattle.gix_url.specs.declared.error.WriteFault.TheVariants as fault
+use Rattle.gix_url.specs.declared.error.UrlKind.TheVariants as kind
+use Rattle.gix_url.specs.declared.error.UrlFault.TheVariants as fault
+use Rattle.gix_url.specs.declared.error.WriteFault.TheVariants as write
 use Rattle.gix_url.specs.declared.escape.TheConstants.{PATH, PASSWORD, USER}
 use Rattle.gix_url.specs.Value.{Protocol, Location, path_alone}
 use Rattle.gix_url.specs.Value.Protocol.{file, git, ssh, http, https, ext, helper, helper_url}
@@ -15,6 +17,7 @@ use Rattle.gix_url.specs.Authority.{Credentials, Authority}
 use Rattle.gix_url.specs.Grammar.{from_home, or_root, HasHelperForm, SpellsUrl, SpellsFile, SpellsHelper, SpellsScp, SpellsScpAddressed, SpellsLocal}
 use Rattle.gix_url.specs.Text.{text}
 use Rattle.gix_url.specs.Settled.{IsWebHost, IsSettled}
+use Rattle.gix_url.specs.Flaws.{HasBadPort, HasBadHost, AuthorityFlaw, UrlFlaw, ScpFlaw, MissesPath}
 use Rattle.gix_url.specs.Components.{Components, PartsOf}
 use Rattle.gix_url.specs.Homes.{HomeUser, SplitsHome, ForShell, pieces, without_first_component, joined, parent, expanded}
 use Rattle.gix_url.specs.Homes.HomeUser.{current, named}
@@ -127,13 +130,13 @@ UserTextRows =
 -- values that have no text
 abbrev pub FaultRows : Type 0
 FaultRows =
-    (text (record (path_alone ssh false (codes "/p")) { user = Some (codes "u") }) ≡ Err fault.UserWithoutHost)
-    × (text (record (path_alone file true (codes "/p")) { user = Some (codes "u") }) ≡ Err fault.UserWithoutHost)
-    × (text (record (at_host ssh (codes "h") (codes "p")) { port = Some 22 }) ≡ Err fault.RelativeSsh)
-    × (text (path_alone ssh true (codes "p")) ≡ Err fault.RelativeSsh)
-    × (text (record (path_alone (helper (codes "a")) true (codes "b")) { host = Some (codes "h") }) ≡ Err fault.HelperParts)
-    × (text (path_alone (helper (codes "-a")) true (codes "b")) ≡ Err fault.HelperName)
-    × (text (path_alone (helper []) true (codes "b")) ≡ Err fault.HelperName)
+    (text (record (path_alone ssh false (codes "/p")) { user = Some (codes "u") }) ≡ Err write.UserWithoutHost)
+    × (text (record (path_alone file true (codes "/p")) { user = Some (codes "u") }) ≡ Err write.UserWithoutHost)
+    × (text (record (at_host ssh (codes "h") (codes "p")) { port = Some 22 }) ≡ Err write.RelativeSsh)
+    × (text (path_alone ssh true (codes "p")) ≡ Err write.RelativeSsh)
+    × (text (record (path_alone (helper (codes "a")) true (codes "b")) { host = Some (codes "h") }) ≡ Err write.HelperParts)
+    × (text (path_alone (helper (codes "-a")) true (codes "b")) ≡ Err write.HelperName)
+    × (text (path_alone (helper []) true (codes "b")) ≡ Err write.HelperName)
 
 -- ---- stored locations
 
@@ -326,6 +329,8 @@ FormRows =
     × SpellsScp (codes "@h:/~a") (in_scp (Some []) (codes "h") (codes "~a"))
     × SpellsScp (codes "h%41:p") (in_scp None (codes "h%41") (codes "p"))
     × SpellsScp (codes "[::1]:p") (in_scp None (codes "::1") (codes "p"))
+    × SpellsScp (codes "[host]::path") (in_scp None (codes "host") (codes ":path"))
+    × SpellsScp (codes "[a@b]:p") (in_scp (Some (codes "[a")) (codes "b]") (codes "p"))
     × SpellsScpAddressed (codes "u@[::]:p") (in_scp (Some (codes "u")) (codes "::") (codes "p"))
     × SpellsLocal no_text (path_alone file true no_text)
     × SpellsLocal (codes "./a:b") (path_alone file true (codes "./a:b"))
@@ -338,6 +343,37 @@ NoFormRows =
     × ((v : Location) → ¬ SpellsLocal (codes "h:p") v)
     × ((v : Location) → ¬ SpellsLocal (codes "./a://b") v)
     × ((v : Location) → ¬ SpellsFile (codes "file://host") v)
+    × ((v : Location) → ¬ SpellsScpAddressed (codes "u@[::1%eth0]:p") v)
+
+-- ---- flaws
+
+-- what is wrong with the piece behind the user information
+abbrev pub NameFlawRows : Type 0
+NameFlawRows =
+    HasBadPort strict (codes "h:0")
+    × HasBadPort strict (codes "h:abc")
+    × HasBadPort bare (codes "h:65616")
+    × HasBadPort strict (codes "a<:x")
+    × HasBadHost strict (codes "a<:99999")
+    × HasBadHost strict (codes "[not-ip]")
+    × HasBadHost strict (codes "foo:bar:baz")
+    × HasBadHost loose (codes ":%FF")
+    × HasBadHost bare (codes "[h]x")
+    × AuthorityFlaw loose false (codes "@") fault.BadCharacter
+
+-- what is wrong with whole texts
+abbrev pub FlawRows : Type 0
+FlawRows =
+    UrlFlaw (codes "./a://b") fault.NoScheme
+    × UrlFlaw (codes "http://h/%2") fault.BadCharacter
+    × ScpFlaw (codes "[@a:]::") fault.BadPort
+    × ScpFlaw (codes "::address") fault.HostRequired
+    × ScpFlaw (codes "u@:p") fault.HostRequired
+    × ScpFlaw (codes "a b:p") fault.BadCharacter
+    × MissesPath (codes "host:") kind.Scp
+    × MissesPath (codes "@[::]:") kind.Scp
+    × MissesPath (codes "ssh://h") kind.Url
+    × MissesPath (codes "file://host") kind.Url
 
 -- ---- the settled class
 

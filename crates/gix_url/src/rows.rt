@@ -2,7 +2,7 @@
 //!
 //! It has no code and uses nothing: the contract of each function is a group of rows.
 
-ghost use Rattle.gix_url.specs.Rows.{EscapeRows, HostRows, SchemeRows, PathRows, OtherTextRows, UrlTextRows, UserTextRows, FaultRows, RecordRows, PieceRows, ParentRows, ExpandedRows, SplitRows, SpelledPartRows, RawPartRows, LiteralRows, NameRows, NoNameRows, AuthorityRows, NoAuthorityRows, UrlRows, FormRows, NoFormRows, SettledRows, WebHostRows, UnsettledWebRows, UnsettledUrlRows, UnsettledOtherRows};
+ghost use Rattle.gix_url.specs.Rows.{EscapeRows, HostRows, SchemeRows, PathRows, OtherTextRows, UrlTextRows, UserTextRows, FaultRows, RecordRows, PieceRows, ParentRows, ExpandedRows, SplitRows, SpelledPartRows, RawPartRows, LiteralRows, NameRows, NoNameRows, AuthorityRows, NoAuthorityRows, UrlRows, FormRows, NoFormRows, NameFlawRows, FlawRows, SettledRows, WebHostRows, UnsettledWebRows, UnsettledUrlRows, UnsettledOtherRows};
 
 /// Escapes, written and read.
 fn law_escapes()
@@ -61,6 +61,12 @@ fn law_forms()
     ensures urls { UrlRows }
     ensures others { FormRows }
     ensures none { NoFormRows }
+{}
+
+/// What is wrong with refused texts.
+fn law_flaws()
+    ensures names { NameFlawRows }
+    ensures whole { FlawRows }
 {}
 
 /// The settled class.
