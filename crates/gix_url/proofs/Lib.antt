@@ -7,6 +7,7 @@ pub mod EscapeLemmas
 pub mod LineLemmas
 pub mod EscapeSets
 pub mod HostLemmas
+pub mod RecordLemmas
 pub mod RowLemmas
 pub mod RowNameLemmas
 pub mod RowPartLemmas

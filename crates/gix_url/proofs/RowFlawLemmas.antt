@@ -1,14 +1,13 @@
 -- Rows on flaws: what is wrong with refused texts.
-use Rattle.std.proofs.Common.{◌≡◌, ℕ, true, false, inl, inr, List, [], ◌∷◌, ◌++◌, length, Some, None, IsUtf8, codes, refl, sym, ap, subst, ◌∙◌}
-use Rattle.std.specs.Str.{chars, is_utf8}
-use Rattle.std.proofs.lemmas.Bool.{both_ways, false≢true, ltb-true}
+use Rattle.std.proofs.Common.{◌≡◌, ℕ, inl, inr, List, [], ◌∷◌, Some, None, IsUtf8, codes, refl, sym, ap, ◌∙◌}
+use Rattle.std.specs.Str.{chars}
+use Rattle.std.proofs.lemmas.Bool.{false≢true, ltb-true}
 use Rattle.std.proofs.lemmas.Str.{is_utf8-from_IsUtf8}
 use Rattle.percent_encoding.specs.Percent.{percent_decode}
 use Rattle.percent_encoding.proofs.OnLiterals.{percent_encoding_on_literals}
 use Rattle.bstr.proofs.Computing.{computing}
 use Rattle.gix_url.specs.Bytes.{colon, right_bracket, begins_with}
 use Rattle.gix_url.specs.AddressTest.{is_ipv6_text}
-use Rattle.gix_url.specs.Hosts.Mode.{strict, bare, loose}
 use Rattle.gix_url.specs.Grammar.{ScpFront, ScpUser}
 use Rattle.gix_url.specs.Flaws.{HasBadPort, BracketsAround, HasBadHost, AuthorityFlaw, UrlFlaw, ScpHostFlaw, MissesPath}
 use Rattle.gix_url.specs.Rows.{NameFlawRows, FlawRows}

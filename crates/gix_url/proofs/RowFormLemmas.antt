@@ -1,7 +1,7 @@
 -- Rows on whole texts: what a text spells, by giving its parts, and what it doesn't.
-use Rattle.std.proofs.Common.{◌≡◌, ℕ, ◌<◌, ◌≤◌, Bool, true, false, nat_lt, nat_le, ◌&&◌, ◌||◌, ◌==◌, ◌⊎◌, inl, inr, List, [], ◌∷◌, ◌++◌, length, Option, Some, None, codes, refl, sym, ap, subst, ◌∙◌, arith, append_assoc}
+use Rattle.std.proofs.Common.{◌≡◌, ℕ, Bool, true, false, nat_le, ◌&&◌, ◌||◌, ◌==◌, inl, inr, List, [], ◌∷◌, ◌++◌, length, Some, None, codes, refl, sym, ap, subst, ◌∙◌, append_assoc}
 use Rattle.std.specs.List.{list_any}
-use Rattle.std.proofs.lemmas.Bool.{both_ways, false≢true, and_from, and_parts, eq-eqb, ltb-true, leb-true, or_left, or_right}
+use Rattle.std.proofs.lemmas.Bool.{both_ways, false≢true, and_from, eq-eqb, ltb-true, leb-true, or_left, or_right}
 use Rattle.std.proofs.lemmas.List.{append_cancel_left}
 use Rattle.std.proofs.lemmas.Str.{IsUtf8-from_is_utf8}
 use Rattle.std.specs.Str.{chars}
@@ -16,9 +16,9 @@ use Rattle.gix_url.specs.Hosts.{Mode, Bracketed, Names}
 use Rattle.gix_url.specs.Hosts.Mode.{strict, bare, loose}
 use Rattle.gix_url.specs.Schemes.{is_web_scheme}
 use Rattle.gix_url.specs.Authority.{Authority, without_white_space, is_any_slash, IsWithinLimit, Fits}
-use Rattle.gix_url.specs.Grammar.{HasHelperForm, Peels, ScpFront, IsNeither, ScpShape, AddressedShape, IsScpShaped, IsBracketed, ScpUser, Unbrackets, ScpHost, SpellsFile, SpellsScp, SpellsScpAddressed, SpellsLocal}
+use Rattle.gix_url.specs.Grammar.{HasHelperForm, Peels, ScpFront, IsNeither, ScpShape, IsScpShaped, IsBracketed, ScpUser, Unbrackets, SpellsFile, SpellsScp, SpellsScpAddressed, SpellsLocal}
 use Rattle.gix_url.specs.Rows.{no_text, UrlRows, FormRows, NoFormRows}
-use Rattle.gix_url.proofs.CutLemmas.{different_bytes, tails, cut_unique, not_free, free_parts, free_head_tail, free_or_cut, helper_name_free}
+use Rattle.gix_url.proofs.CutLemmas.{tails, cut_unique, not_free, free_parts, free_head_tail, free_or_cut, helper_name_free}
 use Rattle.gix_url.proofs.AddressTestLemmas.{ipv6_text_from}
 use Rattle.gix_url.proofs.AddressLemmas.{address_free}
 use Rattle.gix_url.proofs.RowNameLemmas.{plain_row, not_literal_free}

@@ -1,9 +1,8 @@
 -- Rows on hosts, ports and authorities: what a piece names, by giving its parts, and what none does.
-use Rattle.std.proofs.Common.{◌≡◌, ℕ, ◌<◌, ◌≤◌, Bool, true, false, is_some, nat_lt, nat_le, ◌==◌, inl, inr, List, [], ◌∷◌, ◌++◌, length, Option, Some, None, codes, refl, sym, ap, subst, ◌∙◌, arith, eqb}
+use Rattle.std.proofs.Common.{◌≡◌, ℕ, Bool, true, false, is_some, nat_lt, nat_le, inl, inr, List, [], ◌∷◌, ◌++◌, length, Option, Some, None, codes, refl, sym, ap, subst, ◌∙◌, arith, eqb}
 use Rattle.std.specs.List.{list_all}
 use Rattle.std.specs.Char.{is_ascii_digit}
 use Rattle.std.specs.Str.Parse.{digits_value}
-use Rattle.std.specs.Fmt.{digits}
 use Rattle.std.proofs.lemmas.Bool.{both_ways, false≢true, eq-eqb, ltb-true, leb-true}
 use Rattle.std.proofs.lemmas.Str.{IsUtf8-from_is_utf8}
 use Rattle.percent_encoding.proofs.OnLiterals.{percent_encoding_on_literals}
@@ -11,7 +10,7 @@ use Rattle.percent_encoding.specs.Percent.{percent_decode}
 use Rattle.bstr.proofs.Computing.{computing}
 use Rattle.gix_url.specs.declared.error.UrlFault.TheVariants as fault
 use Rattle.gix_url.specs.Bytes.{percent_sign, at_sign, colon, left_bracket, right_bracket, FreeOf, begins_with}
-use Rattle.gix_url.specs.Addresses.{is_zone_byte, IsIpv6Text, IsZone, Literal}
+use Rattle.gix_url.specs.Addresses.{is_zone_byte, IsZone, Literal}
 use Rattle.gix_url.specs.AddressTest.{is_ipv6_text}
 use Rattle.gix_url.specs.Hosts.{Mode, IsLiteral, Bracketed, AllowsPort, Number, ReadsAddress, IsPlainHost, Names}
 use Rattle.gix_url.specs.Hosts.Mode.{strict, bare, loose}

@@ -1,5 +1,5 @@
 -- Rows on home folders and on the parts of a path: the pieces are given.
-use Rattle.std.proofs.Common.{◌≡◌, ℕ, zero, suc, true, false, not, ◌==◌, List, [], ◌∷◌, Some, None, codes, refl, arith, All}
+use Rattle.std.proofs.Common.{◌≡◌, ℕ, zero, suc, true, not, ◌==◌, List, [], ◌∷◌, Some, None, codes, refl, arith, All}
 use Rattle.std.specs.List.{list_any, list_all}
 use Rattle.std.proofs.lemmas.Bool.{and_parts, not-true}
 use Rattle.percent_encoding.proofs.OnLiterals.{percent_encoding_on_literals}
@@ -8,7 +8,7 @@ use Rattle.gix_url.specs.Value.{Location}
 use Rattle.gix_url.specs.Bytes.{FreeOf}
 use Rattle.gix_url.specs.Addresses.{joined_by}
 use Rattle.gix_url.specs.Components.{ampersand, CutsPath, SplitsField, PairsOf, QueryOf}
-use Rattle.gix_url.specs.Homes.{HomeUser, SplitsHome}
+use Rattle.gix_url.specs.Homes.{SplitsHome}
 use Rattle.gix_url.specs.Homes.HomeUser.{current, named}
 use Rattle.gix_url.specs.Rows.{on_web, SplitRows, SpelledPartRows, RawPartRows}
 

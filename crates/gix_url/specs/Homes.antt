@@ -1,5 +1,5 @@
 -- Home folders and paths as text: whose home folder a path means, and what it is there.
-use Rattle.std.specs.Prelude.{◌≡◌, ℕ, Bool, true, false, not, ◌&&◌, ◌||◌, ◌==◌, List, [], ◌∷◌, ◌++◌, filter, Option, Some, None, option_map, encode_utf8_all, if◌then◌else◌}
+use Rattle.std.specs.Prelude.{◌≡◌, ℕ, Bool, true, false, not, ◌==◌, List, [], ◌∷◌, ◌++◌, filter, Option, Some, None, option_map, encode_utf8_all, if◌then◌else◌}
 use Rattle.std.specs.List.{list_any, slice_split}
 use Rattle.bstr.specs.Utf8.{lossy_chars}
 use Rattle.gix_url.specs.Bytes.{dot, slash, tilde, FreeOf, begins_with}

@@ -1,5 +1,5 @@
 -- Stored locations: those of the legacy form have the spelling of the path in place of the path.
-use Rattle.std.specs.Prelude.{ℕ, Bool, ◌&&◌, ◌==◌, List, [], ◌∷◌, ◌++◌, bytes_eq, Option, Some, None, if◌then◌else◌}
+use Rattle.std.specs.Prelude.{◌≡◌, ℕ, ◌<◌, ◌&&◌, ◌==◌, List, [], ◌∷◌, ◌++◌, bytes_eq, All, Option, Some, None, if◌then◌else◌}
 use Rattle.std.specs.Char.{is_digit}
 use Rattle.percent_encoding.specs.Percent.{percent_encode, percent_decode}
 use Rattle.gix_url.specs.declared.escape.TheConstants.{PATH}
@@ -28,3 +28,7 @@ migrated_by (Some spelling) v = if bytes_eq spelling v.path then from_legacy v e
 -- the location that a record stands for
 abbrev pub migrated : Location → Location
 migrated v = migrated_by v.spelling v
+
+-- a path in its new spelling stands for the same bytes
+abbrev pub KeepsMeaning : Type 0
+KeepsMeaning = (path : List ℕ) → All (λ b. b < 256) path → percent_decode (respelled path) ≡ percent_decode path

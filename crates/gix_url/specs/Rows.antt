@@ -18,10 +18,10 @@ use Rattle.gix_url.specs.Grammar.{from_home, or_root, HasHelperForm, SpellsUrl, 
 use Rattle.gix_url.specs.Text.{text}
 use Rattle.gix_url.specs.Settled.{IsWebHost, IsSettled}
 use Rattle.gix_url.specs.Flaws.{HasBadPort, HasBadHost, AuthorityFlaw, UrlFlaw, ScpFlaw, MissesPath}
-use Rattle.gix_url.specs.Components.{Components, PartsOf}
-use Rattle.gix_url.specs.Homes.{HomeUser, SplitsHome, ForShell, pieces, without_first_component, joined, parent, expanded}
+use Rattle.gix_url.specs.Components.{PartsOf}
+use Rattle.gix_url.specs.Homes.{SplitsHome, ForShell, pieces, without_first_component, joined, parent, expanded}
 use Rattle.gix_url.specs.Homes.HomeUser.{current, named}
-use Rattle.gix_url.specs.Records.{respelled, migrated}
+use Rattle.gix_url.specs.Records.{migrated}
 
 -- `ö` in UTF-8
 abbrev pub o_umlaut : List ℕ

@@ -2,6 +2,7 @@
 //!
 //! It has no code and uses nothing: the contract of each function is a group of rows.
 
+ghost use Rattle.gix_url.specs.Records.{KeepsMeaning};
 ghost use Rattle.gix_url.specs.Rows.{EscapeRows, HostRows, SchemeRows, PathRows, OtherTextRows, UrlTextRows, UserTextRows, FaultRows, RecordRows, PieceRows, ParentRows, ExpandedRows, SplitRows, SpelledPartRows, RawPartRows, LiteralRows, NameRows, NoNameRows, AuthorityRows, NoAuthorityRows, UrlRows, FormRows, NoFormRows, NameFlawRows, FlawRows, SettledRows, WebHostRows, UnsettledWebRows, UnsettledUrlRows, UnsettledOtherRows};
 
 /// Escapes, written and read.
@@ -27,6 +28,11 @@ fn law_texts()
 /// Stored locations.
 fn law_records()
     ensures { RecordRows }
+{}
+
+/// A legacy path in its new spelling stands for the same bytes.
+fn law_respelled()
+    ensures { KeepsMeaning }
 {}
 
 /// Paths as text and home folders.
