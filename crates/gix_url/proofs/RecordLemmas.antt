@@ -33,10 +33,10 @@ decode_respelled (b ∷ high ∷ low ∷ rest) small =
     let last = All-tail (λ c. c < 256) low rest (All-tail (λ c. c < 256) high (low ∷ rest) behind) in
     elim (cases_Bool (b == 37 && (is_digit high 16 && is_digit low 16))) [
       | inl escape ↦
-      let parts = and_parts (b == 37) (is_digit high 16 && is_digit low 16) escape in
-      let digits = and_parts (is_digit high 16) (is_digit low 16) parts.1 in
-      let byte = 16 * digit_value high + digit_value low in
-      rw escape (decode_escape b high low (respelled rest) parts.0 digits.0 digits.1 ∙ ap (λ t. byte ∷ t) (decode_respelled rest last) ∙ sym (decode_escape b high low rest parts.0 digits.0 digits.1))
+          let parts = and_parts (b == 37) (is_digit high 16 && is_digit low 16) escape in
+          let digits = and_parts (is_digit high 16) (is_digit low 16) parts.1 in
+          let byte = 16 * digit_value high + digit_value low in
+          rw escape (decode_escape b high low (respelled rest) parts.0 digits.0 digits.1 ∙ ap (λ t. byte ∷ t) (decode_respelled rest last) ∙ sym (decode_escape b high low rest parts.0 digits.0 digits.1))
       | inr none ↦
-      rw none (byte_back b (respelled (high ∷ low ∷ rest)) (All-head (λ c. c < 256) b (high ∷ low ∷ rest) small) ∙ ap (λ t. b ∷ t) (decode_respelled (high ∷ low ∷ rest) behind) ∙ sym (byte_kept b high low rest none))
+          rw none (byte_back b (respelled (high ∷ low ∷ rest)) (All-head (λ c. c < 256) b (high ∷ low ∷ rest) small) ∙ ap (λ t. b ∷ t) (decode_respelled (high ∷ low ∷ rest) behind) ∙ sym (byte_kept b high low rest none))
     ]

@@ -83,66 +83,71 @@ loopback_row = record { address = ipv6_text_from (codes "::1") refl; lower = ref
 pub settled_rows : SettledRows
 unfolding percent_encoding_on_literals computing chars is_ipv6_text
 settled_rows = (
-    (record { flagged = refl; alone = record { no_user = refl; no_password = refl; no_port = refl }; no_host = refl; named = refl }, refl),
-    record { flagged = refl; alone = record { no_user = refl; no_password = refl; no_port = refl }; no_host = refl; named = refl },
-    inl (record { flagged = refl; alone = record { no_user = refl; no_password = refl; no_port = refl }; no_host = refl; nonempty = ltb-true _ _ refl; neither = neither_free no_text refl refl; no_scp = no_scp_free no_text refl }),
-    inl (record { flagged = refl; alone = record { no_user = refl; no_password = refl; no_port = refl }; no_host = refl; nonempty = ltb-true _ _ refl; neither = neither_at (codes "./a:b") (codes "./a") (codes "b") refl refl refl refl; no_scp = dot_path_no_scp }),
-    inr (record { unflagged = refl; alone = record { no_user = refl; no_password = refl; no_port = refl }; no_match = λ m. none_is_some m.0 m.1; host = tt; path_text = IsUtf8-from_is_utf8 _ refl; rooted = refl }),
-    inr (record {
-      unflagged = refl;
-      alone = record { no_user = refl; no_password = refl; no_port = refl };
-      no_match = λ m. none_is_some m.0 m.1;
-      host = record { nonempty = ltb-true _ _ refl; no_slash = refl; unbracketed = inl refl };
-      path_text = IsUtf8-from_is_utf8 _ refl;
-      rooted = refl;
-    }),
-    inl (record {
-      flagged = refl;
-      no_password = refl;
-      no_port = refl;
-      path_text = IsUtf8-from_is_utf8 _ refl;
-      nonempty = ltb-true _ _ refl;
-      not_home = refl;
-      not_slashes = refl;
-      no_mark = not_held (codes "://") (codes "p") refl;
-      user = record { no_colon = refl; no_slash = refl; no_bracket = refl };
-      host = (codes "h", refl, inl (record {
+  (record { flagged = refl; alone = record { no_user = refl; no_password = refl; no_port = refl }; no_host = refl; named = refl }, refl),
+  record { flagged = refl; alone = record { no_user = refl; no_password = refl; no_port = refl }; no_host = refl; named = refl },
+  inl (record { flagged = refl; alone = record { no_user = refl; no_password = refl; no_port = refl }; no_host = refl; nonempty = ltb-true _ _ refl; neither = neither_free no_text refl refl; no_scp = no_scp_free no_text refl }),
+  inl (record { flagged = refl; alone = record { no_user = refl; no_password = refl; no_port = refl }; no_host = refl; nonempty = ltb-true _ _ refl; neither = neither_at (codes "./a:b") (codes "./a") (codes "b") refl refl refl refl; no_scp = dot_path_no_scp }),
+  inr (record { unflagged = refl; alone = record { no_user = refl; no_password = refl; no_port = refl }; no_match = λ m. none_is_some m.0 m.1; host = tt; path_text = IsUtf8-from_is_utf8 _ refl; rooted = refl }),
+  inr (record {
+    unflagged = refl;
+    alone = record { no_user = refl; no_password = refl; no_port = refl };
+    no_match = λ m. none_is_some m.0 m.1;
+    host = record { nonempty = ltb-true _ _ refl; no_slash = refl; unbracketed = inl refl };
+    path_text = IsUtf8-from_is_utf8 _ refl;
+    rooted = refl;
+  }),
+  inl (record {
+    flagged = refl;
+    no_password = refl;
+    no_port = refl;
+    path_text = IsUtf8-from_is_utf8 _ refl;
+    nonempty = ltb-true _ _ refl;
+    not_home = refl;
+    not_slashes = refl;
+    no_mark = not_held (codes "://") (codes "p") refl;
+    user = record { no_colon = refl; no_slash = refl; no_bracket = refl };
+    host = (
+      codes "h",
+      refl,
+      inl (record {
         normal = record { unbracketed = record { nonempty = ltb-true _ _ refl; no_colon = refl; no_left_bracket = refl; no_right_bracket = refl }; normal = refl };
         no_at = refl;
         no_slash = refl;
         no_backslash = refl;
         no_white_space = refl;
-      }), λ l. some_is_none [] l.0);
-    }),
-    inl (record {
-      flagged = refl;
-      no_password = refl;
-      no_port = refl;
-      path_text = IsUtf8-from_is_utf8 _ refl;
-      nonempty = ltb-true _ _ refl;
-      not_home = refl;
-      not_slashes = refl;
-      no_mark = not_held (codes "://") (codes "p") refl;
-      user = record { no_colon = refl; no_slash = refl; no_bracket = refl };
-      host = (codes "::1", refl, inr loopback_row, λ l. some_is_none (codes "u") l.0);
-    }),
-    record {
-      common = common_row http (codes "h:") (codes "/p")
-      (codes "http://h:/p", refl, record { scheme = codes "http"; rest = codes "h:/p"; no_colon = refl; joined = refl; fits = fits_row (codes "http") (codes "h:") (codes "/p") refl refl refl refl (inr refl) (leb-true _ _ refl) })
-      (IsUtf8-from_is_utf8 _ refl);
-      host = (codes "h:", refl, IsWebHost.named_colon (codes "h") web_name_row refl refl refl);
-      port = λ e. none_is_some 0 e;
-      path = refl;
-    },
-    inr (record {
-      common = common_row ssh (codes "::1") (codes "/p")
-      (codes "ssh://::1/p", refl, record { scheme = codes "ssh"; rest = codes "::1/p"; no_colon = refl; joined = refl; fits = fits_row (codes "ssh") (codes "::1") (codes "/p") refl refl refl refl (inr refl) (leb-true _ _ refl) })
-      (IsUtf8-from_is_utf8 _ refl);
-      host = (codes "::1", refl, inr loopback_row);
-      path = inl (refl, refl);
-      raw = λ m. (refl, refl);
-    }),
-  )
+      }),
+      λ l. some_is_none [] l.0,
+    );
+  }),
+  inl (record {
+    flagged = refl;
+    no_password = refl;
+    no_port = refl;
+    path_text = IsUtf8-from_is_utf8 _ refl;
+    nonempty = ltb-true _ _ refl;
+    not_home = refl;
+    not_slashes = refl;
+    no_mark = not_held (codes "://") (codes "p") refl;
+    user = record { no_colon = refl; no_slash = refl; no_bracket = refl };
+    host = (codes "::1", refl, inr loopback_row, λ l. some_is_none (codes "u") l.0);
+  }),
+  record {
+    common = common_row http (codes "h:") (codes "/p")
+        (codes "http://h:/p", refl, record { scheme = codes "http"; rest = codes "h:/p"; no_colon = refl; joined = refl; fits = fits_row (codes "http") (codes "h:") (codes "/p") refl refl refl refl (inr refl) (leb-true _ _ refl) })
+        (IsUtf8-from_is_utf8 _ refl);
+    host = (codes "h:", refl, IsWebHost.named_colon (codes "h") web_name_row refl refl refl);
+    port = λ e. none_is_some 0 e;
+    path = refl;
+  },
+  inr (record {
+    common = common_row ssh (codes "::1") (codes "/p")
+        (codes "ssh://::1/p", refl, record { scheme = codes "ssh"; rest = codes "::1/p"; no_colon = refl; joined = refl; fits = fits_row (codes "ssh") (codes "::1") (codes "/p") refl refl refl refl (inr refl) (leb-true _ _ refl) })
+        (IsUtf8-from_is_utf8 _ refl);
+    host = (codes "::1", refl, inr loopback_row);
+    path = inl (refl, refl);
+    raw = λ m. (refl, refl);
+  }),
+)
 
 -- ---- locations of HTTP that aren't settled
 

@@ -35,77 +35,77 @@ bracket_and_letter x rest a =
 pub name_flaw_rows : NameFlawRows
 unfolding is_ipv6_text
 name_flaw_rows = (
-    HasBadPort.plain (codes "h") (codes "0") (plain_row (codes "h") refl refl refl) refl refl (ltb-true _ _ refl, web_port_not_zero),
-    HasBadPort.plain (codes "h") (codes "abc") (plain_row (codes "h") refl refl refl) refl refl (ltb-true _ _ refl, λ port n. false≢true n.digits.1),
-    HasBadPort.plain (codes "h") (codes "65616") (plain_row (codes "h") refl refl refl) refl refl (ltb-true _ _ refl, port_not_too_large),
-    HasBadPort.plain (codes "a<") (codes "x") (plain_row (codes "a<") refl refl refl) refl refl (ltb-true _ _ refl, λ port n. false≢true n.digits.1),
-    HasBadHost.plain (codes "a<") (codes ":99999") (plain_row (codes "a<") refl refl refl) (inr (codes "99999", refl, refl)) refl (λ host h. false≢true h.0),
-    HasBadHost.brackets (codes "not-ip") [] (record { closed = refl; joined = refl; followed = inl refl }) (λ inner h. not_literal_free (codes "not-ip") refl refl (inner, h)),
-    HasBadHost.colons_on_the_web refl refl (inr (codes "foo", codes "bar", codes "baz", refl)),
-    HasBadHost.colons loose_not_strict (λ r. loose_not_bare r.0) refl (inl refl) (λ host h. no_utf8 h.0),
-    HasBadHost.open_bracket refl bracket_and_letter,
-    AuthorityFlaw.no_host [] refl,
-  )
+  HasBadPort.plain (codes "h") (codes "0") (plain_row (codes "h") refl refl refl) refl refl (ltb-true _ _ refl, web_port_not_zero),
+  HasBadPort.plain (codes "h") (codes "abc") (plain_row (codes "h") refl refl refl) refl refl (ltb-true _ _ refl, λ port n. false≢true n.digits.1),
+  HasBadPort.plain (codes "h") (codes "65616") (plain_row (codes "h") refl refl refl) refl refl (ltb-true _ _ refl, port_not_too_large),
+  HasBadPort.plain (codes "a<") (codes "x") (plain_row (codes "a<") refl refl refl) refl refl (ltb-true _ _ refl, λ port n. false≢true n.digits.1),
+  HasBadHost.plain (codes "a<") (codes ":99999") (plain_row (codes "a<") refl refl refl) (inr (codes "99999", refl, refl)) refl (λ host h. false≢true h.0),
+  HasBadHost.brackets (codes "not-ip") [] (record { closed = refl; joined = refl; followed = inl refl }) (λ inner h. not_literal_free (codes "not-ip") refl refl (inner, h)),
+  HasBadHost.colons_on_the_web refl refl (inr (codes "foo", codes "bar", codes "baz", refl)),
+  HasBadHost.colons loose_not_strict (λ r. loose_not_bare r.0) refl (inl refl) (λ host h. no_utf8 h.0),
+  HasBadHost.open_bracket refl bracket_and_letter,
+  AuthorityFlaw.no_host [] refl,
+)
 
 -- what is wrong with whole texts
 pub flaw_rows : FlawRows
 unfolding is_ipv6_text chars
 flaw_rows = (
-    UrlFlaw.no_scheme (codes "./a") (codes "b") (record { shape = record { no_helper = no_helper_at (codes "./a://b") (codes "./a") (codes "//b") refl refl refl; first = not_held (codes "://") (codes "./a") refl; joined = refl }; not_file = refl }) refl,
-    UrlFlaw.unsound (codes "http") (codes "h/%2") (record { shape = record { no_helper = no_helper_at (codes "http://h/%2") (codes "http") (codes "//h/%2") refl refl refl; first = not_held (codes "://") (codes "http") refl; joined = refl }; not_file = refl }) refl,
-    record {
-      front = codes "[@a:]";
-      path = codes ":";
-      user = Some (codes "[");
-      host = codes "a:]";
-      shape = record {
-        joined = refl;
-        neither = neither_at (codes "[@a:]::") (codes "[@a") (codes "]::") refl refl refl refl;
-        no_slash = refl;
-        shape = ScpFront.bracketed (codes "@a:") [] refl refl refl;
-      };
-      split = ScpUser.with_user (codes "[") refl refl;
-      no_at = refl;
-      flaw = ScpHostFlaw.bad_name fault.BadPort (HasBadPort.plain (codes "a") (codes "]") (plain_row (codes "a") refl refl refl) refl refl (ltb-true _ _ refl, λ port n. false≢true n.digits.1));
-    },
-    record {
-      front = [];
-      path = codes ":address";
-      user = None;
-      host = [];
-      shape = shape_row [] (codes ":address") refl refl refl refl refl;
-      split = ScpUser.host_alone refl refl;
-      no_at = refl;
-      flaw = ScpHostFlaw.empty refl;
-    },
-    record {
-      front = codes "u@";
-      path = codes "p";
-      user = Some (codes "u");
-      host = [];
-      shape = shape_row (codes "u@") (codes "p") refl refl refl refl refl;
-      split = ScpUser.with_user (codes "u") refl refl;
-      no_at = refl;
-      flaw = ScpHostFlaw.empty refl;
-    },
-    record {
-      front = codes "a b";
-      path = codes "p";
-      user = None;
-      host = codes "a b";
-      shape = shape_row (codes "a b") (codes "p") refl refl refl refl refl;
-      split = ScpUser.host_alone refl refl;
-      no_at = refl;
-      flaw = ScpHostFlaw.white_space (λ e. false≢true (sym e));
-    },
-    MissesPath.in_scp (codes "host") (shape_row (codes "host") [] refl refl refl refl refl),
-    MissesPath.behind_address [] (codes "::") (record {
+  UrlFlaw.no_scheme (codes "./a") (codes "b") (record { shape = record { no_helper = no_helper_at (codes "./a://b") (codes "./a") (codes "//b") refl refl refl; first = not_held (codes "://") (codes "./a") refl; joined = refl }; not_file = refl }) refl,
+  UrlFlaw.unsound (codes "http") (codes "h/%2") (record { shape = record { no_helper = no_helper_at (codes "http://h/%2") (codes "http") (codes "//h/%2") refl refl refl; first = not_held (codes "://") (codes "http") refl; joined = refl }; not_file = refl }) refl,
+  record {
+    front = codes "[@a:]";
+    path = codes ":";
+    user = Some (codes "[");
+    host = codes "a:]";
+    shape = record {
       joined = refl;
-      neither = neither_at (codes "@[::]:") (codes "@[") (codes ":]:") refl refl refl refl;
+      neither = neither_at (codes "[@a:]::") (codes "[@a") (codes "]::") refl refl refl refl;
       no_slash = refl;
-      no_colon = refl;
-      addressed = ipv6_text_from (codes "::") refl;
-    }),
-    MissesPath.in_url (codes "ssh") (codes "h") refl refl refl,
-    MissesPath.in_file (codes "host") refl refl,
-  )
+      shape = ScpFront.bracketed (codes "@a:") [] refl refl refl;
+    };
+    split = ScpUser.with_user (codes "[") refl refl;
+    no_at = refl;
+    flaw = ScpHostFlaw.bad_name fault.BadPort (HasBadPort.plain (codes "a") (codes "]") (plain_row (codes "a") refl refl refl) refl refl (ltb-true _ _ refl, λ port n. false≢true n.digits.1));
+  },
+  record {
+    front = [];
+    path = codes ":address";
+    user = None;
+    host = [];
+    shape = shape_row [] (codes ":address") refl refl refl refl refl;
+    split = ScpUser.host_alone refl refl;
+    no_at = refl;
+    flaw = ScpHostFlaw.empty refl;
+  },
+  record {
+    front = codes "u@";
+    path = codes "p";
+    user = Some (codes "u");
+    host = [];
+    shape = shape_row (codes "u@") (codes "p") refl refl refl refl refl;
+    split = ScpUser.with_user (codes "u") refl refl;
+    no_at = refl;
+    flaw = ScpHostFlaw.empty refl;
+  },
+  record {
+    front = codes "a b";
+    path = codes "p";
+    user = None;
+    host = codes "a b";
+    shape = shape_row (codes "a b") (codes "p") refl refl refl refl refl;
+    split = ScpUser.host_alone refl refl;
+    no_at = refl;
+    flaw = ScpHostFlaw.white_space (λ e. false≢true (sym e));
+  },
+  MissesPath.in_scp (codes "host") (shape_row (codes "host") [] refl refl refl refl refl),
+  MissesPath.behind_address [] (codes "::") (record {
+    joined = refl;
+    neither = neither_at (codes "@[::]:") (codes "@[") (codes ":]:") refl refl refl refl;
+    no_slash = refl;
+    no_colon = refl;
+    addressed = ipv6_text_from (codes "::") refl;
+  }),
+  MissesPath.in_url (codes "ssh") (codes "h") refl refl refl,
+  MissesPath.in_file (codes "host") refl refl,
+)

@@ -94,109 +94,109 @@ host_row mode t named free n = Authority.host_alone free n refl refl
 pub url_rows : UrlRows
 unfolding percent_encoding_on_literals computing chars is_ipv6_text
 url_rows = (
-    record {
-      parts = record { scheme = codes "x"; user = None; password = None; host = Some (codes "h"); port = None; path = codes "/p"; };
-      spelled = record {
-        authority = codes "h";
-        joined = refl;
-        scheme_text = refl;
-        not_file = refl;
-        no_backslash = refl;
-        before_path = refl;
-        path_starts = inr refl;
-        text = IsUtf8-from_is_utf8 _ refl;
-        sound = refl;
-        no_white_space = refl;
-        fits = fits_row (codes "x") (codes "h") (codes "/p") refl refl refl refl (inr refl) (leb-true _ _ refl);
-        named = host_row loose (codes "h") (codes "h") refl (Names.plain (codes "h") (plain_row (codes "h") refl refl refl) (IsUtf8-from_is_utf8 _ refl, refl) refl refl);
-        hosted = λ e. refl;
-        path_text = IsUtf8-from_is_utf8 _ refl;
-      };
-      means = record { host = Some (codes "h"); pathed = λ e. absurd (false≢true e); hosted = refl; value = refl };
-    },
-    record {
-      parts = record { scheme = codes "http"; user = None; password = None; host = Some (codes "h"); port = None; path = []; };
-      spelled = record {
-        authority = codes "H";
-        joined = refl;
-        scheme_text = refl;
-        not_file = refl;
-        no_backslash = refl;
-        before_path = refl;
-        path_starts = inl refl;
-        text = IsUtf8-from_is_utf8 _ refl;
-        sound = refl;
-        no_white_space = refl;
-        fits = fits_row (codes "http") (codes "H") [] refl refl refl refl (inl refl) (leb-true _ _ refl);
-        named = host_row strict (codes "H") (codes "h") refl (Names.plain (codes "h") (plain_row (codes "H") refl refl refl) (refl, refl) refl refl);
-        hosted = λ e. refl;
-        path_text = IsUtf8-from_is_utf8 _ refl;
-      };
-      means = record { host = Some (codes "h"); pathed = λ e. absurd (false≢true e); hosted = refl; value = refl };
-    },
-    record {
-      parts = record { scheme = codes "ssh"; user = None; password = None; host = Some (codes "a:"); port = None; path = codes "/~p"; };
-      spelled = record {
-        authority = codes "a%3A";
-        joined = refl;
-        scheme_text = refl;
-        not_file = refl;
-        no_backslash = refl;
-        before_path = refl;
-        path_starts = inr refl;
-        text = IsUtf8-from_is_utf8 _ refl;
-        sound = refl;
-        no_white_space = refl;
-        fits = fits_row (codes "ssh") (codes "a%3A") (codes "/~p") refl refl refl refl (inr refl) (leb-true _ _ refl);
-        named = host_row bare (codes "a%3A") (codes "a:") refl (Names.plain (codes "a:") (plain_row (codes "a%3A") refl refl refl) (IsUtf8-from_is_utf8 _ refl, refl) refl refl);
-        hosted = λ e. refl;
-        path_text = IsUtf8-from_is_utf8 _ refl;
-      };
-      means = record { host = Some (codes "a"); pathed = λ e. ltb-true _ _ refl; hosted = (codes "a", Peels.last_colon refl refl refl, refl); value = refl };
-    },
-    record {
-      parts = record { scheme = codes "git"; user = None; password = None; host = Some (codes "h"); port = None; path = codes "/%7E"; };
-      spelled = record {
-        authority = codes "h";
-        joined = refl;
-        scheme_text = refl;
-        not_file = refl;
-        no_backslash = refl;
-        before_path = refl;
-        path_starts = inr refl;
-        text = IsUtf8-from_is_utf8 _ refl;
-        sound = refl;
-        no_white_space = refl;
-        fits = fits_row (codes "git") (codes "h") (codes "/%7E") refl refl refl refl (inr refl) (leb-true _ _ refl);
-        named = host_row bare (codes "h") (codes "h") refl (Names.plain (codes "h") (plain_row (codes "h") refl refl refl) (IsUtf8-from_is_utf8 _ refl, refl) refl refl);
-        hosted = λ e. refl;
-        path_text = IsUtf8-from_is_utf8 _ refl;
-      };
-      means = record { host = Some (codes "h"); pathed = λ e. ltb-true _ _ refl; hosted = refl; value = refl };
-    },
-    record {
-      parts = record { scheme = codes "ext"; user = None; password = None; host = Some (codes "a"); port = None; path = codes "/b"; };
-      spelled = record {
-        authority = codes "a";
-        joined = refl;
-        scheme_text = refl;
-        not_file = refl;
-        no_backslash = refl;
-        before_path = refl;
-        path_starts = inr refl;
-        text = IsUtf8-from_is_utf8 _ refl;
-        sound = refl;
-        no_white_space = refl;
-        fits = fits_row (codes "ext") (codes "a") (codes "/b") refl refl refl refl (inr refl) (leb-true _ _ refl);
-        named = host_row loose (codes "a") (codes "a") refl (Names.plain (codes "a") (plain_row (codes "a") refl refl refl) (IsUtf8-from_is_utf8 _ refl, refl) refl refl);
-        hosted = λ e. refl;
-        path_text = IsUtf8-from_is_utf8 _ refl;
-      };
-      means = refl;
-    },
-    record { host = []; path = codes "/p"; joined = refl; text = IsUtf8-from_is_utf8 _ refl; no_slash = refl; rooted = refl; value = refl },
-    record { host = codes "h%2"; path = codes "/%"; joined = refl; text = IsUtf8-from_is_utf8 _ refl; no_slash = refl; rooted = refl; value = refl },
-  )
+  record {
+    parts = record { scheme = codes "x"; user = None; password = None; host = Some (codes "h"); port = None; path = codes "/p" };
+    spelled = record {
+      authority = codes "h";
+      joined = refl;
+      scheme_text = refl;
+      not_file = refl;
+      no_backslash = refl;
+      before_path = refl;
+      path_starts = inr refl;
+      text = IsUtf8-from_is_utf8 _ refl;
+      sound = refl;
+      no_white_space = refl;
+      fits = fits_row (codes "x") (codes "h") (codes "/p") refl refl refl refl (inr refl) (leb-true _ _ refl);
+      named = host_row loose (codes "h") (codes "h") refl (Names.plain (codes "h") (plain_row (codes "h") refl refl refl) (IsUtf8-from_is_utf8 _ refl, refl) refl refl);
+      hosted = λ e. refl;
+      path_text = IsUtf8-from_is_utf8 _ refl;
+    };
+    means = record { host = Some (codes "h"); pathed = λ e. absurd (false≢true e); hosted = refl; value = refl };
+  },
+  record {
+    parts = record { scheme = codes "http"; user = None; password = None; host = Some (codes "h"); port = None; path = [] };
+    spelled = record {
+      authority = codes "H";
+      joined = refl;
+      scheme_text = refl;
+      not_file = refl;
+      no_backslash = refl;
+      before_path = refl;
+      path_starts = inl refl;
+      text = IsUtf8-from_is_utf8 _ refl;
+      sound = refl;
+      no_white_space = refl;
+      fits = fits_row (codes "http") (codes "H") [] refl refl refl refl (inl refl) (leb-true _ _ refl);
+      named = host_row strict (codes "H") (codes "h") refl (Names.plain (codes "h") (plain_row (codes "H") refl refl refl) (refl, refl) refl refl);
+      hosted = λ e. refl;
+      path_text = IsUtf8-from_is_utf8 _ refl;
+    };
+    means = record { host = Some (codes "h"); pathed = λ e. absurd (false≢true e); hosted = refl; value = refl };
+  },
+  record {
+    parts = record { scheme = codes "ssh"; user = None; password = None; host = Some (codes "a:"); port = None; path = codes "/~p" };
+    spelled = record {
+      authority = codes "a%3A";
+      joined = refl;
+      scheme_text = refl;
+      not_file = refl;
+      no_backslash = refl;
+      before_path = refl;
+      path_starts = inr refl;
+      text = IsUtf8-from_is_utf8 _ refl;
+      sound = refl;
+      no_white_space = refl;
+      fits = fits_row (codes "ssh") (codes "a%3A") (codes "/~p") refl refl refl refl (inr refl) (leb-true _ _ refl);
+      named = host_row bare (codes "a%3A") (codes "a:") refl (Names.plain (codes "a:") (plain_row (codes "a%3A") refl refl refl) (IsUtf8-from_is_utf8 _ refl, refl) refl refl);
+      hosted = λ e. refl;
+      path_text = IsUtf8-from_is_utf8 _ refl;
+    };
+    means = record { host = Some (codes "a"); pathed = λ e. ltb-true _ _ refl; hosted = (codes "a", Peels.last_colon refl refl refl, refl); value = refl };
+  },
+  record {
+    parts = record { scheme = codes "git"; user = None; password = None; host = Some (codes "h"); port = None; path = codes "/%7E" };
+    spelled = record {
+      authority = codes "h";
+      joined = refl;
+      scheme_text = refl;
+      not_file = refl;
+      no_backslash = refl;
+      before_path = refl;
+      path_starts = inr refl;
+      text = IsUtf8-from_is_utf8 _ refl;
+      sound = refl;
+      no_white_space = refl;
+      fits = fits_row (codes "git") (codes "h") (codes "/%7E") refl refl refl refl (inr refl) (leb-true _ _ refl);
+      named = host_row bare (codes "h") (codes "h") refl (Names.plain (codes "h") (plain_row (codes "h") refl refl refl) (IsUtf8-from_is_utf8 _ refl, refl) refl refl);
+      hosted = λ e. refl;
+      path_text = IsUtf8-from_is_utf8 _ refl;
+    };
+    means = record { host = Some (codes "h"); pathed = λ e. ltb-true _ _ refl; hosted = refl; value = refl };
+  },
+  record {
+    parts = record { scheme = codes "ext"; user = None; password = None; host = Some (codes "a"); port = None; path = codes "/b" };
+    spelled = record {
+      authority = codes "a";
+      joined = refl;
+      scheme_text = refl;
+      not_file = refl;
+      no_backslash = refl;
+      before_path = refl;
+      path_starts = inr refl;
+      text = IsUtf8-from_is_utf8 _ refl;
+      sound = refl;
+      no_white_space = refl;
+      fits = fits_row (codes "ext") (codes "a") (codes "/b") refl refl refl refl (inr refl) (leb-true _ _ refl);
+      named = host_row loose (codes "a") (codes "a") refl (Names.plain (codes "a") (plain_row (codes "a") refl refl refl) (IsUtf8-from_is_utf8 _ refl, refl) refl refl);
+      hosted = λ e. refl;
+      path_text = IsUtf8-from_is_utf8 _ refl;
+    };
+    means = refl;
+  },
+  record { host = []; path = codes "/p"; joined = refl; text = IsUtf8-from_is_utf8 _ refl; no_slash = refl; rooted = refl; value = refl },
+  record { host = codes "h%2"; path = codes "/%"; joined = refl; text = IsUtf8-from_is_utf8 _ refl; no_slash = refl; rooted = refl; value = refl },
+)
 
 -- ---- the other forms
 
@@ -225,181 +225,181 @@ dot_path_no_scp = no_scp_behind_slash (codes "./a:b") (codes "./a") (codes "b") 
 pub form_rows : FormRows
 unfolding percent_encoding_on_literals computing chars is_ipv6_text
 form_rows = (
-    record { name = codes "a"; address = codes "b://c"; parts = record { named = refl; joined = refl }; value = refl },
-    record { name = codes "ext"; address = codes "sh -c x"; parts = record { named = refl; joined = refl }; value = refl },
-    inl (record {
-      front = codes "h";
-      path = codes "p";
-      user = None;
-      host = codes "h";
-      meant = codes "h";
-      shape = shape_row (codes "h") (codes "p") refl refl refl refl refl;
-      text = IsUtf8-from_is_utf8 _ refl;
-      pathed = ltb-true _ _ refl;
-      split = ScpUser.host_alone refl refl;
-      hosted = record {
-        named = codes "h";
-        no_at = refl;
-        no_backslash = refl;
-        no_white_space = refl;
-        names = Names.plain (codes "h") (plain_row (codes "h") refl refl refl) (IsUtf8-from_is_utf8 _ refl, refl) refl refl;
-        unbracketed = Unbrackets.same (not_bracketed (codes "h") refl) refl;
-      };
-      value = refl;
-    }),
-    inl (record {
-      front = codes "u";
-      path = codes "x@h:p";
-      user = None;
-      host = codes "u";
-      meant = codes "u";
-      shape = shape_row (codes "u") (codes "x@h:p") refl refl refl refl refl;
-      text = IsUtf8-from_is_utf8 _ refl;
-      pathed = ltb-true _ _ refl;
-      split = ScpUser.host_alone refl refl;
-      hosted = record {
-        named = codes "u";
-        no_at = refl;
-        no_backslash = refl;
-        no_white_space = refl;
-        names = Names.plain (codes "u") (plain_row (codes "u") refl refl refl) (IsUtf8-from_is_utf8 _ refl, refl) refl refl;
-        unbracketed = Unbrackets.same (not_bracketed (codes "u") refl) refl;
-      };
-      value = refl;
-    }),
-    inl (record {
-      front = codes "@h";
-      path = codes "/~a";
-      user = Some [];
-      host = codes "h";
-      meant = codes "h";
-      shape = shape_row (codes "@h") (codes "/~a") refl refl refl refl refl;
-      text = IsUtf8-from_is_utf8 _ refl;
-      pathed = ltb-true _ _ refl;
-      split = ScpUser.with_user [] refl refl;
-      hosted = record {
-        named = codes "h";
-        no_at = refl;
-        no_backslash = refl;
-        no_white_space = refl;
-        names = Names.plain (codes "h") (plain_row (codes "h") refl refl refl) (IsUtf8-from_is_utf8 _ refl, refl) refl refl;
-        unbracketed = Unbrackets.same (not_bracketed (codes "h") refl) refl;
-      };
-      value = refl;
-    }),
-    inl (record {
-      front = codes "h%41";
-      path = codes "p";
-      user = None;
-      host = codes "h%41";
-      meant = codes "h%41";
-      shape = shape_row (codes "h%41") (codes "p") refl refl refl refl refl;
-      text = IsUtf8-from_is_utf8 _ refl;
-      pathed = ltb-true _ _ refl;
-      split = ScpUser.host_alone refl refl;
-      hosted = record {
-        named = codes "h%41";
-        no_at = refl;
-        no_backslash = refl;
-        no_white_space = refl;
-        names = Names.plain (codes "h%41") (plain_row (codes "h%2541") refl refl refl) (IsUtf8-from_is_utf8 _ refl, refl) refl refl;
-        unbracketed = Unbrackets.same (not_bracketed (codes "h%41") refl) refl;
-      };
-      value = refl;
-    }),
-    inl (record {
-      front = codes "[::1]";
-      path = codes "p";
-      user = None;
-      host = codes "[::1]";
-      meant = codes "::1";
-      shape = record {
-        joined = refl;
-        neither = neither_at (codes "[::1]:p") (codes "[") (codes ":1]:p") refl refl refl refl;
-        no_slash = refl;
-        shape = ScpFront.bracketed (codes "::1") [] refl refl refl;
-      };
-      text = IsUtf8-from_is_utf8 _ refl;
-      pathed = ltb-true _ _ refl;
-      split = ScpUser.host_alone refl refl;
-      hosted = record {
-        named = codes "[::1]";
-        no_at = refl;
-        no_backslash = refl;
-        no_white_space = refl;
-        names = Names.bracketed (codes "::1") (codes "::1") refl (Bracketed.literal (codes "::1") (Literal.address (ipv6_text_from (codes "::1") refl) refl) refl (IsUtf8-from_is_utf8 _ refl)) refl refl refl;
-        unbracketed = Unbrackets.brackets refl;
-      };
-      value = refl;
-    }),
-    inl (record {
-      front = codes "[host]";
-      path = codes ":path";
-      user = None;
-      host = codes "[host]";
-      meant = codes "host";
-      shape = record {
-        joined = refl;
-        neither = neither_at (codes "[host]::path") (codes "[host]") (codes ":path") refl refl refl refl;
-        no_slash = refl;
-        shape = ScpFront.bracketed (codes "host") [] refl refl refl;
-      };
-      text = IsUtf8-from_is_utf8 _ refl;
-      pathed = ltb-true _ _ refl;
-      split = ScpUser.host_alone refl refl;
-      hosted = record {
-        named = codes "[host]";
-        no_at = refl;
-        no_backslash = refl;
-        no_white_space = refl;
-        names = Names.bracketed (codes "host") (codes "host") refl (Bracketed.other (not_literal_free (codes "host") refl refl) refl (IsUtf8-from_is_utf8 _ refl)) refl refl refl;
-        unbracketed = Unbrackets.brackets refl;
-      };
-      value = refl;
-    }),
-    inl (record {
-      front = codes "[a@b]";
-      path = codes "p";
-      user = Some (codes "[a");
-      host = codes "b]";
-      meant = codes "b]";
-      shape = record {
-        joined = refl;
-        neither = neither_at (codes "[a@b]:p") (codes "[a@b]") (codes "p") refl refl refl refl;
-        no_slash = refl;
-        shape = ScpFront.bracketed (codes "a@b") [] refl refl refl;
-      };
-      text = IsUtf8-from_is_utf8 _ refl;
-      pathed = ltb-true _ _ refl;
-      split = ScpUser.with_user (codes "[a") refl refl;
-      hosted = record {
-        named = codes "b]";
-        no_at = refl;
-        no_backslash = refl;
-        no_white_space = refl;
-        names = Names.plain (codes "b]") (plain_row (codes "b]") refl refl refl) (IsUtf8-from_is_utf8 _ refl, refl) refl refl;
-        unbracketed = Unbrackets.same (not_bracketed (codes "b]") refl) refl;
-      };
-      value = refl;
-    }),
-    record {
-      user = codes "u";
-      address = codes "::";
-      path = codes "p";
-      shape = record {
-        joined = refl;
-        neither = neither_at (codes "u@[::]:p") (codes "u@[") (codes ":]:p") refl refl refl refl;
-        no_slash = refl;
-        no_colon = refl;
-        addressed = ipv6_text_from (codes "::") refl;
-      };
-      text = IsUtf8-from_is_utf8 _ refl;
-      pathed = ltb-true _ _ refl;
-      value = refl;
-    },
-    record { nonempty = ltb-true _ _ refl; neither = neither_free no_text refl refl; no_scp = no_scp_free no_text refl; value = refl },
-    record { nonempty = ltb-true _ _ refl; neither = neither_at (codes "./a:b") (codes "./a") (codes "b") refl refl refl refl; no_scp = dot_path_no_scp; value = refl },
-  )
+  record { name = codes "a"; address = codes "b://c"; parts = record { named = refl; joined = refl }; value = refl },
+  record { name = codes "ext"; address = codes "sh -c x"; parts = record { named = refl; joined = refl }; value = refl },
+  inl (record {
+    front = codes "h";
+    path = codes "p";
+    user = None;
+    host = codes "h";
+    meant = codes "h";
+    shape = shape_row (codes "h") (codes "p") refl refl refl refl refl;
+    text = IsUtf8-from_is_utf8 _ refl;
+    pathed = ltb-true _ _ refl;
+    split = ScpUser.host_alone refl refl;
+    hosted = record {
+      named = codes "h";
+      no_at = refl;
+      no_backslash = refl;
+      no_white_space = refl;
+      names = Names.plain (codes "h") (plain_row (codes "h") refl refl refl) (IsUtf8-from_is_utf8 _ refl, refl) refl refl;
+      unbracketed = Unbrackets.same (not_bracketed (codes "h") refl) refl;
+    };
+    value = refl;
+  }),
+  inl (record {
+    front = codes "u";
+    path = codes "x@h:p";
+    user = None;
+    host = codes "u";
+    meant = codes "u";
+    shape = shape_row (codes "u") (codes "x@h:p") refl refl refl refl refl;
+    text = IsUtf8-from_is_utf8 _ refl;
+    pathed = ltb-true _ _ refl;
+    split = ScpUser.host_alone refl refl;
+    hosted = record {
+      named = codes "u";
+      no_at = refl;
+      no_backslash = refl;
+      no_white_space = refl;
+      names = Names.plain (codes "u") (plain_row (codes "u") refl refl refl) (IsUtf8-from_is_utf8 _ refl, refl) refl refl;
+      unbracketed = Unbrackets.same (not_bracketed (codes "u") refl) refl;
+    };
+    value = refl;
+  }),
+  inl (record {
+    front = codes "@h";
+    path = codes "/~a";
+    user = Some [];
+    host = codes "h";
+    meant = codes "h";
+    shape = shape_row (codes "@h") (codes "/~a") refl refl refl refl refl;
+    text = IsUtf8-from_is_utf8 _ refl;
+    pathed = ltb-true _ _ refl;
+    split = ScpUser.with_user [] refl refl;
+    hosted = record {
+      named = codes "h";
+      no_at = refl;
+      no_backslash = refl;
+      no_white_space = refl;
+      names = Names.plain (codes "h") (plain_row (codes "h") refl refl refl) (IsUtf8-from_is_utf8 _ refl, refl) refl refl;
+      unbracketed = Unbrackets.same (not_bracketed (codes "h") refl) refl;
+    };
+    value = refl;
+  }),
+  inl (record {
+    front = codes "h%41";
+    path = codes "p";
+    user = None;
+    host = codes "h%41";
+    meant = codes "h%41";
+    shape = shape_row (codes "h%41") (codes "p") refl refl refl refl refl;
+    text = IsUtf8-from_is_utf8 _ refl;
+    pathed = ltb-true _ _ refl;
+    split = ScpUser.host_alone refl refl;
+    hosted = record {
+      named = codes "h%41";
+      no_at = refl;
+      no_backslash = refl;
+      no_white_space = refl;
+      names = Names.plain (codes "h%41") (plain_row (codes "h%2541") refl refl refl) (IsUtf8-from_is_utf8 _ refl, refl) refl refl;
+      unbracketed = Unbrackets.same (not_bracketed (codes "h%41") refl) refl;
+    };
+    value = refl;
+  }),
+  inl (record {
+    front = codes "[::1]";
+    path = codes "p";
+    user = None;
+    host = codes "[::1]";
+    meant = codes "::1";
+    shape = record {
+      joined = refl;
+      neither = neither_at (codes "[::1]:p") (codes "[") (codes ":1]:p") refl refl refl refl;
+      no_slash = refl;
+      shape = ScpFront.bracketed (codes "::1") [] refl refl refl;
+    };
+    text = IsUtf8-from_is_utf8 _ refl;
+    pathed = ltb-true _ _ refl;
+    split = ScpUser.host_alone refl refl;
+    hosted = record {
+      named = codes "[::1]";
+      no_at = refl;
+      no_backslash = refl;
+      no_white_space = refl;
+      names = Names.bracketed (codes "::1") (codes "::1") refl (Bracketed.literal (codes "::1") (Literal.address (ipv6_text_from (codes "::1") refl) refl) refl (IsUtf8-from_is_utf8 _ refl)) refl refl refl;
+      unbracketed = Unbrackets.brackets refl;
+    };
+    value = refl;
+  }),
+  inl (record {
+    front = codes "[host]";
+    path = codes ":path";
+    user = None;
+    host = codes "[host]";
+    meant = codes "host";
+    shape = record {
+      joined = refl;
+      neither = neither_at (codes "[host]::path") (codes "[host]") (codes ":path") refl refl refl refl;
+      no_slash = refl;
+      shape = ScpFront.bracketed (codes "host") [] refl refl refl;
+    };
+    text = IsUtf8-from_is_utf8 _ refl;
+    pathed = ltb-true _ _ refl;
+    split = ScpUser.host_alone refl refl;
+    hosted = record {
+      named = codes "[host]";
+      no_at = refl;
+      no_backslash = refl;
+      no_white_space = refl;
+      names = Names.bracketed (codes "host") (codes "host") refl (Bracketed.other (not_literal_free (codes "host") refl refl) refl (IsUtf8-from_is_utf8 _ refl)) refl refl refl;
+      unbracketed = Unbrackets.brackets refl;
+    };
+    value = refl;
+  }),
+  inl (record {
+    front = codes "[a@b]";
+    path = codes "p";
+    user = Some (codes "[a");
+    host = codes "b]";
+    meant = codes "b]";
+    shape = record {
+      joined = refl;
+      neither = neither_at (codes "[a@b]:p") (codes "[a@b]") (codes "p") refl refl refl refl;
+      no_slash = refl;
+      shape = ScpFront.bracketed (codes "a@b") [] refl refl refl;
+    };
+    text = IsUtf8-from_is_utf8 _ refl;
+    pathed = ltb-true _ _ refl;
+    split = ScpUser.with_user (codes "[a") refl refl;
+    hosted = record {
+      named = codes "b]";
+      no_at = refl;
+      no_backslash = refl;
+      no_white_space = refl;
+      names = Names.plain (codes "b]") (plain_row (codes "b]") refl refl refl) (IsUtf8-from_is_utf8 _ refl, refl) refl refl;
+      unbracketed = Unbrackets.same (not_bracketed (codes "b]") refl) refl;
+    };
+    value = refl;
+  }),
+  record {
+    user = codes "u";
+    address = codes "::";
+    path = codes "p";
+    shape = record {
+      joined = refl;
+      neither = neither_at (codes "u@[::]:p") (codes "u@[") (codes ":]:p") refl refl refl refl;
+      no_slash = refl;
+      no_colon = refl;
+      addressed = ipv6_text_from (codes "::") refl;
+    };
+    text = IsUtf8-from_is_utf8 _ refl;
+    pathed = ltb-true _ _ refl;
+    value = refl;
+  },
+  record { nonempty = ltb-true _ _ refl; neither = neither_free no_text refl refl; no_scp = no_scp_free no_text refl; value = refl },
+  record { nonempty = ltb-true _ _ refl; neither = neither_at (codes "./a:b") (codes "./a") (codes "b") refl refl refl refl; no_scp = dot_path_no_scp; value = refl },
+)
 
 -- a text with the form of a remote helper is no scp form
 helper_no_scp : (b : List ℕ) (v : Location) → HasHelperForm b → ¬ SpellsScp b v
@@ -439,12 +439,12 @@ zone_not_addressed v s =
     let lone : FreeOf percent_sign s.address = address_free percent_sign s.address refl s.shape.addressed in
     elim (free_or_cut at_sign s.user) [
       | inl free ↦
-      let behind = (cut_unique at_sign (codes "u") s.user (codes "[::1%eth0]:p") rest refl free whole).1 in
-      let inside = (cut_unique right_bracket (codes "::1%eth0") s.address (codes ":p") (colon ∷ s.path) refl (address_free right_bracket s.address refl s.shape.addressed) (tails behind)).0 in
-      both_ways _ lone (ap (list_any (λ b. b == percent_sign)) (sym inside))
+          let behind = (cut_unique at_sign (codes "u") s.user (codes "[::1%eth0]:p") rest refl free whole).1 in
+          let inside = (cut_unique right_bracket (codes "::1%eth0") s.address (codes ":p") (colon ∷ s.path) refl (address_free right_bracket s.address refl s.shape.addressed) (tails behind)).0 in
+          both_ways _ lone (ap (list_any (λ b. b == percent_sign)) (sym inside))
       | inr (x, y, free, e) ↦
-      let behind = (cut_unique at_sign (codes "u") x (codes "[::1%eth0]:p") (y ++ at_sign ∷ rest) refl free (whole ∙ ap (λ t. t ++ at_sign ∷ rest) e ∙ append_assoc x (at_sign ∷ y) (at_sign ∷ rest))).1 in
-      not_free at_sign y rest (subst (λ t. FreeOf at_sign t) behind lacks)
+          let behind = (cut_unique at_sign (codes "u") x (codes "[::1%eth0]:p") (y ++ at_sign ∷ rest) refl free (whole ∙ ap (λ t. t ++ at_sign ∷ rest) e ∙ append_assoc x (at_sign ∷ y) (at_sign ∷ rest))).1 in
+          not_free at_sign y rest (subst (λ t. FreeOf at_sign t) behind lacks)
     ]
 
 -- a text with the form of a helper is no scp form, and one with `://` is no local path

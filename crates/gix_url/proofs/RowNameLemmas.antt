@@ -86,13 +86,13 @@ odd_zone = not_literal (codes "fe80::1%25eth!0") (codes "fe80::1") (codes "25eth
 pub literal_rows : LiteralRows
 unfolding is_ipv6_text
 literal_rows = (
-    zoned_row,
-    Literal.address (ipv6_text_from (codes "ABCD::1") refl) refl,
-    zone_without_mark,
-    empty_zone,
-    odd_zone,
-    not_literal_free (codes "1.2.3.4") refl refl,
-  )
+  zoned_row,
+  Literal.address (ipv6_text_from (codes "ABCD::1") refl) refl,
+  zone_without_mark,
+  empty_zone,
+  odd_zone,
+  not_literal_free (codes "1.2.3.4") refl refl,
+)
 
 -- ---- names
 
@@ -116,22 +116,22 @@ loose_not_bare e = cc
 pub name_rows : NameRows
 unfolding percent_encoding_on_literals computing is_ipv6_text
 name_rows = (
-    Names.nothing refl refl refl,
-    Names.bracketed_port (codes "::1") (codes "::1") (codes "9418") 9418 refl
-    (Bracketed.literal (codes "::1") (Literal.address (ipv6_text_from (codes "::1") refl) refl) refl (IsUtf8-from_is_utf8 _ refl))
-    (number_row bare (codes "9418") 9418 refl refl refl refl tt) refl refl refl,
-    Names.unbracketed (refl, inl (ipv6_text_from (codes "FE80::1") refl)) refl refl,
-    Names.colons (codes "FE80::1") loose_not_strict (λ r. loose_not_bare r.0) refl (inr (codes "FE80", [], codes "1", refl)) (IsUtf8-from_is_utf8 _ refl, refl) refl refl,
-    Names.unbracketed (refl, inr (codes "::1", ipv6_text_from (codes "::1") refl, refl)) refl refl,
-    Names.colons (codes ":80") bare_not_strict port_alone_no_address refl (inl refl) (IsUtf8-from_is_utf8 _ refl, refl) refl refl,
-    Names.colons (codes "a:b:c") loose_not_strict (λ r. loose_not_bare r.0) refl (inr (codes "a", codes "b", codes "c", refl)) (IsUtf8-from_is_utf8 _ refl, refl) refl refl,
-    Names.plain_colon (codes "h") (codes "h") (plain_row (codes "h") refl refl refl) (refl, refl) refl refl refl,
-    Names.plain_port (codes "H") (codes "h") (codes "00080") 80 (plain_row (codes "H") refl refl refl) (refl, refl) (number_row strict (codes "00080") 80 refl refl refl refl (ltb-true _ _ refl)) refl refl refl,
-    Names.plain_port (codes "h") (codes "h") (codes "0") 0 (plain_row (codes "h") refl refl refl) (IsUtf8-from_is_utf8 _ refl, refl) (number_row bare (codes "0") 0 refl refl refl refl tt) refl refl refl,
-    Names.plain (codes "h%41") (plain_row (codes "h%41") refl refl refl) (refl, refl) refl refl,
-    Names.plain (codes "ha") (plain_row (codes "h%41") refl refl refl) (IsUtf8-from_is_utf8 _ refl, refl) refl refl,
-    Names.bracketed_colon (codes "FE80::1%25Eth0") (codes "fe80::1%25Eth0") refl zoned_row refl refl refl,
-  )
+  Names.nothing refl refl refl,
+  Names.bracketed_port (codes "::1") (codes "::1") (codes "9418") 9418 refl
+      (Bracketed.literal (codes "::1") (Literal.address (ipv6_text_from (codes "::1") refl) refl) refl (IsUtf8-from_is_utf8 _ refl))
+      (number_row bare (codes "9418") 9418 refl refl refl refl tt) refl refl refl,
+  Names.unbracketed (refl, inl (ipv6_text_from (codes "FE80::1") refl)) refl refl,
+  Names.colons (codes "FE80::1") loose_not_strict (λ r. loose_not_bare r.0) refl (inr (codes "FE80", [], codes "1", refl)) (IsUtf8-from_is_utf8 _ refl, refl) refl refl,
+  Names.unbracketed (refl, inr (codes "::1", ipv6_text_from (codes "::1") refl, refl)) refl refl,
+  Names.colons (codes ":80") bare_not_strict port_alone_no_address refl (inl refl) (IsUtf8-from_is_utf8 _ refl, refl) refl refl,
+  Names.colons (codes "a:b:c") loose_not_strict (λ r. loose_not_bare r.0) refl (inr (codes "a", codes "b", codes "c", refl)) (IsUtf8-from_is_utf8 _ refl, refl) refl refl,
+  Names.plain_colon (codes "h") (codes "h") (plain_row (codes "h") refl refl refl) (refl, refl) refl refl refl,
+  Names.plain_port (codes "H") (codes "h") (codes "00080") 80 (plain_row (codes "H") refl refl refl) (refl, refl) (number_row strict (codes "00080") 80 refl refl refl refl (ltb-true _ _ refl)) refl refl refl,
+  Names.plain_port (codes "h") (codes "h") (codes "0") 0 (plain_row (codes "h") refl refl refl) (IsUtf8-from_is_utf8 _ refl, refl) (number_row bare (codes "0") 0 refl refl refl refl tt) refl refl refl,
+  Names.plain (codes "h%41") (plain_row (codes "h%41") refl refl refl) (refl, refl) refl refl,
+  Names.plain (codes "ha") (plain_row (codes "h%41") refl refl refl) (IsUtf8-from_is_utf8 _ refl, refl) refl refl,
+  Names.bracketed_colon (codes "FE80::1%25Eth0") (codes "fe80::1%25Eth0") refl zoned_row refl refl refl,
+)
 
 -- an address with a colon behind it has no port
 address_colon_no_port : (host : Option (List ℕ)) (port : ℕ) → ¬ Names bare (codes "::1:") host (Some port)
@@ -161,12 +161,12 @@ port_not_too_large port n =
 -- what no piece names
 pub no_name_rows : NoNameRows
 no_name_rows = (
-    address_colon_no_port,
-    web_brackets_literal,
-    flawed_unnamed strict (codes "h:0") fault.BadPort (HasBadPort.plain (codes "h") (codes "0") (plain_row (codes "h") refl refl refl) refl refl (ltb-true _ _ refl, web_port_not_zero)),
-    flawed_unnamed bare (codes "h:65616") fault.BadPort (HasBadPort.plain (codes "h") (codes "65616") (plain_row (codes "h") refl refl refl) refl refl (ltb-true _ _ refl, port_not_too_large)),
-    flawed_unnamed strict (codes "::1") fault.BadCharacter (HasBadHost.colons_on_the_web refl refl (inl refl)),
-  )
+  address_colon_no_port,
+  web_brackets_literal,
+  flawed_unnamed strict (codes "h:0") fault.BadPort (HasBadPort.plain (codes "h") (codes "0") (plain_row (codes "h") refl refl refl) refl refl (ltb-true _ _ refl, web_port_not_zero)),
+  flawed_unnamed bare (codes "h:65616") fault.BadPort (HasBadPort.plain (codes "h") (codes "65616") (plain_row (codes "h") refl refl refl) refl refl (ltb-true _ _ refl, port_not_too_large)),
+  flawed_unnamed strict (codes "::1") fault.BadCharacter (HasBadHost.colons_on_the_web refl refl (inl refl)),
+)
 
 -- ---- authorities
 
@@ -178,14 +178,14 @@ web_host_row = Names.plain (codes "h") (plain_row (codes "h") refl refl refl) (r
 pub authority_rows : AuthorityRows
 unfolding percent_encoding_on_literals computing is_ipv6_text
 authority_rows = (
-    Authority.with_user (codes "u:p") (codes "h") refl refl (Credentials.with_password (codes "u") (codes "p") refl refl (IsUtf8-from_is_utf8 _ refl) (IsUtf8-from_is_utf8 _ refl) refl refl)
-    (Names.plain (codes "h") (plain_row (codes "h") refl refl refl) (IsUtf8-from_is_utf8 _ refl, refl) refl refl) refl,
-    Authority.with_user (codes ":") (codes "h") refl refl (Credentials.with_password [] [] refl refl (IsUtf8-from_is_utf8 _ refl) (IsUtf8-from_is_utf8 _ refl) refl refl) web_host_row refl,
-    Authority.with_user (codes ":x") (codes "h") refl refl (Credentials.with_password [] (codes "x") refl refl (IsUtf8-from_is_utf8 _ refl) (IsUtf8-from_is_utf8 _ refl) refl refl) web_host_row refl,
-    Authority.with_user (codes "a@b") (codes "h") refl refl (Credentials.user_alone refl (IsUtf8-from_is_utf8 _ refl) refl refl) web_host_row refl,
-    Authority.with_user (codes "user:p%40ss%3Aword") (codes "h") refl refl (Credentials.with_password (codes "user") (codes "p%40ss%3Aword") refl refl (IsUtf8-from_is_utf8 _ refl) (IsUtf8-from_is_utf8 _ refl) refl refl) web_host_row refl,
-    Authority.with_user (codes "user") (codes "::1") refl refl (Credentials.user_alone refl (IsUtf8-from_is_utf8 _ refl) refl refl) (Names.unbracketed (refl, inl (ipv6_text_from (codes "::1") refl)) refl refl) refl,
-  )
+  Authority.with_user (codes "u:p") (codes "h") refl refl (Credentials.with_password (codes "u") (codes "p") refl refl (IsUtf8-from_is_utf8 _ refl) (IsUtf8-from_is_utf8 _ refl) refl refl)
+      (Names.plain (codes "h") (plain_row (codes "h") refl refl refl) (IsUtf8-from_is_utf8 _ refl, refl) refl refl) refl,
+  Authority.with_user (codes ":") (codes "h") refl refl (Credentials.with_password [] [] refl refl (IsUtf8-from_is_utf8 _ refl) (IsUtf8-from_is_utf8 _ refl) refl refl) web_host_row refl,
+  Authority.with_user (codes ":x") (codes "h") refl refl (Credentials.with_password [] (codes "x") refl refl (IsUtf8-from_is_utf8 _ refl) (IsUtf8-from_is_utf8 _ refl) refl refl) web_host_row refl,
+  Authority.with_user (codes "a@b") (codes "h") refl refl (Credentials.user_alone refl (IsUtf8-from_is_utf8 _ refl) refl refl) web_host_row refl,
+  Authority.with_user (codes "user:p%40ss%3Aword") (codes "h") refl refl (Credentials.with_password (codes "user") (codes "p%40ss%3Aword") refl refl (IsUtf8-from_is_utf8 _ refl) (IsUtf8-from_is_utf8 _ refl) refl refl) web_host_row refl,
+  Authority.with_user (codes "user") (codes "::1") refl refl (Credentials.user_alone refl (IsUtf8-from_is_utf8 _ refl) refl refl) (Names.unbracketed (refl, inl (ipv6_text_from (codes "::1") refl)) refl refl) refl,
+)
 
 -- an empty password is none
 empty_password : (user password : Option (List ℕ)) → Credentials (codes "u:") user password → password ≡ None

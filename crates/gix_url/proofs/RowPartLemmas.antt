@@ -18,17 +18,17 @@ use Rattle.gix_url.specs.Rows.{on_web, SplitRows, SpelledPartRows, RawPartRows}
 pub split_rows : SplitRows
 unfolding computing
 split_rows = (
-    SplitsHome.below_home [] (codes "repopath") refl refl refl refl,
-    SplitsHome.below_home (codes "user") (codes "repopath") refl refl refl refl,
-    SplitsHome.home_alone [] refl refl refl refl,
-    SplitsHome.home_alone (codes "u") refl refl refl refl,
-    SplitsHome.below_home (codes "u") (255 ∷ []) refl refl refl refl,
-    SplitsHome.no_home refl refl refl,
-    SplitsHome.no_home refl refl refl,
-    record { user = Some (named (codes "user")); rest = codes "/repopath"; split = SplitsHome.below_home (codes "user") (codes "repopath") refl refl refl refl; written = refl },
-    record { user = Some current; rest = codes "/"; split = SplitsHome.home_alone [] refl refl refl refl; written = refl },
-    record { user = None; rest = codes "/r"; split = SplitsHome.no_home refl refl refl; written = refl },
-  )
+  SplitsHome.below_home [] (codes "repopath") refl refl refl refl,
+  SplitsHome.below_home (codes "user") (codes "repopath") refl refl refl refl,
+  SplitsHome.home_alone [] refl refl refl refl,
+  SplitsHome.home_alone (codes "u") refl refl refl refl,
+  SplitsHome.below_home (codes "u") (255 ∷ []) refl refl refl refl,
+  SplitsHome.no_home refl refl refl,
+  SplitsHome.no_home refl refl refl,
+  record { user = Some (named (codes "user")); rest = codes "/repopath"; split = SplitsHome.below_home (codes "user") (codes "repopath") refl refl refl refl; written = refl },
+  record { user = Some current; rest = codes "/"; split = SplitsHome.home_alone [] refl refl refl refl; written = refl },
+  record { user = None; rest = codes "/r"; split = SplitsHome.no_home refl refl refl; written = refl },
+)
 
 -- ---- components
 
@@ -46,88 +46,88 @@ query_row v fields pairs free h = (fields, pairs, record { each = all_free amper
 pub spelled_part_rows : SpelledPartRows
 unfolding percent_encoding_on_literals
 spelled_part_rows = (
-    record {
-      front = codes "/repo%23one";
-      query = Some (codes "x=a%26b");
-      fragment = Some (codes "fragment%23one");
-      cut = CutsPath.with_both (codes "x=a%26b") (codes "fragment%23one") (refl, refl) refl refl refl refl;
-      path_meant = refl;
-      query_meant = query_row (on_web (codes "/repo#one?x=a&b#fragment#one") (Some (codes "/repo%23one?x=a%26b#fragment%23one"))) (codes "x=a%26b" ∷ []) _ refl (codes "x", codes "a%26b", [], SplitsField.with_value refl refl, refl, refl);
-      fragment_meant = refl;
-    },
-    record {
-      front = codes "/";
-      query = Some (codes "a+b=%2B&&c&=d");
-      fragment = Some (codes "x+y");
-      cut = CutsPath.with_both (codes "a+b=%2B&&c&=d") (codes "x+y") (refl, refl) refl refl refl refl;
-      path_meant = refl;
-      query_meant = query_row (on_web (codes "/?a+b=+&&c&=d#x+y") (Some (codes "/?a+b=%2B&&c&=d#x+y"))) (codes "a+b=%2B" ∷ [] ∷ codes "c" ∷ codes "=d" ∷ []) _ refl
-      (codes "a+b", codes "%2B", (codes "c", []) ∷ ([], codes "d") ∷ [], SplitsField.with_value refl refl, (codes "c", [], ([], codes "d") ∷ [], SplitsField.name_alone refl refl refl, ([], codes "d", [], SplitsField.with_value refl refl, refl, refl), refl), refl);
-      fragment_meant = refl;
-    },
-    record { front = codes "/a%2%3Fb"; query = None; fragment = None; cut = CutsPath.front_alone (refl, refl) refl refl refl; path_meant = refl; query_meant = refl; fragment_meant = refl; },
-    record {
-      front = codes "/%41%";
-      query = Some (codes "%4=1");
-      fragment = None;
-      cut = CutsPath.with_query (codes "%4=1") (refl, refl) refl refl refl refl;
-      path_meant = refl;
-      query_meant = query_row (on_web (codes "/A%?%4=1") (Some (codes "/%41%?%4=1"))) (codes "%4=1" ∷ []) _ refl (codes "%4", codes "1", [], SplitsField.with_value refl refl, refl, refl);
-      fragment_meant = refl;
-    },
-    record {
-      front = codes "/";
-      query = Some (codes "%2+%41");
-      fragment = None;
-      cut = CutsPath.with_query (codes "%2+%41") (refl, refl) refl refl refl refl;
-      path_meant = refl;
-      query_meant = query_row (on_web (codes "/?%2+A") (Some (codes "/?%2+%41"))) (codes "%2+%41" ∷ []) _ refl (codes "%2+%41", [], [], SplitsField.name_alone refl refl refl, refl, refl);
-      fragment_meant = refl;
-    },
-  )
+  record {
+    front = codes "/repo%23one";
+    query = Some (codes "x=a%26b");
+    fragment = Some (codes "fragment%23one");
+    cut = CutsPath.with_both (codes "x=a%26b") (codes "fragment%23one") (refl, refl) refl refl refl refl;
+    path_meant = refl;
+    query_meant = query_row (on_web (codes "/repo#one?x=a&b#fragment#one") (Some (codes "/repo%23one?x=a%26b#fragment%23one"))) (codes "x=a%26b" ∷ []) _ refl (codes "x", codes "a%26b", [], SplitsField.with_value refl refl, refl, refl);
+    fragment_meant = refl;
+  },
+  record {
+    front = codes "/";
+    query = Some (codes "a+b=%2B&&c&=d");
+    fragment = Some (codes "x+y");
+    cut = CutsPath.with_both (codes "a+b=%2B&&c&=d") (codes "x+y") (refl, refl) refl refl refl refl;
+    path_meant = refl;
+    query_meant = query_row (on_web (codes "/?a+b=+&&c&=d#x+y") (Some (codes "/?a+b=%2B&&c&=d#x+y"))) (codes "a+b=%2B" ∷ [] ∷ codes "c" ∷ codes "=d" ∷ []) _ refl
+        (codes "a+b", codes "%2B", (codes "c", []) ∷ ([], codes "d") ∷ [], SplitsField.with_value refl refl, (codes "c", [], ([], codes "d") ∷ [], SplitsField.name_alone refl refl refl, ([], codes "d", [], SplitsField.with_value refl refl, refl, refl), refl), refl);
+    fragment_meant = refl;
+  },
+  record { front = codes "/a%2%3Fb"; query = None; fragment = None; cut = CutsPath.front_alone (refl, refl) refl refl refl; path_meant = refl; query_meant = refl; fragment_meant = refl },
+  record {
+    front = codes "/%41%";
+    query = Some (codes "%4=1");
+    fragment = None;
+    cut = CutsPath.with_query (codes "%4=1") (refl, refl) refl refl refl refl;
+    path_meant = refl;
+    query_meant = query_row (on_web (codes "/A%?%4=1") (Some (codes "/%41%?%4=1"))) (codes "%4=1" ∷ []) _ refl (codes "%4", codes "1", [], SplitsField.with_value refl refl, refl, refl);
+    fragment_meant = refl;
+  },
+  record {
+    front = codes "/";
+    query = Some (codes "%2+%41");
+    fragment = None;
+    cut = CutsPath.with_query (codes "%2+%41") (refl, refl) refl refl refl refl;
+    path_meant = refl;
+    query_meant = query_row (on_web (codes "/?%2+A") (Some (codes "/?%2+%41"))) (codes "%2+%41" ∷ []) _ refl (codes "%2+%41", [], [], SplitsField.name_alone refl refl refl, refl, refl);
+    fragment_meant = refl;
+  },
+)
 
 -- as they are, where none does
 pub raw_part_rows : RawPartRows
 unfolding percent_encoding_on_literals
 raw_part_rows = (
-    record {
-      front = [];
-      query = Some (codes "x");
-      fragment = None;
-      cut = CutsPath.with_query (codes "x") (refl, refl) refl refl refl refl;
-      path_meant = refl;
-      query_meant = query_row (on_web (codes "?x") None) (codes "x" ∷ []) _ refl (codes "x", [], [], SplitsField.name_alone refl refl refl, refl, refl);
-      fragment_meant = refl;
-    },
-    record { front = codes "/a%20b"; query = None; fragment = None; cut = CutsPath.front_alone (refl, refl) refl refl refl; path_meant = refl; query_meant = refl; fragment_meant = refl; },
-    record {
-      front = codes "/";
-      query = Some [];
-      fragment = None;
-      cut = CutsPath.with_query [] (refl, refl) refl refl refl refl;
-      path_meant = refl;
-      query_meant = query_row (on_web (codes "/?") None) [] _ refl refl;
-      fragment_meant = refl;
-    },
-    record { front = codes "/a"; query = None; fragment = Some []; cut = CutsPath.with_fragment [] (refl, refl) refl refl refl; path_meant = refl; query_meant = refl; fragment_meant = refl; },
-    record {
-      front = codes "/";
-      query = Some (codes "x=%2B+");
-      fragment = None;
-      cut = CutsPath.with_query (codes "x=%2B+") (refl, refl) refl refl refl refl;
-      path_meant = refl;
-      query_meant = query_row (on_web (codes "/?x=%2B+") None) (codes "x=%2B+" ∷ []) _ refl (codes "x", codes "%2B+", [], SplitsField.with_value refl refl, refl, refl);
-      fragment_meant = refl;
-    },
-    record {
-      front = codes "/x%20y";
-      query = Some (codes "a%2B+b");
-      fragment = None;
-      cut = CutsPath.with_query (codes "a%2B+b") (refl, refl) refl refl refl refl;
-      path_meant = refl;
-      query_meant = query_row (on_web (codes "/x%20y?a%2B+b") (Some (codes "/my%20repo?a%2Bb"))) (codes "a%2B+b" ∷ []) _ refl (codes "a%2B+b", [], [], SplitsField.name_alone refl refl refl, refl, refl);
-      fragment_meant = refl;
-    },
-    refl,
-    refl,
-  )
+  record {
+    front = [];
+    query = Some (codes "x");
+    fragment = None;
+    cut = CutsPath.with_query (codes "x") (refl, refl) refl refl refl refl;
+    path_meant = refl;
+    query_meant = query_row (on_web (codes "?x") None) (codes "x" ∷ []) _ refl (codes "x", [], [], SplitsField.name_alone refl refl refl, refl, refl);
+    fragment_meant = refl;
+  },
+  record { front = codes "/a%20b"; query = None; fragment = None; cut = CutsPath.front_alone (refl, refl) refl refl refl; path_meant = refl; query_meant = refl; fragment_meant = refl },
+  record {
+    front = codes "/";
+    query = Some [];
+    fragment = None;
+    cut = CutsPath.with_query [] (refl, refl) refl refl refl refl;
+    path_meant = refl;
+    query_meant = query_row (on_web (codes "/?") None) [] _ refl refl;
+    fragment_meant = refl;
+  },
+  record { front = codes "/a"; query = None; fragment = Some []; cut = CutsPath.with_fragment [] (refl, refl) refl refl refl; path_meant = refl; query_meant = refl; fragment_meant = refl },
+  record {
+    front = codes "/";
+    query = Some (codes "x=%2B+");
+    fragment = None;
+    cut = CutsPath.with_query (codes "x=%2B+") (refl, refl) refl refl refl refl;
+    path_meant = refl;
+    query_meant = query_row (on_web (codes "/?x=%2B+") None) (codes "x=%2B+" ∷ []) _ refl (codes "x", codes "%2B+", [], SplitsField.with_value refl refl, refl, refl);
+    fragment_meant = refl;
+  },
+  record {
+    front = codes "/x%20y";
+    query = Some (codes "a%2B+b");
+    fragment = None;
+    cut = CutsPath.with_query (codes "a%2B+b") (refl, refl) refl refl refl refl;
+    path_meant = refl;
+    query_meant = query_row (on_web (codes "/x%20y?a%2B+b") (Some (codes "/my%20repo?a%2Bb"))) (codes "a%2B+b" ∷ []) _ refl (codes "a%2B+b", [], [], SplitsField.name_alone refl refl refl, refl, refl);
+    fragment_meant = refl;
+  },
+  refl,
+  refl,
+)

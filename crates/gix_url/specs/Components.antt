@@ -103,7 +103,7 @@ pub record WebParts (v : Location) (components : Components) : Type 0 where
 
 -- any other path is a path alone
 abbrev pub whole_path : List ℕ → Components
-whole_path text = record { path = text; query = None; fragment = None; }
+whole_path text = record { path = text; query = None; fragment = None }
 
 -- the components of a location, by its protocol
 abbrev pub PartsBy : Protocol → Location → Components → Type 0

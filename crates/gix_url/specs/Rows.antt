@@ -116,7 +116,7 @@ UrlTextRows =
 abbrev pub UserTextRows : Type 0
 UserTextRows =
     (text (record (at_host http (codes "example.com") (codes "/path")) { user = Some (codes "user"); password = Some (codes "p@ss:word") })
-        ≡ Ok (codes "http://user:p%40ss:word@example.com/path"))
+    ≡ Ok (codes "http://user:p%40ss:word@example.com/path"))
     × (text (record (at_host ssh (codes "h") (codes "/p")) { user = Some (codes "a@b/c:d") }) ≡ Ok (codes "ssh://a%40b%2Fc%3Ad@h/p"))
     × (text (record (at_host http (codes "h") (codes "/")) { user = Some []; password = Some (codes "x") }) ≡ Ok (codes "http://:x@h/"))
     × (text (record (at_host https (codes "h") (codes "/p")) { password = Some (codes "x") }) ≡ Ok (codes "https://h/p"))
@@ -223,24 +223,24 @@ on_web path spelled = record (at_host https (codes "host") path) { spelling = sp
 abbrev pub SpelledPartRows : Type 0
 SpelledPartRows =
     PartsOf (on_web (codes "/repo#one?x=a&b#fragment#one") (Some (codes "/repo%23one?x=a%26b#fragment%23one")))
-        (record { path = codes "/repo#one"; query = Some ((codes "x", codes "a&b") ∷ []); fragment = Some (codes "fragment#one"); })
+    (record { path = codes "/repo#one"; query = Some ((codes "x", codes "a&b") ∷ []); fragment = Some (codes "fragment#one") })
     × PartsOf (on_web (codes "/?a+b=+&&c&=d#x+y") (Some (codes "/?a+b=%2B&&c&=d#x+y")))
-        (record { path = codes "/"; query = Some ((codes "a b", codes "+") ∷ (codes "c", []) ∷ ([], codes "d") ∷ []); fragment = Some (codes "x+y"); })
-    × PartsOf (on_web (codes "/a%2?b") (Some (codes "/a%2%3Fb"))) (record { path = codes "/a%2?b"; query = None; fragment = None; })
-    × PartsOf (on_web (codes "/A%?%4=1") (Some (codes "/%41%?%4=1"))) (record { path = codes "/A%"; query = Some ((codes "%4", codes "1") ∷ []); fragment = None; })
-    × PartsOf (on_web (codes "/?%2+A") (Some (codes "/?%2+%41"))) (record { path = codes "/"; query = Some ((codes "%2 A", []) ∷ []); fragment = None; })
+    (record { path = codes "/"; query = Some ((codes "a b", codes "+") ∷ (codes "c", []) ∷ ([], codes "d") ∷ []); fragment = Some (codes "x+y") })
+    × PartsOf (on_web (codes "/a%2?b") (Some (codes "/a%2%3Fb"))) (record { path = codes "/a%2?b"; query = None; fragment = None })
+    × PartsOf (on_web (codes "/A%?%4=1") (Some (codes "/%41%?%4=1"))) (record { path = codes "/A%"; query = Some ((codes "%4", codes "1") ∷ []); fragment = None })
+    × PartsOf (on_web (codes "/?%2+A") (Some (codes "/?%2+%41"))) (record { path = codes "/"; query = Some ((codes "%2 A", []) ∷ []); fragment = None })
 
 -- as they are, where none does
 abbrev pub RawPartRows : Type 0
 RawPartRows =
-    PartsOf (on_web (codes "?x") None) (record { path = codes "/"; query = Some ((codes "x", []) ∷ []); fragment = None; })
-    × PartsOf (on_web (codes "/a%20b") None) (record { path = codes "/a%20b"; query = None; fragment = None; })
-    × PartsOf (on_web (codes "/?") None) (record { path = codes "/"; query = Some []; fragment = None; })
-    × PartsOf (on_web (codes "/a#") None) (record { path = codes "/a"; query = None; fragment = Some []; })
-    × PartsOf (on_web (codes "/?x=%2B+") None) (record { path = codes "/"; query = Some ((codes "x", codes "%2B ") ∷ []); fragment = None; })
-    × PartsOf (on_web (codes "/x%20y?a%2B+b") (Some (codes "/my%20repo?a%2Bb"))) (record { path = codes "/x%20y"; query = Some ((codes "a%2B b", []) ∷ []); fragment = None; })
-    × PartsOf (at_host ssh (codes "h") (codes "/a?b#c")) (record { path = codes "/a?b#c"; query = None; fragment = None; })
-    × PartsOf (path_alone (helper_url (codes "x")) false []) (record { path = []; query = None; fragment = None; })
+    PartsOf (on_web (codes "?x") None) (record { path = codes "/"; query = Some ((codes "x", []) ∷ []); fragment = None })
+    × PartsOf (on_web (codes "/a%20b") None) (record { path = codes "/a%20b"; query = None; fragment = None })
+    × PartsOf (on_web (codes "/?") None) (record { path = codes "/"; query = Some []; fragment = None })
+    × PartsOf (on_web (codes "/a#") None) (record { path = codes "/a"; query = None; fragment = Some [] })
+    × PartsOf (on_web (codes "/?x=%2B+") None) (record { path = codes "/"; query = Some ((codes "x", codes "%2B ") ∷ []); fragment = None })
+    × PartsOf (on_web (codes "/x%20y?a%2B+b") (Some (codes "/my%20repo?a%2Bb"))) (record { path = codes "/x%20y"; query = Some ((codes "a%2B b", []) ∷ []); fragment = None })
+    × PartsOf (at_host ssh (codes "h") (codes "/a?b#c")) (record { path = codes "/a?b#c"; query = None; fragment = None })
+    × PartsOf (path_alone (helper_url (codes "x")) false []) (record { path = []; query = None; fragment = None })
 
 -- ---- hosts and ports
 
@@ -276,7 +276,7 @@ abbrev pub NoNameRows : Type 0
 NoNameRows =
     ((host : Option (List ℕ)) (port : ℕ) → ¬ Names bare (codes "::1:") host (Some port))
     × ((x : List ℕ) → FreeOf right_bracket x → ¬ IsLiteral x
-        → (host : Option (List ℕ)) (port : Option ℕ) → ¬ Names strict (left_bracket ∷ (x ++ right_bracket ∷ (colon ∷ []))) host port)
+    → (host : Option (List ℕ)) (port : Option ℕ) → ¬ Names strict (left_bracket ∷ (x ++ right_bracket ∷ (colon ∷ []))) host port)
     × ((host : Option (List ℕ)) (port : Option ℕ) → ¬ Names strict (codes "h:0") host port)
     × ((host : Option (List ℕ)) (port : Option ℕ) → ¬ Names bare (codes "h:65616") host port)
     × ((host : Option (List ℕ)) (port : Option ℕ) → ¬ Names strict (codes "::1") host port)
@@ -299,7 +299,7 @@ NoAuthorityRows =
     ((user password : Option (List ℕ)) → Credentials (codes "u:") user password → password ≡ None)
     × ((t : List ℕ) (user : Option (List ℕ)) → ¬ Credentials t user (Some []))
     × ((mode : Mode) (user password host : Option (List ℕ)) (port : Option ℕ)
-        → Authority mode (codes "a@b@h") user password host port → user ≡ Some (codes "a@b"))
+    → Authority mode (codes "a@b@h") user password host port → user ≡ Some (codes "a@b"))
     × ((mode : Mode) (user password host : Option (List ℕ)) (port : Option ℕ) → ¬ Authority mode (codes "u@") user password host port)
 
 -- ---- whole texts

@@ -4,4 +4,4 @@ use Rattle.gix_url.proofs.RowPartLemmas.{split_rows}
 use Rattle.gix_url.proofs.rows.law_homes.Goals as goal
 
 pub returns : goal.returns
-returns c = record { pieces = piece_rows; parents = parent_rows; expanded = expanded_rows; split = split_rows; }
+returns c = record { pieces = piece_rows; parents = parent_rows; expanded = expanded_rows; split = split_rows }

@@ -3,4 +3,4 @@ use Rattle.gix_url.proofs.RowPartLemmas.{spelled_part_rows, raw_part_rows}
 use Rattle.gix_url.proofs.rows.law_parts.Goals as goal
 
 pub returns : goal.returns
-returns c = record { spelled = spelled_part_rows; raw = raw_part_rows; }
+returns c = record { spelled = spelled_part_rows; raw = raw_part_rows }
