@@ -14,3 +14,6 @@ pub mod RowPartLemmas
 pub mod RowFormLemmas
 pub mod RowClassLemmas
 pub mod RowFlawLemmas
+pub mod FormLemmas
+pub mod UniqueLemmas
+pub mod KeptLemmas

@@ -21,3 +21,4 @@ pub mod UrlPieces
 pub mod Readings
 pub mod Answers
 pub mod Rows
+pub mod Laws

@@ -7,6 +7,7 @@ mod error;
 mod escape;
 mod host;
 pub mod ipv6;
+pub mod laws;
 mod length;
 pub mod lines;
 mod location;

@@ -4,6 +4,7 @@
 //! the definitions have it; nothing is written before the whole answer stands.
 
 ghost use Rattle.std.specs.Prelude.{◌≡◌, ℕ, ◌++◌, List, codes, IfOk, IfSome, OnOk};
+ghost use Rattle.std.specs.Io.KnownBytes.{IsAtEnd};
 ghost use Rattle.gix_url.specs.Answers.{Answers, AppendsAnswer, NamesRefusal, Ran, Tells, TellsRefusal, fault_name, fault_text, status_of, told};
 ghost use Rattle.gix_url.specs.Schemes.{protocol_text};
 ghost use Rattle.gix_url.specs.Text.{text};
@@ -76,7 +77,8 @@ pub fn status(outcome: &Result<bool, RunError>) -> u8
 /// `Ok(true)` says that every line was settled. The errors are those of [`RunError`]; a reader that hasn't ended
 /// after 2^40 calls is answered `Read`. The whole answer is built in memory before it is written.
 pub fn run<R: Read, W: Write>(alloc: Global, input: &mut R, output: &mut W) -> Result<bool, RunError>
-    ensures { Ran W.contents (R.remaining input.old) output.old output.new result }
+    ensures answered { Ran W.contents (R.remaining input.old) output.old output.new result }
+    ensures read_to_end { OnOk result (IsAtEnd (R.remaining input.new)) }
 {
     let text = read_all(alloc, input)?;
     let (answer, all) = answers(alloc, text.as_slice())?;
@@ -88,7 +90,8 @@ pub fn run<R: Read, W: Write>(alloc: Global, input: &mut R, output: &mut W) -> R
 
 /// All bytes of a reader.
 fn read_all<R: Read>(alloc: Global, input: &mut R) -> Result<Vec<u8>, RunError>
-    ensures { IfOk result (λ all. IfSome (R.remaining input.old) (λ b. all.items ≡ b)) }
+    ensures bytes { IfOk result (λ all. IfSome (R.remaining input.old) (λ b. all.items ≡ b)) }
+    ensures end { OnOk result (IsAtEnd (R.remaining input.new)) }
 {
     let mut all = Vec::new(alloc);
     let mut buffer = [0u8; 4096];
