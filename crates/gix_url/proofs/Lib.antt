@@ -11,6 +11,13 @@ pub mod LengthLemmas
 pub mod UrlLemmas
 pub mod UrlLocationLemmas
 pub mod ShapeLemmas
+pub mod RecordLemmas
+pub mod RowLemmas
+pub mod RowNameLemmas
+pub mod RowPartLemmas
+pub mod RowFormLemmas
+pub mod RowClassLemmas
+pub mod RowFlawLemmas
 pub mod FormLemmas
 pub mod UniqueLemmas
 pub mod KeptLemmas

@@ -12,6 +12,9 @@ pub mod Grammar
 pub mod Text
 pub mod Settled
 pub mod SettledParts
+pub mod Components
+pub mod Homes
+pub mod Records
 pub mod Flaws
 pub mod Views
 pub mod Url
@@ -21,4 +24,5 @@ pub mod Shapes
 pub mod ScpPieces
 pub mod Readings
 pub mod Answers
+pub mod Rows
 pub mod Laws

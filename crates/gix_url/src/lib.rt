@@ -12,6 +12,7 @@ mod length;
 pub mod lines;
 mod location;
 pub mod parse;
+mod rows;
 mod scheme;
 mod settled;
 mod simple_url;
