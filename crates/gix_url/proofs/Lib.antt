@@ -4,3 +4,4 @@ pub mod AddressTestLemmas
 pub mod AddressLemmas
 pub mod AddressReader
 pub mod EscapeLemmas
+pub mod PieceLemmas

@@ -9,6 +9,7 @@ pub mod Schemes
 pub mod Authority
 pub mod Grammar
 pub mod Text
+pub mod Pieces
 pub mod Settled
 pub mod Flaws
 pub mod Views

@@ -3,6 +3,9 @@
 ghost use Rattle.gix_url.specs.Text.{text};
 ghost use Rattle.gix_url.specs.Readings.{Written};
 
+mod form;
+mod piece;
+
 use crate::error::WriteError;
 use crate::location::Url;
 use std::io::Write;
