@@ -10,6 +10,10 @@ use Rattle.gix_url.specs.declared.writer.piece.Chunks.{Chunks}
 use Rattle.gix_url.specs.declared.writer.piece.Chunks.TheVariants as chunk
 use Rattle.gix_url.specs.declared.writer.form.Form.{Form as Code}
 use Rattle.gix_url.specs.declared.writer.form.Form.TheVariants as code
+use Rattle.gix_url.specs.declared.writer.layout.Parts.{Parts}
+use Rattle.gix_url.specs.declared.writer.layout.UserPieces.{UserPieces}
+use Rattle.gix_url.specs.declared.writer.layout.HostPieces.{HostPieces}
+use Rattle.gix_url.specs.declared.writer.layout.PathPieces.{PathPieces}
 use Rattle.gix_url.specs.declared.error.WriteFault.{WriteFault}
 use Rattle.gix_url.specs.Escapes.{escaped_percents}
 use Rattle.gix_url.specs.Value.{Location}
@@ -78,3 +82,21 @@ text_length (Err fault) = Err fault
 -- the spelling of the path where it matches, and else the path
 abbrev pub original_path_of : Location → List ℕ
 original_path_of v = matching_or v.spelling v.path v.path
+
+-- the user information that its pieces make up
+abbrev pub user_text : UserPieces → List ℕ
+user_text u = piece_text u.user ++ (u.colon.now ++ (piece_text u.password ++ u.at_sign.now))
+
+-- the host that its pieces make up
+abbrev pub host_text : HostPieces → List ℕ
+host_text h = h.left.now ++ (piece_text h.host ++ h.right.now)
+
+-- the path that its pieces make up
+abbrev pub path_end_text : PathPieces → List ℕ
+path_end_text p = p.mark.now ++ (piece_text p.escaped ++ p.raw.now)
+
+-- the text that the parts make up
+abbrev pub parts_text : Parts → List ℕ
+parts_text p =
+    (p.scheme.0.now ++ p.scheme.1.now)
+    ++ (user_text p.user ++ (host_text p.host ++ ((p.port.0.now ++ p.port.1.now) ++ path_end_text p.path)))

@@ -4,6 +4,7 @@ ghost use Rattle.gix_url.specs.Text.{text};
 ghost use Rattle.gix_url.specs.Readings.{Written};
 
 mod form;
+mod layout;
 mod piece;
 
 use crate::error::WriteError;
