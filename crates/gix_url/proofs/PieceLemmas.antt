@@ -106,3 +106,25 @@ texts_more (p ∷ ps) (suc i) d h =
 -- and so are their lengths
 pub length_more : (ps : List Piece) (i : ℕ) (d : Piece) → piece_text d ≡ [] → length (texts_text (take (i + 1) ps)) ≡ length (texts_text (take i ps)) + length (piece_text (get_or ps i d))
 length_more ps i d h = ap length (texts_more ps i d h) ∙ length-append (texts_text (take i ps)) (piece_text (get_or ps i d))
+
+-- the texts from a place on are that of the piece that stands there, and those behind it
+pub texts_left : (ps : List Piece) (i : ℕ) (d : Piece) → piece_text d ≡ [] → texts_text (drop i ps) ≡ piece_text (get_or ps i d) ++ texts_text (drop (i + 1) ps)
+texts_left [] zero d h = ap (λ x. x ++ []) (sym h)
+texts_left [] (suc i) d h = rw (add-one (suc i)) (ap (λ x. x ++ []) (sym h))
+texts_left (p ∷ ps) zero d h = refl
+texts_left (p ∷ ps) (suc i) d h = rw (add-one (suc i)) (rw (add-one i) at (texts_left ps i d h))
+
+-- and so are their lengths
+pub length_left : (ps : List Piece) (i : ℕ) (d : Piece) → piece_text d ≡ [] → length (texts_text (drop i ps)) ≡ length (piece_text (get_or ps i d)) + length (texts_text (drop (i + 1) ps))
+length_left ps i d h = ap length (texts_left ps i d h) ∙ length-append (piece_text (get_or ps i d)) (texts_text (drop (i + 1) ps))
+
+-- ---- texts that grow
+
+-- what grew by two texts grew by both of them
+pub grown : (old mid new a p b : List ℕ) → mid ≡ old ++ a → new ≡ mid ++ p → b ≡ a ++ p → new ≡ old ++ b
+grown old mid new a p b first second whole =
+    second ∙ (ap (λ x. x ++ p) first ∙ (append_assoc old a p ∙ ap (λ x. old ++ x) (sym whole)))
+
+-- a text of which one slice more was handed out
+pub handed_on : (whole done rest chunk left : List ℕ) → whole ≡ done ++ rest → rest ≡ chunk ++ left → whole ≡ (done ++ chunk) ++ left
+handed_on whole done rest chunk left first second = first ∙ (ap (λ x. done ++ x) second ∙ sym (append_assoc done chunk left))

@@ -329,7 +329,7 @@ impl Url {
     }
 
     /// The retained spelling of the path where it matches.
-    fn matching_spelling(&self) -> Option<&[u8]>
+    pub(crate) fn matching_spelling(&self) -> Option<&[u8]>
         ensures { (other : List ℕ) → unwrap_or (option_map (λ s. s.now) result) other ≡ spec.matching_or self.now.spelling self.now.path other }
     {
         match &self.spelling {
