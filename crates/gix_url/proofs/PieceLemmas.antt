@@ -1,5 +1,5 @@
 -- Pieces of a text: what escapes and written percents make up, and how long they are.
-use Rattle.std.proofs.Common.{◌≡◌, ℕ, zero, suc, add-one, ◌+◌, ◌*◌, ◌<◌, ◌≤◌, Bool, true, false, cond, ◌==◌, Option, Some, None, List, [], ◌∷◌, ◌++◌, length, take, drop, get_or, inl, inr, refl, sym, ap, subst, ◌∙◌, arith, append_assoc, append-nil, length-append, eqb}
+use Rattle.std.proofs.Common.{◌≡◌, ℕ, zero, suc, add-one, ◌+◌, ◌*◌, ◌<◌, ◌≤◌, Bool, true, false, cond, ◌==◌, Option, Some, None, Result, Ok, Err, List, [], ◌∷◌, ◌++◌, length, take, drop, get_or, inl, inr, refl, sym, ap, subst, ◌∙◌, arith, append_assoc, append-nil, length-append, eqb}
 use Rattle.std.specs.Borrow.{Bor}
 use Rattle.std.specs.List.{count_by, position_or_len, before_first, after_first}
 use Rattle.std.specs.Option.{MatchOption}
@@ -10,6 +10,12 @@ use Rattle.percent_encoding.specs.declared.ascii_set.AsciiSet.{AsciiSet}
 use Rattle.percent_encoding.specs.AsciiSet.{should_percent_encode}
 use Rattle.percent_encoding.specs.Percent.{percent_encode, percent_encode_byte}
 use Rattle.percent_encoding.proofs.PercentLemmas.{percent_encode-nil, percent_encode_escaped, percent_encode_kept}
+use Rattle.std.specs.Result.{OnOk, IfErr}
+use Rattle.std.specs.Io.KnownBytes.{Appends}
+use Rattle.gix_url.specs.declared.error.WriteFault.{WriteFault}
+use Rattle.gix_url.specs.declared.error.WriteError.{WriteError}
+use Rattle.gix_url.specs.declared.error.WriteError.TheVariants.{Fault, Io}
+use Rattle.gix_url.specs.Readings.{Written, IsIo}
 use Rattle.gix_url.specs.Bytes.{percent_sign, FreeOf}
 use Rattle.gix_url.specs.Cuts.{CutsAt}
 use Rattle.gix_url.specs.Escapes.{escaped_percents}
@@ -128,3 +134,15 @@ grown old mid new a p b first second whole =
 -- a text of which one slice more was handed out
 pub handed_on : (whole done rest chunk left : List ℕ) → whole ≡ done ++ rest → rest ≡ chunk ++ left → whole ≡ (done ++ chunk) ++ left
 handed_on whole done rest chunk left first second = first ∙ (ap (λ x. done ++ x) second ∙ sym (append_assoc done chunk left))
+
+-- ---- results
+
+-- what was written where there is a text
+pub written_ok : {W : Type 0} (contents : W → Option (List ℕ)) (old new : W) (t : List ℕ) (r : Result (Unit {0}) WriteError) → OnOk r (Appends (contents old) (contents new) t) → IfErr r IsIo → Written contents old new (Ok t) r
+written_ok contents old new t (Ok u) ok io = ok
+written_ok contents old new t (Err (Fault f)) ok io = io
+written_ok contents old new t (Err (Io e)) ok io = tt
+
+-- equal results tell the same fault
+pub same_fault : {A : Type 0} (r : Result A WriteFault) (f g : WriteFault) → Err f ≡ r → r ≡ Err g → f ≡ g
+same_fault r f g h k = let e : Err f ≡ Err g = h ∙ k in cc

@@ -10,6 +10,7 @@ pub mod Authority
 pub mod Grammar
 pub mod Text
 pub mod Pieces
+pub mod Display
 pub mod Settled
 pub mod Flaws
 pub mod Views

@@ -9,20 +9,24 @@ ghost use Rattle.bstr.specs.BStr.{bstr_bytes};
 ghost use Rattle.bstr.specs.Owned.{bstring_bytes};
 ghost use Rattle.gix_url.specs.declared.error.WriteFault.{WriteFault};
 ghost use Rattle.gix_url.specs.Text.{text};
-ghost use Rattle.gix_url.specs.Pieces.{text_length, original_path_of};
+ghost use Rattle.gix_url.specs.Pieces.{pieced, text_length, original_path_of};
 ghost use Rattle.gix_url.specs.Readings.{Written, IsUnwritten};
 
 mod form;
 mod layout;
 mod piece;
+mod show;
 mod walks;
 
 use crate::error::{Error, WriteError, WriteFault};
 use crate::location::Url;
+use crate::writer::piece::Pieces;
 use bstr::{BStr, BString};
 use itoa::Buffer;
 use std::alloc::Global;
 use std::io::Write;
+
+pub(crate) use show::show_pieces;
 
 impl Url {
     /// Writes the text of the location. It takes no memory.
@@ -35,7 +39,7 @@ impl Url {
         ensures { Written W.contents out.old out.new (text self.now) result }
     {
         let mut digits = Buffer::new();
-        match self.pieces(self.own_password(), &mut digits) {
+        match self.own_pieces(&mut digits) {
             Ok(pieces) => walks::write_pieces(out, pieces),
             Err(fault) => Err(WriteError::Fault(fault)),
         }
@@ -50,7 +54,7 @@ impl Url {
         ensures { result ≡ text_length (text self.now) }
     {
         let mut digits = Buffer::new();
-        let pieces = self.pieces(self.own_password(), &mut digits)?;
+        let pieces = self.own_pieces(&mut digits)?;
         Ok(pieces.len())
     }
 
@@ -66,7 +70,7 @@ impl Url {
         ensures refused { IfErr result (λ e. IsUnwritten (text self.now) e) }
     {
         let mut digits = Buffer::new();
-        match self.pieces(self.own_password(), &mut digits) {
+        match self.own_pieces(&mut digits) {
             Ok(pieces) => walks::collect(alloc, pieces),
             Err(fault) => Err(Error::Unwritable(fault)),
         }
@@ -81,6 +85,14 @@ impl Url {
             Some(spelling) => BStr::new(spelling),
             None => self.path.as_bstr(),
         }
+    }
+
+    /// The pieces of the text, or why there is none. The digits of the port stand in the buffer.
+    fn own_pieces<'a>(&'a self, digits: &'a mut Buffer) -> Result<Pieces<'a>, WriteFault>
+        ensures { pieced result ≡ text self.now }
+    {
+        let password = self.own_password();
+        self.pieces(password, digits)
     }
 
     /// The location's own password.
