@@ -5,3 +5,4 @@ pub mod AddressLemmas
 pub mod AddressReader
 pub mod EscapeLemmas
 pub mod PieceLemmas
+pub mod DisplayLemmas

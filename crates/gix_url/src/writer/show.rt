@@ -6,9 +6,9 @@
 ghost use Rattle.std.specs.Prelude.{◌≡◌, IsUtf8, OnOk};
 ghost use Rattle.std.specs.Fmt.{WritesOnOk};
 ghost use Rattle.gix_url.specs.Display.{lossy_text};
-ghost use Rattle.gix_url.specs.Pieces.{piece_text, pieces_text};
+ghost use Rattle.gix_url.specs.Pieces.{piece_text, texts_text, pieces_text};
 
-use crate::writer::piece::{Piece, Pieces};
+use crate::writer::piece::{MOST_TEXTS, Piece, Pieces};
 use bstr::BStr;
 use std::fmt;
 
@@ -16,11 +16,20 @@ use std::fmt;
 pub(crate) fn show_pieces<W: fmt::Write>(f: &mut fmt::Formatter<W>, pieces: Pieces<'_>) -> fmt::Result
     ensures { WritesOnOk W.write_str_gives f.old result (lossy_text (pieces_text pieces.entry)) f.new }
 {
-    for piece in pieces.texts {
-        show_piece(f, piece)?;
-    }
+    show_texts(f, pieces.texts)?;
     let tail = BStr::new(pieces.tail);
     write!(f, "{tail}")
+}
+
+/// Shows what stands before the end of a text, which is UTF-8.
+fn show_texts<W: fmt::Write>(f: &mut fmt::Formatter<W>, texts: [Piece<'_>; MOST_TEXTS]) -> fmt::Result
+    ensures writes { WritesOnOk W.write_str_gives f.old result (texts_text texts.entry) f.new }
+    ensures utf8 { OnOk result (IsUtf8 (texts_text texts.entry)) }
+{
+    for piece in texts {
+        show_piece(f, piece)?;
+    }
+    Ok(())
 }
 
 /// Shows the piece, which is UTF-8.

@@ -2,7 +2,7 @@
 use Rattle.std.proofs.Common.{take, IsUtf8}
 use Rattle.std.specs.Fmt.{HasWritten, IsPlainFormatter}
 use Rattle.gix_url.specs.Pieces.{texts_text}
-use Rattle.gix_url.proofs.writer.show.show_pieces.Given as goal
+use Rattle.gix_url.proofs.writer.show.show_texts.Given as goal
 
 abbrev pub invariant-loop-piece : goal.invariant-loop-piece
 invariant-loop-piece g l = record {
