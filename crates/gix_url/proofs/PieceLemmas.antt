@@ -41,14 +41,14 @@ length_escapes set (b ∷ bs) =
     let rest = length_escapes set bs in
     elim (cases_Bool (should_percent_encode set b)) [
       | inl escaped ↦
-        let whole = ap length (percent_encode_escaped set b bs escaped) ∙ length-append (percent_encode_byte b) (percent_encode set bs) in
-        let three = length_escape b in
-        let one = counted (should_percent_encode set) b bs 1 (cond-true {A = ℕ} (should_percent_encode set b) 1 0 escaped) in
-        omega (arith, whole, three, one, rest)
+          let whole = ap length (percent_encode_escaped set b bs escaped) ∙ length-append (percent_encode_byte b) (percent_encode set bs) in
+          let three = length_escape b in
+          let one = counted (should_percent_encode set) b bs 1 (cond-true {A = ℕ} (should_percent_encode set b) 1 0 escaped) in
+          omega (arith, whole, three, one, rest)
       | inr kept ↦
-        let whole = ap length (percent_encode_kept set b bs kept) in
-        let none = counted (should_percent_encode set) b bs 0 (cond-false {A = ℕ} (should_percent_encode set b) 1 0 kept) in
-        omega (arith, whole, none, rest)
+          let whole = ap length (percent_encode_kept set b bs kept) in
+          let none = counted (should_percent_encode set) b bs 0 (cond-false {A = ℕ} (should_percent_encode set b) 1 0 kept) in
+          omega (arith, whole, none, rest)
     ]
 
 -- and so does each written percent
@@ -58,13 +58,13 @@ length_percents (b ∷ bs) =
     let rest = length_percents bs in
     elim (cases_Bool (b == percent_sign)) [
       | inl escaped ↦
-        let whole = ap length (cond-true (b == percent_sign) (37 ∷ 50 ∷ 53 ∷ escaped_percents bs) (b ∷ escaped_percents bs) escaped) in
-        let one = counted (λ d. d == percent_sign) b bs 1 (cond-true {A = ℕ} (b == percent_sign) 1 0 escaped) in
-        omega (arith, whole, one, rest)
+          let whole = ap length (cond-true (b == percent_sign) (37 ∷ 50 ∷ 53 ∷ escaped_percents bs) (b ∷ escaped_percents bs) escaped) in
+          let one = counted (λ d. d == percent_sign) b bs 1 (cond-true {A = ℕ} (b == percent_sign) 1 0 escaped) in
+          omega (arith, whole, one, rest)
       | inr kept ↦
-        let whole = ap length (cond-false (b == percent_sign) (37 ∷ 50 ∷ 53 ∷ escaped_percents bs) (b ∷ escaped_percents bs) kept) in
-        let none = counted (λ d. d == percent_sign) b bs 0 (cond-false {A = ℕ} (b == percent_sign) 1 0 kept) in
-        omega (arith, whole, none, rest)
+          let whole = ap length (cond-false (b == percent_sign) (37 ∷ 50 ∷ 53 ∷ escaped_percents bs) (b ∷ escaped_percents bs) kept) in
+          let none = counted (λ d. d == percent_sign) b bs 0 (cond-false {A = ℕ} (b == percent_sign) 1 0 kept) in
+          omega (arith, whole, none, rest)
     ]
 
 -- ---- percents

@@ -16,6 +16,8 @@ mod form;
 mod layout;
 mod piece;
 mod show;
+#[cfg(test)]
+mod tests;
 mod walks;
 
 use crate::error::{Error, WriteError, WriteFault};
@@ -23,10 +25,9 @@ use crate::location::Url;
 use crate::writer::piece::Pieces;
 use bstr::{BStr, BString};
 use itoa::Buffer;
+pub(crate) use show::show_pieces;
 use std::alloc::Global;
 use std::io::Write;
-
-pub(crate) use show::show_pieces;
 
 impl Url {
     /// Writes the text of the location. It takes no memory.

@@ -12,14 +12,13 @@ ghost use Rattle.gix_url.specs.Text as spec;
 ghost use Rattle.gix_url.specs.Text.{text, helper_text, path_text, scp_text, canonical_text};
 ghost use Rattle.gix_url.specs.Pieces.{pieced, piece_text, pieces_text, parts_text, user_text, host_text, path_end_text, with_password};
 
-use crate::bytes;
 use crate::error::WriteFault;
 use crate::escape::{self, PASSWORD, PATH, USER};
-use crate::ipv6;
 use crate::location::Url;
 use crate::scheme::Scheme;
 use crate::writer::form::Form;
 use crate::writer::piece::{Piece, Pieces};
+use crate::{bytes, ipv6};
 use itoa::Buffer;
 
 /// The pieces of a text by what they stand for. Those that a text does without are empty.
@@ -153,7 +152,11 @@ impl<'a> PathPieces<'a> {
 impl Url {
     /// The pieces of the text that the location has with this password in place of its own, or why it has none.
     /// The digits of the port stand in the buffer.
-    pub(crate) fn pieces<'a>(&'a self, password: Option<&'a str>, digits: &'a mut Buffer) -> Result<Pieces<'a>, WriteFault>
+    pub(crate) fn pieces<'a>(
+        &'a self,
+        password: Option<&'a str>,
+        digits: &'a mut Buffer,
+    ) -> Result<Pieces<'a>, WriteFault>
         ensures { pieced result ≡ text (with_password self.now password.entry) }
     {
         match self.form(password)? {
@@ -207,7 +210,11 @@ impl Url {
     }
 
     /// The pieces of a URL.
-    fn canonical_pieces<'a>(&'a self, password: Option<&'a str>, digits: &'a mut Buffer) -> Pieces<'a>
+    fn canonical_pieces<'a>(
+        &'a self,
+        password: Option<&'a str>,
+        digits: &'a mut Buffer,
+    ) -> Pieces<'a>
         ensures { pieces_text result ≡ canonical_text (with_password self.now password.entry) }
     {
         let parts = Parts {
@@ -308,7 +315,12 @@ impl Url {
     {
         match &self.scheme {
             Scheme::Http | Scheme::Https => PathPieces::escaped(mark, self.path.as_bytes()),
-            Scheme::File | Scheme::Git | Scheme::Ssh | Scheme::Ext | Scheme::Helper(_) | Scheme::HelperUrl(_) => PathPieces::raw(mark, self.path.as_bytes()),
+            Scheme::File
+            | Scheme::Git
+            | Scheme::Ssh
+            | Scheme::Ext
+            | Scheme::Helper(_)
+            | Scheme::HelperUrl(_) => PathPieces::raw(mark, self.path.as_bytes()),
         }
     }
 
@@ -324,7 +336,12 @@ impl Url {
                     "/"
                 }
             }
-            Scheme::File | Scheme::Http | Scheme::Https | Scheme::Ext | Scheme::Helper(_) | Scheme::HelperUrl(_) => "",
+            Scheme::File
+            | Scheme::Http
+            | Scheme::Https
+            | Scheme::Ext
+            | Scheme::Helper(_)
+            | Scheme::HelperUrl(_) => "",
         }
     }
 

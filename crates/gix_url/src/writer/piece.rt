@@ -61,7 +61,8 @@ impl<'a> Piece<'a> {
         match self {
             Piece::Raw(text) => text.len() as u128,
             Piece::Escaped(text, set) => text.len() as u128 + 2 * count_escaped(text, set) as u128,
-            Piece::Percents(text) => text.len() as u128 + 2 * count_percents(text.as_bytes()) as u128,
+            Piece::Percents(text) => text.len() as u128
+                + 2 * count_percents(text.as_bytes()) as u128,
         }
     }
 }
@@ -70,7 +71,9 @@ impl<'a> Piece<'a> {
 fn count_escaped(text: &[u8], set: AsciiSet) -> usize
     ensures { result ≡ count_by (should_percent_encode set) text.now }
 {
-    text.iter().filter(|byte| set.should_percent_encode(**byte)).count()
+    text.iter()
+        .filter(|byte| set.should_percent_encode(**byte))
+        .count()
 }
 
 /// How many times `%` stands in the text.

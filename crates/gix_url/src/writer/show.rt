@@ -13,7 +13,10 @@ use bstr::BStr;
 use std::fmt;
 
 /// Shows the pieces.
-pub(crate) fn show_pieces<W: fmt::Write>(f: &mut fmt::Formatter<W>, pieces: Pieces<'_>) -> fmt::Result
+pub(crate) fn show_pieces<W: fmt::Write>(
+    f: &mut fmt::Formatter<W>,
+    pieces: Pieces<'_>,
+) -> fmt::Result
     ensures { WritesOnOk W.write_str_gives f.old result (lossy_text (pieces_text pieces.entry)) f.new }
 {
     show_texts(f, pieces.texts)?;
@@ -22,7 +25,10 @@ pub(crate) fn show_pieces<W: fmt::Write>(f: &mut fmt::Formatter<W>, pieces: Piec
 }
 
 /// Shows what stands before the end of a text, which is UTF-8.
-fn show_texts<W: fmt::Write>(f: &mut fmt::Formatter<W>, texts: [Piece<'_>; MOST_TEXTS]) -> fmt::Result
+fn show_texts<W: fmt::Write>(
+    f: &mut fmt::Formatter<W>,
+    texts: [Piece<'_>; MOST_TEXTS],
+) -> fmt::Result
     ensures writes { WritesOnOk W.write_str_gives f.old result (texts_text texts.entry) f.new }
     ensures utf8 { OnOk result (IsUtf8 (texts_text texts.entry)) }
 {

@@ -11,8 +11,7 @@ loop-chunk-init g c = ([], search rules, IsUtf8-nil, search rules)
 pub loop-chunk-preserved : goal.loop-chunk-preserved
 loop-chunk-preserved g c =
     let so_far = c.loop-chunk.invariant in
-    let shown = c.in_ok-show_text.ensures in
-    (
+    let shown = c.in_ok-show_text.ensures in (
       so_far.0 ++ c.in-Some.chunk.now,
       handed_on _ _ _ _ _ so_far.1 c.in-Some.ensures.steps,
       IsUtf8-append _ _ so_far.2 shown.utf8,
