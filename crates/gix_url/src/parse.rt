@@ -7,10 +7,11 @@ ghost use Rattle.gix_url.specs.Flaws.{Flaw};
 ghost use Rattle.gix_url.specs.Readings.{Refuses};
 
 use crate::error::Error;
-pub use crate::error::UrlKind;
 use crate::location::Url;
 use bstr::BStr;
 use std::alloc::Global;
+
+pub use crate::error::UrlKind;
 
 /// The one location that the bytes spell.
 pub fn parse(alloc: Global, input: BStr<'_>) -> Result<Url, Error>
