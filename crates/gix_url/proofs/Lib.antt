@@ -23,3 +23,5 @@ pub mod UniqueLemmas
 pub mod KeptLemmas
 pub mod ScpLemmas
 pub mod SettledLemmas
+pub mod PieceLemmas
+pub mod DisplayLemmas
