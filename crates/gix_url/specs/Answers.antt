@@ -52,6 +52,16 @@ refusal (error.TooLong shown total) = codes "TooLong"
 refusal (error.BadUrl kind named input) = codes "BadUrl " ++ fault_name named
 refusal (error.Unwritable named) = codes "Unwritable"
 
+-- the error is a refusal, and no want of memory
+abbrev pub IsRefusal : Error → Type 0
+IsRefusal error.Memory = ⊥
+IsRefusal error.EmptyLocal = Unit {0}
+IsRefusal (error.MissingPath kind input) = Unit {0}
+IsRefusal (error.NotUtf8 kind input) = Unit {0}
+IsRefusal (error.TooLong shown total) = Unit {0}
+IsRefusal (error.BadUrl kind named input) = Unit {0}
+IsRefusal (error.Unwritable named) = Unit {0}
+
 -- a word and what it is said of, on a line
 abbrev pub told : List ℕ → List ℕ → List ℕ
 told word of_what = word ++ (9 ∷ (of_what ++ newline ∷ []))
@@ -68,7 +78,7 @@ pub data IsAnswer (line answer : List ℕ) (good : Bool) : Type 0 where
   unwritable : (v : Location) (f : WriteFault) → Spells line v → text v ≡ Err f
       → answer ≡ told (codes "unwritable") (protocol_text v.scheme) → good ≡ false → IsAnswer line answer good
   -- a text that spells no location: an error whose flaw stands in it
-  refused : (e : Error) → ((v : Location) → ¬ Spells line v) → Flaw line e
+  refused : (e : Error) → IsRefusal e → ((v : Location) → ¬ Spells line v) → Flaw line e
       → answer ≡ told (codes "refused") (refusal e) → good ≡ false → IsAnswer line answer good
 
 -- the answers to lines, in order, and whether each line is settled
@@ -98,16 +108,6 @@ AppendsAnswer line old new (Err fault) = Unit {0}
 abbrev pub Tells : Location → List ℕ → List ℕ → Result Bool RunError → Type 0
 Tells v old new (Ok good) = (answer : List ℕ) × ((line : List ℕ) → Spells line v → IsAnswer line answer good) × (new ≡ old ++ answer)
 Tells v old new (Err fault) = Unit {0}
-
--- the error is a refusal, and no want of memory
-abbrev pub IsRefusal : Error → Type 0
-IsRefusal error.Memory = ⊥
-IsRefusal error.EmptyLocal = Unit {0}
-IsRefusal (error.MissingPath kind input) = Unit {0}
-IsRefusal (error.NotUtf8 kind input) = Unit {0}
-IsRefusal (error.TooLong shown total) = Unit {0}
-IsRefusal (error.BadUrl kind named input) = Unit {0}
-IsRefusal (error.Unwritable named) = Unit {0}
 
 -- the word for an error, if it is a refusal
 abbrev pub NamesRefusal : Error → Option (Bor (List ℕ)) → Type 0

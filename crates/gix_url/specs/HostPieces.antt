@@ -1,33 +1,78 @@
--- What the slices stand for that the reader of hosts answers.
-use Rattle.std.specs.Prelude.{ℕ, Bool, List, [], ◌∷◌, ◌++◌, Option, Some, None, option_map, if◌then◌else◌}
+-- What the slices stand for that the reader of hosts answers, and what it tells of them.
+use Rattle.std.specs.Prelude.{◌≡◌, ℕ, Bool, true, false, ◌==◌, ◌⊎◌, List, [], ◌∷◌, ◌++◌, Option, Some, None, codes, option_map, Result, MatchResult, if◌then◌else◌}
+use Rattle.std.specs.Char.{to_ascii_lowercase}
 use Rattle.percent_encoding.specs.Percent.{percent_decode}
+use Rattle.gix_url.specs.declared.error.UrlFault.{UrlFault}
 use Rattle.gix_url.specs.declared.host.Mode as rust
 use Rattle.gix_url.specs.declared.host.Mode.TheVariants as read
 use Rattle.gix_url.specs.declared.host.HostPiece.{HostPiece}
 use Rattle.gix_url.specs.declared.host.HostPiece.TheVariants.{Address, Kept, Decoded, Literal, DecodedLiteral, Bracketed}
 use Rattle.gix_url.specs.declared.host.NamedHost.{NamedHost}
-use Rattle.gix_url.specs.Bytes.{colon, left_bracket, right_bracket, lowercase}
-use Rattle.gix_url.specs.Hosts.{Mode, normal_host}
+use Rattle.gix_url.specs.Bytes.{colon, percent_sign, left_bracket, right_bracket, begins_with, lowercase}
+use Rattle.gix_url.specs.Addresses.{IsZone}
+use Rattle.gix_url.specs.Hosts.{Mode, Inner, normal_host, Names, Number}
 use Rattle.gix_url.specs.Hosts.Mode.{strict, bare, loose}
+use Rattle.gix_url.specs.Flaws.{NameFlaw}
 
 -- the mode that the code names
-abbrev pub mode : rust.Mode → Mode
-mode read.Strict = strict
-mode read.Bare = bare
-mode read.Loose = loose
+abbrev pub strictness : rust.Mode → Mode
+strictness read.Strict = strict
+strictness read.Bare = bare
+strictness read.Loose = loose
 
 -- the text between brackets, in them
 abbrev pub in_brackets : List ℕ → List ℕ
 in_brackets inner = left_bracket ∷ (inner ++ right_bracket ∷ [])
+
+-- in lower case up to the first `%`
+abbrev pub lowercase_address : List ℕ → List ℕ
+lowercase_address [] = []
+lowercase_address (b ∷ bs) = if b == percent_sign then b ∷ bs else to_ascii_lowercase b ∷ lowercase_address bs
 
 -- the host that a piece stands for
 abbrev pub meant : HostPiece → List ℕ
 meant (Address text) = lowercase text.now
 meant (Kept text) = normal_host text.now
 meant (Decoded text) = normal_host (percent_decode text.now)
-meant (Literal address zone) = in_brackets (lowercase address.now ++ zone.now)
-meant (DecodedLiteral address zone) = in_brackets (percent_decode (lowercase address.now ++ zone.now))
+meant (Literal text) = in_brackets (lowercase_address text.now)
+meant (DecodedLiteral text) = in_brackets (lowercase_address (percent_decode text.now))
 meant (Bracketed text) = in_brackets (percent_decode text.now)
+
+-- the slice that a piece holds
+abbrev pub piece_text : HostPiece → List ℕ
+piece_text (Address text) = text.now
+piece_text (Kept text) = text.now
+piece_text (Decoded text) = text.now
+piece_text (Literal text) = text.now
+piece_text (DecodedLiteral text) = text.now
+piece_text (Bracketed text) = text.now
+
+-- the same, decoded where it has to be
+abbrev pub unescaped : HostPiece → List ℕ
+unescaped (Address text) = text.now
+unescaped (Kept text) = text.now
+unescaped (Decoded text) = percent_decode text.now
+unescaped (Literal text) = text.now
+unescaped (DecodedLiteral text) = percent_decode text.now
+unescaped (Bracketed text) = percent_decode text.now
+
+-- the letters of a host in the case that they are shown in
+abbrev pub settled : HostPiece → List ℕ → List ℕ
+settled (Address text) host = lowercase host
+settled (Kept text) host = normal_host host
+settled (Decoded text) host = normal_host host
+settled (Literal text) host = lowercase_address host
+settled (DecodedLiteral text) host = lowercase_address host
+settled (Bracketed text) host = host
+
+-- brackets stand around the host
+abbrev pub is_bracketed : HostPiece → Bool
+is_bracketed (Address text) = false
+is_bracketed (Kept text) = false
+is_bracketed (Decoded text) = false
+is_bracketed (Literal text) = true
+is_bracketed (DecodedLiteral text) = true
+is_bracketed (Bracketed text) = true
 
 -- the host that was named, with the colon that stays with it
 abbrev pub host_text : NamedHost → List ℕ
@@ -40,3 +85,31 @@ host_of named = option_map host_text named
 abbrev pub port_of : Option NamedHost → Option ℕ
 port_of None = None
 port_of (Some named) = named.port
+
+-- a host may end before the text: it is empty or begins with a colon
+abbrev pub EndsHost : List ℕ → Type 0
+EndsHost rest = (rest ≡ []) ⊎ (begins_with colon rest ≡ true)
+
+-- `25` and a zone
+abbrev pub IsEscapedZone : List ℕ → Type 0
+IsEscapedZone text = (zone : List ℕ) × IsZone zone × (text ≡ codes "25" ++ zone)
+
+-- what the host of a literal holds, which is decoded but for HTTP
+abbrev pub shown_literal : Mode → List ℕ → List ℕ
+shown_literal strict text = lowercase_address text
+shown_literal bare text = lowercase_address (percent_decode text)
+shown_literal loose text = lowercase_address (percent_decode text)
+
+-- the text between brackets stands for another, and the host is that one in brackets
+abbrev pub IsInner : Mode → List ℕ → List ℕ → Type 0
+IsInner mode text host = (inner : List ℕ) × Inner mode text inner × (host ≡ in_brackets inner)
+
+-- nothing follows a host, or a colon that stays with it, or a colon and a port
+pub data Follows (mode : Mode) (base rest : List ℕ) (host : Option (List ℕ)) (port : Option ℕ) : Type 0 where
+  nothing : rest ≡ [] → host ≡ Some base → port ≡ None → Follows mode base rest host port
+  lone_colon : rest ≡ colon ∷ [] → host ≡ Some (base ++ colon ∷ []) → port ≡ None → Follows mode base rest host port
+  number : (digits : List ℕ) (n : ℕ) → Number mode digits n → rest ≡ colon ∷ digits → host ≡ Some base → port ≡ Some n → Follows mode base rest host port
+
+-- what was read from a piece that isn't empty: the host and the port that it names, or a flaw of it
+abbrev pub ReadsName : Mode → List ℕ → Result NamedHost UrlFault → Type 0
+ReadsName mode piece result = MatchResult result (λ named. Names mode piece (Some (host_text named)) named.port) (λ fault. NameFlaw mode piece fault)

@@ -1,12 +1,213 @@
 //! The length test of URLs.
+//!
+//! It uses nothing else of this crate and asks for no memory. A [`Walk`] takes what follows the `://` of a URL in
+//! any number of pieces, so that a text can be measured that stands nowhere as a whole. Its contract: a walk past
+//! pieces is a walk past the pieces joined, and it is short exactly where the definition of the length test says.
 
-ghost use Rattle.std.specs.Prelude.{◌↔◌, IsTrue};
-ghost use Rattle.gix_url.specs.Authority.{Fits};
+ghost use Rattle.std.specs.Prelude.{◌≡◌, ◌↔◌, IsTrue};
+ghost use Rattle.gix_url.specs.Authority.{Fits, is_any_slash};
+ghost use Rattle.gix_url.specs.Cuts.{is_path_start};
+ghost use Rattle.gix_url.specs.Schemes.{is_web_scheme};
+ghost use Rattle.gix_url.specs.Walks.{one_more, stage_counted, stage_past, walk_past, walk_past_all, walk_behind, is_walk_short};
+
+/// The bytes that a scheme may have, and what counts of that which follows.
+const LIMIT: u16 = 1024;
+
+/// What a walk has come to, white space aside.
+#[derive(Clone, Copy, Debug, PartialEq, Eq)]
+enum Stage {
+    /// Slashes and backslashes, which are skipped.
+    Slashes,
+    /// The front, with the count of its bytes.
+    Front(u16),
+    /// What stands behind the front, which had so many bytes.
+    Behind(u16),
+}
+
+/// A walk over what follows the `://` of a URL.
+#[derive(Clone, Copy, Debug, PartialEq, Eq)]
+pub(crate) struct Walk {
+    web: bool,
+    stage: Stage,
+    whole: u16,
+}
+
+impl Walk {
+    /// A walk that has yet to begin, behind a scheme.
+    pub(crate) fn behind(scheme: &[u8]) -> Walk
+        ensures { result ≡ walk_behind scheme.now }
+    {
+        Walk {
+            web: is_web_scheme(scheme),
+            stage: Stage::Slashes,
+            whole: 0,
+        }
+    }
+
+    /// The walk past these bytes.
+    pub(crate) fn past(self, bytes: &[u8]) -> Walk
+        ensures { result ≡ walk_past_all self bytes.now }
+    {
+        let mut walk = self;
+        for byte in bytes {
+            walk = walk.past_byte(*byte);
+        }
+        walk
+    }
+
+    /// The walk past one byte.
+    fn past_byte(self, byte: u8) -> Walk
+        ensures { result ≡ walk_past self byte }
+    {
+        let stage = if byte.is_ascii_whitespace() {
+            self.stage
+        } else {
+            stage_past(self.stage, byte, self.web)
+        };
+        Walk {
+            web: self.web,
+            stage,
+            whole: one_more(self.whole),
+        }
+    }
+
+    /// Whether what was walked past is short enough.
+    pub(crate) fn is_short(self) -> bool
+        ensures { result ≡ is_walk_short self }
+    {
+        match self.stage {
+            Stage::Slashes | Stage::Front(_) => self.whole <= LIMIT,
+            Stage::Behind(count) => count <= LIMIT,
+        }
+    }
+}
+
+/// One more, up to one past the limit: a count never wraps.
+fn one_more(count: u16) -> u16
+    ensures { result ≡ one_more count }
+{
+    count.min(LIMIT) + 1
+}
+
+/// The stage behind a byte that is no white space.
+fn stage_past(stage: Stage, byte: u8, web: bool) -> Stage
+    ensures { result ≡ stage_past web stage byte }
+{
+    match stage {
+        Stage::Slashes if is_any_slash(byte) => Stage::Slashes,
+        Stage::Slashes => stage_counted(0, byte, web),
+        Stage::Front(count) => stage_counted(count, byte, web),
+        Stage::Behind(count) => Stage::Behind(count),
+    }
+}
+
+/// The stage behind a byte that isn't skipped, where so many stand before it.
+fn stage_counted(count: u16, byte: u8, web: bool) -> Stage
+    ensures { result ≡ stage_counted web count byte }
+{
+    if is_path_start(byte, web) {
+        Stage::Behind(count)
+    } else {
+        Stage::Front(one_more(count))
+    }
+}
+
+/// Whether the byte is `/` or `\`.
+fn is_any_slash(byte: u8) -> bool
+    ensures { result ≡ is_any_slash byte }
+{
+    byte == b'/' || byte == b'\\'
+}
+
+/// Whether a path may start at the byte.
+fn is_path_start(byte: u8, web: bool) -> bool
+    ensures { result ≡ is_path_start web byte }
+{
+    byte == b'/' || (web && (byte == b'?' || byte == b'#'))
+}
+
+/// Whether the scheme is one of HTTP's.
+fn is_web_scheme(scheme: &[u8]) -> bool
+    ensures { result ≡ is_web_scheme scheme.now }
+{
+    scheme == b"http".as_slice() || scheme == b"https".as_slice()
+}
 
 /// Whether a scheme and what follows its `://` are short enough.
 pub(crate) fn fits(scheme: &[u8], rest: &[u8]) -> bool
     ensures { IsTrue result ↔ Fits scheme.now rest.now }
 {
-    let _ = (scheme, rest);
-    false
+    scheme.len() <= usize::from(LIMIT) && Walk::behind(scheme).past(rest).is_short()
+}
+
+#[cfg(test)]
+mod tests {
+    use super::*;
+    use std::alloc::{AllocError, Global};
+    use std::test::Fail;
+
+    /// What `front` and many times `byte` and `back` are joined.
+    fn around(
+        alloc: Global,
+        front: &[u8],
+        byte: u8,
+        count: usize,
+        back: &[u8],
+    ) -> Result<Vec<u8>, AllocError> {
+        let mut text = Vec::new(alloc);
+        text.extend_from_slice(front)?;
+        for _turn in 0..count {
+            text.push(byte)?;
+        }
+        text.extend_from_slice(back)?;
+        Ok(text)
+    }
+
+    #[test]
+    fn measures_up_to_the_limit(rt: HostRuntime) -> Result<(), Fail> {
+        let cases = [
+            ("http", "", b'a', 1024, "/", true),
+            ("http", "", b'a', 1025, "/", false),
+            ("x", "/", b'a', 1023, "", true),
+            ("x", "/", b'a', 1024, "", false),
+            ("http", "", b'/', 2000, "", false),
+            ("http", "", b'/', 2000, "a/", true),
+            ("http", "", b'\\', 2000, "a/", true),
+            ("http", "a", b' ', 1100, "a/", true),
+            ("http", "a", b' ', 1024, "", false),
+            ("ssh", "h?", b'a', 1100, "/p", false),
+            ("http", "h?", b'a', 1100, "", true),
+            ("http", "h#", b'a', 1100, "", true),
+            ("http", "", 0xc3, 2402, "@h/", false),
+            ("http", "h/", b'a', 70000, "", true),
+            ("http", "", b'a', 70000, "", false),
+        ];
+        for (scheme, front, byte, count, back, short) in cases {
+            let rest = around(rt.alloc(), front.as_bytes(), byte, count, back.as_bytes())?;
+            assert_eq!(rt; fits(scheme.as_bytes(), rest.as_slice()), short);
+        }
+        Ok(())
+    }
+
+    #[test]
+    fn measures_schemes(rt: HostRuntime) -> Result<(), Fail> {
+        let scheme = around(rt.alloc(), b"", b'a', 1024, b"")?;
+        assert!(rt; fits(scheme.as_slice(), b"h/p"));
+        let scheme = around(rt.alloc(), b"", b'a', 1025, b"")?;
+        assert!(rt; !fits(scheme.as_slice(), b"h/p"));
+        Ok(())
+    }
+
+    #[test]
+    fn walks_in_pieces(rt: HostRuntime) -> Result<(), Fail> {
+        let many = around(rt.alloc(), b"", b'a', 1024, b"")?;
+        let walk = Walk::behind(b"http")
+            .past(b"/")
+            .past(b"")
+            .past(many.as_slice());
+        assert!(rt; !walk.is_short());
+        assert!(rt; walk.past(b"/").is_short());
+        assert!(rt; !walk.past(b"b/").is_short());
+        Ok(())
+    }
 }

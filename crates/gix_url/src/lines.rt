@@ -4,6 +4,7 @@
 //! the definitions have it; nothing is written before the whole answer stands.
 
 ghost use Rattle.std.specs.Prelude.{◌≡◌, ℕ, ◌++◌, List, codes, IfOk, IfSome, OnOk};
+ghost use Rattle.std.specs.Io.KnownBytes.{IsAtEnd};
 ghost use Rattle.gix_url.specs.Answers.{Answers, AppendsAnswer, NamesRefusal, Ran, Tells, TellsRefusal, fault_name, fault_text, status_of, told};
 ghost use Rattle.gix_url.specs.Schemes.{protocol_text};
 ghost use Rattle.gix_url.specs.Text.{text};
@@ -66,8 +67,8 @@ pub fn status(outcome: &Result<bool, RunError>) -> u8
     }
 }
 
-/// Reads all of the input, answers each of its lines by a line, and writes the answers. Lines end at byte 10; a
-/// last line without it counts where it isn't empty; byte 13 is a part of its line.
+/// Reads all of the input, answers each of its lines by a line, and writes the answers. Byte 10 ends a line and
+/// byte 13 is nothing special; a last line may lack its end, and counts unless it is empty.
 ///
 /// The answer is `settled`, a tab and the location's text, where it is settled; `unsettled` or `unwritable`, a tab
 /// and its scheme, where it has a text or none; `refused`, a tab and the error's name, where the line is no
@@ -76,7 +77,8 @@ pub fn status(outcome: &Result<bool, RunError>) -> u8
 /// `Ok(true)` says that every line was settled. The errors are those of [`RunError`]; a reader that hasn't ended
 /// after 2^40 calls is answered `Read`. The whole answer is built in memory before it is written.
 pub fn run<R: Read, W: Write>(alloc: Global, input: &mut R, output: &mut W) -> Result<bool, RunError>
-    ensures { Ran W.contents (R.remaining input.old) output.old output.new result }
+    ensures answered { Ran W.contents (R.remaining input.old) output.old output.new result }
+    ensures read_to_end { OnOk result (IsAtEnd (R.remaining input.new)) }
 {
     let text = read_all(alloc, input)?;
     let (answer, all) = answers(alloc, text.as_slice())?;
@@ -88,7 +90,8 @@ pub fn run<R: Read, W: Write>(alloc: Global, input: &mut R, output: &mut W) -> R
 
 /// All bytes of a reader.
 fn read_all<R: Read>(alloc: Global, input: &mut R) -> Result<Vec<u8>, RunError>
-    ensures { IfOk result (λ all. IfSome (R.remaining input.old) (λ b. all.items ≡ b)) }
+    ensures bytes { IfOk result (λ all. IfSome (R.remaining input.old) (λ b. all.items ≡ b)) }
+    ensures end { OnOk result (IsAtEnd (R.remaining input.new)) }
 {
     let mut all = Vec::new(alloc);
     let mut buffer = [0u8; 4096];

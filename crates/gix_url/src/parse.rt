@@ -1,30 +1,98 @@
 //! Reading: which form a text has, and the location that it spells.
+//!
+//! It may use every room that reads. Its contract: the answer is the one location that the definitions spell with
+//! the bytes, a refusal comes only where they spell none, and what a refusal names stands in the bytes.
 
-ghost use Rattle.std.specs.Prelude.{IfOk, IfErr};
+ghost use Rattle.std.specs.Prelude.{◌≡◌, [], Err, IfErr, IfOk};
 ghost use Rattle.bstr.specs.BStr.{bstr_bytes};
-ghost use Rattle.gix_url.specs.Grammar.{Spells};
 ghost use Rattle.gix_url.specs.Flaws.{Flaw};
+ghost use Rattle.gix_url.specs.Grammar.{Spells};
 ghost use Rattle.gix_url.specs.Readings.{Refuses};
+ghost use Rattle.gix_url.specs.Shapes.{Classifies};
+
+pub(crate) mod classify;
+mod copies;
+mod forms;
+mod scp;
+mod url;
 
 use crate::error::Error;
 use crate::location::Url;
 use bstr::BStr;
+use classify::{Shape, classify};
+use forms::{read_helper, read_local};
+use scp::{read_addressed, read_scp};
 use std::alloc::Global;
+use url::read_url;
 
 pub use crate::error::UrlKind;
 
 /// The one location that the bytes spell.
+///
+/// They are a remote helper's address (`name::address`), a URL, the scp form (`user@host:path`) or a local path.
+/// Where they spell no location, the error names a flaw that stands in them. The empty text is refused without
+/// memory.
 pub fn parse(alloc: Global, input: BStr<'_>) -> Result<Url, Error>
     ensures found { IfOk result (λ v. Spells (bstr_bytes input.entry) v) }
     ensures refused { IfErr result (λ e. Refuses (bstr_bytes input.entry) e) }
     ensures flaw { IfErr result (λ e. Flaw (bstr_bytes input.entry) e) }
+    ensures empty { bstr_bytes input.entry ≡ [] → result ≡ Err Error.EmptyLocal }
 {
-    if input.as_bytes().is_empty() {
+    read(alloc, input.as_bytes())
+}
+
+impl Url {
+    /// The one location that the bytes spell: [`parse`].
+    pub fn from_bytes(alloc: Global, input: BStr<'_>) -> Result<Url, Error>
+        ensures found { IfOk result (λ v. Spells (bstr_bytes input.entry) v) }
+        ensures refused { IfErr result (λ e. Refuses (bstr_bytes input.entry) e) }
+        ensures flaw { IfErr result (λ e. Flaw (bstr_bytes input.entry) e) }
+        ensures empty { bstr_bytes input.entry ≡ [] → result ≡ Err Error.EmptyLocal }
+    {
+        parse(alloc, input)
+    }
+
+    /// The one location that the text spells: [`parse`] of its bytes.
+    pub fn from_text(alloc: Global, text: &str) -> Result<Url, Error>
+        ensures found { IfOk result (λ v. Spells text.now v) }
+        ensures refused { IfErr result (λ e. Refuses text.now e) }
+        ensures flaw { IfErr result (λ e. Flaw text.now e) }
+        ensures empty { text.now ≡ [] → result ≡ Err Error.EmptyLocal }
+    {
+        read(alloc, text.as_bytes())
+    }
+}
+
+/// The same of the bytes behind a reference.
+fn read(alloc: Global, bytes: &[u8]) -> Result<Url, Error>
+    ensures found { IfOk result (λ v. Spells bytes.now v) }
+    ensures refused { IfErr result (λ e. Refuses bytes.now e) }
+    ensures flaw { IfErr result (λ e. Flaw bytes.now e) }
+    ensures empty { bytes.now ≡ [] → result ≡ Err Error.EmptyLocal }
+{
+    if bytes.is_empty() {
         return Err(Error::EmptyLocal);
     }
-    let text = bstr::BString::from_slice(alloc, input.as_bytes())?;
-    Err(Error::MissingPath {
-        kind: UrlKind::Local,
-        input: text,
-    })
+    read_shape(alloc, bytes, classify(bytes))
+}
+
+/// The location of a text of this form.
+fn read_shape(alloc: Global, bytes: &[u8], shape: Shape<'_>) -> Result<Url, Error>
+    requires { Classifies bytes.now shape }
+    ensures found { IfOk result (λ v. Spells bytes.now v) }
+    ensures refused { IfErr result (λ e. Refuses bytes.now e) }
+    ensures flaw { IfErr result (λ e. Flaw bytes.now e) }
+{
+    match shape {
+        Shape::Empty => Err(Error::EmptyLocal),
+        Shape::Helper { name, address } => read_helper(alloc, bytes, name, address),
+        Shape::Url { scheme, rest } => read_url(alloc, bytes, scheme, rest),
+        Shape::Addressed {
+            user,
+            address,
+            path,
+        } => read_addressed(alloc, bytes, user, address, path),
+        Shape::Scp { front, path } => read_scp(alloc, bytes, front, path),
+        Shape::Local => read_local(alloc, bytes),
+    }
 }

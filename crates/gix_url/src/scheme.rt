@@ -3,8 +3,8 @@
 //! It uses nothing of this crate. Its contract: names and default ports are those of the definitions, and a
 //! scheme's text stands for its protocol to the letter.
 
-ghost use Rattle.std.specs.Prelude.{◌≡◌, IfOk, true};
-ghost use Rattle.gix_url.specs.Schemes.{protocol_of, protocol_text, default_port_of, is_known_scheme};
+ghost use Rattle.std.specs.Prelude.{◌≡◌, IfErr, IfOk, IsOk, IsUtf8, MatchOption, bytes_eq, false, true};
+ghost use Rattle.gix_url.specs.Schemes.{protocol_of, protocol_text, default_port_of, is_known_scheme, is_ssh_scheme, is_web_scheme};
 ghost use Rattle.gix_url.specs.Views.{protocol};
 
 use crate::error::Error;
@@ -33,6 +33,31 @@ pub enum Scheme {
 }
 
 impl Scheme {
+    /// The scheme with this text, to the letter: one with a name of its own, or any other by its text. It takes
+    /// no memory for a name of its own.
+    pub fn from_text(alloc: Global, text: &str) -> Result<Scheme, Error>
+        ensures found { IfOk result (λ scheme. protocol scheme ≡ protocol_of text.now) }
+        ensures memory { IfErr result (λ e. e ≡ Error.Memory) }
+        ensures known { is_known_scheme text.now ≡ true → IsOk result }
+    {
+        match known(text.as_bytes()) {
+            Some(scheme) => Ok(scheme),
+            None => other(alloc, text),
+        }
+    }
+
+    /// The same of bytes that are text.
+    pub(crate) fn from_bytes(alloc: Global, text: &[u8]) -> Result<Scheme, Error>
+        requires { IsUtf8 text.now }
+        ensures found { IfOk result (λ scheme. protocol scheme ≡ protocol_of text.now) }
+        ensures memory { IfErr result (λ e. e ≡ Error.Memory) }
+    {
+        let Ok(text) = str::from_utf8(text) else {
+            unreachable!()
+        };
+        Scheme::from_text(alloc, text)
+    }
+
     /// The text that the scheme is written with. It takes no memory.
     pub fn as_str(&self) -> &str
         ensures { result.now ≡ protocol_text (protocol self.now) }
@@ -61,6 +86,61 @@ impl Scheme {
             Scheme::File | Scheme::Ext | Scheme::Helper(_) | Scheme::HelperUrl(_) => None,
         }
     }
+}
+
+/// The scheme that has this text for a name of its own.
+fn known(text: &[u8]) -> Option<Scheme>
+    ensures { MatchOption result (is_known_scheme text.now ≡ false) (λ scheme. protocol scheme ≡ protocol_of text.now) }
+{
+    if is_ssh_scheme(text) {
+        return Some(Scheme::Ssh);
+    }
+    if is_named(text, "file") {
+        return Some(Scheme::File);
+    }
+    if is_named(text, "git") {
+        return Some(Scheme::Git);
+    }
+    if is_named(text, "http") {
+        return Some(Scheme::Http);
+    }
+    if is_named(text, "https") {
+        return Some(Scheme::Https);
+    }
+    if is_named(text, "ext") {
+        return Some(Scheme::Ext);
+    }
+    None
+}
+
+/// A scheme without a name of its own.
+fn other(alloc: Global, text: &str) -> Result<Scheme, Error>
+    requires { is_known_scheme text.now ≡ false }
+    ensures found { IfOk result (λ scheme. protocol scheme ≡ protocol_of text.now) }
+    ensures memory { IfErr result (λ e. e ≡ Error.Memory) }
+{
+    Ok(Scheme::HelperUrl(String::from_str(alloc, text)?))
+}
+
+/// Whether the text is one of Secure Shell's names.
+pub(crate) fn is_ssh_scheme(text: &[u8]) -> bool
+    ensures { result ≡ is_ssh_scheme text.now }
+{
+    is_named(text, "ssh") || is_named(text, "ssh+git") || is_named(text, "git+ssh")
+}
+
+/// Whether the text is HTTP's name, with or without encryption.
+pub(crate) fn is_web_scheme(text: &[u8]) -> bool
+    ensures { result ≡ is_web_scheme text.now }
+{
+    is_named(text, "http") || is_named(text, "https")
+}
+
+/// Whether the text is the name, to the letter.
+pub(crate) fn is_named(text: &[u8], name: &str) -> bool
+    ensures { result ≡ bytes_eq text.now name.now }
+{
+    text == name.as_bytes()
 }
 
 impl fmt::Display for Scheme {

@@ -96,57 +96,65 @@ static OTHERS: [(&str, &str); 16] = [
     ("u%FF@:p", "BadUrl HostRequired Scp"),
 ];
 
-/// Texts with two flaws or more: a check that comes earlier names its own.
-///
-/// First URLs in the order of their checks, then the form of scp.
+/// Texts with two flaws or more: the check that comes first names its own.
 static ORDER: [(&str, &str); 47] = [
-    ("http://a b%/", "BadUrl BadCharacter Url"),
+    // White space and escapes before the scheme.
     ("1x:// h/", "BadUrl BadCharacter Url"),
     ("é://h%2/", "BadUrl BadCharacter Url"),
+    // The scheme before the authority.
     ("1x://a\\b/", "BadUrl NoScheme Url"),
-    ("x y://h\\/%FF", "BadUrl BadCharacter Url"),
-    ("http://%FF@h:x/", "BadUrl BadCharacter Url"),
-    ("http://u:%FF@h:x/", "BadUrl BadCharacter Url"),
-    ("http://h:x/%FF", "BadUrl BadCharacter Url"),
+    ("1x://h:x/", "BadUrl NoScheme Url"),
+    ("1x://", "BadUrl NoScheme Url"),
+    // A backslash, the path, the password and the user before the port.
     ("http://h\\:x/", "BadUrl BadCharacter Url"),
-    ("http://[h]x:y/", "BadUrl BadCharacter Url"),
-    ("http://[h]:70000/", "BadUrl BadCharacter Url"),
-    ("http://[h]:x/", "BadUrl BadCharacter Url"),
-    ("http://[::1]:x/", "BadUrl BadPort Url"),
-    ("ssh://[::1]x:y/p", "BadUrl BadCharacter Url"),
-    ("ssh://[%FF]:x/p", "BadUrl BadCharacter Url"),
-    ("http://a\"b:x/", "BadUrl BadPort Url"),
-    ("http://a\"b:70000/", "BadUrl BadCharacter Url"),
-    ("x://h%FF:x/", "BadUrl BadPort Url"),
-    ("x://h%FF:70000/", "BadUrl BadCharacter Url"),
+    ("http://h:x/%FF", "BadUrl BadCharacter Url"),
     ("x://h:70000/%FF", "BadUrl BadCharacter Url"),
-    ("http://u@/p", "BadUrl BadCharacter Url"),
-    ("http://@/", "BadUrl BadCharacter Url"),
+    ("http://u:%FF@h:x/", "BadUrl BadCharacter Url"),
+    ("http://%FF@h:x/", "BadUrl BadCharacter Url"),
+    // Digits before the host, the host before the range of the port.
+    ("http://a\"b:x/", "BadUrl BadPort Url"),
+    ("x://h%FF:x/", "BadUrl BadPort Url"),
+    ("http://a\"b:70000/", "BadUrl BadCharacter Url"),
+    ("x://h%FF:70000/", "BadUrl BadCharacter Url"),
+    ("ssh://h%FF:70000", "BadUrl BadCharacter Url"),
+    // In brackets the host and what follows it before the port.
+    ("http://[h]x:y/", "BadUrl BadCharacter Url"),
+    ("http://[h]:x/", "BadUrl BadCharacter Url"),
+    ("http://[h]:70000/", "BadUrl BadCharacter Url"),
+    ("ssh://[%FF]:x/p", "BadUrl BadCharacter Url"),
+    ("http://[::1]:x/", "BadUrl BadPort Url"),
+    // User information without a host before a host that is missing.
     ("http://@", "BadUrl BadCharacter Url"),
-    ("ssh://u@", "BadUrl BadCharacter Url"),
-    ("ssh://@", "BadUrl BadCharacter Url"),
-    ("ssh://", "BadUrl HostRequired Url"),
-    ("git://", "BadUrl HostRequired Url"),
-    ("ssh://h:x", "BadUrl BadPort Url"),
+    ("http://@/", "BadUrl BadCharacter Url"),
+    ("http://u@/p", "BadUrl BadCharacter Url"),
+    // The authority before a path that is missing.
+    ("ssh://h h", "BadUrl BadCharacter Url"),
+    ("ssh://u%FF@h", "BadUrl BadCharacter Url"),
     ("git://h%FF", "BadUrl BadCharacter Url"),
     ("ssh://[h", "BadUrl BadCharacter Url"),
-    ("ssh://u%FF@h", "BadUrl BadCharacter Url"),
-    ("ssh://h h", "BadUrl BadCharacter Url"),
+    ("ssh://h:x", "BadUrl BadPort Url"),
+    ("ssh://@", "BadUrl BadCharacter Url"),
+    ("ssh://u@", "BadUrl BadCharacter Url"),
+    ("ssh://", "BadUrl HostRequired Url"),
+    ("git://", "BadUrl HostRequired Url"),
+    // In file URLs the path alone is looked for.
     ("file://h h", "MissingPath Url"),
-    ("x://a:b%FF:c/", "BadUrl BadCharacter Url"),
+    ("file://%", "MissingPath Url"),
+    // In the form of scp a path that is missing before the host.
     ("a b:", "MissingPath Scp"),
     ("a\\b:", "MissingPath Scp"),
     ("[h:", "MissingPath Scp"),
+    ("[a@b:x]:", "MissingPath Scp"),
     ("u@:", "MissingPath Scp"),
     (":", "MissingPath Scp"),
-    ("[a@b:x y]:p", "BadUrl BadCharacter Scp"),
-    ("a\\ b:p", "BadUrl BadCharacter Scp"),
-    ("[ @a:x]:p", "BadUrl BadPort Scp"),
-    ("[\\@a:x]:p", "BadUrl BadPort Scp"),
-    ("[a@b:x]:p", "BadUrl BadPort Scp"),
-    ("[a@b%:70000]:p", "BadUrl BadPort Scp"),
     ("u@[::1]:", "MissingPath Scp"),
     ("@[::]:", "MissingPath Scp"),
+    // White space and a backslash in the host before its port, which is looked for behind the last `@`.
+    ("[a@b:x y]:p", "BadUrl BadCharacter Scp"),
+    ("[a@b\\:x]:p", "BadUrl BadCharacter Scp"),
+    ("[a@b:70000]:p", "BadUrl BadPort Scp"),
+    ("[ @a:x]:p", "BadUrl BadPort Scp"),
+    ("[\\@a:x]:p", "BadUrl BadPort Scp"),
 ];
 
 /// Reads each row of a table.

@@ -1,0 +1,250 @@
+-- Remote helpers and local paths: what is read as one is settled and is written as it was read; a settled one comes back, and nothing else does.
+use Rattle.std.proofs.Common.{◌≡◌, ℕ, ◌<◌, Bool, true, false, inl, inr, List, ◌∷◌, ◌++◌, length, Option, None, Ok, refl, sym, ap, subst, ◌∙◌, codes, bytes_eq, if◌then◌else◌}
+use Rattle.std.proofs.lemmas.Bool.{both_ways, false≢true}
+use Rattle.std.proofs.lemmas.Slice.Eq.{bytes_eq-Decides}
+use Rattle.gix_url.specs.Value.{Protocol, Location, fields, path_alone}
+use Rattle.gix_url.specs.Value.Protocol.{file, git, ssh, http, https, ext, helper, helper_url}
+use Rattle.gix_url.specs.Bytes.{colon, is_helper_name}
+use Rattle.gix_url.specs.Schemes.{is_ssh_scheme, protocol_of}
+use Rattle.gix_url.specs.Grammar.{IsNeither, IsScpShaped, helper_protocol, SpellsHelper, UrlParts, MeansByProtocol, MeansAs, SpellsScp, SpellsLocal, Spells}
+use Rattle.gix_url.specs.Text.{text}
+use Rattle.gix_url.specs.Settled.{HasHostAlone, IsSettledLocal, IsSettledHelper, IsSettledBy, IsSettled}
+use Rattle.gix_url.specs.Laws.{keeps_bytes, KeepsBytes, ComesBack}
+
+-- ---- values
+
+-- the value of a location that has a scheme, a path and the flag, and perhaps a spelling
+abbrev kept : Protocol → List ℕ → Option (List ℕ) → Location
+kept protocol path spelling = record (path_alone protocol true path) { spelling = spelling }
+
+-- a location without the other parts is such a value
+kept_value : (v : Location) (protocol : Protocol) → v.scheme ≡ protocol → v.flag ≡ true → HasHostAlone v → v.host ≡ None → v ≡ kept protocol v.path v.spelling
+kept_value v protocol scheme flagged alone no_host = λ i. record {
+  scheme = scheme i;
+  user = alone.no_user i;
+  password = alone.no_password i;
+  host = no_host i;
+  flag = flagged i;
+  port = alone.no_port i;
+  path = v.path;
+  spelling = v.spelling;
+}
+
+-- a value without parts of an authority
+path_alone_alone : (protocol : Protocol) (path : List ℕ) → HasHostAlone (path_alone protocol true path)
+path_alone_alone protocol path = record { no_user = refl; no_password = refl; no_port = refl }
+
+-- ---- texts
+
+-- a remote helper is written as its name, `::` and its path
+helper_written : (name path : List ℕ) (spelling : Option (List ℕ)) → is_helper_name name ≡ true → text (kept (helper name) path spelling) ≡ Ok (name ++ colon ∷ (colon ∷ path))
+helper_written name path spelling named = rw named refl
+
+-- a local path is written as it is
+local_written : (path : List ℕ) (spelling : Option (List ℕ)) → text (kept file path spelling) ≡ Ok path
+local_written path spelling = refl
+
+-- ---- what is spelled is settled, and written as it was read
+
+-- a helper's name is `ext`, or not
+helper_settled_as : (is_ext : Bool) (name path : List ℕ) → bytes_eq name (codes "ext") ≡ is_ext → is_helper_name name ≡ true → IsSettled (path_alone (if is_ext then ext else helper name) true path)
+helper_settled_as true name path same named = record { flagged = refl; alone = path_alone_alone ext path; no_host = refl; named = refl }
+helper_settled_as false name path other named = (record { flagged = refl; alone = path_alone_alone (helper name) path; no_host = refl; named = named }, other)
+
+-- a remote helper without a spelling is settled
+helper_settled : (name path : List ℕ) → is_helper_name name ≡ true → IsSettled (path_alone (helper_protocol name) true path)
+helper_settled name path named = helper_settled_as (bytes_eq name (codes "ext")) name path refl named
+
+-- the text, by whether the name is `ext`
+helper_text_as : (is_ext : Bool) (name path : List ℕ) → bytes_eq name (codes "ext") ≡ is_ext → is_helper_name name ≡ true → text (path_alone (if is_ext then ext else helper name) true path) ≡ Ok (name ++ colon ∷ (colon ∷ path))
+helper_text_as true name path same named = ap (λ n. Ok (n ++ colon ∷ (colon ∷ path))) (sym ((bytes_eq-Decides name (codes "ext")).0 same))
+helper_text_as false name path other named = helper_written name path None named
+
+-- and written as its name, `::` and its path
+helper_text : (name path : List ℕ) → is_helper_name name ≡ true → text (path_alone (helper_protocol name) true path) ≡ Ok (name ++ colon ∷ (colon ∷ path))
+helper_text name path named = helper_text_as (bytes_eq name (codes "ext")) name path refl named
+
+-- what a remote helper's form spells is settled, and written as it was read
+pub helper_unchanged : (b : List ℕ) (v : Location) → SpellsHelper b v → IsSettled v × (text v ≡ Ok b)
+helper_unchanged b v h = (
+  subst (λ l. IsSettled l) (sym h.value) (helper_settled h.name h.address h.parts.named),
+  ap (λ l. text l) h.value ∙ helper_text h.name h.address h.parts.named ∙ ap (λ t. Ok t) (sym h.parts.joined),
+)
+
+-- a local path without a spelling is settled
+local_settled : (b : List ℕ) → 0 < length b → IsNeither b → ¬ IsScpShaped b → IsSettled (path_alone file true b)
+local_settled b nonempty neither no_scp = inl record {
+  flagged = refl;
+  alone = path_alone_alone file b;
+  no_host = refl;
+  nonempty = nonempty;
+  neither = neither;
+  no_scp = no_scp;
+}
+
+-- what a local path spells is settled, and written as it was read
+pub local_unchanged : (b : List ℕ) (v : Location) → SpellsLocal b v → IsSettled v × (text v ≡ Ok b)
+local_unchanged b v h = (
+  subst (λ l. IsSettled l) (sym h.value) (local_settled b h.nonempty h.neither h.no_scp),
+  ap (λ l. text l) h.value ∙ local_written b None,
+)
+
+-- ---- closure
+
+-- the protocol is that of a remote helper with a name
+abbrev is_helper_protocol : Protocol → Bool
+is_helper_protocol (helper name) = true
+is_helper_protocol file = false
+is_helper_protocol git = false
+is_helper_protocol ssh = false
+is_helper_protocol http = false
+is_helper_protocol https = false
+is_helper_protocol ext = false
+is_helper_protocol (helper_url name) = false
+
+-- no scheme of a URL is
+no_helper_scheme : (ssh_named file_named git_named http_named https_named ext_named : Bool) (s : List ℕ) → is_helper_protocol (if ssh_named then ssh else (if file_named then file else (if git_named then git else (if http_named then http else (if https_named then https else (if ext_named then ext else helper_url s)))))) ≡ false
+no_helper_scheme true a b c d e s = refl
+no_helper_scheme false true b c d e s = refl
+no_helper_scheme false false true c d e s = refl
+no_helper_scheme false false false true d e s = refl
+no_helper_scheme false false false false true e s = refl
+no_helper_scheme false false false false false true s = refl
+no_helper_scheme false false false false false false s = refl
+
+-- a location without the flag keeps no bytes, but for remote helpers
+unflagged_kept : (protocol : Protocol) (b : List ℕ) (parts : UrlParts) (v : Location) → keeps_bytes protocol false ≡ false → KeepsBytes v → MeansByProtocol protocol parts v → ⊥
+unflagged_kept protocol b parts v loses keeps h = both_ways (keeps_bytes protocol false) loses (subst (λ l. KeepsBytes l) h.value keeps)
+
+-- the one URL that keeps its bytes is that of `ext`
+url_kept : (protocol : Protocol) (b : List ℕ) (parts : UrlParts) (v : Location) → is_helper_protocol protocol ≡ false → KeepsBytes v → MeansAs protocol b parts v → v ≡ path_alone ext true b
+url_kept ext b parts v other keeps h = h
+url_kept file b parts v other keeps h = absurd (unflagged_kept file b parts v refl keeps h)
+url_kept git b parts v other keeps h = absurd (unflagged_kept git b parts v refl keeps h)
+url_kept ssh b parts v other keeps h = absurd (unflagged_kept ssh b parts v refl keeps h)
+url_kept http b parts v other keeps h = absurd (unflagged_kept http b parts v refl keeps h)
+url_kept https b parts v other keeps h = absurd (unflagged_kept https b parts v refl keeps h)
+url_kept (helper name) b parts v other keeps h = absurd (false≢true (sym other))
+url_kept (helper_url name) b parts v other keeps h = absurd (unflagged_kept (helper_url name) b parts v refl keeps h)
+
+-- nothing in the scp form keeps its bytes
+scp_not_kept : (b : List ℕ) (v : Location) → SpellsScp b v → KeepsBytes v → ⊥
+scp_not_kept b v (inl h) keeps = false≢true (subst (λ l. KeepsBytes l) h.value keeps)
+scp_not_kept b v (inr h) keeps = false≢true (subst (λ l. KeepsBytes l) h.value keeps)
+
+-- what is spelled and keeps its bytes is settled
+pub kept_closed : (b : List ℕ) (v : Location) → Spells b v → KeepsBytes v → IsSettled v
+kept_closed b v (Spells.url h) keeps =
+    let s = h.parts.scheme in
+    let other = no_helper_scheme (is_ssh_scheme s) (bytes_eq s (codes "file")) (bytes_eq s (codes "git")) (bytes_eq s (codes "http")) (bytes_eq s (codes "https")) (bytes_eq s (codes "ext")) s in
+    subst (λ l. IsSettled l) (sym (url_kept (protocol_of s) b h.parts v other keeps h.means)) (helper_settled (codes "ext") b refl)
+kept_closed b v (Spells.file_url h) keeps = absurd (false≢true (subst (λ l. KeepsBytes l) h.value keeps))
+kept_closed b v (Spells.remote_helper h) keeps = (helper_unchanged b v h).0
+kept_closed b v (Spells.scp_form h) keeps = absurd (scp_not_kept b v h keeps)
+kept_closed b v (Spells.local_path h) keeps = (local_unchanged b v h).0
+
+-- ---- exactness
+
+-- parts of an authority are fields
+alone_by_fields : (v w : Location) → fields w ≡ fields v → HasHostAlone w → HasHostAlone v
+alone_by_fields v w same h = record {
+  no_user = sym (ap (λ l. l.user) same) ∙ h.no_user;
+  no_password = sym (ap (λ l. l.password) same) ∙ h.no_password;
+  no_port = sym (ap (λ l. l.port) same) ∙ h.no_port;
+}
+
+-- what the class says of a remote helper it says of the fields
+helper_by_fields : (name : List ℕ) (v w : Location) → fields w ≡ fields v → IsSettledHelper name w → IsSettledHelper name v
+helper_by_fields name v w same h = record {
+  flagged = sym (ap (λ l. l.flag) same) ∙ h.flagged;
+  alone = alone_by_fields v w same h.alone;
+  no_host = sym (ap (λ l. l.host) same) ∙ h.no_host;
+  named = h.named;
+}
+
+-- and of a local path
+local_by_fields : (v w : Location) → fields w ≡ fields v → IsSettledLocal w → IsSettledLocal v
+local_by_fields v w same h =
+    let path : w.path ≡ v.path = ap (λ l. l.path) same in record {
+      flagged = sym (ap (λ l. l.flag) same) ∙ h.flagged;
+      alone = alone_by_fields v w same h.alone;
+      no_host = sym (ap (λ l. l.host) same) ∙ h.no_host;
+      nonempty = subst (λ p. 0 < length p) path h.nonempty;
+      neither = subst (λ p. IsNeither p) path h.neither;
+      no_scp = subst (λ p. ¬ IsScpShaped p) path h.no_scp;
+    }
+
+-- of the kinds that keep their bytes, the class looks at the fields alone
+settled_by_fields : (protocol : Protocol) (v w : Location) → fields w ≡ fields v → keeps_bytes protocol v.flag ≡ true → IsSettledBy protocol w → IsSettledBy protocol v
+settled_by_fields file v w same keeps (inl h) = inl (local_by_fields v w same h)
+settled_by_fields file v w same keeps (inr h) = absurd (both_ways v.flag (sym (ap (λ l. l.flag) same) ∙ h.unflagged) keeps)
+settled_by_fields ext v w same keeps h = helper_by_fields (codes "ext") v w same h
+settled_by_fields (helper name) v w same keeps h = (helper_by_fields name v w same h.0, h.1)
+settled_by_fields git v w same keeps h = absurd (false≢true keeps)
+settled_by_fields ssh v w same keeps h = absurd (false≢true keeps)
+settled_by_fields http v w same keeps h = absurd (false≢true keeps)
+settled_by_fields https v w same keeps h = absurd (false≢true keeps)
+settled_by_fields (helper_url name) v w same keeps h = absurd (false≢true keeps)
+
+-- a location that keeps its bytes is settled where bytes spell its fields
+pub kept_exact : (v : Location) → KeepsBytes v → (b : List ℕ) (w : Location) → Spells b w → fields w ≡ fields v → IsSettled v
+kept_exact v keeps b w spelled same =
+    let scheme : w.scheme ≡ v.scheme = ap (λ l. l.scheme) same in
+    let also : KeepsBytes w = subst (λ l. keeps_bytes l.scheme l.flag ≡ true) (sym same) keeps in
+    settled_by_fields v.scheme v w same keeps (subst (λ p. IsSettledBy p w) scheme (kept_closed b w spelled also))
+
+-- ---- settled locations come back
+
+-- a location with a value of this kind comes back as the value without a spelling
+kept_back : (v : Location) (protocol : Protocol) (t : List ℕ) → v ≡ kept protocol v.path v.spelling → ((spelling : Option (List ℕ)) → text (kept protocol v.path spelling) ≡ Ok t) → Spells t (path_alone protocol true v.path) → IsSettled (path_alone protocol true v.path) → (back : ComesBack v) × IsSettled back.reread
+kept_back v protocol t value writes spelled settled = (
+  record {
+    written = t;
+    reread = path_alone protocol true v.path;
+    has_text = ap (λ l. text l) value ∙ writes v.spelling;
+    spelled = spelled;
+    same_fields = sym (ap (λ l. fields l) value);
+    same_text = writes None;
+  },
+  settled,
+)
+
+-- the name, `::` and a path spell a remote helper
+helper_spelled : (name path : List ℕ) → is_helper_name name ≡ true → Spells (name ++ colon ∷ (colon ∷ path)) (path_alone (helper_protocol name) true path)
+helper_spelled name path named = Spells.remote_helper record { name = name; address = path; parts = record { named = named; joined = refl }; value = refl }
+
+-- the protocol of a helper that isn't `ext`
+other_helper : (name : List ℕ) → bytes_eq name (codes "ext") ≡ false → helper_protocol name ≡ helper name
+other_helper name other = rw other refl
+
+-- a settled remote helper comes back
+helper_back : (name : List ℕ) (v : Location) → v.scheme ≡ helper name → bytes_eq name (codes "ext") ≡ false → IsSettledHelper name v → (back : ComesBack v) × IsSettled back.reread
+helper_back name v scheme other h =
+    let named : helper_protocol name ≡ helper name = other_helper name other in
+    kept_back v (helper name) (name ++ colon ∷ (colon ∷ v.path)) (kept_value v (helper name) scheme h.flagged h.alone h.no_host) (λ spelling. helper_written name v.path spelling h.named) (subst (λ p. Spells (name ++ colon ∷ (colon ∷ v.path)) (path_alone p true v.path)) named (helper_spelled name v.path h.named)) (subst (λ p. IsSettled (path_alone p true v.path)) named (helper_settled name v.path h.named))
+
+-- so does one of `ext`
+ext_back : (v : Location) → v.scheme ≡ ext → IsSettledHelper (codes "ext") v → (back : ComesBack v) × IsSettled back.reread
+ext_back v scheme h =
+    kept_back v ext (codes "ext::" ++ v.path) (kept_value v ext scheme h.flagged h.alone h.no_host) (λ spelling. refl) (helper_spelled (codes "ext") v.path refl) (helper_settled (codes "ext") v.path refl)
+
+-- and a settled local path
+local_back : (v : Location) → v.scheme ≡ file → IsSettledLocal v → (back : ComesBack v) × IsSettled back.reread
+local_back v scheme h =
+    kept_back v file v.path (kept_value v file scheme h.flagged h.alone h.no_host) (local_written v.path) (Spells.local_path record { nonempty = h.nonempty; neither = h.neither; no_scp = h.no_scp; value = refl }) (local_settled v.path h.nonempty h.neither h.no_scp)
+
+-- by protocol
+back_by : (protocol : Protocol) (v : Location) → v.scheme ≡ protocol → keeps_bytes protocol v.flag ≡ true → IsSettledBy protocol v → (back : ComesBack v) × IsSettled back.reread
+back_by file v scheme keeps (inl h) = local_back v scheme h
+back_by file v scheme keeps (inr h) = absurd (both_ways v.flag h.unflagged keeps)
+back_by ext v scheme keeps h = ext_back v scheme h
+back_by (helper name) v scheme keeps h = helper_back name v scheme h.1 h.0
+back_by git v scheme keeps h = absurd (false≢true keeps)
+back_by ssh v scheme keeps h = absurd (false≢true keeps)
+back_by http v scheme keeps h = absurd (false≢true keeps)
+back_by https v scheme keeps h = absurd (false≢true keeps)
+back_by (helper_url name) v scheme keeps h = absurd (false≢true keeps)
+
+-- a settled location that keeps its bytes comes back as a settled one
+pub kept_settled_again : (v : Location) → KeepsBytes v → IsSettled v → (back : ComesBack v) × IsSettled back.reread
+kept_settled_again v keeps h = back_by v.scheme v refl keeps h

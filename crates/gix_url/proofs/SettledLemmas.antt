@@ -1,0 +1,161 @@
+-- The settled class by its parts: what the small tests tell, joined.
+use Rattle.std.proofs.Common.{⊎_elim, ◌≡◌, ◌↔◌, ℕ, ◌<◌, Bool, true, false, not, ◌||◌, ◌==◌, ◌⊎◌, inl, inr, List, [], ◌∷◌, ◌++◌, length, codes, refl, sym, ap, subst, ◌∙◌, arith, append_assoc, Option, Some, None, IsTrue}
+use Rattle.std.specs.List.{list_any, list_all}
+use Rattle.std.specs.Option.{is_some}
+use Rattle.std.proofs.lemmas.List.{append_cancel_right}
+use Rattle.std.proofs.lemmas.List.Folds.{list_all-append}
+use Rattle.std.proofs.lemmas.Bool.{both_ways, false≢true, true≢false, not-false, and_parts}
+use Rattle.gix_url.specs.Value.{Location}
+use Rattle.gix_url.specs.Bytes.{colon, left_bracket, right_bracket, percent_sign, FreeOf, lowercase}
+use Rattle.gix_url.specs.Escapes.{has_percent}
+use Rattle.gix_url.specs.Addresses.{Literal, IsIpv6Text}
+use Rattle.gix_url.specs.Addresses.Literal.{address, zoned}
+use Rattle.gix_url.specs.Hosts.{is_http_host_byte}
+use Rattle.gix_url.specs.HostPieces.{IsEscapedZone}
+use Rattle.gix_url.specs.Shapes.{LocalShape}
+use Rattle.gix_url.specs.Settled.{IsNormalAddress, IsSettledLocal, IsWebName, IsWebHost}
+use Rattle.gix_url.specs.Settled.IsWebHost.{literal, literal_colon, named, named_colon}
+use Rattle.gix_url.specs.SettledParts.{IsFlaggedPath, IsNormalLiteral, IsBracketedLiteral, IsClosedHost}
+use Rattle.gix_url.proofs.AddressLemmas.{address_free}
+use Rattle.gix_url.proofs.CutLemmas.{cut_unique, different_bytes, heads, not_free, tails, last_unique}
+
+-- ---- tests in a row
+
+-- the second test of two decides, where the first holds
+pub second_decides : {A B R : Type 0} (b : Bool) → A → (IsTrue b ↔ B) → ((A × B) ↔ R) → IsTrue b ↔ R
+second_decides b first second both = (λ yes. both.0 (first, second.0 yes), λ all. second.1 (both.1 all).1)
+
+-- the first test of two decides, where it fails
+pub first_fails : {A B R : Type 0} (b : Bool) → b ≡ false → (IsTrue b ↔ A) → ((A × B) ↔ R) → IsTrue b ↔ R
+first_fails b fails first both = (λ yes. absurd (both_ways b fails yes), λ all. absurd (both_ways b fails (first.1 (both.1 all).0)))
+
+-- the first test of two decides, where it holds and one is enough
+pub first_suffices : {A B R : Type 0} (b : Bool) → b ≡ true → A → ((A ⊎ B) ↔ R) → IsTrue b ↔ R
+first_suffices b holds first either = (λ yes. either.0 (inl first), λ all. holds)
+
+-- the second test of two decides, where the first fails and one is enough
+pub second_needed : {A B R : Type 0} (a b : Bool) → a ≡ false → (IsTrue a ↔ A) → (IsTrue b ↔ B) → ((A ⊎ B) ↔ R) → IsTrue b ↔ R
+second_needed a b fails first second either = (
+  λ yes. either.0 (inr (second.0 yes)),
+  λ all. ⊎_elim (λ x. absurd (both_ways a fails (first.1 x))) (λ y. second.1 y) (either.1 all),
+)
+
+-- `is_none` tells that there is no value
+pub none_tested : {A : Type 0} (o : Option A) (b : Bool) → is_some o ≡ not b → IsTrue b ↔ (o ≡ None)
+none_tested None b e = (λ yes. refl, λ none. not-false b (sym e))
+none_tested (Some x) b e = (λ yes. absurd (true≢false (e ∙ ap not yes)), λ none. cc)
+
+-- ---- local paths
+
+-- a settled local path is a flagged path with the form of a local path
+pub settled_local : (v : Location) → (IsFlaggedPath v × LocalShape v.path) ↔ IsSettledLocal v
+settled_local v = (
+  λ parts. record {
+    flagged = parts.0.flagged;
+    alone = parts.0.alone;
+    no_host = parts.0.no_host;
+    nonempty = parts.1.nonempty;
+    neither = parts.1.neither;
+    no_scp = parts.1.no_scp;
+  },
+  λ s. (
+    record { flagged = s.flagged; alone = s.alone; no_host = s.no_host },
+    record { nonempty = s.nonempty; neither = s.neither; no_scp = s.no_scp },
+  ),
+)
+
+-- ---- literals
+
+-- a literal without `%` is an address
+address_without_zone : (t : List ℕ) → FreeOf percent_sign t → Literal t t → IsNormalAddress t
+address_without_zone t free (address a e) = record { address = a; lower = sym e }
+address_without_zone t free (zoned a z addressed zone joined normal) =
+    absurd (not_free percent_sign a (50 ∷ 53 ∷ z) (subst (λ x. FreeOf percent_sign x) joined free))
+
+-- a text without `%` is a settled literal where it is a settled address
+pub literal_without_zone : (t : List ℕ) → FreeOf percent_sign t → IsNormalAddress t ↔ IsNormalLiteral t
+literal_without_zone t free = (λ n. address n.address (sym n.lower), λ l. address_without_zone t free l)
+
+-- an address and an escaped zone behind it are a literal
+literal_of_parts : (t a e : List ℕ) → t ≡ a ++ percent_sign ∷ e → IsNormalAddress a → IsEscapedZone e → Literal t t
+literal_of_parts t a e joined normal (z, zone, escaped) =
+    let whole : t ≡ a ++ (percent_sign ∷ 50 ∷ 53 ∷ z) = joined ∙ ap (λ x. a ++ percent_sign ∷ x) escaped in
+    zoned a z normal.address zone whole (whole ∙ ap (λ x. x ++ (percent_sign ∷ 50 ∷ 53 ∷ z)) (sym normal.lower))
+
+-- a literal with `%` is an address and an escaped zone behind it
+parts_of_literal : (t a e : List ℕ) → FreeOf percent_sign a → t ≡ a ++ percent_sign ∷ e → Literal t t → IsNormalAddress a × IsEscapedZone e
+parts_of_literal t a e free joined (address whole n) =
+    absurd (not_free percent_sign a e (subst (λ x. FreeOf percent_sign x) joined (address_free percent_sign t refl whole)))
+parts_of_literal t a e free joined (zoned b z addressed zone same normal) =
+    let cuts : (a ≡ b) × (e ≡ 50 ∷ 53 ∷ z) = cut_unique percent_sign a b e (50 ∷ 53 ∷ z) free (address_free percent_sign b refl addressed) (sym joined ∙ same) in
+    let lower : lowercase b ≡ b = append_cancel_right (lowercase b) b (percent_sign ∷ 50 ∷ 53 ∷ z) (sym normal ∙ same) in (
+      record { address = subst IsIpv6Text (sym cuts.0) addressed; lower = ap lowercase cuts.0 ∙ lower ∙ sym cuts.0 },
+      (z, zone, cuts.1),
+    )
+
+-- a text with `%` is a settled literal where an address and a zone stand around its first `%`
+pub literal_with_zone : (t a e : List ℕ) → FreeOf percent_sign a → t ≡ a ++ percent_sign ∷ e → (IsNormalAddress a × IsEscapedZone e) ↔ IsNormalLiteral t
+literal_with_zone t a e free joined =
+    (λ parts. literal_of_parts t a e joined parts.0 parts.1, λ l. parts_of_literal t a e free joined l)
+
+-- brackets are cut off in one way
+inside_brackets : (x y : List ℕ) → left_bracket ∷ (x ++ right_bracket ∷ []) ≡ left_bracket ∷ (y ++ right_bracket ∷ []) → x ≡ y
+inside_brackets x y e = (last_unique x y right_bracket right_bracket (tails e)).0
+
+-- brackets hold a literal that stays as it is where what stands between them is one
+pub literal_in_brackets : (b : Bool) (host inner : List ℕ) → host ≡ left_bracket ∷ (inner ++ right_bracket ∷ []) → (IsTrue b ↔ IsNormalLiteral inner) → IsTrue b ↔ IsBracketedLiteral host
+literal_in_brackets b host inner joined test = (
+  λ yes. (inner, test.0 yes, joined),
+  λ (n, l, e). test.1 (subst IsNormalLiteral (inside_brackets n inner (sym e ∙ joined)) l),
+)
+
+-- ---- hosts of HTTP
+
+-- a text that ends in `]` doesn't end in `:`
+bracket_or_colon : {A : Type 0} (front x : List ℕ) → x ++ right_bracket ∷ [] ≡ front ++ colon ∷ [] → A
+bracket_or_colon front x e = different_bytes right_bracket colon {x = []} {y = []} refl (ap (λ c. c ∷ []) (last_unique x front right_bracket colon e).1)
+
+-- a name of HTTP doesn't end in `:`
+name_or_colon : {A : Type 0} (host front : List ℕ) → IsWebName host → host ≡ front ++ colon ∷ [] → A
+name_or_colon host front name e =
+    let all = sym (list_all-append is_http_host_byte front (colon ∷ [])) ∙ ap (list_all is_http_host_byte) (sym e) ∙ name.bytes in
+    absurd (false≢true (and_parts _ _ all).1)
+
+-- the colon behind brackets stands behind what they are part of
+colon_behind : (n : List ℕ) → left_bracket ∷ (n ++ right_bracket ∷ (colon ∷ [])) ≡ (left_bracket ∷ (n ++ right_bracket ∷ [])) ++ colon ∷ []
+colon_behind n = sym (append_assoc (left_bracket ∷ n) (right_bracket ∷ []) (colon ∷ []))
+
+-- a closed host and a colon are a settled host where there is no port
+colon_host_from : (port : Option ℕ) (host front : List ℕ) → host ≡ front ++ colon ∷ [] → port ≡ None → IsClosedHost front → IsWebHost port host
+colon_host_from port host front joined none (inl (n, l, e)) =
+    literal_colon n l none (joined ∙ ap (λ x. x ++ colon ∷ []) e ∙ sym (colon_behind n))
+colon_host_from port host front joined none (inr (name, plain)) = named_colon front name plain none joined
+
+-- and such a host has no port, and is closed before its colon
+colon_host_to : (port : Option ℕ) (host front : List ℕ) → host ≡ front ++ colon ∷ [] → IsWebHost port host → (port ≡ None) × IsClosedHost front
+colon_host_to port host front joined (literal n l e) = bracket_or_colon front (left_bracket ∷ n) (sym e ∙ joined)
+colon_host_to port host front joined (literal_colon n l none e) =
+    (none, inl (n, l, sym (last_unique (left_bracket ∷ (n ++ right_bracket ∷ [])) front colon colon (sym (colon_behind n) ∙ sym e ∙ joined)).0))
+colon_host_to port host front joined (named name) = name_or_colon host front name joined
+colon_host_to port host front joined (named_colon n name plain none e) =
+    let same : n ≡ front = (last_unique n front colon colon (sym e ∙ joined)).0 in
+    (none, inr (subst IsWebName same name, subst (λ x. has_percent x ≡ false) same plain))
+
+-- a host with a colon behind it is settled where there is no port, and it is closed before the colon
+pub web_host_colon : (port : Option ℕ) (host front : List ℕ) → host ≡ front ++ colon ∷ [] → ((port ≡ None) × IsClosedHost front) ↔ IsWebHost port host
+web_host_colon port host front joined =
+    (λ parts. colon_host_from port host front joined parts.0 parts.1, λ settled. colon_host_to port host front joined settled)
+
+-- a host with no colon behind it is settled where it is a literal in brackets or a name
+bare_host_from : (port : Option ℕ) (host : List ℕ) → IsBracketedLiteral host ⊎ IsWebName host → IsWebHost port host
+bare_host_from port host (inl (n, l, e)) = literal n l e
+bare_host_from port host (inr name) = named name
+
+bare_host_to : (port : Option ℕ) (host : List ℕ) → ((front : List ℕ) → ¬ (host ≡ front ++ colon ∷ [])) → IsWebHost port host → IsBracketedLiteral host ⊎ IsWebName host
+bare_host_to port host ends (literal n l e) = inl (n, l, e)
+bare_host_to port host ends (literal_colon n l none e) = absurd (ends (left_bracket ∷ (n ++ right_bracket ∷ [])) (e ∙ colon_behind n))
+bare_host_to port host ends (named name) = inr name
+bare_host_to port host ends (named_colon n name plain none e) = absurd (ends n e)
+
+pub web_host_bare : (port : Option ℕ) (host : List ℕ) → ((front : List ℕ) → ¬ (host ≡ front ++ colon ∷ [])) → (IsBracketedLiteral host ⊎ IsWebName host) ↔ IsWebHost port host
+web_host_bare port host ends = (λ either. bare_host_from port host either, λ settled. bare_host_to port host ends settled)

@@ -1,0 +1,441 @@
+-- The forms of a text: where its pieces are cut, that they are cut in one way, and that one form excludes the others.
+use Rattle.std.proofs.Common.{◌≡◌, ℕ, ◌+◌, ◌<◌, ◌≤◌, Bool, true, false, ◌⊎◌, inl, inr, List, [], ◌∷◌, ◌++◌, length, take, drop, refl, sym, ap, subst, ◌∙◌, arith, append_assoc, length-append, ◌==◌, eq-eqb, IsUtf8, All, codes, bytes_eq}
+use Rattle.std.proofs.lemmas.Bool.{eqb-true, both_ways, false≢true, and_parts, and_from, or_left}
+use Rattle.std.proofs.lemmas.Bool.Decides.{nat_tests}
+use Rattle.std.proofs.lemmas.List.{take_at, drop_at, append_cancel_left}
+use Rattle.std.proofs.lemmas.List.Elements.{All-cons, All-nil}
+use Rattle.std.proofs.lemmas.Str.{IsUtf8-from_ascii}
+use Rattle.std.proofs.lemmas.Str.Ascii.{IsAscii-from_all}
+use Rattle.std.specs.List.{list_all}
+use lib.Utf8.{encode}
+use Rattle.std.specs.Char.{is_ascii_alphanumeric}
+use Rattle.gix_url.specs.declared.error.UrlKind.TheVariants as kind
+use Rattle.gix_url.specs.declared.error.Error.{Error}
+use Rattle.gix_url.specs.declared.error.Error.TheVariants as error
+use Rattle.gix_url.specs.Value.{Location, path_alone}
+use Rattle.gix_url.specs.Value.Protocol.{file}
+use Rattle.gix_url.specs.Bytes.{slash, colon, at_sign, left_bracket, right_bracket, FreeOf, begins_with, is_helper_name, is_name_byte}
+use Rattle.gix_url.specs.Addresses.{IsIpv6Text}
+use Rattle.gix_url.specs.Grammar.{HelperParts, HasHelperForm, IsNeither, ScpFront, ScpShape, AddressedShape, IsScpShaped, SpellsUrl, SpellsFile, SpellsScpBefore, SpellsScp, Spells}
+use Rattle.gix_url.specs.Grammar.Spells.{url, file_url, remote_helper, scp_form, local_path}
+use Rattle.gix_url.specs.Grammar.ScpFront.{plain, bracketed}
+use Rattle.gix_url.specs.Authority.{unless_empty, Fits}
+use Rattle.gix_url.specs.Flaws.{UrlShape, OtherShape, MissesPath}
+use Rattle.gix_url.specs.Flaws.MissesPath.{in_file}
+use Rattle.gix_url.specs.Readings.{NoneBut}
+use Rattle.gix_url.specs.Shapes.{FrontCut, HasFrontCut, LacksBrackets, ScpCut, HasScpCut, AddressedCut, AddressedFront, HasAddressedCut, PlainScp, LocalShape}
+use Rattle.gix_url.proofs.CutLemmas.{heads, tails, different_bytes, begins_cut, not_free, free-append, free-cons, free_parts, free_head_tail, free_or_cut, cut_unique, last_cut_unique, mark_cut_unique, held_free, helper_name_free, scheme_text_free}
+use Rattle.gix_url.proofs.AddressLemmas.{address_two_colons, address_free}
+use Rattle.gix_url.proofs.EscapeLemmas.{utf8_behind, utf8_parts}
+
+-- ---- remote helpers
+
+-- the name of a helper ends at the first `:`
+pub helper_front : (b name rest n a : List ℕ) → HelperParts b n a → FreeOf colon name → b ≡ name ++ colon ∷ rest → (n ≡ name) × (colon ∷ a ≡ rest)
+helper_front b name rest n a h free e = cut_unique colon n name (colon ∷ a) rest (helper_name_free n colon h.named refl) free (sym h.joined ∙ e)
+
+-- no helper without a second `:` behind the first
+pub no_helper_alone : (b name rest : List ℕ) → FreeOf colon name → b ≡ name ++ colon ∷ rest → begins_with colon rest ≡ false → ¬ HasHelperForm b
+no_helper_alone b name rest free e other (n, a, h) =
+    false≢true (sym other ∙ ap (begins_with colon) (sym (helper_front b name rest n a h free e).1))
+
+-- no helper without a name before the first `:`
+pub no_helper_unnamed : (b name rest : List ℕ) → FreeOf colon name → b ≡ name ++ colon ∷ rest → is_helper_name name ≡ false → ¬ HasHelperForm b
+no_helper_unnamed b name rest free e other (n, a, h) =
+    false≢true (sym other ∙ ap is_helper_name (sym (helper_front b name rest n a h free e).0) ∙ h.named)
+
+-- ---- the colon of the scp form
+
+-- brackets around a part of the front stand around that part of the whole
+bracketed_joined : (b front path inside after : List ℕ) → b ≡ front ++ colon ∷ path → front ≡ left_bracket ∷ (inside ++ right_bracket ∷ after) → b ≡ left_bracket ∷ (inside ++ right_bracket ∷ (after ++ colon ∷ path))
+bracketed_joined b front path inside after e f =
+    e ∙ ap (λ x. x ++ colon ∷ path) f ∙ ap (λ x. left_bracket ∷ x) (append_assoc inside (right_bracket ∷ after) (colon ∷ path))
+
+-- a front without brackets and a whole with brackets are of two texts
+plain_apart : {A : Type 0} (b front path inside rest : List ℕ) → b ≡ front ++ colon ∷ path → (begins_with left_bracket front ≡ false) ⊎ FreeOf right_bracket b → b ≡ left_bracket ∷ (inside ++ right_bracket ∷ rest) → A
+plain_apart b front path inside rest e (inr free) k =
+    absurd (not_free right_bracket (left_bracket ∷ inside) rest (subst (λ x. FreeOf right_bracket x) k free))
+plain_apart b [] path inside rest e (inl other) k = different_bytes colon left_bracket refl (sym e ∙ k)
+plain_apart b (c ∷ front) path inside rest e (inl other) k =
+    absurd (both_ways (c == left_bracket) other (eq-eqb c left_bracket (heads (sym e ∙ k))))
+
+-- two fronts with the colon of the scp form behind them are one
+same_front : (b f p g q : List ℕ) → b ≡ f ++ colon ∷ p → b ≡ g ++ colon ∷ q → ScpFront b f → ScpFront b g → (f ≡ g) × (p ≡ q)
+same_front b f p g q e k (plain h _) (plain m _) = cut_unique colon f g p q h m (sym e ∙ k)
+same_front b f p g q e k (plain _ h) (bracketed inside after _ _ m) = plain_apart b f p inside (after ++ colon ∷ q) e h (bracketed_joined b g q inside after k m)
+same_front b f p g q e k (bracketed inside after _ _ m) (plain _ h) = plain_apart b g q inside (after ++ colon ∷ p) k h (bracketed_joined b f p inside after e m)
+same_front b f p g q e k (bracketed i a free none m) (bracketed j c free' none' n) =
+    let whole = sym (bracketed_joined b f p i a e m) ∙ bracketed_joined b g q j c k n in
+    let parts = cut_unique right_bracket i j (a ++ colon ∷ p) (c ++ colon ∷ q) free free' (tails whole) in
+    let rest = cut_unique colon a c p q none none' parts.1 in
+    (m ∙ ap (λ x. left_bracket ∷ (x ++ right_bracket ∷ a)) parts.0 ∙ ap (λ x. left_bracket ∷ (j ++ right_bracket ∷ x)) rest.0 ∙ sym n, rest.1)
+
+-- the colon of the scp form is one place of the text
+pub front_cut_unique : (b f p g q : List ℕ) → FrontCut b f p → FrontCut b g q → (f ≡ g) × (p ≡ q)
+front_cut_unique b f p g q h k = same_front b f p g q h.joined k.joined h.shape k.shape
+
+-- the front of a text begins with the text's first byte, if with any
+begins_front : (b front path : List ℕ) → b ≡ front ++ colon ∷ path → begins_with left_bracket b ≡ false → begins_with left_bracket front ≡ false
+begins_front b [] path e h = refl
+begins_front b (c ∷ front) path e h = ap (begins_with left_bracket) (sym e) ∙ h
+
+-- the first colon, where no brackets stand at the front
+pub front_plain : (b front path : List ℕ) → LacksBrackets b → FreeOf colon front → b ≡ front ++ colon ∷ path → FrontCut b front path
+front_plain b front path (inl h) free e = record { joined = e; shape = plain free (inl (begins_front b front path e h)) }
+front_plain b front path (inr h) free e = record { joined = e; shape = plain free (inr h) }
+
+-- no colon at all
+pub front_none : (b : List ℕ) → FreeOf colon b → ¬ HasFrontCut b
+front_none b free (front, path, h) = not_free colon front path (subst (λ x. FreeOf colon x) h.joined free)
+
+-- the first colon behind brackets at the front
+pub front_bracketed : (b inside rest path : List ℕ) → FreeOf right_bracket inside → FreeOf colon rest → b ≡ left_bracket ∷ (inside ++ right_bracket ∷ (rest ++ colon ∷ path)) → FrontCut b (left_bracket ∷ (inside ++ right_bracket ∷ rest)) path
+front_bracketed b inside rest path free none e = record {
+  joined = e ∙ ap (λ x. left_bracket ∷ x) (sym (append_assoc inside (right_bracket ∷ rest) (colon ∷ path)));
+  shape = bracketed inside rest free none refl;
+}
+
+-- that front is a part of the text's beginning
+pub front_length : (b inside behind rest path : List ℕ) → b ≡ left_bracket ∷ (inside ++ right_bracket ∷ behind) → behind ≡ rest ++ colon ∷ path → length inside + length rest + 2 ≤ length b
+front_length b inside behind rest path e f =
+    omega (arith, ap length e, ap length f, length-append inside (right_bracket ∷ behind), length-append rest (colon ∷ path))
+
+-- the same, cut by its length
+pub front_taken : (b inside behind rest path : List ℕ) → FreeOf right_bracket inside → FreeOf colon rest → b ≡ left_bracket ∷ (inside ++ right_bracket ∷ behind) → behind ≡ rest ++ colon ∷ path → FrontCut b (take (length inside + length rest + 2) b) path
+front_taken b inside behind rest path free none e f =
+    let whole : b ≡ left_bracket ∷ (inside ++ right_bracket ∷ (rest ++ colon ∷ path)) = e ∙ ap (λ x. left_bracket ∷ (inside ++ right_bracket ∷ x)) f in
+    let found = front_bracketed b inside rest path free none whole in
+    let front = left_bracket ∷ (inside ++ right_bracket ∷ rest) in
+    let size : length inside + length rest + 2 ≡ length front = omega (arith, length-append inside (right_bracket ∷ rest)) in
+    let same : take (length inside + length rest + 2) b ≡ front = ap (take (length inside + length rest + 2)) found.joined ∙ take_at front (colon ∷ path) (length inside + length rest + 2) (sym size) in
+    subst (λ x. FrontCut b x path) (sym same) found
+
+-- no front where no colon stands behind the brackets
+no_front : (b inside behind front path : List ℕ) → FreeOf right_bracket inside → b ≡ left_bracket ∷ (inside ++ right_bracket ∷ behind) → FreeOf colon behind → b ≡ front ++ colon ∷ path → ScpFront b front → ⊥
+no_front b inside behind front path free e none k (plain _ h) = plain_apart b front path inside behind k h e
+no_front b inside behind front path free e none k (bracketed i a free' _ m) =
+    let whole = sym e ∙ bracketed_joined b front path i a k m in
+    let parts = cut_unique right_bracket inside i behind (a ++ colon ∷ path) free free' (tails whole) in
+    not_free colon a path (subst (λ x. FreeOf colon x) parts.1 none)
+
+-- no colon behind brackets at the front
+pub front_unbracketed : (b inside behind : List ℕ) → FreeOf right_bracket inside → b ≡ left_bracket ∷ (inside ++ right_bracket ∷ behind) → FreeOf colon behind → ¬ HasFrontCut b
+front_unbracketed b inside behind free e none (front, path, h) = no_front b inside behind front path free e none h.joined h.shape
+
+-- a `/` before that colon
+pub no_scp_cut : (b front path : List ℕ) → FrontCut b front path → ¬ FreeOf slash front → ¬ HasScpCut b
+no_scp_cut b front path h held (f, p, k) =
+    held (subst (λ x. FreeOf slash x) (front_cut_unique b f p front path k.around h).0 k.no_slash)
+
+-- no such colon
+pub no_scp_uncut : (b : List ℕ) → ¬ HasFrontCut b → ¬ HasScpCut b
+no_scp_uncut b none (f, p, k) = none (f, p, k.around)
+
+-- ---- `user@[address]:path`
+
+-- the first colon of such a text stands in the address
+pub addressed_front : (b front rest u a p : List ℕ) → AddressedCut b u a p → FreeOf colon front → b ≡ front ++ colon ∷ rest → (x : List ℕ) × FreeOf at_sign x × (front ≡ u ++ at_sign ∷ (left_bracket ∷ x))
+addressed_front b front rest u a p h free e =
+    elim (free_or_cut colon a) [
+      | inl none ↦
+        let (x, y, z, two) = address_two_colons a h.addressed in
+        absurd (not_free colon x (y ++ colon ∷ z) (subst (λ t. FreeOf colon t) two none))
+      | inr (x, y, none, two) ↦
+        let before = free-append colon u (at_sign ∷ (left_bracket ∷ x)) h.no_colon (free-cons colon at_sign (left_bracket ∷ x) refl (free-cons colon left_bracket x refl none)) in
+        let inner : a ++ right_bracket ∷ (colon ∷ p) ≡ x ++ colon ∷ (y ++ right_bracket ∷ (colon ∷ p)) = ap (λ t. t ++ right_bracket ∷ (colon ∷ p)) two ∙ append_assoc x (colon ∷ y) (right_bracket ∷ (colon ∷ p)) in
+        let whole : b ≡ (u ++ at_sign ∷ (left_bracket ∷ x)) ++ colon ∷ (y ++ right_bracket ∷ (colon ∷ p)) = h.joined ∙ ap (λ t. u ++ at_sign ∷ (left_bracket ∷ t)) inner ∙ sym (append_assoc u (at_sign ∷ (left_bracket ∷ x)) (colon ∷ (y ++ right_bracket ∷ (colon ∷ p)))) in
+        let no_at = (free_parts at_sign x (colon ∷ y) (subst (λ t. FreeOf at_sign t) two (address_free at_sign a refl h.addressed))).0 in
+        (x, no_at, (cut_unique colon front (u ++ at_sign ∷ (left_bracket ∷ x)) rest (y ++ right_bracket ∷ (colon ∷ p)) free before (sym e ∙ whole)).0)
+    ]
+
+-- an `@` stands before it
+pub addressed_at : (b front rest : List ℕ) → FreeOf colon front → b ≡ front ++ colon ∷ rest → FreeOf at_sign front → ¬ HasAddressedCut b
+addressed_at b front rest free e none (u, a, p, h) =
+    let (x, no_at, is) = addressed_front b front rest u a p h free e in
+    not_free at_sign u (left_bracket ∷ x) (subst (λ t. FreeOf at_sign t) is none)
+
+-- a colon stands in it
+pub addressed_colon : (b : List ℕ) → FreeOf colon b → ¬ HasAddressedCut b
+addressed_colon b none (u, a, p, h) =
+    let whole = subst (λ t. FreeOf colon t) h.joined none in
+    let behind = (free_parts colon u (at_sign ∷ (left_bracket ∷ (a ++ right_bracket ∷ (colon ∷ p)))) whole).1 in
+    not_free colon (at_sign ∷ (left_bracket ∷ (a ++ right_bracket ∷ []))) p (subst (λ t. FreeOf colon t) (ap (λ t. at_sign ∷ (left_bracket ∷ t)) (sym (append_assoc a (right_bracket ∷ []) (colon ∷ p)))) behind)
+
+-- the user ends at the last `@` before it
+pub addressed_user : (b front rest user last u a p : List ℕ) → AddressedCut b u a p → FreeOf colon front → b ≡ front ++ colon ∷ rest → FreeOf at_sign last → front ≡ user ++ at_sign ∷ last → u ≡ user
+addressed_user b front rest user last u a p h free e none f =
+    let (x, no_at, is) = addressed_front b front rest u a p h free e in
+    (last_cut_unique at_sign u user (left_bracket ∷ x) last (free-cons at_sign left_bracket x refl no_at) none (sym is ∙ f)).0
+
+-- and this follows it
+pub addressed_tail : (b user u a p : List ℕ) → AddressedCut b u a p → u ≡ user → drop (length user) b ≡ at_sign ∷ (left_bracket ∷ (a ++ right_bracket ∷ (colon ∷ p)))
+addressed_tail b user u a p h e =
+    ap (drop (length user)) h.joined ∙ drop_at u (at_sign ∷ (left_bracket ∷ (a ++ right_bracket ∷ (colon ∷ p)))) (length user) (ap length e)
+
+-- what stands behind the bracket
+pub addressed_only : (b front rest user last behind : List ℕ) → FreeOf colon front → b ≡ front ++ colon ∷ rest → FreeOf at_sign last → front ≡ user ++ at_sign ∷ last
+    → drop (length user) b ≡ at_sign ∷ (left_bracket ∷ behind) → (u a p : List ℕ) → AddressedCut b u a p → (u ≡ user) × (behind ≡ a ++ right_bracket ∷ (colon ∷ p))
+addressed_only b front rest user last behind free e none f tail u a p h =
+    let same = addressed_user b front rest user last u a p h free e none f in
+    (same, tails (tails (sym tail ∙ addressed_tail b user u a p h same)))
+
+-- no `@` or no bracket where the user ends
+pub addressed_no_bracket : (b front rest user last behind : List ℕ) → FreeOf colon front → b ≡ front ++ colon ∷ rest → FreeOf at_sign last → front ≡ user ++ at_sign ∷ last
+    → drop (length user) b ≡ at_sign ∷ behind → begins_with left_bracket behind ≡ false → ¬ HasAddressedCut b
+addressed_no_bracket b front rest user last behind free e none f tail other (u, a, p, h) =
+    let same = addressed_user b front rest user last u a p h free e none f in
+    let is : behind ≡ left_bracket ∷ (a ++ right_bracket ∷ (colon ∷ p)) = tails (sym tail ∙ addressed_tail b user u a p h same) in
+    false≢true (sym other ∙ ap (begins_with left_bracket) is)
+
+-- the user and the bracket, as they were cut one behind the other
+pub addressed_cut_front : (b front rest user last behind : List ℕ) → FreeOf colon front → b ≡ front ++ colon ∷ rest → FreeOf at_sign last → front ≡ user ++ at_sign ∷ last
+    → drop (length user) b ≡ at_sign ∷ (left_bracket ∷ behind) → AddressedFront b user behind
+addressed_cut_front b front rest user last behind free e none f tail =
+    let whole : b ≡ user ++ (at_sign ∷ last ++ colon ∷ rest) = e ∙ ap (λ t. t ++ colon ∷ rest) f ∙ append_assoc user (at_sign ∷ last) (colon ∷ rest) in
+    let same : at_sign ∷ last ++ colon ∷ rest ≡ drop (length user) b = sym (ap (drop (length user)) whole ∙ drop_at user (at_sign ∷ last ++ colon ∷ rest) (length user) refl) in
+    record {
+      joined = whole ∙ ap (λ t. user ++ t) (same ∙ tail);
+      no_colon = (free_parts colon user (at_sign ∷ last) (subst (λ t. FreeOf colon t) f free)).0;
+      only = addressed_only b front rest user last behind free e none f tail;
+    }
+
+-- no bracket that closes it
+pub addressed_no_end : (b user behind : List ℕ) → AddressedFront b user behind → FreeOf right_bracket behind → ¬ HasAddressedCut b
+addressed_no_end b user behind s none (u, a, p, h) =
+    not_free right_bracket a (colon ∷ p) (subst (λ t. FreeOf right_bracket t) (s.only u a p h).1 none)
+
+-- the address and what follows it
+addressed_pieces : (b user behind address path u a p : List ℕ) → AddressedFront b user behind → FreeOf right_bracket address → behind ≡ address ++ right_bracket ∷ path → AddressedCut b u a p → (a ≡ address) × (colon ∷ p ≡ path)
+addressed_pieces b user behind address path u a p s free e h =
+    cut_unique right_bracket a address (colon ∷ p) path (address_free right_bracket a refl h.addressed) free (sym (s.only u a p h).1 ∙ e)
+
+-- no colon behind the bracket
+pub addressed_no_path : (b user behind address path : List ℕ) → AddressedFront b user behind → FreeOf right_bracket address → behind ≡ address ++ right_bracket ∷ path → begins_with colon path ≡ false → ¬ HasAddressedCut b
+addressed_no_path b user behind address path s free e other (u, a, p, h) =
+    false≢true (sym other ∙ ap (begins_with colon) (sym (addressed_pieces b user behind address path u a p s free e h).1))
+
+-- a `/` in the user, or no address
+pub addressed_other : (b user behind address path : List ℕ) → AddressedFront b user behind → FreeOf right_bracket address → behind ≡ address ++ right_bracket ∷ path → (FreeOf slash user → ¬ IsIpv6Text address) → ¬ HasAddressedCut b
+addressed_other b user behind address path s free e other (u, a, p, h) =
+    let same = addressed_pieces b user behind address path u a p s free e h in
+    other (subst (λ t. FreeOf slash t) (s.only u a p h).0 h.no_slash) (subst IsIpv6Text same.0 h.addressed)
+
+-- all pieces
+pub addressed_found : (b user behind address rest path : List ℕ) → AddressedFront b user behind → behind ≡ address ++ right_bracket ∷ rest → rest ≡ colon ∷ path → FreeOf slash user → IsIpv6Text address → AddressedCut b user address path
+addressed_found b user behind address rest path s e f free is = record {
+  joined = s.joined ∙ ap (λ t. user ++ at_sign ∷ (left_bracket ∷ t)) (e ∙ ap (λ t. address ++ right_bracket ∷ t) f);
+  no_slash = free;
+  no_colon = s.no_colon;
+  addressed = is;
+}
+
+-- ---- the answers
+
+-- the pieces of `user@[address]:path`, without what else the text must be
+pub addressed_cut : (b u a p : List ℕ) → AddressedShape b u a p → AddressedCut b u a p
+addressed_cut b u a p s = record { joined = s.joined; no_slash = s.no_slash; no_colon = s.no_colon; addressed = s.addressed }
+
+-- the scp form, from its pieces
+pub plain_scp : (b front path : List ℕ) → IsNeither b → ¬ HasAddressedCut b → ScpCut b front path → PlainScp b front path
+plain_scp b front path neither none h = record {
+  shape = record { joined = h.around.joined; neither = neither; no_slash = h.no_slash; shape = h.around.shape };
+  not_addressed = λ (u, a, p, s). none (u, a, p, addressed_cut b u a p s);
+}
+
+-- a local path, from the pieces that aren't there
+pub local_shape : (b : List ℕ) → 0 < length b → IsNeither b → ¬ HasAddressedCut b → ¬ HasScpCut b → LocalShape b
+local_shape b some neither none uncut = record {
+  nonempty = some;
+  neither = neither;
+  no_scp = λ h. elim h [
+    | inl (f, p, s) ↦ uncut (f, p, record { around = record { joined = s.joined; shape = s.shape }; no_slash = s.no_slash })
+    | inr (u, a, p, s) ↦ none (u, a, p, addressed_cut b u a p s)
+  ];
+}
+
+-- ---- what is refused
+
+-- where nothing fits, nothing fits unless memory ran out
+pub none_but : (fits : Location → Type 0) → ((v : Location) → ¬ fits v) → (e : Error) → NoneBut fits e
+none_but fits none error.Memory = tt
+none_but fits none error.EmptyLocal = none
+none_but fits none (error.MissingPath kind input) = none
+none_but fits none (error.NotUtf8 kind input) = none
+none_but fits none (error.TooLong shown total) = none
+none_but fits none (error.BadUrl kind fault input) = none
+none_but fits none (error.Unwritable fault) = none
+
+-- ---- remote helpers as text
+
+-- a byte of a name is ASCII
+name_byte_ascii : (b : ℕ) → is_name_byte b ≡ true → b < 128
+name_byte_ascii b h = grind (arith, nat_tests)
+
+-- bytes of a name are ASCII
+name_bytes_ascii : (bs : List ℕ) → list_all is_name_byte bs ≡ true → All (λ b. b < 128) bs
+name_bytes_ascii [] h = All-nil (λ b. b < 128)
+name_bytes_ascii (b ∷ bs) h =
+    let parts = and_parts (is_name_byte b) (list_all is_name_byte bs) h in
+    All-cons (λ b. b < 128) b bs (name_byte_ascii b parts.0) (name_bytes_ascii bs parts.1)
+
+-- the name of a helper is UTF-8
+pub helper_name_utf8 : (name : List ℕ) → is_helper_name name ≡ true → IsUtf8 name
+helper_name_utf8 [] h = absurd (false≢true h)
+helper_name_utf8 (b ∷ bs) h =
+    let parts = and_parts (is_ascii_alphanumeric b) (list_all is_name_byte bs) h in
+    IsUtf8-from_ascii (b ∷ bs) (IsAscii-from_all (b ∷ bs) (name_bytes_ascii (b ∷ bs) (and_from _ _ (or_left _ _ parts.0) parts.1)))
+
+-- ---- file URLs
+
+-- what stands behind `file://` is a host and a path
+file_rest : (b rest : List ℕ) (v : Location) → UrlShape b (codes "file") rest → (h : SpellsFile b v) → rest ≡ h.host ++ h.path
+file_rest b rest v s h = append_cancel_left (codes "file://") rest (h.host ++ h.path) (sym s.joined ∙ h.joined)
+
+-- no path without a `/`
+pub no_file_path : (b rest : List ℕ) → UrlShape b (codes "file") rest → FreeOf slash rest → (v : Location) → ¬ SpellsFile b v
+no_file_path b rest s free v h =
+    let (tail, is) = begins_cut slash h.path h.rooted in
+    not_free slash h.host tail (subst (λ t. FreeOf slash t) (file_rest b rest v s h ∙ ap (λ t. h.host ++ t) is) free)
+
+-- such a text misses its path
+pub file_misses_path : (b rest : List ℕ) → UrlShape b (codes "file") rest → FreeOf slash rest → MissesPath b kind.Url
+file_misses_path b rest s free = in_file rest free s.joined
+
+-- the mark of a file URL is UTF-8
+file_mark_utf8 : IsUtf8 (codes "file://")
+unfolding encode
+file_mark_utf8 = (codes "file://", (refl, refl))
+
+-- the host is UTF-8
+pub file_host_utf8 : (b rest host behind : List ℕ) → UrlShape b (codes "file") rest → IsUtf8 b → rest ≡ host ++ slash ∷ behind → IsUtf8 host
+file_host_utf8 b rest host behind s text e =
+    let tail = utf8_behind (codes "file://") rest (subst IsUtf8 s.joined text) file_mark_utf8 in
+    (utf8_parts host behind slash (subst IsUtf8 e tail) (omega arith)).0
+
+-- not UTF-8
+pub no_file_text : (b : List ℕ) → ¬ IsUtf8 b → (v : Location) → ¬ SpellsFile b v
+no_file_text b other v h = other h.text
+
+-- the host and the path of a file URL
+pub file_found : (b rest host behind path : List ℕ) (v : Location) → UrlShape b (codes "file") rest → IsUtf8 b → FreeOf slash host → rest ≡ host ++ slash ∷ behind → path ≡ drop (length host) rest → v ≡ record (path_alone file false path) { host = unless_empty host } → SpellsFile b v
+file_found b rest host behind path v s text free e is value =
+    let tail : path ≡ slash ∷ behind = is ∙ ap (drop (length host)) e ∙ drop_at host (slash ∷ behind) (length host) refl in
+    record {
+      host = host;
+      path = path;
+      joined = s.joined ∙ ap (λ t. codes "file://" ++ t) (e ∙ ap (λ t. host ++ t) (sym tail));
+      text = text;
+      no_slash = free;
+      rooted = ap (begins_with slash) tail;
+      value = value;
+    }
+
+-- ---- one form alone
+
+-- joined texts aren't empty where one isn't
+joined_nonempty : (x y : List ℕ) → 0 < length y → ¬ ([] ≡ x ++ y)
+joined_nonempty x y h e = absurd (omega (arith, ap length e, length-append x y))
+
+-- nothing spells nothing
+pub empty_unspelled : (v : Location) → ¬ Spells [] v
+empty_unspelled v (url h) = joined_nonempty h.parts.scheme (codes "://" ++ (h.spelled.authority ++ h.parts.path)) (omega arith) h.spelled.joined
+empty_unspelled v (file_url h) = joined_nonempty [] (codes "file://" ++ (h.host ++ h.path)) (omega arith) h.joined
+empty_unspelled v (remote_helper h) = joined_nonempty h.name (colon ∷ (colon ∷ h.address)) (omega arith) h.parts.joined
+empty_unspelled v (scp_form (inl h)) = joined_nonempty h.front (colon ∷ h.path) (omega arith) h.shape.joined
+empty_unspelled v (scp_form (inr h)) = joined_nonempty h.user (at_sign ∷ (left_bracket ∷ (h.address ++ right_bracket ∷ (colon ∷ h.path)))) (omega arith) h.shape.joined
+empty_unspelled v (local_path h) = absurd (omega (arith, h.nonempty))
+
+-- what has a mark isn't neither
+url_not_shaped : (b front rest : List ℕ) → UrlShape b front rest → ¬ IsNeither b
+url_not_shaped b front rest s n = n.no_mark (front, rest, s.joined)
+
+-- the scheme of a URL stands before the first `://`
+pub url_pieces : (b front rest : List ℕ) (v : Location) → UrlShape b front rest → (h : SpellsUrl b v) → (h.parts.scheme ≡ front) × (h.spelled.authority ++ h.parts.path ≡ rest)
+url_pieces b front rest v s h =
+    mark_cut_unique h.parts.scheme front (h.spelled.authority ++ h.parts.path) rest (held_free h.parts.scheme (scheme_text_free h.parts.scheme colon h.spelled.scheme_text refl)) s.first (sym h.spelled.joined ∙ s.joined)
+
+-- so does that of a file URL
+pub file_pieces : (b front rest : List ℕ) (v : Location) → UrlShape b front rest → SpellsFile b v → codes "file" ≡ front
+file_pieces b front rest v s h = (mark_cut_unique (codes "file") front (h.host ++ h.path) rest (held_free (codes "file") refl) s.first (sym h.joined ∙ s.joined)).0
+
+-- texts of equal bytes are one
+pointwise_same : (xs ys : List ℕ) → bytes_eq xs ys ≡ true → xs ≡ ys
+pointwise_same [] [] h = refl
+pointwise_same [] (y ∷ ys) h = absurd (false≢true h)
+pointwise_same (x ∷ xs) [] h = absurd (false≢true h)
+pointwise_same (x ∷ xs) (y ∷ ys) h =
+    let parts = and_parts (x == y) (bytes_eq xs ys) h in
+    let rest = pointwise_same xs ys parts.1 in
+    let first = eqb-true x y parts.0 in
+    cc
+
+-- a file URL is spelled as one alone
+pub spelled_as_file : (b rest : List ℕ) → UrlShape b (codes "file") rest → (v : Location) → Spells b v → SpellsFile b v
+spelled_as_file b rest s v (url h) =
+    absurd (both_ways (bytes_eq h.parts.scheme (codes "file")) h.spelled.not_file (ap (λ t. bytes_eq t (codes "file")) (url_pieces b (codes "file") rest v s h).0))
+spelled_as_file b rest s v (file_url h) = h
+spelled_as_file b rest s v (remote_helper h) = absurd (s.no_helper (h.name, h.address, h.parts))
+spelled_as_file b rest s v (scp_form (inl h)) = absurd (url_not_shaped b (codes "file") rest s h.shape.neither)
+spelled_as_file b rest s v (scp_form (inr h)) = absurd (url_not_shaped b (codes "file") rest s h.shape.neither)
+spelled_as_file b rest s v (local_path h) = absurd (url_not_shaped b (codes "file") rest s h.neither)
+
+-- a scheme that passed the test
+pub file_shape : (b scheme rest : List ℕ) → UrlShape b scheme rest → true ≡ bytes_eq scheme (codes "file") → UrlShape b (codes "file") rest
+file_shape b scheme rest s h = subst (λ t. UrlShape b t rest) (pointwise_same scheme (codes "file") (sym h)) s
+
+-- and one that failed it
+pub other_shape : (b scheme rest : List ℕ) → UrlShape b scheme rest → false ≡ bytes_eq scheme (codes "file") → OtherShape b scheme rest
+other_shape b scheme rest s h = record { shape = s; not_file = sym h }
+
+-- so is any other URL
+pub spelled_as_url : (b front rest : List ℕ) → OtherShape b front rest → (v : Location) → Spells b v → SpellsUrl b v
+spelled_as_url b front rest s v (url h) = h
+spelled_as_url b front rest s v (file_url h) =
+    absurd (both_ways (bytes_eq front (codes "file")) s.not_file (ap (λ t. bytes_eq t (codes "file")) (sym (file_pieces b front rest v s.shape h))))
+spelled_as_url b front rest s v (remote_helper h) = absurd (s.shape.no_helper (h.name, h.address, h.parts))
+spelled_as_url b front rest s v (scp_form (inl h)) = absurd (url_not_shaped b front rest s.shape h.shape.neither)
+spelled_as_url b front rest s v (scp_form (inr h)) = absurd (url_not_shaped b front rest s.shape h.shape.neither)
+spelled_as_url b front rest s v (local_path h) = absurd (url_not_shaped b front rest s.shape h.neither)
+
+-- what is neither a helper nor a URL is spelled in the scp form or as a local path
+url_not_neither : (b : List ℕ) (v : Location) → SpellsUrl b v → ¬ IsNeither b
+url_not_neither b v h n = n.no_mark (h.parts.scheme, h.spelled.authority ++ h.parts.path, h.spelled.joined)
+
+file_not_neither : (b : List ℕ) (v : Location) → SpellsFile b v → ¬ IsNeither b
+file_not_neither b v h n = n.no_mark (codes "file", h.host ++ h.path, h.joined)
+
+-- a text with a shape of the scp form is spelled in it alone
+pub spelled_as_scp : (b : List ℕ) → IsNeither b → IsScpShaped b → (v : Location) → Spells b v → SpellsScp b v
+spelled_as_scp b n s v (url h) = absurd (url_not_neither b v h n)
+spelled_as_scp b n s v (file_url h) = absurd (file_not_neither b v h n)
+spelled_as_scp b n s v (remote_helper h) = absurd (n.no_helper (h.name, h.address, h.parts))
+spelled_as_scp b n s v (scp_form h) = h
+spelled_as_scp b n s v (local_path h) = absurd (h.no_scp s)
+
+-- the same of the shape `user@[address]:path`
+pub spelled_as_addressed : (b user address path : List ℕ) → AddressedShape b user address path → (v : Location) → Spells b v → SpellsScp b v
+spelled_as_addressed b user address path s = spelled_as_scp b s.neither (inr (user, address, path, s))
+
+-- and of the others
+pub spelled_as_plain : (b front path : List ℕ) → PlainScp b front path → (v : Location) → Spells b v → SpellsScpBefore b v
+spelled_as_plain b front path s v h =
+    elim (spelled_as_scp b s.shape.neither (inl (front, path, s.shape)) v h) [ inl k ↦ k | inr k ↦ absurd (s.not_addressed (k.user, k.address, k.path, k.shape)) ]
+
+-- what is refused of a wider form is refused of a narrower one
+pub none_weaker : (fits more : Location → Type 0) → ((v : Location) → more v → fits v) → (e : Error) → NoneBut fits e → NoneBut more e
+none_weaker fits more within error.Memory h = tt
+none_weaker fits more within error.EmptyLocal h = λ v k. h v (within v k)
+none_weaker fits more within (error.MissingPath kind input) h = λ v k. h v (within v k)
+none_weaker fits more within (error.NotUtf8 kind input) h = λ v k. h v (within v k)
+none_weaker fits more within (error.TooLong shown total) h = λ v k. h v (within v k)
+none_weaker fits more within (error.BadUrl kind fault input) h = λ v k. h v (within v k)
+none_weaker fits more within (error.Unwritable fault) h = λ v k. h v (within v k)
+
+-- a URL that is too long, or no text, is none
+pub unfit_url : (b front rest : List ℕ) → OtherShape b front rest → ¬ Fits front rest → (v : Location) → ¬ SpellsUrl b v
+unfit_url b front rest s unfit v h =
+    let (front_is, rest_is) = url_pieces b front rest v s.shape h in
+    unfit (subst (λ t. Fits front t) rest_is (subst (λ t. Fits t (h.spelled.authority ++ h.parts.path)) front_is h.spelled.fits))
+
+pub no_url_text : (b : List ℕ) → ¬ IsUtf8 b → (v : Location) → ¬ SpellsUrl b v
+no_url_text b other v h = other h.spelled.text

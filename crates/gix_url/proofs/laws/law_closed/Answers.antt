@@ -1,0 +1,13 @@
+-- Each law is a lemma.
+use Rattle.std.proofs.Common.{inl, inr}
+use Rattle.gix_url.specs.Laws.{Unchanged}
+use Rattle.gix_url.proofs.KeptLemmas.{helper_unchanged, local_unchanged, kept_closed, kept_exact}
+use Rattle.gix_url.proofs.laws.law_closed.Goals as goal
+
+-- both forms write what they read
+unchanged : Unchanged
+unchanged b v (inl h) = helper_unchanged b v h
+unchanged b v (inr h) = local_unchanged b v h
+
+pub returns : goal.returns
+returns c = record { closed = kept_closed; unchanged = unchanged; exact = kept_exact }

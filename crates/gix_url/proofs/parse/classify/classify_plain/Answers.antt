@@ -1,0 +1,11 @@
+-- The scp form and local paths, where no address stands between brackets behind a user.
+use Rattle.gix_url.proofs.ShapeLemmas.{plain_scp, local_shape}
+use Rattle.gix_url.proofs.parse.classify.classify_plain.Goals as goal
+
+pub returns-in-Some : goal.returns-in-Some
+returns-in-Some c =
+    plain_scp c.args.bytes.now c.in-Some.front.now c.in-Some.path.now c.requires.neither c.requires.not_addressed c.in-Some.ensures
+
+pub returns-in-None : goal.returns-in-None
+returns-in-None c =
+    local_shape c.args.bytes.now c.requires.nonempty c.requires.neither c.requires.not_addressed c.in-None.ensures

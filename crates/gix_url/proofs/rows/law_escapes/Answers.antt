@@ -1,0 +1,6 @@
+-- The rows are lemmas.
+use Rattle.gix_url.proofs.RowLemmas.{escape_rows}
+use Rattle.gix_url.proofs.rows.law_escapes.Goals as goal
+
+pub returns : goal.returns
+returns c = escape_rows

@@ -1,0 +1,7 @@
+-- The rows are lemmas.
+use Rattle.gix_url.proofs.RowLemmas.{piece_rows, parent_rows, expanded_rows}
+use Rattle.gix_url.proofs.RowPartLemmas.{split_rows}
+use Rattle.gix_url.proofs.rows.law_homes.Goals as goal
+
+pub returns : goal.returns
+returns c = record { pieces = piece_rows; parents = parent_rows; expanded = expanded_rows; split = split_rows }

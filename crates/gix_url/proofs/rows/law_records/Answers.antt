@@ -1,0 +1,6 @@
+-- The rows are lemmas.
+use Rattle.gix_url.proofs.RowLemmas.{record_rows}
+use Rattle.gix_url.proofs.rows.law_records.Goals as goal
+
+pub returns : goal.returns
+returns c = record_rows

@@ -1,0 +1,121 @@
+-- What the path of a location is made of: on the web a path, a query and a fragment.
+use Rattle.std.specs.Prelude.{◌≡◌, ℕ, Bool, false, ◌==◌, List, [], ◌∷◌, ◌++◌, map, bytes_eq, All, Option, Some, None, option_map, if◌then◌else◌}
+use Rattle.percent_encoding.specs.Percent.{percent_decode}
+use Rattle.gix_url.specs.Value.{Protocol, Location}
+use Rattle.gix_url.specs.Value.Protocol.{file, git, ssh, http, https, ext, helper, helper_url}
+use Rattle.gix_url.specs.Bytes.{number_sign, plus_sign, question_mark, FreeOf}
+use Rattle.gix_url.specs.Addresses.{joined_by}
+use Rattle.gix_url.specs.Grammar.{or_root}
+use Rattle.gix_url.specs.Text.{matching_or}
+
+-- ` `
+abbrev pub space : ℕ
+space = 32
+
+-- `&`
+abbrev pub ampersand : ℕ
+ampersand = 38
+
+-- `=`
+abbrev pub equals_sign : ℕ
+equals_sign = 61
+
+-- a path, the names and values of a query, and a fragment, as they are meant
+pub record Components : Type 0 where
+  pub path : List ℕ
+  pub query : Option (List (List ℕ × List ℕ))
+  pub fragment : Option (List ℕ)
+
+-- the spelling of the path where it matches, and else the path
+abbrev pub original_path : Location → List ℕ
+original_path v = matching_or v.spelling v.path v.path
+
+-- whether a retained spelling decodes to the path
+abbrev pub matches : Option (List ℕ) → List ℕ → Bool
+matches None path = false
+matches (Some spelling) path = bytes_eq (percent_decode spelling) path
+
+-- what a piece of the original path stands for: its decoding, where that is a spelling, and else itself
+abbrev pub stands_for : Location → List ℕ → List ℕ
+stands_for v piece = if matches v.spelling v.path then percent_decode piece else piece
+
+-- ---- the cuts
+
+-- the text is free of `?` and `#`
+abbrev pub IsFront : List ℕ → Type 0
+IsFront text = FreeOf question_mark text × FreeOf number_sign text
+
+-- a text is a front, with or without a query behind `?` and a fragment behind `#`
+pub data CutsPath (text front : List ℕ) (query fragment : Option (List ℕ)) : Type 0 where
+  front_alone : IsFront front → text ≡ front → query ≡ None → fragment ≡ None → CutsPath text front query fragment
+  with_query : (q : List ℕ) → IsFront front → FreeOf number_sign q → text ≡ front ++ question_mark ∷ q
+      → query ≡ Some q → fragment ≡ None → CutsPath text front query fragment
+  with_fragment : (f : List ℕ) → IsFront front → text ≡ front ++ number_sign ∷ f
+      → query ≡ None → fragment ≡ Some f → CutsPath text front query fragment
+  with_both : (q f : List ℕ) → IsFront front → FreeOf number_sign q → text ≡ front ++ question_mark ∷ (q ++ number_sign ∷ f)
+      → query ≡ Some q → fragment ≡ Some f → CutsPath text front query fragment
+
+-- the text is fields free of `&`, joined by `&`
+pub record CutsFields (text : List ℕ) (fields : List (List ℕ)) : Type 0 where
+  pub each : All (FreeOf ampersand) fields
+  pub joined : text ≡ joined_by ampersand fields
+
+-- a field is a name, or a name, `=` and a value
+pub data SplitsField (field name value : List ℕ) : Type 0 where
+  name_alone : FreeOf equals_sign field → name ≡ field → value ≡ [] → SplitsField field name value
+  with_value : FreeOf equals_sign name → field ≡ name ++ equals_sign ∷ value → SplitsField field name value
+
+-- ---- what the pieces stand for
+
+-- each raw `+` is a space
+abbrev pub with_spaces : List ℕ → List ℕ
+with_spaces piece = map (λ b. if b == plus_sign then space else b) piece
+
+-- what a name or a value stands for
+abbrev pub term_of : Location → List ℕ → List ℕ
+term_of v piece = stands_for v (with_spaces piece)
+
+-- the fields stand for these names and values, in order; empty fields stand for nothing
+abbrev pub PairsOf : Location → List (List ℕ) → List (List ℕ × List ℕ) → Type 0
+PairsOf v [] pairs = pairs ≡ []
+PairsOf v ([] ∷ fields) pairs = PairsOf v fields pairs
+PairsOf v ((b ∷ bs) ∷ fields) pairs =
+    (name : List ℕ) × (value : List ℕ) × (others : List (List ℕ × List ℕ))
+    × SplitsField (b ∷ bs) name value × PairsOf v fields others × (pairs ≡ (term_of v name, term_of v value) ∷ others)
+
+-- the query, where there is one, stands for these names and values
+abbrev pub QueryOf : Location → Option (List ℕ) → Option (List (List ℕ × List ℕ)) → Type 0
+QueryOf v None query = query ≡ None
+QueryOf v (Some text) query =
+    (fields : List (List ℕ)) × (pairs : List (List ℕ × List ℕ)) × CutsFields text fields × PairsOf v fields pairs × (query ≡ Some pairs)
+
+-- ---- the components
+
+-- the components of a location of HTTP: an empty front is the root
+pub record WebParts (v : Location) (components : Components) : Type 0 where
+  pub front : List ℕ
+  pub query : Option (List ℕ)
+  pub fragment : Option (List ℕ)
+  pub cut : CutsPath (original_path v) front query fragment
+  pub path_meant : components.path ≡ or_root (stands_for v front)
+  pub query_meant : QueryOf v query components.query
+  pub fragment_meant : components.fragment ≡ option_map (stands_for v) fragment
+
+-- any other path is a path alone
+abbrev pub whole_path : List ℕ → Components
+whole_path text = record { path = text; query = None; fragment = None }
+
+-- the components of a location, by its protocol
+abbrev pub PartsBy : Protocol → Location → Components → Type 0
+PartsBy http v components = WebParts v components
+PartsBy https v components = WebParts v components
+PartsBy file v components = components ≡ whole_path v.path
+PartsBy git v components = components ≡ whole_path v.path
+PartsBy ssh v components = components ≡ whole_path v.path
+PartsBy ext v components = components ≡ whole_path v.path
+PartsBy (helper name) v components = components ≡ whole_path v.path
+PartsBy (helper_url name) v components = components ≡ whole_path v.path
+
+-- the components of a location
+abbrev pub PartsOf : Location → Components → Type 0
+PartsOf v components = PartsBy v.scheme v components

@@ -1,0 +1,107 @@
+-- The parts that the settled class is tested by: each is a few clauses of its definitions.
+use Rattle.std.specs.Prelude.{◌≡◌, ℕ, ◌<◌, Bool, true, false, ◌⊎◌, List, [], ◌∷◌, ◌++◌, length, codes, Option, MatchOption, Some, None, IsSome, IfSome, Ok, IsUtf8}
+use Rattle.std.specs.Borrow.{Bor}
+use Rattle.percent_encoding.specs.Percent.{percent_decode}
+use Rattle.gix_url.specs.Value.{Location}
+use Rattle.gix_url.specs.Value.Protocol.{ssh, git, http, https, helper_url}
+use Rattle.gix_url.specs.Bytes.{colon, left_bracket, right_bracket, slash, FreeOf, begins_with, Holds, is_scheme_text}
+use Rattle.gix_url.specs.Escapes.{has_percent}
+use Rattle.gix_url.specs.Addresses.{Literal}
+use Rattle.gix_url.specs.Schemes.{is_known_scheme, protocol_text}
+use Rattle.gix_url.specs.Text.{text, canonical_text}
+use Rattle.gix_url.specs.Settled.{HasHostAlone, HasFittingText, IsFairSpelling, IsRawPath, IsScpName, IsScpUser, IsNormalAddress, IsSettledUrl, IsWebName, LooksLikeHelper, begins_at_home, begins_with_slashes}
+
+-- nothing but a path, and the flag
+pub record IsFlaggedPath (v : Location) : Type 0 where
+  pub flagged : v.flag ≡ true
+  pub alone : HasHostAlone v
+  pub no_host : v.host ≡ None
+
+-- ---- the scp form
+
+-- the flag, and neither password nor port
+pub record HasScpForm (v : Location) : Type 0 where
+  pub flagged : v.flag ≡ true
+  pub no_password : v.password ≡ None
+  pub no_port : v.port ≡ None
+
+-- a settled path in the scp form
+pub record IsScpPath (path : List ℕ) : Type 0 where
+  pub path_text : IsUtf8 path
+  pub nonempty : 0 < length path
+  pub not_home : begins_at_home path ≡ false
+  pub not_slashes : begins_with_slashes path ≡ false
+  pub no_mark : ¬ Holds (codes "://") path
+
+-- a settled host in the scp form
+abbrev pub IsScpHost : List ℕ → Type 0
+IsScpHost host = IsScpName host ⊎ IsNormalAddress host
+
+-- the host is there, and settled
+abbrev pub HasScpHost : Location → Type 0
+HasScpHost v = (h : List ℕ) × (v.host ≡ Some h) × IsScpHost h × ¬ LooksLikeHelper v h
+
+-- ---- URLs
+
+-- a literal that stays as it is
+abbrev pub IsNormalLiteral : List ℕ → Type 0
+IsNormalLiteral text = Literal text text
+
+-- brackets around such a literal
+abbrev pub IsBracketedLiteral : List ℕ → Type 0
+IsBracketedLiteral host = (n : List ℕ) × Literal n n × (host ≡ left_bracket ∷ (n ++ right_bracket ∷ []))
+
+-- brackets around a lowercase IPv6 text
+abbrev pub IsBracketedAddress : List ℕ → Type 0
+IsBracketedAddress host = (address : List ℕ) × IsNormalAddress address × (host ≡ left_bracket ∷ (address ++ right_bracket ∷ []))
+
+-- what stands between brackets, or none where the text isn't in brackets
+abbrev pub StripsBrackets : List ℕ → Option (Bor (List ℕ)) → Type 0
+StripsBrackets host r = MatchOption r ((inner : List ℕ) → ¬ (host ≡ left_bracket ∷ (inner ++ right_bracket ∷ []))) (λ inner. host ≡ left_bracket ∷ (inner.now ++ right_bracket ∷ []))
+
+-- a host of HTTP that may have a colon behind it
+abbrev pub IsClosedHost : List ℕ → Type 0
+IsClosedHost host = IsBracketedLiteral host ⊎ (IsWebName host × (has_percent host ≡ false))
+
+-- a password comes with a user and isn't empty, and an empty user comes with a password
+pub record HasCredentials (v : Location) : Type 0 where
+  pub password : IfSome v.password (λ p. (0 < length p) × IsSome v.user)
+  pub user : v.user ≡ Some [] → IsSome v.password
+
+-- a user and a port come with a host
+pub record IsHosted (v : Location) : Type 0 where
+  pub user_hosted : IsSome v.user → IsSome v.host
+  pub port_hosted : IsSome v.port → IsSome v.host
+
+-- the parts before the path, but for the host
+pub record HasUrlParts (v : Location) : Type 0 where
+  pub unflagged : v.flag ≡ false
+  pub credentials : HasCredentials v
+  pub hosted : IsHosted v
+
+-- a matching spelling is fair
+abbrev pub HasFairSpelling : Location → Type 0
+HasFairSpelling v = (s : List ℕ) → v.spelling ≡ Some s → percent_decode s ≡ v.path → IsFairSpelling s v.path
+
+-- the path is text, and a matching spelling is fair
+pub record HasUrlPath (v : Location) : Type 0 where
+  pub path_text : IsUtf8 v.path
+  pub spelling : HasFairSpelling v
+
+-- the location is one of HTTP
+abbrev pub IsWeb : Location → Type 0
+IsWeb v = (v.scheme ≡ http) ⊎ (v.scheme ≡ https)
+
+-- the scheme is free of `:`, and the text is the canonical one, where the location has the parts of a URL
+pub record IsWrittenAsUrl (v : Location) : Type 0 where
+  pub no_colon : FreeOf colon (protocol_text v.scheme)
+  pub canonical : v.flag ≡ false → IsHosted v → text v ≡ Ok (canonical_text v)
+
+-- the name is a scheme without a name of its own
+pub record IsOtherScheme (name : List ℕ) : Type 0 where
+  pub scheme_text : is_scheme_text name ≡ true
+  pub unknown : is_known_scheme name ≡ false
+
+-- the path of a URL of another scheme
+abbrev pub IsRootedOrEmpty : List ℕ → Type 0
+IsRootedOrEmpty path = (path ≡ []) ⊎ (begins_with slash path ≡ true)

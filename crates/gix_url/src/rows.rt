@@ -1,0 +1,85 @@
+//! Rows: that the definitions say of written-out texts and values what they should.
+//!
+//! It has no code and uses nothing: the contract of each function is a group of rows.
+
+ghost use Rattle.gix_url.specs.Records.{KeepsMeaning};
+ghost use Rattle.gix_url.specs.Rows.{EscapeRows, HostRows, SchemeRows, PathRows, OtherTextRows, UrlTextRows, UserTextRows, FaultRows, RecordRows, PieceRows, ParentRows, ExpandedRows, SplitRows, SpelledPartRows, RawPartRows, LiteralRows, NameRows, NoNameRows, AuthorityRows, NoAuthorityRows, UrlRows, FormRows, NoFormRows, NameFlawRows, FlawRows, SettledRows, WebHostRows, UnsettledWebRows, UnsettledUrlRows, UnsettledOtherRows};
+
+/// Escapes, written and read.
+fn law_escapes()
+    ensures { EscapeRows }
+{}
+
+/// Hosts, schemes and paths in their normal forms.
+fn law_names()
+    ensures hosts { HostRows }
+    ensures schemes { SchemeRows }
+    ensures paths { PathRows }
+{}
+
+/// Texts of locations, and locations without one.
+fn law_texts()
+    ensures other { OtherTextRows }
+    ensures url { UrlTextRows }
+    ensures user { UserTextRows }
+    ensures fault { FaultRows }
+{}
+
+/// Stored locations.
+fn law_records()
+    ensures { RecordRows }
+{}
+
+/// A legacy path in its new spelling stands for the same bytes.
+fn law_respelled()
+    ensures { KeepsMeaning }
+{}
+
+/// Paths as text and home folders.
+fn law_homes()
+    ensures pieces { PieceRows }
+    ensures parents { ParentRows }
+    ensures expanded { ExpandedRows }
+    ensures split { SplitRows }
+{}
+
+/// Components of paths.
+fn law_parts()
+    ensures spelled { SpelledPartRows }
+    ensures raw { RawPartRows }
+{}
+
+/// Hosts and ports.
+fn law_hosts()
+    ensures literals { LiteralRows }
+    ensures named { NameRows }
+    ensures unnamed { NoNameRows }
+{}
+
+/// Users and passwords.
+fn law_authorities()
+    ensures found { AuthorityRows }
+    ensures none { NoAuthorityRows }
+{}
+
+/// Whole texts.
+fn law_forms()
+    ensures urls { UrlRows }
+    ensures others { FormRows }
+    ensures none { NoFormRows }
+{}
+
+/// What is wrong with refused texts.
+fn law_flaws()
+    ensures names { NameFlawRows }
+    ensures whole { FlawRows }
+{}
+
+/// The settled class.
+fn law_class()
+    ensures settled { SettledRows }
+    ensures hosts { WebHostRows }
+    ensures web { UnsettledWebRows }
+    ensures urls { UnsettledUrlRows }
+    ensures others { UnsettledOtherRows }
+{}

@@ -1,0 +1,63 @@
+//! The settled remote helpers, local paths and file URLs.
+
+ghost use Rattle.std.specs.Prelude.{◌↔◌, IsTrue, IfSome};
+ghost use Rattle.gix_url.specs.Settled.{IsFileHost, IsSettledFile, IsSettledHelper, IsSettledLocal};
+ghost use Rattle.gix_url.specs.Shapes.{LocalShape};
+
+use super::parts::{has_host_alone, has_match, is_flagged_path, is_text};
+use crate::bytes::{is_free_of, is_helper_name, starts_with_byte};
+use crate::escape::has_percent;
+use crate::location::Url;
+use crate::parse::classify::{Shape, classify};
+
+/// Whether the location is a settled remote helper of this name.
+pub(crate) fn is_settled_helper(url: &Url, name: &[u8]) -> bool
+    ensures { IsTrue result ↔ IsSettledHelper name.now url.now }
+{
+    is_flagged_path(url) && is_helper_name(name)
+}
+
+/// Whether the location is a settled local path.
+pub(crate) fn is_settled_local(url: &Url) -> bool
+    ensures { IsTrue result ↔ IsSettledLocal url.now }
+{
+    is_flagged_path(url) && is_local(url.path.as_bytes())
+}
+
+/// Whether the text has the form of a local path.
+fn is_local(text: &[u8]) -> bool
+    ensures { IsTrue result ↔ LocalShape text.now }
+{
+    matches!(classify(text), Shape::Local)
+}
+
+/// Whether the location is a settled file URL.
+pub(crate) fn is_settled_file(url: &Url) -> bool
+    ensures { IsTrue result ↔ IsSettledFile url.now }
+{
+    !url.serialize_alternative_form
+        && has_host_alone(url)
+        && !has_match(url)
+        && has_file_host(url)
+        && is_text(url.path.as_bytes())
+        && starts_with_byte(url.path.as_bytes(), b'/')
+}
+
+/// Whether the host, where there is one, is one of a file URL that stays as it is.
+fn has_file_host(url: &Url) -> bool
+    ensures { IsTrue result ↔ IfSome url.now.host IsFileHost }
+{
+    match &url.host {
+        None => true,
+        Some(host) => is_file_host(host.as_bytes()),
+    }
+}
+
+/// Whether the text is a host of a file URL that stays as it is.
+fn is_file_host(host: &[u8]) -> bool
+    ensures { IsTrue result ↔ IsFileHost host.now }
+{
+    !host.is_empty()
+        && is_free_of(host, b'/')
+        && (starts_with_byte(host, b'[') || is_free_of(host, b':') || !has_percent(host))
+}

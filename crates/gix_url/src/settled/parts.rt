@@ -1,0 +1,113 @@
+//! Tests of one part of a location.
+
+ghost use Rattle.std.specs.Prelude.{◌≡◌, ◌↔◌, IsTrue, IsUtf8, codes};
+ghost use Rattle.gix_url.specs.Bytes.{Holds};
+ghost use Rattle.gix_url.specs.Hosts.{is_dns_byte, normal_host};
+ghost use Rattle.std.specs.List.{list_all};
+ghost use Rattle.gix_url.specs.Settled.{HasHostAlone, HasMatch, IsNormalAddress, IsNormalName, IsOpenName, begins_at_home, begins_with_slashes};
+ghost use Rattle.gix_url.specs.SettledParts.{IsFlaggedPath};
+
+use crate::bytes::{cut_at_mark, is_free_of, is_lowercase};
+use crate::escape::decodes_to;
+use crate::ipv6::is_address;
+use crate::location::Url;
+
+/// Whether the location has neither user nor password nor port.
+pub(crate) fn has_host_alone(url: &Url) -> bool
+    ensures { IsTrue result ↔ HasHostAlone url.now }
+{
+    url.user.is_none() && url.password.is_none() && url.port.is_none()
+}
+
+/// Whether the location has the flag and a path, and nothing else.
+pub(crate) fn is_flagged_path(url: &Url) -> bool
+    ensures { IsTrue result ↔ IsFlaggedPath url.now }
+{
+    url.serialize_alternative_form && has_host_alone(url) && url.host.is_none()
+}
+
+/// Whether the retained spelling of the path decodes to the path.
+pub(crate) fn has_match(url: &Url) -> bool
+    ensures { IsTrue result ↔ HasMatch url.now }
+{
+    match &url.spelling {
+        None => false,
+        Some(spelling) => decodes_to(spelling.as_bytes(), url.path.as_bytes()),
+    }
+}
+
+/// Whether the bytes are text.
+pub(crate) fn is_text(bytes: &[u8]) -> bool
+    ensures { IsTrue result ↔ IsUtf8 bytes.now }
+{
+    str::from_utf8(bytes).is_ok()
+}
+
+/// Whether the text begins with `/~`.
+pub(crate) fn begins_at_home(text: &[u8]) -> bool
+    ensures { result ≡ begins_at_home text.now }
+{
+    match text {
+        [first, second, ..] => *first == b'/' && *second == b'~',
+        _ => false,
+    }
+}
+
+/// Whether the text begins with `//`.
+pub(crate) fn begins_with_slashes(text: &[u8]) -> bool
+    ensures { result ≡ begins_with_slashes text.now }
+{
+    match text {
+        [first, second, ..] => *first == b'/' && *second == b'/',
+        _ => false,
+    }
+}
+
+/// Whether `://` stands nowhere in the text.
+pub(crate) fn lacks_mark(text: &[u8]) -> bool
+    ensures { IsTrue result ↔ ¬ Holds (codes "://") text.now }
+{
+    cut_at_mark(text).is_none()
+}
+
+/// Whether each byte looks like a part of a domain name.
+fn are_dns_bytes(text: &[u8]) -> bool
+    ensures { result ≡ list_all is_dns_byte text.now }
+{
+    text.iter().all(|byte| is_dns_byte(*byte))
+}
+
+/// Whether the byte looks like a part of a domain name.
+fn is_dns_byte(byte: u8) -> bool
+    ensures { result ≡ is_dns_byte byte }
+{
+    byte.is_ascii_alphanumeric() || byte == b'-' || byte == b'.' || byte == b'_' || byte == b'*'
+}
+
+/// Whether the host is its own normal form.
+pub(crate) fn is_normal(host: &[u8]) -> bool
+    ensures { IsTrue result ↔ (normal_host host.now ≡ host.now) }
+{
+    !are_dns_bytes(host) || is_lowercase(host)
+}
+
+/// Whether the text is not empty, and free of `:`, `[` and `]`.
+fn is_open_name(host: &[u8]) -> bool
+    ensures { IsTrue result ↔ IsOpenName host.now }
+{
+    !host.is_empty() && is_free_of(host, b':') && is_free_of(host, b'[') && is_free_of(host, b']')
+}
+
+/// Whether the text is a settled name of a host.
+pub(crate) fn is_normal_name(host: &[u8]) -> bool
+    ensures { IsTrue result ↔ IsNormalName host.now }
+{
+    is_open_name(host) && is_normal(host)
+}
+
+/// Whether the text is an IPv6 text in lower case.
+pub(crate) fn is_normal_address(host: &[u8]) -> bool
+    ensures { IsTrue result ↔ IsNormalAddress host.now }
+{
+    is_address(host) && is_lowercase(host)
+}

@@ -1,0 +1,88 @@
+//! The settled locations in the scp form.
+
+ghost use Rattle.std.specs.Prelude.{◌↔◌, IsTrue, IfSome};
+ghost use Rattle.gix_url.specs.Settled.{IsScpName, IsScpUser, IsSettledScp, LooksLikeHelper};
+ghost use Rattle.gix_url.specs.SettledParts.{HasScpForm, HasScpHost, IsScpHost, IsScpPath};
+
+use super::parts::{begins_at_home, begins_with_slashes, is_normal_address, is_normal_name, is_text, lacks_mark};
+use crate::bytes::{is_free_of, is_helper_name, starts_with_byte};
+use crate::escape::lacks_white_space;
+use crate::location::Url;
+
+/// Whether the location is settled in the scp form.
+pub(crate) fn is_settled_scp(url: &Url) -> bool
+    ensures { IsTrue result ↔ IsSettledScp url.now }
+{
+    has_scp_form(url) && is_scp_path(url.path.as_bytes()) && has_scp_user(url) && has_scp_host(url)
+}
+
+/// Whether the location has the flag, and neither password nor port.
+fn has_scp_form(url: &Url) -> bool
+    ensures { IsTrue result ↔ HasScpForm url.now }
+{
+    url.serialize_alternative_form && url.password.is_none() && url.port.is_none()
+}
+
+/// Whether the text is a settled path in the scp form.
+fn is_scp_path(path: &[u8]) -> bool
+    ensures { IsTrue result ↔ IsScpPath path.now }
+{
+    is_text(path)
+        && !path.is_empty()
+        && !begins_at_home(path)
+        && !begins_with_slashes(path)
+        && lacks_mark(path)
+}
+
+/// Whether the user, where there is one, is settled in the scp form.
+fn has_scp_user(url: &Url) -> bool
+    ensures { IsTrue result ↔ IfSome url.now.user IsScpUser }
+{
+    match &url.user {
+        None => true,
+        Some(user) => is_scp_user(user.as_bytes()),
+    }
+}
+
+/// Whether the text is a settled user in the scp form.
+fn is_scp_user(user: &[u8]) -> bool
+    ensures { IsTrue result ↔ IsScpUser user.now }
+{
+    is_free_of(user, b':') && is_free_of(user, b'/') && !starts_with_byte(user, b'[')
+}
+
+/// Whether there is a host, settled in the scp form.
+fn has_scp_host(url: &Url) -> bool
+    ensures { IsTrue result ↔ HasScpHost url.now }
+{
+    match &url.host {
+        None => false,
+        Some(host) => is_scp_host(host) && !looks_like_helper(url, host.as_bytes()),
+    }
+}
+
+/// Whether the text is a settled host in the scp form.
+fn is_scp_host(host: &str) -> bool
+    ensures { IsTrue result ↔ IsScpHost host.now }
+{
+    is_scp_name(host) || is_normal_address(host.as_bytes())
+}
+
+/// Whether the text is a settled name of a host in the scp form.
+fn is_scp_name(host: &str) -> bool
+    ensures { IsTrue result ↔ IsScpName host.now }
+{
+    let bytes = host.as_bytes();
+    is_normal_name(bytes)
+        && is_free_of(bytes, b'@')
+        && is_free_of(bytes, b'/')
+        && is_free_of(bytes, b'\\')
+        && lacks_white_space(host)
+}
+
+/// Whether the text of this host and the path would be that of a remote helper.
+fn looks_like_helper(url: &Url, host: &[u8]) -> bool
+    ensures { IsTrue result ↔ LooksLikeHelper url.now host.now }
+{
+    url.user.is_none() && is_helper_name(host) && starts_with_byte(url.path.as_bytes(), b':')
+}
