@@ -96,7 +96,7 @@ static OTHERS: [(&str, &str); 16] = [
     ("u%FF@:p", "BadUrl HostRequired Scp"),
 ];
 
-/// Texts with two flaws or more: the check that comes first names its own.
+/// Texts in which more than one check could speak: the one that comes first names its flaw.
 static ORDER: [(&str, &str); 47] = [
     // White space and escapes before the scheme.
     ("1x:// h/", "BadUrl BadCharacter Url"),

@@ -1,9 +1,11 @@
 //! Values that no text is read as: the edges of the settled class, faults of writing, and every byte in every part.
 
 use crate::told::{told_front, told_text, unchecked};
+use bstr::BString;
 use gix_url::Url;
 use gix_url::parse::parse;
 use std::alloc::Global;
+use std::fmt::Write;
 use std::process::Abort;
 use std::test::Fail;
 
@@ -19,7 +21,7 @@ type Parts = (
 );
 
 /// Locations of these parts, and how they are written. Nearly all are just outside the settled class.
-static EDGES: [(Parts, &str); 37] = [
+static EDGES: [(Parts, &str); 38] = [
     (
         ("Https", Some("u"), Some(""), Some("h"), None, "/p", false),
         "unsettled https://u:@h/p",
@@ -162,6 +164,10 @@ static EDGES: [(Parts, &str); 37] = [
         ("Ssh", Some("a@b/c:d"), None, Some("h"), None, "/p", false),
         "settled ssh://a%40b%2Fc%3Ad@h/p",
     ),
+    (
+        ("File", None, None, None, None, "/path", true),
+        "settled /path",
+    ),
 ];
 
 #[test]
@@ -275,5 +281,56 @@ fn every_byte_as_a_local_path(rt: HostRuntime) -> Result<(), Fail> {
         let url = unchecked(alloc, "File", None, None, None, None, &[byte], true)?;
         assert_eq!(rt; counts(&rt, alloc, &url)?, byte != b':', "{byte}");
     }
+    Ok(())
+}
+
+#[test]
+fn a_spelling_counts_while_it_stands_for_the_path(rt: HostRuntime) -> Result<(), Fail> {
+    let alloc = rt.alloc();
+    let mut url = Url::from_text(alloc, "https://host/my%20repo")?;
+    assert_eq!(rt; url.original_path().as_bytes(), b"/my%20repo".as_slice());
+    url.path = BString::from_slice(alloc, b"/other repo")?;
+    assert_eq!(rt; url.original_path().as_bytes(), b"/other repo".as_slice());
+    assert_eq!(rt;
+        told_text(&rt, alloc, &url)?.as_str(),
+        "settled https://host/other%20repo"
+    );
+    url.path = BString::from_slice(alloc, b"/my repo")?;
+    assert_eq!(rt; url.original_path().as_bytes(), b"/my%20repo".as_slice());
+    assert_eq!(rt;
+        told_text(&rt, alloc, &url)?.as_str(),
+        "settled https://host/my%20repo"
+    );
+    Ok(())
+}
+
+/// Texts, and how what they are read as is shown: a password is never.
+static SHOWN: [(&str, &str); 6] = [
+    ("ssh://u:secret@h/p", "ssh://u:redacted@h/p"),
+    ("ssh://u:redacted@h/p", "ssh://u:redacted@h/p"),
+    ("http://:x@h/", "http://:redacted@h/"),
+    ("http://u@h/a<b", "http://u@h/a%3Cb"),
+    ("a::u:secret@h", "a::u:secret@h"),
+    ("ssh+git:///p", "ssh:///p"),
+];
+
+#[test]
+fn what_a_person_is_shown(rt: HostRuntime) -> Result<(), Fail> {
+    let alloc = rt.alloc();
+    for &(text, shown) in SHOWN.as_slice() {
+        let url = Url::from_text(alloc, text)?;
+        assert_eq!(rt; url.to_string(alloc)?.as_str(), shown);
+    }
+    let path = unchecked(alloc, "File", None, None, None, None, b"/\xff", true)?;
+    assert_eq!(rt; path.to_string(alloc)?.as_str(), "/\u{fffd}");
+    Ok(())
+}
+
+#[test]
+fn what_has_no_text_is_not_shown(rt: HostRuntime) -> Result<(), Fail> {
+    let alloc = rt.alloc();
+    let url = unchecked(alloc, "Ssh", Some("u"), None, None, None, b"/p", false)?;
+    let mut shown = String::new(alloc);
+    assert!(rt; write!(shown, "{url}").is_err());
     Ok(())
 }
