@@ -1,5 +1,5 @@
 -- Rows on lengths: what is as long as it may be, and what is too long.
-use Rattle.std.proofs.Common.{◌≡◌, ℕ, ◌≤◌, true, false, nat_le, inl, inr, List, [], ◌∷◌, ◌++◌, length, codes, refl, sym, ap, subst, ◌∙◌, arith}
+use Rattle.std.proofs.Common.{◌≡◌, ℕ, ◌≤◌, true, false, nat_le, inl, inr, List, [], ◌∷◌, ◌++◌, codes, refl, sym, ap, subst, ◌∙◌}
 use Rattle.std.specs.List.{list_all}
 use Rattle.std.proofs.lemmas.Bool.{both_ways, and_parts, leb-true, le-leb}
 use Rattle.gix_url.specs.Bytes.{Lacks, begins_by}
@@ -32,12 +32,12 @@ not_within n other h = both_ways _ other (le-leb n 1024 h)
 -- what is as long as it may be, and what is too long
 pub length_rows : LengthRows
 length_rows = (
-    fits_row (codes "http") (letters 1024) (codes "/") refl refl refl refl (inr refl) (leb-true _ _ refl),
-    too_long (codes "http") (letters 1025 ++ codes "/") [] (letters 1025) (codes "/") refl refl refl refl (inr refl) (not_within 1025 refl),
-    record { slashes = codes "/"; front = letters 1023; back = []; scheme_length = leb-true _ _ refl; joined = refl; skipped = refl; reached = refl; before_path = refl; path = inl refl; short = leb-true _ _ refl },
-    too_long (codes "x") (codes "/" ++ letters 1024) (codes "/") (letters 1024) [] refl refl refl refl (inl refl) (not_within 1025 refl),
-    fits_row (codes "http") (codes "h") (codes "?" ++ letters 1100) refl refl refl refl (inr refl) (leb-true _ _ refl),
-    too_long (codes "ssh") (codes "h?" ++ (letters 1100 ++ codes "/p")) [] (codes "h?" ++ letters 1100) (codes "/p") refl refl refl refl (inr refl) (not_within 1102 refl),
-    fits_row (letters 1024) (codes "h") (codes "/p") refl refl refl refl (inr refl) (leb-true _ _ refl),
-    λ f. not_within 1025 refl f.scheme_length,
-  )
+  fits_row (codes "http") (letters 1024) (codes "/") refl refl refl refl (inr refl) (leb-true _ _ refl),
+  too_long (codes "http") (letters 1025 ++ codes "/") [] (letters 1025) (codes "/") refl refl refl refl (inr refl) (not_within 1025 refl),
+  record { slashes = codes "/"; front = letters 1023; back = []; scheme_length = leb-true _ _ refl; joined = refl; skipped = refl; reached = refl; before_path = refl; path = inl refl; short = leb-true _ _ refl },
+  too_long (codes "x") (codes "/" ++ letters 1024) (codes "/") (letters 1024) [] refl refl refl refl (inl refl) (not_within 1025 refl),
+  fits_row (codes "http") (codes "h") (codes "?" ++ letters 1100) refl refl refl refl (inr refl) (leb-true _ _ refl),
+  too_long (codes "ssh") (codes "h?" ++ (letters 1100 ++ codes "/p")) [] (codes "h?" ++ letters 1100) (codes "/p") refl refl refl refl (inr refl) (not_within 1102 refl),
+  fits_row (letters 1024) (codes "h") (codes "/p") refl refl refl refl (inr refl) (leb-true _ _ refl),
+  λ f. not_within 1025 refl f.scheme_length,
+)
