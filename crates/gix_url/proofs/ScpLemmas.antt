@@ -213,8 +213,8 @@ addressed_no_path_before b user address k v h =
     let (x, y, f, e) = address_cut address k.addressed in
     elim (front_of_addressed b user address [] x y h.front h.path k f e h.shape.joined h.shape.shape) [
       | inl within ↦
-        let pieces = scp_user_unique h.front h.user (Some user) h.host (left_bracket ∷ x) h.hosted.no_at (address_front_free at_sign address x y refl k.addressed e) h.split (with_user user within refl) in
-        open_bracket_no_host h.host x h.meant pieces.1 (address_front_free right_bracket address x y refl k.addressed e) h.hosted
+          let pieces = scp_user_unique h.front h.user (Some user) h.host (left_bracket ∷ x) h.hosted.no_at (address_front_free at_sign address x y refl k.addressed e) h.split (with_user user within refl) in
+          open_bracket_no_host h.host x h.meant pieces.1 (address_front_free right_bracket address x y refl k.addressed e) h.hosted
       | inr (behind, none) ↦ absurd (omega (arith, ap length none, h.pathed))
     ]
 

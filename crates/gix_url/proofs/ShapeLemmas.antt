@@ -138,14 +138,14 @@ pub addressed_front : (b front rest u a p : List ℕ) → AddressedCut b u a p �
 addressed_front b front rest u a p h free e =
     elim (free_or_cut colon a) [
       | inl none ↦
-        let (x, y, z, two) = address_two_colons a h.addressed in
-        absurd (not_free colon x (y ++ colon ∷ z) (subst (λ t. FreeOf colon t) two none))
+          let (x, y, z, two) = address_two_colons a h.addressed in
+          absurd (not_free colon x (y ++ colon ∷ z) (subst (λ t. FreeOf colon t) two none))
       | inr (x, y, none, two) ↦
-        let before = free-append colon u (at_sign ∷ (left_bracket ∷ x)) h.no_colon (free-cons colon at_sign (left_bracket ∷ x) refl (free-cons colon left_bracket x refl none)) in
-        let inner : a ++ right_bracket ∷ (colon ∷ p) ≡ x ++ colon ∷ (y ++ right_bracket ∷ (colon ∷ p)) = ap (λ t. t ++ right_bracket ∷ (colon ∷ p)) two ∙ append_assoc x (colon ∷ y) (right_bracket ∷ (colon ∷ p)) in
-        let whole : b ≡ (u ++ at_sign ∷ (left_bracket ∷ x)) ++ colon ∷ (y ++ right_bracket ∷ (colon ∷ p)) = h.joined ∙ ap (λ t. u ++ at_sign ∷ (left_bracket ∷ t)) inner ∙ sym (append_assoc u (at_sign ∷ (left_bracket ∷ x)) (colon ∷ (y ++ right_bracket ∷ (colon ∷ p)))) in
-        let no_at = (free_parts at_sign x (colon ∷ y) (subst (λ t. FreeOf at_sign t) two (address_free at_sign a refl h.addressed))).0 in
-        (x, no_at, (cut_unique colon front (u ++ at_sign ∷ (left_bracket ∷ x)) rest (y ++ right_bracket ∷ (colon ∷ p)) free before (sym e ∙ whole)).0)
+          let before = free-append colon u (at_sign ∷ (left_bracket ∷ x)) h.no_colon (free-cons colon at_sign (left_bracket ∷ x) refl (free-cons colon left_bracket x refl none)) in
+          let inner : a ++ right_bracket ∷ (colon ∷ p) ≡ x ++ colon ∷ (y ++ right_bracket ∷ (colon ∷ p)) = ap (λ t. t ++ right_bracket ∷ (colon ∷ p)) two ∙ append_assoc x (colon ∷ y) (right_bracket ∷ (colon ∷ p)) in
+          let whole : b ≡ (u ++ at_sign ∷ (left_bracket ∷ x)) ++ colon ∷ (y ++ right_bracket ∷ (colon ∷ p)) = h.joined ∙ ap (λ t. u ++ at_sign ∷ (left_bracket ∷ t)) inner ∙ sym (append_assoc u (at_sign ∷ (left_bracket ∷ x)) (colon ∷ (y ++ right_bracket ∷ (colon ∷ p)))) in
+          let no_at = (free_parts at_sign x (colon ∷ y) (subst (λ t. FreeOf at_sign t) two (address_free at_sign a refl h.addressed))).0 in
+          (x, no_at, (cut_unique colon front (u ++ at_sign ∷ (left_bracket ∷ x)) rest (y ++ right_bracket ∷ (colon ∷ p)) free before (sym e ∙ whole)).0)
     ]
 
 -- an `@` stands before it

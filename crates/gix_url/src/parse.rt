@@ -16,6 +16,7 @@ mod scp;
 mod url;
 
 use crate::error::Error;
+pub use crate::error::UrlKind;
 use crate::location::Url;
 use bstr::BStr;
 use classify::{Shape, classify};
@@ -23,8 +24,6 @@ use forms::{read_helper, read_local};
 use scp::{read_addressed, read_scp};
 use std::alloc::Global;
 use url::read_url;
-
-pub use crate::error::UrlKind;
 
 /// The one location that the bytes spell.
 ///
@@ -116,7 +115,13 @@ mod tests {
             ("[FE80::1%Eth0]:p", "ssh", None, Some("fe80::1%Eth0"), "p"),
             ("user@[::1]:path", "ssh", Some("user"), Some("::1"), "path"),
             ("@[AB::]:/~", "ssh", Some(""), Some("ab::"), "~"),
-            ("ssh://git@example.com/p", "ssh", Some("git"), Some("example.com"), "/p"),
+            (
+                "ssh://git@example.com/p",
+                "ssh",
+                Some("git"),
+                Some("example.com"),
+                "/p",
+            ),
         ];
         for (text, scheme, user, host, path) in rows {
             let location = read(rt.alloc(), text)?;
@@ -130,10 +135,21 @@ mod tests {
 
     #[test]
     fn flags(rt: HostRuntime) -> Result<(), Fail> {
-        for (text, flag) in [("a::b", true), ("/p", true), ("h:p", true), ("file:///p", false), ("u@[::]:p", true)] {
+        for (text, flag) in [
+            ("a::b", true),
+            ("/p", true),
+            ("h:p", true),
+            ("file:///p", false),
+            ("u@[::]:p", true),
+        ] {
             let location = read(rt.alloc(), text)?;
             assert_eq!(rt; location.serialize_alternative_form, flag, "{text}");
-            assert!(rt; location.port.is_none() && location.password.is_none() && location.spelling.is_none(), "{text}");
+            assert!(rt;
+                location.port.is_none()
+                    && location.password.is_none()
+                    && location.spelling.is_none(),
+                "{text}"
+            );
         }
         Ok(())
     }
@@ -145,7 +161,12 @@ mod tests {
 
     #[test]
     fn missing_paths(rt: HostRuntime) {
-        for (text, scp) in [("file://host", false), ("host:", true), ("@[::]:", true), ("[::1]:", true)] {
+        for (text, scp) in [
+            ("file://host", false),
+            ("host:", true),
+            ("@[::]:", true),
+            ("[::1]:", true),
+        ] {
             let kind = if scp { UrlKind::Scp } else { UrlKind::Url };
             match read(rt.alloc(), text) {
                 Err(Error::MissingPath { kind: found, input }) => {
@@ -169,7 +190,13 @@ mod tests {
         ];
         for (text, fault) in rows {
             match read(rt.alloc(), text) {
-                Err(Error::BadUrl { kind, fault: found, input }) => {
+                Err(
+                    Error::BadUrl {
+                        kind,
+                        fault: found,
+                        input,
+                    },
+                ) => {
                     assert!(rt; kind == UrlKind::Scp && found == fault, "{text}");
                     assert_eq!(rt; input.as_bytes(), text.as_bytes());
                 }
@@ -182,7 +209,11 @@ mod tests {
     fn texts_that_are_not_utf8(rt: HostRuntime) -> Result<(), Fail> {
         let location = parse(rt.alloc(), BStr::from(b"/\xff"))?;
         assert_eq!(rt; location.path.as_bytes(), b"/\xff".as_slice());
-        for (text, scp) in [(b"h:\xff".as_slice(), true), (b"file:///\xff".as_slice(), false), (b"http://h/\xff".as_slice(), false)] {
+        for (text, scp) in [
+            (b"h:\xff".as_slice(), true),
+            (b"file:///\xff".as_slice(), false),
+            (b"http://h/\xff".as_slice(), false),
+        ] {
             let kind = if scp { UrlKind::Scp } else { UrlKind::Url };
             match parse(rt.alloc(), BStr::new(text)) {
                 Err(Error::NotUtf8 { kind: found, input }) => {
