@@ -1,5 +1,5 @@
 -- What is refused as a text of one form is refused.
-use Rattle.std.proofs.Common.{◌≡◌, sym, subst}
+use Rattle.std.proofs.Common.{sym, subst}
 use Rattle.std.proofs.lemmas.Result.{IfErr-weaker}
 use Rattle.gix_url.specs.Grammar.{Spells, SpellsScp, SpellsScpBefore}
 use Rattle.gix_url.specs.Readings.{NoneBut, Refuses}
