@@ -17,7 +17,7 @@ use super::forms::plain_location;
 use crate::bytes::{after, before, is_free_of, last_cut, starts_with_byte};
 use crate::error::{Error, UrlFault, UrlKind};
 use crate::escape::{has_percent, lacks_white_space};
-use crate::host::{Mode, NamedHost, read_host};
+use crate::host::{Mode, read_host};
 use crate::location::Url;
 use crate::scheme::Scheme;
 use std::alloc::{AllocError, Global};
