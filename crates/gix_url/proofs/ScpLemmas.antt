@@ -148,8 +148,8 @@ scp_host_refused host piece e (refusal.Fault named) h =
     (λ meant k. h.0 meant (record { named = k.named; names = subst (λ p. Names bare p (Some k.named) None) (sym e) k.names; unbracketed = k.unbracketed }), piece_flaw host piece named e h.1)
 
 -- white space and backslashes are refused
-pub white_space_refused : (host : List ℕ) → ¬ LacksWhiteSpace host → RefusesHost host (refusal.Fault fault.BadCharacter)
-white_space_refused host held = (λ meant k. held k.no_white_space, ScpHostFlaw.white_space held)
+pub white_space_refused : (host : List ℕ) → IsUtf8 host → ¬ LacksWhiteSpace host → RefusesHost host (refusal.Fault fault.BadCharacter)
+white_space_refused host text held = (λ meant k. held k.no_white_space, ScpHostFlaw.white_space text held)
 
 pub backslash_refused : (host : List ℕ) → ¬ FreeOf backslash host → RefusesHost host (refusal.Fault fault.BadCharacter)
 backslash_refused host held = (λ meant k. held k.no_backslash, ScpHostFlaw.holds_backslash held)
