@@ -8,8 +8,10 @@ ghost use Rattle.gix_url.specs.Settled.{IsSettled};
 
 mod host;
 mod local;
+mod measure;
 mod parts;
 mod scp;
+mod url;
 
 use crate::location::Url;
 
