@@ -11,3 +11,5 @@ pub mod AddressReader
 pub mod HostLemmas
 pub mod ShapeLemmas
 pub mod SettledLemmas
+pub mod PieceLemmas
+pub mod DisplayLemmas

@@ -10,6 +10,8 @@ pub mod Authority
 pub mod Walks
 pub mod Grammar
 pub mod Text
+pub mod Pieces
+pub mod Display
 pub mod Settled
 pub mod SettledParts
 pub mod Flaws

@@ -6,6 +6,7 @@ mod bytes;
 mod error;
 mod escape;
 mod host;
+mod impls;
 pub mod ipv6;
 mod length;
 mod location;

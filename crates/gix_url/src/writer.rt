@@ -1,18 +1,108 @@
-//! Writing: the text of a location.
+//! Writing: the text of a location, its length, and the spelling of its path.
+//!
+//! The text is a list of pieces, slices of the location with the way that each is written. `form` chooses the
+//! form, `layout` lists the pieces, `piece` says what a piece is written as, and `walks` put the pieces into a
+//! writer or into memory. The contract of each public call is the text of the definitions.
 
+ghost use Rattle.std.specs.Prelude.{◌≡◌, Ok, Err, IfOk, IfErr, option_map};
+ghost use Rattle.bstr.specs.BStr.{bstr_bytes};
+ghost use Rattle.bstr.specs.Owned.{bstring_bytes};
+ghost use Rattle.gix_url.specs.declared.error.WriteFault.{WriteFault};
 ghost use Rattle.gix_url.specs.Text.{text};
-ghost use Rattle.gix_url.specs.Readings.{Written};
+ghost use Rattle.gix_url.specs.Pieces.{pieced, text_length, original_path_of};
+ghost use Rattle.gix_url.specs.Readings.{Written, IsUnwritten};
 
-use crate::error::WriteError;
+mod form;
+mod layout;
+mod piece;
+mod show;
+#[cfg(test)]
+mod tests;
+mod walks;
+
+use crate::error::{Error, WriteError, WriteFault};
 use crate::location::Url;
+use crate::writer::piece::Pieces;
+use bstr::{BStr, BString};
+use itoa::Buffer;
+pub(crate) use show::show_pieces;
+use std::alloc::Global;
 use std::io::Write;
 
 impl Url {
-    /// Writes the text of the location.
+    /// Writes the text of the location. It takes no memory.
+    ///
+    /// # Errors
+    ///
+    /// [`WriteError::Fault`] exactly where the location has no text; nothing was written then. [`WriteError::Io`]
+    /// where the writer failed; nothing is said of how much it took.
     pub fn write_to<W: Write>(&self, out: &mut W) -> Result<(), WriteError>
         ensures { Written W.contents out.old out.new (text self.now) result }
     {
-        let _ = out;
-        Ok(())
+        let mut digits = Buffer::new();
+        match self.own_pieces(&mut digits) {
+            Ok(pieces) => walks::write_pieces(out, pieces),
+            Err(fault) => Err(WriteError::Fault(fault)),
+        }
+    }
+
+    /// The length of the text of the location, in bytes. It takes no memory.
+    ///
+    /// # Errors
+    ///
+    /// The fault, exactly where the location has no text.
+    pub fn text_len(&self) -> Result<u128, WriteFault>
+        ensures { result ≡ text_length (text self.now) }
+    {
+        let mut digits = Buffer::new();
+        let pieces = self.own_pieces(&mut digits)?;
+        Ok(pieces.len())
+    }
+
+    /// The text of the location. Memory is asked for once, for the whole text, and not at all where there is none.
+    ///
+    /// # Errors
+    ///
+    /// [`Error::Unwritable`] exactly where the location has no text. [`Error::Memory`] where memory is refused, or
+    /// where the text is longer than any memory.
+    pub fn to_bstring(&self, alloc: Global) -> Result<BString, Error>
+        ensures text { IfOk result (λ s. text self.now ≡ Ok (bstring_bytes s)) }
+        ensures fault { (f : WriteFault) → text self.now ≡ Err f → result ≡ Err (Error.Unwritable f) }
+        ensures refused { IfErr result (λ e. IsUnwritten (text self.now) e) }
+    {
+        let mut digits = Buffer::new();
+        match self.own_pieces(&mut digits) {
+            Ok(pieces) => walks::collect(alloc, pieces),
+            Err(fault) => Err(Error::Unwritable(fault)),
+        }
+    }
+
+    /// The path as it was spelled, with its escapes: the retained spelling where it still stands for the path, and
+    /// else the path itself. It takes no memory.
+    pub fn original_path(&self) -> BStr<'_>
+        ensures { bstr_bytes result ≡ original_path_of self.now }
+    {
+        match self.matching_spelling() {
+            Some(spelling) => BStr::new(spelling),
+            None => self.path.as_bstr(),
+        }
+    }
+
+    /// The pieces of the text, or why there is none. The digits of the port stand in the buffer.
+    fn own_pieces<'a>(&'a self, digits: &'a mut Buffer) -> Result<Pieces<'a>, WriteFault>
+        ensures { pieced result ≡ text self.now }
+    {
+        let password = self.own_password();
+        self.pieces(password, digits)
+    }
+
+    /// The location's own password.
+    fn own_password(&self) -> Option<&str>
+        ensures { option_map (λ p. p.now) result ≡ self.now.password }
+    {
+        match &self.password {
+            None => None,
+            Some(password) => Some(password.as_str()),
+        }
     }
 }

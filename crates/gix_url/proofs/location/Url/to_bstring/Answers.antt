@@ -1,0 +1,14 @@
+-- A text and a fault exclude each other, and a fault is told as it is.
+use Rattle.std.proofs.Common.{ap, sym, ◌∙◌, ◌≡◌, Ok, Err}
+use Rattle.gix_url.specs.declared.error.Error.TheVariants.{Unwritable}
+use Rattle.gix_url.proofs.PieceLemmas.{same_fault}
+use Rattle.gix_url.proofs.location.Url.to_bstring.Goals as goal
+
+pub returns-in-Ok-clause-fault : goal.returns-in-Ok-clause-fault
+returns-in-Ok-clause-fault c = λ f none. let both = c.in-Ok.ensures ∙ none in cc
+
+pub returns-in-Err-clause-fault : goal.returns-in-Err-clause-fault
+returns-in-Err-clause-fault c = λ f none. ap (λ g. Err (Unwritable g)) (same_fault _ c.in-Err.fault f c.in-Err.ensures none)
+
+pub returns-in-Err-clause-refused : goal.returns-in-Err-clause-refused
+returns-in-Err-clause-refused c = sym c.in-Err.ensures

@@ -1,0 +1,47 @@
+//! Showing a location to people: its text, with the password hidden.
+//!
+//! It uses `writer`. Its contract: what is shown is the text with another password in place of the location's own,
+//! so that two locations that differ in nothing but their passwords look alike. It takes no memory.
+
+ghost use Rattle.std.specs.Prelude.{◌≡◌, ℕ, List, Some, None, IsErr, option_map, string_bytes};
+ghost use Rattle.std.specs.Fmt.{DisplaysOnOk};
+ghost use Rattle.gix_url.specs.Value.{Location};
+ghost use Rattle.gix_url.specs.Display.{display, hidden};
+
+use crate::location::Url;
+use crate::writer;
+use itoa::Buffer;
+use std::fmt;
+
+impl fmt::Display for Url {
+    ghost output = { display };
+
+    /// Shows the text of the location with `redacted` in place of a password, and U+FFFD in place of what is no
+    /// UTF-8. It fails where there is no such text, and where the formatter fails.
+    fn fmt<W: fmt::Write>(&self, f: &mut fmt::Formatter<W>) -> fmt::Result
+        ensures writes { DisplaysOnOk W.write_str_gives f.old result (display self.now) f.new }
+        ensures fault { display self.now ≡ None → IsErr result }
+    {
+        let mut digits = Buffer::new();
+        let password = hidden_password(&self.password);
+        match self.pieces(password, &mut digits) {
+            Ok(pieces) => writer::show_pieces(f, pieces),
+            Err(_) => Err(fmt::Error),
+        }
+    }
+}
+
+/// What is shown in place of a password.
+fn hidden_password(password: &Option<String>) -> Option<&str>
+    ensures { option_map (λ p. p.now) result ≡ hidden (option_map string_bytes password.now) }
+{
+    match password {
+        None => None,
+        Some(_) => Some("redacted"),
+    }
+}
+
+/// Locations that differ in nothing but their passwords look alike.
+pub(crate) fn law_hidden_password()
+    ensures { (v : Location) (p q : List ℕ) → display (record v { password = Some p }) ≡ display (record v { password = Some q }) }
+{}

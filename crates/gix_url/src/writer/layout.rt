@@ -1,0 +1,417 @@
+//! The layout of a text: which pieces stand in it, in which order.
+//!
+//! It uses `bytes`, `escape` and `ipv6`, and the forms and pieces of this module's siblings. Its contract: the
+//! pieces of a location make up its text, and a fault is the location's own. It takes no memory.
+
+ghost use Rattle.std.specs.Prelude.{◌≡◌, ℕ, List, [], ◌∷◌, ◌++◌, option_map, unwrap_or, string_bytes};
+ghost use Rattle.percent_encoding.specs.Percent.{percent_encode};
+ghost use Rattle.gix_url.specs.Bytes.{left_bracket, right_bracket};
+ghost use Rattle.gix_url.specs.Views.{protocol};
+ghost use Rattle.gix_url.specs.AddressTest.{is_ipv6_text};
+ghost use Rattle.gix_url.specs.Text as spec;
+ghost use Rattle.gix_url.specs.Text.{text, helper_text, path_text, scp_text, canonical_text};
+ghost use Rattle.gix_url.specs.Pieces.{pieced, piece_text, pieces_text, parts_text, user_text, host_text, path_end_text, with_password};
+
+use crate::error::WriteFault;
+use crate::escape::{self, PASSWORD, PATH, USER};
+use crate::location::Url;
+use crate::scheme::Scheme;
+use crate::writer::form::Form;
+use crate::writer::piece::{Piece, Pieces};
+use crate::{bytes, ipv6};
+use itoa::Buffer;
+
+/// The pieces of a text by what they stand for. Those that a text does without are empty.
+#[derive(Clone, Copy)]
+struct Parts<'a> {
+    /// The scheme and what follows it.
+    scheme: (&'a str, &'a str),
+    /// The user information.
+    user: UserPieces<'a>,
+    /// The host.
+    host: HostPieces<'a>,
+    /// The port and its colon.
+    port: (&'a str, &'a str),
+    /// The path.
+    path: PathPieces<'a>,
+}
+
+/// A user and a password with the marks around them.
+#[derive(Clone, Copy)]
+struct UserPieces<'a> {
+    user: Piece<'a>,
+    colon: &'a str,
+    password: Piece<'a>,
+    at_sign: &'a str,
+}
+
+/// A host, perhaps between brackets.
+#[derive(Clone, Copy)]
+struct HostPieces<'a> {
+    left: &'a str,
+    host: Piece<'a>,
+    right: &'a str,
+}
+
+/// What stands before a path, and the path, which is escaped or any bytes.
+#[derive(Clone, Copy)]
+struct PathPieces<'a> {
+    mark: &'a str,
+    escaped: Piece<'a>,
+    raw: &'a [u8],
+}
+
+impl<'a> Parts<'a> {
+    /// The pieces in the order of the text.
+    fn in_order(self) -> Pieces<'a>
+        ensures { pieces_text result ≡ parts_text self.entry }
+    {
+        Pieces {
+            texts: [
+                Piece::Raw(self.scheme.0),
+                Piece::Raw(self.scheme.1),
+                self.user.user,
+                Piece::Raw(self.user.colon),
+                self.user.password,
+                Piece::Raw(self.user.at_sign),
+                Piece::Raw(self.host.left),
+                self.host.host,
+                Piece::Raw(self.host.right),
+                Piece::Raw(self.port.0),
+                Piece::Raw(self.port.1),
+                Piece::Raw(self.path.mark),
+                self.path.escaped,
+            ],
+            tail: self.path.raw,
+        }
+    }
+}
+
+impl<'a> UserPieces<'a> {
+    /// No user information.
+    fn none() -> UserPieces<'a>
+        ensures { user_text result ≡ [] }
+    {
+        UserPieces {
+            user: Piece::empty(),
+            colon: "",
+            password: Piece::empty(),
+            at_sign: "",
+        }
+    }
+}
+
+impl<'a> HostPieces<'a> {
+    /// The piece alone, without brackets.
+    fn open(host: Piece<'a>) -> HostPieces<'a>
+        ensures { host_text result ≡ piece_text host.entry }
+    {
+        HostPieces {
+            left: "",
+            host,
+            right: "",
+        }
+    }
+
+    /// The piece between brackets.
+    fn bracketed(host: Piece<'a>) -> HostPieces<'a>
+        ensures { host_text result ≡ left_bracket ∷ (piece_text host.entry ++ right_bracket ∷ []) }
+    {
+        HostPieces {
+            left: "[",
+            host,
+            right: "]",
+        }
+    }
+}
+
+impl<'a> PathPieces<'a> {
+    /// The path as it is, behind a mark.
+    fn raw(mark: &'a str, path: &'a [u8]) -> PathPieces<'a>
+        ensures { path_end_text result ≡ mark.now ++ path.now }
+    {
+        PathPieces {
+            mark,
+            escaped: Piece::empty(),
+            raw: path,
+        }
+    }
+
+    /// The path with the escapes of HTTP, behind a mark.
+    fn escaped(mark: &'a str, path: &'a [u8]) -> PathPieces<'a>
+        ensures { path_end_text result ≡ mark.now ++ percent_encode PATH path.now }
+    {
+        PathPieces {
+            mark,
+            escaped: Piece::Escaped(path, PATH),
+            raw: b"",
+        }
+    }
+}
+
+impl Url {
+    /// The pieces of the text that the location has with this password in place of its own, or why it has none.
+    /// The digits of the port stand in the buffer.
+    pub(crate) fn pieces<'a>(
+        &'a self,
+        password: Option<&'a str>,
+        digits: &'a mut Buffer,
+    ) -> Result<Pieces<'a>, WriteFault>
+        ensures { pieced result ≡ text (with_password self.now password.entry) }
+    {
+        match self.form(password)? {
+            Form::Helper => Ok(self.helper_pieces()),
+            Form::Path => Ok(self.path_pieces()),
+            Form::Scp => Ok(self.scp_pieces()),
+            Form::Canonical => Ok(self.canonical_pieces(password, digits)),
+        }
+    }
+
+    /// The pieces of the helper form.
+    fn helper_pieces(&self) -> Pieces<'_>
+        ensures { pieces_text result ≡ helper_text self.now }
+    {
+        let parts = Parts {
+            scheme: (self.scheme.as_str(), "::"),
+            user: UserPieces::none(),
+            host: HostPieces::open(Piece::empty()),
+            port: ("", ""),
+            path: PathPieces::raw("", self.path.as_bytes()),
+        };
+        parts.in_order()
+    }
+
+    /// The pieces of the path form.
+    fn path_pieces(&self) -> Pieces<'_>
+        ensures { pieces_text result ≡ path_text self.now }
+    {
+        let parts = Parts {
+            scheme: ("", ""),
+            user: self.raw_user(),
+            host: self.raw_host(),
+            port: ("", ""),
+            path: PathPieces::raw("", self.path.as_bytes()),
+        };
+        parts.in_order()
+    }
+
+    /// The pieces of the scp form.
+    fn scp_pieces(&self) -> Pieces<'_>
+        ensures { pieces_text result ≡ scp_text self.now }
+    {
+        let parts = Parts {
+            scheme: ("", ""),
+            user: self.raw_user(),
+            host: self.raw_host(),
+            port: ("", ""),
+            path: PathPieces::raw(":", self.path.as_bytes()),
+        };
+        parts.in_order()
+    }
+
+    /// The pieces of a URL.
+    fn canonical_pieces<'a>(
+        &'a self,
+        password: Option<&'a str>,
+        digits: &'a mut Buffer,
+    ) -> Pieces<'a>
+        ensures { pieces_text result ≡ canonical_text (with_password self.now password.entry) }
+    {
+        let parts = Parts {
+            scheme: (self.scheme.as_str(), "://"),
+            user: self.user_information(password),
+            host: self.canonical_host(),
+            port: port_pieces(self.port, digits),
+            path: self.canonical_path(),
+        };
+        parts.in_order()
+    }
+
+    /// The user and `@`, as they are.
+    fn raw_user(&self) -> UserPieces<'_>
+        ensures { user_text result ≡ spec.raw_user self.now.user }
+    {
+        match &self.user {
+            None => UserPieces::none(),
+            Some(user) => UserPieces {
+                user: Piece::Raw(user.as_str()),
+                colon: "",
+                password: Piece::empty(),
+                at_sign: "@",
+            },
+        }
+    }
+
+    /// The host as it is, between brackets where it wants them.
+    fn raw_host(&self) -> HostPieces<'_>
+        ensures { host_text result ≡ spec.raw_host self.now.host }
+    {
+        match &self.host {
+            None => HostPieces::open(Piece::empty()),
+            Some(host) => {
+                let host = host.as_str();
+                if wants_brackets(host.as_bytes()) {
+                    HostPieces::bracketed(Piece::Raw(host))
+                } else {
+                    HostPieces::open(Piece::Raw(host))
+                }
+            }
+        }
+    }
+
+    /// The user, this password and their marks, with escapes. A password without a user is left out.
+    fn user_information<'a>(&'a self, password: Option<&'a str>) -> UserPieces<'a>
+        ensures { user_text result ≡ spec.user_information self.now.user (option_map (λ p. p.now) password.entry) }
+    {
+        let Some(user) = &self.user else {
+            return UserPieces::none();
+        };
+        let user = Piece::Escaped(user.as_bytes(), USER);
+        match password {
+            None => UserPieces {
+                user,
+                colon: "",
+                password: Piece::empty(),
+                at_sign: "@",
+            },
+            Some(password) => UserPieces {
+                user,
+                colon: ":",
+                password: Piece::Escaped(password.as_bytes(), PASSWORD),
+                at_sign: "@",
+            },
+        }
+    }
+
+    /// The host of a URL.
+    fn canonical_host(&self) -> HostPieces<'_>
+        ensures { host_text result ≡ spec.host_part self.now self.now.host }
+    {
+        let Some(host) = &self.host else {
+            return HostPieces::open(Piece::empty());
+        };
+        let host = host.as_str();
+        if needs_brackets(self.port, host.as_bytes()) {
+            HostPieces::bracketed(Piece::Percents(host))
+        } else {
+            HostPieces::open(open_host(&self.scheme, host))
+        }
+    }
+
+    /// The path of a URL: the spelling where it matches, and else the path as the scheme has it written.
+    fn canonical_path(&self) -> PathPieces<'_>
+        ensures { path_end_text result ≡ spec.canonical_path self.now }
+    {
+        let mark = self.root();
+        match self.matching_spelling() {
+            Some(spelling) => PathPieces::raw(mark, spelling),
+            None => self.plain_path(mark),
+        }
+    }
+
+    /// The path without a spelling, behind a mark: with escapes for HTTP, as it is else.
+    fn plain_path<'a>(&'a self, mark: &'a str) -> PathPieces<'a>
+        ensures { path_end_text result ≡ mark.now ++ spec.plain_path self.now.scheme self.now.path }
+    {
+        match &self.scheme {
+            Scheme::Http | Scheme::Https => PathPieces::escaped(mark, self.path.as_bytes()),
+            Scheme::File
+            | Scheme::Git
+            | Scheme::Ssh
+            | Scheme::Ext
+            | Scheme::Helper(_)
+            | Scheme::HelperUrl(_) => PathPieces::raw(mark, self.path.as_bytes()),
+        }
+    }
+
+    /// The `/` before a path that has none, where one is needed.
+    fn root(&self) -> &str
+        ensures { result.now ≡ spec.root_part self.now }
+    {
+        match &self.scheme {
+            Scheme::Ssh | Scheme::Git => {
+                if bytes::starts_with_byte(self.path.as_bytes(), b'/') {
+                    ""
+                } else {
+                    "/"
+                }
+            }
+            Scheme::File
+            | Scheme::Http
+            | Scheme::Https
+            | Scheme::Ext
+            | Scheme::Helper(_)
+            | Scheme::HelperUrl(_) => "",
+        }
+    }
+
+    /// The retained spelling of the path where it matches.
+    pub(crate) fn matching_spelling(&self) -> Option<&[u8]>
+        ensures { (other : List ℕ) → unwrap_or (option_map (λ s. s.now) result) other ≡ spec.matching_or self.now.spelling self.now.path other }
+    {
+        match &self.spelling {
+            None => None,
+            Some(spelling) => {
+                if escape::decodes_to(spelling.as_bytes(), self.path.as_bytes()) {
+                    Some(spelling.as_bytes())
+                } else {
+                    None
+                }
+            }
+        }
+    }
+}
+
+/// The port in decimal behind its colon.
+fn port_pieces<'a>(port: Option<u16>, digits: &'a mut Buffer) -> (&'a str, &'a str)
+    ensures { result.0.now ++ result.1.now ≡ spec.port_part port }
+{
+    match port {
+        None => ("", ""),
+        Some(port) => (":", digits.format(port)),
+    }
+}
+
+/// A host outside brackets: as it is, or escaped, but for the colons of an address.
+fn open_host<'a>(scheme: &Scheme, host: &'a str) -> Piece<'a>
+    ensures { piece_text result ≡ spec.open_host (protocol scheme.now) host.now }
+{
+    match scheme {
+        Scheme::File | Scheme::Http | Scheme::Https => Piece::Raw(host),
+        Scheme::Git | Scheme::Ssh | Scheme::Ext | Scheme::Helper(_) | Scheme::HelperUrl(_) => {
+            if is_address(host.as_bytes()) {
+                Piece::Escaped(host.as_bytes(), PASSWORD)
+            } else {
+                Piece::Escaped(host.as_bytes(), USER)
+            }
+        }
+    }
+}
+
+/// Whether the host is an IPv6 text.
+fn is_address(host: &[u8]) -> bool
+    ensures { result ≡ is_ipv6_text host.now }
+{
+    ipv6::is_address(host)
+}
+
+/// Whether the host holds `:` and doesn't begin with `[`.
+fn wants_brackets(host: &[u8]) -> bool
+    ensures { result ≡ spec.wants_brackets host.now }
+{
+    has_colon(host) && !bytes::starts_with_byte(host, b'[')
+}
+
+/// Whether `:` stands somewhere in the host.
+fn has_colon(host: &[u8]) -> bool
+    ensures { result ≡ spec.has_colon host.now }
+{
+    host.iter().any(|byte| *byte == b':')
+}
+
+/// Whether the host of a URL goes between brackets: a port or an escape would mislead without.
+fn needs_brackets(port: Option<u16>, host: &[u8]) -> bool
+    ensures { result ≡ spec.needs_brackets port host.now }
+{
+    wants_brackets(host) && (port.is_some() || escape::has_percent(host))
+}
