@@ -1,5 +1,5 @@
 -- The settled class by its parts: what the small tests tell, joined.
-use Rattle.std.proofs.Common.{⊎_elim, ◌≡◌, ◌↔◌, ℕ, ◌<◌, Bool, true, false, not, ◌||◌, ◌==◌, ◌⊎◌, inl, inr, List, [], ◌∷◌, ◌++◌, length, codes, refl, sym, ap, subst, ◌∙◌, arith, append_assoc, Option, Some, None, IsSome, Ok, ◌&&◌, IsTrue}
+use Rattle.std.proofs.Common.{⊎_elim, ◌≡◌, ◌↔◌, ℕ, ◌<◌, Bool, true, false, not, ◌||◌, ◌==◌, ◌⊎◌, inl, inr, List, [], ◌∷◌, ◌++◌, length, codes, refl, sym, ap, subst, ◌∙◌, arith, append_assoc, Option, Some, None, IsSome, Ok, Err, ◌&&◌, IsTrue}
 use Rattle.std.specs.List.{list_any, list_all}
 use Rattle.std.specs.Option.{is_some, is_none}
 use Rattle.std.proofs.lemmas.List.{append_cancel_right}
@@ -16,10 +16,12 @@ use Rattle.gix_url.specs.HostPieces.{IsEscapedZone}
 use Rattle.gix_url.specs.Shapes.{LocalShape}
 use Rattle.gix_url.specs.Settled.{HasFittingText, IsNormalAddress, IsSettledGit, IsSettledHelperUrl, IsSettledLocal, IsSettledScp, IsSettledSecure, IsSettledUrl, IsSettledWeb, IsTransportPath, IsWebName, IsWebHost}
 use Rattle.gix_url.specs.Settled.IsWebHost.{literal, literal_colon, named, named_colon}
-use Rattle.gix_url.specs.SettledParts.{HasScpForm, HasScpParts, HasUrlForm, IsFlaggedPath, IsGitTarget, IsHosted, IsNormalLiteral, IsBracketedLiteral, IsClosedHost, IsOtherForm, IsSecureTarget, IsSettledRaw, IsWeb, IsWebTarget, IsWrittenAsUrl}
+use Rattle.gix_url.specs.SettledParts.{HasScpForm, HasScpParts, HasUrlForm, IsFlaggedPath, IsGitTarget, IsHosted, IsNormalLiteral, IsBracketedLiteral, IsClosedHost, IsOtherForm, IsPiecesShort, IsSecureTarget, IsSettledRaw, IsWeb, IsWebTarget, IsWrittenAsUrl}
 use Rattle.gix_url.specs.Schemes.{protocol_text}
-use Rattle.gix_url.specs.Text.{Form, choice, choice_by, ssh_choice, with_host, is_relative, in_form, text, canonical_text}
+use Rattle.gix_url.specs.Text.{Form, choice, choice_by, ssh_choice, with_host, is_relative, in_form, text, canonical_text, user_information, host_part, port_part, canonical_path}
 use Rattle.gix_url.specs.Text.Form.{canonical_form}
+use Rattle.gix_url.specs.Authority.{FitsText}
+use Rattle.gix_url.proofs.LengthLemmas.{fits_text}
 use Rattle.gix_url.proofs.AddressLemmas.{address_free}
 use Rattle.gix_url.proofs.CutLemmas.{cut_unique, different_bytes, heads, not_free, tails, last_unique, scheme_text_free}
 
@@ -325,3 +327,15 @@ written_secure v e path = record {
   no_colon = subst (λ p. FreeOf colon (protocol_text p)) (sym e) refl;
   canonical = λ unflagged hosted. canonical_by v (ap (λ p. choice_by p v) e ∙ secure_choice v (not_relative v.path (transport_begins v path)) unflagged) hosted;
 }
+
+-- the text of a URL is short enough where the walk over it is
+pub fitting_text : (v : Location) (t : List ℕ) → FreeOf colon (protocol_text v.scheme) → text v ≡ Ok (canonical_text v) → Ok t ≡ text v → IsPiecesShort (protocol_text v.scheme) t ↔ HasFittingText v
+fitting_text v t free canonical is =
+    let okay : Ok t ≡ Ok (canonical_text v) = is ∙ canonical in
+    let same : t ≡ canonical_text v = cc in
+    let rest = user_information v.user v.password ++ (host_part v v.host ++ (port_part v.port ++ canonical_path v)) in
+    let test : IsPiecesShort (protocol_text v.scheme) t ↔ FitsText t = fits_text (protocol_text v.scheme) rest t free same in (
+      λ short. (t, sym is, test.0 short),
+      λ (x, e, fits). let both : Ok x ≡ Ok t = sym e ∙ sym is in let equal : x ≡ t = cc in test.1 (subst FitsText equal fits),
+    )
+

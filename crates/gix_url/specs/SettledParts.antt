@@ -1,5 +1,5 @@
 -- The parts that the settled class is tested by: each is a few clauses of its definitions.
-use Rattle.std.specs.Prelude.{◌≡◌, ◌≢◌, ℕ, ◌<◌, Bool, true, false, ◌⊎◌, List, [], ◌∷◌, ◌++◌, length, codes, Option, MatchOption, Some, None, IsSome, IfSome, Ok, IsUtf8}
+use Rattle.std.specs.Prelude.{◌≡◌, ◌≢◌, ℕ, ◌<◌, ◌≤◌, Bool, true, false, ◌⊎◌, List, [], ◌∷◌, ◌++◌, length, codes, bytes_eq, Option, MatchOption, Some, None, IsSome, IfSome, Ok, IsUtf8}
 use Rattle.std.specs.Borrow.{Bor}
 use Rattle.percent_encoding.specs.Percent.{percent_decode}
 use Rattle.gix_url.specs.Value.{Location}
@@ -10,7 +10,8 @@ use Rattle.gix_url.specs.Escapes.{has_percent, is_sound}
 use Rattle.gix_url.specs.Addresses.{Literal}
 use Rattle.gix_url.specs.Schemes.{is_known_scheme, protocol_text}
 use Rattle.gix_url.specs.Text.{text, canonical_text}
-use Rattle.gix_url.specs.Settled.{IsBareHost, IsBracketedHost, IsWebHost, is_ftp, HasHostAlone, HasFittingText, IsFairSpelling, IsRawPath, IsScpName, IsScpUser, IsNormalAddress, IsSettledUrl, IsTransportPath, IsWebName, LooksLikeHelper, begins_at_home, begins_with_slashes}
+use Rattle.gix_url.specs.Walks.{is_walk_short, text_walk_past, text_walk_for}
+use Rattle.gix_url.specs.Settled.{IsBareHost, IsBracketedHost, IsWebHost, is_ftp, HasHostAlone, HasFittingText, IsFairSpelling, IsRawPath, IsScpName, IsScpUser, IsNormalAddress, IsSettledHelper, IsSettledUrl, IsTransportPath, IsWebName, LooksLikeHelper, begins_at_home, begins_with_slashes}
 
 -- nothing but a path, and the flag
 pub record IsFlaggedPath (v : Location) : Type 0 where
@@ -172,3 +173,11 @@ pub record IsOtherTarget (name : List ℕ) (v : Location) : Type 0 where
 -- scheme, host and path of a settled URL of another scheme
 abbrev pub IsOtherForm : List ℕ → Location → Type 0
 IsOtherForm name v = IsOtherScheme name × IsOtherTarget name v
+
+-- the scheme is short enough, and so is what follows it and its mark in the text
+abbrev pub IsPiecesShort : List ℕ → List ℕ → Type 0
+IsPiecesShort scheme whole = (length scheme ≤ 1024) × (is_walk_short (text_walk_past (text_walk_for scheme) whole).walk ≡ true)
+
+-- a settled remote helper of another name than `ext`
+abbrev pub IsSettledNamed : List ℕ → Location → Type 0
+IsSettledNamed name v = IsSettledHelper name v × (bytes_eq name (codes "ext") ≡ false)
