@@ -254,7 +254,7 @@ fits_text scheme rest t free joined =
         fits = fits_from_walk scheme rest parts.0 (sym walked ∙ parts.1);
       },
       λ text. let cuts : (scheme ≡ text.scheme) × (47 ∷ 47 ∷ rest ≡ 47 ∷ 47 ∷ text.rest) = cut_unique colon scheme text.scheme (47 ∷ 47 ∷ rest) (47 ∷ 47 ∷ text.rest) free text.no_colon (sym joined ∙ text.joined) in
-      let same : rest ≡ text.rest = tails (tails cuts.1) in
-      let fits : Fits scheme rest = subst (λ s. Fits s rest) (sym cuts.0) (subst (λ r. Fits text.scheme r) (sym same) text.fits) in
-      (fits.scheme_length, walked ∙ walk_from_fits scheme rest fits),
+          let same : rest ≡ text.rest = tails (tails cuts.1) in
+          let fits : Fits scheme rest = subst (λ s. Fits s rest) (sym cuts.0) (subst (λ r. Fits text.scheme r) (sym same) text.fits) in
+          (fits.scheme_length, walked ∙ walk_from_fits scheme rest fits),
     )

@@ -190,14 +190,17 @@ settled_url v = (
     path_text = parts.0.1.path_text;
     spelling = parts.0.1.spelling;
   },
-  λ s. ((
-    record {
-      unflagged = s.unflagged;
-      credentials = record { password = s.password; user = s.user };
-      hosted = record { user_hosted = s.user_hosted; port_hosted = s.port_hosted };
-    },
-    record { path_text = s.path_text; spelling = s.spelling },
-  ), s.fits),
+  λ s. (
+    (
+      record {
+        unflagged = s.unflagged;
+        credentials = record { password = s.password; user = s.user };
+        hosted = record { user_hosted = s.user_hosted; port_hosted = s.port_hosted };
+      },
+      record { path_text = s.path_text; spelling = s.spelling },
+    ),
+    s.fits,
+  ),
 )
 
 -- a settled location of HTTP
@@ -233,10 +236,13 @@ settled_helper_url name v = (
     path = parts.0.1.path;
     raw = parts.1.1;
   },
-  λ s. ((
-    record { scheme_text = s.scheme_text; unknown = s.unknown },
-    record { host = s.host; hosted = s.hosted; path = s.path },
-  ), (s.common, s.raw)),
+  λ s. (
+    (
+      record { scheme_text = s.scheme_text; unknown = s.unknown },
+      record { host = s.host; hosted = s.hosted; path = s.path },
+    ),
+    (s.common, s.raw),
+  ),
 )
 
 -- a settled location in the scp form
@@ -256,13 +262,16 @@ settled_scp v = (
   },
   λ s. (
     record { flagged = s.flagged; no_password = s.no_password; no_port = s.no_port },
-    (record {
-      path_text = s.path_text;
-      nonempty = s.nonempty;
-      not_home = s.not_home;
-      not_slashes = s.not_slashes;
-      no_mark = s.no_mark;
-    }, (s.user, s.host)),
+    (
+      record {
+        path_text = s.path_text;
+        nonempty = s.nonempty;
+        not_home = s.not_home;
+        not_slashes = s.not_slashes;
+        no_mark = s.no_mark;
+      },
+      (s.user, s.host),
+    ),
   ),
 )
 
@@ -338,4 +347,3 @@ fitting_text v t free canonical is =
       λ short. (t, sym is, test.0 short),
       λ (x, e, fits). let both : Ok x ≡ Ok t = sym e ∙ sym is in let equal : x ≡ t = cc in test.1 (subst FitsText equal fits),
     )
-

@@ -4,7 +4,9 @@ ghost use Rattle.std.specs.Prelude.{◌↔◌, IsTrue, IfSome};
 ghost use Rattle.gix_url.specs.Settled.{IsScpName, IsScpUser, IsSettledScp, LooksLikeHelper};
 ghost use Rattle.gix_url.specs.SettledParts.{HasScpForm, HasScpFront, HasScpHost, HasScpParts, IsScpHost, IsScpPath};
 
-use super::parts::{begins_at_home, begins_with_slashes, is_normal_address, is_normal_name, is_text, lacks_mark};
+use super::parts::{
+    begins_at_home, begins_with_slashes, is_normal_address, is_normal_name, is_text, lacks_mark,
+};
 use crate::bytes::{is_free_of, is_helper_name, starts_with_byte};
 use crate::escape::lacks_white_space;
 use crate::location::Url;

@@ -104,7 +104,8 @@ fn has_bracketed_host(url: &Url) -> bool
 fn is_transport_path(url: &Url) -> bool
     ensures { IsTrue result ↔ IsTransportPath url.now }
 {
-    is_homeless(url.path.as_bytes()) || (starts_with_byte(url.path.as_bytes(), b'~') && !has_match(url))
+    is_homeless(url.path.as_bytes())
+        || (starts_with_byte(url.path.as_bytes(), b'~') && !has_match(url))
 }
 
 /// Whether the text begins with `/`, and not with `/~`.
@@ -140,7 +141,9 @@ fn is_other_scheme(name: &[u8]) -> bool
 fn is_other_target(url: &Url, name: &[u8]) -> bool
     ensures { IsTrue result ↔ IsOtherTarget name.now url.now }
 {
-    has_other_host(url) && (url.host.is_some() || !is_ftp(name)) && is_rooted_or_empty(url.path.as_bytes())
+    has_other_host(url)
+        && (url.host.is_some() || !is_ftp(name))
+        && is_rooted_or_empty(url.path.as_bytes())
 }
 
 /// Whether the host, where there is one, is settled.
