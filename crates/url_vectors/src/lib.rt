@@ -1,0 +1,23 @@
+//! Tests of `gix_url` by its public calls: what no contract says, and examples that show the contracts to mean what
+//! they should.
+//!
+//! The expected values come from outside the library: from the rows of the crate that it is a port of, and from
+//! `scripts/oracle.py`, a second reading in another language.
+#![tactic(auto)]
+
+#[cfg(test)]
+mod long;
+#[cfg(test)]
+mod names;
+#[cfg(test)]
+mod reading;
+#[cfg(test)]
+mod refusing;
+#[cfg(test)]
+mod runs;
+#[cfg(test)]
+mod streams;
+#[cfg(test)]
+mod told;
+#[cfg(test)]
+mod values;

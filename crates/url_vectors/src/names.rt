@@ -1,0 +1,91 @@
+//! IPv6 texts, and the names and ports of schemes.
+
+use gix_url::Scheme;
+use gix_url::ipv6::is_ipv6;
+use std::test::Fail;
+
+/// Texts that are addresses.
+static ADDRESSES: [&str; 10] = [
+    "::",
+    "::1",
+    "1::",
+    "1:2:3:4:5:6:7:8",
+    "1:2:3:4:5:6:7::",
+    "::1:2:3:4:5:6:7",
+    "::1.2.3.4",
+    "1:2:3:4:5:6:1.2.3.4",
+    "::1:2:3:4:5:1.2.3.4",
+    "ABCD::0001",
+];
+
+/// Texts that are none.
+static NO_ADDRESSES: [&str; 18] = [
+    "",
+    ":",
+    ":::",
+    "1",
+    "1:2:3:4:5:6:7",
+    "1:2:3:4:5:6:7:8:9",
+    "1::2:3:4:5:6:7:8",
+    "1::2::3",
+    "12345::",
+    "g::",
+    "1.2.3.4::",
+    "::1.2.3",
+    "::01.2.3.4",
+    "::256.1.1.1",
+    "1.2.3.4",
+    "fe80::1%eth0",
+    "[::1]",
+    "::1:",
+];
+
+#[test]
+fn addresses(rt: HostRuntime) {
+    for &text in ADDRESSES.as_slice() {
+        assert!(rt; is_ipv6(text), "{text}");
+    }
+    for &text in NO_ADDRESSES.as_slice() {
+        assert!(rt; !is_ipv6(text), "{text}");
+    }
+}
+
+/// A text, the text of the scheme that it names, and the scheme's port.
+static SCHEMES: [(&str, &str, Option<u16>); 11] = [
+    ("ssh", "ssh", Some(22)),
+    ("ssh+git", "ssh", Some(22)),
+    ("git+ssh", "ssh", Some(22)),
+    ("git", "git", Some(9418)),
+    ("http", "http", Some(80)),
+    ("https", "https", Some(443)),
+    ("file", "file", None),
+    ("ext", "ext", None),
+    ("ftp", "ftp", None),
+    ("HTTP", "HTTP", None),
+    ("", "", None),
+];
+
+#[test]
+fn schemes(rt: HostRuntime) -> Result<(), Fail> {
+    let alloc = rt.alloc();
+    for &(text, name, port) in SCHEMES.as_slice() {
+        let scheme = Scheme::from_text(alloc, text)?;
+        assert_eq!(rt; scheme.as_str(), name);
+        assert_eq!(rt; scheme.to_string(alloc)?.as_str(), name);
+        assert_eq!(rt; scheme.default_port(), port, "{text}");
+        assert_eq!(rt;
+            matches!(scheme, Scheme::HelperUrl(_)),
+            !known(text),
+            "{text}"
+        );
+    }
+    Ok(())
+}
+
+/// Whether the text names a scheme with a variant of its own.
+fn known(text: &str) -> bool {
+    matches!(
+        text,
+        "ssh" | "ssh+git" | "git+ssh" | "git" | "http" | "https" | "file" | "ext"
+    )
+}
