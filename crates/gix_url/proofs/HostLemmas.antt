@@ -1,6 +1,6 @@
 -- Hosts and ports: what a piece of an authority looks like, that it names one host and one port at most, and none where a flaw stands.
-use Rattle.std.proofs.Common.{◌≡◌, ℕ, zero, suc, ◌+◌, ◌<◌, ◌≤◌, Bool, true, false, ◌==◌, ◌||◌, ◌⊎◌, inl, inr, List, [], ◌∷◌, ◌++◌, length, take, drop, Option, Some, None, Err, ◌^◌, rules, refl, sym, ap, subst, ◌∙◌, arith, append_assoc, length-append, codes}
-use Rattle.std.specs.List.{list_all, list_any}
+use Rattle.std.proofs.Common.{◌≡◌, ℕ, zero, suc, ◌+◌, ◌<◌, ◌≤◌, Bool, true, false, ◌==◌, ◌⊎◌, inl, inr, List, [], ◌∷◌, ◌++◌, length, take, drop, Option, Some, None, Err, ◌^◌, rules, refl, sym, ap, subst, ◌∙◌, arith, append_assoc, length-append}
+use Rattle.std.specs.List.{list_all}
 use Rattle.std.specs.Char.{is_ascii_digit, to_ascii_lowercase}
 use Rattle.std.specs.Str.Parse.{IsNumeral, digits_value, without_leading_plus}
 use Rattle.std.proofs.lemmas.Str.Parse.{IsNumeralModel, numerals_by_value, parse_digits}
@@ -15,15 +15,15 @@ use Rattle.percent_encoding.specs.Percent.{percent_decode}
 use Rattle.gix_url.specs.declared.error.UrlFault.{UrlFault}
 use Rattle.gix_url.specs.declared.error.UrlFault.TheVariants as fault
 use Rattle.gix_url.specs.Bytes.{colon, left_bracket, right_bracket, percent_sign, FreeOf, begins_with, lowercase}
-use Rattle.gix_url.specs.Addresses.{IsIpv6Text, IsZone, is_zone_byte, Literal}
+use Rattle.gix_url.specs.Addresses.{IsIpv6Text, is_zone_byte, Literal}
 use Rattle.gix_url.specs.Addresses.Literal.{address, zoned}
 use Rattle.gix_url.specs.Hosts as spec
 use Rattle.gix_url.specs.Hosts.{Mode, is_dns_byte, is_http_host_byte, HostText, IsLiteral, Bracketed, Inner, IsDigits, Number, IsAddressPiece, ReadsAddress, HoldsTwoColons, IsManyColoned, IsPlainHost, Names, normal_host}
 use Rattle.gix_url.specs.Hosts.Mode.{strict, bare, loose}
-use Rattle.gix_url.specs.Flaws.{IsNoPort, HasBadPort, IsPortPlace, IsNoHost, IsNoInner, BracketsAround, HasBadHost, NameFlaw}
+use Rattle.gix_url.specs.Flaws.{IsNoPort, HasBadPort, IsPortPlace, IsNoInner, BracketsAround, HasBadHost, NameFlaw}
 use Rattle.gix_url.specs.HostPieces.{EndsHost, Follows, IsEscapedZone, IsInner, in_brackets, lowercase_address, shown_literal}
 use Rattle.gix_url.proofs.CutLemmas.{heads, tails, class_cut_unique, cut_unique, free-append, free-cons, free_head_tail, free_of_all, free_or_cut, not_free}
-use Rattle.gix_url.proofs.AddressLemmas.{is_address_byte, address_bytes, address_free, address_two_colons, address_nonempty}
+use Rattle.gix_url.proofs.AddressLemmas.{is_address_byte, address_bytes, address_free, address_two_colons}
 
 -- ---- ports
 
@@ -535,10 +535,6 @@ pub plain_front : (piece front rest : List ℕ) → false ≡ (length front == 0
 plain_front piece front rest some free none e =
     record { nonempty = some_tested front some; no_colon = free; no_bracket = sym (begins-append left_bracket front rest (some_tested front some)) ∙ ap (begins_with left_bracket) (sym e) ∙ none }
 
--- a piece without a colon is one
-pub plain_piece : (piece : List ℕ) → 0 < length piece → FreeOf colon piece → begins_with left_bracket piece ≡ false → IsPlainHost piece
-plain_piece piece some free none = record { nonempty = some; no_colon = free; no_bracket = none }
-
 -- a byte that is no digit spells no port
 pub not_digits : (mode : Mode) (digits : List ℕ) → false ≡ list_all is_ascii_digit digits → IsNoPort mode digits
 not_digits mode [] e = absurd (false≢true e)
@@ -559,12 +555,7 @@ plain_name mode piece front rest named host port h e t (Follows.nothing f is p) 
 plain_name mode piece front rest named host port h e t (Follows.lone_colon f is p) = Names.plain_colon front named h t (e ∙ ap (λ x. front ++ x) f) is p
 plain_name mode piece front rest named host port h e t (Follows.number d n k f is p) = Names.plain_port front named d n h t k (e ∙ ap (λ x. front ++ x) f) is p
 
--- an opening bracket that none closes
-pub not_closed : (mode : Mode) (behind : List ℕ) → FreeOf right_bracket behind → HasBadHost mode (left_bracket ∷ behind)
-not_closed mode behind free =
-    HasBadHost.open_bracket refl (λ x rest a. not_free right_bracket x rest (subst (λ t. FreeOf right_bracket t) (tails a.joined) free))
-
--- a closing one that another byte than a colon follows
+-- a closing bracket that another byte than a colon follows
 pub not_ended : (mode : Mode) (behind x rest : List ℕ) → FreeOf right_bracket x → behind ≡ x ++ right_bracket ∷ rest → ¬ EndsHost rest → HasBadHost mode (left_bracket ∷ behind)
 not_ended mode behind x rest free e open_end =
     HasBadHost.open_bracket refl (λ y last a. open_end (subst EndsHost (cut_unique right_bracket y x last rest a.closed free (sym (tails a.joined) ∙ e)).1 a.followed))

@@ -1,17 +1,19 @@
 -- The length test as a walk over the bytes: white space doesn't count, slashes are skipped, and the front counts.
-use Rattle.std.proofs.Common.{◌≡◌, ℕ, ◌+◌, ◌≤◌, min, Bool, true, false, inl, inr, List, [], ◌∷◌, ◌++◌, length, take, drop, refl, sym, ap, subst, ◌∙◌, arith}
+use Rattle.std.proofs.Common.{◌↔◌, ◌-◌, codes, zero, suc, length-append, ◌≡◌, ℕ, ◌+◌, ◌≤◌, min, Bool, true, false, inl, inr, List, [], ◌∷◌, ◌++◌, length, take, drop, refl, sym, ap, subst, ◌∙◌, arith}
 use Rattle.std.specs.List.{list_all, position_or_len}
 use Rattle.std.specs.Char.{is_ascii_whitespace}
+use Rattle.std.proofs.Math.Seq.{drop-append-add}
 use Rattle.std.proofs.lemmas.Bool.{cases_Bool, and_from, and_parts, leb-true, le-leb}
 use Rattle.gix_url.specs.declared.length.Stage.{Stage}
 use Rattle.gix_url.specs.declared.length.Stage.TheVariants.{Slashes, Front, Behind}
 use Rattle.gix_url.specs.declared.length.Walk.{Walk}
-use Rattle.gix_url.specs.Bytes.{Lacks, begins_by}
+use Rattle.gix_url.specs.declared.length.TextWalk.{TextWalk}
+use Rattle.gix_url.specs.Bytes.{Lacks, FreeOf, colon, begins_by}
 use Rattle.gix_url.specs.Cuts.{is_path_start, StartsPath}
 use Rattle.gix_url.specs.Schemes.{is_web_scheme}
-use Rattle.gix_url.specs.Authority.{is_any_slash, without_white_space, IsWithinLimit, Fits}
-use Rattle.gix_url.specs.Walks.{one_more, stage_counted, stage_past, walk_past, walk_past_all, walk_behind, counted_at, is_walk_short}
-use Rattle.gix_url.proofs.CutLemmas.{cut_at_first, lacks_head_tail}
+use Rattle.gix_url.specs.Authority.{is_any_slash, without_white_space, IsWithinLimit, Fits, FitsText}
+use Rattle.gix_url.specs.Walks.{one_more, stage_counted, stage_past, walk_past, walk_past_all, walk_behind, counted_at, is_walk_short, text_walk_past, text_walk_for}
+use Rattle.gix_url.proofs.CutLemmas.{cut_at_first, cut_unique, lacks_head_tail, tails}
 
 -- ---- walks in pieces
 
@@ -207,3 +209,52 @@ walk_from_fits scheme rest fits =
     let skipped = ap (stage_past_all web Slashes) fits.joined ∙ past_slashes web fits.slashes (fits.front ++ fits.back) fits.skipped in
     let counted : counted_at (stage_past_all web Slashes (without_white_space rest)) (min (length rest) 1025) ≤ 1024 = rw skipped short in
     le-leb _ 1024 (subst (λ n. n ≤ 1024) (sym (counted_behind scheme rest _ refl)) counted)
+
+-- ---- walks over whole texts
+
+-- a front that is left out of joined texts is left out of the first and then of the second
+drop_joined : (n : ℕ) (x y : List ℕ) → drop n (x ++ y) ≡ drop n x ++ drop (n - length x) y
+drop_joined zero x y = let e : zero - length x ≡ zero = omega arith in ap (λ m. x ++ drop m y) (sym e)
+drop_joined (suc n) [] y = let e : suc n - 0 ≡ suc n = omega arith in ap (λ m. drop m y) (sym e)
+drop_joined (suc n) (b ∷ x) y =
+    let e : suc n - length (b ∷ x) ≡ n - length x = omega arith in
+    drop_joined n x y ∙ ap (λ m. drop n x ++ drop m y) (sym e)
+
+-- a walk over joined texts is one past the first and then past the second
+pub text_walk-append : (text : TextWalk) (x y : List ℕ) → text_walk_past text (x ++ y) ≡ text_walk_past (text_walk_past text x) y
+text_walk-append text x y =
+    let lefts : text.left - length (x ++ y) ≡ text.left - length x - length y = omega (arith, length-append x y) in
+    let walks = ap (walk_past_all text.walk) (drop_joined text.left x y) ∙ walk-append text.walk (drop text.left x) (drop (text.left - length x) y) in
+    λ i. record { left = lefts i; walk = walks i }
+
+-- past one slice more, the rest leads where it led
+pub chunk_walked : (text new first : TextWalk) (rest chunk others whole : List ℕ) → text_walk_past text rest ≡ text_walk_past first whole → rest ≡ chunk ++ others → new ≡ text_walk_past text chunk → text_walk_past new others ≡ text_walk_past first whole
+chunk_walked text new first rest chunk others whole so_far handed walked =
+    ap (λ (w : TextWalk). text_walk_past w others) walked ∙ sym (text_walk-append text chunk others) ∙ ap (text_walk_past text) (sym handed) ∙ so_far
+
+-- past one piece more, the walk is past the pieces so far
+pub piece_walked : (text new first : TextWalk) (before piece whole : List ℕ) → text ≡ text_walk_past first before → whole ≡ before ++ piece → new ≡ text_walk_past text piece → new ≡ text_walk_past first whole
+piece_walked text new first before piece whole so_far more walked =
+    walked ∙ ap (λ (w : TextWalk). text_walk_past w piece) so_far ∙ sym (text_walk-append first before piece) ∙ ap (text_walk_past first) (sym more)
+
+-- what a walk over a whole text leaves out is the scheme and its mark
+walk_behind_mark : (scheme rest t : List ℕ) → t ≡ scheme ++ (codes "://" ++ rest) → (text_walk_past (text_walk_for scheme) t).walk ≡ walk_past_all (walk_behind scheme) rest
+walk_behind_mark scheme rest t joined =
+    ap (walk_past_all (walk_behind scheme)) (ap (drop (length scheme + 3)) joined ∙ drop-append-add scheme (codes "://" ++ rest) 3)
+
+-- a text with a scheme is short enough where the scheme and the walk over the text are
+pub fits_text : (scheme rest t : List ℕ) → FreeOf colon scheme → t ≡ scheme ++ (codes "://" ++ rest) → ((length scheme ≤ 1024) × (is_walk_short (text_walk_past (text_walk_for scheme) t).walk ≡ true)) ↔ FitsText t
+fits_text scheme rest t free joined =
+    let walked = ap is_walk_short (walk_behind_mark scheme rest t joined) in (
+      λ parts. record {
+        scheme = scheme;
+        rest = rest;
+        no_colon = free;
+        joined = joined;
+        fits = fits_from_walk scheme rest parts.0 (sym walked ∙ parts.1);
+      },
+      λ text. let cuts : (scheme ≡ text.scheme) × (47 ∷ 47 ∷ rest ≡ 47 ∷ 47 ∷ text.rest) = cut_unique colon scheme text.scheme (47 ∷ 47 ∷ rest) (47 ∷ 47 ∷ text.rest) free text.no_colon (sym joined ∙ text.joined) in
+          let same : rest ≡ text.rest = tails (tails cuts.1) in
+          let fits : Fits scheme rest = subst (λ s. Fits s rest) (sym cuts.0) (subst (λ r. Fits text.scheme r) (sym same) text.fits) in
+          (fits.scheme_length, walked ∙ walk_from_fits scheme rest fits),
+    )

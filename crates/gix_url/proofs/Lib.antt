@@ -18,6 +18,7 @@ pub mod RowPartLemmas
 pub mod RowFormLemmas
 pub mod RowClassLemmas
 pub mod RowFlawLemmas
+pub mod RowLengthLemmas
 pub mod FormLemmas
 pub mod UniqueLemmas
 pub mod KeptLemmas

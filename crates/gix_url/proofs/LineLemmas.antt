@@ -6,6 +6,7 @@ use Rattle.gix_url.specs.declared.error.WriteFault.{WriteFault}
 use Rattle.gix_url.specs.Value.{Location}
 use Rattle.gix_url.specs.Bytes.{newline, FreeOf}
 use Rattle.gix_url.specs.Text.{text}
+use Rattle.gix_url.specs.Pieces.{text_length}
 use Rattle.gix_url.specs.declared.error.Error.{Error}
 use Rattle.gix_url.specs.declared.error.Error.TheVariants as error
 use Rattle.gix_url.specs.declared.lines.RunError.{RunError}
@@ -94,20 +95,20 @@ done_last whole (b ∷ bs) out new good first done free filled (answer, one, joi
       counted = refl;
     }, answers_push done.lines out good (b ∷ bs) answer first done.answered one)
 
--- a text or a fault: which it is
-pub has_text : (v : Location) → is_err (text v) ≡ false → (t : List ℕ) × (text v ≡ Ok t)
-has_text v e = has_ok (text v) e
+-- a text or a fault: which it is, by the test of a length
+pub has_text : (v : Location) (r : Result ℕ WriteFault) → r ≡ text_length (text v) → is_err r ≡ false → (t : List ℕ) × (text v ≡ Ok t)
+has_text v r e right = has_ok (text v) (ap is_err (sym e) ∙ right)
   where
-  has_ok : (r : Result (List ℕ) WriteFault) → is_err r ≡ false → (t : List ℕ) × (r ≡ Ok t)
-  has_ok (Ok t) e = (t, refl)
-  has_ok (Err f) e = absurd (cc)
+  has_ok : (w : Result (List ℕ) WriteFault) → is_err (text_length w) ≡ false → (t : List ℕ) × (w ≡ Ok t)
+  has_ok (Ok t) h = (t, refl)
+  has_ok (Err f) h = absurd (cc)
 
-pub has_fault : (v : Location) → is_err (text v) ≡ true → (f : WriteFault) × (text v ≡ Err f)
-has_fault v e = has_err (text v) e
+pub has_fault : (v : Location) (r : Result ℕ WriteFault) → r ≡ text_length (text v) → is_err r ≡ true → (f : WriteFault) × (text v ≡ Err f)
+has_fault v r e wrong = has_err (text v) (ap is_err (sym e) ∙ wrong)
   where
-  has_err : (r : Result (List ℕ) WriteFault) → is_err r ≡ true → (f : WriteFault) × (r ≡ Err f)
-  has_err (Ok t) e = absurd (cc)
-  has_err (Err f) e = (f, refl)
+  has_err : (w : Result (List ℕ) WriteFault) → is_err (text_length w) ≡ true → (f : WriteFault) × (w ≡ Err f)
+  has_err (Ok t) h = absurd (cc)
+  has_err (Err f) h = (f, refl)
 
 -- what is told of a location is the answer to each line that spells it
 pub told_answer : (read line old new : List ℕ) (v : Location) (r : Result Bool RunError) → read ≡ line → Spells read v → Tells v old new r → AppendsAnswer line old new r

@@ -96,7 +96,7 @@ flaw_rows = (
     shape = shape_row (codes "a b") (codes "p") refl refl refl refl refl;
     split = ScpUser.host_alone refl refl;
     no_at = refl;
-    flaw = ScpHostFlaw.white_space (λ e. false≢true (sym e));
+    flaw = ScpHostFlaw.white_space (IsUtf8-from_is_utf8 _ refl) (λ e. false≢true (sym e));
   },
   MissesPath.in_scp (codes "host") (shape_row (codes "host") [] refl refl refl refl refl),
   MissesPath.behind_address [] (codes "::") (record {

@@ -1,28 +1,24 @@
 -- The scp form: its colons, the piece that its host is read from, and what is refused.
-use Rattle.std.proofs.Common.{◌≡◌, ℕ, ◌<◌, Bool, true, false, ◌==◌, ◌⊎◌, inl, inr, List, [], ◌∷◌, ◌++◌, length, Option, Some, None, refl, sym, ap, subst, ◌∙◌, arith, append_assoc, length-append, add-one, take, drop, eq-eqb, IsUtf8, if◌then◌else◌, slice_index, drop-cons, ◌+◌, eqb, eqb-true, IfSome, option_map, Bor}
-use Rattle.std.proofs.lemmas.Bool.{both_ways, false≢true, cases_Bool}
+use Rattle.std.proofs.Common.{◌≡◌, ℕ, ◌<◌, true, false, ◌==◌, ◌⊎◌, inl, inr, List, [], ◌∷◌, ◌++◌, length, Option, Some, None, refl, sym, ap, subst, ◌∙◌, arith, append_assoc, add-one, drop, eq-eqb, IsUtf8, if◌then◌else◌, slice_index, drop-cons, ◌+◌, eqb, eqb-true, IfSome, option_map, Bor}
+use Rattle.std.proofs.lemmas.Bool.{both_ways, cases_Bool}
 use Rattle.std.proofs.lemmas.Option.{same_Some}
 use Rattle.std.specs.Char.{is_ascii_digit}
-use Rattle.gix_url.specs.declared.error.UrlKind.TheVariants as kind
 use Rattle.gix_url.specs.declared.error.UrlFault.{UrlFault}
 use Rattle.gix_url.specs.declared.error.UrlFault.TheVariants as fault
 use Rattle.gix_url.specs.declared.parse.scp.HostRefusal.{HostRefusal}
 use Rattle.gix_url.specs.declared.parse.scp.HostRefusal.TheVariants as refusal
 use Rattle.gix_url.specs.Value.{Location}
-use Rattle.gix_url.specs.Bytes.{percent_sign, slash, colon, at_sign, left_bracket, backslash, right_bracket, FreeOf, LacksWhiteSpace}
-use Rattle.gix_url.specs.Escapes.{escaped_percents, has_percent}
-use Rattle.gix_url.specs.Addresses.{IsIpv6Text}
+use Rattle.gix_url.specs.Bytes.{percent_sign, colon, at_sign, left_bracket, backslash, right_bracket, FreeOf, LacksWhiteSpace}
+use Rattle.gix_url.specs.Escapes.{escaped_percents}
 use Rattle.gix_url.specs.Hosts.{IsDigits, Names}
 use Rattle.gix_url.specs.Hosts.Mode.{bare}
-use Rattle.gix_url.specs.Grammar.{ScpFront, ScpShape, AddressedShape, ScpUser, ScpHost, Unbrackets, SpellsScpBefore, SpellsScpAddressed, SpellsScp}
+use Rattle.gix_url.specs.Grammar.{ScpFront, ScpShape, AddressedShape, ScpUser, ScpHost, Unbrackets, SpellsScpBefore, SpellsScp}
 use Rattle.gix_url.specs.Grammar.ScpFront.{plain, bracketed}
 use Rattle.gix_url.specs.Grammar.ScpUser.{host_alone, with_user}
-use Rattle.gix_url.specs.Flaws.{NameFlaw, ScpHostFlaw, MissesPath}
-use Rattle.gix_url.specs.Flaws.MissesPath.{in_scp, behind_address}
+use Rattle.gix_url.specs.Flaws.{NameFlaw, ScpHostFlaw}
 use Rattle.gix_url.specs.ScpPieces.{ColonsInside, NamesNoPort, NamesHost, PieceFlaw, RefusesPiece, RefusesHost, RefusesScp}
 use Rattle.gix_url.proofs.CutLemmas.{heads, tails, not_free, free_parts, free_head_tail, free_of_all}
-use Rattle.gix_url.proofs.AddressLemmas.{address_free}
-use Rattle.gix_url.proofs.EscapeLemmas.{lacks_escaped_percents, escaped_percents_kept, escaped_percents-append, utf8_parts}
+use Rattle.gix_url.proofs.EscapeLemmas.{lacks_escaped_percents, escaped_percents-append, utf8_parts}
 use Rattle.gix_url.proofs.HostLemmas.{names_unique}
 use Rattle.gix_url.proofs.ShapeLemmas.{front_cut_unique}
 use Rattle.gix_url.proofs.FormLemmas.{address_cut, address_front_free}
@@ -152,8 +148,8 @@ scp_host_refused host piece e (refusal.Fault named) h =
     (λ meant k. h.0 meant (record { named = k.named; names = subst (λ p. Names bare p (Some k.named) None) (sym e) k.names; unbracketed = k.unbracketed }), piece_flaw host piece named e h.1)
 
 -- white space and backslashes are refused
-pub white_space_refused : (host : List ℕ) → ¬ LacksWhiteSpace host → RefusesHost host (refusal.Fault fault.BadCharacter)
-white_space_refused host held = (λ meant k. held k.no_white_space, ScpHostFlaw.white_space held)
+pub white_space_refused : (host : List ℕ) → IsUtf8 host → ¬ LacksWhiteSpace host → RefusesHost host (refusal.Fault fault.BadCharacter)
+white_space_refused host text held = (λ meant k. held k.no_white_space, ScpHostFlaw.white_space text held)
 
 pub backslash_refused : (host : List ℕ) → ¬ FreeOf backslash host → RefusesHost host (refusal.Fault fault.BadCharacter)
 backslash_refused host held = (λ meant k. held k.no_backslash, ScpHostFlaw.holds_backslash held)
@@ -213,8 +209,8 @@ addressed_no_path_before b user address k v h =
     let (x, y, f, e) = address_cut address k.addressed in
     elim (front_of_addressed b user address [] x y h.front h.path k f e h.shape.joined h.shape.shape) [
       | inl within ↦
-        let pieces = scp_user_unique h.front h.user (Some user) h.host (left_bracket ∷ x) h.hosted.no_at (address_front_free at_sign address x y refl k.addressed e) h.split (with_user user within refl) in
-        open_bracket_no_host h.host x h.meant pieces.1 (address_front_free right_bracket address x y refl k.addressed e) h.hosted
+          let pieces = scp_user_unique h.front h.user (Some user) h.host (left_bracket ∷ x) h.hosted.no_at (address_front_free at_sign address x y refl k.addressed e) h.split (with_user user within refl) in
+          open_bracket_no_host h.host x h.meant pieces.1 (address_front_free right_bracket address x y refl k.addressed e) h.hosted
       | inr (behind, none) ↦ absurd (omega (arith, ap length none, h.pathed))
     ]
 

@@ -1,23 +1,29 @@
 -- The settled class by its parts: what the small tests tell, joined.
-use Rattle.std.proofs.Common.{⊎_elim, ◌≡◌, ◌↔◌, ℕ, ◌<◌, Bool, true, false, not, ◌||◌, ◌==◌, ◌⊎◌, inl, inr, List, [], ◌∷◌, ◌++◌, length, codes, refl, sym, ap, subst, ◌∙◌, arith, append_assoc, Option, Some, None, IsTrue}
+use Rattle.std.proofs.Common.{⊎_elim, ◌≡◌, ◌↔◌, ℕ, ◌<◌, Bool, true, false, not, ◌||◌, ◌==◌, ◌⊎◌, inl, inr, List, [], ◌∷◌, ◌++◌, length, codes, refl, sym, ap, subst, ◌∙◌, arith, append_assoc, Option, Some, None, IsSome, Ok, Err, ◌&&◌, IsTrue}
 use Rattle.std.specs.List.{list_any, list_all}
-use Rattle.std.specs.Option.{is_some}
+use Rattle.std.specs.Option.{is_some, is_none}
 use Rattle.std.proofs.lemmas.List.{append_cancel_right}
 use Rattle.std.proofs.lemmas.List.Folds.{list_all-append}
-use Rattle.std.proofs.lemmas.Bool.{both_ways, false≢true, true≢false, not-false, and_parts}
+use Rattle.std.proofs.lemmas.Bool.{cond-false, and_right, both_ways, false≢true, true≢false, not-false, and_parts}
 use Rattle.gix_url.specs.Value.{Location}
-use Rattle.gix_url.specs.Bytes.{colon, left_bracket, right_bracket, percent_sign, FreeOf, lowercase}
+use Rattle.gix_url.specs.Value.Protocol.{ssh, git, helper_url}
+use Rattle.gix_url.specs.Bytes.{colon, left_bracket, right_bracket, percent_sign, slash, tilde, begins_with, is_scheme_text, FreeOf, lowercase}
 use Rattle.gix_url.specs.Escapes.{has_percent}
 use Rattle.gix_url.specs.Addresses.{Literal, IsIpv6Text}
 use Rattle.gix_url.specs.Addresses.Literal.{address, zoned}
 use Rattle.gix_url.specs.Hosts.{is_http_host_byte}
 use Rattle.gix_url.specs.HostPieces.{IsEscapedZone}
 use Rattle.gix_url.specs.Shapes.{LocalShape}
-use Rattle.gix_url.specs.Settled.{IsNormalAddress, IsSettledLocal, IsWebName, IsWebHost}
+use Rattle.gix_url.specs.Settled.{HasFittingText, IsNormalAddress, IsSettledGit, IsSettledHelperUrl, IsSettledLocal, IsSettledScp, IsSettledSecure, IsSettledUrl, IsSettledWeb, IsTransportPath, IsWebName, IsWebHost}
 use Rattle.gix_url.specs.Settled.IsWebHost.{literal, literal_colon, named, named_colon}
-use Rattle.gix_url.specs.SettledParts.{IsFlaggedPath, IsNormalLiteral, IsBracketedLiteral, IsClosedHost}
+use Rattle.gix_url.specs.SettledParts.{HasScpForm, HasScpParts, HasUrlForm, IsFlaggedPath, IsGitTarget, IsHosted, IsNormalLiteral, IsBracketedLiteral, IsClosedHost, IsOtherForm, IsPiecesShort, IsSecureTarget, IsSettledRaw, IsWeb, IsWebTarget, IsWrittenAsUrl}
+use Rattle.gix_url.specs.Schemes.{protocol_text}
+use Rattle.gix_url.specs.Text.{Form, choice, choice_by, ssh_choice, with_host, is_relative, in_form, text, canonical_text, user_information, host_part, port_part, canonical_path}
+use Rattle.gix_url.specs.Text.Form.{canonical_form}
+use Rattle.gix_url.specs.Authority.{FitsText}
+use Rattle.gix_url.proofs.LengthLemmas.{fits_text}
 use Rattle.gix_url.proofs.AddressLemmas.{address_free}
-use Rattle.gix_url.proofs.CutLemmas.{cut_unique, different_bytes, heads, not_free, tails, last_unique}
+use Rattle.gix_url.proofs.CutLemmas.{cut_unique, different_bytes, heads, not_free, tails, last_unique, scheme_text_free}
 
 -- ---- tests in a row
 
@@ -159,3 +165,185 @@ bare_host_to port host ends (named_colon n name plain none e) = absurd (ends n e
 
 pub web_host_bare : (port : Option ℕ) (host : List ℕ) → ((front : List ℕ) → ¬ (host ≡ front ++ colon ∷ [])) → (IsBracketedLiteral host ⊎ IsWebName host) ↔ IsWebHost port host
 web_host_bare port host ends = (λ either. bare_host_from port host either, λ settled. bare_host_to port host ends settled)
+
+-- ---- hosts that are there
+
+-- there is a host that passes where the one that is there does
+pub host_tested : (P : List ℕ → Type 0) (host : Option (List ℕ)) (h : List ℕ) (b : Bool) → host ≡ Some h → (IsTrue b ↔ P h) → IsTrue b ↔ ((x : List ℕ) × (host ≡ Some x) × P x)
+host_tested P host h b is test = (
+  λ yes. (h, is, test.0 yes),
+  λ (x, e, passes). let same : Some x ≡ Some h = sym e ∙ is in let equal : x ≡ h = cc in test.1 (subst P equal passes),
+)
+
+-- ---- the kinds of locations, by their parts
+
+-- a settled URL has the form of one, and its text is short enough
+pub settled_url : (v : Location) → (HasUrlForm v × HasFittingText v) ↔ IsSettledUrl v
+settled_url v = (
+  λ parts. record {
+    unflagged = parts.0.0.unflagged;
+    password = parts.0.0.credentials.password;
+    user = parts.0.0.credentials.user;
+    user_hosted = parts.0.0.hosted.user_hosted;
+    port_hosted = parts.0.0.hosted.port_hosted;
+    fits = parts.1;
+    path_text = parts.0.1.path_text;
+    spelling = parts.0.1.spelling;
+  },
+  λ s. (
+    (
+      record {
+        unflagged = s.unflagged;
+        credentials = record { password = s.password; user = s.user };
+        hosted = record { user_hosted = s.user_hosted; port_hosted = s.port_hosted };
+      },
+      record { path_text = s.path_text; spelling = s.spelling },
+    ),
+    s.fits,
+  ),
+)
+
+-- a settled location of HTTP
+pub settled_web : (v : Location) → (IsWebTarget v × IsSettledUrl v) ↔ IsSettledWeb v
+settled_web v = (
+  λ parts. record { common = parts.1; host = parts.0.host; port = parts.0.port; path = parts.0.path },
+  λ s. (record { host = s.host; port = s.port; path = s.path }, s.common),
+)
+
+-- a settled URL of Secure Shell
+pub settled_secure : (v : Location) → (IsSecureTarget v × IsSettledRaw v) ↔ IsSettledSecure v
+settled_secure v = (
+  λ parts. record { common = parts.1.0; host = parts.0.0; path = parts.0.1; raw = parts.1.1 },
+  λ s. ((s.host, s.path), (s.common, s.raw)),
+)
+
+-- a settled URL of Git's own protocol
+pub settled_git : (v : Location) → (IsGitTarget v × IsSettledRaw v) ↔ IsSettledGit v
+settled_git v = (
+  λ parts. record { common = parts.1.0; host = parts.0.0; path = parts.0.1; raw = parts.1.1 },
+  λ s. ((s.host, s.path), (s.common, s.raw)),
+)
+
+-- a settled URL of another scheme
+pub settled_helper_url : (name : List ℕ) (v : Location) → (IsOtherForm name v × IsSettledRaw v) ↔ IsSettledHelperUrl name v
+settled_helper_url name v = (
+  λ parts. record {
+    common = parts.1.0;
+    scheme_text = parts.0.0.scheme_text;
+    unknown = parts.0.0.unknown;
+    host = parts.0.1.host;
+    hosted = parts.0.1.hosted;
+    path = parts.0.1.path;
+    raw = parts.1.1;
+  },
+  λ s. (
+    (
+      record { scheme_text = s.scheme_text; unknown = s.unknown },
+      record { host = s.host; hosted = s.hosted; path = s.path },
+    ),
+    (s.common, s.raw),
+  ),
+)
+
+-- a settled location in the scp form
+pub settled_scp : (v : Location) → (HasScpForm v × HasScpParts v) ↔ IsSettledScp v
+settled_scp v = (
+  λ parts. record {
+    flagged = parts.0.flagged;
+    no_password = parts.0.no_password;
+    no_port = parts.0.no_port;
+    path_text = parts.1.0.path_text;
+    nonempty = parts.1.0.nonempty;
+    not_home = parts.1.0.not_home;
+    not_slashes = parts.1.0.not_slashes;
+    no_mark = parts.1.0.no_mark;
+    user = parts.1.1.0;
+    host = parts.1.1.1;
+  },
+  λ s. (
+    record { flagged = s.flagged; no_password = s.no_password; no_port = s.no_port },
+    (
+      record {
+        path_text = s.path_text;
+        nonempty = s.nonempty;
+        not_home = s.not_home;
+        not_slashes = s.not_slashes;
+        no_mark = s.no_mark;
+      },
+      (s.user, s.host),
+    ),
+  ),
+)
+
+-- ---- the texts of settled URLs
+
+-- there isn't a user without a host
+both_given : (user host : Option (List ℕ)) → (IsSome user → IsSome host) → (is_some user && is_none host) ≡ false
+both_given None host hosted = refl
+both_given (Some u) None hosted = absurd (false≢true (hosted refl))
+both_given (Some u) (Some h) hosted = refl
+
+-- a user that comes with a host leaves the form as it is
+host_given : (v : Location) (form : Form) → (IsSome v.user → IsSome v.host) → with_host v form ≡ Ok form
+host_given v form hosted = cond-false _ _ _ (both_given v.user v.host hosted)
+
+-- a location whose form is that of a URL has the text of a URL
+canonical_by : (v : Location) → choice v ≡ with_host v canonical_form → IsHosted v → text v ≡ Ok (canonical_text v)
+canonical_by v chosen hosted = ap (λ form. in_form form v) (chosen ∙ host_given v canonical_form hosted.user_hosted)
+
+-- HTTP
+pub written_web : (v : Location) → IsWeb v → IsWrittenAsUrl v
+written_web v (inl e) = record {
+  no_colon = subst (λ p. FreeOf colon (protocol_text p)) (sym e) refl;
+  canonical = λ unflagged hosted. canonical_by v (ap (λ p. choice_by p v) e) hosted;
+}
+written_web v (inr e) = record {
+  no_colon = subst (λ p. FreeOf colon (protocol_text p)) (sym e) refl;
+  canonical = λ unflagged hosted. canonical_by v (ap (λ p. choice_by p v) e) hosted;
+}
+
+-- Git's own protocol
+pub written_git : (v : Location) → v.scheme ≡ git → IsWrittenAsUrl v
+written_git v e = record {
+  no_colon = subst (λ p. FreeOf colon (protocol_text p)) (sym e) refl;
+  canonical = λ unflagged hosted. canonical_by v (ap (λ p. choice_by p v) e) hosted;
+}
+
+-- another scheme
+pub written_other : (v : Location) (name : List ℕ) → v.scheme ≡ helper_url name → is_scheme_text name ≡ true → IsWrittenAsUrl v
+written_other v name e spelled = record {
+  no_colon = subst (λ p. FreeOf colon (protocol_text p)) (sym e) (scheme_text_free name colon spelled refl);
+  canonical = λ unflagged hosted. canonical_by v (ap (λ p. choice_by p v) e) hosted;
+}
+
+-- a path that is rooted or below a home folder is not relative
+not_relative : (path : List ℕ) → (begins_with slash path ≡ true) ⊎ (begins_with tilde path ≡ true) → is_relative path ≡ false
+not_relative [] begins = refl
+not_relative (b ∷ bs) (inl e) = rw e refl
+not_relative (b ∷ bs) (inr e) = let other : not (b == tilde) ≡ false = ap not e in and_right _ _ other
+
+-- such a location of Secure Shell without the flag has the form of a URL
+secure_choice : (v : Location) → is_relative v.path ≡ false → v.flag ≡ false → ssh_choice v ≡ with_host v canonical_form
+secure_choice v rooted unflagged = rw (rooted, unflagged) refl
+
+transport_begins : (v : Location) → IsTransportPath v → (begins_with slash v.path ≡ true) ⊎ (begins_with tilde v.path ≡ true)
+transport_begins v (inl rooted) = inl rooted.0
+transport_begins v (inr home) = inr home.0
+
+-- Secure Shell
+pub written_secure : (v : Location) → v.scheme ≡ ssh → IsTransportPath v → IsWrittenAsUrl v
+written_secure v e path = record {
+  no_colon = subst (λ p. FreeOf colon (protocol_text p)) (sym e) refl;
+  canonical = λ unflagged hosted. canonical_by v (ap (λ p. choice_by p v) e ∙ secure_choice v (not_relative v.path (transport_begins v path)) unflagged) hosted;
+}
+
+-- the text of a URL is short enough where the walk over it is
+pub fitting_text : (v : Location) (t : List ℕ) → FreeOf colon (protocol_text v.scheme) → text v ≡ Ok (canonical_text v) → Ok t ≡ text v → IsPiecesShort (protocol_text v.scheme) t ↔ HasFittingText v
+fitting_text v t free canonical is =
+    let okay : Ok t ≡ Ok (canonical_text v) = is ∙ canonical in
+    let same : t ≡ canonical_text v = cc in
+    let rest = user_information v.user v.password ++ (host_part v v.host ++ (port_part v.port ++ canonical_path v)) in
+    let test : IsPiecesShort (protocol_text v.scheme) t ↔ FitsText t = fits_text (protocol_text v.scheme) rest t free same in (
+      λ short. (t, sym is, test.0 short),
+      λ (x, e, fits). let both : Ok x ≡ Ok t = sym e ∙ sym is in let equal : x ≡ t = cc in test.1 (subst FitsText equal fits),
+    )

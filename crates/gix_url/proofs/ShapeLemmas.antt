@@ -1,5 +1,5 @@
 -- The forms of a text: where its pieces are cut, that they are cut in one way, and that one form excludes the others.
-use Rattle.std.proofs.Common.{◌≡◌, ℕ, ◌+◌, ◌<◌, ◌≤◌, Bool, true, false, ◌⊎◌, inl, inr, List, [], ◌∷◌, ◌++◌, length, take, drop, refl, sym, ap, subst, ◌∙◌, arith, append_assoc, length-append, ◌==◌, eq-eqb, IsUtf8, All, codes, bytes_eq}
+use Rattle.std.proofs.Common.{◌≡◌, ℕ, ◌+◌, ◌<◌, ◌≤◌, true, false, ◌⊎◌, inl, inr, List, [], ◌∷◌, ◌++◌, length, take, drop, refl, sym, ap, subst, ◌∙◌, arith, append_assoc, length-append, ◌==◌, eq-eqb, IsUtf8, All, codes, bytes_eq}
 use Rattle.std.proofs.lemmas.Bool.{eqb-true, both_ways, false≢true, and_parts, and_from, or_left}
 use Rattle.std.proofs.lemmas.Bool.Decides.{nat_tests}
 use Rattle.std.proofs.lemmas.List.{take_at, drop_at, append_cancel_left}
@@ -16,7 +16,7 @@ use Rattle.gix_url.specs.Value.{Location, path_alone}
 use Rattle.gix_url.specs.Value.Protocol.{file}
 use Rattle.gix_url.specs.Bytes.{slash, colon, at_sign, left_bracket, right_bracket, FreeOf, begins_with, is_helper_name, is_name_byte}
 use Rattle.gix_url.specs.Addresses.{IsIpv6Text}
-use Rattle.gix_url.specs.Grammar.{HelperParts, HasHelperForm, IsNeither, ScpFront, ScpShape, AddressedShape, IsScpShaped, SpellsUrl, SpellsFile, SpellsScpBefore, SpellsScp, Spells}
+use Rattle.gix_url.specs.Grammar.{HelperParts, HasHelperForm, IsNeither, ScpFront, AddressedShape, IsScpShaped, SpellsUrl, SpellsFile, SpellsScpBefore, SpellsScp, Spells}
 use Rattle.gix_url.specs.Grammar.Spells.{url, file_url, remote_helper, scp_form, local_path}
 use Rattle.gix_url.specs.Grammar.ScpFront.{plain, bracketed}
 use Rattle.gix_url.specs.Authority.{unless_empty, Fits}
@@ -24,7 +24,7 @@ use Rattle.gix_url.specs.Flaws.{UrlShape, OtherShape, MissesPath}
 use Rattle.gix_url.specs.Flaws.MissesPath.{in_file}
 use Rattle.gix_url.specs.Readings.{NoneBut}
 use Rattle.gix_url.specs.Shapes.{FrontCut, HasFrontCut, LacksBrackets, ScpCut, HasScpCut, AddressedCut, AddressedFront, HasAddressedCut, PlainScp, LocalShape}
-use Rattle.gix_url.proofs.CutLemmas.{heads, tails, different_bytes, begins_cut, not_free, free-append, free-cons, free_parts, free_head_tail, free_or_cut, cut_unique, last_cut_unique, mark_cut_unique, held_free, helper_name_free, scheme_text_free}
+use Rattle.gix_url.proofs.CutLemmas.{heads, tails, different_bytes, begins_cut, not_free, free-append, free-cons, free_parts, free_or_cut, cut_unique, last_cut_unique, mark_cut_unique, held_free, helper_name_free, scheme_text_free}
 use Rattle.gix_url.proofs.AddressLemmas.{address_two_colons, address_free}
 use Rattle.gix_url.proofs.EscapeLemmas.{utf8_behind, utf8_parts}
 
@@ -138,14 +138,14 @@ pub addressed_front : (b front rest u a p : List ℕ) → AddressedCut b u a p �
 addressed_front b front rest u a p h free e =
     elim (free_or_cut colon a) [
       | inl none ↦
-        let (x, y, z, two) = address_two_colons a h.addressed in
-        absurd (not_free colon x (y ++ colon ∷ z) (subst (λ t. FreeOf colon t) two none))
+          let (x, y, z, two) = address_two_colons a h.addressed in
+          absurd (not_free colon x (y ++ colon ∷ z) (subst (λ t. FreeOf colon t) two none))
       | inr (x, y, none, two) ↦
-        let before = free-append colon u (at_sign ∷ (left_bracket ∷ x)) h.no_colon (free-cons colon at_sign (left_bracket ∷ x) refl (free-cons colon left_bracket x refl none)) in
-        let inner : a ++ right_bracket ∷ (colon ∷ p) ≡ x ++ colon ∷ (y ++ right_bracket ∷ (colon ∷ p)) = ap (λ t. t ++ right_bracket ∷ (colon ∷ p)) two ∙ append_assoc x (colon ∷ y) (right_bracket ∷ (colon ∷ p)) in
-        let whole : b ≡ (u ++ at_sign ∷ (left_bracket ∷ x)) ++ colon ∷ (y ++ right_bracket ∷ (colon ∷ p)) = h.joined ∙ ap (λ t. u ++ at_sign ∷ (left_bracket ∷ t)) inner ∙ sym (append_assoc u (at_sign ∷ (left_bracket ∷ x)) (colon ∷ (y ++ right_bracket ∷ (colon ∷ p)))) in
-        let no_at = (free_parts at_sign x (colon ∷ y) (subst (λ t. FreeOf at_sign t) two (address_free at_sign a refl h.addressed))).0 in
-        (x, no_at, (cut_unique colon front (u ++ at_sign ∷ (left_bracket ∷ x)) rest (y ++ right_bracket ∷ (colon ∷ p)) free before (sym e ∙ whole)).0)
+          let before = free-append colon u (at_sign ∷ (left_bracket ∷ x)) h.no_colon (free-cons colon at_sign (left_bracket ∷ x) refl (free-cons colon left_bracket x refl none)) in
+          let inner : a ++ right_bracket ∷ (colon ∷ p) ≡ x ++ colon ∷ (y ++ right_bracket ∷ (colon ∷ p)) = ap (λ t. t ++ right_bracket ∷ (colon ∷ p)) two ∙ append_assoc x (colon ∷ y) (right_bracket ∷ (colon ∷ p)) in
+          let whole : b ≡ (u ++ at_sign ∷ (left_bracket ∷ x)) ++ colon ∷ (y ++ right_bracket ∷ (colon ∷ p)) = h.joined ∙ ap (λ t. u ++ at_sign ∷ (left_bracket ∷ t)) inner ∙ sym (append_assoc u (at_sign ∷ (left_bracket ∷ x)) (colon ∷ (y ++ right_bracket ∷ (colon ∷ p)))) in
+          let no_at = (free_parts at_sign x (colon ∷ y) (subst (λ t. FreeOf at_sign t) two (address_free at_sign a refl h.addressed))).0 in
+          (x, no_at, (cut_unique colon front (u ++ at_sign ∷ (left_bracket ∷ x)) rest (y ++ right_bracket ∷ (colon ∷ p)) free before (sym e ∙ whole)).0)
     ]
 
 -- an `@` stands before it

@@ -118,7 +118,7 @@ pub data UrlFlaw (b : List ℕ) : UrlFault → Type 0 where
   -- what stands before `://` is no scheme
   no_scheme : (front rest : List ℕ) → OtherShape b front rest → is_scheme_text front ≡ false → UrlFlaw b fault.NoScheme
   -- white space, or a `%` that begins no escape
-  white_space : (front rest : List ℕ) → OtherShape b front rest → ¬ LacksWhiteSpace b → UrlFlaw b fault.BadCharacter
+  white_space : (front rest : List ℕ) → OtherShape b front rest → IsUtf8 b → ¬ LacksWhiteSpace b → UrlFlaw b fault.BadCharacter
   unsound : (front rest : List ℕ) → OtherShape b front rest → is_sound b ≡ false → UrlFlaw b fault.BadCharacter
   -- the path decodes to no text
   bad_path : (scheme authority path : List ℕ) → UrlCut b scheme authority path → ¬ IsUtf8 (percent_decode path) → UrlFlaw b fault.BadCharacter
@@ -132,7 +132,7 @@ pub data UrlFlaw (b : List ℕ) : UrlFault → Type 0 where
 pub data ScpHostFlaw (host : List ℕ) : UrlFault → Type 0 where
   empty : host ≡ [] → ScpHostFlaw host fault.HostRequired
   holds_backslash : ¬ FreeOf backslash host → ScpHostFlaw host fault.BadCharacter
-  white_space : ¬ LacksWhiteSpace host → ScpHostFlaw host fault.BadCharacter
+  white_space : IsUtf8 host → ¬ LacksWhiteSpace host → ScpHostFlaw host fault.BadCharacter
   bad_name : (named : UrlFault) → NameFlaw bare (escaped_percents host) named → ScpHostFlaw host named
 
 -- what is wrong with the scp form

@@ -1,5 +1,5 @@
 -- Rows: what the definitions say of texts and values that are written out. Each group is one statement.
-use Rattle.std.specs.Prelude.{◌≡◌, ℕ, true, false, List, [], ◌∷◌, ◌++◌, codes, Option, Some, None, Ok, Err}
+use Rattle.std.specs.Prelude.{◌≡◌, ℕ, true, false, List, [], ◌∷◌, ◌++◌, replicate, codes, Option, Some, None, Ok, Err}
 use Rattle.percent_encoding.specs.Percent.{percent_encode, percent_decode}
 use Rattle.gix_url.specs.declared.error.UrlKind.TheVariants as kind
 use Rattle.gix_url.specs.declared.error.UrlFault.TheVariants as fault
@@ -13,7 +13,7 @@ use Rattle.gix_url.specs.Addresses.{Literal}
 use Rattle.gix_url.specs.Hosts.{Mode, normal_host, IsLiteral, Names}
 use Rattle.gix_url.specs.Hosts.Mode.{strict, bare, loose}
 use Rattle.gix_url.specs.Schemes.{protocol_of}
-use Rattle.gix_url.specs.Authority.{Credentials, Authority}
+use Rattle.gix_url.specs.Authority.{Credentials, Authority, Fits}
 use Rattle.gix_url.specs.Grammar.{from_home, or_root, HasHelperForm, SpellsUrl, SpellsFile, SpellsHelper, SpellsScp, SpellsScpAddressed, SpellsLocal}
 use Rattle.gix_url.specs.Text.{text}
 use Rattle.gix_url.specs.Settled.{IsWebHost, IsSettled}
@@ -301,6 +301,24 @@ NoAuthorityRows =
     × ((mode : Mode) (user password host : Option (List ℕ)) (port : Option ℕ)
     → Authority mode (codes "a@b@h") user password host port → user ≡ Some (codes "a@b"))
     × ((mode : Mode) (user password host : Option (List ℕ)) (port : Option ℕ) → ¬ Authority mode (codes "u@") user password host port)
+
+-- ---- lengths
+
+-- the byte `a`, so often
+abbrev pub letters : ℕ → List ℕ
+letters n = replicate n 97
+
+-- what is as long as it may be, and what is too long
+abbrev pub LengthRows : Type 0
+LengthRows =
+    Fits (codes "http") (letters 1024 ++ codes "/")
+    × ¬ Fits (codes "http") (letters 1025 ++ codes "/")
+    × Fits (codes "x") (codes "/" ++ letters 1023)
+    × ¬ Fits (codes "x") (codes "/" ++ letters 1024)
+    × Fits (codes "http") (codes "h?" ++ letters 1100)
+    × ¬ Fits (codes "ssh") (codes "h?" ++ (letters 1100 ++ codes "/p"))
+    × Fits (letters 1024) (codes "h/p")
+    × ¬ Fits (letters 1025) (codes "h/p")
 
 -- ---- whole texts
 

@@ -1,15 +1,17 @@
 -- The parts that the settled class is tested by: each is a few clauses of its definitions.
-use Rattle.std.specs.Prelude.{◌≡◌, ℕ, ◌<◌, Bool, true, false, ◌⊎◌, List, [], ◌∷◌, ◌++◌, length, codes, Option, MatchOption, Some, None, IsSome, IfSome, Ok, IsUtf8}
+use Rattle.std.specs.Prelude.{◌≡◌, ◌≢◌, ℕ, ◌<◌, ◌≤◌, Bool, true, false, ◌⊎◌, List, [], ◌∷◌, ◌++◌, length, codes, bytes_eq, Option, MatchOption, Some, None, IsSome, IfSome, Ok, IsUtf8}
 use Rattle.std.specs.Borrow.{Bor}
 use Rattle.percent_encoding.specs.Percent.{percent_decode}
 use Rattle.gix_url.specs.Value.{Location}
 use Rattle.gix_url.specs.Value.Protocol.{ssh, git, http, https, helper_url}
-use Rattle.gix_url.specs.Bytes.{colon, left_bracket, right_bracket, slash, FreeOf, begins_with, Holds, is_scheme_text}
-use Rattle.gix_url.specs.Escapes.{has_percent}
+use Rattle.gix_url.specs.Bytes.{colon, left_bracket, right_bracket, slash, FreeOf, begins_by, begins_with, Holds, LacksWhiteSpace, is_scheme_text}
+use Rattle.gix_url.specs.Cuts.{is_path_start}
+use Rattle.gix_url.specs.Escapes.{has_percent, is_sound}
 use Rattle.gix_url.specs.Addresses.{Literal}
 use Rattle.gix_url.specs.Schemes.{is_known_scheme, protocol_text}
 use Rattle.gix_url.specs.Text.{text, canonical_text}
-use Rattle.gix_url.specs.Settled.{HasHostAlone, HasFittingText, IsFairSpelling, IsRawPath, IsScpName, IsScpUser, IsNormalAddress, IsSettledUrl, IsWebName, LooksLikeHelper, begins_at_home, begins_with_slashes}
+use Rattle.gix_url.specs.Walks.{is_walk_short, text_walk_past, text_walk_for}
+use Rattle.gix_url.specs.Settled.{IsBareHost, IsBracketedHost, IsWebHost, is_ftp, HasHostAlone, HasFittingText, IsFairSpelling, IsRawPath, IsScpName, IsScpUser, IsNormalAddress, IsSettledHelper, IsSettledUrl, IsTransportPath, IsWebName, LooksLikeHelper, begins_at_home, begins_with_slashes}
 
 -- nothing but a path, and the flag
 pub record IsFlaggedPath (v : Location) : Type 0 where
@@ -40,6 +42,14 @@ IsScpHost host = IsScpName host ⊎ IsNormalAddress host
 -- the host is there, and settled
 abbrev pub HasScpHost : Location → Type 0
 HasScpHost v = (h : List ℕ) × (v.host ≡ Some h) × IsScpHost h × ¬ LooksLikeHelper v h
+
+-- user and host are settled in the scp form
+abbrev pub HasScpFront : Location → Type 0
+HasScpFront v = IfSome v.user IsScpUser × HasScpHost v
+
+-- user, host and path are settled in the scp form
+abbrev pub HasScpParts : Location → Type 0
+HasScpParts v = IsScpPath v.path × HasScpFront v
 
 -- ---- URLs
 
@@ -79,6 +89,16 @@ pub record HasUrlParts (v : Location) : Type 0 where
   pub credentials : HasCredentials v
   pub hosted : IsHosted v
 
+-- neither `%` nor white space
+abbrev pub IsRaw : List ℕ → Type 0
+IsRaw path = (has_percent path ≡ false) × LacksWhiteSpace path
+
+-- escapes, all of them sound, and no white space
+pub record IsEscapedText (spelling : List ℕ) : Type 0 where
+  pub sound : is_sound spelling ≡ true
+  pub escaped : has_percent spelling ≡ true
+  pub no_white_space : LacksWhiteSpace spelling
+
 -- a matching spelling is fair
 abbrev pub HasFairSpelling : Location → Type 0
 HasFairSpelling v = (s : List ℕ) → v.spelling ≡ Some s → percent_decode s ≡ v.path → IsFairSpelling s v.path
@@ -87,6 +107,10 @@ HasFairSpelling v = (s : List ℕ) → v.spelling ≡ Some s → percent_decode 
 pub record HasUrlPath (v : Location) : Type 0 where
   pub path_text : IsUtf8 v.path
   pub spelling : HasFairSpelling v
+
+-- all of a settled URL but the length of its text
+abbrev pub HasUrlForm : Location → Type 0
+HasUrlForm v = HasUrlParts v × HasUrlPath v
 
 -- the location is one of HTTP
 abbrev pub IsWeb : Location → Type 0
@@ -97,6 +121,40 @@ pub record IsWrittenAsUrl (v : Location) : Type 0 where
   pub no_colon : FreeOf colon (protocol_text v.scheme)
   pub canonical : v.flag ≡ false → IsHosted v → text v ≡ Ok (canonical_text v)
 
+-- a host, settled for HTTP
+abbrev pub HasWebHost : Location → Type 0
+HasWebHost v = (h : List ℕ) × (v.host ≡ Some h) × IsWebHost v.port h
+
+-- host, port and path of a settled location of HTTP
+pub record IsWebTarget (v : Location) : Type 0 where
+  pub host : HasWebHost v
+  pub port : v.port ≢ Some 0
+  pub path : begins_by (is_path_start true) v.path ≡ true
+
+-- a host, settled for Secure Shell
+abbrev pub HasBareHost : Location → Type 0
+HasBareHost v = (h : List ℕ) × (v.host ≡ Some h) × IsBareHost h
+
+-- a host, settled with brackets around an address
+abbrev pub HasBracketedHost : Location → Type 0
+HasBracketedHost v = (h : List ℕ) × (v.host ≡ Some h) × IsBracketedHost h
+
+-- a rooted path, and none below a home folder
+abbrev pub IsHomeless : List ℕ → Type 0
+IsHomeless path = (begins_with slash path ≡ true) × (begins_at_home path ≡ false)
+
+-- host and path of a settled URL of Secure Shell
+abbrev pub IsSecureTarget : Location → Type 0
+IsSecureTarget v = HasBareHost v × IsTransportPath v
+
+-- host and path of a settled URL of Git's own protocol
+abbrev pub IsGitTarget : Location → Type 0
+IsGitTarget v = HasBracketedHost v × IsTransportPath v
+
+-- a settled URL, and its path is written raw where no spelling matches it
+abbrev pub IsSettledRaw : Location → Type 0
+IsSettledRaw v = IsSettledUrl v × IsRawPath v
+
 -- the name is a scheme without a name of its own
 pub record IsOtherScheme (name : List ℕ) : Type 0 where
   pub scheme_text : is_scheme_text name ≡ true
@@ -105,3 +163,21 @@ pub record IsOtherScheme (name : List ℕ) : Type 0 where
 -- the path of a URL of another scheme
 abbrev pub IsRootedOrEmpty : List ℕ → Type 0
 IsRootedOrEmpty path = (path ≡ []) ⊎ (begins_with slash path ≡ true)
+
+-- host and path of a settled URL of another scheme
+pub record IsOtherTarget (name : List ℕ) (v : Location) : Type 0 where
+  pub host : IfSome v.host IsBracketedHost
+  pub hosted : is_ftp name ≡ true → IsSome v.host
+  pub path : IsRootedOrEmpty v.path
+
+-- scheme, host and path of a settled URL of another scheme
+abbrev pub IsOtherForm : List ℕ → Location → Type 0
+IsOtherForm name v = IsOtherScheme name × IsOtherTarget name v
+
+-- the scheme is short enough, and so is what follows it and its mark in the text
+abbrev pub IsPiecesShort : List ℕ → List ℕ → Type 0
+IsPiecesShort scheme whole = (length scheme ≤ 1024) × (is_walk_short (text_walk_past (text_walk_for scheme) whole).walk ≡ true)
+
+-- a settled remote helper of another name than `ext`
+abbrev pub IsSettledNamed : List ℕ → Location → Type 0
+IsSettledNamed name v = IsSettledHelper name v × (bytes_eq name (codes "ext") ≡ false)

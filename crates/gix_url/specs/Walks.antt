@@ -1,9 +1,10 @@
 -- A walk over what follows the `://` of a URL, which measures it for the length test. Counts stop one past the limit.
-use Rattle.std.specs.Prelude.{ℕ, ◌+◌, min, nat_le, Bool, List, [], ◌∷◌, if◌then◌else◌}
+use Rattle.std.specs.Prelude.{ℕ, ◌+◌, ◌-◌, length, drop, min, nat_le, Bool, List, [], ◌∷◌, if◌then◌else◌}
 use Rattle.std.specs.Char.{is_ascii_whitespace}
 use Rattle.gix_url.specs.declared.length.Stage.{Stage}
 use Rattle.gix_url.specs.declared.length.Stage.TheVariants.{Slashes, Front, Behind}
 use Rattle.gix_url.specs.declared.length.Walk.{Walk}
+use Rattle.gix_url.specs.declared.length.TextWalk.{TextWalk}
 use Rattle.gix_url.specs.Authority.{is_any_slash}
 use Rattle.gix_url.specs.Cuts.{is_path_start}
 use Rattle.gix_url.specs.Schemes.{is_web_scheme}
@@ -47,3 +48,11 @@ counted_at (Behind count) whole = count
 -- what was walked past is short enough
 abbrev pub is_walk_short : Walk → Bool
 is_walk_short walk = nat_le (counted_at walk.stage walk.whole) 1024
+
+-- a walk over a text past more bytes: what is left of the scheme and its mark is left out
+abbrev pub text_walk_past : TextWalk → List ℕ → TextWalk
+text_walk_past text bs = record { left = text.left - length bs; walk = walk_past_all text.walk (drop text.left bs) }
+
+-- a walk over the text of a URL with this scheme, before its first byte
+abbrev pub text_walk_for : List ℕ → TextWalk
+text_walk_for scheme = record { left = length scheme + 3; walk = walk_behind scheme }

@@ -4,14 +4,14 @@
 //! definitions name them, as slices of the piece, and each refusal has its flaw. It takes no memory but for the
 //! text of a host, when that is built.
 
-ghost use Rattle.std.specs.Prelude.{◌≡◌, ℕ, ◌+◌, ◌≤◌, vec_len, vec_capacity, string_bytes, IsUtf8, ◌<◌, ◌↔◌, ◌++◌, ◌∷◌, [], List, take, drop, Option, Some, None, IsTrue, IfOk, IfErr, IfSome, MatchOption, true, false, length};
+ghost use Rattle.std.specs.Prelude.{◌≡◌, ℕ, ◌+◌, ◌≤◌, vec_len, vec_capacity, string_bytes, IsUtf8, ◌<◌, ◌↔◌, ◌++◌, ◌∷◌, List, take, drop, Option, Some, None, IsTrue, IfOk, IfErr, IfSome, MatchOption, false, length};
 ghost use Rattle.std.specs.Char.{is_ascii_digit};
 ghost use Rattle.std.specs.List.{list_all};
 ghost use Rattle.gix_url.specs.Addresses as address;
 ghost use Rattle.gix_url.specs.Bytes.{begins_with, colon, left_bracket, lowercase};
 ghost use Rattle.gix_url.specs.Flaws.{IsNoHost, IsNoInner, IsNoPort, NameFlaw};
 ghost use Rattle.gix_url.specs.Hosts as spec;
-ghost use Rattle.gix_url.specs.Hosts.{HostText, Inner, IsAddressPiece, IsLiteral, IsManyColoned, Names, Number, ReadsAddress};
+ghost use Rattle.gix_url.specs.Hosts.{HostText, IsAddressPiece, IsLiteral, IsManyColoned, Names, Number, ReadsAddress};
 ghost use Rattle.gix_url.specs.HostPieces.{EndsHost, Follows, IsEscapedZone, IsInner, ReadsName, host_of, host_text, in_brackets, is_bracketed, lowercase_address, meant, piece_text, port_of, settled, shown_literal, strictness, unescaped};
 ghost use Rattle.percent_encoding.specs.Percent as percent;
 

@@ -8,10 +8,10 @@ ghost use Rattle.std.specs.Prelude.{◌≡◌, ◌↔◌, IsTrue};
 ghost use Rattle.gix_url.specs.Authority.{Fits, is_any_slash};
 ghost use Rattle.gix_url.specs.Cuts.{is_path_start};
 ghost use Rattle.gix_url.specs.Schemes.{is_web_scheme};
-ghost use Rattle.gix_url.specs.Walks.{one_more, stage_counted, stage_past, walk_past, walk_past_all, walk_behind, is_walk_short};
+ghost use Rattle.gix_url.specs.Walks.{one_more, stage_counted, stage_past, walk_past, walk_past_all, walk_behind, is_walk_short, text_walk_past, text_walk_for};
 
 /// The bytes that a scheme may have, and what counts of that which follows.
-const LIMIT: u16 = 1024;
+pub(crate) const LIMIT: u16 = 1024;
 
 /// What a walk has come to, white space aside.
 #[derive(Clone, Copy, Debug, PartialEq, Eq)]
@@ -79,6 +79,48 @@ impl Walk {
             Stage::Slashes | Stage::Front(_) => self.whole <= LIMIT,
             Stage::Behind(count) => count <= LIMIT,
         }
+    }
+}
+
+/// A walk over the whole text of a URL, which leaves out the scheme and the `://` behind it.
+#[derive(Clone, Copy, Debug, PartialEq, Eq)]
+pub(crate) struct TextWalk {
+    left: usize,
+    walk: Walk,
+}
+
+impl TextWalk {
+    /// A walk over the text of a URL with this scheme, before its first byte.
+    pub(crate) fn over(scheme: &[u8]) -> TextWalk
+        ensures { result ≡ text_walk_for scheme.now }
+    {
+        TextWalk {
+            left: scheme.len() + 3,
+            walk: Walk::behind(scheme),
+        }
+    }
+
+    /// The walk past these bytes.
+    pub(crate) fn past(self, bytes: &[u8]) -> TextWalk
+        ensures { result ≡ text_walk_past self bytes.now }
+    {
+        if bytes.len() <= self.left {
+            return TextWalk {
+                left: self.left - bytes.len(),
+                walk: self.walk,
+            };
+        }
+        TextWalk {
+            left: 0,
+            walk: self.walk.past(bytes.split_at(self.left).1),
+        }
+    }
+
+    /// Whether what was walked past is short enough, but for the scheme.
+    pub(crate) fn is_short(self) -> bool
+        ensures { result ≡ is_walk_short self.walk }
+    {
+        self.walk.is_short()
     }
 }
 

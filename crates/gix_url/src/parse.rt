@@ -8,7 +8,6 @@ ghost use Rattle.bstr.specs.BStr.{bstr_bytes};
 ghost use Rattle.gix_url.specs.Flaws.{Flaw};
 ghost use Rattle.gix_url.specs.Grammar.{Spells};
 ghost use Rattle.gix_url.specs.Readings.{Refuses};
-ghost use Rattle.gix_url.specs.Shapes.{Classifies};
 
 pub(crate) mod classify;
 mod copies;
@@ -17,6 +16,7 @@ mod scp;
 mod url;
 
 use crate::error::Error;
+pub use crate::error::UrlKind;
 use crate::location::Url;
 use bstr::BStr;
 use classify::{Shape, classify};
@@ -24,8 +24,6 @@ use forms::{read_helper, read_local};
 use scp::{read_addressed, read_scp};
 use std::alloc::Global;
 use url::read_url;
-
-pub use crate::error::UrlKind;
 
 /// The one location that the bytes spell.
 ///
@@ -63,27 +61,14 @@ impl Url {
     }
 }
 
-/// The same of the bytes behind a reference.
+/// The one location that the bytes spell, by their form.
 fn read(alloc: Global, bytes: &[u8]) -> Result<Url, Error>
     ensures found { IfOk result (λ v. Spells bytes.now v) }
     ensures refused { IfErr result (λ e. Refuses bytes.now e) }
     ensures flaw { IfErr result (λ e. Flaw bytes.now e) }
     ensures empty { bytes.now ≡ [] → result ≡ Err Error.EmptyLocal }
 {
-    if bytes.is_empty() {
-        return Err(Error::EmptyLocal);
-    }
-    read_shape(alloc, bytes, classify(bytes))
-}
-
-/// The location of a text of this form.
-fn read_shape(alloc: Global, bytes: &[u8], shape: Shape<'_>) -> Result<Url, Error>
-    requires { Classifies bytes.now shape }
-    ensures found { IfOk result (λ v. Spells bytes.now v) }
-    ensures refused { IfErr result (λ e. Refuses bytes.now e) }
-    ensures flaw { IfErr result (λ e. Flaw bytes.now e) }
-{
-    match shape {
+    match classify(bytes) {
         Shape::Empty => Err(Error::EmptyLocal),
         Shape::Helper { name, address } => read_helper(alloc, bytes, name, address),
         Shape::Url { scheme, rest } => read_url(alloc, bytes, scheme, rest),
@@ -94,5 +79,177 @@ fn read_shape(alloc: Global, bytes: &[u8], shape: Shape<'_>) -> Result<Url, Erro
         } => read_addressed(alloc, bytes, user, address, path),
         Shape::Scp { front, path } => read_scp(alloc, bytes, front, path),
         Shape::Local => read_local(alloc, bytes),
+    }
+}
+
+#[cfg(test)]
+mod tests {
+    use super::{Error, UrlKind, parse};
+    use crate::error::UrlFault;
+    use crate::location::Url;
+    use crate::scheme::Scheme;
+    use bstr::BStr;
+    use std::alloc::Global;
+    use std::test::Fail;
+
+    fn read(alloc: Global, text: &str) -> Result<Url, Error> {
+        parse(alloc, BStr::from(text))
+    }
+
+    /// The scheme, the user, the host and the path of what is read.
+    #[test]
+    fn pieces(rt: HostRuntime) -> Result<(), Fail> {
+        let rows = [
+            ("a::b://c", "a", None, None, "b://c"),
+            ("ext::sh -c x", "ext", None, None, "sh -c x"),
+            ("./a:b", "file", None, None, "./a:b"),
+            ("[::1]", "file", None, None, "[::1]"),
+            ("/x::y", "file", None, None, "/x::y"),
+            ("file://h/p%20", "file", None, Some("h"), "/p%20"),
+            ("file:///p", "file", None, None, "/p"),
+            ("host:p", "ssh", None, Some("host"), "p"),
+            ("a@b@host:/~p", "ssh", Some("a@b"), Some("host"), "~p"),
+            ("@HOST:p", "ssh", Some(""), Some("host"), "p"),
+            ("H%41:p", "ssh", None, Some("H%41"), "p"),
+            ("[host]::path", "ssh", None, Some("host"), ":path"),
+            ("[FE80::1%Eth0]:p", "ssh", None, Some("fe80::1%Eth0"), "p"),
+            ("user@[::1]:path", "ssh", Some("user"), Some("::1"), "path"),
+            ("@[AB::]:/~", "ssh", Some(""), Some("ab::"), "~"),
+            (
+                "ssh://git@example.com/p",
+                "ssh",
+                Some("git"),
+                Some("example.com"),
+                "/p",
+            ),
+        ];
+        for (text, scheme, user, host, path) in rows {
+            let location = read(rt.alloc(), text)?;
+            assert_eq!(rt; location.scheme.as_str(), scheme, "{text}");
+            assert!(rt; location.user.as_deref() == user, "{text}");
+            assert!(rt; location.host.as_deref() == host, "{text}");
+            assert_eq!(rt; location.path.as_bytes(), path.as_bytes(), "{text}");
+        }
+        Ok(())
+    }
+
+    #[test]
+    fn flags(rt: HostRuntime) -> Result<(), Fail> {
+        for (text, flag) in [
+            ("a::b", true),
+            ("/p", true),
+            ("h:p", true),
+            ("file:///p", false),
+            ("u@[::]:p", true),
+        ] {
+            let location = read(rt.alloc(), text)?;
+            assert_eq!(rt; location.serialize_alternative_form, flag, "{text}");
+            assert!(rt;
+                location.port.is_none()
+                    && location.password.is_none()
+                    && location.spelling.is_none(),
+                "{text}"
+            );
+        }
+        Ok(())
+    }
+
+    #[test]
+    fn empty_text(rt: HostRuntime) {
+        assert!(rt; matches!(read(rt.alloc(), ""), Err(Error::EmptyLocal)));
+    }
+
+    #[test]
+    fn missing_paths(rt: HostRuntime) {
+        for (text, scp) in [
+            ("file://host", false),
+            ("host:", true),
+            ("@[::]:", true),
+            ("[::1]:", true),
+        ] {
+            let kind = if scp { UrlKind::Scp } else { UrlKind::Url };
+            match read(rt.alloc(), text) {
+                Err(Error::MissingPath { kind: found, input }) => {
+                    assert!(rt; found == kind, "{text}");
+                    assert_eq!(rt; input.as_bytes(), text.as_bytes());
+                }
+                _ => assert!(rt; false, "{text}"),
+            }
+        }
+    }
+
+    #[test]
+    fn faults_of_the_scp_form(rt: HostRuntime) {
+        let rows = [
+            ("::address", UrlFault::HostRequired),
+            ("u@:p", UrlFault::HostRequired),
+            ("a b:p", UrlFault::BadCharacter),
+            ("a\\b:p", UrlFault::BadCharacter),
+            ("[a@b:22]:p", UrlFault::BadPort),
+            ("user@[::1%25e]:path", UrlFault::BadCharacter),
+        ];
+        for (text, fault) in rows {
+            match read(rt.alloc(), text) {
+                Err(
+                    Error::BadUrl {
+                        kind,
+                        fault: found,
+                        input,
+                    },
+                ) => {
+                    assert!(rt; kind == UrlKind::Scp && found == fault, "{text}");
+                    assert_eq!(rt; input.as_bytes(), text.as_bytes());
+                }
+                _ => assert!(rt; false, "{text}"),
+            }
+        }
+    }
+
+    #[test]
+    fn texts_that_are_not_utf8(rt: HostRuntime) -> Result<(), Fail> {
+        let location = parse(rt.alloc(), BStr::from(b"/\xff"))?;
+        assert_eq!(rt; location.path.as_bytes(), b"/\xff".as_slice());
+        for (text, scp) in [
+            (b"h:\xff".as_slice(), true),
+            (b"file:///\xff".as_slice(), false),
+            (b"http://h/\xff".as_slice(), false),
+        ] {
+            let kind = if scp { UrlKind::Scp } else { UrlKind::Url };
+            match parse(rt.alloc(), BStr::new(text)) {
+                Err(Error::NotUtf8 { kind: found, input }) => {
+                    assert!(rt; found == kind);
+                    assert_eq!(rt; input.as_bytes(), text);
+                }
+                _ => assert!(rt; false),
+            }
+        }
+        Ok(())
+    }
+
+    #[test]
+    fn long_authorities(rt: HostRuntime) -> Result<(), Fail> {
+        let mut text = String::from_str(rt.alloc(), "http://")?;
+        for _turn in 0..1025 {
+            text.push('a')?;
+        }
+        text.push('/')?;
+        match Url::from_text(rt.alloc(), text.as_str()) {
+            Err(Error::TooLong { shown, total }) => {
+                assert_eq!(rt; shown.as_bytes().len(), 1031);
+                assert_eq!(rt; total, 1033);
+            }
+            _ => assert!(rt; false),
+        }
+        Ok(())
+    }
+
+    #[test]
+    fn schemes(rt: HostRuntime) -> Result<(), Fail> {
+        let location = Url::from_bytes(rt.alloc(), BStr::from("a::b"))?;
+        match location.scheme {
+            Scheme::Helper(name) => assert_eq!(rt; name.as_str(), "a"),
+            _ => assert!(rt; false),
+        }
+        Ok(())
     }
 }

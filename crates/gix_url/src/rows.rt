@@ -3,7 +3,7 @@
 //! It has no code and uses nothing: the contract of each function is a group of rows.
 
 ghost use Rattle.gix_url.specs.Records.{KeepsMeaning};
-ghost use Rattle.gix_url.specs.Rows.{EscapeRows, HostRows, SchemeRows, PathRows, OtherTextRows, UrlTextRows, UserTextRows, FaultRows, RecordRows, PieceRows, ParentRows, ExpandedRows, SplitRows, SpelledPartRows, RawPartRows, LiteralRows, NameRows, NoNameRows, AuthorityRows, NoAuthorityRows, UrlRows, FormRows, NoFormRows, NameFlawRows, FlawRows, SettledRows, WebHostRows, UnsettledWebRows, UnsettledUrlRows, UnsettledOtherRows};
+ghost use Rattle.gix_url.specs.Rows.{EscapeRows, HostRows, SchemeRows, PathRows, OtherTextRows, UrlTextRows, UserTextRows, FaultRows, RecordRows, PieceRows, ParentRows, ExpandedRows, SplitRows, SpelledPartRows, RawPartRows, LiteralRows, NameRows, NoNameRows, AuthorityRows, NoAuthorityRows, LengthRows, UrlRows, FormRows, NoFormRows, NameFlawRows, FlawRows, SettledRows, WebHostRows, UnsettledWebRows, UnsettledUrlRows, UnsettledOtherRows};
 
 /// Escapes, written and read.
 fn law_escapes()
@@ -60,6 +60,11 @@ fn law_hosts()
 fn law_authorities()
     ensures found { AuthorityRows }
     ensures none { NoAuthorityRows }
+{}
+
+/// How long a text may be.
+fn law_lengths()
+    ensures { LengthRows }
 {}
 
 /// Whole texts.

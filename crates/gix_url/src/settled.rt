@@ -1,23 +1,48 @@
 //! The settled class, decided: the locations whose text reads as the same fields and is written the same again.
 //!
-//! It may use every test of bytes, of addresses, of lengths and of forms. Its contract: the answer is yes exactly
-//! for the settled class, and so is the answer for each kind of location. It takes no memory.
+//! It may use every test of bytes, of addresses, of lengths and of forms, and the pieces of the writer. Its
+//! contract: the answer is yes exactly for the settled class, and so is the answer for each kind of location. It
+//! takes no memory.
 
 ghost use Rattle.std.specs.Prelude.{◌↔◌, IsTrue};
 ghost use Rattle.gix_url.specs.Settled.{IsSettled};
+ghost use Rattle.gix_url.specs.SettledParts.{IsSettledNamed};
 
 mod host;
 mod local;
+mod measure;
 mod parts;
 mod scp;
+#[cfg(test)]
+mod tests;
+mod url;
 
 use crate::location::Url;
+use crate::scheme::Scheme;
+use local::{is_settled_file, is_settled_helper, is_settled_local};
+use scp::is_settled_scp;
+use url::{is_settled_git, is_settled_helper_url, is_settled_secure, is_settled_web};
 
 impl Url {
-    /// Whether the location's text reads as the same fields and is written the same again.
+    /// Whether the location's text reads as the same fields and is written the same again. It takes no memory.
     pub fn is_settled(&self) -> bool
         ensures { IsTrue result ↔ IsSettled self.now }
     {
-        false
+        match &self.scheme {
+            Scheme::File => is_settled_local(self) || is_settled_file(self),
+            Scheme::Ssh => is_settled_scp(self) || is_settled_secure(self),
+            Scheme::Git => is_settled_git(self),
+            Scheme::Http | Scheme::Https => is_settled_web(self),
+            Scheme::Ext => is_settled_helper(self, b"ext"),
+            Scheme::Helper(name) => is_settled_named(self, name.as_bytes()),
+            Scheme::HelperUrl(name) => is_settled_helper_url(self, name.as_bytes()),
+        }
     }
+}
+
+/// Whether the location is a settled remote helper of this name, which isn't that of `ext`.
+fn is_settled_named(url: &Url, name: &[u8]) -> bool
+    ensures { IsTrue result ↔ IsSettledNamed name.now url.now }
+{
+    is_settled_helper(url, name) && name != b"ext".as_slice()
 }

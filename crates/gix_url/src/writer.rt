@@ -14,7 +14,7 @@ ghost use Rattle.gix_url.specs.Readings.{Written, IsUnwritten};
 
 mod form;
 mod layout;
-mod piece;
+pub(crate) mod piece;
 mod show;
 #[cfg(test)]
 mod tests;
@@ -89,7 +89,7 @@ impl Url {
     }
 
     /// The pieces of the text, or why there is none. The digits of the port stand in the buffer.
-    fn own_pieces<'a>(&'a self, digits: &'a mut Buffer) -> Result<Pieces<'a>, WriteFault>
+    pub(crate) fn own_pieces<'a>(&'a self, digits: &'a mut Buffer) -> Result<Pieces<'a>, WriteFault>
         ensures { pieced result ≡ text self.now }
     {
         let password = self.own_password();

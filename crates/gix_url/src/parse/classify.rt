@@ -17,9 +17,15 @@ pub(crate) enum Shape<'a> {
     /// No text at all.
     Empty,
     /// A remote helper: `name::address`.
-    Helper { name: &'a [u8], address: &'a [u8] },
+    Helper {
+        name: &'a [u8],
+        address: &'a [u8],
+    },
     /// A URL: `scheme://rest`.
-    Url { scheme: &'a [u8], rest: &'a [u8] },
+    Url {
+        scheme: &'a [u8],
+        rest: &'a [u8],
+    },
     /// The scp form with an IPv6 text between brackets behind the user: `user@[address]:path`.
     Addressed {
         user: &'a [u8],
@@ -27,7 +33,10 @@ pub(crate) enum Shape<'a> {
         path: &'a [u8],
     },
     /// Any other scp form: `front:path`.
-    Scp { front: &'a [u8], path: &'a [u8] },
+    Scp {
+        front: &'a [u8],
+        path: &'a [u8],
+    },
     /// A local path.
     Local,
 }

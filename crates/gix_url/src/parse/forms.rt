@@ -22,7 +22,13 @@ use bstr::BString;
 use std::alloc::{AllocError, Global};
 
 /// A location without a password, a port and a spelling.
-pub(super) fn plain_location(scheme: Scheme, user: Option<String>, host: Option<String>, flag: bool, path: BString) -> Url
+pub(super) fn plain_location(
+    scheme: Scheme,
+    user: Option<String>,
+    host: Option<String>,
+    flag: bool,
+    path: BString,
+) -> Url
     ensures { result ≡ record (path_alone (protocol scheme) flag (bstring_bytes path)) { user = option_map string_bytes user; host = option_map string_bytes host } }
 {
     Url {
@@ -45,7 +51,12 @@ fn path_alone(scheme: Scheme, flag: bool, path: BString) -> Url
 }
 
 /// A remote helper, which keeps its address as it is.
-pub(super) fn read_helper(alloc: Global, input: &[u8], name: &[u8], address: &[u8]) -> Result<Url, Error>
+pub(super) fn read_helper(
+    alloc: Global,
+    input: &[u8],
+    name: &[u8],
+    address: &[u8],
+) -> Result<Url, Error>
     requires { HelperParts input.now name.now address.now }
     ensures found { IfOk result (λ v. SpellsHelper input.now v) }
     ensures refused { IfErr result (λ e. e ≡ Error.Memory) }

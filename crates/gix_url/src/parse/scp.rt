@@ -17,7 +17,7 @@ use super::forms::plain_location;
 use crate::bytes::{after, before, is_free_of, last_cut, starts_with_byte};
 use crate::error::{Error, UrlFault, UrlKind};
 use crate::escape::{has_percent, lacks_white_space};
-use crate::host::{Mode, NamedHost, read_host};
+use crate::host::{Mode, read_host};
 use crate::location::Url;
 use crate::scheme::Scheme;
 use std::alloc::{AllocError, Global};
@@ -64,7 +64,13 @@ fn host_error(alloc: Global, refusal: HostRefusal, input: &[u8]) -> Error
 }
 
 /// The scp form with an IPv6 text between brackets behind the user.
-pub(super) fn read_addressed(alloc: Global, input: &[u8], user: &[u8], address: &[u8], path: &[u8]) -> Result<Url, Error>
+pub(super) fn read_addressed(
+    alloc: Global,
+    input: &[u8],
+    user: &[u8],
+    address: &[u8],
+    path: &[u8],
+) -> Result<Url, Error>
     requires { AddressedShape input.now user.now address.now path.now }
     ensures found { IfOk result (λ v. SpellsScpAddressed input.now v) }
     ensures refused { IfErr result (λ e. NoneBut (SpellsScp input.now) e) }
@@ -82,7 +88,12 @@ pub(super) fn read_addressed(alloc: Global, input: &[u8], user: &[u8], address: 
 }
 
 /// A location that Secure Shell reaches, with this user and this host.
-fn scp_location(alloc: Global, user: Option<&[u8]>, host: String, path: &[u8]) -> Result<Url, AllocError>
+fn scp_location(
+    alloc: Global,
+    user: Option<&[u8]>,
+    host: String,
+    path: &[u8],
+) -> Result<Url, AllocError>
     requires { IfSome user (λ u. IsUtf8 u.now) }
     ensures { IfOk result (λ v. v ≡ scp_location (option_map (λ u. u.now) user.entry) (string_bytes host) path.now) }
 {

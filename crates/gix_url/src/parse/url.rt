@@ -17,7 +17,12 @@ use crate::url_location::url_location;
 use std::alloc::Global;
 
 /// A URL.
-pub(super) fn read_url(alloc: Global, input: &[u8], scheme: &[u8], rest: &[u8]) -> Result<Url, Error>
+pub(super) fn read_url(
+    alloc: Global,
+    input: &[u8],
+    scheme: &[u8],
+    rest: &[u8],
+) -> Result<Url, Error>
     requires { UrlShape input.now scheme.now rest.now }
     ensures found { IfOk result (λ v. Spells input.now v) }
     ensures refused { IfErr result (λ e. Refuses input.now e) }

@@ -2,9 +2,11 @@
 
 ghost use Rattle.std.specs.Prelude.{◌↔◌, IsTrue, IfSome};
 ghost use Rattle.gix_url.specs.Settled.{IsScpName, IsScpUser, IsSettledScp, LooksLikeHelper};
-ghost use Rattle.gix_url.specs.SettledParts.{HasScpForm, HasScpHost, IsScpHost, IsScpPath};
+ghost use Rattle.gix_url.specs.SettledParts.{HasScpForm, HasScpFront, HasScpHost, HasScpParts, IsScpHost, IsScpPath};
 
-use super::parts::{begins_at_home, begins_with_slashes, is_normal_address, is_normal_name, is_text, lacks_mark};
+use super::parts::{
+    begins_at_home, begins_with_slashes, is_normal_address, is_normal_name, is_text, lacks_mark,
+};
 use crate::bytes::{is_free_of, is_helper_name, starts_with_byte};
 use crate::escape::lacks_white_space;
 use crate::location::Url;
@@ -13,7 +15,21 @@ use crate::location::Url;
 pub(crate) fn is_settled_scp(url: &Url) -> bool
     ensures { IsTrue result ↔ IsSettledScp url.now }
 {
-    has_scp_form(url) && is_scp_path(url.path.as_bytes()) && has_scp_user(url) && has_scp_host(url)
+    has_scp_form(url) && has_scp_parts(url)
+}
+
+/// Whether user, host and path are settled in the scp form.
+fn has_scp_parts(url: &Url) -> bool
+    ensures { IsTrue result ↔ HasScpParts url.now }
+{
+    is_scp_path(url.path.as_bytes()) && has_scp_front(url)
+}
+
+/// Whether user and host are settled in the scp form.
+fn has_scp_front(url: &Url) -> bool
+    ensures { IsTrue result ↔ HasScpFront url.now }
+{
+    has_scp_user(url) && has_scp_host(url)
 }
 
 /// Whether the location has the flag, and neither password nor port.

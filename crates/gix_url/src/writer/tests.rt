@@ -29,9 +29,7 @@ fn location(
     let user = owned(alloc, user)?;
     let host = owned(alloc, host)?;
     let path = BString::from_slice(alloc, path)?;
-    Ok(Url::from_parts_unchecked(
-        scheme, user, None, host, port, path, false,
-    ))
+    Ok(Url::from_parts_unchecked(scheme, user, None, host, port, path, false))
 }
 
 /// Whether each call that writes gives this text.
@@ -171,7 +169,14 @@ fn writes_a_spelling_that_matches(rt: HostRuntime) -> Result<(), Fail> {
 fn goes_on_after_short_writes(rt: HostRuntime) -> Result<(), Fail> {
     let alloc = rt.alloc();
     let text = b"http://u%25@[a%25:b]:80/%20c%25";
-    let url = location(alloc, Scheme::Http, Some("u%"), Some("a%:b"), Some(80), b"/ c%")?;
+    let url = location(
+        alloc,
+        Scheme::Http,
+        Some("u%"),
+        Some("a%:b"),
+        Some(80),
+        b"/ c%",
+    )?;
     for left in 0..text.len() + 1 {
         let mut out = Narrow {
             taken: Vec::new(alloc),

@@ -1,7 +1,6 @@
 -- The text up to the first `]`, and what follows it.
-use Rattle.std.proofs.Common.{◌∷◌, Some, ap, refl, subst, sym}
+use Rattle.std.proofs.Common.{Some, ap, refl, subst, sym}
 use Rattle.std.proofs.lemmas.Bool.{false≢true}
-use Rattle.gix_url.specs.Bytes.{colon}
 use Rattle.gix_url.specs.HostPieces.{Follows, host_text, meant, strictness}
 use Rattle.gix_url.proofs.HostLemmas.{bracketed_name, no_port_behind, not_ended, not_inner, nothing_follows}
 use Rattle.gix_url.proofs.host.read_bracketed.Goals as goal

@@ -1,5 +1,5 @@
 -- The text up to the first `:`, and what follows it.
-use Rattle.std.proofs.Common.{◌∷◌, Some, inr, refl, sym}
+use Rattle.std.proofs.Common.{◌∷◌, Some, inr, refl}
 use Rattle.std.proofs.lemmas.Bool.{false≢true}
 use Rattle.gix_url.specs.Bytes.{colon}
 use Rattle.gix_url.specs.Flaws.{HasBadHost, HasBadPort}

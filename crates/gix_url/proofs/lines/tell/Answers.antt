@@ -6,7 +6,7 @@ use Rattle.gix_url.proofs.lines.tell.Goals as goal
 
 pub returns-then-is_err : goal.returns-then-is_err
 returns-then-is_err c =
-    let (f, e) = has_fault c.args.url.now (sym c.text_len.ensures ∙ sym c.is_err.ensures.value ∙ c.if-is_err.true) in
+    let (f, e) = has_fault c.args.url.now _ c.text_len.ensures (sym c.is_err.ensures.value ∙ c.if-is_err.true) in
     (_, (λ line spelled. unwritable c.args.url.now f spelled e refl refl), c.in_ok-put_scheme.ensures)
 
 pub returns-then-is_settled : goal.returns-then-is_settled
@@ -16,5 +16,5 @@ returns-then-is_settled c =
 
 pub returns : goal.returns
 returns c =
-    let (t, e) = has_text c.args.url.now (sym c.text_len.ensures ∙ sym c.is_err.ensures.value ∙ c.if-is_err.false) in
+    let (t, e) = has_text c.args.url.now _ c.text_len.ensures (sym c.is_err.ensures.value ∙ c.if-is_err.false) in
     (_, (λ line spelled. unsettled c.args.url.now t spelled e (λ s. false≢true (c.if-is_settled.ensures.1 s)) refl refl), c.in_ok-put_scheme-2.ensures)

@@ -14,7 +14,7 @@ returns-then-not-lacks_white_space-clause-refused c =
 
 pub returns-then-not-lacks_white_space-clause-flaw : goal.returns-then-not-lacks_white_space-clause-flaw
 returns-then-not-lacks_white_space-clause-flaw c =
-    UrlFlaw.white_space c.args.scheme.now c.args.rest.now c.requires.shape (λ h. false≢true (c.if-not-lacks_white_space.ensures.1 h))
+    UrlFlaw.white_space c.args.scheme.now c.args.rest.now c.requires.shape c.utf8.text (λ h. false≢true (c.if-not-lacks_white_space.ensures.1 h))
 
 pub returns-then-not-is_sound-clause-refused : goal.returns-then-not-is_sound-clause-refused
 returns-then-not-is_sound-clause-refused c =

@@ -1,5 +1,5 @@
 -- The location with its own password is the location.
-use Rattle.std.proofs.Common.{ap, sym, ◌∙◌}
+use Rattle.std.proofs.Common.{ap, ◌∙◌}
 use Rattle.gix_url.specs.Text.{text}
 use Rattle.gix_url.proofs.location.Url.own_pieces.Goals as goal
 

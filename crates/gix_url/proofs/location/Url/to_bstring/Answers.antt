@@ -1,5 +1,5 @@
 -- A text and a fault exclude each other, and a fault is told as it is.
-use Rattle.std.proofs.Common.{ap, sym, ◌∙◌, ◌≡◌, Ok, Err}
+use Rattle.std.proofs.Common.{ap, sym, ◌∙◌, Err}
 use Rattle.gix_url.specs.declared.error.Error.TheVariants.{Unwritable}
 use Rattle.gix_url.proofs.PieceLemmas.{same_fault}
 use Rattle.gix_url.proofs.location.Url.to_bstring.Goals as goal

@@ -1,5 +1,5 @@
 -- The host of a file URL ends at the first slash.
-use Rattle.std.proofs.Common.{refl, sym, ◌≡◌}
+use Rattle.std.proofs.Common.{refl}
 use Rattle.std.proofs.lemmas.Bool.{false≢true}
 use Rattle.gix_url.specs.Grammar.{SpellsFile}
 use Rattle.gix_url.proofs.ShapeLemmas.{none_but, no_file_path, no_file_text, file_misses_path, file_host_utf8, file_found}

@@ -1,6 +1,5 @@
 -- What is read of `user@[address]:path`, and what is refused.
 use Rattle.std.proofs.Common.{refl, subst}
-use Rattle.std.proofs.lemmas.Bool.{false≢true}
 use Rattle.gix_url.specs.Grammar.{AddressedShape, SpellsScp}
 use Rattle.gix_url.specs.Flaws.MissesPath.{behind_address}
 use Rattle.gix_url.proofs.ShapeLemmas.{none_but}

@@ -10,7 +10,7 @@ use Rattle.gix_url.proofs.parse.scp.read_scp_host.Goals as goal
 
 pub returns-then-not-has_no_white_space-clause-refused : goal.returns-then-not-has_no_white_space-clause-refused
 returns-then-not-has_no_white_space-clause-refused c =
-    white_space_refused c.args.host.now (λ lacks. false≢true (c.if-not-has_no_white_space.ensures.1 lacks))
+    white_space_refused c.args.host.now c.requires.text (λ lacks. false≢true (c.if-not-has_no_white_space.ensures.1 lacks))
 
 pub returns-then-not-is_free_of-clause-refused : goal.returns-then-not-is_free_of-clause-refused
 returns-then-not-is_free_of-clause-refused c = backslash_refused c.args.host.now (λ free. false≢true (c.if-not-is_free_of.ensures.1 free))

@@ -1,5 +1,4 @@
 -- A URL fits, is text, and has a meaning by its scheme.
-use Rattle.std.proofs.Common.{refl}
 use Rattle.std.proofs.lemmas.Bool.{false≢true}
 use Rattle.gix_url.specs.Grammar.{SpellsUrl}
 use Rattle.gix_url.proofs.ShapeLemmas.{none_but, unfit_url, no_url_text}

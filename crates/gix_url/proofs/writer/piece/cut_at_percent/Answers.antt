@@ -1,5 +1,5 @@
 -- The parts around the first `%`.
-use Rattle.std.proofs.Common.{arith, rules}
+use Rattle.std.proofs.Common.{arith}
 use Rattle.gix_url.proofs.PieceLemmas.{split_cuts}
 use Rattle.gix_url.proofs.writer.piece.cut_at_percent.Goals as goal
 

@@ -1,5 +1,5 @@
 -- One piece more.
-use Rattle.std.proofs.Common.{[], refl, sym, subst, IsUtf8, rules}
+use Rattle.std.proofs.Common.{[], refl, sym, subst, IsUtf8, true}
 use Rattle.std.proofs.lemmas.Str.{IsUtf8-append}
 use Rattle.std.proofs.lemmas.Grind.{put_two}
 use Rattle.gix_url.specs.declared.writer.piece.Piece.TheVariants.{Raw}
@@ -14,5 +14,5 @@ loop-piece-preserved g c =
       utf8 = subst IsUtf8 (sym more) (IsUtf8-append _ _ so_far.utf8 c.in_ok-show_piece.ensures.utf8);
       shown = λ plain.
           let before = so_far.shown plain in
-          put_two _ _ _ _ _ _ _ before (c.in_ok-show_piece.ensures.writes before.plain refl) (sym more);
+          put_two _ _ _ _ _ _ _ before (c.in_ok-show_piece.ensures.writes before.plain (refl {a = true})) (sym more);
     }

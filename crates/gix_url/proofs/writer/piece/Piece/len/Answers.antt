@@ -1,5 +1,5 @@
 -- The lengths of escapes and of written percents.
-use Rattle.std.proofs.Common.{ap, sym, ◌∙◌, arith, length}
+use Rattle.std.proofs.Common.{ap, ◌∙◌, arith, length}
 use Rattle.gix_url.specs.Pieces.{piece_text}
 use Rattle.gix_url.proofs.PieceLemmas.{length_escapes, length_percents}
 use Rattle.gix_url.proofs.writer.piece.Piece.len.Goals as goal
