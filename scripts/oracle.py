@@ -853,12 +853,9 @@ def refused_file(b):
 
 def bracketed_address(b):
     """(user, address, path) where the bytes are a user, a bracketed address, a colon and a path."""
-    user, mark, back = b.partition(b":")[0].rpartition(b"@[")
-    if not mark or b"/" in user:
-        return None
-    back = b[len(user) + 2:]
-    address, mark, path = back.partition(b"]:")
-    return (user, address, path) if mark and ip6(address) else None
+    user, opening, _ = b.partition(b":")[0].rpartition(b"@[")
+    address, closing, path = b[len(user) + len(opening):].partition(b"]:")
+    return (user, address, path) if opening and closing and b"/" not in user and ip6(address) else None
 
 
 def scp_colon(b):
