@@ -1,6 +1,6 @@
 -- Lines and their answers, one after another.
 use Rattle.std.proofs.Common.{◌≡◌, ℕ, Bool, true, false, List, [], ◌∷◌, ◌++◌, refl, sym, ap, subst, ◌∙◌, append_assoc, append-nil, All, length, arith, eqb-true}
-use Rattle.std.specs.Prelude.{◌&&◌, ◌==◌, Some, None, Option, Result, Ok, Err, codes, is_err, flat_map}
+use Rattle.std.specs.Prelude.{◌&&◌, ◌==◌, Option, Result, Ok, Err, is_err}
 use Rattle.std.proofs.lemmas.List.Elements.{All-append, All-cons, All-nil}
 use Rattle.gix_url.specs.declared.error.WriteFault.{WriteFault}
 use Rattle.gix_url.specs.Value.{Location}
@@ -14,7 +14,7 @@ use Rattle.gix_url.specs.Grammar.{Spells}
 use Rattle.gix_url.specs.Flaws.{Flaw}
 use Rattle.std.specs.Io.KnownBytes.{Appends}
 use Rattle.gix_url.specs.Readings.{Refuses, Written}
-use Rattle.gix_url.specs.Answers.{ended, last_line, SplitsLines, IsAnswer, AnswersEach, Answers, AppendsAnswer, Tells, TellsRefusal}
+use Rattle.gix_url.specs.Answers.{ended, IsAnswer, AnswersEach, Answers, AppendsAnswer, Tells, TellsRefusal}
 use Rattle.gix_url.specs.Answers.IsAnswer.{refused}
 
 -- "and" doesn't mind the order

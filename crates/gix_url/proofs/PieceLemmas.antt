@@ -1,9 +1,8 @@
 -- Pieces of a text: what escapes and written percents make up, and how long they are.
-use Rattle.std.proofs.Common.{◌≡◌, ℕ, zero, suc, add-one, ◌+◌, ◌*◌, ◌<◌, ◌≤◌, Bool, true, false, cond, ◌==◌, Option, Some, None, Result, Ok, Err, List, [], ◌∷◌, ◌++◌, length, take, drop, get_or, inl, inr, refl, sym, ap, subst, ◌∙◌, arith, append_assoc, append-nil, length-append, eqb}
+use Rattle.std.proofs.Common.{◌≡◌, ℕ, zero, suc, add-one, ◌+◌, ◌*◌, ◌<◌, Bool, cond, ◌==◌, Option, Some, None, Result, Ok, Err, List, [], ◌∷◌, ◌++◌, length, take, drop, get_or, inl, inr, refl, sym, ap, ◌∙◌, arith, append_assoc, append-nil, length-append}
 use Rattle.std.specs.Borrow.{Bor}
-use Rattle.std.specs.List.{count_by, position_or_len, before_first, after_first}
-use Rattle.std.specs.Option.{MatchOption}
-use Rattle.std.proofs.lemmas.Bool.{both_ways, cases_Bool, or_parts, eqb-true, cond-true, cond-false}
+use Rattle.std.specs.List.{count_by, position_or_len}
+use Rattle.std.proofs.lemmas.Bool.{both_ways, cases_Bool, eqb-true, cond-true, cond-false}
 use Rattle.std.proofs.lemmas.List.Sums.{sum_by-cons, fails_before_first, passes_at_first, split_at_first}
 use Rattle.std.proofs.lemmas.Str.Pattern.{IsSplitOnceResult, split_once_first}
 use Rattle.percent_encoding.specs.declared.ascii_set.AsciiSet.{AsciiSet}

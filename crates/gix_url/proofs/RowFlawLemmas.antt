@@ -1,4 +1,5 @@
 -- Rows on flaws: what is wrong with refused texts.
+use Rattle.std.proofs.lemmas.Str.{IsUtf8-from_is_utf8}
 use Rattle.std.proofs.Common.{◌≡◌, ℕ, inl, inr, List, [], ◌∷◌, Some, None, IsUtf8, codes, refl, sym, ap, ◌∙◌}
 use Rattle.std.specs.Str.{chars}
 use Rattle.std.proofs.lemmas.Bool.{false≢true, ltb-true}
@@ -49,7 +50,7 @@ name_flaw_rows = (
 
 -- what is wrong with whole texts
 pub flaw_rows : FlawRows
-unfolding is_ipv6_text chars
+unfolding computing is_ipv6_text chars
 flaw_rows = (
   UrlFlaw.no_scheme (codes "./a") (codes "b") (record { shape = record { no_helper = no_helper_at (codes "./a://b") (codes "./a") (codes "//b") refl refl refl; first = not_held (codes "://") (codes "./a") refl; joined = refl }; not_file = refl }) refl,
   UrlFlaw.unsound (codes "http") (codes "h/%2") (record { shape = record { no_helper = no_helper_at (codes "http://h/%2") (codes "http") (codes "//h/%2") refl refl refl; first = not_held (codes "://") (codes "http") refl; joined = refl }; not_file = refl }) refl,

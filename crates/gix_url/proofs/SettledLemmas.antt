@@ -1,6 +1,6 @@
 -- The settled class by its parts: what the small tests tell, joined.
-use Rattle.std.proofs.Common.{⊎_elim, ◌≡◌, ◌↔◌, ℕ, ◌<◌, Bool, true, false, not, ◌||◌, ◌==◌, ◌⊎◌, inl, inr, List, [], ◌∷◌, ◌++◌, length, codes, refl, sym, ap, subst, ◌∙◌, arith, append_assoc, Option, Some, None, IsSome, Ok, Err, ◌&&◌, IsTrue}
-use Rattle.std.specs.List.{list_any, list_all}
+use Rattle.std.proofs.Common.{⊎_elim, ◌≡◌, ◌↔◌, ℕ, Bool, true, false, not, ◌==◌, ◌⊎◌, inl, inr, List, [], ◌∷◌, ◌++◌, refl, sym, ap, subst, ◌∙◌, append_assoc, Option, Some, None, IsSome, Ok, ◌&&◌, IsTrue}
+use Rattle.std.specs.List.{list_all}
 use Rattle.std.specs.Option.{is_some, is_none}
 use Rattle.std.proofs.lemmas.List.{append_cancel_right}
 use Rattle.std.proofs.lemmas.List.Folds.{list_all-append}
@@ -23,7 +23,7 @@ use Rattle.gix_url.specs.Text.Form.{canonical_form}
 use Rattle.gix_url.specs.Authority.{FitsText}
 use Rattle.gix_url.proofs.LengthLemmas.{fits_text}
 use Rattle.gix_url.proofs.AddressLemmas.{address_free}
-use Rattle.gix_url.proofs.CutLemmas.{cut_unique, different_bytes, heads, not_free, tails, last_unique, scheme_text_free}
+use Rattle.gix_url.proofs.CutLemmas.{cut_unique, different_bytes, not_free, tails, last_unique, scheme_text_free}
 
 -- ---- tests in a row
 

@@ -1,12 +1,11 @@
 -- Percent-encoding. `percent_decode` and `percent_encode` of the crate `percent_encoding` are the two
 -- directions: an escape is `%` and two hexadecimal digits of either case and stands for one byte, every
 -- other byte stands for itself; written escapes have upper-case digits, and every byte past ASCII is one.
-use Rattle.std.specs.Prelude.{◌≡◌, ℕ, ◌<◌, Bool, true, false, not, ◌&&◌, ◌||◌, ◌==◌, nat_lt, List, [], ◌∷◌, Option, Some, None, if◌then◌else◌}
+use Rattle.std.specs.Prelude.{◌≡◌, ℕ, ◌<◌, Bool, true, false, not, ◌&&◌, ◌||◌, ◌==◌, nat_lt, List, [], ◌∷◌, if◌then◌else◌}
 use Rattle.std.specs.List.{list_any}
 use Rattle.std.specs.Char.{is_digit}
 use Rattle.percent_encoding.specs.declared.ascii_set.AsciiSet.{AsciiSet}
 use Rattle.percent_encoding.specs.AsciiSet.{contains}
-use Rattle.percent_encoding.specs.Percent.{percent_decode}
 use Rattle.gix_url.specs.Bytes.{percent_sign, number_sign, slash, colon, question_mark, at_sign, left_bracket, backslash, right_bracket}
 
 -- every `%` has two hexadecimal digits behind it

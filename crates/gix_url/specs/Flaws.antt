@@ -1,5 +1,5 @@
 -- Flaws: what stands in a text that is refused. Each error names one, and the flaw that it names stands there.
-use Rattle.std.specs.Prelude.{◌≡◌, ℕ, ◌+◌, ◌<◌, Bool, true, false, ◌⊎◌, List, [], ◌∷◌, ◌++◌, length, take, codes, bytes_eq, Option, Some, None, IsUtf8}
+use Rattle.std.specs.Prelude.{◌≡◌, ℕ, ◌+◌, ◌<◌, Bool, true, false, ◌⊎◌, List, [], ◌∷◌, ◌++◌, length, take, codes, bytes_eq, Option, IsUtf8}
 use Rattle.percent_encoding.specs.Percent.{percent_decode}
 use Rattle.bstr.specs.Owned.{bstring_bytes}
 use Rattle.gix_url.specs.declared.error.UrlKind.{UrlKind}
@@ -8,7 +8,6 @@ use Rattle.gix_url.specs.declared.error.UrlFault.{UrlFault}
 use Rattle.gix_url.specs.declared.error.UrlFault.TheVariants as fault
 use Rattle.gix_url.specs.declared.error.Error.{Error}
 use Rattle.gix_url.specs.declared.error.Error.TheVariants as error
-use Rattle.gix_url.specs.Value.{Protocol}
 use Rattle.gix_url.specs.Bytes.{slash, colon, at_sign, left_bracket, backslash, right_bracket, Lacks, FreeOf, begins_with, Holds, LacksWhiteSpace, is_scheme_text}
 use Rattle.gix_url.specs.Cuts.{is_path_start, StartsPath}
 use Rattle.gix_url.specs.Escapes.{is_sound, escaped_percents}

@@ -4,7 +4,7 @@ use Rattle.std.specs.List.{list_all}
 use Rattle.std.specs.Char.{is_ascii_alphanumeric, is_ascii_digit}
 use Rattle.std.specs.Str.Parse.{digits_value}
 use Rattle.percent_encoding.specs.Percent.{percent_decode}
-use Rattle.gix_url.specs.Bytes.{percent_sign, hyphen, dot, colon, left_bracket, right_bracket, tilde, FreeOf, begins_with, lowercase}
+use Rattle.gix_url.specs.Bytes.{hyphen, dot, colon, left_bracket, right_bracket, tilde, FreeOf, begins_with, lowercase}
 use Rattle.gix_url.specs.Addresses.{IsIpv6Text, Literal}
 
 -- how strictly a host is read: as HTTP has it, as Git's own transports have it, or as any other scheme

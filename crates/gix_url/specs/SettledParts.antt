@@ -1,9 +1,9 @@
 -- The parts that the settled class is tested by: each is a few clauses of its definitions.
-use Rattle.std.specs.Prelude.{◌≡◌, ◌≢◌, ℕ, ◌<◌, ◌≤◌, Bool, true, false, ◌⊎◌, List, [], ◌∷◌, ◌++◌, length, codes, bytes_eq, Option, MatchOption, Some, None, IsSome, IfSome, Ok, IsUtf8}
+use Rattle.std.specs.Prelude.{◌≡◌, ◌≢◌, ℕ, ◌<◌, ◌≤◌, true, false, ◌⊎◌, List, [], ◌∷◌, ◌++◌, length, codes, bytes_eq, Option, MatchOption, Some, None, IsSome, IfSome, Ok, IsUtf8}
 use Rattle.std.specs.Borrow.{Bor}
 use Rattle.percent_encoding.specs.Percent.{percent_decode}
 use Rattle.gix_url.specs.Value.{Location}
-use Rattle.gix_url.specs.Value.Protocol.{ssh, git, http, https, helper_url}
+use Rattle.gix_url.specs.Value.Protocol.{http, https}
 use Rattle.gix_url.specs.Bytes.{colon, left_bracket, right_bracket, slash, FreeOf, begins_by, begins_with, Holds, LacksWhiteSpace, is_scheme_text}
 use Rattle.gix_url.specs.Cuts.{is_path_start}
 use Rattle.gix_url.specs.Escapes.{has_percent, is_sound}
@@ -11,7 +11,7 @@ use Rattle.gix_url.specs.Addresses.{Literal}
 use Rattle.gix_url.specs.Schemes.{is_known_scheme, protocol_text}
 use Rattle.gix_url.specs.Text.{text, canonical_text}
 use Rattle.gix_url.specs.Walks.{is_walk_short, text_walk_past, text_walk_for}
-use Rattle.gix_url.specs.Settled.{IsBareHost, IsBracketedHost, IsWebHost, is_ftp, HasHostAlone, HasFittingText, IsFairSpelling, IsRawPath, IsScpName, IsScpUser, IsNormalAddress, IsSettledHelper, IsSettledUrl, IsTransportPath, IsWebName, LooksLikeHelper, begins_at_home, begins_with_slashes}
+use Rattle.gix_url.specs.Settled.{IsBareHost, IsBracketedHost, IsWebHost, is_ftp, HasHostAlone, IsFairSpelling, IsRawPath, IsScpName, IsScpUser, IsNormalAddress, IsSettledHelper, IsSettledUrl, IsTransportPath, IsWebName, LooksLikeHelper, begins_at_home, begins_with_slashes}
 
 -- nothing but a path, and the flag
 pub record IsFlaggedPath (v : Location) : Type 0 where

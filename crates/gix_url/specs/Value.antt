@@ -1,5 +1,5 @@
 -- What contracts see of a location: plain values, no Rust type.
-use Rattle.std.specs.Prelude.{ℕ, Bool, false, List, Option, None}
+use Rattle.std.specs.Prelude.{ℕ, Bool, List, Option, None}
 
 -- the schemes that have a name of their own, a remote helper by its name, and any other URL by its scheme
 pub data Protocol : Type 0 where

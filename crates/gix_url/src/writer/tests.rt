@@ -57,6 +57,39 @@ fn has_fault(alloc: Global, url: &Url, fault: WriteFault) -> bool {
     refused && unwritable && written.is_empty() && url.text_len() == Err(fault)
 }
 
+/// Whether the location of these parts has this text.
+fn spells(
+    alloc: Global,
+    scheme: Scheme,
+    user: Option<&str>,
+    host: Option<&str>,
+    port: Option<u16>,
+    path: &[u8],
+    text: &str,
+) -> Result<bool, Fail> {
+    let url = location(alloc, scheme, user, host, port, path)?;
+    has_text(alloc, &url, text)
+}
+
+/// Whether the location of these parts has this fault.
+fn refuses(
+    alloc: Global,
+    scheme: Scheme,
+    user: Option<&str>,
+    host: Option<&str>,
+    port: Option<u16>,
+    path: &[u8],
+    fault: WriteFault,
+) -> Result<bool, Fail> {
+    let url = location(alloc, scheme, user, host, port, path)?;
+    Ok(has_fault(alloc, &url, fault))
+}
+
+/// The scheme of the remote helper of this name.
+fn helper(alloc: Global, name: &str) -> Result<Scheme, AllocError> {
+    Ok(Scheme::Helper(String::from_str(alloc, name)?))
+}
+
 /// A writer that takes one byte a call, and fails once it has taken as many as it may.
 #[derive(Drop)]
 struct Narrow {
@@ -85,54 +118,120 @@ impl Write for Narrow {
 }
 
 #[test]
-fn writes_users(rt: HostRuntime) -> Result<(), Fail> {
+fn writes_user_information(rt: HostRuntime) -> Result<(), Fail> {
     let alloc = rt.alloc();
-    let mut url = location(alloc, Scheme::Ssh, Some("a@b/c:d"), Some("h"), None, b"/p")?;
-    assert!(rt; has_text(alloc, &url, "ssh://a%40b%2Fc%3Ad@h/p")?);
+    let user = Some("a@b/c:d");
+    assert!(rt;
+        spells(
+            alloc,
+            Scheme::Ssh,
+            user,
+            Some("h"),
+            None,
+            b"/p",
+            "ssh://a%40b%2Fc%3Ad@h/p"
+        )?
+    );
+    let mut url = location(alloc, Scheme::Https, Some("u"), Some("h"), None, b"/p")?;
     url.password = owned(alloc, Some("p@s:w"))?;
-    assert!(rt; has_text(alloc, &url, "ssh://a%40b%2Fc%3Ad:p%40s:w@h/p")?);
+    assert!(rt; has_text(alloc, &url, "https://u:p%40s:w@h/p")?);
     url.user = None;
-    assert!(rt; has_text(alloc, &url, "ssh://h/p")?);
+    assert!(rt; has_text(alloc, &url, "https://h/p")?);
     Ok(())
 }
 
 #[test]
 fn writes_hosts(rt: HostRuntime) -> Result<(), Fail> {
     let alloc = rt.alloc();
-    let git = location(alloc, Scheme::Git, None, Some("[::1]"), Some(9418), b"/r")?;
-    assert!(rt; has_text(alloc, &git, "git://%5B%3A%3A1%5D:9418/r")?);
-    let http = location(alloc, Scheme::Http, None, Some("h%41:"), None, b"/p")?;
-    assert!(rt; has_text(alloc, &http, "http://[h%2541:]/p")?);
-    let ssh = location(alloc, Scheme::Ssh, None, Some("::1"), None, b"~p")?;
-    assert!(rt; has_text(alloc, &ssh, "ssh://::1/~p")?);
+    let literal = Some("[::1]");
+    assert!(rt;
+        spells(
+            alloc,
+            Scheme::Git,
+            None,
+            literal,
+            Some(9418),
+            b"/r",
+            "git://%5B%3A%3A1%5D:9418/r"
+        )?
+    );
+    assert!(rt;
+        spells(
+            alloc,
+            Scheme::Http,
+            None,
+            Some("h%41:"),
+            None,
+            b"/p",
+            "http://[h%2541:]/p"
+        )?
+    );
+    assert!(rt;
+        spells(
+            alloc,
+            Scheme::Ssh,
+            None,
+            Some("::1"),
+            None,
+            b"~p",
+            "ssh://::1/~p"
+        )?
+    );
     Ok(())
 }
 
 #[test]
 fn writes_other_forms(rt: HostRuntime) -> Result<(), Fail> {
     let alloc = rt.alloc();
-    let mut scp = location(alloc, Scheme::Ssh, Some("u"), Some("::1"), None, b"p")?;
-    assert!(rt; has_text(alloc, &scp, "u@[::1]:p")?);
-    scp.scheme = Scheme::File;
-    scp.serialize_alternative_form = true;
-    assert!(rt; has_text(alloc, &scp, "u@[::1]p")?);
-    let name = String::from_str(alloc, "a")?;
-    let helper = location(alloc, Scheme::Helper(name), None, None, None, b"b://c")?;
-    assert!(rt; has_text(alloc, &helper, "a::b://c")?);
+    assert!(rt;
+        spells(
+            alloc,
+            Scheme::Ssh,
+            Some("u"),
+            Some("::1"),
+            None,
+            b"p",
+            "u@[::1]:p"
+        )?
+    );
+    let name = helper(alloc, "a")?;
+    assert!(rt; spells(alloc, name, None, None, None, b"b://c", "a::b://c")?);
+    let mut url = location(alloc, Scheme::File, None, Some("h"), None, b"/p")?;
+    url.serialize_alternative_form = true;
+    assert!(rt; has_text(alloc, &url, "h/p")?);
     Ok(())
 }
 
 #[test]
 fn tells_faults(rt: HostRuntime) -> Result<(), Fail> {
     let alloc = rt.alloc();
-    let user = location(alloc, Scheme::Ssh, Some("u"), None, None, b"/p")?;
-    assert!(rt; has_fault(alloc, &user, WriteFault::UserWithoutHost));
-    let mut url = location(alloc, Scheme::Ssh, None, Some("h"), Some(22), b"p")?;
-    assert!(rt; has_fault(alloc, &url, WriteFault::RelativeSsh));
-    url.scheme = Scheme::Helper(String::from_str(alloc, "a")?);
-    assert!(rt; has_fault(alloc, &url, WriteFault::HelperParts));
-    url.scheme = Scheme::Helper(String::from_str(alloc, "-a")?);
-    assert!(rt; has_fault(alloc, &url, WriteFault::HelperName));
+    let host = Some("h");
+    assert!(rt;
+        refuses(
+            alloc,
+            Scheme::Ssh,
+            Some("u"),
+            None,
+            None,
+            b"/p",
+            WriteFault::UserWithoutHost
+        )?
+    );
+    assert!(rt;
+        refuses(
+            alloc,
+            Scheme::Ssh,
+            None,
+            host,
+            Some(22),
+            b"p",
+            WriteFault::RelativeSsh
+        )?
+    );
+    let name = helper(alloc, "a")?;
+    assert!(rt; refuses(alloc, name, None, host, None, b"", WriteFault::HelperParts)?);
+    let name = helper(alloc, "-a")?;
+    assert!(rt; refuses(alloc, name, None, None, None, b"", WriteFault::HelperName)?);
     Ok(())
 }
 

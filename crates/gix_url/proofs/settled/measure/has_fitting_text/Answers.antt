@@ -1,5 +1,5 @@
 -- The pieces make up the text, and the scheme is that of the location.
-use Rattle.std.proofs.Common.{◌↔◌, ◌∙◌, ap, subst, sym, IsTrue}
+use Rattle.std.proofs.Common.{◌↔◌, ◌∙◌, ap, subst, IsTrue}
 use Rattle.gix_url.specs.Value.{Location}
 use Rattle.gix_url.specs.Pieces.{pieces_text}
 use Rattle.gix_url.specs.Schemes.{protocol_text}

@@ -1,7 +1,7 @@
 -- One piece more.
 use Rattle.std.proofs.Common.{[], refl, take}
 use Rattle.gix_url.specs.declared.writer.piece.Piece.TheVariants.{Raw}
-use Rattle.gix_url.specs.Pieces.{texts_text, piece_text}
+use Rattle.gix_url.specs.Pieces.{texts_text}
 use Rattle.gix_url.proofs.PieceLemmas.{texts_more}
 use Rattle.gix_url.proofs.LengthLemmas.{piece_walked}
 use Rattle.gix_url.proofs.settled.measure.past_texts.Goals as goal
