@@ -28,14 +28,20 @@ and_turns false false = refl
 pub answers_push : (lines : List (List ℕ)) (out : List ℕ) (good : Bool) (line answer : List ℕ) (first : Bool) → AnswersEach lines out good → IsAnswer line answer first → AnswersEach (lines ++ line ∷ []) (out ++ answer) (good && first)
 answers_push [] out good line answer first each one =
     (answer, [], first, true, one, (refl, refl), ap (λ o. o ++ answer) each.0 ∙ sym (append-nil answer), ap (λ g. g && first) each.1 ∙ and_turns true first)
-answers_push (l ∷ ls) out good line answer first (a, m, f, o, is, others, joined, all) one =
-    (a, m ++ answer, f, (o && first), is, answers_push ls m o line answer first others one,
-      ap (λ t. t ++ answer) joined ∙ append_assoc a m answer,
-      ap (λ g. g && first) all ∙ and_grouped f o first)
+answers_push (l ∷ ls) out good line answer first (a, m, f, o, is, others, joined, all) one = (
+  a,
+  m ++ answer,
+  f,
+  (o && first),
+  is,
+  answers_push ls m o line answer first others one,
+  ap (λ t. t ++ answer) joined ∙ append_assoc a m answer,
+  ap (λ g. g && first) all ∙ and_grouped f o first,
+)
   where
-  and_grouped : (x y z : Bool) → ((x && y) && z) ≡ (x && (y && z))
-  and_grouped true y z = refl
-  and_grouped false y z = refl
+    and_grouped : (x y z : Bool) → ((x && y) && z) ≡ (x && (y && z))
+    and_grouped true y z = refl
+    and_grouped false y z = refl
 
 -- a line and its end go from what is left to what is done
 pub ended_push : (done : List (List ℕ)) (line rest : List ℕ) → ended (done ++ line ∷ []) ++ rest ≡ ended done ++ (line ++ newline ∷ rest)
@@ -70,45 +76,51 @@ done_step whole rest out line behind new good first done (free, cut) (answer, on
 
 -- the last line is empty
 pub done_all : (whole rest out : List ℕ) (good : Bool) → Done whole rest out good → FreeOf newline rest → (length rest == 0) ≡ true → Answers whole out good
-done_all whole [] out good done free empty =
-    (done.lines, record {
-      full = done.lines;
-      last = [];
-      each = done.each;
-      open_ended = free;
-      joined = done.joined;
-      counted = sym (append-nil done.lines);
-    }, done.answered)
+done_all whole [] out good done free empty = (
+  done.lines,
+  record {
+    full = done.lines;
+    last = [];
+    each = done.each;
+    open_ended = free;
+    joined = done.joined;
+    counted = sym (append-nil done.lines);
+  },
+  done.answered,
+)
 done_all whole (b ∷ bs) out good done free empty = absurd (omega (arith, eqb-true _ _ empty))
 
 -- the last line has no end
 pub done_last : (whole rest out new : List ℕ) (good first : Bool) → Done whole rest out good → FreeOf newline rest → (length rest == 0) ≡ false → AppendsAnswer rest out new (Ok first) → Answers whole new (good && first)
 done_last whole [] out new good first done free filled one = absurd (cc)
 done_last whole (b ∷ bs) out new good first done free filled (answer, one, joined) =
-    subst (λ t. Answers whole t (good && first)) (sym joined)
-    (done.lines ++ (b ∷ bs) ∷ [], record {
-      full = done.lines;
-      last = b ∷ bs;
-      each = done.each;
-      open_ended = free;
-      joined = done.joined;
-      counted = refl;
-    }, answers_push done.lines out good (b ∷ bs) answer first done.answered one)
+    subst (λ t. Answers whole t (good && first)) (sym joined) (
+      done.lines ++ (b ∷ bs) ∷ [],
+      record {
+        full = done.lines;
+        last = b ∷ bs;
+        each = done.each;
+        open_ended = free;
+        joined = done.joined;
+        counted = refl;
+      },
+      answers_push done.lines out good (b ∷ bs) answer first done.answered one,
+    )
 
 -- a text or a fault: which it is, by the test of a length
 pub has_text : (v : Location) (r : Result ℕ WriteFault) → r ≡ text_length (text v) → is_err r ≡ false → (t : List ℕ) × (text v ≡ Ok t)
 has_text v r e right = has_ok (text v) (ap is_err (sym e) ∙ right)
   where
-  has_ok : (w : Result (List ℕ) WriteFault) → is_err (text_length w) ≡ false → (t : List ℕ) × (w ≡ Ok t)
-  has_ok (Ok t) h = (t, refl)
-  has_ok (Err f) h = absurd (cc)
+    has_ok : (w : Result (List ℕ) WriteFault) → is_err (text_length w) ≡ false → (t : List ℕ) × (w ≡ Ok t)
+    has_ok (Ok t) h = (t, refl)
+    has_ok (Err f) h = absurd (cc)
 
 pub has_fault : (v : Location) (r : Result ℕ WriteFault) → r ≡ text_length (text v) → is_err r ≡ true → (f : WriteFault) × (text v ≡ Err f)
 has_fault v r e wrong = has_err (text v) (ap is_err (sym e) ∙ wrong)
   where
-  has_err : (w : Result (List ℕ) WriteFault) → is_err (text_length w) ≡ true → (f : WriteFault) × (w ≡ Err f)
-  has_err (Ok t) h = absurd (cc)
-  has_err (Err f) h = (f, refl)
+    has_err : (w : Result (List ℕ) WriteFault) → is_err (text_length w) ≡ true → (f : WriteFault) × (w ≡ Err f)
+    has_err (Ok t) h = absurd (cc)
+    has_err (Err f) h = (f, refl)
 
 -- what is told of a location is the answer to each line that spells it
 pub told_answer : (read line old new : List ℕ) (v : Location) (r : Result Bool RunError) → read ≡ line → Spells read v → Tells v old new r → AppendsAnswer line old new r
@@ -120,15 +132,15 @@ pub refused_answer : (read line old new : List ℕ) (e : Error) (r : Result Bool
 refused_answer read line old new e r same none flaw told =
     refusal_told line old new e r (subst (λ b. Refuses b e) same none) (subst (λ b. Flaw b e) same flaw) told
   where
-  refusal_told : (line old new : List ℕ) (e : Error) (r : Result Bool RunError) → Refuses line e → Flaw line e → TellsRefusal e old new r → AppendsAnswer line old new r
-  refusal_told line old new e (Err fault) none flaw told = told
-  refusal_told line old new error.Memory (Ok good) none flaw told = absurd told.0
-  refusal_told line old new error.EmptyLocal (Ok good) none flaw told = (_, refused error.EmptyLocal tt none flaw refl told.1, told.2)
-  refusal_told line old new (error.MissingPath kind input) (Ok good) none flaw told = (_, refused (error.MissingPath kind input) tt none flaw refl told.1, told.2)
-  refusal_told line old new (error.NotUtf8 kind input) (Ok good) none flaw told = (_, refused (error.NotUtf8 kind input) tt none flaw refl told.1, told.2)
-  refusal_told line old new (error.TooLong shown total) (Ok good) none flaw told = (_, refused (error.TooLong shown total) tt none flaw refl told.1, told.2)
-  refusal_told line old new (error.BadUrl kind named input) (Ok good) none flaw told = (_, refused (error.BadUrl kind named input) tt none flaw refl told.1, told.2)
-  refusal_told line old new (error.Unwritable named) (Ok good) none flaw told = (_, refused (error.Unwritable named) tt none flaw refl told.1, told.2)
+    refusal_told : (line old new : List ℕ) (e : Error) (r : Result Bool RunError) → Refuses line e → Flaw line e → TellsRefusal e old new r → AppendsAnswer line old new r
+    refusal_told line old new e (Err fault) none flaw told = told
+    refusal_told line old new error.Memory (Ok good) none flaw told = absurd told.0
+    refusal_told line old new error.EmptyLocal (Ok good) none flaw told = (_, refused error.EmptyLocal tt none flaw refl told.1, told.2)
+    refusal_told line old new (error.MissingPath kind input) (Ok good) none flaw told = (_, refused (error.MissingPath kind input) tt none flaw refl told.1, told.2)
+    refusal_told line old new (error.NotUtf8 kind input) (Ok good) none flaw told = (_, refused (error.NotUtf8 kind input) tt none flaw refl told.1, told.2)
+    refusal_told line old new (error.TooLong shown total) (Ok good) none flaw told = (_, refused (error.TooLong shown total) tt none flaw refl told.1, told.2)
+    refusal_told line old new (error.BadUrl kind named input) (Ok good) none flaw told = (_, refused (error.BadUrl kind named input) tt none flaw refl told.1, told.2)
+    refusal_told line old new (error.Unwritable named) (Ok good) none flaw told = (_, refused (error.Unwritable named) tt none flaw refl told.1, told.2)
 
 -- where a text was written there is one, and it was appended
 pub text_appended : {W : Type 0} (contents : W → Option (List ℕ)) (old new : W) (r : Result (List ℕ) WriteFault) → Written contents old new r (Ok tt) → (t : List ℕ) × (r ≡ Ok t) × Appends (contents old) (contents new) t

@@ -107,7 +107,7 @@ abbrev pub above_first : List ℕ → Option (List ℕ)
 above_first [] = None
 above_first (b ∷ bs) = Some []
 
--- the parent by segments: the front up to the end of the piece before the last piece; it is the root where no such
+-- the parent by segments: all that stands in front of the last piece and behind which another ends; it is the root where no such
 -- piece stands behind the first `/`
 abbrev pub parent_of : List (List ℕ) → Option (List ℕ)
 parent_of [] = None

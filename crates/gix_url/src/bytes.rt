@@ -56,7 +56,7 @@ pub(crate) fn before(bytes: &[u8], c: u8) -> Option<&[u8]>
 }
 
 /// Whether a path may start at the byte: at a `/`, and on the web also at a `?` or a `#`.
-fn is_path_start(byte: u8, web: bool) -> bool
+pub(crate) fn is_path_start(byte: u8, web: bool) -> bool
     ensures { result ≡ is_path_start web byte }
 {
     byte == b'/' || (web && (byte == b'?' || byte == b'#'))

@@ -502,7 +502,7 @@ fn normalize(host: &mut [u8])
 }
 
 /// Whether each byte is a letter, a digit, `-`, `.`, `_` or `*`.
-fn looks_like_domain(host: &[u8]) -> bool
+pub(crate) fn looks_like_domain(host: &[u8]) -> bool
     ensures { result ≡ list_all spec.is_dns_byte host.now }
 {
     host.iter().all(|byte| is_dns_byte(*byte))

@@ -1,14 +1,15 @@
 //! The length test of URLs.
 //!
-//! It uses nothing else of this crate and asks for no memory. A [`Walk`] takes what follows the `://` of a URL in
+//! It uses the tests of `bytes` and `scheme`, and asks for no memory. A [`Walk`] takes what follows the `://` of a URL in
 //! any number of pieces, so that a text can be measured that stands nowhere as a whole. Its contract: a walk past
 //! pieces is a walk past the pieces joined, and it is short exactly where the definition of the length test says.
 
 ghost use Rattle.std.specs.Prelude.{◌≡◌, ◌↔◌, IsTrue};
 ghost use Rattle.gix_url.specs.Authority.{Fits, is_any_slash};
-ghost use Rattle.gix_url.specs.Cuts.{is_path_start};
-ghost use Rattle.gix_url.specs.Schemes.{is_web_scheme};
 ghost use Rattle.gix_url.specs.Walks.{one_more, stage_counted, stage_past, walk_past, walk_past_all, walk_behind, is_walk_short, text_walk_past, text_walk_for};
+
+use crate::bytes::is_path_start;
+use crate::scheme::is_web_scheme;
 
 /// The bytes that a scheme may have, and what counts of that which follows.
 pub(crate) const LIMIT: u16 = 1024;
@@ -159,20 +160,6 @@ fn is_any_slash(byte: u8) -> bool
     ensures { result ≡ is_any_slash byte }
 {
     byte == b'/' || byte == b'\\'
-}
-
-/// Whether a path may start at the byte.
-fn is_path_start(byte: u8, web: bool) -> bool
-    ensures { result ≡ is_path_start web byte }
-{
-    byte == b'/' || (web && (byte == b'?' || byte == b'#'))
-}
-
-/// Whether the scheme is one of HTTP's.
-fn is_web_scheme(scheme: &[u8]) -> bool
-    ensures { result ≡ is_web_scheme scheme.now }
-{
-    scheme == b"http".as_slice() || scheme == b"https".as_slice()
 }
 
 /// Whether a scheme and what follows its `://` are short enough.

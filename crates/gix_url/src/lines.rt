@@ -76,7 +76,11 @@ pub fn status(outcome: &Result<bool, RunError>) -> u8
 ///
 /// `Ok(true)` says that every line was settled. The errors are those of [`RunError`]; a reader that hasn't ended
 /// after 2^40 calls is answered `Read`. The whole answer is built in memory before it is written.
-pub fn run<R: Read, W: Write>(alloc: Global, input: &mut R, output: &mut W) -> Result<bool, RunError>
+pub fn run<R: Read, W: Write>(
+    alloc: Global,
+    input: &mut R,
+    output: &mut W,
+) -> Result<bool, RunError>
     ensures answered { Ran W.contents (R.remaining input.old) output.old output.new result }
     ensures read_to_end { OnOk result (IsAtEnd (R.remaining input.new)) }
 {

@@ -122,6 +122,17 @@ fn other(alloc: Global, text: &str) -> Result<Scheme, Error>
     Ok(Scheme::HelperUrl(String::from_str(alloc, text)?))
 }
 
+/// Whether the text is a scheme that has a name of its own.
+pub(crate) fn is_known_scheme(text: &[u8]) -> bool
+    ensures { result ≡ is_known_scheme text.now }
+{
+    is_ssh_scheme(text)
+        || is_web_scheme(text)
+        || is_named(text, "file")
+        || is_named(text, "git")
+        || is_named(text, "ext")
+}
+
 /// Whether the text is one of Secure Shell's names.
 pub(crate) fn is_ssh_scheme(text: &[u8]) -> bool
     ensures { result ≡ is_ssh_scheme text.now }

@@ -22,14 +22,14 @@ pub trait TestUrlExtension {
         serialize_alternative_form: bool,
     ) -> Url
         ensures { result ≡ record {
-            scheme = protocol scheme;
-            user = option_map string_bytes user;
-            password = option_map string_bytes password;
-            host = option_map string_bytes host;
-            flag = serialize_alternative_form;
-            port = port;
-            path = bstring_bytes path;
-            spelling = None;
+          scheme = protocol scheme;
+          user = option_map string_bytes user;
+          password = option_map string_bytes password;
+          host = option_map string_bytes host;
+          flag = serialize_alternative_form;
+          port = port;
+          path = bstring_bytes path;
+          spelling = None;
         } };
 }
 

@@ -2,13 +2,13 @@
 
 ghost use Rattle.std.specs.Prelude.{◌≡◌, ◌↔◌, IsTrue, IsUtf8, codes};
 ghost use Rattle.gix_url.specs.Bytes.{Holds};
-ghost use Rattle.gix_url.specs.Hosts.{is_dns_byte, normal_host};
-ghost use Rattle.std.specs.List.{list_all};
+ghost use Rattle.gix_url.specs.Hosts.{normal_host};
 ghost use Rattle.gix_url.specs.Settled.{HasHostAlone, HasMatch, IsNormalAddress, IsNormalName, IsOpenName, begins_at_home, begins_with_slashes};
 ghost use Rattle.gix_url.specs.SettledParts.{IsFlaggedPath};
 
 use crate::bytes::{cut_at_mark, is_free_of, is_lowercase};
 use crate::escape::decodes_to;
+use crate::host::looks_like_domain;
 use crate::ipv6::is_address;
 use crate::location::Url;
 
@@ -70,25 +70,11 @@ pub(crate) fn lacks_mark(text: &[u8]) -> bool
     cut_at_mark(text).is_none()
 }
 
-/// Whether each byte looks like a part of a domain name.
-fn are_dns_bytes(text: &[u8]) -> bool
-    ensures { result ≡ list_all is_dns_byte text.now }
-{
-    text.iter().all(|byte| is_dns_byte(*byte))
-}
-
-/// Whether the byte looks like a part of a domain name.
-fn is_dns_byte(byte: u8) -> bool
-    ensures { result ≡ is_dns_byte byte }
-{
-    byte.is_ascii_alphanumeric() || byte == b'-' || byte == b'.' || byte == b'_' || byte == b'*'
-}
-
 /// Whether the host is its own normal form.
 pub(crate) fn is_normal(host: &[u8]) -> bool
     ensures { IsTrue result ↔ (normal_host host.now ≡ host.now) }
 {
-    !are_dns_bytes(host) || is_lowercase(host)
+    !looks_like_domain(host) || is_lowercase(host)
 }
 
 /// Whether the text is not empty, and free of `:`, `[` and `]`.

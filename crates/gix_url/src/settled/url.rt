@@ -4,7 +4,6 @@ ghost use Rattle.std.specs.Prelude.{◌≡◌, ◌↔◌, IsTrue, IsUtf8, Some, 
 ghost use Rattle.gix_url.specs.Value.Protocol.{git, helper_url, ssh};
 ghost use Rattle.gix_url.specs.Bytes.{begins_by};
 ghost use Rattle.gix_url.specs.Cuts.{is_path_start};
-ghost use Rattle.gix_url.specs.Schemes.{is_known_scheme, is_ssh_scheme};
 ghost use Rattle.gix_url.specs.Settled.{IsBracketedHost, IsFairSpelling, IsRawPath, IsSettledGit, IsSettledHelperUrl, IsSettledSecure, IsSettledUrl, IsSettledWeb, IsTransportPath, first_byte, is_ftp};
 ghost use Rattle.gix_url.specs.SettledParts.{HasBareHost, HasBracketedHost, HasCredentials, HasFairSpelling, HasUrlForm, HasUrlParts, HasUrlPath, HasWebHost, IsEscapedText, IsGitTarget, IsHomeless, IsHosted, IsOtherForm, IsOtherScheme, IsOtherTarget, IsRaw, IsRootedOrEmpty, IsSecureTarget, IsSettledRaw, IsWeb, IsWebTarget, IsWrittenAsUrl};
 
@@ -14,6 +13,7 @@ use super::parts::{begins_at_home, has_match, is_text};
 use crate::bytes::{is_scheme_text, starts_with_byte};
 use crate::escape::{decodes_to, has_percent, is_sound, lacks_white_space};
 use crate::location::Url;
+use crate::scheme::is_known_scheme;
 
 /// Whether the location is a settled one of HTTP.
 pub(crate) fn is_settled_web(url: &Url) -> bool
@@ -168,25 +168,6 @@ fn is_ftp(name: &[u8]) -> bool
     ensures { result ≡ is_ftp name.now }
 {
     name == b"ftp".as_slice() || name == b"ftps".as_slice()
-}
-
-/// Whether the scheme is one that has a name of its own.
-fn is_known_scheme(name: &[u8]) -> bool
-    ensures { result ≡ is_known_scheme name.now }
-{
-    is_ssh_scheme(name)
-        || name == b"http".as_slice()
-        || name == b"https".as_slice()
-        || name == b"file".as_slice()
-        || name == b"git".as_slice()
-        || name == b"ext".as_slice()
-}
-
-/// Whether the scheme is one of Secure Shell's names.
-fn is_ssh_scheme(name: &[u8]) -> bool
-    ensures { result ≡ is_ssh_scheme name.now }
-{
-    name == b"ssh".as_slice() || name == b"ssh+git".as_slice() || name == b"git+ssh".as_slice()
 }
 
 /// Whether the location is a settled URL, and its path is written raw where no spelling matches it.

@@ -1,4 +1,4 @@
--- A literal is an address, or an address and a zone around the first `%`.
+-- The first `%` parts a literal into address and zone; without one all of it is the address.
 use Rattle.gix_url.proofs.SettledLemmas.{second_decides, first_fails, literal_without_zone, literal_with_zone}
 use Rattle.gix_url.proofs.settled.host.is_normal_literal.Goals as goal
 
