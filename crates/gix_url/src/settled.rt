@@ -13,8 +13,6 @@ mod local;
 mod measure;
 mod parts;
 mod scp;
-#[cfg(test)]
-mod tests;
 mod url;
 
 use crate::location::Url;

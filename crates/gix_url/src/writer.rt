@@ -16,8 +16,6 @@ mod form;
 mod layout;
 pub(crate) mod piece;
 mod show;
-#[cfg(test)]
-mod tests;
 mod walks;
 
 use crate::error::{Error, WriteError, WriteFault};
