@@ -1,22 +1,21 @@
 -- Rows on flaws: what is wrong with refused texts.
-use Rattle.std.proofs.lemmas.Str.{IsUtf8-from_is_utf8}
-use Rattle.std.proofs.Common.{◌≡◌, ℕ, inl, inr, List, [], ◌∷◌, Some, None, IsUtf8, codes, refl, sym, ap, ◌∙◌}
+use Rattle.std.proofs.Common.{◌≡◌, ℕ, inl, inr, List, [], ◌∷◌, ◌++◌, false, Some, None, IsUtf8, codes, refl, sym, ap, ◌∙◌}
 use Rattle.std.specs.Str.{chars}
 use Rattle.std.proofs.lemmas.Bool.{false≢true, ltb-true}
-use Rattle.std.proofs.lemmas.Str.{is_utf8-from_IsUtf8}
+use Rattle.std.proofs.lemmas.Str.{is_utf8-from_IsUtf8, IsUtf8-from_is_utf8}
 use Rattle.percent_encoding.specs.Percent.{percent_decode}
 use Rattle.percent_encoding.proofs.OnLiterals.{percent_encoding_on_literals}
 use Rattle.bstr.proofs.Computing.{computing}
 use Rattle.gix_url.specs.Bytes.{colon, right_bracket, begins_with}
 use Rattle.gix_url.specs.AddressTest.{is_ipv6_text}
-use Rattle.gix_url.specs.Grammar.{ScpFront, ScpUser}
+use Rattle.gix_url.specs.Grammar.{ScpFront, AddressedShape, ScpUser}
 use Rattle.gix_url.specs.Flaws.{HasBadPort, BracketsAround, HasBadHost, AuthorityFlaw, UrlFlaw, ScpHostFlaw, MissesPath}
 use Rattle.gix_url.specs.Rows.{NameFlawRows, FlawRows}
 use Rattle.gix_url.specs.declared.error.UrlFault.TheVariants as fault
 use Rattle.gix_url.proofs.CutLemmas.{tails, cut_unique}
 use Rattle.gix_url.proofs.AddressTestLemmas.{ipv6_text_from}
 use Rattle.gix_url.proofs.RowNameLemmas.{plain_row, not_literal_free, web_port_not_zero, port_not_too_large, loose_not_strict, loose_not_bare}
-use Rattle.gix_url.proofs.RowFormLemmas.{not_held, no_helper_at, neither_at, shape_row}
+use Rattle.gix_url.proofs.RowFormLemmas.{holds, not_held, no_helper_at, neither_at, shape_row}
 
 -- the bytes of `:` and of no character are no text
 no_utf8 : ¬ IsUtf8 (percent_decode (codes ":%FF"))
@@ -48,6 +47,10 @@ name_flaw_rows = (
   AuthorityFlaw.no_host [] refl,
 )
 
+-- a text without `@[` isn't `user@[address]:path`
+not_addressed_row : (b : List ℕ) → holds (codes "@[") b ≡ false → (user address path : List ℕ) → ¬ AddressedShape b user address path
+not_addressed_row b h user address path k = not_held (codes "@[") b h (user, address ++ right_bracket ∷ (colon ∷ path), k.joined)
+
 -- what is wrong with whole texts
 pub flaw_rows : FlawRows
 unfolding computing is_ipv6_text chars
@@ -55,6 +58,7 @@ flaw_rows = (
   UrlFlaw.no_scheme (codes "./a") (codes "b") (record { shape = record { no_helper = no_helper_at (codes "./a://b") (codes "./a") (codes "//b") refl refl refl; first = not_held (codes "://") (codes "./a") refl; joined = refl }; not_file = refl }) refl,
   UrlFlaw.unsound (codes "http") (codes "h/%2") (record { shape = record { no_helper = no_helper_at (codes "http://h/%2") (codes "http") (codes "//h/%2") refl refl refl; first = not_held (codes "://") (codes "http") refl; joined = refl }; not_file = refl }) refl,
   record {
+    not_addressed = not_addressed_row (codes "[@a:]::") refl;
     front = codes "[@a:]";
     path = codes ":";
     user = Some (codes "[");
@@ -70,6 +74,7 @@ flaw_rows = (
     flaw = ScpHostFlaw.bad_name fault.BadPort (HasBadPort.plain (codes "a") (codes "]") (plain_row (codes "a") refl refl refl) refl refl (ltb-true _ _ refl, λ port n. false≢true n.digits.1));
   },
   record {
+    not_addressed = not_addressed_row (codes "::address") refl;
     front = [];
     path = codes ":address";
     user = None;
@@ -80,6 +85,7 @@ flaw_rows = (
     flaw = ScpHostFlaw.empty refl;
   },
   record {
+    not_addressed = not_addressed_row (codes "u@:p") refl;
     front = codes "u@";
     path = codes "p";
     user = Some (codes "u");
@@ -90,6 +96,7 @@ flaw_rows = (
     flaw = ScpHostFlaw.empty refl;
   },
   record {
+    not_addressed = not_addressed_row (codes "a b:p") refl;
     front = codes "a b";
     path = codes "p";
     user = None;

@@ -12,6 +12,7 @@ use Rattle.gix_url.specs.Bytes.{percent_sign, colon, at_sign, left_bracket, back
 use Rattle.gix_url.specs.Escapes.{escaped_percents}
 use Rattle.gix_url.specs.Hosts.{IsDigits, Names}
 use Rattle.gix_url.specs.Hosts.Mode.{bare}
+use Rattle.gix_url.specs.Shapes.{PlainScp}
 use Rattle.gix_url.specs.Grammar.{ScpFront, ScpShape, AddressedShape, ScpUser, ScpHost, Unbrackets, SpellsScpBefore, SpellsScp}
 use Rattle.gix_url.specs.Grammar.ScpFront.{plain, bracketed}
 use Rattle.gix_url.specs.Grammar.ScpUser.{host_alone, with_user}
@@ -179,10 +180,13 @@ scp_no_host b front path user host h split at none v k =
     none k.meant (subst (λ t. ScpHost t k.meant) (sym pieces.1) k.hosted)
 
 -- what the host is refused for the text is
-pub scp_refused : (b front path : List ℕ) (user : Option (List ℕ)) (host : List ℕ) → ScpShape b front path → ScpUser front user host → FreeOf at_sign host → (r : HostRefusal) → RefusesHost host r → RefusesScp b r
+pub scp_refused : (b front path : List ℕ) (user : Option (List ℕ)) (host : List ℕ) → PlainScp b front path → ScpUser front user host → FreeOf at_sign host → (r : HostRefusal) → RefusesHost host r → RefusesScp b r
 scp_refused b front path user host h split at refusal.Memory k = tt
 scp_refused b front path user host h split at (refusal.Fault named) k =
-    (scp_no_host b front path user host h split at k.0, record { front = front; path = path; user = user; host = host; shape = h; split = split; no_at = at; flaw = k.1 })
+    (scp_no_host b front path user host h.shape split at k.0, record { not_addressed = λ u a p. curried u a p; front = front; path = path; user = user; host = host; shape = h.shape; split = split; no_at = at; flaw = k.1 })
+  where
+    curried : (u a p : List ℕ) → ¬ AddressedShape b u a p
+    curried u a p k = h.not_addressed (u, a, p, k)
 
 -- the front of a text is text
 front_utf8 : (b front path : List ℕ) → ScpShape b front path → IsUtf8 b → IsUtf8 front

@@ -134,8 +134,9 @@ pub data ScpHostFlaw (host : List ℕ) : UrlFault → Type 0 where
   white_space : IsUtf8 host → ¬ LacksWhiteSpace host → ScpHostFlaw host fault.BadCharacter
   bad_name : (named : UrlFault) → NameFlaw bare (escaped_percents host) named → ScpHostFlaw host named
 
--- what is wrong with the scp form
+-- what is wrong with the scp form, where it isn't `user@[address]:path`
 pub record ScpFlaw (b : List ℕ) (named : UrlFault) : Type 0 where
+  pub not_addressed : (user address path : List ℕ) → ¬ AddressedShape b user address path
   pub front : List ℕ
   pub path : List ℕ
   pub user : Option (List ℕ)

@@ -8,8 +8,9 @@ ghost use Rattle.std.specs.Prelude.{◌≡◌, ◌↔◌, IfErr, IfOk, IfSome, I
 ghost use Rattle.gix_url.specs.Bytes.{FreeOf, LacksWhiteSpace, at_sign};
 ghost use Rattle.gix_url.specs.Escapes as spec;
 ghost use Rattle.gix_url.specs.Flaws.{Flaw};
-ghost use Rattle.gix_url.specs.Grammar.{AddressedShape, IsBracketed, ScpHost, ScpShape, SpellsScp, SpellsScpAddressed, SpellsScpBefore, Unbrackets, from_home, scp_location};
+ghost use Rattle.gix_url.specs.Grammar.{AddressedShape, IsBracketed, ScpHost, SpellsScp, SpellsScpAddressed, SpellsScpBefore, Unbrackets, from_home, scp_location};
 ghost use Rattle.gix_url.specs.Readings.{NoneBut};
+ghost use Rattle.gix_url.specs.Shapes.{PlainScp};
 ghost use Rattle.gix_url.specs.ScpPieces.{ColonsInside, CutsUser, NamesHost, NamesNoPort, RefusesHost, RefusesPiece, RefusesScp};
 
 use super::copies::{bad_url, copied, copied_text, is_text, missing_path, not_utf8};
@@ -33,7 +34,7 @@ enum HostRefusal {
 
 /// The scp form: a host, perhaps behind a user, a colon and a path.
 pub(super) fn read_scp(alloc: Global, input: &[u8], front: &[u8], path: &[u8]) -> Result<Url, Error>
-    requires { ScpShape input.now front.now path.now }
+    requires { PlainScp input.now front.now path.now }
     ensures found { IfOk result (λ v. SpellsScpBefore input.now v) }
     ensures refused { IfErr result (λ e. NoneBut (SpellsScpBefore input.now) e) }
     ensures flaw { IfErr result (λ e. Flaw input.now e) }

@@ -9,25 +9,25 @@ use Rattle.gix_url.proofs.parse.scp.read_scp.Goals as goal
 
 pub missing_path-requires : goal.missing_path-requires
 missing_path-requires c =
-    in_scp c.args.front.now (subst (λ p. ScpShape c.args.input.now c.args.front.now p) (empty_tested c.args.path.now c.if-is_empty.ensures) c.requires)
+    in_scp c.args.front.now (subst (λ p. ScpShape c.args.input.now c.args.front.now p) (empty_tested c.args.path.now c.if-is_empty.ensures) c.requires.shape)
 
 pub returns-then-is_empty-clause-refused : goal.returns-then-is_empty-clause-refused
 returns-then-is_empty-clause-refused c =
     none_but (SpellsScpBefore c.args.input.now)
-    (scp_no_path c.args.input.now c.args.front.now (subst (λ p. ScpShape c.args.input.now c.args.front.now p) (empty_tested c.args.path.now c.if-is_empty.ensures) c.requires))
+    (scp_no_path c.args.input.now c.args.front.now (subst (λ p. ScpShape c.args.input.now c.args.front.now p) (empty_tested c.args.path.now c.if-is_empty.ensures) c.requires.shape))
     c.missing_path.result
 
 pub read_scp_host-requires-clause-text : goal.read_scp_host-requires-clause-text
 read_scp_host-requires-clause-text c =
-    scp_host_utf8 c.args.input.now c.args.front.now c.args.path.now _ c.cut_user.result.1.now c.requires (c.if-not-is_text.ensures.0 refl) c.cut_user.ensures.split
+    scp_host_utf8 c.args.input.now c.args.front.now c.args.path.now _ c.cut_user.result.1.now c.requires.shape (c.if-not-is_text.ensures.0 refl) c.cut_user.ensures.split
 
 pub read_scp_host-requires-clause-colons : goal.read_scp_host-requires-clause-colons
 read_scp_host-requires-clause-colons c =
-    colons_inside_host c.args.front.now _ c.cut_user.result.1.now c.cut_user.ensures.split (colons_inside_front c.args.input.now c.args.front.now c.requires.shape)
+    colons_inside_host c.args.front.now _ c.cut_user.result.1.now c.cut_user.ensures.split (colons_inside_front c.args.input.now c.args.front.now c.requires.shape.shape)
 
 pub scp_location-requires : goal.scp_location-requires
 scp_location-requires c =
-    scp_user_utf8 c.args.input.now c.args.front.now c.args.path.now c.cut_user.result.0 c.cut_user.result.1.now c.requires (c.if-not-is_text.ensures.0 refl) c.cut_user.ensures.split
+    scp_user_utf8 c.args.input.now c.args.front.now c.args.path.now c.cut_user.result.0 c.cut_user.result.1.now c.requires.shape (c.if-not-is_text.ensures.0 refl) c.cut_user.ensures.split
 
 pub host_error-requires : goal.host_error-requires
 host_error-requires c =
@@ -40,7 +40,7 @@ returns-in_ok-scp_location-in-Ok-clause-found c = record {
   user = option_map (λ u. u.now) c.cut_user.result.0;
   host = c.cut_user.result.1.now;
   meant = string_bytes c.in-Ok.host;
-  shape = c.requires;
+  shape = c.requires.shape;
   text = c.if-not-is_text.ensures.0 refl;
   pathed = some_tested c.args.path.now c.if-is_empty.ensures;
   split = c.cut_user.ensures.split;
