@@ -1,4 +1,18 @@
 //! Git locations: remote helpers, URLs, the scp form and local paths, read, written and told apart.
+//!
+//! [`parse::parse`] reads bytes and [`Url::from_text`] text; [`Url::write_to`] and [`Url::to_bstring`] write a
+//! location, and [`Url::is_settled`] tells whether it comes back the same.
+//!
+//! ```
+//! /// The host that a text names, if the location can be written and read again.
+//! fn host_of(alloc: Global, text: &str) -> Result<Option<String>, Error> {
+//!     let url = Url::from_text(alloc, text)?;
+//!     if !url.is_settled() {
+//!         return Ok(None);
+//!     }
+//!     Ok(url.host)
+//! }
+//! ```
 #![tactic(auto)]
 
 mod address_law;
