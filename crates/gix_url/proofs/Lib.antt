@@ -12,6 +12,7 @@ pub mod UrlLemmas
 pub mod UrlLocationLemmas
 pub mod ShapeLemmas
 pub mod RecordLemmas
+pub mod NormalLemmas
 pub mod RowLemmas
 pub mod RowNameLemmas
 pub mod RowPartLemmas

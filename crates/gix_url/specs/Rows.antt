@@ -458,3 +458,13 @@ UnsettledOtherRows =
     × ¬ IsSettled (path_alone (helper (codes "ext")) true (codes "a"))
     × ¬ IsSettled (path_alone (helper (codes "a")) false (codes "b"))
     × ¬ IsSettled (path_alone ssh false [])
+
+-- ---- normal forms
+
+-- the normal form of a host is its own
+abbrev pub NormalAgain : Type 0
+NormalAgain = (host : List ℕ) → normal_host (normal_host host) ≡ normal_host host
+
+-- the normal form of a literal is a literal, and its own
+abbrev pub LiteralAgain : Type 0
+LiteralAgain = (given normal : List ℕ) → Literal given normal → Literal normal normal

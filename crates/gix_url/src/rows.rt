@@ -3,7 +3,7 @@
 //! It has no code and uses nothing: the contract of each function is a group of rows.
 
 ghost use Rattle.gix_url.specs.Records.{KeepsMeaning};
-ghost use Rattle.gix_url.specs.Rows.{EscapeRows, HostRows, SchemeRows, PathRows, OtherTextRows, UrlTextRows, UserTextRows, FaultRows, RecordRows, PieceRows, ParentRows, ExpandedRows, SplitRows, SpelledPartRows, RawPartRows, LiteralRows, NameRows, NoNameRows, AuthorityRows, NoAuthorityRows, LengthRows, UrlRows, FormRows, NoFormRows, NameFlawRows, FlawRows, SettledRows, WebHostRows, UnsettledWebRows, UnsettledUrlRows, UnsettledOtherRows};
+ghost use Rattle.gix_url.specs.Rows.{AuthorityRows, EscapeRows, ExpandedRows, FaultRows, FlawRows, FormRows, HostRows, LengthRows, LiteralAgain, LiteralRows, NameFlawRows, NameRows, NoAuthorityRows, NoFormRows, NoNameRows, NormalAgain, OtherTextRows, ParentRows, PathRows, PieceRows, RawPartRows, RecordRows, SchemeRows, SettledRows, SpelledPartRows, SplitRows, UnsettledOtherRows, UnsettledUrlRows, UnsettledWebRows, UrlRows, UrlTextRows, UserTextRows, WebHostRows};
 
 /// Escapes, written and read.
 fn law_escapes()
@@ -54,6 +54,12 @@ fn law_hosts()
     ensures literals { LiteralRows }
     ensures named { NameRows }
     ensures unnamed { NoNameRows }
+{}
+
+/// Normal forms of hosts and literals, taken again, stay.
+fn law_normal_forms()
+    ensures host { NormalAgain }
+    ensures literal { LiteralAgain }
 {}
 
 /// Users and passwords.
