@@ -97,7 +97,7 @@ static OTHERS: [(&str, &str); 16] = [
 ];
 
 /// Texts in which more than one check could speak: the one that comes first names its flaw.
-static ORDER: [(&str, &str); 47] = [
+static ORDER: [(&str, &str); 52] = [
     // White space and escapes before the scheme.
     ("1x:// h/", "BadUrl BadCharacter Url"),
     ("é://h%2/", "BadUrl BadCharacter Url"),
@@ -105,7 +105,11 @@ static ORDER: [(&str, &str); 47] = [
     ("1x://a\\b/", "BadUrl NoScheme Url"),
     ("1x://h:x/", "BadUrl NoScheme Url"),
     ("1x://", "BadUrl NoScheme Url"),
-    // A backslash, the path, the password and the user before the port.
+    // A backslash, the path, the password and the user have one answer, whichever is looked at first.
+    ("x://a\\b/%FF", "BadUrl BadCharacter Url"),
+    ("x://u:%FF@h/%FF", "BadUrl BadCharacter Url"),
+    ("x://%FF:%FF@h/", "BadUrl BadCharacter Url"),
+    // They come before the port.
     ("http://h\\:x/", "BadUrl BadCharacter Url"),
     ("http://h:x/%FF", "BadUrl BadCharacter Url"),
     ("x://h:70000/%FF", "BadUrl BadCharacter Url"),
@@ -123,10 +127,13 @@ static ORDER: [(&str, &str); 47] = [
     ("http://[h]:70000/", "BadUrl BadCharacter Url"),
     ("ssh://[%FF]:x/p", "BadUrl BadCharacter Url"),
     ("http://[::1]:x/", "BadUrl BadPort Url"),
-    // User information without a host before a host that is missing.
+    // User information without a host before a host that is missing. (No text has a fault in its host or port and
+    // user information without a host, which is an empty piece behind the `@`.)
     ("http://@", "BadUrl BadCharacter Url"),
     ("http://@/", "BadUrl BadCharacter Url"),
     ("http://u@/p", "BadUrl BadCharacter Url"),
+    ("git://u@/p", "BadUrl BadCharacter Url"),
+    ("ftp://u:w@/p", "BadUrl BadCharacter Url"),
     // The authority before a path that is missing.
     ("ssh://h h", "BadUrl BadCharacter Url"),
     ("ssh://u%FF@h", "BadUrl BadCharacter Url"),
@@ -190,7 +197,7 @@ fn bytes_that_are_no_text(rt: HostRuntime) -> Result<(), Fail> {
     refuses(&rt, alloc, b"h:\xff", "NotUtf8 Scp")?;
     refuses(&rt, alloc, b"\xff:", "NotUtf8 Scp")?;
     refuses(&rt, alloc, b"a b:\xff", "NotUtf8 Scp")?;
-    refuses(&rt, alloc, b"u@[::1]:\xff", "NotUtf8 Scp")?;
+    refuses(&rt, alloc, b"user@[::1]:\xff", "NotUtf8 Scp")?;
     refuses(&rt, alloc, b"\xff@[::1]:", "NotUtf8 Scp")?;
     Ok(())
 }
