@@ -14,6 +14,7 @@ pub mod Pieces
 pub mod Display
 pub mod Settled
 pub mod SettledParts
+pub mod WrittenPieces
 pub mod Components
 pub mod Homes
 pub mod Records
