@@ -3,6 +3,8 @@ use Rattle.std.proofs.Common.{◌≡◌, ℕ, zero, suc, ◌+◌, ◌<◌, ◌�
 use Rattle.std.specs.List.{list_all}
 use Rattle.std.specs.Char.{is_ascii_digit, to_ascii_lowercase}
 use Rattle.std.specs.Str.Parse.{IsNumeral, digits_value, without_leading_plus}
+use Rattle.std.specs.Fmt.{decimal}
+use Rattle.std.proofs.lemmas.Fmt.{decimal_is_IsNumeral, digits_decimal}
 use Rattle.std.proofs.lemmas.Str.Parse.{IsNumeralModel, numerals_by_value, parse_digits}
 use Rattle.std.proofs.lemmas.Bool.{cond-false, cond_both, both_ways, false≢true, and_parts, eq-eqb, eqb-true}
 use Rattle.std.proofs.lemmas.Bool.Decides.{nat_tests}
@@ -18,7 +20,7 @@ use Rattle.gix_url.specs.Bytes.{colon, left_bracket, right_bracket, percent_sign
 use Rattle.gix_url.specs.Addresses.{IsIpv6Text, is_zone_byte, Literal}
 use Rattle.gix_url.specs.Addresses.Literal.{address, zoned}
 use Rattle.gix_url.specs.Hosts as spec
-use Rattle.gix_url.specs.Hosts.{Mode, is_dns_byte, is_http_host_byte, HostText, IsLiteral, Bracketed, Inner, IsDigits, Number, IsAddressPiece, ReadsAddress, HoldsTwoColons, IsManyColoned, IsPlainHost, Names, normal_host}
+use Rattle.gix_url.specs.Hosts.{Mode, is_dns_byte, is_http_host_byte, HostText, IsLiteral, Bracketed, Inner, AllowsPort, IsDigits, Number, IsAddressPiece, ReadsAddress, HoldsTwoColons, IsManyColoned, IsPlainHost, Names, normal_host}
 use Rattle.gix_url.specs.Hosts.Mode.{strict, bare, loose}
 use Rattle.gix_url.specs.Flaws.{IsNoPort, HasBadPort, IsPortPlace, IsNoInner, BracketsAround, HasBadHost, NameFlaw}
 use Rattle.gix_url.specs.HostPieces.{EndsHost, Follows, IsEscapedZone, IsInner, in_brackets, lowercase_address, shown_literal}
@@ -42,6 +44,23 @@ not_parsed mode text digits fails port n = parse_digits digits_model {E = ℕ} 1
 -- digits spell one port
 pub number_unique : (mode : Mode) (text : List ℕ) (m n : ℕ) → Number mode text m → Number mode text n → m ≡ n
 number_unique mode text m n h k = h.value ∙ sym k.value
+
+-- a port is a number of a machine word
+machine_word : (port : ℕ) → port < 65536 → port < 2 ^ 64
+machine_word port h = omega (arith, h)
+
+-- a port is written in digits
+pub decimal_digits : (port : ℕ) → port < 65536 → IsDigits (decimal port)
+decimal_digits port h = ((decimal_is_IsNumeral port (machine_word port h)).0.0, digits_decimal digits_model port (machine_word port h))
+
+-- the digits that a port is written in spell it
+pub number_written : (mode : Mode) (port : ℕ) → port < 65536 → AllowsPort mode port → Number mode (decimal port) port
+number_written mode port h allowed = record {
+  digits = decimal_digits port h;
+  value = sym (decimal_is_IsNumeral port (machine_word port h)).1;
+  within = omega (arith, h);
+  allowed = allowed;
+}
 
 -- ---- literals and texts
 
