@@ -242,6 +242,13 @@ walk_behind_mark : (scheme rest t : List ℕ) → t ≡ scheme ++ (codes "://" +
 walk_behind_mark scheme rest t joined =
     ap (walk_past_all (walk_behind scheme)) (ap (drop (length scheme + 3)) joined ∙ drop-append-add scheme (codes "://" ++ rest) 3)
 
+-- where a text is short enough, its scheme and its rest are
+pub fits_from_text : (scheme rest t : List ℕ) → FreeOf colon scheme → t ≡ scheme ++ (codes "://" ++ rest) → FitsText t → Fits scheme rest
+fits_from_text scheme rest t free joined text =
+    let cuts : (scheme ≡ text.scheme) × (47 ∷ 47 ∷ rest ≡ 47 ∷ 47 ∷ text.rest) = cut_unique colon scheme text.scheme (47 ∷ 47 ∷ rest) (47 ∷ 47 ∷ text.rest) free text.no_colon (sym joined ∙ text.joined) in
+    let same : rest ≡ text.rest = tails (tails cuts.1) in
+    subst (λ s. Fits s rest) (sym cuts.0) (subst (λ r. Fits text.scheme r) (sym same) text.fits)
+
 -- a text with a scheme is short enough where the scheme and the walk over the text are
 pub fits_text : (scheme rest t : List ℕ) → FreeOf colon scheme → t ≡ scheme ++ (codes "://" ++ rest) → ((length scheme ≤ 1024) × (is_walk_short (text_walk_past (text_walk_for scheme) t).walk ≡ true)) ↔ FitsText t
 fits_text scheme rest t free joined =
@@ -253,8 +260,6 @@ fits_text scheme rest t free joined =
         joined = joined;
         fits = fits_from_walk scheme rest parts.0 (sym walked ∙ parts.1);
       },
-      λ text. let cuts : (scheme ≡ text.scheme) × (47 ∷ 47 ∷ rest ≡ 47 ∷ 47 ∷ text.rest) = cut_unique colon scheme text.scheme (47 ∷ 47 ∷ rest) (47 ∷ 47 ∷ text.rest) free text.no_colon (sym joined ∙ text.joined) in
-          let same : rest ≡ text.rest = tails (tails cuts.1) in
-          let fits : Fits scheme rest = subst (λ s. Fits s rest) (sym cuts.0) (subst (λ r. Fits text.scheme r) (sym same) text.fits) in
+      λ text. let fits = fits_from_text scheme rest t free joined text in
           (fits.scheme_length, walked ∙ walk_from_fits scheme rest fits),
     )
