@@ -28,3 +28,4 @@ pub mod SettledLemmas
 pub mod PieceLemmas
 pub mod DisplayLemmas
 pub mod WrittenUserLemmas
+pub mod WrittenUrlLemmas

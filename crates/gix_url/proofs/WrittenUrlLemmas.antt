@@ -1,0 +1,280 @@
+-- A settled URL comes back: its pieces, joined, are read as its parts.
+use Rattle.std.proofs.Common.{◌≡◌, ℕ, ◌<◌, Bool, true, false, ◌⊎◌, inl, inr, List, [], ◌∷◌, ◌++◌, length, Option, Some, None, Ok, refl, sym, ap, subst, ◌∙◌, arith, append_assoc, append-nil, codes, bytes_eq}
+use Rattle.std.specs.Prelude.{IsUtf8, IsSome, IfSome, is_some}
+use Rattle.std.specs.List.{list_all, list_any}
+use Rattle.std.specs.Char.{is_whitespace}
+use Rattle.std.specs.Str.{IsAscii}
+use Rattle.std.specs.Prelude.{All}
+use Rattle.std.specs.Char.{is_ascii_alphabetic}
+use Rattle.std.proofs.lemmas.List.Elements.{All-cons, All-nil}
+use Rattle.std.proofs.lemmas.Str.{IsUtf8-from_ascii}
+use Rattle.std.proofs.lemmas.Str.Ascii.{IsAscii-from_all}
+use Rattle.std.proofs.lemmas.Bool.{both_ways, false≢true, and_parts, and_from, or_from}
+use Rattle.std.proofs.lemmas.Bool.Decides.{nat_tests}
+use Rattle.gix_url.specs.Grammar.{retained}
+use Rattle.gix_url.proofs.CutLemmas.{scheme_text_free, lacks_weaker}
+use Rattle.gix_url.proofs.EscapeLemmas.{sound_free, utf8-append, utf8_byte, white_space-append, white_space_ascii, white_space_byte}
+use Rattle.gix_url.specs.Value.{Protocol, Location, fields}
+use Rattle.gix_url.specs.Value.Protocol.{ext}
+use Rattle.gix_url.specs.Bytes.{colon, at_sign, backslash, percent_sign, Lacks, FreeOf, LacksWhiteSpace, is_name_byte, is_scheme_text}
+use Rattle.gix_url.specs.Cuts.{is_path_start}
+use Rattle.gix_url.specs.Escapes.{is_sound}
+use Rattle.gix_url.specs.Hosts.{Mode, Names}
+use Rattle.gix_url.specs.Schemes.{is_web_scheme, protocol_of, protocol_text, mode_of, requires_host}
+use Rattle.gix_url.specs.Authority.{Authority, Fits, FitsText}
+use Rattle.gix_url.specs.Authority.Authority.{host_alone, with_user}
+use Rattle.gix_url.specs.Grammar.{UrlParts, SpellsParts, HostFor, MeansByProtocol, Spells}
+use Rattle.gix_url.specs.Text.{user_information, host_part, port_part, canonical_path, canonical_text, text}
+use Rattle.gix_url.specs.Settled.{IsValue, IsSettledUrl, IsSettledBy, IsSettled}
+use Rattle.gix_url.specs.SettledParts.{HasFairSpelling, IsHosted, IsWrittenAsUrl}
+use Rattle.std.proofs.lemmas.Option.{IfSome_then}
+use Rattle.gix_url.specs.Hosts.Names.{nothing}
+use Rattle.gix_url.specs.Laws.{ComesBack}
+use Rattle.gix_url.specs.WrittenPieces.{IsEscapedPiece, IsAuthorityPiece, WritesInformation, host_and_port, WritesHost, respelled, WritesPath}
+use Rattle.gix_url.proofs.WrittenUserLemmas.{information_written, joined_escaped, joined_pieces, at_sign_piece}
+use Rattle.gix_url.proofs.UrlLocationLemmas.{spelled_url}
+use Rattle.gix_url.proofs.LengthLemmas.{fits_from_text}
+
+-- ---- the authority
+
+-- an empty authority
+empty_piece : IsAuthorityPiece []
+empty_piece = record { escaped = record { text = IsUtf8-from_ascii [] (IsAscii-from_all [] (All-nil (λ b. b < 128))); sound = refl; no_white_space = white_space_ascii [] (IsAscii-from_all [] (All-nil (λ b. b < 128))) refl }; no_backslash = refl; before_path = refl }
+
+-- a host that is written is read, behind user information or alone
+pub hosted_written : (mode : Mode) (v : Location) (host named : List ℕ) (user password : Option (List ℕ)) → ((u : List ℕ) → user ≡ Some u → WritesInformation u password) → (IsSome password → IsSome user) → WritesHost mode v host named → Authority mode (user_information user password ++ host_and_port v host) user password (Some named) v.port × IsAuthorityPiece (user_information user password ++ host_and_port v host)
+hosted_written mode v host named None None information beside h = (host_alone h.no_at h.names refl refl, h.piece)
+hosted_written mode v host named None (Some p) information beside h = absurd (false≢true (beside refl))
+hosted_written mode v host named (Some u) password information beside h =
+    let i = information u refl in
+    let front = i.information ++ at_sign ∷ [] in
+    let whole : user_information (Some u) password ++ host_and_port v host ≡ i.information ++ at_sign ∷ host_and_port v host =
+        ap (λ t. t ++ host_and_port v host) i.written ∙ append_assoc i.information (at_sign ∷ []) (host_and_port v host) in
+    let piece = joined_pieces front (host_and_port v host) (joined_pieces i.information (at_sign ∷ []) i.piece at_sign_piece) h.piece in (
+      subst (λ t. Authority mode t (Some u) password (Some named) v.port) (sym whole) (with_user i.information (host_and_port v host) h.no_at refl i.credentials h.names refl),
+      subst (λ t. IsAuthorityPiece (t ++ host_and_port v host)) (sym i.written) piece,
+    )
+
+-- the authority of a location as it is written
+abbrev pub authority_text : Location → List ℕ
+authority_text v = user_information v.user v.password ++ (host_part v v.host ++ port_part v.port)
+
+-- the protocol is that of the URLs whose scheme is its text
+pub record IsUrlProtocol (p : Protocol) : Type 0 where
+  pub scheme_text : is_scheme_text (protocol_text p) ≡ true
+  pub not_file : bytes_eq (protocol_text p) (codes "file") ≡ false
+  pub protocol : p ≡ protocol_of (protocol_text p)
+  pub not_ext : ¬ (p ≡ ext)
+
+-- what the reader of a location's text finds in it
+pub record IsReadable (v : Location) (named : Option (List ℕ)) : Type 0 where
+  pub scheme : IsUrlProtocol v.scheme
+  pub unflagged : v.flag ≡ false
+  pub authority : Authority (mode_of (protocol_text v.scheme)) (authority_text v) v.user v.password named v.port
+  pub piece : IsAuthorityPiece (authority_text v)
+  pub required : requires_host (protocol_text v.scheme) ≡ true → IsSome named
+  pub hosted : HostFor v.scheme named v.host
+  pub path : WritesPath (is_web_scheme (protocol_text v.scheme)) v
+  pub fits : FitsText (canonical_text v)
+
+-- a letter is a byte of a name
+letter_named : (b : ℕ) → is_ascii_alphabetic b ≡ true → is_name_byte b ≡ true
+letter_named b h = grind (arith, nat_tests)
+
+-- a byte of a name is below 128
+name_byte_ascii : (b : ℕ) → is_name_byte b ≡ true → b < 128
+name_byte_ascii b h = grind (arith, nat_tests)
+
+-- and no white space
+name_byte_no_space : (b : ℕ) → is_name_byte b ≡ true → is_whitespace b ≡ false
+name_byte_no_space b h = grind (arith, nat_tests)
+
+names_ascii : (t : List ℕ) → list_all is_name_byte t ≡ true → All (λ b. b < 128) t
+names_ascii [] h = All-nil (λ b. b < 128)
+names_ascii (b ∷ t) h =
+    let parts = and_parts (is_name_byte b) (list_all is_name_byte t) h in
+    All-cons (λ b. b < 128) b t (name_byte_ascii b parts.0) (names_ascii t parts.1)
+
+names_no_space : (t : List ℕ) → list_all is_name_byte t ≡ true → list_any is_whitespace t ≡ false
+names_no_space [] h = refl
+names_no_space (b ∷ t) h =
+    let parts = and_parts (is_name_byte b) (list_all is_name_byte t) h in
+    or_from _ _ (name_byte_no_space b parts.0) (names_no_space t parts.1)
+
+-- the bytes of a scheme are bytes of a name
+scheme_bytes : (s : List ℕ) → is_scheme_text s ≡ true → list_all is_name_byte s ≡ true
+scheme_bytes [] h = refl
+scheme_bytes (b ∷ s) h =
+    let parts = and_parts (is_ascii_alphabetic b) (list_all is_name_byte s) h in
+    and_from _ _ (letter_named b parts.0) parts.1
+
+-- a scheme is an escaped piece
+scheme_piece : (s : List ℕ) → is_scheme_text s ≡ true → IsEscapedPiece s
+scheme_piece s h =
+    let ascii : IsAscii s = IsAscii-from_all s (names_ascii s (scheme_bytes s h)) in record {
+      text = IsUtf8-from_ascii s ascii;
+      sound = sound_free s (scheme_text_free s percent_sign h refl);
+      no_white_space = white_space_ascii s ascii (names_no_space s (scheme_bytes s h));
+    }
+
+-- the text of a URL, cut before its path
+canonical_cut : (v : Location) → canonical_text v ≡ protocol_text v.scheme ++ (codes "://" ++ (authority_text v ++ canonical_path v))
+canonical_cut v =
+    let information = user_information v.user v.password in
+    let host = host_part v v.host in
+    let port = port_part v.port in
+    let path = canonical_path v in
+    ap (λ t. protocol_text v.scheme ++ (codes "://" ++ t)) (sym (append_assoc information (host ++ port) path ∙ ap (λ t. information ++ t) (append_assoc host port path)))
+
+-- the parts that are read
+abbrev parts_read : Location → Option (List ℕ) → UrlParts
+parts_read v named = record {
+  scheme = protocol_text v.scheme;
+  user = v.user;
+  password = v.password;
+  host = named;
+  port = v.port;
+  path = canonical_path v;
+}
+
+-- `://` is an escaped piece
+mark_piece : IsEscapedPiece (codes "://")
+mark_piece = record {
+  text = utf8-append (colon ∷ []) (47 ∷ 47 ∷ []) (utf8_byte colon (omega arith)) (utf8-append (47 ∷ []) (47 ∷ []) (utf8_byte 47 (omega arith)) (utf8_byte 47 (omega arith)));
+  sound = refl;
+  no_white_space = white_space-append (colon ∷ []) (47 ∷ 47 ∷ []) (utf8_byte colon (omega arith)) (white_space_byte colon (omega arith) refl) (white_space-append (47 ∷ []) (47 ∷ []) (utf8_byte 47 (omega arith)) (white_space_byte 47 (omega arith) refl) (white_space_byte 47 (omega arith) refl));
+}
+
+-- so is the whole text
+text_piece : (v : Location) (named : Option (List ℕ)) → IsReadable v named → IsEscapedPiece (canonical_text v)
+text_piece v named h =
+    let rest = joined_escaped (authority_text v) (canonical_path v) h.piece.escaped h.path.escaped in
+    let marked = joined_escaped (codes "://") (authority_text v ++ canonical_path v) mark_piece rest in
+    subst IsEscapedPiece (sym (canonical_cut v)) (joined_escaped (protocol_text v.scheme) (codes "://" ++ (authority_text v ++ canonical_path v)) (scheme_piece (protocol_text v.scheme) h.scheme.scheme_text) marked)
+
+-- no path starts in the authority
+web_starts : (web : Bool) (b : ℕ) → is_path_start web b ≡ true → is_path_start true b ≡ true
+web_starts true b h = h
+web_starts false b h = grind (arith, nat_tests)
+
+-- the text of a readable location is a URL with its parts
+parts_spelled : (v : Location) (named : Option (List ℕ)) → IsReadable v named → SpellsParts (canonical_text v) (parts_read v named)
+parts_spelled v named h = record {
+  authority = authority_text v;
+  joined = canonical_cut v;
+  scheme_text = h.scheme.scheme_text;
+  not_file = h.scheme.not_file;
+  no_backslash = h.piece.no_backslash;
+  before_path = lacks_weaker (is_path_start (is_web_scheme (protocol_text v.scheme))) (is_path_start true) (web_starts (is_web_scheme (protocol_text v.scheme))) (authority_text v) h.piece.before_path;
+  path_starts = h.path.starts;
+  text = (text_piece v named h).text;
+  sound = (text_piece v named h).sound;
+  no_white_space = (text_piece v named h).no_white_space;
+  fits = fits_from_text (protocol_text v.scheme) (authority_text v ++ canonical_path v) (canonical_text v) (scheme_text_free (protocol_text v.scheme) colon h.scheme.scheme_text refl) (canonical_cut v) h.fits;
+  named = h.authority;
+  hosted = h.required;
+  path_text = h.path.decoded;
+}
+
+-- the text is read as the location with the spelling that was written
+readable_spelled : (v : Location) (named : Option (List ℕ)) → IsReadable v named → Spells (canonical_text v) (respelled v)
+readable_spelled v named h = Spells.url (spelled_url (parts_spelled v named h) h.scheme.protocol h.scheme.not_ext record {
+  host = v.host;
+  pathed = h.path.present;
+  hosted = h.hosted;
+  value = ap (λ f. record (respelled v) { flag = f }) h.unflagged ∙ ap (λ p. record (respelled v) { flag = false; path = p }) (sym h.path.meant);
+})
+
+-- the host is written the same with another spelling
+host_respelled : (v : Location) (host : Option (List ℕ)) → host_part (respelled v) host ≡ host_part v host
+host_respelled v None = refl
+host_respelled v (Some host) = refl
+
+-- so is the text
+text_respelled : (v : Location) (named : Option (List ℕ)) → IsReadable v named → canonical_text (respelled v) ≡ canonical_text v
+text_respelled v named h =
+    ap (λ t. protocol_text v.scheme ++ (codes "://" ++ (user_information v.user v.password ++ t))) (ap (λ host. host ++ (port_part v.port ++ canonical_path (respelled v))) (host_respelled v v.host) ∙ ap (λ path. host_part v v.host ++ (port_part v.port ++ path)) h.path.again)
+
+-- a readable location comes back
+readable_again : (v : Location) (named : Option (List ℕ)) → IsReadable v named → text v ≡ Ok (canonical_text v) → text (respelled v) ≡ Ok (canonical_text v) → IsSettled (respelled v) → (back : ComesBack v) × IsSettled back.reread
+readable_again v named h first second settled = (
+  record {
+    written = canonical_text v;
+    reread = respelled v;
+    has_text = first;
+    spelled = readable_spelled v named h;
+    same_fields = refl;
+    same_text = second;
+  },
+  settled,
+)
+
+-- ---- settled URLs
+
+-- a password that is there is not empty, and beside a user
+password_beside : (user password : Option (List ℕ)) → IfSome password (λ p. (0 < length p) × IsSome user) → IsSome password → IsSome user
+password_beside user None h given = absurd (false≢true given)
+password_beside user (Some p) h given = h.1
+
+-- the user information of a settled URL is read as its user and password
+information_of : (v : Location) → IsSettledUrl v → IsValue v → (u : List ℕ) → v.user ≡ Some u → WritesInformation u v.password
+information_of v h is u e =
+    information_written u v.password (subst (λ o. IfSome o IsUtf8) e is.user) is.password (IfSome_then v.password h.password (λ p parts. parts.0)) (λ empty. h.user (e ∙ ap Some empty))
+
+-- the authority of a settled URL with a host
+pub authority_with_host : (mode : Mode) (v : Location) (host named : List ℕ) → IsSettledUrl v → IsValue v → v.host ≡ Some host → WritesHost mode v host named → Authority mode (authority_text v) v.user v.password (Some named) v.port × IsAuthorityPiece (authority_text v)
+authority_with_host mode v host named h is e writes =
+    let same : authority_text v ≡ user_information v.user v.password ++ host_and_port v host = ap (λ o. user_information v.user v.password ++ (host_part v o ++ port_part v.port)) e in
+    let both = hosted_written mode v host named v.user v.password (information_of v h is) (password_beside v.user v.password h.password) writes in
+    subst (λ t. Authority mode t v.user v.password (Some named) v.port × IsAuthorityPiece t) (sym same) both
+
+-- no optional text is there
+none_given : {A : Type 0} (o : Option A) (p : Option (List ℕ)) → p ≡ None → (IsSome o → IsSome p) → o ≡ None
+none_given None p e h = refl
+none_given (Some x) p e h = absurd (false≢true (ap is_some (sym e) ∙ h refl))
+
+-- the authority of a settled URL without a host is empty
+pub authority_without_host : (mode : Mode) (v : Location) → IsSettledUrl v → v.host ≡ None → Authority mode (authority_text v) v.user v.password None v.port × IsAuthorityPiece (authority_text v)
+authority_without_host mode v h e =
+    let user : v.user ≡ None = none_given v.user v.host e h.user_hosted in
+    let port : v.port ≡ None = none_given v.port v.host e h.port_hosted in
+    let password : v.password ≡ None = none_given v.password v.user user (password_beside v.user v.password h.password) in
+    let empty : authority_text v ≡ [] =
+        ap (λ o. user_information o v.password ++ (host_part v v.host ++ port_part v.port)) user ∙ ap (λ o. host_part v o ++ port_part v.port) e ∙ ap port_part port in
+    (subst (λ t. Authority mode t v.user v.password None v.port) (sym empty) (host_alone refl (nothing refl refl port) user password), subst IsAuthorityPiece (sym empty) empty_piece)
+
+-- all that a settled URL says but of host and scheme is kept with another spelling
+respelled_url : (v : Location) → IsSettledUrl v → FitsText (canonical_text v) → text (respelled v) ≡ Ok (canonical_text v) → HasFairSpelling (respelled v) → IsSettledUrl (respelled v)
+respelled_url v h fits written fair = record {
+  unflagged = h.unflagged;
+  password = h.password;
+  user = h.user;
+  user_hosted = h.user_hosted;
+  port_hosted = h.port_hosted;
+  fits = (canonical_text v, written, fits);
+  path_text = h.path_text;
+  spelling = fair;
+}
+
+-- a settled URL comes back, where its authority and its path are written so that they are read
+pub url_again : (v : Location) (p : Protocol) (named : Option (List ℕ)) → v.scheme ≡ p → IsUrlProtocol p → IsSettledUrl v → Authority (mode_of (protocol_text p)) (authority_text v) v.user v.password named v.port × IsAuthorityPiece (authority_text v) → (requires_host (protocol_text p) ≡ true → IsSome named) → HostFor p named v.host → WritesPath (is_web_scheme (protocol_text p)) v → IsWrittenAsUrl v → IsWrittenAsUrl (respelled v) → (IsSettledUrl (respelled v) → IsSettledBy p (respelled v)) → (back : ComesBack v) × IsSettled back.reread
+url_again v p named e known h authority required hosted path written rewritten settled =
+    let is_hosted : IsHosted v = record { user_hosted = h.user_hosted; port_hosted = h.port_hosted } in
+    let first : text v ≡ Ok (canonical_text v) = written.canonical h.unflagged is_hosted in
+    let (t, is, short) = h.fits in
+    let okay : Ok t ≡ Ok (canonical_text v) = sym is ∙ first in
+    let same : t ≡ canonical_text v = cc in
+    let fits : FitsText (canonical_text v) = subst FitsText same short in
+    let readable : IsReadable v named = record {
+      scheme = subst IsUrlProtocol (sym e) known;
+      unflagged = h.unflagged;
+      authority = subst (λ q. Authority (mode_of (protocol_text q)) (authority_text v) v.user v.password named v.port) (sym e) authority.0;
+      piece = authority.1;
+      required = subst (λ q. requires_host (protocol_text q) ≡ true → IsSome named) (sym e) required;
+      hosted = subst (λ q. HostFor q named v.host) (sym e) hosted;
+      path = subst (λ q. WritesPath (is_web_scheme (protocol_text q)) v) (sym e) path;
+      fits = fits;
+    } in
+    let second : text (respelled v) ≡ Ok (canonical_text v) = rewritten.canonical h.unflagged (record { user_hosted = h.user_hosted; port_hosted = h.port_hosted }) ∙ ap Ok (text_respelled v named readable) in
+    let again = settled (respelled_url v h fits second path.fair) in
+    readable_again v named readable first second (subst (λ q. IsSettledBy q (respelled v)) (sym e) again)
