@@ -29,3 +29,4 @@ pub mod PieceLemmas
 pub mod DisplayLemmas
 pub mod WrittenUserLemmas
 pub mod WrittenUrlLemmas
+pub mod WrittenPathLemmas
