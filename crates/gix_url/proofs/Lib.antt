@@ -30,3 +30,4 @@ pub mod DisplayLemmas
 pub mod WrittenUserLemmas
 pub mod WrittenUrlLemmas
 pub mod WrittenPathLemmas
+pub mod WrittenWebHostLemmas

@@ -1,0 +1,288 @@
+-- The written host and port of a settled location of HTTP name the same host and port.
+use Rattle.std.proofs.Common.{◌≡◌, ◌≢◌, ℕ, zero, suc, ◌<◌, Bool, true, false, ◌==◌, ◌||◌, inl, inr, List, [], ◌∷◌, ◌++◌, Option, Some, None, IfSome, IsAscii, refl, sym, ap, subst, ◌∙◌, arith, append_assoc, codes}
+use Rattle.std.specs.List.{list_all}
+use Rattle.std.specs.Fmt.{decimal}
+use Rattle.std.specs.Char.{is_ascii_digit, is_whitespace}
+use Rattle.std.proofs.lemmas.Bool.{cond-false, and_parts, and_from, and_left, and_right, or_from, or_left}
+use Rattle.std.proofs.lemmas.Bool.Decides.{nat_tests}
+use Rattle.std.proofs.lemmas.List.{append-nil}
+use Rattle.std.proofs.lemmas.List.Folds.{list_all-append}
+use Rattle.std.proofs.lemmas.Str.{IsUtf8-from_ascii}
+use Rattle.gix_url.specs.Value.{Location}
+use Rattle.gix_url.specs.Bytes.{colon, at_sign, left_bracket, right_bracket, backslash, percent_sign, Lacks, FreeOf, begins_with}
+use Rattle.gix_url.specs.Cuts.{is_path_start}
+use Rattle.gix_url.specs.Escapes.{is_sound, has_percent}
+use Rattle.gix_url.specs.Addresses.{IsIpv6Text, IsZone, is_zone_byte, Literal}
+use Rattle.gix_url.specs.Addresses.Literal.{address, zoned}
+use Rattle.gix_url.specs.Hosts.{Number, Names, IsPlainHost, HostText, is_http_host_byte}
+use Rattle.gix_url.specs.Hosts.Mode.{strict}
+use Rattle.gix_url.specs.Text.{has_colon, open_host, needs_brackets, wants_brackets, port_part}
+use Rattle.gix_url.specs.Settled.{IsWebName, IsWebHost}
+use Rattle.gix_url.specs.Settled.IsWebHost.{literal, literal_colon, named, named_colon}
+use Rattle.gix_url.specs.SettledParts.{IsWeb}
+use Rattle.gix_url.specs.WrittenPieces.{IsAuthorityPiece, WritesHost, host_and_port}
+use Rattle.gix_url.proofs.CutLemmas.{free-append, free_head_tail, free_of_all}
+use Rattle.gix_url.proofs.EscapeLemmas.{sound-append, sound_free, white_space_ascii}
+use Rattle.gix_url.proofs.AddressLemmas.{is_address_byte, address_bytes, address_free}
+use Rattle.gix_url.proofs.HostLemmas.{decimal_digits, number_written}
+
+-- ---- classes of bytes
+
+-- a byte that the host and the port of an HTTP location are written with: one of a host, `:`, `[` or `]`
+abbrev is_web_byte : ℕ → Bool
+is_web_byte b = is_http_host_byte b || (b == colon || (b == left_bracket || b == right_bracket))
+
+-- bytes of a class are bytes of a wider one
+all_weaker : (narrow wide : ℕ → Bool) → ((b : ℕ) → narrow b ≡ true → wide b ≡ true) → (bs : List ℕ) → list_all narrow bs ≡ true → list_all wide bs ≡ true
+all_weaker narrow wide within [] h = refl
+all_weaker narrow wide within (b ∷ bs) h =
+    let parts = and_parts (narrow b) (list_all narrow bs) h in
+    and_from _ _ (within b parts.0) (all_weaker narrow wide within bs parts.1)
+
+-- bytes of a class lack another class that shares no byte with it
+lacks_of_all : (test other : ℕ → Bool) → ((b : ℕ) → test b ≡ true → other b ≡ false) → (bs : List ℕ) → list_all test bs ≡ true → Lacks other bs
+lacks_of_all test other apart [] h = refl
+lacks_of_all test other apart (b ∷ bs) h =
+    let parts = and_parts (test b) (list_all test bs) h in
+    or_from _ _ (apart b parts.0) (lacks_of_all test other apart bs parts.1)
+
+-- bytes of a class are ASCII where the class is
+ascii_of_all : (test : ℕ → Bool) → ((b : ℕ) → test b ≡ true → b < 128) → (bs : List ℕ) → list_all test bs ≡ true → IsAscii bs
+ascii_of_all test within [] h i = omega arith
+ascii_of_all test within (b ∷ bs) h zero = within b (and_parts (test b) (list_all test bs) h).0
+ascii_of_all test within (b ∷ bs) h (suc i) = ascii_of_all test within bs (and_parts (test b) (list_all test bs) h).1 i
+
+-- such a byte is ASCII
+web_byte_ascii : (b : ℕ) → is_web_byte b ≡ true → b < 128
+web_byte_ascii b h = grind (arith, nat_tests)
+
+-- such a byte is no white space
+web_byte_no_white_space : (b : ℕ) → is_web_byte b ≡ true → is_whitespace b ≡ false
+web_byte_no_white_space b h = grind (arith, nat_tests)
+
+-- such a byte starts no path
+web_byte_before_path : (b : ℕ) → is_web_byte b ≡ true → is_path_start true b ≡ false
+web_byte_before_path b h = grind (arith, nat_tests)
+
+-- a byte of an address is such a byte
+address_web_byte : (b : ℕ) → is_address_byte b ≡ true → is_web_byte b ≡ true
+address_web_byte b h = grind (arith, nat_tests)
+
+-- so is one of a zone
+zone_web_byte : (b : ℕ) → is_zone_byte b ≡ true → is_web_byte b ≡ true
+zone_web_byte b h = grind (arith, nat_tests)
+
+-- and a decimal digit
+digit_web_byte : (b : ℕ) → is_ascii_digit b ≡ true → is_web_byte b ≡ true
+digit_web_byte b h = grind (arith, nat_tests)
+
+-- ---- texts of such bytes
+
+-- such bytes, in which every escape is sound
+record IsWebPiece (t : List ℕ) : Type 0 where
+  pub bytes : list_all is_web_byte t ≡ true
+  pub sound : is_sound t ≡ true
+
+-- two such texts are one, joined
+piece-append : (x y : List ℕ) → IsWebPiece x → IsWebPiece y → IsWebPiece (x ++ y)
+piece-append x y h k = record {
+  bytes = list_all-append is_web_byte x y ∙ and_from _ _ h.bytes k.bytes;
+  sound = sound-append x y h.sound k.sound;
+}
+
+-- such bytes without `%` are such a text
+piece_plain : (t : List ℕ) → list_all is_web_byte t ≡ true → FreeOf percent_sign t → IsWebPiece t
+piece_plain t bytes free = record { bytes = bytes; sound = sound_free t free }
+
+-- such a text may stand in an authority
+piece_stands : (t : List ℕ) → IsWebPiece t → IsAuthorityPiece t
+piece_stands t h =
+    let ascii : IsAscii t = ascii_of_all is_web_byte web_byte_ascii t h.bytes in record {
+      escaped = record {
+        text = IsUtf8-from_ascii t ascii;
+        sound = h.sound;
+        no_white_space = white_space_ascii t ascii (lacks_of_all is_web_byte is_whitespace web_byte_no_white_space t h.bytes);
+      };
+      no_backslash = free_of_all is_web_byte backslash t h.bytes refl;
+      before_path = lacks_of_all is_web_byte (is_path_start true) web_byte_before_path t h.bytes;
+    }
+
+-- an address is such a text
+address_piece : (t : List ℕ) → IsIpv6Text t → IsWebPiece t
+address_piece t h = piece_plain t (all_weaker is_address_byte is_web_byte address_web_byte t (address_bytes t h)) (address_free percent_sign t refl h)
+
+-- so is a zone
+zone_piece : (z : List ℕ) → IsZone z → IsWebPiece z
+zone_piece z h = record { bytes = all_weaker is_zone_byte is_web_byte zone_web_byte z h.bytes; sound = h.sound }
+
+-- and `%25` with a zone behind it
+escaped_zone_piece : (z : List ℕ) → IsZone z → IsWebPiece (codes "%25" ++ z)
+escaped_zone_piece z h = piece-append (codes "%25") z (record { bytes = refl; sound = refl }) (zone_piece z h)
+
+-- so is a literal
+literal_piece : (t n : List ℕ) → Literal t n → IsWebPiece t
+literal_piece t n (address h e) = address_piece t h
+literal_piece t n (zoned a z h zone is e) =
+    subst (λ x. IsWebPiece x) (sym is) (piece-append a (codes "%25" ++ z) (address_piece a h) (escaped_zone_piece z zone))
+
+-- so are `[`, a literal and such a text behind it
+brackets_piece : (n rest : List ℕ) → Literal n n → IsWebPiece rest → IsWebPiece (left_bracket ∷ (n ++ rest))
+brackets_piece n rest l h = piece-append (left_bracket ∷ []) (n ++ rest) (record { bytes = refl; sound = refl }) (piece-append n rest (literal_piece n n l) h)
+
+-- so is a name
+name_piece : (t : List ℕ) → IsWebName t → IsWebPiece t
+name_piece t h = record {
+  bytes = all_weaker is_http_host_byte is_web_byte (λ b e. or_left _ _ e) t h.bytes;
+  sound = h.sound;
+}
+
+-- so is a port behind its colon
+port_piece : (port : Option ℕ) → IfSome port (λ p. p < 65536) → IsWebPiece (port_part port)
+port_piece None within = record { bytes = refl; sound = refl }
+port_piece (Some p) within =
+    let digits : list_all is_ascii_digit (decimal p) ≡ true = (decimal_digits p within).1 in
+    piece_plain (colon ∷ decimal p) (all_weaker is_ascii_digit is_web_byte digit_web_byte (decimal p) digits) (free_of_all is_ascii_digit percent_sign (decimal p) digits refl)
+
+-- ---- what stands between brackets
+
+-- a zone's bytes are no `]`
+zone_no_bracket : (z : List ℕ) → IsZone z → FreeOf right_bracket z
+zone_no_bracket z h = free_of_all is_zone_byte right_bracket z h.bytes refl
+
+-- a literal holds no `]`
+literal_no_bracket : (t n : List ℕ) → Literal t n → FreeOf right_bracket t
+literal_no_bracket t n (address h e) = address_free right_bracket t refl h
+literal_no_bracket t n (zoned a z h zone is e) =
+    subst (λ x. FreeOf right_bracket x) (sym is) (free-append right_bracket a (codes "%25" ++ z) (address_free right_bracket a refl h) (zone_no_bracket z zone))
+
+-- ---- what is named
+
+-- a port that isn't zero is allowed
+port_allowed : (p : ℕ) → Some p ≢ Some 0 → 0 < p
+port_allowed zero other = absurd (other refl)
+port_allowed (suc p) other = omega arith
+
+-- the written port spells it
+port_spelled : (p : ℕ) → Some p ≢ Some 0 → p < 65536 → Number strict (decimal p) p
+port_spelled p other within = number_written strict p within (port_allowed p other)
+
+-- a literal in brackets, with or without a port behind it, names itself
+literal_named : (port : Option ℕ) (n : List ℕ) → Literal n n → port ≢ Some 0 → IfSome port (λ p. p < 65536) → Names strict ((left_bracket ∷ (n ++ right_bracket ∷ [])) ++ port_part port) (Some (left_bracket ∷ (n ++ right_bracket ∷ []))) port
+literal_named None n l other within =
+    Names.bracketed n n (literal_no_bracket n n l) l (append-nil (left_bracket ∷ (n ++ right_bracket ∷ []))) refl refl
+literal_named (Some p) n l other within =
+    Names.bracketed_port n n (decimal p) p (literal_no_bracket n n l) l (port_spelled p other within) (append_assoc (left_bracket ∷ n) (right_bracket ∷ []) (colon ∷ decimal p)) refl refl
+
+-- so does one with a colon behind it
+literal_colon_named : (n : List ℕ) → Literal n n → Names strict ((left_bracket ∷ (n ++ right_bracket ∷ (colon ∷ []))) ++ []) (Some (left_bracket ∷ (n ++ right_bracket ∷ (colon ∷ [])))) None
+literal_colon_named n l =
+    Names.bracketed_colon n n (literal_no_bracket n n l) l (append-nil (left_bracket ∷ (n ++ right_bracket ∷ (colon ∷ [])))) refl refl
+
+-- a text that is free of a byte doesn't begin with it
+begins_other : (c : ℕ) (t : List ℕ) → FreeOf c t → begins_with c t ≡ false
+begins_other c [] h = refl
+begins_other c (b ∷ t) h = (free_head_tail c b t h).0
+
+-- a name is a plain host
+name_plain : (t : List ℕ) → IsWebName t → IsPlainHost t
+name_plain t h = record {
+  nonempty = h.nonempty;
+  no_colon = free_of_all is_http_host_byte colon t h.bytes refl;
+  no_bracket = begins_other left_bracket t (free_of_all is_http_host_byte left_bracket t h.bytes refl);
+}
+
+-- and stands for itself
+name_text : (t : List ℕ) → IsWebName t → HostText strict t t
+name_text t h = (h.bytes, sym h.normal)
+
+-- a name, with or without a port behind it, names itself
+name_named : (port : Option ℕ) (t : List ℕ) → IsWebName t → port ≢ Some 0 → IfSome port (λ p. p < 65536) → Names strict (t ++ port_part port) (Some t) port
+name_named None t h other within = subst (λ x. Names strict x (Some t) None) (sym (append-nil t)) (Names.plain t (name_plain t h) (name_text t h) refl refl)
+name_named (Some p) t h other within = Names.plain_port t t (decimal p) p (name_plain t h) (name_text t h) (port_spelled p other within) refl refl refl
+
+-- so does one with a colon behind it
+name_colon_named : (t : List ℕ) → IsWebName t → Names strict ((t ++ colon ∷ []) ++ []) (Some (t ++ colon ∷ [])) None
+name_colon_named t h = Names.plain_colon t t (name_plain t h) (name_text t h) (append-nil (t ++ colon ∷ [])) refl refl
+
+-- ---- brackets that aren't wanted
+
+-- a text that begins with `[` takes no more brackets
+bracketed_unwanted : (port : Option ℕ) (t : List ℕ) → needs_brackets port (left_bracket ∷ t) ≡ false
+bracketed_unwanted port t = and_left _ _ (and_right (has_colon (left_bracket ∷ t)) false refl)
+
+-- a text without a colon takes none
+plain_unwanted : (port : Option ℕ) (t : List ℕ) → FreeOf colon t → needs_brackets port t ≡ false
+plain_unwanted port t free = and_left _ _ (and_left _ _ free)
+
+-- a text without `%` takes none where there is no port
+portless_unwanted : (t : List ℕ) → has_percent t ≡ false → needs_brackets None t ≡ false
+portless_unwanted t free = and_right (wants_brackets t) _ free
+
+-- ---- the host and the port of a location
+
+-- a host takes no brackets, names itself with the port behind it, and is written in such bytes
+record IsWebWritten (port : Option ℕ) (host : List ℕ) : Type 0 where
+  pub unbracketed : needs_brackets port host ≡ false
+  pub names : Names strict (host ++ port_part port) (Some host) port
+  pub piece : IsWebPiece host
+
+-- a literal in brackets
+literal_written : (port : Option ℕ) (n : List ℕ) → Literal n n → port ≢ Some 0 → IfSome port (λ p. p < 65536) → IsWebWritten port (left_bracket ∷ (n ++ right_bracket ∷ []))
+literal_written port n l other within = record {
+  unbracketed = bracketed_unwanted port (n ++ right_bracket ∷ []);
+  names = literal_named port n l other within;
+  piece = brackets_piece n (right_bracket ∷ []) l record { bytes = refl; sound = refl };
+}
+
+-- one with a colon behind it
+literal_colon_written : (n : List ℕ) → Literal n n → IsWebWritten None (left_bracket ∷ (n ++ right_bracket ∷ (colon ∷ [])))
+literal_colon_written n l = record {
+  unbracketed = bracketed_unwanted None (n ++ right_bracket ∷ (colon ∷ []));
+  names = literal_colon_named n l;
+  piece = brackets_piece n (right_bracket ∷ (colon ∷ [])) l record { bytes = refl; sound = refl };
+}
+
+-- a name
+name_written : (port : Option ℕ) (t : List ℕ) → IsWebName t → port ≢ Some 0 → IfSome port (λ p. p < 65536) → IsWebWritten port t
+name_written port t h other within = record {
+  unbracketed = plain_unwanted port t (name_plain t h).no_colon;
+  names = name_named port t h other within;
+  piece = name_piece t h;
+}
+
+-- one with a colon behind it
+name_colon_written : (t : List ℕ) → IsWebName t → has_percent t ≡ false → IsWebWritten None (t ++ colon ∷ [])
+name_colon_written t h free = record {
+  unbracketed = portless_unwanted (t ++ colon ∷ []) (free-append percent_sign t (colon ∷ []) free refl);
+  names = name_colon_named t h;
+  piece = piece-append t (colon ∷ []) (name_piece t h) (record { bytes = refl; sound = refl });
+}
+
+-- each settled host of HTTP
+host_written : (port : Option ℕ) (host : List ℕ) → IsWebHost port host → port ≢ Some 0 → IfSome port (λ p. p < 65536) → IsWebWritten port host
+host_written port host (literal n l e) other within = subst (λ x. IsWebWritten port x) (sym e) (literal_written port n l other within)
+host_written port host (literal_colon n l none e) other within =
+    subst (λ x. IsWebWritten port x) (sym e) (subst (λ o. IsWebWritten o (left_bracket ∷ (n ++ right_bracket ∷ (colon ∷ [])))) (sym none) (literal_colon_written n l))
+host_written port host (named h) other within = name_written port host h other within
+host_written port host (named_colon n h free none e) other within =
+    subst (λ x. IsWebWritten port x) (sym e) (subst (λ o. IsWebWritten o (n ++ colon ∷ [])) (sym none) (name_colon_written n h free))
+
+-- HTTP keeps its hosts
+web_host_kept : (v : Location) (host : List ℕ) → IsWeb v → open_host v.scheme host ≡ host
+web_host_kept v host (inl e) = ap (λ s. open_host s host) e
+web_host_kept v host (inr e) = ap (λ s. open_host s host) e
+
+-- so the host stands before the port as it is
+web_host_and_port : (v : Location) (host : List ℕ) → IsWeb v → needs_brackets v.port host ≡ false → host ++ port_part v.port ≡ host_and_port v host
+web_host_and_port v host web h = ap (λ x. x ++ port_part v.port) (sym (cond-false _ _ _ h ∙ web_host_kept v host web))
+
+-- the written host and port of a settled location of HTTP name that host and that port
+pub web_host_written : (v : Location) (host : List ℕ) → IsWeb v → IsWebHost v.port host → v.port ≢ Some 0 → IfSome v.port (λ p. p < 65536) → WritesHost strict v host host
+web_host_written v host web settled other within =
+    let w = host_written v.port host settled other within in
+    let whole = piece-append host (port_part v.port) w.piece (port_piece v.port within) in
+    let same = web_host_and_port v host web w.unbracketed in record {
+      no_at = subst (λ x. FreeOf at_sign x) same (free_of_all is_web_byte at_sign (host ++ port_part v.port) whole.bytes refl);
+      names = subst (λ x. Names strict x (Some host) v.port) same w.names;
+      piece = subst (λ x. IsAuthorityPiece x) same (piece_stands (host ++ port_part v.port) whole);
+    }
