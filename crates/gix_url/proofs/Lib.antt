@@ -31,3 +31,4 @@ pub mod WrittenUserLemmas
 pub mod WrittenUrlLemmas
 pub mod WrittenPathLemmas
 pub mod WrittenWebHostLemmas
+pub mod FileLemmas
