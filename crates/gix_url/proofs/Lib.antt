@@ -32,3 +32,4 @@ pub mod WrittenUrlLemmas
 pub mod WrittenPathLemmas
 pub mod WrittenWebHostLemmas
 pub mod FileLemmas
+pub mod WrittenScpLemmas
