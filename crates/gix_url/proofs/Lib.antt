@@ -33,3 +33,4 @@ pub mod WrittenPathLemmas
 pub mod WrittenWebHostLemmas
 pub mod FileLemmas
 pub mod WrittenScpLemmas
+pub mod WebClosedLemmas

@@ -1,0 +1,352 @@
+-- Locations of HTTP: what is read is settled, but for two corners.
+use Rattle.std.proofs.Common.{◌≡◌, ◌≢◌, ℕ, ◌<◌, Bool, true, false, ◌==◌, ◌||◌, ◌⊎◌, inl, inr, List, [], ◌∷◌, ◌++◌, length, Option, Some, None, IsSome, IsUtf8, refl, sym, ap, subst, ◌∙◌, arith, append_assoc, codes, bytes_eq, if◌then◌else◌, lit<}
+use Rattle.std.specs.Prelude.{IfSome}
+use Rattle.std.specs.List.{list_all}
+use Rattle.std.specs.Char.{to_ascii_lowercase, is_digit}
+use Rattle.std.proofs.lemmas.Bool.{cond-true, cond-false, and_parts, and_from, or_left, both_ways, false≢true}
+use Rattle.std.proofs.lemmas.Bool.Decides.{nat_tests}
+use Rattle.std.proofs.lemmas.List.{length-map, append-nil}
+use Rattle.percent_encoding.specs.Percent.{percent_decode}
+use Rattle.percent_encoding.proofs.PercentLemmas.{percent_decode-nil}
+use Rattle.gix_url.specs.Value.{Protocol, Location}
+use Rattle.gix_url.specs.Value.Protocol.{file, git, ssh, http, https, ext, helper, helper_url}
+use Rattle.gix_url.specs.Bytes.{percent_sign, slash, colon, at_sign, left_bracket, FreeOf, begins_by, begins_with, lowercase, LacksWhiteSpace}
+use Rattle.gix_url.specs.Cuts.{is_path_start, StartsPath}
+use Rattle.gix_url.specs.Escapes.{is_sound, has_percent}
+use Rattle.gix_url.specs.Hosts.{Mode, is_dns_byte, is_http_host_byte, normal_host, HostText, Names}
+use Rattle.gix_url.specs.Hosts.Mode.{strict, bare}
+use Rattle.gix_url.specs.Hosts.Names.{nothing, bracketed, bracketed_colon, bracketed_port, unbracketed, plain, plain_colon, plain_port, colons}
+use Rattle.gix_url.specs.Schemes.{is_ssh_scheme, is_web_scheme, protocol_of, mode_of}
+use Rattle.gix_url.specs.Authority.{unless_empty, user_beside, Credentials, Authority}
+use Rattle.gix_url.specs.Authority.Credentials.{user_alone, with_password}
+use Rattle.gix_url.specs.Authority.Authority.{host_alone, with_user}
+use Rattle.gix_url.specs.Grammar.{UrlParts, SpellsParts, or_root, retained, MeansAs, SpellsUrl}
+use Rattle.gix_url.specs.Settled.{first_byte, IsFairSpelling, HasFittingText, IsWebName, IsWebHost, IsSettledWeb}
+use Rattle.gix_url.specs.Settled.IsWebHost.{literal, literal_colon, named, named_colon}
+use Rattle.gix_url.specs.SettledParts.{IsWeb}
+use Rattle.gix_url.proofs.CutLemmas.{free-append, free_of_all, free_head_tail, free_parts}
+use Rattle.gix_url.proofs.EscapeLemmas.{sound_tail, sound_parts, sound_around, sound_free, decode_byte, utf8_byte, utf8_seam, white_space_parts}
+use Rattle.gix_url.proofs.NormalLemmas.{normal_again, literal_again}
+use Rattle.gix_url.proofs.RowNameLemmas.{none_is_some, some_is_none}
+
+-- some are the same that have the same
+some_same : {A : Type 0} (x y : A) → Some x ≡ Some y → x ≡ y
+some_same x y e = cc
+
+-- ---- hosts
+
+-- a byte of a domain name stays one in lower case
+dns_byte_lowercase : (b : ℕ) → is_dns_byte b ≡ true → is_dns_byte (to_ascii_lowercase b) ≡ true
+dns_byte_lowercase b h = grind (arith, nat_tests)
+
+dns_lowercase : (bs : List ℕ) → list_all is_dns_byte bs ≡ true → list_all is_dns_byte (lowercase bs) ≡ true
+dns_lowercase [] h = refl
+dns_lowercase (b ∷ bs) h =
+    let parts = and_parts (is_dns_byte b) (list_all is_dns_byte bs) h in
+    and_from _ _ (dns_byte_lowercase b parts.0) (dns_lowercase bs parts.1)
+
+-- a byte of a host of HTTP stays one in lower case
+http_byte_lowercase : (b : ℕ) → is_http_host_byte b ≡ true → is_http_host_byte (to_ascii_lowercase b) ≡ true
+http_byte_lowercase b h = grind (arith, nat_tests)
+
+http_lowercase : (bs : List ℕ) → list_all is_http_host_byte bs ≡ true → list_all is_http_host_byte (lowercase bs) ≡ true
+http_lowercase [] h = refl
+http_lowercase (b ∷ bs) h =
+    let parts = and_parts (is_http_host_byte b) (list_all is_http_host_byte bs) h in
+    and_from _ _ (http_byte_lowercase b parts.0) (http_lowercase bs parts.1)
+
+-- the normal form of a sound host of HTTP, by whether it looks like a domain name, and before that of what it is
+normal_facts : (text : List ℕ) (is_domain : Bool) → list_all is_dns_byte text ≡ is_domain → 0 < length text → is_sound text ≡ true → list_all is_http_host_byte text ≡ true → (0 < length (normal_host text)) × (list_all is_http_host_byte (normal_host text) ≡ true) × (is_sound (normal_host text) ≡ true)
+normal_facts text true domain some sound bytes =
+    let lower : normal_host text ≡ lowercase text = cond-true _ _ _ domain in (
+      subst (λ t. 0 < length t) (sym lower) (subst (λ n. 0 < n) (sym (length-map text to_ascii_lowercase)) some),
+      ap (list_all is_http_host_byte) lower ∙ http_lowercase text bytes,
+      ap is_sound lower ∙ sound_free (lowercase text) (free_of_all is_dns_byte percent_sign (lowercase text) (dns_lowercase text domain) refl),
+    )
+normal_facts text false other some sound bytes =
+    let same : normal_host text ≡ text = cond-false _ _ _ other in (
+      subst (λ t. 0 < length t) (sym same) some,
+      ap (list_all is_http_host_byte) same ∙ bytes,
+      ap is_sound same ∙ sound,
+    )
+
+-- what a sound text stands for in HTTP is a name that stays as it is
+web_name_of : (text name : List ℕ) → 0 < length text → is_sound text ≡ true → HostText strict text name → IsWebName name
+web_name_of text name some sound meant =
+    let facts = normal_facts text (list_all is_dns_byte text) refl some sound meant.0 in
+    subst IsWebName (sym meant.1) record { nonempty = facts.0; bytes = facts.1; sound = facts.2; normal = normal_again text }
+
+-- a text that is free of a byte doesn't begin with it
+free_begins : (c : ℕ) (t : List ℕ) → FreeOf c t → begins_with c t ≡ false
+free_begins c [] free = refl
+free_begins c (b ∷ bs) free = (free_head_tail c b bs free).0
+
+-- a name of HTTP with a colon behind it has no bracket at its front
+no_bracket_before_colon : (name : List ℕ) → IsWebName name → begins_with left_bracket (name ++ colon ∷ []) ≡ false
+no_bracket_before_colon name h =
+    free_begins left_bracket (name ++ colon ∷ []) (free-append left_bracket name (colon ∷ []) (free_of_all is_http_host_byte left_bracket name h.bytes refl) refl)
+
+-- such a name holds no `%`, where that is all that the host may be
+name_before_colon : (host name : List ℕ) → IsWebName name → host ≡ name ++ colon ∷ [] → (begins_with left_bracket host ≡ true) ⊎ (has_percent host ≡ false) → has_percent name ≡ false
+name_before_colon host name h e (inl bracket) = absurd (both_ways _ (no_bracket_before_colon name h) (ap (begins_with left_bracket) (sym e) ∙ bracket))
+name_before_colon host name h e (inr free) = (free_parts percent_sign name (colon ∷ []) (subst (λ t. FreeOf percent_sign t) e free)).0
+
+-- no port is not the port zero
+none_not_zero : (port : Option ℕ) → port ≡ None → port ≢ Some 0
+none_not_zero port none zero = some_is_none 0 (sym zero ∙ none)
+
+-- a port that is not zero
+port_not_zero : (port : Option ℕ) (number : ℕ) → port ≡ Some number → 0 < number → port ≢ Some 0
+port_not_zero port number is some zero = omega (arith, some, some_same number 0 (sym is ∙ zero))
+
+strict_not_bare : ¬ (strict ≡ bare)
+strict_not_bare e = cc
+
+-- a host and a port that a sound piece names in HTTP are settled, but for a name with `%` and a colon behind it
+pub web_host_closed : (piece host : List ℕ) (port : Option ℕ) → is_sound piece ≡ true → Names strict piece (Some host) port → ((front : List ℕ) → host ≡ front ++ colon ∷ [] → (begins_with left_bracket host ≡ true) ⊎ (has_percent host ≡ false)) → IsWebHost port host × (port ≢ Some 0)
+web_host_closed piece host port sound (nothing e named_as at) apart = some_is_none host named_as
+web_host_closed piece host port sound (bracketed x inner free spelled e named_as at) apart =
+    (literal inner (literal_again x inner spelled) (some_same _ _ named_as), none_not_zero port at)
+web_host_closed piece host port sound (bracketed_colon x inner free spelled e named_as at) apart =
+    (literal_colon inner (literal_again x inner spelled) at (some_same _ _ named_as), none_not_zero port at)
+web_host_closed piece host port sound (bracketed_port x inner digits number free spelled numbered e named_as at) apart =
+    (literal inner (literal_again x inner spelled) (some_same _ _ named_as), port_not_zero port number at numbered.allowed)
+web_host_closed piece host port sound (unbracketed reads named_as at) apart = absurd (strict_not_bare reads.0)
+web_host_closed piece host port sound (plain name is_plain meant named_as at) apart =
+    (named (subst IsWebName (some_same _ _ (sym named_as)) (web_name_of piece name is_plain.nonempty sound meant)), none_not_zero port at)
+web_host_closed piece host port sound (plain_colon text name is_plain meant e named_as at) apart =
+    let whole : host ≡ name ++ colon ∷ [] = some_same _ _ named_as in
+    let before = sound_parts text [] colon refl (subst (λ t. is_sound t ≡ true) e sound) in
+    let is_name = web_name_of text name is_plain.nonempty before.0 meant in
+    (named_colon name is_name (name_before_colon host name is_name whole (apart name whole)) at whole, none_not_zero port at)
+web_host_closed piece host port sound (plain_port text name digits number is_plain meant numbered e named_as at) apart =
+    let before = sound_parts text digits colon refl (subst (λ t. is_sound t ≡ true) e sound) in
+    (named (subst IsWebName (some_same _ _ (sym named_as)) (web_name_of text name is_plain.nonempty before.0 meant)), port_not_zero port number at numbered.allowed)
+web_host_closed piece host port sound (colons name not_strict other begins many meant named_as at) apart = absurd (not_strict refl)
+
+-- ---- what a URL of HTTP means
+
+-- the protocol is one of HTTP
+abbrev is_web_protocol : Protocol → Bool
+is_web_protocol http = true
+is_web_protocol https = true
+is_web_protocol file = false
+is_web_protocol git = false
+is_web_protocol ssh = false
+is_web_protocol ext = false
+is_web_protocol (helper name) = false
+is_web_protocol (helper_url name) = false
+
+-- only the two schemes of HTTP have such a protocol
+web_scheme_by : (ssh_named file_named git_named http_named https_named ext_named : Bool) (s : List ℕ) → is_web_protocol (if ssh_named then ssh else (if file_named then file else (if git_named then git else (if http_named then http else (if https_named then https else (if ext_named then ext else helper_url s)))))) ≡ true → (http_named || https_named) ≡ true
+web_scheme_by true a b c d e s h = absurd (false≢true h)
+web_scheme_by false true b c d e s h = absurd (false≢true h)
+web_scheme_by false false true c d e s h = absurd (false≢true h)
+web_scheme_by false false false true d e s h = refl
+web_scheme_by false false false false true e s h = refl
+web_scheme_by false false false false false true s h = absurd (false≢true h)
+web_scheme_by false false false false false false s h = absurd (false≢true h)
+
+web_scheme_of : (s : List ℕ) → is_web_protocol (protocol_of s) ≡ true → is_web_scheme s ≡ true
+web_scheme_of s h = web_scheme_by (is_ssh_scheme s) (bytes_eq s (codes "file")) (bytes_eq s (codes "git")) (bytes_eq s (codes "http")) (bytes_eq s (codes "https")) (bytes_eq s (codes "ext")) s h
+
+-- a location has the protocol of its URL's scheme
+means_scheme : (protocol : Protocol) (b : List ℕ) (parts : UrlParts) (v : Location) → MeansAs protocol b parts v → v.scheme ≡ protocol
+means_scheme ext b parts v h = ap (λ l. l.scheme) h
+means_scheme file b parts v h = ap (λ l. l.scheme) h.value
+means_scheme git b parts v h = ap (λ l. l.scheme) h.value
+means_scheme ssh b parts v h = ap (λ l. l.scheme) h.value
+means_scheme http b parts v h = ap (λ l. l.scheme) h.value
+means_scheme https b parts v h = ap (λ l. l.scheme) h.value
+means_scheme (helper name) b parts v h = ap (λ l. l.scheme) h.value
+means_scheme (helper_url name) b parts v h = ap (λ l. l.scheme) h.value
+
+-- what the parts of a URL of HTTP mean
+abbrev web_meant : Protocol → UrlParts → Location
+web_meant protocol parts = record {
+  scheme = protocol;
+  user = parts.user;
+  password = parts.password;
+  host = parts.host;
+  flag = false;
+  port = parts.port;
+  path = or_root (percent_decode parts.path);
+  spelling = retained parts.path;
+}
+
+-- the parts of a URL of HTTP mean that
+web_value : (protocol : Protocol) (b : List ℕ) (parts : UrlParts) (v : Location) → is_web_protocol protocol ≡ true → MeansAs protocol b parts v → v ≡ web_meant protocol parts
+web_value http b parts v web h = h.value ∙ ap (λ host. record (web_meant http parts) { host = host }) h.hosted
+web_value https b parts v web h = h.value ∙ ap (λ host. record (web_meant https parts) { host = host }) h.hosted
+web_value file b parts v web h = absurd (false≢true web)
+web_value git b parts v web h = absurd (false≢true web)
+web_value ssh b parts v web h = absurd (false≢true web)
+web_value ext b parts v web h = absurd (false≢true web)
+web_value (helper name) b parts v web h = absurd (false≢true web)
+web_value (helper_url name) b parts v web h = absurd (false≢true web)
+
+web_protocol : (v : Location) → IsWeb v → is_web_protocol v.scheme ≡ true
+web_protocol v (inl e) = ap is_web_protocol e
+web_protocol v (inr e) = ap is_web_protocol e
+
+-- ---- credentials
+
+-- a user and a password, one not empty and the other perhaps
+abbrev AreCredentials : Option (List ℕ) → Option (List ℕ) → Type 0
+AreCredentials user password = IfSome password (λ p. (0 < length p) × IsSome user) × (user ≡ Some [] → IsSome password)
+
+-- an optional text is not an empty one
+not_some_empty : {A : Type 0} (t : List ℕ) → unless_empty t ≡ Some [] → A
+not_some_empty [] e = none_is_some [] e
+not_some_empty (b ∷ bs) e = absurd (omega (arith, ap length (some_same (b ∷ bs) [] e)))
+
+-- a user without a password
+user_without : (t : List ℕ) → AreCredentials (unless_empty t) None
+user_without t = (tt, λ e. not_some_empty t e)
+
+-- a user beside a password
+user_with : (u w : List ℕ) → AreCredentials (user_beside (unless_empty w) u) (unless_empty w)
+user_with u [] = user_without u
+user_with u (b ∷ bs) = ((omega (arith), refl), λ e. refl)
+
+-- user information holds a user and a password of a settled location
+credentials_closed : (text : List ℕ) (user password : Option (List ℕ)) → Credentials text user password → AreCredentials user password
+credentials_closed text user password (user_alone free utf8 p u) =
+    subst (λ x. AreCredentials x password) (sym u) (subst (λ x. AreCredentials (unless_empty (percent_decode text)) x) (sym p) (user_without (percent_decode text)))
+credentials_closed text user password (with_password x y free e first second p u) =
+    let beside : user ≡ user_beside (unless_empty (percent_decode y)) (percent_decode x) = u ∙ ap (λ q. user_beside q (percent_decode x)) p in
+    subst (λ o. AreCredentials o password) (sym beside) (subst (λ q. AreCredentials (user_beside (unless_empty (percent_decode y)) (percent_decode x)) q) (sym p) (user_with (percent_decode x) (percent_decode y)))
+
+-- so does an authority
+authority_closed : (mode : Mode) (text : List ℕ) (user password host : Option (List ℕ)) (port : Option ℕ) → Authority mode text user password host port → AreCredentials user password
+authority_closed mode text user password host port (host_alone free names u p) =
+    subst (λ x. AreCredentials x password) (sym u) (subst (λ x. AreCredentials None x) (sym p) (user_without []))
+authority_closed mode text user password host port (with_user information piece free e credentials names some) =
+    credentials_closed information user password credentials
+
+-- the host and the port of a sound authority are named by a sound piece
+authority_names : (mode : Mode) (text : List ℕ) (user password host : Option (List ℕ)) (port : Option ℕ) → is_sound text ≡ true → Authority mode text user password host port → (piece : List ℕ) × (is_sound piece ≡ true) × Names mode piece host port
+authority_names mode text user password host port sound (host_alone free names u p) = (text, sound, names)
+authority_names mode text user password host port sound (with_user information piece free e credentials names some) =
+    (piece, (sound_around information piece at_sign refl (subst (λ t. is_sound t ≡ true) e sound)).1, names)
+
+-- ---- paths
+
+-- a start of a path is neither a digit nor a `%`, and is ASCII
+start_no_digit : (c : ℕ) → is_path_start true c ≡ true → is_digit c 16 ≡ false
+start_no_digit c h = grind (arith, nat_tests)
+
+start_no_percent : (c : ℕ) → is_path_start true c ≡ true → (c == 37) ≡ false
+start_no_percent c h = grind (arith, nat_tests)
+
+start_ascii : (c : ℕ) → is_path_start true c ≡ true → c < 128
+start_ascii c h = grind (arith, nat_tests)
+
+-- what is retained of a path, by whether it holds a `%`, is the path
+retained_by : (path s : List ℕ) (escaped : Bool) → has_percent path ≡ escaped → retained path ≡ Some s → (path ≡ s) × (has_percent path ≡ true)
+retained_by path s true holds e = (some_same path s (sym (cond-true _ _ _ holds) ∙ e), holds)
+retained_by path s false lacks e = none_is_some s (sym (cond-false _ _ _ lacks) ∙ e)
+
+-- a path of a URL of HTTP, behind a sound front, and what it means
+record IsWebPath (front path : List ℕ) : Type 0 where
+  pub front_sound : is_sound front ≡ true
+  pub meant_text : IsUtf8 (or_root (percent_decode path))
+  pub meant_starts : begins_by (is_path_start true) (or_root (percent_decode path)) ≡ true
+  pub fair : (s : List ℕ) → retained path ≡ Some s → IsFairSpelling s (or_root (percent_decode path))
+
+-- a path that is there
+some_path : (front rest : List ℕ) (c : ℕ) → is_path_start true c ≡ true → IsUtf8 (front ++ c ∷ rest) → is_sound (front ++ c ∷ rest) ≡ true → LacksWhiteSpace (front ++ c ∷ rest) → IsUtf8 (percent_decode (c ∷ rest)) → IsWebPath front (c ∷ rest)
+some_path front rest c start text sound space meant =
+    let same : percent_decode (c ∷ rest) ≡ c ∷ percent_decode rest = decode_byte c rest (start_no_percent c start) in
+    let rooted : or_root (percent_decode (c ∷ rest)) ≡ c ∷ percent_decode rest = ap or_root same in
+    let texts = utf8_seam front rest c text (start_ascii c start) in
+    let sounds = sound_parts front rest c (start_no_digit c start) sound in
+    let spaces = white_space_parts front (c ∷ rest) texts.0 space in record {
+      front_sound = sounds.0;
+      meant_text = subst IsUtf8 (same ∙ sym rooted) meant;
+      meant_starts = ap (begins_by (is_path_start true)) rooted ∙ start;
+      fair = λ s e.
+          let kept = retained_by (c ∷ rest) s (has_percent (c ∷ rest)) refl e in
+          subst (λ t. IsFairSpelling t (or_root (percent_decode (c ∷ rest)))) kept.0 record {
+            text = texts.1;
+            sound = sounds.1;
+            escaped = kept.1;
+            no_white_space = spaces.1;
+            front = sym (ap first_byte rooted);
+          };
+    }
+
+-- an empty path
+no_path : (front : List ℕ) → is_sound front ≡ true → IsWebPath front []
+no_path front sound =
+    let rooted : or_root (percent_decode []) ≡ slash ∷ [] = ap or_root percent_decode-nil in record {
+      front_sound = sound;
+      meant_text = subst IsUtf8 (sym rooted) (utf8_byte slash (lit< tt));
+      meant_starts = ap (begins_by (is_path_start true)) rooted;
+      fair = λ s e. none_is_some s e;
+    }
+
+-- the path at the end of a text
+path_closed : (front path : List ℕ) → StartsPath true path → IsUtf8 (front ++ path) → is_sound (front ++ path) ≡ true → LacksWhiteSpace (front ++ path) → IsUtf8 (percent_decode path) → IsWebPath front path
+path_closed front [] starts text sound space meant = no_path front (subst (λ t. is_sound t ≡ true) (append-nil front) sound)
+path_closed front (c ∷ rest) (inl empty) text sound space meant = absurd (omega (arith, ap length empty))
+path_closed front (c ∷ rest) (inr start) text sound space meant = some_path front rest c start text sound space meant
+
+-- ---- locations
+
+-- the authority behind a scheme and `://` is sound where the whole is
+authority_sound : (scheme authority : List ℕ) → is_sound (scheme ++ (codes "://" ++ authority)) ≡ true → is_sound authority ≡ true
+authority_sound scheme authority sound =
+    let behind = (sound_around scheme (slash ∷ (slash ∷ authority)) colon refl sound).1 in
+    sound_tail slash authority (sound_tail slash (slash ∷ authority) behind)
+
+-- what is there
+some_there : {A : Type 0} (o : Option A) → IsSome o → (x : A) × (o ≡ Some x)
+some_there None some = absurd (false≢true some)
+some_there (Some x) some = (x, refl)
+
+-- the front of a URL and its path, joined
+parts_joined : {b : List ℕ} {parts : UrlParts} → (h : SpellsParts b parts) → b ≡ (parts.scheme ++ (codes "://" ++ h.authority)) ++ parts.path
+parts_joined {b} {parts} h = h.joined ∙ sym (append_assoc parts.scheme (codes "://" ++ h.authority) parts.path)
+
+-- the path of a URL of HTTP
+url_path_closed : {b : List ℕ} {parts : UrlParts} → is_web_scheme parts.scheme ≡ true → (h : SpellsParts b parts) → IsWebPath (parts.scheme ++ (codes "://" ++ h.authority)) parts.path
+url_path_closed {b} {parts} web h =
+    let joined = parts_joined h in
+    path_closed (parts.scheme ++ (codes "://" ++ h.authority)) parts.path (subst (λ w. StartsPath w parts.path) web h.path_starts) (subst IsUtf8 joined h.text) (subst (λ t. is_sound t ≡ true) joined h.sound) (subst LacksWhiteSpace joined h.no_white_space) h.path_text
+
+-- what the parts of a URL of HTTP mean is settled
+parts_closed : {b : List ℕ} {parts : UrlParts} → (protocol : Protocol) → is_web_scheme parts.scheme ≡ true → SpellsParts b parts → ((host front : List ℕ) → parts.host ≡ Some host → host ≡ front ++ colon ∷ [] → (begins_with left_bracket host ≡ true) ⊎ (has_percent host ≡ false)) → HasFittingText (web_meant protocol parts) → IsSettledWeb (web_meant protocol parts)
+parts_closed {b} {parts} protocol web h apart fits =
+    let mode : mode_of parts.scheme ≡ strict = cond-true _ _ _ web in
+    let hosted : IsSome parts.host = h.hosted (or_left _ _ web) in
+    let some = some_there parts.host hosted in
+    let way = url_path_closed web h in
+    let named : Authority strict h.authority parts.user parts.password parts.host parts.port = subst (λ m. Authority m h.authority parts.user parts.password parts.host parts.port) mode h.named in
+    let credentials = authority_closed strict h.authority parts.user parts.password parts.host parts.port named in
+    let names = authority_names strict h.authority parts.user parts.password parts.host parts.port (authority_sound parts.scheme h.authority way.front_sound) named in
+    let host = web_host_closed names.0 some.0 parts.port names.1 (subst (λ o. Names strict names.0 o parts.port) some.1 names.2) (λ front e. apart some.0 front some.1 e) in record {
+      common = record {
+        unflagged = refl;
+        password = credentials.0;
+        user = credentials.1;
+        user_hosted = λ given. hosted;
+        port_hosted = λ given. hosted;
+        fits = fits;
+        path_text = way.meant_text;
+        spelling = λ s e matches. way.fair s e;
+      };
+      host = (some.0, some.1, host.0);
+      port = host.1;
+      path = way.meant_starts;
+    }
+
+-- a location of HTTP that is read is settled where its text is short enough, but for a host with `%` and a colon behind it
+pub web_closed : (b : List ℕ) (v : Location) → SpellsUrl b v → IsWeb v → ((h front : List ℕ) → v.host ≡ Some h → h ≡ front ++ colon ∷ [] → (begins_with left_bracket h ≡ true) ⊎ (has_percent h ≡ false)) → HasFittingText v → IsSettledWeb v
+web_closed b v spelled web apart fits =
+    let parts = spelled.parts in
+    let protocol = protocol_of parts.scheme in
+    let is_web : is_web_protocol protocol ≡ true = ap is_web_protocol (sym (means_scheme protocol b parts v spelled.means)) ∙ web_protocol v web in
+    let value : v ≡ web_meant protocol parts = web_value protocol b parts v is_web spelled.means in
+    subst (λ l. IsSettledWeb l) (sym value)
+        (parts_closed protocol (web_scheme_of parts.scheme is_web) spelled.spelled (λ h front e. apart h front (ap (λ l. l.host) value ∙ e)) (subst (λ l. HasFittingText l) value fits))
