@@ -34,3 +34,4 @@ pub mod WrittenWebHostLemmas
 pub mod FileLemmas
 pub mod WrittenScpLemmas
 pub mod WebClosedLemmas
+pub mod AgainLemmas

@@ -1,0 +1,97 @@
+-- Settled locations come back, of every kind.
+use Rattle.std.proofs.Common.{◌≡◌, ℕ, Bool, true, false, inl, inr, List, Option, Some, None, refl, sym, ap, subst, ◌∙◌}
+use Rattle.std.proofs.lemmas.Bool.{both_ways, false≢true, or_parts, or_from, cond-false}
+use Rattle.std.specs.Prelude.{codes, bytes_eq, ◌||◌, IsSome}
+use Rattle.gix_url.specs.Schemes.{is_ssh_scheme, is_web_scheme, is_known_scheme, protocol_of, mode_of, requires_host}
+use Rattle.gix_url.specs.Bytes.{is_scheme_text}
+use Rattle.gix_url.specs.Hosts.{Mode}
+use Rattle.gix_url.specs.Value.{Protocol, Location}
+use Rattle.gix_url.specs.Value.Protocol.{file, git, ssh, http, https, ext, helper, helper_url}
+use Rattle.gix_url.specs.Hosts.Mode.{strict, bare, loose}
+use Rattle.gix_url.specs.Settled.{is_ftp, IsValue, IsSettledUrl, IsSettledWeb, IsSettledSecure, IsSettledGit, IsSettledHelperUrl, IsSettledBy, IsSettled}
+use Rattle.gix_url.specs.SettledParts.{IsWeb, HasUrlPath}
+use Rattle.gix_url.specs.Laws.{keeps_bytes, ComesBack}
+use Rattle.gix_url.specs.WrittenPieces.{respelled}
+use Rattle.gix_url.proofs.SettledLemmas.{written_web, written_git, written_secure, written_other}
+use Rattle.gix_url.proofs.WrittenUrlLemmas.{IsUrlProtocol, authority_with_host, authority_without_host, url_again}
+use Rattle.gix_url.proofs.WrittenPathLemmas.{web_path_written, transport_path_written, other_path_written}
+use Rattle.gix_url.proofs.WrittenWebHostLemmas.{web_host_written}
+
+-- the path of a settled URL
+path_of : (v : Location) → IsSettledUrl v → HasUrlPath v
+path_of v h = record { path_text = h.path_text; spelling = h.spelling }
+
+-- a protocol whose URLs don't keep their bytes isn't `ext`
+not_kept : (p : Protocol) → p ≡ ext → keeps_bytes p false ≡ false → ⊥
+not_kept p e h = both_ways (keeps_bytes p false) h (ap (λ q. keeps_bytes q false) e)
+
+-- ---- HTTP
+
+http_protocol : IsUrlProtocol http
+http_protocol = record { scheme_text = refl; not_file = refl; protocol = refl; not_ext = λ e. not_kept http e refl }
+
+https_protocol : IsUrlProtocol https
+https_protocol = record { scheme_text = refl; not_file = refl; protocol = refl; not_ext = λ e. not_kept https e refl }
+
+-- a settled location of HTTP comes back
+web_again : (v : Location) → IsWeb v → IsValue v → IsSettledWeb v → (back : ComesBack v) × IsSettled back.reread
+web_again v (inl e) is h =
+    let (host, there, web) = h.host in
+    let writes = web_host_written v host (inl e) web h.port is.port in
+    url_again v http (Some host) e http_protocol h.common (authority_with_host strict v host host h.common is there writes) (λ need. refl) there (web_path_written v (inl e) h.path (path_of v h.common)) (written_web v (inl e)) (written_web (respelled v) (inl e)) (λ c. record { common = c; host = (host, there, web); port = h.port; path = h.path })
+web_again v (inr e) is h =
+    let (host, there, web) = h.host in
+    let writes = web_host_written v host (inr e) web h.port is.port in
+    url_again v https (Some host) e https_protocol h.common (authority_with_host strict v host host h.common is there writes) (λ need. refl) there (web_path_written v (inr e) h.path (path_of v h.common)) (written_web v (inr e)) (written_web (respelled v) (inr e)) (λ c. record { common = c; host = (host, there, web); port = h.port; path = h.path })
+
+-- ---- Secure Shell
+
+ssh_protocol : IsUrlProtocol ssh
+ssh_protocol = record { scheme_text = refl; not_file = refl; protocol = refl; not_ext = λ e. not_kept ssh e refl }
+
+-- ---- Git's own protocol
+
+git_protocol : IsUrlProtocol git
+git_protocol = record { scheme_text = refl; not_file = refl; protocol = refl; not_ext = λ e. not_kept git e refl }
+
+-- ---- other schemes
+
+-- what a scheme isn't that has no name of its own
+record IsOther (name : List ℕ) : Type 0 where
+  pub not_ssh : is_ssh_scheme name ≡ false
+  pub not_web : is_web_scheme name ≡ false
+  pub not_file : bytes_eq name (codes "file") ≡ false
+  pub not_git : bytes_eq name (codes "git") ≡ false
+  pub not_ext : bytes_eq name (codes "ext") ≡ false
+
+other_scheme : (name : List ℕ) → is_known_scheme name ≡ false → IsOther name
+other_scheme name h =
+    let ssh_named = or_parts (is_ssh_scheme name) _ h in
+    let web_named = or_parts (is_web_scheme name) _ ssh_named.1 in
+    let file_named = or_parts (bytes_eq name (codes "file")) _ web_named.1 in
+    let rest = or_parts (bytes_eq name (codes "git")) (bytes_eq name (codes "ext")) file_named.1 in
+    record { not_ssh = ssh_named.0; not_web = web_named.0; not_file = file_named.0; not_git = rest.0; not_ext = rest.1 }
+
+-- its protocol
+other_protocol : (name : List ℕ) → IsOther name → protocol_of name ≡ helper_url name
+other_protocol name h =
+    let web_named = or_parts (bytes_eq name (codes "http")) (bytes_eq name (codes "https")) h.not_web in
+    cond-false _ _ _ h.not_ssh ∙ cond-false _ _ _ h.not_file ∙ cond-false _ _ _ h.not_git ∙ cond-false _ _ _ web_named.0 ∙ cond-false _ _ _ web_named.1 ∙ cond-false _ _ _ h.not_ext
+
+-- how its host is read
+other_mode : (name : List ℕ) → IsOther name → mode_of name ≡ loose
+other_mode name h = cond-false _ _ _ h.not_web ∙ cond-false _ _ _ (or_from _ _ h.not_ssh h.not_git)
+
+-- it needs a host where it is one of FTP
+other_hosted : (name : List ℕ) → IsOther name → requires_host name ≡ is_ftp name
+other_hosted name h =
+    let ssh_named = or_parts (bytes_eq name (codes "ssh")) _ h.not_ssh in
+    ap (λ b. b || (bytes_eq name (codes "git") || (bytes_eq name (codes "ssh") || is_ftp name))) h.not_web ∙ ap (λ b. b || (bytes_eq name (codes "ssh") || is_ftp name)) h.not_git ∙ ap (λ b. b || is_ftp name) ssh_named.0
+
+helper_url_protocol : (name : List ℕ) → is_scheme_text name ≡ true → IsOther name → IsUrlProtocol (helper_url name)
+helper_url_protocol name spelled h = record {
+  scheme_text = spelled;
+  not_file = h.not_file;
+  protocol = sym (other_protocol name h);
+  not_ext = λ e. not_kept (helper_url name) e refl;
+}
