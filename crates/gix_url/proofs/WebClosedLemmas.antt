@@ -361,7 +361,7 @@ web_closed b v spelled web apart fits =
     let is_web : is_web_protocol protocol ≡ true = ap is_web_protocol (sym (means_scheme protocol b parts v spelled.means)) ∙ web_protocol v web in
     let value : v ≡ web_meant protocol parts = web_value protocol b parts v is_web spelled.means in
     subst (λ l. IsSettledWeb l) (sym value)
-        (parts_closed protocol (web_scheme_of parts.scheme is_web) spelled.spelled (λ h front e. apart h front (ap (λ l. l.host) value ∙ e)) (subst (λ l. HasFittingText l) value fits))
+    (parts_closed protocol (web_scheme_of parts.scheme is_web) spelled.spelled (λ h front e. apart h front (ap (λ l. l.host) value ∙ e)) (subst (λ l. HasFittingText l) value fits))
 
 -- ---- the same text
 
@@ -420,7 +420,7 @@ spelling_fair : (spelling : Option (List ℕ)) (s path shown : List ℕ) → beg
 spelling_fair spelling s path shown starts matches other same fair (in_place e) =
     let is : percent_encode PATH path ≡ s = sym (same ∙ e) in
     subst (λ t. IsFairSpelling t path) is
-        (encoded_fair path starts (ap percent_decode is ∙ matches) (λ k. other (sym is ∙ k)))
+    (encoded_fair path starts (ap percent_decode is ∙ matches) (λ k. other (sym is ∙ k)))
 spelling_fair spelling s path shown starts matches other same fair (as_spelled t e decodes is) =
     subst (λ x. IsFairSpelling x path) (sym (same ∙ is)) (fair t e decodes)
 
@@ -464,9 +464,9 @@ exact_as v spelling web other same h =
         path_text = c.path_text;
         spelling = λ s e matches.
             spelling_fair spelling s v.path _ h.path matches (λ k. other (e ∙ ap (λ t. Some t) k))
-                (sym (match_written v.spelling s v.path (plain_path v.scheme v.path) e matches) ∙ sym paths)
-                c.spelling
-                (subst (λ plain. WritesAs spelling v.path plain (matching_or spelling v.path (plain_path v.scheme v.path))) (plain_web v web) shown);
+            (sym (match_written v.spelling s v.path (plain_path v.scheme v.path) e matches) ∙ sym paths)
+            c.spelling
+            (subst (λ plain. WritesAs spelling v.path plain (matching_or spelling v.path (plain_path v.scheme v.path))) (plain_web v web) shown);
       };
       host = h.host;
       port = h.port;
