@@ -1,33 +1,38 @@
 -- Locations of HTTP: what is read is settled, but for two corners.
-use Rattle.std.proofs.Common.{◌≡◌, ◌≢◌, ℕ, ◌<◌, Bool, true, false, ◌==◌, ◌||◌, ◌⊎◌, inl, inr, List, [], ◌∷◌, ◌++◌, length, Option, Some, None, IsSome, IsUtf8, refl, sym, ap, subst, ◌∙◌, arith, append_assoc, codes, bytes_eq, if◌then◌else◌, lit<}
+use Rattle.std.proofs.Common.{◌≡◌, ◌≢◌, ℕ, ◌<◌, Bool, true, false, ◌==◌, ◌||◌, ◌⊎◌, inl, inr, List, [], ◌∷◌, ◌++◌, length, Option, Some, None, Result, Ok, IsSome, IsUtf8, refl, sym, ap, subst, ◌∙◌, arith, append_assoc, codes, bytes_eq, if◌then◌else◌, lit<}
 use Rattle.std.specs.Prelude.{IfSome}
 use Rattle.std.specs.List.{list_all}
 use Rattle.std.specs.Char.{to_ascii_lowercase, is_digit}
 use Rattle.std.proofs.lemmas.Bool.{cond-true, cond-false, and_parts, and_from, or_left, both_ways, false≢true}
 use Rattle.std.proofs.lemmas.Bool.Decides.{nat_tests}
-use Rattle.std.proofs.lemmas.List.{length-map, append-nil}
-use Rattle.percent_encoding.specs.Percent.{percent_decode}
+use Rattle.std.proofs.lemmas.List.{append_cancel_left, length-map, append-nil}
+use Rattle.std.proofs.lemmas.Slice.Eq.{bytes_eq-Decides}
+use Rattle.percent_encoding.specs.Percent.{percent_encode, percent_decode}
 use Rattle.percent_encoding.proofs.PercentLemmas.{percent_decode-nil}
-use Rattle.gix_url.specs.Value.{Protocol, Location}
+use Rattle.gix_url.specs.declared.escape.TheConstants.{PATH}
+use Rattle.gix_url.specs.Value.{Protocol, Location, fields}
 use Rattle.gix_url.specs.Value.Protocol.{file, git, ssh, http, https, ext, helper, helper_url}
 use Rattle.gix_url.specs.Bytes.{percent_sign, slash, colon, at_sign, left_bracket, FreeOf, begins_by, begins_with, lowercase, LacksWhiteSpace}
 use Rattle.gix_url.specs.Cuts.{is_path_start, StartsPath}
-use Rattle.gix_url.specs.Escapes.{is_sound, has_percent}
+use Rattle.gix_url.specs.Escapes.{is_sound, has_percent, is_path_escaped}
 use Rattle.gix_url.specs.Hosts.{Mode, is_dns_byte, is_http_host_byte, normal_host, HostText, Names}
 use Rattle.gix_url.specs.Hosts.Mode.{strict, bare}
 use Rattle.gix_url.specs.Hosts.Names.{nothing, bracketed, bracketed_colon, bracketed_port, unbracketed, plain, plain_colon, plain_port, colons}
-use Rattle.gix_url.specs.Schemes.{is_ssh_scheme, is_web_scheme, protocol_of, mode_of}
+use Rattle.gix_url.specs.Schemes.{is_ssh_scheme, is_web_scheme, protocol_of, protocol_text, mode_of}
 use Rattle.gix_url.specs.Authority.{unless_empty, user_beside, Credentials, Authority}
 use Rattle.gix_url.specs.Authority.Credentials.{user_alone, with_password}
 use Rattle.gix_url.specs.Authority.Authority.{host_alone, with_user}
 use Rattle.gix_url.specs.Grammar.{UrlParts, SpellsParts, or_root, retained, MeansAs, SpellsUrl}
+use Rattle.gix_url.specs.Text.{user_information, host_part, port_part, root_part, plain_path, matching_or, canonical_text, text}
 use Rattle.gix_url.specs.Settled.{first_byte, IsFairSpelling, HasFittingText, IsWebName, IsWebHost, IsSettledWeb}
 use Rattle.gix_url.specs.Settled.IsWebHost.{literal, literal_colon, named, named_colon}
-use Rattle.gix_url.specs.SettledParts.{IsWeb}
+use Rattle.gix_url.specs.SettledParts.{IsWeb, IsHosted}
 use Rattle.gix_url.proofs.CutLemmas.{free-append, free_of_all, free_head_tail, free_parts}
-use Rattle.gix_url.proofs.EscapeLemmas.{sound_tail, sound_parts, sound_around, sound_free, decode_byte, utf8_byte, utf8_seam, white_space_parts}
+use Rattle.gix_url.proofs.EscapeLemmas.{sound_tail, sound_parts, sound_around, sound_free, decode_byte, decode_kept, encode_byte_kept, encode_sound, utf8_byte, utf8_seam, utf8_encode, white_space_parts}
+use Rattle.gix_url.proofs.EscapeSets.{path_holds, white_space_path}
 use Rattle.gix_url.proofs.NormalLemmas.{normal_again, literal_again}
 use Rattle.gix_url.proofs.RowNameLemmas.{none_is_some, some_is_none}
+use Rattle.gix_url.proofs.SettledLemmas.{written_web}
 
 -- some are the same that have the same
 some_same : {A : Type 0} (x y : A) → Some x ≡ Some y → x ≡ y
@@ -39,6 +44,7 @@ some_same x y e = cc
 dns_byte_lowercase : (b : ℕ) → is_dns_byte b ≡ true → is_dns_byte (to_ascii_lowercase b) ≡ true
 dns_byte_lowercase b h = grind (arith, nat_tests)
 
+-- a text of such bytes stays one in lower case
 dns_lowercase : (bs : List ℕ) → list_all is_dns_byte bs ≡ true → list_all is_dns_byte (lowercase bs) ≡ true
 dns_lowercase [] h = refl
 dns_lowercase (b ∷ bs) h =
@@ -49,13 +55,14 @@ dns_lowercase (b ∷ bs) h =
 http_byte_lowercase : (b : ℕ) → is_http_host_byte b ≡ true → is_http_host_byte (to_ascii_lowercase b) ≡ true
 http_byte_lowercase b h = grind (arith, nat_tests)
 
+-- a text of such bytes stays one in lower case
 http_lowercase : (bs : List ℕ) → list_all is_http_host_byte bs ≡ true → list_all is_http_host_byte (lowercase bs) ≡ true
 http_lowercase [] h = refl
 http_lowercase (b ∷ bs) h =
     let parts = and_parts (is_http_host_byte b) (list_all is_http_host_byte bs) h in
     and_from _ _ (http_byte_lowercase b parts.0) (http_lowercase bs parts.1)
 
--- the normal form of a sound host of HTTP, by whether it looks like a domain name, and before that of what it is
+-- the normal form of a sound host of HTTP is one, by whether the host looks like a domain name
 normal_facts : (text : List ℕ) (is_domain : Bool) → list_all is_dns_byte text ≡ is_domain → 0 < length text → is_sound text ≡ true → list_all is_http_host_byte text ≡ true → (0 < length (normal_host text)) × (list_all is_http_host_byte (normal_host text) ≡ true) × (is_sound (normal_host text) ≡ true)
 normal_facts text true domain some sound bytes =
     let lower : normal_host text ≡ lowercase text = cond-true _ _ _ domain in (
@@ -86,7 +93,7 @@ no_bracket_before_colon : (name : List ℕ) → IsWebName name → begins_with l
 no_bracket_before_colon name h =
     free_begins left_bracket (name ++ colon ∷ []) (free-append left_bracket name (colon ∷ []) (free_of_all is_http_host_byte left_bracket name h.bytes refl) refl)
 
--- such a name holds no `%`, where that is all that the host may be
+-- such a name holds no `%` where the host begins with a bracket or holds none
 name_before_colon : (host name : List ℕ) → IsWebName name → host ≡ name ++ colon ∷ [] → (begins_with left_bracket host ≡ true) ⊎ (has_percent host ≡ false) → has_percent name ≡ false
 name_before_colon host name h e (inl bracket) = absurd (both_ways _ (no_bracket_before_colon name h) (ap (begins_with left_bracket) (sym e) ∙ bracket))
 name_before_colon host name h e (inr free) = (free_parts percent_sign name (colon ∷ []) (subst (λ t. FreeOf percent_sign t) e free)).0
@@ -99,6 +106,7 @@ none_not_zero port none zero = some_is_none 0 (sym zero ∙ none)
 port_not_zero : (port : Option ℕ) (number : ℕ) → port ≡ Some number → 0 < number → port ≢ Some 0
 port_not_zero port number is some zero = omega (arith, some, some_same number 0 (sym is ∙ zero))
 
+-- the modes are different
 strict_not_bare : ¬ (strict ≡ bare)
 strict_not_bare e = cc
 
@@ -137,7 +145,7 @@ is_web_protocol ext = false
 is_web_protocol (helper name) = false
 is_web_protocol (helper_url name) = false
 
--- only the two schemes of HTTP have such a protocol
+-- only the two schemes of HTTP have such a protocol, by what the scheme is tested for
 web_scheme_by : (ssh_named file_named git_named http_named https_named ext_named : Bool) (s : List ℕ) → is_web_protocol (if ssh_named then ssh else (if file_named then file else (if git_named then git else (if http_named then http else (if https_named then https else (if ext_named then ext else helper_url s)))))) ≡ true → (http_named || https_named) ≡ true
 web_scheme_by true a b c d e s h = absurd (false≢true h)
 web_scheme_by false true b c d e s h = absurd (false≢true h)
@@ -147,6 +155,7 @@ web_scheme_by false false false false true e s h = refl
 web_scheme_by false false false false false true s h = absurd (false≢true h)
 web_scheme_by false false false false false false s h = absurd (false≢true h)
 
+-- such a scheme is one of HTTP
 web_scheme_of : (s : List ℕ) → is_web_protocol (protocol_of s) ≡ true → is_web_scheme s ≡ true
 web_scheme_of s h = web_scheme_by (is_ssh_scheme s) (bytes_eq s (codes "file")) (bytes_eq s (codes "git")) (bytes_eq s (codes "http")) (bytes_eq s (codes "https")) (bytes_eq s (codes "ext")) s h
 
@@ -185,17 +194,18 @@ web_value ext b parts v web h = absurd (false≢true web)
 web_value (helper name) b parts v web h = absurd (false≢true web)
 web_value (helper_url name) b parts v web h = absurd (false≢true web)
 
+-- a location of HTTP has such a protocol
 web_protocol : (v : Location) → IsWeb v → is_web_protocol v.scheme ≡ true
 web_protocol v (inl e) = ap is_web_protocol e
 web_protocol v (inr e) = ap is_web_protocol e
 
 -- ---- credentials
 
--- a user and a password, one not empty and the other perhaps
+-- a password comes with a user and isn't empty, and an empty user comes with a password
 abbrev AreCredentials : Option (List ℕ) → Option (List ℕ) → Type 0
 AreCredentials user password = IfSome password (λ p. (0 < length p) × IsSome user) × (user ≡ Some [] → IsSome password)
 
--- an optional text is not an empty one
+-- an empty text is none
 not_some_empty : {A : Type 0} (t : List ℕ) → unless_empty t ≡ Some [] → A
 not_some_empty [] e = none_is_some [] e
 not_some_empty (b ∷ bs) e = absurd (omega (arith, ap length (some_same (b ∷ bs) [] e)))
@@ -232,13 +242,15 @@ authority_names mode text user password host port sound (with_user information p
 
 -- ---- paths
 
--- a start of a path is neither a digit nor a `%`, and is ASCII
+-- a start of a path is no hexadecimal digit
 start_no_digit : (c : ℕ) → is_path_start true c ≡ true → is_digit c 16 ≡ false
 start_no_digit c h = grind (arith, nat_tests)
 
+-- it is no `%`
 start_no_percent : (c : ℕ) → is_path_start true c ≡ true → (c == 37) ≡ false
 start_no_percent c h = grind (arith, nat_tests)
 
+-- and it is ASCII
 start_ascii : (c : ℕ) → is_path_start true c ≡ true → c < 128
 start_ascii c h = grind (arith, nat_tests)
 
@@ -349,4 +361,120 @@ web_closed b v spelled web apart fits =
     let is_web : is_web_protocol protocol ≡ true = ap is_web_protocol (sym (means_scheme protocol b parts v spelled.means)) ∙ web_protocol v web in
     let value : v ≡ web_meant protocol parts = web_value protocol b parts v is_web spelled.means in
     subst (λ l. IsSettledWeb l) (sym value)
-        (parts_closed protocol (web_scheme_of parts.scheme is_web) spelled.spelled (λ h front e. apart h front (ap (λ l. l.host) value ∙ e)) (subst (λ l. HasFittingText l) value fits))
+    (parts_closed protocol (web_scheme_of parts.scheme is_web) spelled.spelled (λ h front e. apart h front (ap (λ l. l.host) value ∙ e)) (subst (λ l. HasFittingText l) value fits))
+
+-- ---- the same text
+
+-- the location with another spelling
+abbrev spelled_as : Location → Option (List ℕ) → Location
+spelled_as v spelling = record v { spelling = spelling }
+
+-- a matching spelling is what is written
+match_written : (spelling : Option (List ℕ)) (s path other : List ℕ) → spelling ≡ Some s → percent_decode s ≡ path → matching_or spelling path other ≡ s
+match_written spelling s path other e matches =
+    ap (λ o. matching_or o path other) e ∙ cond-true _ _ _ ((bytes_eq-Decides (percent_decode s) path).1 matches)
+
+-- what is written is what stands in for a spelling, or a matching spelling
+data WritesAs (spelling : Option (List ℕ)) (path other shown : List ℕ) : Type 0 where
+  in_place : shown ≡ other → WritesAs spelling path other shown
+  as_spelled : (s : List ℕ) → spelling ≡ Some s → percent_decode s ≡ path → shown ≡ s → WritesAs spelling path other shown
+
+-- a spelling that is there is one or the other, by whether it matches
+writes_by : (s path other : List ℕ) (matches : Bool) → bytes_eq (percent_decode s) path ≡ matches → WritesAs (Some s) path other (matching_or (Some s) path other)
+writes_by s path other true e = as_spelled s refl ((bytes_eq-Decides (percent_decode s) path).0 e) (cond-true _ _ _ e)
+writes_by s path other false e = in_place (cond-false _ _ _ e)
+
+-- a written path is one or the other
+writes_as : (spelling : Option (List ℕ)) (path other : List ℕ) → WritesAs spelling path other (matching_or spelling path other)
+writes_as None path other = in_place refl
+writes_as (Some s) path other = writes_by s path other (bytes_eq (percent_decode s) path) refl
+
+-- a start of a path is written as it is
+start_kept : (c : ℕ) → is_path_start true c ≡ true → is_path_escaped c ≡ false
+start_kept c h = grind (arith, nat_tests)
+
+-- a path is written with its first byte
+path_front : (path : List ℕ) → begins_by (is_path_start true) path ≡ true → first_byte (percent_encode PATH path) ≡ first_byte path
+path_front [] starts = absurd (false≢true starts)
+path_front (c ∷ rest) starts =
+    let ascii = start_ascii c starts in
+    ap first_byte (encode_byte_kept PATH c rest ascii (path_holds c ascii ∙ start_kept c starts))
+
+-- a written path that matches and isn't the path holds an escape
+escaped_by : (s path : List ℕ) (escaped : Bool) → has_percent s ≡ escaped → percent_decode s ≡ path → ¬ (s ≡ path) → has_percent s ≡ true
+escaped_by s path true holds matches other = holds
+escaped_by s path false lacks matches other = absurd (other (sym (decode_kept s lacks) ∙ matches))
+
+-- such a written path is a fair spelling
+encoded_fair : (path : List ℕ) → begins_by (is_path_start true) path ≡ true → percent_decode (percent_encode PATH path) ≡ path → ¬ (percent_encode PATH path ≡ path) → IsFairSpelling (percent_encode PATH path) path
+encoded_fair path starts matches other = record {
+  text = utf8_encode PATH path;
+  sound = encode_sound PATH path refl;
+  escaped = escaped_by (percent_encode PATH path) path (has_percent (percent_encode PATH path)) refl matches other;
+  no_white_space = white_space_path path;
+  front = path_front path starts;
+}
+
+-- a spelling that matches and is written as a fair one or as no spelling is fair, unless it is the path
+spelling_fair : (spelling : Option (List ℕ)) (s path shown : List ℕ) → begins_by (is_path_start true) path ≡ true → percent_decode s ≡ path → ¬ (s ≡ path) → s ≡ shown → ((t : List ℕ) → spelling ≡ Some t → percent_decode t ≡ path → IsFairSpelling t path) → WritesAs spelling path (percent_encode PATH path) shown → IsFairSpelling s path
+spelling_fair spelling s path shown starts matches other same fair (in_place e) =
+    let is : percent_encode PATH path ≡ s = sym (same ∙ e) in
+    subst (λ t. IsFairSpelling t path) is
+    (encoded_fair path starts (ap percent_decode is ∙ matches) (λ k. other (sym is ∙ k)))
+spelling_fair spelling s path shown starts matches other same fair (as_spelled t e decodes is) =
+    subst (λ x. IsFairSpelling x path) (sym (same ∙ is)) (fair t e decodes)
+
+-- the path of HTTP is written escaped
+plain_web : (v : Location) → IsWeb v → plain_path v.scheme v.path ≡ percent_encode PATH v.path
+plain_web v (inl e) = ap (λ p. plain_path p v.path) e
+plain_web v (inr e) = ap (λ p. plain_path p v.path) e
+
+-- a text that is there is one
+okay_same : {E : Type 0} (r : Result (List ℕ) E) (x y : List ℕ) → r ≡ Ok x → r ≡ Ok y → x ≡ y
+okay_same r x y h k = let both : Ok x ≡ Ok y = sym h ∙ k in cc
+
+-- locations of HTTP that differ in their spellings and are written alike have paths that are written alike
+same_paths : (v : Location) (spelling : Option (List ℕ)) → IsWeb v → v.flag ≡ false → IsHosted v → text (spelled_as v spelling) ≡ text v → matching_or spelling v.path (plain_path v.scheme v.path) ≡ matching_or v.spelling v.path (plain_path v.scheme v.path)
+same_paths v spelling web unflagged hosted same =
+    let w = spelled_as v spelling in
+    let mine : text v ≡ Ok (canonical_text v) = (written_web v web).canonical unflagged hosted in
+    let other : text w ≡ Ok (canonical_text w) = (written_web w web).canonical unflagged record { user_hosted = hosted.user_hosted; port_hosted = hosted.port_hosted } in
+    let whole : canonical_text w ≡ canonical_text v = okay_same (text w) _ _ other (same ∙ mine) in
+    let behind = append_cancel_left (protocol_text v.scheme) _ _ whole in
+    let authority = append_cancel_left (codes "://") _ _ behind in
+    let host = append_cancel_left (user_information v.user v.password) _ _ authority in
+    let port = append_cancel_left (host_part v v.host) _ _ host in
+    let path = append_cancel_left (port_part v.port) _ _ port in
+    append_cancel_left (root_part v) _ _ path
+
+-- a location of HTTP that is written as a settled one with another spelling is settled, unless its spelling is its path
+exact_as : (v : Location) (spelling : Option (List ℕ)) → IsWeb v → ¬ (v.spelling ≡ Some v.path) → text (spelled_as v spelling) ≡ text v → IsSettledWeb (spelled_as v spelling) → IsSettledWeb v
+exact_as v spelling web other same h =
+    let c = h.common in
+    let hosted : IsHosted v = record { user_hosted = c.user_hosted; port_hosted = c.port_hosted } in
+    let paths = same_paths v spelling web c.unflagged hosted same in
+    let shown = writes_as spelling v.path (plain_path v.scheme v.path) in record {
+      common = record {
+        unflagged = c.unflagged;
+        password = c.password;
+        user = c.user;
+        user_hosted = c.user_hosted;
+        port_hosted = c.port_hosted;
+        fits = (c.fits.0, sym same ∙ c.fits.1, c.fits.2);
+        path_text = c.path_text;
+        spelling = λ s e matches.
+            spelling_fair spelling s v.path _ h.path matches (λ k. other (e ∙ ap (λ t. Some t) k))
+            (sym (match_written v.spelling s v.path (plain_path v.scheme v.path) e matches) ∙ sym paths)
+            c.spelling
+            (subst (λ plain. WritesAs spelling v.path plain (matching_or spelling v.path (plain_path v.scheme v.path))) (plain_web v web) shown);
+      };
+      host = h.host;
+      port = h.port;
+      path = h.path;
+    }
+
+-- a location of HTTP with the fields and the text of a settled one is settled, unless its spelling is its path
+pub web_exact_spelling : (v w : Location) → IsWeb v → ¬ (v.spelling ≡ Some v.path) → fields w ≡ fields v → text w ≡ text v → IsSettledWeb w → IsSettledWeb v
+web_exact_spelling v w web other same alike h =
+    let value : w ≡ spelled_as v w.spelling = ap (λ l. spelled_as l w.spelling) same in
+    exact_as v w.spelling web other (sym (ap (λ l. text l) value) ∙ alike) (subst (λ l. IsSettledWeb l) value h)
