@@ -27,3 +27,4 @@ pub mod ScpLemmas
 pub mod SettledLemmas
 pub mod PieceLemmas
 pub mod DisplayLemmas
+pub mod WrittenHostLemmas
