@@ -1,0 +1,342 @@
+-- The written host and port of a settled URL, but for those of HTTP, name the same host and port.
+use Rattle.std.proofs.Common.{◌≡◌, ℕ, ◌<◌, Bool, true, false, ◌||◌, ◌==◌, inl, inr, List, [], ◌∷◌, ◌++◌, length, Option, Some, None, refl, sym, ap, subst, ◌∙◌, arith, lit<, append_assoc, append-nil, if◌then◌else◌}
+use Rattle.std.specs.Prelude.{IfSome, IsUtf8, decimal}
+use Rattle.std.specs.List.{list_all}
+use Rattle.std.specs.Char.{is_ascii_digit, is_whitespace}
+use Rattle.std.specs.Str.{IsAscii}
+use Rattle.std.proofs.Math.Bool.{and-false}
+use Rattle.std.proofs.lemmas.Bool.{and_parts, and_from, true≢false, false_from_ne_true, true_from_ne_false}
+use Rattle.std.proofs.lemmas.Bool.Decides.{nat_tests}
+use Rattle.std.proofs.lemmas.Str.{IsUtf8-from_ascii}
+use Rattle.std.proofs.lemmas.Str.Ascii.{IsAscii-from_all}
+use Rattle.std.proofs.lemmas.List.Elements.{All-weaker}
+use Rattle.std.proofs.lemmas.List.Sums.{AllPass-from_list_all, list_all-from_AllPass}
+use Rattle.std.proofs.lemmas.List.Folds.{list_any_none, list_all-append}
+use Rattle.percent_encoding.specs.AsciiSet.{contains}
+use Rattle.percent_encoding.specs.Percent.{percent_encode, percent_decode}
+use Rattle.percent_encoding.proofs.PercentLemmas.{percent_encode_nonempty, percent_encode-nil}
+use Rattle.gix_url.specs.declared.escape.TheConstants.{PASSWORD, USER}
+use Rattle.gix_url.specs.Value.{Protocol, Location}
+use Rattle.gix_url.specs.Value.Protocol.{ssh}
+use Rattle.gix_url.specs.Bytes.{percent_sign, colon, at_sign, left_bracket, backslash, right_bracket, Lacks, FreeOf, begins_with}
+use Rattle.gix_url.specs.Cuts.{is_path_start}
+use Rattle.gix_url.specs.Escapes.{has_percent, is_password_escaped, is_user_escaped, escaped_percents}
+use Rattle.gix_url.specs.Addresses.{IsIpv6Text, Literal}
+use Rattle.gix_url.specs.AddressTest.{is_ipv6_text}
+use Rattle.gix_url.specs.Hosts.{Mode, normal_host, HostText, AllowsPort, Bracketed, IsPlainHost, Names}
+use Rattle.gix_url.specs.Hosts.Mode.{strict, bare, loose}
+use Rattle.gix_url.specs.Grammar.{Peels}
+use Rattle.gix_url.specs.Text.{has_colon, wants_brackets, keeps_host, open_host, needs_brackets, port_part}
+use Rattle.gix_url.specs.Settled.{IsNormalName, IsNormalAddress, IsBareHost, IsBracketedHost}
+use Rattle.gix_url.specs.WrittenPieces.{IsAuthorityPiece, WritesHost}
+use Rattle.gix_url.proofs.CutLemmas.{lacks-append, free-append, free_head_tail, free_of_all, free_or_cut, cut_unique, not_free}
+use Rattle.gix_url.proofs.EscapeLemmas.{sound-append, sound_free, decode_kept, decode_encode_utf8, encode_sound, encode_lacks, encode_free, encode_byte_kept, escaped_percents_kept, utf8-append, utf8_encode, white_space-append, white_space_ascii}
+use Rattle.gix_url.proofs.EscapeSets.{password_holds, user_holds, white_space_user}
+use Rattle.gix_url.proofs.AddressLemmas.{is_address_byte, address_bytes, address_free, address_two_colons}
+use Rattle.gix_url.proofs.AddressTestLemmas.{ipv6_text_from, ipv6_text_to}
+use Rattle.gix_url.proofs.HostLemmas.{decimal_digits, number_written}
+
+-- ---- pieces of an authority
+
+-- a piece of an authority that holds no `@`
+record IsHostPiece (t : List ℕ) : Type 0 where
+  no_at : FreeOf at_sign t
+  piece : IsAuthorityPiece t
+
+-- two such pieces are one, joined
+pieces_joined : (x y : List ℕ) → IsHostPiece x → IsHostPiece y → IsHostPiece (x ++ y)
+pieces_joined x y h k =
+    let front = h.piece.escaped in
+    let rest = k.piece.escaped in
+    record {
+      no_at = free-append at_sign x y h.no_at k.no_at;
+      piece = record {
+        escaped = record {
+          text = utf8-append x y front.text rest.text;
+          sound = sound-append x y front.sound rest.sound;
+          no_white_space = white_space-append x y front.text front.no_white_space rest.no_white_space;
+        };
+        no_backslash = free-append backslash x y h.piece.no_backslash k.piece.no_backslash;
+        before_path = lacks-append (is_path_start true) x y h.piece.before_path k.piece.before_path;
+      };
+    }
+
+-- a byte of an address, or a bracket
+abbrev is_bracketed_byte : ℕ → Bool
+is_bracketed_byte b = is_address_byte b || (b == left_bracket || b == right_bracket)
+
+-- a text of a class of bytes lacks each byte that the class lacks
+class_lacks : (class test : ℕ → Bool) (t : List ℕ) → ((b : ℕ) → class b ≡ true → test b ≡ false) → list_all class t ≡ true → Lacks test t
+class_lacks class test t apart h = list_any_none test t (All-weaker (λ b. class b ≡ true) (λ b. test b ≡ false) apart t (AllPass-from_list_all class t h))
+
+-- and it is of each wider class
+class_wider : (class wide : ℕ → Bool) (t : List ℕ) → ((b : ℕ) → class b ≡ true → wide b ≡ true) → list_all class t ≡ true → list_all wide t ≡ true
+class_wider class wide t within h = list_all-from_AllPass wide t (All-weaker (λ b. class b ≡ true) (λ b. wide b ≡ true) within t (AllPass-from_list_all class t h))
+
+-- such a byte is ASCII
+bracketed_byte_ascii : (b : ℕ) → is_bracketed_byte b ≡ true → b < 128
+bracketed_byte_ascii b h = grind (arith, nat_tests)
+
+-- it is no white space
+bracketed_byte_space : (b : ℕ) → is_bracketed_byte b ≡ true → is_whitespace b ≡ false
+bracketed_byte_space b h = grind (arith, nat_tests)
+
+-- and it starts no path
+bracketed_byte_path : (b : ℕ) → is_bracketed_byte b ≡ true → is_path_start true b ≡ false
+bracketed_byte_path b h = grind (arith, nat_tests)
+
+-- a text of such bytes is ASCII
+bracketed_ascii : (t : List ℕ) → list_all is_bracketed_byte t ≡ true → IsAscii t
+bracketed_ascii t h = IsAscii-from_all t (All-weaker (λ b. is_bracketed_byte b ≡ true) (λ b. b < 128) bracketed_byte_ascii t (AllPass-from_list_all is_bracketed_byte t h))
+
+-- and it is a piece that holds no `@`
+bracketed_piece : (t : List ℕ) → list_all is_bracketed_byte t ≡ true → IsHostPiece t
+bracketed_piece t h = record {
+  no_at = free_of_all is_bracketed_byte at_sign t h refl;
+  piece = record {
+    escaped = record {
+      text = IsUtf8-from_ascii t (bracketed_ascii t h);
+      sound = sound_free t (free_of_all is_bracketed_byte percent_sign t h refl);
+      no_white_space = white_space_ascii t (bracketed_ascii t h) (class_lacks is_bracketed_byte is_whitespace t bracketed_byte_space h);
+    };
+    no_backslash = free_of_all is_bracketed_byte backslash t h refl;
+    before_path = class_lacks is_bracketed_byte (is_path_start true) t bracketed_byte_path h;
+  };
+}
+
+-- a byte that is escaped in a user is in its set
+user_has : (c : ℕ) → c < 128 → is_user_escaped c ≡ true → contains USER c ≡ true
+user_has c ascii escaped = user_holds c ascii ∙ escaped
+
+-- a byte that a user is written with starts no path
+user_byte_path : (b : ℕ) → is_user_escaped b ≡ false → is_path_start true b ≡ false
+user_byte_path b h = grind (arith, nat_tests)
+
+-- a text escaped as a user is such a piece
+user_piece : (t : List ℕ) → IsHostPiece (percent_encode USER t)
+user_piece t = record {
+  no_at = encode_free USER t at_sign (user_has at_sign (lit< tt) refl) refl;
+  piece = record {
+    escaped = record {
+      text = utf8_encode USER t;
+      sound = encode_sound USER t (user_has percent_sign (lit< tt) refl);
+      no_white_space = white_space_user t;
+    };
+    no_backslash = encode_free USER t backslash (user_has backslash (lit< tt) refl) refl;
+    before_path = encode_lacks (is_path_start true) USER t (λ b ascii out. user_byte_path b (sym (user_holds b ascii) ∙ out)) (λ b escape. grind (arith, nat_tests));
+  };
+}
+
+-- a decimal digit is such a byte
+digit_bracketed : (b : ℕ) → is_ascii_digit b ≡ true → is_bracketed_byte b ≡ true
+digit_bracketed b h = grind (arith, nat_tests)
+
+-- a written port is such a piece
+port_piece : (port : Option ℕ) → IfSome port (λ p. p < 65536) → IsHostPiece (port_part port)
+port_piece None small = bracketed_piece [] refl
+port_piece (Some p) small = bracketed_piece (colon ∷ decimal p) (class_wider is_ascii_digit is_bracketed_byte (decimal p) digit_bracketed (decimal_digits p small).1)
+
+-- ---- names
+
+-- outside HTTP every port is allowed
+port_allowed : (mode : Mode) (port : ℕ) → ¬ (mode ≡ strict) → AllowsPort mode port
+port_allowed strict port other = absurd (other refl)
+port_allowed bare port other = tt
+port_allowed loose port other = tt
+
+-- the mode of Git's own transports isn't that of HTTP
+bare_not_strict : ¬ (bare ≡ strict)
+bare_not_strict e = cc
+
+-- outside HTTP a text stands for what it decodes to, where that is text in its normal form
+text_read : (mode : Mode) (text host : List ℕ) → ¬ (mode ≡ strict) → percent_decode text ≡ host → IsUtf8 host → normal_host host ≡ host → HostText mode text host
+text_read strict text host other decoded utf8 normal = absurd (other refl)
+text_read bare text host other decoded utf8 normal = (subst IsUtf8 (sym decoded) utf8, sym (ap normal_host decoded ∙ normal))
+text_read loose text host other decoded utf8 normal = (subst IsUtf8 (sym decoded) utf8, sym (ap normal_host decoded ∙ normal))
+
+-- a text that is free of a byte doesn't begin with it
+free_begins : (c : ℕ) (t : List ℕ) → FreeOf c t → begins_with c t ≡ false
+free_begins c [] h = refl
+free_begins c (b ∷ t) h = (free_head_tail c b t h).0
+
+-- a text escaped as a user is a host outside brackets
+user_plain : (t : List ℕ) → 0 < length t → IsPlainHost (percent_encode USER t)
+user_plain t some = record {
+  nonempty = percent_encode_nonempty USER t some;
+  no_colon = encode_free USER t colon (user_has colon (lit< tt) refl) refl;
+  no_bracket = free_begins left_bracket (percent_encode USER t) (encode_free USER t left_bracket (user_has left_bracket (lit< tt) refl) refl);
+}
+
+-- a host outside brackets and its port name what the host stands for and the port
+plain_named : (mode : Mode) (text host : List ℕ) (port : Option ℕ) → ¬ (mode ≡ strict) → IsPlainHost text → HostText mode text host → IfSome port (λ p. p < 65536) → Names mode (text ++ port_part port) (Some host) port
+plain_named mode text host None other is h small = rw append-nil (Names.plain host is h refl refl)
+plain_named mode text host (Some p) other is h small = Names.plain_port text host (decimal p) p is h (number_written mode p small (port_allowed mode p other)) refl refl refl
+
+-- the host of a URL of this protocol, as it is written beside the port
+abbrev written_host : Protocol → Option ℕ → List ℕ → List ℕ
+written_host protocol port host = if needs_brackets port host then left_bracket ∷ (escaped_percents host ++ right_bracket ∷ []) else open_host protocol host
+
+-- a host that is no address and goes without brackets is escaped as a user
+written_as_user : (protocol : Protocol) (port : Option ℕ) (host : List ℕ) → keeps_host protocol ≡ false → wants_brackets host ≡ false → is_ipv6_text host ≡ false → written_host protocol port host ≡ percent_encode USER host
+written_as_user protocol port host escapes unmarked other = rw (unmarked, escapes, other) refl
+
+-- such a host names itself
+open_host_written : (mode : Mode) (v : Location) (host : List ℕ) → ¬ (mode ≡ strict) → keeps_host v.scheme ≡ false → 0 < length host → normal_host host ≡ host → wants_brackets host ≡ false → is_ipv6_text host ≡ false → IsUtf8 host → IfSome v.port (λ p. p < 65536) → WritesHost mode v host host
+open_host_written mode v host other escapes some normal unmarked no_address utf8 small =
+    let text : written_host v.scheme v.port host ≡ percent_encode USER host = written_as_user v.scheme v.port host escapes unmarked no_address in
+    let decoded = decode_encode_utf8 USER host (user_has percent_sign (lit< tt) refl) utf8 in
+    let piece : IsHostPiece (written_host v.scheme v.port host ++ port_part v.port) = rw text (pieces_joined (percent_encode USER host) (port_part v.port) (user_piece host) (port_piece v.port small)) in
+    record {
+      no_at = piece.no_at;
+      names = rw text (plain_named mode (percent_encode USER host) host v.port other (user_plain host some) (text_read mode (percent_encode USER host) host other decoded utf8 normal) small);
+      piece = piece.piece;
+    }
+
+-- a text without colons is no address
+no_colon_address : (t : List ℕ) → FreeOf colon t → is_ipv6_text t ≡ false
+no_colon_address t free =
+    false_from_ne_true (is_ipv6_text t) (λ h.
+    let (x, y, z, is) = address_two_colons t (ipv6_text_from t h) in
+    not_free colon x (y ++ colon ∷ z) (subst (λ s. FreeOf colon s) is free))
+
+-- nor is a text with a bracket in front
+bracket_no_address : (t : List ℕ) → is_ipv6_text (left_bracket ∷ t) ≡ false
+bracket_no_address t =
+    false_from_ne_true (is_ipv6_text (left_bracket ∷ t)) (λ h.
+    true≢false (free_head_tail left_bracket left_bracket t (address_free left_bracket (left_bracket ∷ t) refl (ipv6_text_from (left_bracket ∷ t) h))).0)
+
+-- a settled name names itself
+name_written : (mode : Mode) (v : Location) (host : List ℕ) → ¬ (mode ≡ strict) → keeps_host v.scheme ≡ false → IsNormalName host → IsUtf8 host → IfSome v.port (λ p. p < 65536) → WritesHost mode v host host
+name_written mode v host other escapes h utf8 small =
+    let free = h.unbracketed.no_colon in
+    let unmarked : wants_brackets host ≡ false = rw free refl in
+    open_host_written mode v host other escapes h.unbracketed.nonempty h.normal unmarked (no_colon_address host free) utf8 small
+
+-- the host of a settled URL of Git's own protocol or of another scheme names itself
+pub bracketed_host_written : (mode : Mode) (v : Location) (host : List ℕ) → ¬ (mode ≡ strict) → keeps_host v.scheme ≡ false → IsBracketedHost host → IsUtf8 host → IfSome v.port (λ p. p < 65536) → WritesHost mode v host host
+bracketed_host_written mode v host other escapes (inl name) utf8 small = name_written mode v host other escapes name utf8 small
+bracketed_host_written mode v host other escapes (inr (a, address, e)) utf8 small =
+    let inside = a ++ right_bracket ∷ [] in
+    let bracketed : WritesHost mode v (left_bracket ∷ inside) (left_bracket ∷ inside) =
+    open_host_written mode v (left_bracket ∷ inside) other escapes (omega arith) refl (and-false _) (bracket_no_address inside) (subst IsUtf8 e utf8) small in
+    subst (λ h. WritesHost mode v h h) (sym e) bracketed
+
+-- ---- Secure Shell
+
+-- a host without an opening bracket that does not end in its only colon is taken as it is
+peels_itself : (host : List ℕ) → FreeOf left_bracket host → ((front : List ℕ) → FreeOf colon front → ¬ (host ≡ front ++ colon ∷ [])) → Peels host host
+peels_itself host free no_end =
+    Peels.same
+    (λ (x, e). true≢false (free_head_tail left_bracket left_bracket (x ++ right_bracket ∷ []) (subst (λ t. FreeOf left_bracket t) e free)).0)
+    (λ (x, e). true≢false (free_head_tail left_bracket left_bracket (x ++ right_bracket ∷ (colon ∷ [])) (subst (λ t. FreeOf left_bracket t) e free)).0)
+    (λ (front, no_colon, blank, e). no_end front no_colon e)
+    refl
+
+-- no colon stands behind the only colon of a text
+nothing_behind : (front x rest : List ℕ) → FreeOf colon front → front ++ colon ∷ [] ≡ x ++ colon ∷ rest → FreeOf colon rest
+nothing_behind front x rest free e = elim (free_or_cut colon x) [
+  | inl none ↦ subst (λ t. FreeOf colon t) (cut_unique colon front x [] rest free none e).1 refl
+  | inr (y, z, none, is) ↦
+      let behind : [] ≡ z ++ colon ∷ rest = (cut_unique colon front y [] (z ++ colon ∷ rest) free none (e ∙ ap (λ t. t ++ colon ∷ rest) is ∙ append_assoc y (colon ∷ z) (colon ∷ rest))).1 in
+      absurd (not_free colon z rest (subst (λ t. FreeOf colon t) behind refl))
+]
+
+-- an address does not end in its only colon
+address_colons : (a front : List ℕ) → IsIpv6Text a → FreeOf colon front → ¬ (a ≡ front ++ colon ∷ [])
+address_colons a front h free e =
+    let (x, y, z, is) = address_two_colons a h in
+    not_free colon y z (nothing_behind front x (y ++ colon ∷ z) free (sym e ∙ is))
+
+-- an address wants brackets
+address_wants : (a : List ℕ) → IsIpv6Text a → wants_brackets a ≡ true
+address_wants a h =
+    let closed = free_begins left_bracket a (address_free left_bracket a refl h) in
+    let colons : has_colon a ≡ true = true_from_ne_false (has_colon a) (λ none.
+    let (x, y, z, is) = address_two_colons a h in
+    not_free colon x (y ++ colon ∷ z) (subst (λ s. FreeOf colon s) is none)) in
+    rw (colons, closed) refl
+
+-- a byte of an address may stand between brackets
+address_bracketed : (b : ℕ) → is_address_byte b ≡ true → is_bracketed_byte b ≡ true
+address_bracketed b h = rw h refl
+
+-- and it is not escaped in a password
+address_byte_kept : (b : ℕ) → is_address_byte b ≡ true → is_password_escaped b ≡ false
+address_byte_kept b h = grind (arith, nat_tests)
+
+-- an address escaped as a password stays
+password_kept : (t : List ℕ) → list_all is_address_byte t ≡ true → percent_encode PASSWORD t ≡ t
+password_kept [] h = percent_encode-nil PASSWORD
+password_kept (b ∷ t) h =
+    let (first, rest) = and_parts (is_address_byte b) (list_all is_address_byte t) h in
+    let ascii = bracketed_byte_ascii b (address_bracketed b first) in
+    encode_byte_kept PASSWORD b t ascii (password_holds b ascii ∙ address_byte_kept b first) ∙ ap (λ x. b ∷ x) (password_kept t rest)
+
+-- an address is a piece of an authority
+address_piece : (a : List ℕ) → IsIpv6Text a → IsHostPiece a
+address_piece a h = bracketed_piece a (class_wider is_address_byte is_bracketed_byte a address_bracketed (address_bytes a h))
+
+-- without a port it is written as it is
+address_alone : (protocol : Protocol) (a : List ℕ) → keeps_host protocol ≡ false → IsIpv6Text a → written_host protocol None a ≡ a
+address_alone protocol a escapes h =
+    let none : has_percent a ≡ false = address_free percent_sign a refl h in
+    let wants = address_wants a h in
+    let address = ipv6_text_to a h in
+    rw (none, wants, escapes, address) (password_kept a (address_bytes a h))
+
+-- with one it is written in brackets
+address_in_brackets : (protocol : Protocol) (p : ℕ) (a : List ℕ) → IsIpv6Text a → written_host protocol (Some p) a ≡ left_bracket ∷ (a ++ right_bracket ∷ [])
+address_in_brackets protocol p a h =
+    let wants = address_wants a h in
+    let same = escaped_percents_kept a (address_free percent_sign a refl h) in
+    rw (wants, same) refl
+
+-- the text is a piece of an authority and names a port and a host out of which Secure Shell takes the given one
+record NamesPeeled (text : List ℕ) (host : List ℕ) (port : Option ℕ) : Type 0 where
+  named : List ℕ
+  names : Names bare text (Some named) port
+  piece : IsHostPiece text
+  peels : Peels named host
+
+-- a settled address without a port is such a text for itself
+address_named_alone : (a : List ℕ) → IsNormalAddress a → NamesPeeled a a None
+address_named_alone a h = record {
+  named = a;
+  names = Names.unbracketed (refl, inl h.address) (ap Some (sym h.lower)) refl;
+  piece = address_piece a h.address;
+  peels = peels_itself a (address_free left_bracket a refl h.address) (λ front free. address_colons a front h.address free);
+}
+
+-- and so it is in brackets, with one
+address_named_port : (a : List ℕ) (p : ℕ) → IsNormalAddress a → IsUtf8 a → p < 65536 → NamesPeeled ((left_bracket ∷ (a ++ right_bracket ∷ [])) ++ port_part (Some p)) a (Some p)
+address_named_port a p h utf8 small =
+    let decoded : percent_decode a ≡ a = decode_kept a (address_free percent_sign a refl h.address) in
+    let inner : Bracketed a a = Bracketed.literal a (Literal.address h.address (sym h.lower)) (sym decoded) utf8 in
+    let inside : list_all is_bracketed_byte (a ++ right_bracket ∷ []) ≡ true =
+    list_all-append is_bracketed_byte a (right_bracket ∷ []) ∙ and_from _ _ (class_wider is_address_byte is_bracketed_byte a address_bracketed (address_bytes a h.address)) refl in
+    record {
+      named = left_bracket ∷ (a ++ right_bracket ∷ []);
+      names = Names.bracketed_port a a (decimal p) p (address_free right_bracket a refl h.address) inner (number_written bare p small tt) (ap (λ t. left_bracket ∷ t) (append_assoc a (right_bracket ∷ []) (colon ∷ decimal p))) refl refl;
+      piece = pieces_joined (left_bracket ∷ (a ++ right_bracket ∷ [])) (port_part (Some p)) (bracketed_piece (left_bracket ∷ (a ++ right_bracket ∷ [])) inside) (port_piece (Some p) small);
+      peels = Peels.brackets refl;
+    }
+
+-- so is a settled address as it is written
+address_named : (protocol : Protocol) (a : List ℕ) (port : Option ℕ) → keeps_host protocol ≡ false → IsNormalAddress a → IsUtf8 a → IfSome port (λ p. p < 65536) → NamesPeeled (written_host protocol port a ++ port_part port) a port
+address_named protocol a None escapes h utf8 small =
+    let text = address_alone protocol a escapes h.address in
+    subst (λ t. NamesPeeled t a None) (sym (append-nil (written_host protocol None a) ∙ text)) (address_named_alone a h)
+address_named protocol a (Some p) escapes h utf8 small =
+    let text = address_in_brackets protocol p a h.address in
+    subst (λ t. NamesPeeled (t ++ port_part (Some p)) a (Some p)) (sym text) (address_named_port a p h utf8 small)
+
+-- the host of a settled URL of Secure Shell is taken out of the host that its writing names
+pub bare_host_written : (v : Location) (host : List ℕ) → v.scheme ≡ ssh → IsBareHost host → IsUtf8 host → IfSome v.port (λ p. p < 65536) → (named : List ℕ) × WritesHost bare v host named × Peels named host
+bare_host_written v host is (inl name) utf8 small = (
+  host,
+  name_written bare v host bare_not_strict (ap keeps_host is) name utf8 small,
+  peels_itself host name.unbracketed.no_left_bracket (λ front free e. not_free colon front [] (subst (λ t. FreeOf colon t) e name.unbracketed.no_colon)),
+)
+bare_host_written v host is (inr address) utf8 small =
+    let h = address_named v.scheme host v.port (ap keeps_host is) address utf8 small in
+    (h.named, record { no_at = h.piece.no_at; names = h.names; piece = h.piece.piece }, h.peels)
