@@ -16,6 +16,16 @@ use Rattle.gix_url.proofs.SettledLemmas.{written_web, written_git, written_secur
 use Rattle.gix_url.proofs.WrittenUrlLemmas.{IsUrlProtocol, authority_with_host, authority_without_host, url_again}
 use Rattle.gix_url.proofs.WrittenPathLemmas.{web_path_written, transport_path_written, other_path_written}
 use Rattle.gix_url.proofs.WrittenWebHostLemmas.{web_host_written}
+use Rattle.gix_url.proofs.WrittenHostLemmas.{bracketed_host_written, bare_host_written}
+use Rattle.gix_url.proofs.WrittenScpLemmas.{scp_again}
+use Rattle.gix_url.proofs.FileLemmas.{file_again}
+use Rattle.gix_url.proofs.KeptLemmas.{local_again, ext_again, helper_again}
+use Rattle.gix_url.specs.Text.{keeps_host}
+use Rattle.std.specs.Prelude.{IfSome, IsUtf8}
+use Rattle.gix_url.specs.Settled.{IsBracketedHost}
+use Rattle.gix_url.specs.Authority.{Authority}
+use Rattle.gix_url.specs.WrittenPieces.{WritesPath, IsAuthorityPiece}
+use Rattle.gix_url.proofs.WrittenUrlLemmas.{authority_text}
 
 -- the path of a settled URL
 path_of : (v : Location) → IsSettledUrl v → HasUrlPath v
@@ -44,15 +54,37 @@ web_again v (inr e) is h =
     let writes = web_host_written v host (inr e) web h.port is.port in
     url_again v https (Some host) e https_protocol h.common (authority_with_host strict v host host h.common is there writes) (λ need. refl) there (web_path_written v (inr e) h.path (path_of v h.common)) (written_web v (inr e)) (written_web (respelled v) (inr e)) (λ c. record { common = c; host = (host, there, web); port = h.port; path = h.path })
 
+bare_not_strict : ¬ (bare ≡ strict)
+bare_not_strict e = cc
+
+loose_not_strict : ¬ (loose ≡ strict)
+loose_not_strict e = cc
+
 -- ---- Secure Shell
 
 ssh_protocol : IsUrlProtocol ssh
 ssh_protocol = record { scheme_text = refl; not_file = refl; protocol = refl; not_ext = λ e. not_kept ssh e refl }
 
+-- a settled URL of Secure Shell comes back
+secure_again : (v : Location) → v.scheme ≡ ssh → IsValue v → IsSettledSecure v → (back : ComesBack v) × IsSettled back.reread
+secure_again v e is h =
+    let (host, there, unbracketed) = h.host in
+    let (named, writes, peels) = bare_host_written v host e unbracketed (subst (λ o. IfSome o IsUtf8) there is.host) is.port in
+    let (path, homed, raw) = transport_path_written v (inl e) h.path (path_of v h.common) h.raw in
+    url_again v ssh (Some named) e ssh_protocol h.common (authority_with_host bare v host named h.common is there writes) (λ need. refl) (host, peels, there) path (written_secure v e h.path) (written_secure (respelled v) e homed) (λ c. inr record { common = c; host = (host, there, unbracketed); path = homed; raw = raw })
+
 -- ---- Git's own protocol
 
 git_protocol : IsUrlProtocol git
 git_protocol = record { scheme_text = refl; not_file = refl; protocol = refl; not_ext = λ e. not_kept git e refl }
+
+-- a settled URL of Git's own protocol comes back
+git_again : (v : Location) → v.scheme ≡ git → IsValue v → IsSettledGit v → (back : ComesBack v) × IsSettled back.reread
+git_again v e is h =
+    let (host, there, bracketed) = h.host in
+    let writes = bracketed_host_written bare v host bare_not_strict (ap keeps_host e) bracketed (subst (λ o. IfSome o IsUtf8) there is.host) is.port in
+    let (path, homed, raw) = transport_path_written v (inr e) h.path (path_of v h.common) h.raw in
+    url_again v git (Some host) e git_protocol h.common (authority_with_host bare v host host h.common is there writes) (λ need. refl) there path (written_git v e) (written_git (respelled v) e) (λ c. record { common = c; host = (host, there, bracketed); path = homed; raw = raw })
 
 -- ---- other schemes
 
@@ -95,3 +127,38 @@ helper_url_protocol name spelled h = record {
   protocol = sym (other_protocol name h);
   not_ext = λ e. not_kept (helper_url name) e refl;
 }
+
+-- a settled URL of another scheme, with its host or without one
+other_by : (name : List ℕ) (v : Location) (host : Option (List ℕ)) → v.scheme ≡ helper_url name → v.host ≡ host → IsValue v → IsSettledHelperUrl name v → (back : ComesBack v) × IsSettled back.reread
+other_by name v None e there is h =
+    let other = other_scheme name h.unknown in
+    let (path, raw) = other_path_written v name e h.path (path_of v h.common) h.raw in
+    let authority = authority_without_host (mode_of name) v h.common there in
+    let required : requires_host name ≡ true → IsSome {T = List ℕ} None = λ need. subst IsSome there (h.hosted (sym (other_hosted name other) ∙ need)) in
+    url_again v (helper_url name) None e (helper_url_protocol name h.scheme_text other) h.common authority required there (subst (λ web. WritesPath web v) (sym other.not_web) path) (written_other v name e h.scheme_text) (written_other (respelled v) name e h.scheme_text) (λ c. record { common = c; scheme_text = h.scheme_text; unknown = h.unknown; host = h.host; hosted = h.hosted; path = h.path; raw = raw })
+other_by name v (Some host) e there is h =
+    let other = other_scheme name h.unknown in
+    let bracketed = subst (λ o. IfSome o IsBracketedHost) there h.host in
+    let writes = bracketed_host_written loose v host loose_not_strict (ap keeps_host e) bracketed (subst (λ o. IfSome o IsUtf8) there is.host) is.port in
+    let (path, raw) = other_path_written v name e h.path (path_of v h.common) h.raw in
+    let authority = subst (λ mode. Authority mode (authority_text v) v.user v.password (Some host) v.port × IsAuthorityPiece (authority_text v)) (sym (other_mode name other)) (authority_with_host loose v host host h.common is there writes) in
+    url_again v (helper_url name) (Some host) e (helper_url_protocol name h.scheme_text other) h.common authority (λ need. refl) there (subst (λ web. WritesPath web v) (sym other.not_web) path) (written_other v name e h.scheme_text) (written_other (respelled v) name e h.scheme_text) (λ c. record { common = c; scheme_text = h.scheme_text; unknown = h.unknown; host = h.host; hosted = h.hosted; path = h.path; raw = raw })
+
+-- ---- all kinds
+
+-- by protocol
+again_by : (p : Protocol) (v : Location) → v.scheme ≡ p → IsValue v → IsSettledBy p v → (back : ComesBack v) × IsSettled back.reread
+again_by file v e is (inl h) = local_again v e h
+again_by file v e is (inr h) = file_again v e is h
+again_by ssh v e is (inl h) = scp_again v e is h
+again_by ssh v e is (inr h) = secure_again v e is h
+again_by git v e is h = git_again v e is h
+again_by http v e is h = web_again v (inl e) is h
+again_by https v e is h = web_again v (inr e) is h
+again_by ext v e is h = ext_again v e h
+again_by (helper name) v e is h = helper_again name v e h.1 h.0
+again_by (helper_url name) v e is h = other_by name v v.host e refl is h
+
+-- a settled location comes back as a settled one
+pub settled_again : (v : Location) → IsValue v → IsSettled v → (back : ComesBack v) × IsSettled back.reread
+settled_again v is h = again_by v.scheme v refl is h

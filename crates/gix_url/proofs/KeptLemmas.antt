@@ -218,27 +218,27 @@ other_helper : (name : List ℕ) → bytes_eq name (codes "ext") ≡ false → h
 other_helper name other = rw other refl
 
 -- a settled remote helper comes back
-helper_back : (name : List ℕ) (v : Location) → v.scheme ≡ helper name → bytes_eq name (codes "ext") ≡ false → IsSettledHelper name v → (back : ComesBack v) × IsSettled back.reread
-helper_back name v scheme other h =
+pub helper_again : (name : List ℕ) (v : Location) → v.scheme ≡ helper name → bytes_eq name (codes "ext") ≡ false → IsSettledHelper name v → (back : ComesBack v) × IsSettled back.reread
+helper_again name v scheme other h =
     let named : helper_protocol name ≡ helper name = other_helper name other in
     kept_back v (helper name) (name ++ colon ∷ (colon ∷ v.path)) (kept_value v (helper name) scheme h.flagged h.alone h.no_host) (λ spelling. helper_written name v.path spelling h.named) (subst (λ p. Spells (name ++ colon ∷ (colon ∷ v.path)) (path_alone p true v.path)) named (helper_spelled name v.path h.named)) (subst (λ p. IsSettled (path_alone p true v.path)) named (helper_settled name v.path h.named))
 
 -- so does one of `ext`
-ext_back : (v : Location) → v.scheme ≡ ext → IsSettledHelper (codes "ext") v → (back : ComesBack v) × IsSettled back.reread
-ext_back v scheme h =
+pub ext_again : (v : Location) → v.scheme ≡ ext → IsSettledHelper (codes "ext") v → (back : ComesBack v) × IsSettled back.reread
+ext_again v scheme h =
     kept_back v ext (codes "ext::" ++ v.path) (kept_value v ext scheme h.flagged h.alone h.no_host) (λ spelling. refl) (helper_spelled (codes "ext") v.path refl) (helper_settled (codes "ext") v.path refl)
 
 -- and a settled local path
-local_back : (v : Location) → v.scheme ≡ file → IsSettledLocal v → (back : ComesBack v) × IsSettled back.reread
-local_back v scheme h =
+pub local_again : (v : Location) → v.scheme ≡ file → IsSettledLocal v → (back : ComesBack v) × IsSettled back.reread
+local_again v scheme h =
     kept_back v file v.path (kept_value v file scheme h.flagged h.alone h.no_host) (local_written v.path) (Spells.local_path record { nonempty = h.nonempty; neither = h.neither; no_scp = h.no_scp; value = refl }) (local_settled v.path h.nonempty h.neither h.no_scp)
 
 -- by protocol
 back_by : (protocol : Protocol) (v : Location) → v.scheme ≡ protocol → keeps_bytes protocol v.flag ≡ true → IsSettledBy protocol v → (back : ComesBack v) × IsSettled back.reread
-back_by file v scheme keeps (inl h) = local_back v scheme h
+back_by file v scheme keeps (inl h) = local_again v scheme h
 back_by file v scheme keeps (inr h) = absurd (both_ways v.flag h.unflagged keeps)
-back_by ext v scheme keeps h = ext_back v scheme h
-back_by (helper name) v scheme keeps h = helper_back name v scheme h.1 h.0
+back_by ext v scheme keeps h = ext_again v scheme h
+back_by (helper name) v scheme keeps h = helper_again name v scheme h.1 h.0
 back_by git v scheme keeps h = absurd (false≢true keeps)
 back_by ssh v scheme keeps h = absurd (false≢true keeps)
 back_by http v scheme keeps h = absurd (false≢true keeps)
