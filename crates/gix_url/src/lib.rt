@@ -33,6 +33,7 @@ mod settled;
 mod simple_url;
 pub mod testing;
 mod url_location;
+mod value_law;
 mod writer;
 
 pub use error::{Error, UrlFault, WriteError, WriteFault};

@@ -1,0 +1,47 @@
+//! Every location is a value of which the laws speak.
+//!
+//! It uses `location`. The functions look at fields and change nothing, and their contracts are what the types of those
+//! fields say: a text is UTF-8, a byte is below 256, and a port is one of 65,536 numbers.
+
+ghost use Rattle.std.specs.Prelude.{◌<◌, All, IfSome, option_map};
+ghost use Rattle.bstr.specs.Owned.{bstring_bytes};
+ghost use Rattle.gix_url.specs.Settled.{IsValue};
+
+use crate::location::Url;
+use bstr::BString;
+
+/// Every location is a value of which the laws speak: its texts are UTF-8, its bytes are bytes and its port is one.
+///
+/// Users of `law_separation` meet that premise by this law, whatever they put into the public fields.
+pub fn law_value(url: &Url)
+    ensures value { IsValue url.now }
+{
+    law_port(url.port);
+    law_bytes(url.path.as_bytes());
+    law_spelling(&url.spelling);
+}
+
+/// A port is below 65,536.
+fn law_port(port: Option<u16>)
+    ensures { IfSome port (λ p. p < 65536) }
+{
+    match port {
+        None => {}
+        Some(_) => {}
+    }
+}
+
+/// A byte is below 256.
+fn law_bytes(bytes: &[u8])
+    ensures { All (λ b. b < 256) bytes.now }
+{}
+
+/// So is each byte of a spelling.
+fn law_spelling(spelling: &Option<BString>)
+    ensures { IfSome (option_map bstring_bytes spelling.now) (λ s. All (λ b. b < 256) s) }
+{
+    match spelling {
+        None => {}
+        Some(bytes) => law_bytes(bytes.as_bytes()),
+    }
+}
