@@ -1,16 +1,18 @@
 -- Settled locations come back, of every kind.
-use Rattle.std.proofs.Common.{◌≡◌, ℕ, Bool, true, false, inl, inr, List, Option, Some, None, refl, sym, ap, subst, ◌∙◌}
+use Rattle.std.proofs.Common.{◌≡◌, ℕ, Bool, true, false, inl, inr, List, Option, Some, None, Ok, refl, sym, ap, subst, ◌∙◌}
 use Rattle.std.proofs.lemmas.Bool.{both_ways, false≢true, or_parts, or_from, cond-false}
 use Rattle.std.specs.Prelude.{codes, bytes_eq, ◌||◌, IsSome}
 use Rattle.gix_url.specs.Schemes.{is_ssh_scheme, is_web_scheme, is_known_scheme, protocol_of, mode_of, requires_host}
 use Rattle.gix_url.specs.Bytes.{is_scheme_text}
 use Rattle.gix_url.specs.Hosts.{Mode}
-use Rattle.gix_url.specs.Value.{Protocol, Location}
+use Rattle.gix_url.specs.Value.{Protocol, Location, fields}
+use Rattle.gix_url.specs.Grammar.{Spells}
+use Rattle.gix_url.proofs.UniqueLemmas.{spells_unique}
 use Rattle.gix_url.specs.Value.Protocol.{file, git, ssh, http, https, ext, helper, helper_url}
 use Rattle.gix_url.specs.Hosts.Mode.{strict, bare, loose}
 use Rattle.gix_url.specs.Settled.{is_ftp, IsValue, IsSettledUrl, IsSettledWeb, IsSettledSecure, IsSettledGit, IsSettledHelperUrl, IsSettledBy, IsSettled}
 use Rattle.gix_url.specs.SettledParts.{IsWeb, HasUrlPath}
-use Rattle.gix_url.specs.Laws.{keeps_bytes, ComesBack}
+use Rattle.gix_url.specs.Laws.{keeps_bytes, ComesBack, TextDecides}
 use Rattle.gix_url.specs.WrittenPieces.{respelled}
 use Rattle.gix_url.proofs.SettledLemmas.{written_web, written_git, written_secure, written_other}
 use Rattle.gix_url.proofs.WrittenUrlLemmas.{IsUrlProtocol, authority_with_host, authority_without_host, url_again}
@@ -162,3 +164,13 @@ again_by (helper_url name) v e is h = other_by name v v.host e refl is h
 -- a settled location comes back as a settled one
 pub settled_again : (v : Location) → IsValue v → IsSettled v → (back : ComesBack v) × IsSettled back.reread
 settled_again v is h = again_by v.scheme v refl is h
+
+-- settled locations with one text have the same fields
+pub text_decides : TextDecides
+text_decides v w is_v is_w settled_v settled_w same =
+    let (back, again) = settled_again v is_v settled_v in
+    let (other, also) = settled_again w is_w settled_w in
+    let both : Ok back.written ≡ Ok other.written = sym back.has_text ∙ same ∙ other.has_text in
+    let one : back.written ≡ other.written = cc in
+    let read : back.reread ≡ other.reread = spells_unique other.written back.reread other.reread (subst (λ t. Spells t back.reread) one back.spelled) other.spelled in
+    sym back.same_fields ∙ ap (λ l. fields l) read ∙ other.same_fields

@@ -232,19 +232,3 @@ ext_again v scheme h =
 pub local_again : (v : Location) → v.scheme ≡ file → IsSettledLocal v → (back : ComesBack v) × IsSettled back.reread
 local_again v scheme h =
     kept_back v file v.path (kept_value v file scheme h.flagged h.alone h.no_host) (local_written v.path) (Spells.local_path record { nonempty = h.nonempty; neither = h.neither; no_scp = h.no_scp; value = refl }) (local_settled v.path h.nonempty h.neither h.no_scp)
-
--- by protocol
-back_by : (protocol : Protocol) (v : Location) → v.scheme ≡ protocol → keeps_bytes protocol v.flag ≡ true → IsSettledBy protocol v → (back : ComesBack v) × IsSettled back.reread
-back_by file v scheme keeps (inl h) = local_again v scheme h
-back_by file v scheme keeps (inr h) = absurd (both_ways v.flag h.unflagged keeps)
-back_by ext v scheme keeps h = ext_again v scheme h
-back_by (helper name) v scheme keeps h = helper_again name v scheme h.1 h.0
-back_by git v scheme keeps h = absurd (false≢true keeps)
-back_by ssh v scheme keeps h = absurd (false≢true keeps)
-back_by http v scheme keeps h = absurd (false≢true keeps)
-back_by https v scheme keeps h = absurd (false≢true keeps)
-back_by (helper_url name) v scheme keeps h = absurd (false≢true keeps)
-
--- a settled location that keeps its bytes comes back as a settled one
-pub kept_settled_again : (v : Location) → KeepsBytes v → IsSettled v → (back : ComesBack v) × IsSettled back.reread
-kept_settled_again v keeps h = back_by v.scheme v refl keeps h

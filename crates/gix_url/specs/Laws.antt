@@ -1,16 +1,75 @@
 -- The laws of the library, over the definitions alone: one definition for each.
-use Rattle.std.specs.Prelude.{◌≡◌, ℕ, ◌<◌, Bool, true, false, ◌⊎◌, List, length, Ok}
+use Rattle.std.specs.Prelude.{◌≡◌, ℕ, ◌<◌, Bool, true, false, ◌⊎◌, ◌↔◌, List, [], ◌∷◌, ◌++◌, length, Some, Ok}
 use Rattle.gix_url.specs.Value.{Protocol, Location, fields, path_alone}
 use Rattle.gix_url.specs.Value.Protocol.{file, git, ssh, http, https, ext, helper, helper_url}
+use Rattle.gix_url.specs.Bytes.{colon, left_bracket, begins_with}
+use Rattle.gix_url.specs.Escapes.{has_percent}
 use Rattle.gix_url.specs.Grammar.{IsNeither, ScpShape, AddressedShape, SpellsHelper, SpellsUrl, SpellsFile, SpellsScpBefore, SpellsLocal, Spells}
-use Rattle.gix_url.specs.Text.{text}
-use Rattle.gix_url.specs.Settled.{IsSettled}
+use Rattle.gix_url.specs.Text.{has_colon, text}
+use Rattle.gix_url.specs.Settled.{IsValue, HasFittingText, IsSettled}
+use Rattle.gix_url.specs.SettledParts.{IsWeb}
+use Rattle.gix_url.specs.Components.{Components, PartsOf}
+use Rattle.gix_url.specs.Records.{migrated}
 
 -- ---- separation
 
 -- no bytes spell two locations
 abbrev pub Unique : Type 0
 Unique = (b : List ℕ) (v w : Location) → Spells b v → Spells b w → v ≡ w
+
+-- the location has a text, and what that text spells has the same fields and the same text
+pub record ComesBack (v : Location) : Type 0 where
+  pub written : List ℕ
+  pub reread : Location
+  pub has_text : text v ≡ Ok written
+  pub spelled : Spells written reread
+  pub same_fields : fields reread ≡ fields v
+  pub same_text : text reread ≡ Ok written
+
+-- a settled location comes back as a settled one
+abbrev pub SettledAgain : Type 0
+SettledAgain = (v : Location) → IsValue v → IsSettled v → (back : ComesBack v) × IsSettled back.reread
+
+-- settled locations with one text have the same fields
+abbrev pub TextDecides : Type 0
+TextDecides = (v w : Location) → IsValue v → IsValue w → IsSettled v → IsSettled w → text v ≡ text w → fields v ≡ fields w
+
+-- what is read of a settled location of HTTP has the same components
+abbrev pub SameComponents : Type 0
+SameComponents = (v w : Location) (t : List ℕ) → IsValue v → IsWeb v → IsSettled v → text v ≡ Ok t → Spells t w
+    → (components : Components) → PartsOf w components ↔ PartsOf v components
+
+-- ---- closure
+
+-- the protocols of which all that is read is settled, but for corners
+abbrev pub is_closed : Protocol → Bool
+is_closed file = true
+is_closed http = true
+is_closed https = true
+is_closed ext = true
+is_closed (helper name) = true
+is_closed git = false
+is_closed ssh = false
+is_closed (helper_url name) = false
+
+-- the corners: hosts that would be written in brackets, and texts that are too long to be read again
+pub data IsCorner (v : Location) : Type 0 where
+  -- a host of a file URL with `:` and `%` that doesn't begin with `[`
+  file_host : (host : List ℕ) → v.scheme ≡ file → v.host ≡ Some host → begins_with left_bracket host ≡ false
+      → has_colon host ≡ true → has_percent host ≡ true → IsCorner v
+  -- a host of HTTP with `%` and a `:` at its end that doesn't begin with `[`
+  web_host : (front : List ℕ) → IsWeb v → v.host ≡ Some (front ++ colon ∷ []) → begins_with left_bracket (front ++ colon ∷ []) ≡ false
+      → has_percent front ≡ true → IsCorner v
+  -- a location of HTTP whose text is too long
+  web_length : IsWeb v → ¬ HasFittingText v → IsCorner v
+
+-- what is spelled is settled, or stands in a corner
+abbrev pub Closed : Type 0
+Closed = (b : List ℕ) (v : Location) → Spells b v → is_closed v.scheme ≡ true → IsSettled v ⊎ IsCorner v
+
+-- what comes back is settled, and nothing else: of values whose spelling isn't their path
+abbrev pub Exact : Type 0
+Exact = (v : Location) → IsValue v → is_closed v.scheme ≡ true → ¬ (v.spelling ≡ Some v.path) → IsSettled v ↔ ComesBack v
 
 -- ---- kinds that keep every byte
 
@@ -29,30 +88,19 @@ keeps_bytes (helper_url name) flag = false
 abbrev pub KeepsBytes : Location → Type 0
 KeepsBytes v = keeps_bytes v.scheme v.flag ≡ true
 
--- the location has a text, and what that text spells has the same fields and the same text
-pub record ComesBack (v : Location) : Type 0 where
-  pub written : List ℕ
-  pub reread : Location
-  pub has_text : text v ≡ Ok written
-  pub spelled : Spells written reread
-  pub same_fields : fields reread ≡ fields v
-  pub same_text : text reread ≡ Ok written
-
--- a settled location comes back as a settled one
-abbrev pub SettledAgain : Type 0
-SettledAgain = (v : Location) → KeepsBytes v → IsSettled v → (back : ComesBack v) × IsSettled back.reread
-
 -- what is not settled has the fields of nothing that is spelled
-abbrev pub Exact : Type 0
-Exact = (v : Location) → KeepsBytes v → (b : List ℕ) (w : Location) → Spells b w → fields w ≡ fields v → IsSettled v
-
--- what is spelled is settled
-abbrev pub Closed : Type 0
-Closed = (b : List ℕ) (v : Location) → Spells b v → KeepsBytes v → IsSettled v
+abbrev pub ExactByFields : Type 0
+ExactByFields = (v : Location) → KeepsBytes v → (b : List ℕ) (w : Location) → Spells b w → fields w ≡ fields v → IsSettled v
 
 -- what a remote helper's form or a local path spells is settled, and is written as the bytes that it was read from
 abbrev pub Unchanged : Type 0
 Unchanged = (b : List ℕ) (v : Location) → SpellsHelper b v ⊎ SpellsLocal b v → IsSettled v × (text v ≡ Ok b)
+
+-- ---- what is read
+
+-- what is spelled has a text, and is itself when it was stored: its spelling isn't its path
+abbrev pub Writable : Type 0
+Writable = (b : List ℕ) (v : Location) → Spells b v → ((t : List ℕ) × (text v ≡ Ok t)) × ¬ (v.spelling ≡ Some v.path) × (migrated v ≡ v)
 
 -- ---- the earlier grammar
 

@@ -1,12 +1,13 @@
 -- Each law is a lemma.
 use Rattle.gix_url.proofs.UniqueLemmas.{spells_unique}
 use Rattle.gix_url.proofs.FormLemmas.{spelled_from_before, spelled_to_before}
-use Rattle.gix_url.proofs.KeptLemmas.{kept_settled_again}
+use Rattle.gix_url.proofs.AgainLemmas.{settled_again, text_decides}
 use Rattle.gix_url.proofs.laws.law_separation.Goals as goal
 
 pub returns : goal.returns
 returns c = record {
   unique = spells_unique;
-  settled_again = kept_settled_again;
+  settled_again = settled_again;
+  text_decides = text_decides;
   before = λ b v. (spelled_from_before b v, spelled_to_before b v);
 }
