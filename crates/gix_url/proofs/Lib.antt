@@ -35,3 +35,4 @@ pub mod FileLemmas
 pub mod WrittenScpLemmas
 pub mod WebClosedLemmas
 pub mod AgainLemmas
+pub mod WebExactLemmas
