@@ -56,7 +56,7 @@ http_byte_lowercase : (b : ℕ) → is_http_host_byte b ≡ true → is_http_hos
 http_byte_lowercase b h = grind (arith, nat_tests)
 
 -- a text of such bytes stays one in lower case
-http_lowercase : (bs : List ℕ) → list_all is_http_host_byte bs ≡ true → list_all is_http_host_byte (lowercase bs) ≡ true
+pub http_lowercase : (bs : List ℕ) → list_all is_http_host_byte bs ≡ true → list_all is_http_host_byte (lowercase bs) ≡ true
 http_lowercase [] h = refl
 http_lowercase (b ∷ bs) h =
     let parts = and_parts (is_http_host_byte b) (list_all is_http_host_byte bs) h in
@@ -107,7 +107,7 @@ port_not_zero : (port : Option ℕ) (number : ℕ) → port ≡ Some number → 
 port_not_zero port number is some zero = omega (arith, some, some_same number 0 (sym is ∙ zero))
 
 -- the modes are different
-strict_not_bare : ¬ (strict ≡ bare)
+pub strict_not_bare : ¬ (strict ≡ bare)
 strict_not_bare e = cc
 
 -- a host and a port that a sound piece names in HTTP are settled, but for a name with `%` and a colon behind it
@@ -135,7 +135,7 @@ web_host_closed piece host port sound (colons name not_strict other begins many 
 -- ---- what a URL of HTTP means
 
 -- the protocol is one of HTTP
-abbrev is_web_protocol : Protocol → Bool
+abbrev pub is_web_protocol : Protocol → Bool
 is_web_protocol http = true
 is_web_protocol https = true
 is_web_protocol file = false
@@ -156,11 +156,11 @@ web_scheme_by false false false false false true s h = absurd (false≢true h)
 web_scheme_by false false false false false false s h = absurd (false≢true h)
 
 -- such a scheme is one of HTTP
-web_scheme_of : (s : List ℕ) → is_web_protocol (protocol_of s) ≡ true → is_web_scheme s ≡ true
+pub web_scheme_of : (s : List ℕ) → is_web_protocol (protocol_of s) ≡ true → is_web_scheme s ≡ true
 web_scheme_of s h = web_scheme_by (is_ssh_scheme s) (bytes_eq s (codes "file")) (bytes_eq s (codes "git")) (bytes_eq s (codes "http")) (bytes_eq s (codes "https")) (bytes_eq s (codes "ext")) s h
 
 -- a location has the protocol of its URL's scheme
-means_scheme : (protocol : Protocol) (b : List ℕ) (parts : UrlParts) (v : Location) → MeansAs protocol b parts v → v.scheme ≡ protocol
+pub means_scheme : (protocol : Protocol) (b : List ℕ) (parts : UrlParts) (v : Location) → MeansAs protocol b parts v → v.scheme ≡ protocol
 means_scheme ext b parts v h = ap (λ l. l.scheme) h
 means_scheme file b parts v h = ap (λ l. l.scheme) h.value
 means_scheme git b parts v h = ap (λ l. l.scheme) h.value
@@ -171,7 +171,7 @@ means_scheme (helper name) b parts v h = ap (λ l. l.scheme) h.value
 means_scheme (helper_url name) b parts v h = ap (λ l. l.scheme) h.value
 
 -- what the parts of a URL of HTTP mean
-abbrev web_meant : Protocol → UrlParts → Location
+abbrev pub web_meant : Protocol → UrlParts → Location
 web_meant protocol parts = record {
   scheme = protocol;
   user = parts.user;
@@ -184,7 +184,7 @@ web_meant protocol parts = record {
 }
 
 -- the parts of a URL of HTTP mean that
-web_value : (protocol : Protocol) (b : List ℕ) (parts : UrlParts) (v : Location) → is_web_protocol protocol ≡ true → MeansAs protocol b parts v → v ≡ web_meant protocol parts
+pub web_value : (protocol : Protocol) (b : List ℕ) (parts : UrlParts) (v : Location) → is_web_protocol protocol ≡ true → MeansAs protocol b parts v → v ≡ web_meant protocol parts
 web_value http b parts v web h = h.value ∙ ap (λ host. record (web_meant http parts) { host = host }) h.hosted
 web_value https b parts v web h = h.value ∙ ap (λ host. record (web_meant https parts) { host = host }) h.hosted
 web_value file b parts v web h = absurd (false≢true web)
@@ -195,14 +195,14 @@ web_value (helper name) b parts v web h = absurd (false≢true web)
 web_value (helper_url name) b parts v web h = absurd (false≢true web)
 
 -- a location of HTTP has such a protocol
-web_protocol : (v : Location) → IsWeb v → is_web_protocol v.scheme ≡ true
+pub web_protocol : (v : Location) → IsWeb v → is_web_protocol v.scheme ≡ true
 web_protocol v (inl e) = ap is_web_protocol e
 web_protocol v (inr e) = ap is_web_protocol e
 
 -- ---- credentials
 
 -- a password comes with a user and isn't empty, and an empty user comes with a password
-abbrev AreCredentials : Option (List ℕ) → Option (List ℕ) → Type 0
+abbrev pub AreCredentials : Option (List ℕ) → Option (List ℕ) → Type 0
 AreCredentials user password = IfSome password (λ p. (0 < length p) × IsSome user) × (user ≡ Some [] → IsSome password)
 
 -- an empty text is none
@@ -228,7 +228,7 @@ credentials_closed text user password (with_password x y free e first second p u
     subst (λ o. AreCredentials o password) (sym beside) (subst (λ q. AreCredentials (user_beside (unless_empty (percent_decode y)) (percent_decode x)) q) (sym p) (user_with (percent_decode x) (percent_decode y)))
 
 -- so does an authority
-authority_closed : (mode : Mode) (text : List ℕ) (user password host : Option (List ℕ)) (port : Option ℕ) → Authority mode text user password host port → AreCredentials user password
+pub authority_closed : (mode : Mode) (text : List ℕ) (user password host : Option (List ℕ)) (port : Option ℕ) → Authority mode text user password host port → AreCredentials user password
 authority_closed mode text user password host port (host_alone free names u p) =
     subst (λ x. AreCredentials x password) (sym u) (subst (λ x. AreCredentials None x) (sym p) (user_without []))
 authority_closed mode text user password host port (with_user information piece free e credentials names some) =
@@ -260,7 +260,7 @@ retained_by path s true holds e = (some_same path s (sym (cond-true _ _ _ holds)
 retained_by path s false lacks e = none_is_some s (sym (cond-false _ _ _ lacks) ∙ e)
 
 -- a path of a URL of HTTP, behind a sound front, and what it means
-record IsWebPath (front path : List ℕ) : Type 0 where
+pub record IsWebPath (front path : List ℕ) : Type 0 where
   pub front_sound : is_sound front ≡ true
   pub meant_text : IsUtf8 (or_root (percent_decode path))
   pub meant_starts : begins_by (is_path_start true) (or_root (percent_decode path)) ≡ true
@@ -322,7 +322,7 @@ parts_joined : {b : List ℕ} {parts : UrlParts} → (h : SpellsParts b parts) �
 parts_joined {b} {parts} h = h.joined ∙ sym (append_assoc parts.scheme (codes "://" ++ h.authority) parts.path)
 
 -- the path of a URL of HTTP
-url_path_closed : {b : List ℕ} {parts : UrlParts} → is_web_scheme parts.scheme ≡ true → (h : SpellsParts b parts) → IsWebPath (parts.scheme ++ (codes "://" ++ h.authority)) parts.path
+pub url_path_closed : {b : List ℕ} {parts : UrlParts} → is_web_scheme parts.scheme ≡ true → (h : SpellsParts b parts) → IsWebPath (parts.scheme ++ (codes "://" ++ h.authority)) parts.path
 url_path_closed {b} {parts} web h =
     let joined = parts_joined h in
     path_closed (parts.scheme ++ (codes "://" ++ h.authority)) parts.path (subst (λ w. StartsPath w parts.path) web h.path_starts) (subst IsUtf8 joined h.text) (subst (λ t. is_sound t ≡ true) joined h.sound) (subst LacksWhiteSpace joined h.no_white_space) h.path_text

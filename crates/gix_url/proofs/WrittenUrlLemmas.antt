@@ -118,7 +118,7 @@ scheme_piece s h =
     }
 
 -- the text of a URL, cut before its path
-canonical_cut : (v : Location) → canonical_text v ≡ protocol_text v.scheme ++ (codes "://" ++ (authority_text v ++ canonical_path v))
+pub canonical_cut : (v : Location) → canonical_text v ≡ protocol_text v.scheme ++ (codes "://" ++ (authority_text v ++ canonical_path v))
 canonical_cut v =
     let information = user_information v.user v.password in
     let host = host_part v v.host in

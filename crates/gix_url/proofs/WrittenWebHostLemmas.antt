@@ -40,7 +40,7 @@ all_weaker narrow wide within (b ∷ bs) h =
     and_from _ _ (within b parts.0) (all_weaker narrow wide within bs parts.1)
 
 -- bytes of a class lack another class that shares no byte with it
-lacks_of_all : (test other : ℕ → Bool) → ((b : ℕ) → test b ≡ true → other b ≡ false) → (bs : List ℕ) → list_all test bs ≡ true → Lacks other bs
+pub lacks_of_all : (test other : ℕ → Bool) → ((b : ℕ) → test b ≡ true → other b ≡ false) → (bs : List ℕ) → list_all test bs ≡ true → Lacks other bs
 lacks_of_all test other apart [] h = refl
 lacks_of_all test other apart (b ∷ bs) h =
     let parts = and_parts (test b) (list_all test bs) h in
