@@ -37,3 +37,4 @@ pub mod WebClosedLemmas
 pub mod AgainLemmas
 pub mod WrittenHostLemmas
 pub mod WebExactLemmas
+pub mod ClosedLemmas

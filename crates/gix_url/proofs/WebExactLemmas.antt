@@ -232,7 +232,7 @@ not_web : {A : Type 0} (p q : Protocol) → p ≡ q → is_web_protocol q ≡ fa
 not_web p q e other web = absurd (both_ways _ other (sym (ap is_web_protocol e) ∙ web))
 
 -- a location of HTTP is spelled by a URL
-spelled_by_url : (t : List ℕ) (w : Location) → is_web_protocol w.scheme ≡ true → Spells t w → SpellsUrl t w
+pub spelled_by_url : (t : List ℕ) (w : Location) → is_web_protocol w.scheme ≡ true → Spells t w → SpellsUrl t w
 spelled_by_url t w web (Spells.url h) = h
 spelled_by_url t w web (Spells.file_url h) = not_web _ _ (ap (λ l. l.scheme) h.value) refl web
 spelled_by_url t w web (Spells.remote_helper h) = not_web _ _ (ap (λ l. l.scheme) h.value) (helper_no_web h.name (bytes_eq h.name (codes "ext"))) web

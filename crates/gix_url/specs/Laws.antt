@@ -59,7 +59,7 @@ pub data IsCorner (v : Location) : Type 0 where
       → has_colon host ≡ true → has_percent host ≡ true → IsCorner v
   -- a host of HTTP with `%` and a `:` at its end that doesn't begin with `[`
   web_host : (front : List ℕ) → IsWeb v → v.host ≡ Some (front ++ colon ∷ []) → begins_with left_bracket (front ++ colon ∷ []) ≡ false
-      → has_percent front ≡ true → IsCorner v
+      → has_percent (front ++ colon ∷ []) ≡ true → IsCorner v
   -- a location of HTTP whose text is too long
   web_length : IsWeb v → ¬ HasFittingText v → IsCorner v
 

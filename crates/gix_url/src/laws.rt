@@ -4,7 +4,7 @@
 //! a location, and changes nothing.) Users rely on them together with the contracts of `parse`, of the writer and of
 //! the settled test, which name the same definitions.
 
-ghost use Rattle.gix_url.specs.Laws.{ExactByFields, KeepsEarlier, SettledAgain, TextDecides, Unchanged, Unique};
+ghost use Rattle.gix_url.specs.Laws.{Closed, Exact, ExactByFields, KeepsEarlier, SettledAgain, TextDecides, Unchanged, Unique};
 
 pub use crate::value_law::law_value;
 
@@ -25,14 +25,20 @@ pub fn law_separation()
     ensures before { KeepsEarlier }
 {}
 
-/// What is read is settled, and the settled class is exact.
+/// What is read is settled, and the settled class is exact: of local files, HTTP, `ext` and remote helpers.
 ///
+/// - `closed`: a location of these kinds is settled if any bytes spell it, but for three corners: a host of a file URL
+///   with `:` and `%`, a host of HTTP with `%` and a `:` at its end (both only where it doesn't begin with `[`), and a
+///   location of HTTP whose text is too long to be read again. Who only reads meets no other unsettled one.
+/// - `exact`: such a location is settled exactly where its text is read as its public fields and written the same
+///   again, if its spelling isn't its path. So the class leaves nothing out.
 /// - `unchanged`: what bytes spell as a remote helper or a local path is settled, and its text is those bytes. Tools
 ///   that read and write lists of remotes keep such lines to the byte. (A URL of the scheme `ext` is settled too, but
 ///   is written behind `ext::`.)
-/// - `exact_by_fields`: an unsettled remote helper or local path has the public fields of nothing that any bytes spell,
-///   so no text of it can come back as it.
+/// - `exact_by_fields`: an unsettled remote helper or local path has the public fields of nothing that any bytes spell.
 pub fn law_closed()
+    ensures closed { Closed }
+    ensures exact { Exact }
     ensures unchanged { Unchanged }
     ensures exact_by_fields { ExactByFields }
 {}

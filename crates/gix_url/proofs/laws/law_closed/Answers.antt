@@ -1,6 +1,7 @@
 -- Each law is a lemma.
 use Rattle.std.proofs.Common.{inl, inr}
 use Rattle.gix_url.specs.Laws.{Unchanged}
+use Rattle.gix_url.proofs.ClosedLemmas.{closed, exact}
 use Rattle.gix_url.proofs.KeptLemmas.{helper_unchanged, local_unchanged, kept_exact}
 use Rattle.gix_url.proofs.laws.law_closed.Goals as goal
 
@@ -10,4 +11,9 @@ unchanged b v (inl h) = helper_unchanged b v h
 unchanged b v (inr h) = local_unchanged b v h
 
 pub returns : goal.returns
-returns c = record { unchanged = unchanged; exact_by_fields = kept_exact }
+returns c = record {
+  closed = closed;
+  exact = exact;
+  unchanged = unchanged;
+  exact_by_fields = kept_exact;
+}
