@@ -1,25 +1,29 @@
 -- What is read has a text, and isn't taken for a stored location of the legacy form.
-use Rattle.std.proofs.Common.{◌≡◌, ℕ, ◌<◌, Bool, true, false, ◌==◌, inl, inr, ◌⊎◌, ⊎_elim, List, [], ◌∷◌, length, Option, Some, None, Ok, IsSome, refl, sym, ap, subst, ◌∙◌, arith, codes, bytes_eq, if◌then◌else◌}
+use Rattle.std.proofs.Common.{◌≡◌, ℕ, ◌<◌, ◌≤◌, Bool, true, false, ◌==◌, ◌&&◌, inl, inr, ◌⊎◌, ⊎_elim, List, [], ◌∷◌, ◌++◌, length, Option, Some, None, Ok, IsSome, refl, sym, ap, subst, ◌∙◌, arith, codes, bytes_eq, append_assoc, if◌then◌else◌}
 use Rattle.std.specs.Option.{is_some}
-use Rattle.std.proofs.lemmas.Bool.{cond-true, cond-false, cases_Bool, or_cases, false≢true}
+use Rattle.std.proofs.lemmas.Bool.{cond-true, cond-false, cases_Bool, and_parts, or_cases, both_ways, false≢true}
 use Rattle.std.proofs.lemmas.Slice.Eq.{bytes_eq-Decides}
 use Rattle.percent_encoding.specs.Percent.{percent_decode}
+use Rattle.percent_encoding.proofs.PercentLemmas.{length-percent_decode}
 use Rattle.gix_url.specs.Value.{Protocol, Location, path_alone}
 use Rattle.gix_url.specs.Value.Protocol.{file, git, ssh, http, https, ext, helper, helper_url}
 use Rattle.gix_url.specs.Bytes.{slash, tilde, begins_with, lowercase}
 use Rattle.gix_url.specs.Cuts.{StartsPath}
+use Rattle.gix_url.specs.Escapes.{is_sound, has_percent, begins_with_digits}
 use Rattle.gix_url.specs.Hosts.{Mode}
 use Rattle.gix_url.specs.Schemes.{is_ssh_scheme, is_web_scheme, protocol_of, mode_of}
 use Rattle.gix_url.specs.Authority.{unless_empty, Authority}
 use Rattle.gix_url.specs.Authority.Authority.{host_alone, with_user}
-use Rattle.gix_url.specs.Grammar.{HostFor, UrlParts, SpellsParts, MeansByProtocol, MeansAs, SpellsUrl, SpellsScp, Spells, from_home, path_for, retained}
+use Rattle.gix_url.specs.Grammar.{HostFor, UrlParts, SpellsParts, MeansByProtocol, MeansAs, SpellsUrl, SpellsScp, Spells, from_home, or_root, path_for, retained}
 use Rattle.gix_url.specs.Text.{choice, with_host, in_form, text, canonical_text}
 use Rattle.gix_url.specs.Text.Form.{canonical_form}
-use Rattle.gix_url.proofs.EscapeLemmas.{decode_byte}
+use Rattle.gix_url.proofs.EscapeLemmas.{sound_head, sound_tail, decode_byte, decode_escape}
 use Rattle.gix_url.proofs.CutLemmas.{begins_cut}
 use Rattle.gix_url.proofs.UrlLemmas.{none_not_some}
 use Rattle.gix_url.proofs.KeptLemmas.{helper_unchanged, local_unchanged}
 use Rattle.gix_url.proofs.SettledLemmas.{host_given, not_relative, secure_choice}
+use Rattle.gix_url.proofs.RowNameLemmas.{none_is_some}
+use Rattle.gix_url.proofs.WebClosedLemmas.{retained_by}
 use Rattle.gix_url.proofs.WrittenScpLemmas.{scp_written}
 
 -- ---- a text
@@ -159,3 +163,115 @@ has_a_text b v (Spells.file_url h) = subst HasText (sym h.value) (file_there (un
 has_a_text b v (Spells.remote_helper h) = (b, (helper_unchanged b v h).1)
 has_a_text b v (Spells.scp_form h) = scp_there b v h
 has_a_text b v (Spells.local_path h) = (b, (local_unchanged b v h).1)
+
+-- ---- the spelling isn't the path
+
+-- an escape makes a decoding shorter than its spelling
+escape_shorter : (b : ℕ) (bs : List ℕ) → (b == 37) ≡ true → begins_with_digits bs ≡ true → length (percent_decode (b ∷ bs)) < length (b ∷ bs)
+escape_shorter b [] percent digits = absurd (false≢true digits)
+escape_shorter b (high ∷ []) percent digits = absurd (false≢true digits)
+escape_shorter b (high ∷ low ∷ rest) percent digits =
+    let parts = and_parts _ _ digits in
+    let whole = ap length (decode_escape b high low rest percent parts.0 parts.1) in
+    omega (arith, whole, (length-percent_decode rest).0)
+
+-- where a first byte begins an escape, two digits stand behind it
+digits_behind : (b : ℕ) (bs : List ℕ) → (b == 37) ≡ true → is_sound (b ∷ bs) ≡ true → begins_with_digits bs ≡ true
+digits_behind b bs percent sound = rw percent at (sound_head b bs sound)
+
+-- the decoding of a sound text that holds an escape is shorter than the text
+decoding_shorter : (bs : List ℕ) → is_sound bs ≡ true → has_percent bs ≡ true → length (percent_decode bs) < length bs
+decoding_shorter [] sound held = absurd (false≢true held)
+decoding_shorter (b ∷ bs) sound held = ⊎_elim
+    (λ percent. escape_shorter b bs percent (digits_behind b bs percent sound))
+    (λ other.
+    let tail : has_percent bs ≡ true = ⊎_elim (λ percent. absurd (both_ways (b == 37) other percent)) (λ e. e) (or_cases _ _ held) in
+    let rest = decoding_shorter bs (sound_tail b bs sound) tail in
+    omega (arith, ap length (decode_byte b bs other), rest))
+    (cases_Bool (b == 37))
+
+-- what stands at the end of a sound text is sound
+sound_behind : (xs ys : List ℕ) → is_sound (xs ++ ys) ≡ true → is_sound ys ≡ true
+sound_behind [] ys sound = sound
+sound_behind (x ∷ xs) ys sound = sound_behind xs ys (sound_tail x (xs ++ ys) sound)
+
+-- a path below a home folder isn't longer than it was
+from_home_short : (path : List ℕ) → length (from_home path) ≤ length path
+from_home_short [] = omega arith
+from_home_short (a ∷ []) = omega arith
+from_home_short (a ∷ b ∷ rest) = ⊎_elim
+    (λ home. let gone = ap length (cond-true _ (b ∷ rest) (a ∷ b ∷ rest) home) in omega (arith, gone))
+    (λ other. let kept = ap length (cond-false _ (b ∷ rest) (a ∷ b ∷ rest) other) in omega (arith, kept))
+    (cases_Bool (a == slash && b == tilde))
+
+-- nor is a path that is there and becomes rooted
+or_root_short : (path : List ℕ) → 0 < length path → length (or_root path) ≤ length path
+or_root_short [] some = absurd (omega (arith, some))
+or_root_short (b ∷ bs) some = omega arith
+
+-- so no protocol's path is longer than the decoding
+path_short : (protocol : Protocol) (path : List ℕ) → 0 < length path → length (path_for protocol path) ≤ length path
+path_short ssh path some = from_home_short path
+path_short git path some = from_home_short path
+path_short http path some = or_root_short path some
+path_short https path some = or_root_short path some
+path_short file path some = omega arith
+path_short ext path some = omega arith
+path_short (helper name) path some = omega arith
+path_short (helper_url name) path some = omega arith
+
+-- a text that holds an escape isn't empty
+held_nonempty : (bs : List ℕ) → has_percent bs ≡ true → 0 < length bs
+held_nonempty [] held = absurd (false≢true held)
+held_nonempty (b ∷ bs) held = omega arith
+
+-- what is retained of the spelling of a sound path isn't the path that it is read as
+retained_other : (protocol : Protocol) (path : List ℕ) → is_sound path ≡ true → ¬ (retained path ≡ Some (path_for protocol (percent_decode path)))
+retained_other protocol path sound e =
+    let meaning = path_for protocol (percent_decode path) in
+    let kept = retained_by path meaning (has_percent path) refl e in
+    let sizes = length-percent_decode path in
+    let some : 0 < length (percent_decode path) = omega (arith, held_nonempty path kept.1, sizes.1) in
+    let short = path_short protocol (percent_decode path) some in
+    let shorter = decoding_shorter path sound kept.1 in
+    omega (arith, ap length kept.0, short, shorter)
+
+-- the path of a URL is sound
+path_sound : (b : List ℕ) (parts : UrlParts) → SpellsParts b parts → is_sound parts.path ≡ true
+path_sound b parts h =
+    let front = parts.scheme ++ (codes "://" ++ h.authority) in
+    let joined = h.joined ∙ sym (append_assoc parts.scheme (codes "://" ++ h.authority) parts.path) in
+    sound_behind front parts.path (subst (λ t. is_sound t ≡ true) joined h.sound)
+
+-- the spelling isn't the path in what the parts of a URL mean
+meant_other : (protocol : Protocol) (b : List ℕ) (parts : UrlParts) (v : Location) → SpellsParts b parts → MeansByProtocol protocol parts v → ¬ (v.spelling ≡ Some v.path)
+meant_other protocol b parts v spelled h =
+    subst (λ l. ¬ (l.spelling ≡ Some l.path)) (sym h.value) (retained_other protocol parts.path (path_sound b parts spelled))
+
+-- nor where there is no spelling
+unspelled_other : (v : Location) → v.spelling ≡ None → ¬ (v.spelling ≡ Some v.path)
+unspelled_other v none e = none_is_some v.path (sym none ∙ e)
+
+-- a URL
+url_other : (protocol : Protocol) (b : List ℕ) (parts : UrlParts) (v : Location) → SpellsParts b parts → MeansAs protocol b parts v → ¬ (v.spelling ≡ Some v.path)
+url_other ext b parts v spelled h = unspelled_other v (ap (λ l. l.spelling) h)
+url_other file b parts v spelled h = meant_other file b parts v spelled h
+url_other git b parts v spelled h = meant_other git b parts v spelled h
+url_other ssh b parts v spelled h = meant_other ssh b parts v spelled h
+url_other http b parts v spelled h = meant_other http b parts v spelled h
+url_other https b parts v spelled h = meant_other https b parts v spelled h
+url_other (helper name) b parts v spelled h = meant_other (helper name) b parts v spelled h
+url_other (helper_url name) b parts v spelled h = meant_other (helper_url name) b parts v spelled h
+
+-- the scp form has no spelling
+scp_unspelled : (b : List ℕ) (v : Location) → SpellsScp b v → v.spelling ≡ None
+scp_unspelled b v (inl h) = ap (λ l. l.spelling) h.value
+scp_unspelled b v (inr h) = ap (λ l. l.spelling) h.value
+
+-- of what is spelled the spelling isn't the path
+pub spelling_other : (b : List ℕ) (v : Location) → Spells b v → ¬ (v.spelling ≡ Some v.path)
+spelling_other b v (Spells.url h) = url_other (protocol_of h.parts.scheme) b h.parts v h.spelled h.means
+spelling_other b v (Spells.file_url h) = unspelled_other v (ap (λ l. l.spelling) h.value)
+spelling_other b v (Spells.remote_helper h) = unspelled_other v (ap (λ l. l.spelling) h.value)
+spelling_other b v (Spells.scp_form h) = unspelled_other v (scp_unspelled b v h)
+spelling_other b v (Spells.local_path h) = unspelled_other v (ap (λ l. l.spelling) h.value)
