@@ -17,6 +17,8 @@ use Rattle.gix_url.specs.Authority.Authority.{host_alone, with_user}
 use Rattle.gix_url.specs.Grammar.{HostFor, UrlParts, SpellsParts, MeansByProtocol, MeansAs, SpellsUrl, SpellsScp, Spells, from_home, or_root, path_for, retained}
 use Rattle.gix_url.specs.Text.{choice, with_host, in_form, text, canonical_text}
 use Rattle.gix_url.specs.Text.Form.{canonical_form}
+use Rattle.gix_url.specs.Laws.{Writable}
+use Rattle.gix_url.specs.Records.{migrated_by, migrated}
 use Rattle.gix_url.proofs.EscapeLemmas.{sound_head, sound_tail, decode_byte, decode_escape}
 use Rattle.gix_url.proofs.CutLemmas.{begins_cut}
 use Rattle.gix_url.proofs.UrlLemmas.{none_not_some}
@@ -69,7 +71,7 @@ is_plain https = true
 is_plain ext = true
 is_plain (helper_url name) = true
 
--- a scheme that isn't of Secure Shell has such a protocol
+-- what the other schemes stand for is such a protocol, by what a scheme is tested for
 plain_by : (file_named git_named http_named https_named ext_named : Bool) (s : List ℕ) → is_plain (if file_named then file else (if git_named then git else (if http_named then http else (if https_named then https else (if ext_named then ext else helper_url s))))) ≡ true
 plain_by true a b c d s = refl
 plain_by false true b c d s = refl
@@ -78,6 +80,7 @@ plain_by false false false true d s = refl
 plain_by false false false false true s = refl
 plain_by false false false false false s = refl
 
+-- the protocol of a scheme that isn't of Secure Shell is such a one
 plain_scheme : (s : List ℕ) → is_ssh_scheme s ≡ false → is_plain (protocol_of s) ≡ true
 plain_scheme s other =
     ap is_plain (cond-false _ _ _ other) ∙ plain_by (bytes_eq s (codes "file")) (bytes_eq s (codes "git")) (bytes_eq s (codes "http")) (bytes_eq s (codes "https")) (bytes_eq s (codes "ext")) s
@@ -275,3 +278,25 @@ spelling_other b v (Spells.file_url h) = unspelled_other v (ap (λ l. l.spelling
 spelling_other b v (Spells.remote_helper h) = unspelled_other v (ap (λ l. l.spelling) h.value)
 spelling_other b v (Spells.scp_form h) = unspelled_other v (scp_unspelled b v h)
 spelling_other b v (Spells.local_path h) = unspelled_other v (ap (λ l. l.spelling) h.value)
+
+-- ---- stored locations
+
+-- a spelling that is there isn't the path where the two differ
+unmigrated_by : (same : Bool) (s : List ℕ) (v : Location) → bytes_eq s v.path ≡ same → ¬ (s ≡ v.path) → migrated_by (Some s) v ≡ v
+unmigrated_by true s v e other = absurd (other ((bytes_eq-Decides s v.path).0 e))
+unmigrated_by false s v e other = cond-false _ _ _ e
+
+-- a location whose spelling, if it has one, isn't the path, stands for itself when it was stored
+unmigrated_as : (spelling : Option (List ℕ)) (v : Location) → ¬ (spelling ≡ Some v.path) → migrated_by spelling v ≡ v
+unmigrated_as None v other = refl
+unmigrated_as (Some s) v other = unmigrated_by (bytes_eq s v.path) s v refl (λ e. other (ap (λ t. Some t) e))
+
+-- a location whose spelling isn't its path stands for itself when it was stored
+pub unmigrated : (v : Location) → ¬ (v.spelling ≡ Some v.path) → migrated v ≡ v
+unmigrated v other = unmigrated_as v.spelling v other
+
+-- what is spelled has a text, and stands for itself when it was stored
+pub writable : Writable
+writable b v spelled =
+    let other = spelling_other b v spelled in
+    (has_a_text b v spelled, other, unmigrated v other)
