@@ -38,3 +38,4 @@ pub mod AgainLemmas
 pub mod WrittenHostLemmas
 pub mod WebExactLemmas
 pub mod ClosedLemmas
+pub mod WritableLemmas

@@ -284,7 +284,7 @@ both_given (Some u) None hosted = absurd (false≢true (hosted refl))
 both_given (Some u) (Some h) hosted = refl
 
 -- a user that comes with a host leaves the form as it is
-host_given : (v : Location) (form : Form) → (IsSome v.user → IsSome v.host) → with_host v form ≡ Ok form
+pub host_given : (v : Location) (form : Form) → (IsSome v.user → IsSome v.host) → with_host v form ≡ Ok form
 host_given v form hosted = cond-false _ _ _ (both_given v.user v.host hosted)
 
 -- a location whose form is that of a URL has the text of a URL
@@ -317,13 +317,13 @@ written_other v name e spelled = record {
 }
 
 -- a path that is rooted or below a home folder is not relative
-not_relative : (path : List ℕ) → (begins_with slash path ≡ true) ⊎ (begins_with tilde path ≡ true) → is_relative path ≡ false
+pub not_relative : (path : List ℕ) → (begins_with slash path ≡ true) ⊎ (begins_with tilde path ≡ true) → is_relative path ≡ false
 not_relative [] begins = refl
 not_relative (b ∷ bs) (inl e) = rw e refl
 not_relative (b ∷ bs) (inr e) = let other : not (b == tilde) ≡ false = ap not e in and_right _ _ other
 
 -- such a location of Secure Shell without the flag has the form of a URL
-secure_choice : (v : Location) → is_relative v.path ≡ false → v.flag ≡ false → ssh_choice v ≡ with_host v canonical_form
+pub secure_choice : (v : Location) → is_relative v.path ≡ false → v.flag ≡ false → ssh_choice v ≡ with_host v canonical_form
 secure_choice v rooted unflagged = rw (rooted, unflagged) refl
 
 transport_begins : (v : Location) → IsTransportPath v → (begins_with slash v.path ≡ true) ⊎ (begins_with tilde v.path ≡ true)

@@ -255,7 +255,7 @@ start_ascii : (c : ℕ) → is_path_start true c ≡ true → c < 128
 start_ascii c h = grind (arith, nat_tests)
 
 -- what is retained of a path, by whether it holds a `%`, is the path
-retained_by : (path s : List ℕ) (escaped : Bool) → has_percent path ≡ escaped → retained path ≡ Some s → (path ≡ s) × (has_percent path ≡ true)
+pub retained_by : (path s : List ℕ) (escaped : Bool) → has_percent path ≡ escaped → retained path ≡ Some s → (path ≡ s) × (has_percent path ≡ true)
 retained_by path s true holds e = (some_same path s (sym (cond-true _ _ _ holds) ∙ e), holds)
 retained_by path s false lacks e = none_is_some s (sym (cond-false _ _ _ lacks) ∙ e)
 

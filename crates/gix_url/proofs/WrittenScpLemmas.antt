@@ -29,7 +29,7 @@ use Rattle.gix_url.proofs.UniqueLemmas.{address_utf8}
 -- ---- values
 
 -- the value of a location in the scp form, perhaps with a spelling
-abbrev scp_value : Option (List ℕ) → List ℕ → List ℕ → Option (List ℕ) → Location
+abbrev pub scp_value : Option (List ℕ) → List ℕ → List ℕ → Option (List ℕ) → Location
 scp_value user host path spelling = record (path_alone ssh true path) { user = user; host = Some host; spelling = spelling }
 
 -- a settled location in the scp form is such a value
@@ -64,7 +64,7 @@ scp_written_by false None host path spelling e = rw e refl
 scp_written_by false (Some u) host path spelling e = rw e refl
 
 -- user, host and path are written raw, with a colon before the path
-scp_written : (user : Option (List ℕ)) (host path : List ℕ) (spelling : Option (List ℕ)) → text (scp_value user host path spelling) ≡ Ok (raw_user user ++ (raw_host (Some host) ++ colon ∷ path))
+pub scp_written : (user : Option (List ℕ)) (host path : List ℕ) (spelling : Option (List ℕ)) → text (scp_value user host path spelling) ≡ Ok (raw_user user ++ (raw_host (Some host) ++ colon ∷ path))
 scp_written user host path spelling = scp_written_by (is_relative path) user host path spelling refl
 
 -- such a text is UTF-8 where its pieces are
