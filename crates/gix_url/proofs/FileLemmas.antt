@@ -270,8 +270,8 @@ exact_at v w t apart written k same again =
     let settled : IsSettledFile (at_file host k.path None) = subst (λ l. IsSettledFile l) k.value (reread_settled w t k again) in
     let plain : text (at_file host k.path None) ≡ Ok t = ap (λ l. text l) (sym k.value) ∙ again in
     let no_match : ¬ HasMatch (at_file host k.path v.spelling) = λ (s, e, d).
-      let spelled : text (at_file host k.path (Some s)) ≡ Ok t = ap (λ o. text (at_file host k.path o)) (sym e) ∙ ap (λ l. text l) (sym value) ∙ written in
-      apart (e ∙ ap (λ p. Some p) (spelling_is_path host k.path s t d spelled plain ∙ sym (ap (λ l. l.path) value))) in
+    let spelled : text (at_file host k.path (Some s)) ≡ Ok t = ap (λ o. text (at_file host k.path o)) (sym e) ∙ ap (λ l. text l) (sym value) ∙ written in
+    apart (e ∙ ap (λ p. Some p) (spelling_is_path host k.path s t d spelled plain ∙ sym (ap (λ l. l.path) value))) in
     subst (λ l. IsSettledFile l) (sym value) (settled_at host k.path v.spelling no_match settled.host settled.path_text settled.rooted)
 
 -- a file URL that comes back is settled, unless its spelling is its path

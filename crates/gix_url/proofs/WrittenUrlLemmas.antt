@@ -49,7 +49,7 @@ hosted_written mode v host named (Some u) password information beside h =
     let i = information u refl in
     let front = i.information ++ at_sign ∷ [] in
     let whole : user_information (Some u) password ++ host_and_port v host ≡ i.information ++ at_sign ∷ host_and_port v host =
-        ap (λ t. t ++ host_and_port v host) i.written ∙ append_assoc i.information (at_sign ∷ []) (host_and_port v host) in
+    ap (λ t. t ++ host_and_port v host) i.written ∙ append_assoc i.information (at_sign ∷ []) (host_and_port v host) in
     let piece = joined_pieces front (host_and_port v host) (joined_pieces i.information (at_sign ∷ []) i.piece at_sign_piece) h.piece in (
       subst (λ t. Authority mode t (Some u) password (Some named) v.port) (sym whole) (with_user i.information (host_and_port v host) h.no_at refl i.credentials h.names refl),
       subst (λ t. IsAuthorityPiece (t ++ host_and_port v host)) (sym i.written) piece,
@@ -240,7 +240,7 @@ authority_without_host mode v h e =
     let port : v.port ≡ None = none_given v.port v.host e h.port_hosted in
     let password : v.password ≡ None = none_given v.password v.user user (password_beside v.user v.password h.password) in
     let empty : authority_text v ≡ [] =
-        ap (λ o. user_information o v.password ++ (host_part v v.host ++ port_part v.port)) user ∙ ap (λ o. host_part v o ++ port_part v.port) e ∙ ap port_part port in
+    ap (λ o. user_information o v.password ++ (host_part v v.host ++ port_part v.port)) user ∙ ap (λ o. host_part v o ++ port_part v.port) e ∙ ap port_part port in
     (subst (λ t. Authority mode t v.user v.password None v.port) (sym empty) (host_alone refl (nothing refl refl port) user password), subst IsAuthorityPiece (sym empty) empty_piece)
 
 -- all that a settled URL says but of host and scheme is kept with another spelling

@@ -128,7 +128,7 @@ both_written user password first second some =
       information = name ++ colon ∷ secret;
       written = sym (append_assoc name (colon ∷ secret) (at_sign ∷ []));
       credentials = with_password name secret (user_no_colon user) refl (subst IsUtf8 (sym user_is) first) (subst IsUtf8 (sym password_is) second)
-        (lengthy_kept password some ∙ ap unless_empty (sym password_is)) (ap Some (sym user_is));
+          (lengthy_kept password some ∙ ap unless_empty (sym password_is)) (ap Some (sym user_is));
       piece = joined_pieces name (colon ∷ secret) (user_piece user) (joined_pieces (colon ∷ []) secret colon_piece (password_piece password));
     }
 
