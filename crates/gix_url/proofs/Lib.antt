@@ -36,3 +36,4 @@ pub mod WrittenScpLemmas
 pub mod WebClosedLemmas
 pub mod AgainLemmas
 pub mod WrittenHostLemmas
+pub mod ComponentLemmas
