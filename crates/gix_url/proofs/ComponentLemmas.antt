@@ -1,5 +1,5 @@
 -- What is read of a settled location of HTTP has the same components.
-use Rattle.std.proofs.Common.{◌≡◌, ℕ, ◌<◌, ◌+◌, Bool, true, false, ◌==◌, ◌⊎◌, inl, inr, List, [], ◌∷◌, ◌++◌, map, length, bytes_eq, Option, Some, None, IfSome, option_map, if◌then◌else◌, All, refl, sym, ap, subst, ◌∙◌, ⊎_elim, arith}
+use Rattle.std.proofs.Common.{◌≡◌, ℕ, ◌<◌, ◌+◌, Bool, true, false, ◌==◌, ◌⊎◌, ◌↔◌, inl, inr, List, [], ◌∷◌, ◌++◌, map, length, bytes_eq, Option, Some, None, IfSome, option_map, if◌then◌else◌, All, refl, sym, ap, subst, ◌∙◌, ⊎_elim, arith}
 use Rattle.std.specs.List.{list_any}
 use Rattle.std.proofs.lemmas.Bool.{cond-true, cond-false, cases_Bool, both_ways, false≢true, or_from, or_parts, eqb-true, false_from_ne_true}
 use Rattle.std.proofs.lemmas.Bool.Decides.{nat_tests}
@@ -14,7 +14,9 @@ use Rattle.gix_url.specs.declared.escape.TheConstants.{PATH}
 use Rattle.gix_url.specs.Bytes.{number_sign, percent_sign, plus_sign, question_mark, FreeOf}
 use Rattle.gix_url.specs.Escapes.{is_path_escaped}
 use Rattle.gix_url.specs.Addresses.{joined_by}
-use Rattle.gix_url.specs.Components.{space, ampersand, equals_sign, with_spaces, IsFront, CutsPath, SplitsField}
+use Rattle.gix_url.specs.Value.{Location}
+use Rattle.gix_url.specs.Grammar.{or_root}
+use Rattle.gix_url.specs.Components.{Components, space, ampersand, equals_sign, original_path, stands_for, IsFront, CutsPath, CutsFields, SplitsField, with_spaces, term_of, PairsOf, QueryOf, WebParts}
 use Rattle.gix_url.proofs.CutLemmas.{cut_unique, free_or_cut, not_free}
 use Rattle.gix_url.proofs.EscapeLemmas.{is_escape_byte, decode_byte, encode_nil, encode_empty, encode-append, encode_byte_kept, encode_lacks_kept, lacks_from_encode}
 use Rattle.gix_url.proofs.EscapeSets.{path_holds}
@@ -255,4 +257,154 @@ cuts_back f t front query fragment way (CutsPath.with_both q r g free e j k) =
       is_query = j ∙ ap Some is_m;
       is_fragment = k ∙ ap Some is_n;
       cut = CutsPath.with_both m n (front_freed f x way (subst IsFront is_x g)) single (cut ∙ ap (λ z. x ++ question_mark ∷ z) joined) refl refl;
+    }
+
+-- ---- fields of what is written
+
+-- fields without `&` are written without it
+each_written : (f : List ℕ → List ℕ) (fields : List (List ℕ)) → IsWay f → All (FreeOf ampersand) fields → All (FreeOf ampersand) (map f fields)
+each_written f fields way each =
+    All-map (FreeOf ampersand) f fields (All-weaker (FreeOf ampersand) (λ t. FreeOf ampersand (f t)) (λ t free. way.free ampersand t ampersand_mark free) fields each)
+
+-- fields are written joined
+joined_written : (f : List ℕ → List ℕ) (fields : List (List ℕ)) → IsWay f → f (joined_by ampersand fields) ≡ joined_by ampersand (map f fields)
+joined_written f [] way = way.nil
+joined_written f (t ∷ []) way = refl
+joined_written f (t ∷ u ∷ us) way =
+    way.around ampersand t (joined_by ampersand (u ∷ us)) ampersand_mark ∙ ap (λ z. f t ++ ampersand ∷ z) (joined_written f (u ∷ us) way)
+
+-- the fields of a text are written as those of what is written
+fields_written : (f : List ℕ → List ℕ) (t : List ℕ) (fields : List (List ℕ)) → IsWay f → CutsFields t fields → CutsFields (f t) (map f fields)
+fields_written f t fields way cut = record { each = each_written f fields way cut.each; joined = ap f cut.joined ∙ joined_written f fields way }
+
+-- one field more stands before others, where there are any
+joined_more : (f : List ℕ → List ℕ) (c : ℕ) (t : List ℕ) (fields : List (List ℕ)) (k : List ℕ) (ks : List (List ℕ)) → k ∷ ks ≡ map f fields → joined_by c (t ∷ fields) ≡ t ++ c ∷ joined_by c fields
+joined_more f c t [] k ks e = let wrong : k ∷ ks ≡ [] = e in cc
+joined_more f c t (u ∷ us) k ks e = refl
+
+-- the fields of what is written are written of fields of the text
+fields_back : (f : List ℕ → List ℕ) (given : List (List ℕ)) (t : List ℕ) → IsWay f → All (FreeOf ampersand) given → f t ≡ joined_by ampersand given → (fields : List (List ℕ)) × CutsFields t fields × (given ≡ map f fields)
+fields_back f [] t way each e = ([], record { each = All-nil (FreeOf ampersand); joined = way.empty t e }, refl)
+fields_back f (g ∷ []) t way each e =
+    let free : FreeOf ampersand g = All-head (FreeOf ampersand) g [] each in
+    (t ∷ [], record { each = All-cons (FreeOf ampersand) t [] (way.freed ampersand t ampersand_mark (subst (λ z. FreeOf ampersand z) (sym e) free)) (All-nil (FreeOf ampersand)); joined = refl }, ap (λ z. z ∷ []) (sym e))
+fields_back f (g ∷ k ∷ ks) t way each e =
+    let free : FreeOf ampersand g = All-head (FreeOf ampersand) g (k ∷ ks) each in
+    let (x, y, lone, cut, is_x, is_y) = cut_back f ampersand t g (joined_by ampersand (k ∷ ks)) way ampersand_mark free e in
+    let (fields, rest, same) = fields_back f (k ∷ ks) y way (All-tail (FreeOf ampersand) g (k ∷ ks) each) (sym is_y) in
+    let whole = cut ∙ ap (λ z. x ++ ampersand ∷ z) rest.joined ∙ sym (joined_more f ampersand x fields k ks same) in
+    (x ∷ fields, record { each = All-cons (FreeOf ampersand) x fields lone rest.each; joined = whole }, (λ i. is_x i ∷ same i))
+
+-- name and value of a field are written as those of what is written
+split_written : (f : List ℕ → List ℕ) (field name value : List ℕ) → IsWay f → SplitsField field name value → SplitsField (f field) (f name) (f value)
+split_written f field name value way (SplitsField.name_alone free e j) =
+    SplitsField.name_alone (way.free equals_sign field equals_sign_mark free) (ap f e) (ap f j ∙ way.nil)
+split_written f field name value way (SplitsField.with_value free e) =
+    SplitsField.with_value (way.free equals_sign name equals_sign_mark free) (ap f e ∙ way.around equals_sign name value equals_sign_mark)
+
+-- name and value of what is written are written of those of the field
+split_back : (f : List ℕ → List ℕ) (field name value : List ℕ) → IsWay f → SplitsField (f field) name value → (first : List ℕ) × (second : List ℕ) × (name ≡ f first) × (value ≡ f second) × SplitsField field first second
+split_back f field name value way (SplitsField.name_alone free e j) =
+    (field, [], e, j ∙ sym way.nil, SplitsField.name_alone (way.freed equals_sign field equals_sign_mark free) refl refl)
+split_back f field name value way (SplitsField.with_value free e) =
+    let (x, y, lone, cut, is_x, is_y) = cut_back f equals_sign field name value way equals_sign_mark free e in
+    (x, y, is_x, is_y, SplitsField.with_value lone cut)
+
+-- ---- what the pieces stand for
+
+-- the path of the second location is written of that of the first, and the pieces stand for the same
+record IsRewritten (f : List ℕ → List ℕ) (v w : Location) : Type 0 where
+  way : IsWay f
+  bytes : IsBytes (original_path v)
+  original : original_path w ≡ f (original_path v)
+  meant : (x : List ℕ) → IsBytes x → stands_for w (f x) ≡ stands_for v x
+  term : (x : List ℕ) → IsBytes x → term_of w (f x) ≡ term_of v x
+
+-- what a field that isn't empty adds to the names and values
+abbrev AddsPair : Location → List ℕ → List (List ℕ) → List (List ℕ × List ℕ) → Type 0
+AddsPair v field fields pairs =
+    (name : List ℕ) × (value : List ℕ) × (others : List (List ℕ × List ℕ))
+    × SplitsField field name value × PairsOf v fields others × (pairs ≡ (term_of v name, term_of v value) ∷ others)
+
+adds_pair : (v : Location) (field : List ℕ) (fields : List (List ℕ)) (pairs : List (List ℕ × List ℕ)) → ¬ (field ≡ []) → PairsOf v (field ∷ fields) pairs ↔ AddsPair v field fields pairs
+adds_pair v [] fields pairs some = absurd (some refl)
+adds_pair v (b ∷ bs) fields pairs some = (λ h. h, λ h. h)
+
+-- what is written of a text that isn't empty isn't
+some_written : (f : List ℕ → List ℕ) (b : ℕ) (bs : List ℕ) → IsWay f → ¬ (f (b ∷ bs) ≡ [])
+some_written f b bs way e = let wrong : b ∷ bs ≡ [] = way.empty (b ∷ bs) e in cc
+
+-- fields stand for what their writings stand for
+pairs_written : (f : List ℕ → List ℕ) (v w : Location) (fields : List (List ℕ)) (pairs : List (List ℕ × List ℕ)) → IsRewritten f v w → All IsBytes fields → PairsOf v fields pairs → PairsOf w (map f fields) pairs
+pairs_written f v w [] pairs h small of = of
+pairs_written f v w ([] ∷ fields) pairs h small of =
+    subst (λ t. PairsOf w (t ∷ map f fields) pairs) (sym h.way.nil) (pairs_written f v w fields pairs h (All-tail IsBytes [] fields small) of)
+pairs_written f v w ((b ∷ bs) ∷ fields) pairs h small (name, value, others, split, rest, e) =
+    let field = b ∷ bs in
+    let bytes = bytes_split field name value (All-head IsBytes field fields small) split in
+    let more = pairs_written f v w fields others h (All-tail IsBytes field fields small) rest in
+    let same : (term_of v name, term_of v value) ∷ others ≡ (term_of w (f name), term_of w (f value)) ∷ others =
+        (λ i. (sym (h.term name bytes.0) i, sym (h.term value bytes.1) i) ∷ others) in
+    (adds_pair w (f field) (map f fields) pairs (some_written f b bs h.way)).1 (f name, f value, others, split_written f field name value h.way split, more, e ∙ same)
+
+-- and the writings for what the fields stand for
+pairs_back : (f : List ℕ → List ℕ) (v w : Location) (fields : List (List ℕ)) (pairs : List (List ℕ × List ℕ)) → IsRewritten f v w → All IsBytes fields → PairsOf w (map f fields) pairs → PairsOf v fields pairs
+pairs_back f v w [] pairs h small of = of
+pairs_back f v w ([] ∷ fields) pairs h small of =
+    pairs_back f v w fields pairs h (All-tail IsBytes [] fields small) (subst (λ t. PairsOf w (t ∷ map f fields) pairs) h.way.nil of)
+pairs_back f v w ((b ∷ bs) ∷ fields) pairs h small of =
+    let field = b ∷ bs in
+    let (name, value, others, split, rest, e) = (adds_pair w (f field) (map f fields) pairs (some_written f b bs h.way)).0 of in
+    let (first, second, is_first, is_second, cut) = split_back f field name value h.way split in
+    let bytes = bytes_split field first second (All-head IsBytes field fields small) cut in
+    let more = pairs_back f v w fields others h (All-tail IsBytes field fields small) rest in
+    let one : term_of w name ≡ term_of v first = ap (term_of w) is_first ∙ h.term first bytes.0 in
+    let two : term_of w value ≡ term_of v second = ap (term_of w) is_second ∙ h.term second bytes.1 in
+    (first, second, others, cut, more, e ∙ (λ i. (one i, two i) ∷ others))
+
+-- a query stands for what its writing stands for
+query_written : (f : List ℕ → List ℕ) (v w : Location) (text : Option (List ℕ)) (query : Option (List (List ℕ × List ℕ))) → IsRewritten f v w → IfSome text IsBytes → QueryOf v text query → QueryOf w (option_map f text) query
+query_written f v w None query h small of = of
+query_written f v w (Some t) query h small (fields, pairs, cut, of, e) =
+    (map f fields, pairs, fields_written f t fields h.way cut, pairs_written f v w fields pairs h (bytes_fields fields (subst IsBytes cut.joined small)) of, e)
+
+-- and the writing for what the query stands for
+query_back : (f : List ℕ → List ℕ) (v w : Location) (text : Option (List ℕ)) (query : Option (List (List ℕ × List ℕ))) → IsRewritten f v w → IfSome text IsBytes → QueryOf w (option_map f text) query → QueryOf v text query
+query_back f v w None query h small of = of
+query_back f v w (Some t) query h small (given, pairs, cut, of, e) =
+    let (fields, back, same) = fields_back f given t h.way cut.each cut.joined in
+    (fields, pairs, back, pairs_back f v w fields pairs h (bytes_fields fields (subst IsBytes back.joined small)) (subst (λ z. PairsOf w z pairs) same of), e)
+
+-- a fragment stands for what its writing stands for
+fragment_written : (f : List ℕ → List ℕ) (v w : Location) (text : Option (List ℕ)) → IsRewritten f v w → IfSome text IsBytes → option_map (stands_for w) (option_map f text) ≡ option_map (stands_for v) text
+fragment_written f v w None h small = refl
+fragment_written f v w (Some t) h small = ap Some (h.meant t small)
+
+-- ---- the components
+
+-- the components of what is written are those of the path
+parts_written : (f : List ℕ → List ℕ) (v w : Location) (components : Components) → IsRewritten f v w → WebParts v components → WebParts w components
+parts_written f v w components h parts =
+    let (front, query, fragment) = bytes_cut (original_path v) parts.front parts.query parts.fragment h.bytes parts.cut in record {
+      front = f parts.front;
+      query = option_map f parts.query;
+      fragment = option_map f parts.fragment;
+      cut = subst (λ t. CutsPath t (f parts.front) (option_map f parts.query) (option_map f parts.fragment)) (sym h.original) (cuts_written f (original_path v) parts.front parts.query parts.fragment h.way parts.cut);
+      path_meant = parts.path_meant ∙ ap or_root (sym (h.meant parts.front front));
+      query_meant = query_written f v w parts.query components.query h query parts.query_meant;
+      fragment_meant = parts.fragment_meant ∙ sym (fragment_written f v w parts.fragment h fragment);
+    }
+
+-- and those of the path are those of what is written
+parts_back : (f : List ℕ → List ℕ) (v w : Location) (components : Components) → IsRewritten f v w → WebParts w components → WebParts v components
+parts_back f v w components h parts =
+    let back = cuts_back f (original_path v) parts.front parts.query parts.fragment h.way (subst (λ t. CutsPath t parts.front parts.query parts.fragment) h.original parts.cut) in
+    let (front, query, fragment) = bytes_cut (original_path v) back.first back.second back.third h.bytes back.cut in record {
+      front = back.first;
+      query = back.second;
+      fragment = back.third;
+      cut = back.cut;
+      path_meant = parts.path_meant ∙ ap (λ t. or_root (stands_for w t)) back.is_front ∙ ap or_root (h.meant back.first front);
+      query_meant = query_back f v w back.second components.query h query (subst (λ o. QueryOf w o components.query) back.is_query parts.query_meant);
+      fragment_meant = parts.fragment_meant ∙ ap (option_map (stands_for w)) back.is_fragment ∙ fragment_written f v w back.third h fragment;
     }
