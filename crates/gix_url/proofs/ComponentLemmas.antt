@@ -1,25 +1,34 @@
 -- What is read of a settled location of HTTP has the same components.
-use Rattle.std.proofs.Common.{◌≡◌, ℕ, ◌<◌, ◌+◌, Bool, true, false, ◌==◌, ◌⊎◌, ◌↔◌, inl, inr, List, [], ◌∷◌, ◌++◌, map, length, bytes_eq, Option, Some, None, IfSome, option_map, if◌then◌else◌, All, refl, sym, ap, subst, ◌∙◌, ⊎_elim, arith}
+use Rattle.std.proofs.Common.{◌≡◌, ℕ, ◌<◌, Bool, true, false, not, ◌&&◌, ◌==◌, ◌⊎◌, ◌↔◌, inl, inr, List, [], ◌∷◌, ◌++◌, map, length, bytes_eq, Option, Some, None, Ok, IsUtf8, IfSome, option_map, if◌then◌else◌, All, refl, sym, ap, subst, ◌∙◌, ⊎_elim, arith}
 use Rattle.std.specs.List.{list_any}
 use Rattle.std.proofs.lemmas.Bool.{cond-true, cond-false, cases_Bool, both_ways, false≢true, or_from, or_parts, eqb-true, false_from_ne_true}
 use Rattle.std.proofs.lemmas.Bool.Decides.{nat_tests}
 use Rattle.std.proofs.lemmas.List.{map-append}
 use Rattle.std.proofs.lemmas.List.Elements.{All-nil, All-cons, All-head, All-tail, All-map, All-weaker}
 use Rattle.std.proofs.lemmas.List.Folds.{list_any_none}
+use Rattle.std.proofs.lemmas.Slice.Eq.{bytes_eq-Decides}
 use Rattle.percent_encoding.specs.AsciiSet.{contains, should_percent_encode}
 use Rattle.percent_encoding.specs.Percent.{percent_decode, percent_encode, percent_encode_byte}
 use Rattle.percent_encoding.proofs.AsciiSetLemmas.{ascii_from_kept, outside_from_kept, kept_from_outside}
 use Rattle.percent_encoding.proofs.PercentLemmas.{IsEscapeByte, All-percent_encode_byte, percent_encode_escaped, percent_encode_kept, percent_decode-nil, percent_decode-percent_encode_byte}
 use Rattle.gix_url.specs.declared.escape.TheConstants.{PATH}
-use Rattle.gix_url.specs.Bytes.{number_sign, percent_sign, plus_sign, question_mark, FreeOf}
-use Rattle.gix_url.specs.Escapes.{is_path_escaped}
+use Rattle.gix_url.specs.Bytes.{number_sign, percent_sign, plus_sign, slash, question_mark, FreeOf, begins_with}
+use Rattle.gix_url.specs.Escapes.{has_percent, is_path_escaped}
 use Rattle.gix_url.specs.Addresses.{joined_by}
 use Rattle.gix_url.specs.Value.{Location}
-use Rattle.gix_url.specs.Grammar.{or_root}
-use Rattle.gix_url.specs.Components.{Components, space, ampersand, equals_sign, original_path, stands_for, IsFront, CutsPath, CutsFields, SplitsField, with_spaces, term_of, PairsOf, QueryOf, WebParts}
+use Rattle.gix_url.specs.Grammar.{or_root, retained, Spells}
+use Rattle.gix_url.specs.Components.{Components, space, ampersand, equals_sign, original_path, stands_for, IsFront, CutsPath, CutsFields, SplitsField, with_spaces, matches, term_of, PairsOf, QueryOf, WebParts, PartsBy, PartsOf}
+use Rattle.gix_url.specs.Text.{roots_path, plain_path, matching_or, canonical_path, canonical_text, text}
+use Rattle.gix_url.specs.Settled.{IsValue, IsSettledUrl, IsSettledWeb, IsSettledBy, IsSettled}
+use Rattle.gix_url.specs.SettledParts.{HasFairSpelling, IsWeb}
+use Rattle.gix_url.specs.WrittenPieces.{respelled}
+use Rattle.gix_url.specs.Laws.{SameComponents}
 use Rattle.gix_url.proofs.CutLemmas.{cut_unique, free_or_cut, not_free}
-use Rattle.gix_url.proofs.EscapeLemmas.{is_escape_byte, decode_byte, encode_nil, encode_empty, encode-append, encode_byte_kept, encode_lacks_kept, lacks_from_encode}
+use Rattle.gix_url.proofs.EscapeLemmas.{is_escape_byte, bytes_from_utf8, decode_byte, decode_encode, decode_encode_utf8, encode_nil, encode_empty, encode-append, encode_byte_kept, encode_lacks_kept, lacks_from_encode}
 use Rattle.gix_url.proofs.EscapeSets.{path_holds}
+use Rattle.gix_url.proofs.SettledLemmas.{written_web}
+use Rattle.gix_url.proofs.UniqueLemmas.{spells_unique}
+use Rattle.gix_url.proofs.AgainLemmas.{web_spelled}
 
 -- every number of the text is a byte
 abbrev IsBytes : List ℕ → Type 0
@@ -73,7 +82,7 @@ spaces_kept b bs kept =
     ∙ decode_byte (if b == plus_sign then space else b) (with_spaces (percent_encode PATH bs)) (meant_not_percent b (kept_not_percent b kept))
 
 -- decoding undoes the encoding of a path, where both have spaces for `+`
-pub spaces_decoded : (t : List ℕ) → IsBytes t → percent_decode (with_spaces (percent_encode PATH t)) ≡ with_spaces t
+spaces_decoded : (t : List ℕ) → IsBytes t → percent_decode (with_spaces (percent_encode PATH t)) ≡ with_spaces t
 spaces_decoded [] small = ap (λ t. percent_decode (with_spaces t)) (encode_nil PATH) ∙ percent_decode-nil
 spaces_decoded (b ∷ bs) small =
     let byte = All-head (λ c. c < 256) b bs small in
@@ -408,3 +417,103 @@ parts_back f v w components h parts =
       query_meant = query_back f v w back.second components.query h query (subst (λ o. QueryOf w o components.query) back.is_query parts.query_meant);
       fragment_meant = parts.fragment_meant ∙ ap (option_map (stands_for w)) back.is_fragment ∙ fragment_written f v w back.third h fragment;
     }
+
+-- a location has the components of the path that its own is written of
+parts_rewritten : (f : List ℕ → List ℕ) (v w : Location) (components : Components) → IsRewritten f v w → WebParts w components ↔ WebParts v components
+parts_rewritten f v w components h = (parts_back f v w components h, parts_written f v w components h)
+
+-- ---- the spelling that is read
+
+-- the spelling stands for the path where it matches it
+matched : (spelling : Option (List ℕ)) (path other : List ℕ) → matches spelling path ≡ true → (s : List ℕ) × (spelling ≡ Some s) × (percent_decode s ≡ path) × (matching_or spelling path other ≡ s)
+matched None path other h = absurd (false≢true h)
+matched (Some s) path other h = (s, refl, (bytes_eq-Decides (percent_decode s) path).0 h, cond-true _ _ _ h)
+
+-- and something else is taken where it doesn't
+unmatched : (spelling : Option (List ℕ)) (path other : List ℕ) → matches spelling path ≡ false → matching_or spelling path other ≡ other
+unmatched None path other h = refl
+unmatched (Some s) path other h = cond-false _ _ _ h
+
+-- the written path of a location of HTTP is the spelling that matches, and else the encoded path
+web_path : (v : Location) → IsWeb v → canonical_path v ≡ matching_or v.spelling v.path (percent_encode PATH v.path)
+web_path v (inl e) = ap (λ p. (if roots_path p && not (begins_with slash v.path) then slash ∷ [] else []) ++ matching_or v.spelling v.path (plain_path p v.path)) e
+web_path v (inr e) = ap (λ p. (if roots_path p && not (begins_with slash v.path) then slash ∷ [] else []) ++ matching_or v.spelling v.path (plain_path p v.path)) e
+
+-- where the spelling matches, it is read again
+spelled_again : (v : Location) → IsWeb v → HasFairSpelling v → matches v.spelling v.path ≡ true → retained (canonical_path v) ≡ v.spelling
+spelled_again v web fair h =
+    let (s, is, decoded, chosen) = matched v.spelling v.path (percent_encode PATH v.path) h in
+    ap retained (web_path v web ∙ chosen) ∙ cond-true _ _ _ (fair s is decoded).escaped ∙ sym is
+
+-- the location with another spelling
+abbrev spelled_as : Location → Option (List ℕ) → Location
+spelled_as v spelling = record v { spelling = spelling }
+
+-- where no spelling matches and the encoding of the path is read as one, it is the encoding of the path
+encoded_rewritten : (v : Location) → IsUtf8 v.path → matches v.spelling v.path ≡ false → IsRewritten (λ x. percent_encode PATH x) v (spelled_as v (Some (percent_encode PATH v.path)))
+encoded_rewritten v text h =
+    let read = percent_encode PATH v.path in
+    let original : original_path v ≡ v.path = unmatched v.spelling v.path v.path h in
+    let matching : matches (Some read) v.path ≡ true = (bytes_eq-Decides (percent_decode read) v.path).1 (decode_encode_utf8 PATH v.path refl text) in
+    record {
+      way = path_way;
+      bytes = subst IsBytes (sym original) (bytes_from_utf8 v.path text);
+      original = cond-true _ _ _ matching ∙ ap (λ x. percent_encode PATH x) (sym original);
+      meant = λ x small. cond-true _ _ _ matching ∙ decode_encode PATH x refl small ∙ sym (cond-false _ _ _ h);
+      term = λ x small. cond-true _ _ _ matching ∙ spaces_decoded x small ∙ sym (cond-false _ _ _ h);
+    }
+
+-- where no spelling matches and none is read, the path stays
+plain_rewritten : (v : Location) → IsUtf8 v.path → matches v.spelling v.path ≡ false → IsRewritten (λ x. x) v (spelled_as v None)
+plain_rewritten v text h =
+    let original : original_path v ≡ v.path = unmatched v.spelling v.path v.path h in
+    record {
+      way = same_way;
+      bytes = subst IsBytes (sym original) (bytes_from_utf8 v.path text);
+      original = sym original;
+      meant = λ x small. sym (cond-false _ _ _ h);
+      term = λ x small. sym (cond-false _ _ _ h);
+    }
+
+-- the components with the spelling that is read of the encoded path
+retained_parts : (v : Location) (b : Bool) (components : Components) → has_percent (percent_encode PATH v.path) ≡ b → IsUtf8 v.path → matches v.spelling v.path ≡ false → WebParts (spelled_as v (if b then Some (percent_encode PATH v.path) else None)) components ↔ WebParts v components
+retained_parts v true components holds text h = parts_rewritten (λ x. percent_encode PATH x) v (spelled_as v (Some (percent_encode PATH v.path))) components (encoded_rewritten v text h)
+retained_parts v false components lacks text h = parts_rewritten (λ x. x) v (spelled_as v None) components (plain_rewritten v text h)
+
+-- the components with the spelling that is read, by whether the given one matches
+respelled_parts : (v : Location) (b : Bool) (components : Components) → IsWeb v → IsSettledUrl v → matches v.spelling v.path ≡ b → WebParts (respelled v) components ↔ WebParts v components
+respelled_parts v true components web settled h =
+    subst (λ o. WebParts (spelled_as v o) components ↔ WebParts v components) (sym (spelled_again v web settled.spelling h)) (λ parts. parts, λ parts. parts)
+respelled_parts v false components web settled h =
+    let read : retained (percent_encode PATH v.path) ≡ retained (canonical_path v) = ap retained (sym (web_path v web ∙ unmatched v.spelling v.path (percent_encode PATH v.path) h)) in
+    subst (λ o. WebParts (spelled_as v o) components ↔ WebParts v components) read (retained_parts v (has_percent (percent_encode PATH v.path)) components refl settled.path_text h)
+
+-- ---- what is read of a settled location
+
+-- a settled location of HTTP is settled as one
+settled_web : (v : Location) → IsWeb v → IsSettled v → IsSettledWeb v
+settled_web v (inl e) h = subst (λ p. IsSettledBy p v) e h
+settled_web v (inr e) h = subst (λ p. IsSettledBy p v) e h
+
+-- and its components are those of a location of HTTP
+web_parts : (v : Location) (components : Components) → IsWeb v → PartsOf v components ↔ WebParts v components
+web_parts v components (inl e) = (λ h. subst (λ p. PartsBy p v components) e h, λ h. subst (λ p. PartsBy p v components) (sym e) h)
+web_parts v components (inr e) = (λ h. subst (λ p. PartsBy p v components) e h, λ h. subst (λ p. PartsBy p v components) (sym e) h)
+
+-- its text is the one of a URL
+web_text : (v : Location) (t : List ℕ) → IsWeb v → IsSettledUrl v → text v ≡ Ok t → t ≡ canonical_text v
+web_text v t web h has =
+    let first : text v ≡ Ok (canonical_text v) = (written_web v web).canonical h.unflagged record { user_hosted = h.user_hosted; port_hosted = h.port_hosted } in
+    let okay : Ok t ≡ Ok (canonical_text v) = sym has ∙ first in
+    cc
+
+-- what is read of a settled location of HTTP has the same components
+pub same_components : SameComponents
+same_components v w t is web settled has spelled components =
+    let h = settled_web v web settled in
+    let same = web_text v t web h.common has in
+    let read : w ≡ respelled v = spells_unique (canonical_text v) w (respelled v) (subst (λ z. Spells z w) same spelled) (web_spelled v web is h) in
+    let parts = respelled_parts v (matches v.spelling v.path) components web h.common refl in
+    let first = web_parts (respelled v) components web in
+    let second = web_parts v components web in
+    subst (λ l. PartsOf l components ↔ PartsOf v components) (sym read) (λ x. second.1 (parts.0 (first.0 x)), λ x. first.1 (parts.1 (second.0 x)))
