@@ -1,7 +1,7 @@
 -- What is read of a settled location of HTTP has the same components.
-use Rattle.std.proofs.Common.{◌≡◌, ℕ, ◌<◌, Bool, true, false, not, ◌&&◌, ◌==◌, ◌⊎◌, ◌↔◌, inl, inr, List, [], ◌∷◌, ◌++◌, map, length, bytes_eq, Option, Some, None, Ok, IsUtf8, IfSome, option_map, if◌then◌else◌, All, refl, sym, ap, subst, ◌∙◌, ⊎_elim, arith}
+use Rattle.std.proofs.Common.{◌≡◌, ℕ, ◌<◌, Bool, true, false, not, ◌&&◌, ◌==◌, ◌↔◌, inl, inr, List, [], ◌∷◌, ◌++◌, map, Option, Some, None, Ok, IsUtf8, IfSome, option_map, if◌then◌else◌, All, refl, sym, ap, subst, ◌∙◌, ⊎_elim, arith}
 use Rattle.std.specs.List.{list_any}
-use Rattle.std.proofs.lemmas.Bool.{cond-true, cond-false, cases_Bool, both_ways, false≢true, or_from, or_parts, eqb-true, false_from_ne_true}
+use Rattle.std.proofs.lemmas.Bool.{cond-true, cond-false, cases_Bool, both_ways, false≢true, or_parts, eqb-true, false_from_ne_true}
 use Rattle.std.proofs.lemmas.Bool.Decides.{nat_tests}
 use Rattle.std.proofs.lemmas.List.{map-append}
 use Rattle.std.proofs.lemmas.List.Elements.{All-nil, All-cons, All-head, All-tail, All-map, All-weaker}
@@ -9,7 +9,7 @@ use Rattle.std.proofs.lemmas.List.Folds.{list_any_none}
 use Rattle.std.proofs.lemmas.Slice.Eq.{bytes_eq-Decides}
 use Rattle.percent_encoding.specs.AsciiSet.{contains, should_percent_encode}
 use Rattle.percent_encoding.specs.Percent.{percent_decode, percent_encode, percent_encode_byte}
-use Rattle.percent_encoding.proofs.AsciiSetLemmas.{ascii_from_kept, outside_from_kept, kept_from_outside}
+use Rattle.percent_encoding.proofs.AsciiSetLemmas.{outside_from_kept, kept_from_outside}
 use Rattle.percent_encoding.proofs.PercentLemmas.{IsEscapeByte, All-percent_encode_byte, percent_encode_escaped, percent_encode_kept, percent_decode-nil, percent_decode-percent_encode_byte}
 use Rattle.gix_url.specs.declared.escape.TheConstants.{PATH}
 use Rattle.gix_url.specs.Bytes.{number_sign, percent_sign, plus_sign, slash, question_mark, FreeOf, begins_with}
@@ -19,7 +19,7 @@ use Rattle.gix_url.specs.Value.{Location}
 use Rattle.gix_url.specs.Grammar.{or_root, retained, Spells}
 use Rattle.gix_url.specs.Components.{Components, space, ampersand, equals_sign, original_path, stands_for, IsFront, CutsPath, CutsFields, SplitsField, with_spaces, matches, term_of, PairsOf, QueryOf, WebParts, PartsBy, PartsOf}
 use Rattle.gix_url.specs.Text.{roots_path, plain_path, matching_or, canonical_path, canonical_text, text}
-use Rattle.gix_url.specs.Settled.{IsValue, IsSettledUrl, IsSettledWeb, IsSettledBy, IsSettled}
+use Rattle.gix_url.specs.Settled.{IsSettledUrl, IsSettledWeb, IsSettledBy, IsSettled}
 use Rattle.gix_url.specs.SettledParts.{HasFairSpelling, IsWeb}
 use Rattle.gix_url.specs.WrittenPieces.{respelled}
 use Rattle.gix_url.specs.Laws.{SameComponents}
@@ -103,7 +103,7 @@ bytes_around c (b ∷ x) y small =
     let rest = bytes_around c x y (All-tail (λ b. b < 256) b (x ++ c ∷ y) small) in
     (All-cons (λ b. b < 256) b x (All-head (λ b. b < 256) b (x ++ c ∷ y) small) rest.0, rest.1)
 
--- the pieces of a cut path are
+-- the pieces of a path are made of bytes where it is
 bytes_cut : (t front : List ℕ) (query fragment : Option (List ℕ)) → IsBytes t → CutsPath t front query fragment → IsBytes front × IfSome query IsBytes × IfSome fragment IsBytes
 bytes_cut t front query fragment small (CutsPath.front_alone g e j k) =
     (subst IsBytes e small, subst (λ o. IfSome o IsBytes) (sym j) tt, subst (λ o. IfSome o IsBytes) (sym k) tt)
@@ -118,7 +118,7 @@ bytes_cut t front query fragment small (CutsPath.with_both q f g free e j k) =
     let rest = bytes_around number_sign q f parts.1 in
     (parts.0, subst (λ o. IfSome o IsBytes) (sym j) rest.0, subst (λ o. IfSome o IsBytes) (sym k) rest.1)
 
--- the fields of a text are
+-- the fields of a text are made of bytes where it is
 bytes_fields : (fields : List (List ℕ)) → IsBytes (joined_by ampersand fields) → All IsBytes fields
 bytes_fields [] small = All-nil IsBytes
 bytes_fields (t ∷ []) small = All-cons IsBytes t [] small (All-nil IsBytes)
@@ -126,7 +126,7 @@ bytes_fields (t ∷ u ∷ us) small =
     let parts = bytes_around ampersand t (joined_by ampersand (u ∷ us)) small in
     All-cons IsBytes t (u ∷ us) parts.0 (bytes_fields (u ∷ us) parts.1)
 
--- name and value of a field are
+-- name and value of a field are made of bytes where it is
 bytes_split : (field name value : List ℕ) → IsBytes field → SplitsField field name value → IsBytes name × IsBytes value
 bytes_split field name value small (SplitsField.name_alone free e j) =
     (subst IsBytes (sym e) small, subst IsBytes (sym j) (All-nil (λ b. b < 256)))
@@ -148,7 +148,7 @@ record IsWay (f : List ℕ → List ℕ) : Type 0 where
   free : (c : ℕ) (x : List ℕ) → IsMark c → FreeOf c x → FreeOf c (f x)
   freed : (c : ℕ) (x : List ℕ) → IsMark c → FreeOf c (f x) → FreeOf c x
 
--- to write texts as they are is one
+-- to write texts as they are is such a way
 same_way : IsWay (λ x. x)
 same_way = record {
   nil = refl;
@@ -162,7 +162,7 @@ same_way = record {
 mark_not_escape : (c b : ℕ) → IsMark c → is_escape_byte b ≡ true → (b == c) ≡ false
 mark_not_escape c b mark h = false_from_ne_true (b == c) (λ e. both_ways (is_escape_byte c) mark.no_escape (sym (ap is_escape_byte (eqb-true b c e)) ∙ h))
 
--- the encoding of paths is one
+-- the encoding of paths is such a way
 path_way : IsWay (λ x. percent_encode PATH x)
 path_way = record {
   nil = encode_nil PATH;
@@ -172,15 +172,19 @@ path_way = record {
   freed = λ c x mark h. lacks_from_encode (λ b. b == c) PATH x (λ b escaped. escaped_not_kept b c mark.ascii mark.out escaped) h;
 }
 
+-- `?` is a mark
 question_mark_mark : IsMark question_mark
 question_mark_mark = record { ascii = omega arith; out = refl; no_escape = refl }
 
+-- so is `#`
 number_sign_mark : IsMark number_sign
 number_sign_mark = record { ascii = omega arith; out = refl; no_escape = refl }
 
+-- so is `&`
 ampersand_mark : IsMark ampersand
 ampersand_mark = record { ascii = omega arith; out = refl; no_escape = refl }
 
+-- and so is `=`
 equals_sign_mark : IsMark equals_sign
 equals_sign_mark = record { ascii = omega arith; out = refl; no_escape = refl }
 
@@ -196,11 +200,11 @@ cut_back f c t front rest way mark free e =
           (x, y, lone, cut, both.0, both.1)
     ]
 
--- a front is written as one
+-- a front is written as a front
 front_written : (f : List ℕ → List ℕ) (x : List ℕ) → IsWay f → IsFront x → IsFront (f x)
 front_written f x way front = (way.free question_mark x question_mark_mark front.0, way.free number_sign x number_sign_mark front.1)
 
--- and only a front is
+-- and only a front is written as one
 front_freed : (f : List ℕ → List ℕ) (x : List ℕ) → IsWay f → IsFront (f x) → IsFront x
 front_freed f x way front = (way.freed question_mark x question_mark_mark front.0, way.freed number_sign x number_sign_mark front.1)
 
@@ -216,7 +220,7 @@ cuts_written f t front query fragment way (CutsPath.with_both q r g free e j k) 
     let whole = ap f e ∙ way.around question_mark front (q ++ number_sign ∷ r) question_mark_mark ∙ ap (λ z. f front ++ question_mark ∷ z) (way.around number_sign q r number_sign_mark) in
     CutsPath.with_both (f q) (f r) (front_written f front way g) (way.free number_sign q number_sign_mark free) whole (ap (option_map f) j) (ap (option_map f) k)
 
--- the pieces of what is written are written of pieces of the path
+-- these pieces of what is written are written of pieces of the path
 record IsCutBack (f : List ℕ → List ℕ) (t front : List ℕ) (query fragment : Option (List ℕ)) : Type 0 where
   first : List ℕ
   second : Option (List ℕ)
@@ -226,6 +230,7 @@ record IsCutBack (f : List ℕ → List ℕ) (t front : List ℕ) (query fragmen
   is_fragment : fragment ≡ option_map f third
   cut : CutsPath t first second third
 
+-- the pieces of what is written are
 cuts_back : (f : List ℕ → List ℕ) (t front : List ℕ) (query fragment : Option (List ℕ)) → IsWay f → CutsPath (f t) front query fragment → IsCutBack f t front query fragment
 cuts_back f t front query fragment way (CutsPath.front_alone g e j k) = record {
   first = t;
@@ -335,11 +340,12 @@ AddsPair v field fields pairs =
     (name : List ℕ) × (value : List ℕ) × (others : List (List ℕ × List ℕ))
     × SplitsField field name value × PairsOf v fields others × (pairs ≡ (term_of v name, term_of v value) ∷ others)
 
+-- it adds just that
 adds_pair : (v : Location) (field : List ℕ) (fields : List (List ℕ)) (pairs : List (List ℕ × List ℕ)) → ¬ (field ≡ []) → PairsOf v (field ∷ fields) pairs ↔ AddsPair v field fields pairs
 adds_pair v [] fields pairs some = absurd (some refl)
 adds_pair v (b ∷ bs) fields pairs some = (λ h. h, λ h. h)
 
--- what is written of a text that isn't empty isn't
+-- what is written of a text that isn't empty isn't empty
 some_written : (f : List ℕ → List ℕ) (b : ℕ) (bs : List ℕ) → IsWay f → ¬ (f (b ∷ bs) ≡ [])
 some_written f b bs way e = let wrong : b ∷ bs ≡ [] = way.empty (b ∷ bs) e in cc
 
