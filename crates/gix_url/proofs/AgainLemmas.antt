@@ -15,14 +15,14 @@ use Rattle.gix_url.specs.SettledParts.{IsWeb, HasUrlPath}
 use Rattle.gix_url.specs.Laws.{keeps_bytes, ComesBack, TextDecides}
 use Rattle.gix_url.specs.WrittenPieces.{respelled}
 use Rattle.gix_url.proofs.SettledLemmas.{written_web, written_git, written_secure, written_other}
-use Rattle.gix_url.proofs.WrittenUrlLemmas.{IsUrlProtocol, authority_with_host, authority_without_host, url_again}
+use Rattle.gix_url.proofs.WrittenUrlLemmas.{IsUrlProtocol, authority_with_host, authority_without_host, readable_spelled, url_readable, url_again}
 use Rattle.gix_url.proofs.WrittenPathLemmas.{web_path_written, transport_path_written, other_path_written}
 use Rattle.gix_url.proofs.WrittenWebHostLemmas.{web_host_written}
 use Rattle.gix_url.proofs.WrittenHostLemmas.{bracketed_host_written, bare_host_written}
 use Rattle.gix_url.proofs.WrittenScpLemmas.{scp_again}
 use Rattle.gix_url.proofs.FileLemmas.{file_again}
 use Rattle.gix_url.proofs.KeptLemmas.{local_again, ext_again, helper_again}
-use Rattle.gix_url.specs.Text.{keeps_host}
+use Rattle.gix_url.specs.Text.{keeps_host, canonical_text}
 use Rattle.std.specs.Prelude.{IfSome, IsUtf8}
 use Rattle.gix_url.specs.Settled.{IsBracketedHost}
 use Rattle.gix_url.specs.Authority.{Authority}
@@ -55,6 +55,17 @@ web_again v (inr e) is h =
     let (host, there, web) = h.host in
     let writes = web_host_written v host (inr e) web h.port is.port in
     url_again v https (Some host) e https_protocol h.common (authority_with_host strict v host host h.common is there writes) (λ need. refl) there (web_path_written v (inr e) h.path (path_of v h.common)) (written_web v (inr e)) (written_web (respelled v) (inr e)) (λ c. record { common = c; host = (host, there, web); port = h.port; path = h.path })
+
+-- its text is read as the location with the spelling that was written
+pub web_spelled : (v : Location) → IsWeb v → IsValue v → IsSettledWeb v → Spells (canonical_text v) (respelled v)
+web_spelled v (inl e) is h =
+    let (host, there, web) = h.host in
+    let writes = web_host_written v host (inl e) web h.port is.port in
+    readable_spelled v (Some host) (url_readable v http (Some host) e http_protocol h.common (authority_with_host strict v host host h.common is there writes) (λ need. refl) there (web_path_written v (inl e) h.path (path_of v h.common)) (written_web v (inl e)))
+web_spelled v (inr e) is h =
+    let (host, there, web) = h.host in
+    let writes = web_host_written v host (inr e) web h.port is.port in
+    readable_spelled v (Some host) (url_readable v https (Some host) e https_protocol h.common (authority_with_host strict v host host h.common is there writes) (λ need. refl) there (web_path_written v (inr e) h.path (path_of v h.common)) (written_web v (inr e)))
 
 bare_not_strict : ¬ (bare ≡ strict)
 bare_not_strict e = cc

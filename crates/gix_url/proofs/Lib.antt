@@ -39,3 +39,4 @@ pub mod WrittenHostLemmas
 pub mod WebExactLemmas
 pub mod ClosedLemmas
 pub mod WritableLemmas
+pub mod ComponentLemmas

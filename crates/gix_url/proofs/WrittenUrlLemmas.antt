@@ -177,7 +177,7 @@ parts_spelled v named h = record {
 }
 
 -- the text is read as the location with the spelling that was written
-readable_spelled : (v : Location) (named : Option (List ℕ)) → IsReadable v named → Spells (canonical_text v) (respelled v)
+pub readable_spelled : (v : Location) (named : Option (List ℕ)) → IsReadable v named → Spells (canonical_text v) (respelled v)
 readable_spelled v named h = Spells.url (spelled_url (parts_spelled v named h) h.scheme.protocol h.scheme.not_ext record {
   host = v.host;
   pathed = h.path.present;
@@ -256,16 +256,14 @@ respelled_url v h fits written fair = record {
   spelling = fair;
 }
 
--- a settled URL comes back, where its authority and its path are written so that they are read
-pub url_again : (v : Location) (p : Protocol) (named : Option (List ℕ)) → v.scheme ≡ p → IsUrlProtocol p → IsSettledUrl v → Authority (mode_of (protocol_text p)) (authority_text v) v.user v.password named v.port × IsAuthorityPiece (authority_text v) → (requires_host (protocol_text p) ≡ true → IsSome named) → HostFor p named v.host → WritesPath (is_web_scheme (protocol_text p)) v → IsWrittenAsUrl v → IsWrittenAsUrl (respelled v) → (IsSettledUrl (respelled v) → IsSettledBy p (respelled v)) → (back : ComesBack v) × IsSettled back.reread
-url_again v p named e known h authority required hosted path written rewritten settled =
+-- a settled URL is readable, where its authority and its path are written so that they are read
+pub url_readable : (v : Location) (p : Protocol) (named : Option (List ℕ)) → v.scheme ≡ p → IsUrlProtocol p → IsSettledUrl v → Authority (mode_of (protocol_text p)) (authority_text v) v.user v.password named v.port × IsAuthorityPiece (authority_text v) → (requires_host (protocol_text p) ≡ true → IsSome named) → HostFor p named v.host → WritesPath (is_web_scheme (protocol_text p)) v → IsWrittenAsUrl v → IsReadable v named
+url_readable v p named e known h authority required hosted path written =
     let is_hosted : IsHosted v = record { user_hosted = h.user_hosted; port_hosted = h.port_hosted } in
-    let first : text v ≡ Ok (canonical_text v) = written.canonical h.unflagged is_hosted in
     let (t, is, short) = h.fits in
-    let okay : Ok t ≡ Ok (canonical_text v) = sym is ∙ first in
+    let okay : Ok t ≡ Ok (canonical_text v) = sym is ∙ written.canonical h.unflagged is_hosted in
     let same : t ≡ canonical_text v = cc in
-    let fits : FitsText (canonical_text v) = subst FitsText same short in
-    let readable : IsReadable v named = record {
+    record {
       scheme = subst IsUrlProtocol (sym e) known;
       unflagged = h.unflagged;
       authority = subst (λ q. Authority (mode_of (protocol_text q)) (authority_text v) v.user v.password named v.port) (sym e) authority.0;
@@ -273,8 +271,15 @@ url_again v p named e known h authority required hosted path written rewritten s
       required = subst (λ q. requires_host (protocol_text q) ≡ true → IsSome named) (sym e) required;
       hosted = subst (λ q. HostFor q named v.host) (sym e) hosted;
       path = subst (λ q. WritesPath (is_web_scheme (protocol_text q)) v) (sym e) path;
-      fits = fits;
-    } in
+      fits = subst FitsText same short;
+    }
+
+-- and comes back
+pub url_again : (v : Location) (p : Protocol) (named : Option (List ℕ)) → v.scheme ≡ p → IsUrlProtocol p → IsSettledUrl v → Authority (mode_of (protocol_text p)) (authority_text v) v.user v.password named v.port × IsAuthorityPiece (authority_text v) → (requires_host (protocol_text p) ≡ true → IsSome named) → HostFor p named v.host → WritesPath (is_web_scheme (protocol_text p)) v → IsWrittenAsUrl v → IsWrittenAsUrl (respelled v) → (IsSettledUrl (respelled v) → IsSettledBy p (respelled v)) → (back : ComesBack v) × IsSettled back.reread
+url_again v p named e known h authority required hosted path written rewritten settled =
+    let is_hosted : IsHosted v = record { user_hosted = h.user_hosted; port_hosted = h.port_hosted } in
+    let first : text v ≡ Ok (canonical_text v) = written.canonical h.unflagged is_hosted in
+    let readable : IsReadable v named = url_readable v p named e known h authority required hosted path written in
     let second : text (respelled v) ≡ Ok (canonical_text v) = rewritten.canonical h.unflagged (record { user_hosted = h.user_hosted; port_hosted = h.port_hosted }) ∙ ap Ok (text_respelled v named readable) in
-    let again = settled (respelled_url v h fits second path.fair) in
+    let again = settled (respelled_url v h readable.fits second path.fair) in
     readable_again v named readable first second (subst (λ q. IsSettledBy q (respelled v)) (sym e) again)
