@@ -4,7 +4,7 @@
 //! a location, and changes nothing.) Users rely on them together with the contracts of `parse`, of the writer and of
 //! the settled test, which name the same definitions.
 
-ghost use Rattle.gix_url.specs.Laws.{Closed, Exact, ExactByFields, KeepsEarlier, SettledAgain, TextDecides, Unchanged, Unique};
+ghost use Rattle.gix_url.specs.Laws.{Closed, Exact, ExactByFields, KeepsEarlier, SameComponents, SettledAgain, TextDecides, Unchanged, Unique, Writable};
 
 pub use crate::value_law::law_value;
 
@@ -16,12 +16,14 @@ pub use crate::value_law::law_value;
 ///   and has that text. Rewriters of remotes read back what they wrote. (Each `Url` is such a value: `law_value`.)
 /// - `text_decides`: settled locations with one text agree in every public field. Matchers of credentials compare
 ///   texts.
+/// - `components`: what is read of a settled location of HTTP has the same path, query and fragment.
 /// - `before`: each location that bytes spelled before the scp form took `user@[address]:path` is still what they
 ///   spell, and bytes without that shape spell nothing else. Who stored such texts reads them as before.
 pub fn law_separation()
     ensures unique { Unique }
     ensures settled_again { SettledAgain }
     ensures text_decides { TextDecides }
+    ensures components { SameComponents }
     ensures before { KeepsEarlier }
 {}
 
@@ -36,9 +38,12 @@ pub fn law_separation()
 ///   that read and write lists of remotes keep such lines to the byte. (A URL of the scheme `ext` is settled too, but
 ///   is written behind `ext::`.)
 /// - `exact_by_fields`: an unsettled remote helper or local path has the public fields of nothing that any bytes spell.
+/// - `writable`: of every kind, what is spelled has a text, and its spelling isn't its path, so a record of it isn't
+///   taken for one of the legacy form. Who stores what was read gets it back.
 pub fn law_closed()
     ensures closed { Closed }
     ensures exact { Exact }
     ensures unchanged { Unchanged }
     ensures exact_by_fields { ExactByFields }
+    ensures writable { Writable }
 {}

@@ -3,6 +3,7 @@ use Rattle.std.proofs.Common.{inl, inr}
 use Rattle.gix_url.specs.Laws.{Unchanged}
 use Rattle.gix_url.proofs.ClosedLemmas.{closed, exact}
 use Rattle.gix_url.proofs.KeptLemmas.{helper_unchanged, local_unchanged, kept_exact}
+use Rattle.gix_url.proofs.WritableLemmas.{writable}
 use Rattle.gix_url.proofs.laws.law_closed.Goals as goal
 
 -- both forms write what they read
@@ -16,4 +17,5 @@ returns c = record {
   exact = exact;
   unchanged = unchanged;
   exact_by_fields = kept_exact;
+  writable = writable;
 }

@@ -1,5 +1,6 @@
 -- Each law is a lemma.
 use Rattle.gix_url.proofs.UniqueLemmas.{spells_unique}
+use Rattle.gix_url.proofs.ComponentLemmas.{same_components}
 use Rattle.gix_url.proofs.FormLemmas.{spelled_from_before, spelled_to_before}
 use Rattle.gix_url.proofs.AgainLemmas.{settled_again, text_decides}
 use Rattle.gix_url.proofs.laws.law_separation.Goals as goal
@@ -9,5 +10,6 @@ returns c = record {
   unique = spells_unique;
   settled_again = settled_again;
   text_decides = text_decides;
+  components = same_components;
   before = λ b v. (spelled_from_before b v, spelled_to_before b v);
 }
