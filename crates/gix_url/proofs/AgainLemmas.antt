@@ -13,7 +13,7 @@ use Rattle.gix_url.specs.Hosts.Mode.{strict, bare, loose}
 use Rattle.gix_url.specs.Settled.{is_ftp, IsValue, IsSettledUrl, IsSettledWeb, IsSettledSecure, IsSettledGit, IsSettledHelperUrl, IsSettledBy, IsSettled}
 use Rattle.gix_url.specs.SettledParts.{IsWeb, HasUrlPath}
 use Rattle.gix_url.specs.Laws.{keeps_bytes, ComesBack, TextDecides}
-use Rattle.gix_url.specs.WrittenPieces.{respelled}
+use Rattle.gix_url.specs.WrittenPieces.{as_read}
 use Rattle.gix_url.proofs.SettledLemmas.{written_web, written_git, written_secure, written_other}
 use Rattle.gix_url.proofs.WrittenUrlLemmas.{IsUrlProtocol, authority_with_host, authority_without_host, readable_spelled, url_readable, url_again}
 use Rattle.gix_url.proofs.WrittenPathLemmas.{web_path_written, transport_path_written, other_path_written}
@@ -50,14 +50,14 @@ web_again : (v : Location) → IsWeb v → IsValue v → IsSettledWeb v → (bac
 web_again v (inl e) is h =
     let (host, there, web) = h.host in
     let writes = web_host_written v host (inl e) web h.port is.port in
-    url_again v http (Some host) e http_protocol h.common (authority_with_host strict v host host h.common is there writes) (λ need. refl) there (web_path_written v (inl e) h.path (path_of v h.common)) (written_web v (inl e)) (written_web (respelled v) (inl e)) (λ c. record { common = c; host = (host, there, web); port = h.port; path = h.path })
+    url_again v http (Some host) e http_protocol h.common (authority_with_host strict v host host h.common is there writes) (λ need. refl) there (web_path_written v (inl e) h.path (path_of v h.common)) (written_web v (inl e)) (written_web (as_read v) (inl e)) (λ c. record { common = c; host = (host, there, web); port = h.port; path = h.path })
 web_again v (inr e) is h =
     let (host, there, web) = h.host in
     let writes = web_host_written v host (inr e) web h.port is.port in
-    url_again v https (Some host) e https_protocol h.common (authority_with_host strict v host host h.common is there writes) (λ need. refl) there (web_path_written v (inr e) h.path (path_of v h.common)) (written_web v (inr e)) (written_web (respelled v) (inr e)) (λ c. record { common = c; host = (host, there, web); port = h.port; path = h.path })
+    url_again v https (Some host) e https_protocol h.common (authority_with_host strict v host host h.common is there writes) (λ need. refl) there (web_path_written v (inr e) h.path (path_of v h.common)) (written_web v (inr e)) (written_web (as_read v) (inr e)) (λ c. record { common = c; host = (host, there, web); port = h.port; path = h.path })
 
 -- its text is read as the location with the spelling that was written
-pub web_spelled : (v : Location) → IsWeb v → IsValue v → IsSettledWeb v → Spells (canonical_text v) (respelled v)
+pub web_spelled : (v : Location) → IsWeb v → IsValue v → IsSettledWeb v → Spells (canonical_text v) (as_read v)
 web_spelled v (inl e) is h =
     let (host, there, web) = h.host in
     let writes = web_host_written v host (inl e) web h.port is.port in
@@ -84,7 +84,7 @@ secure_again v e is h =
     let (host, there, unbracketed) = h.host in
     let (named, writes, peels) = bare_host_written v host e unbracketed (subst (λ o. IfSome o IsUtf8) there is.host) is.port in
     let (path, homed, raw) = transport_path_written v (inl e) h.path (path_of v h.common) h.raw in
-    url_again v ssh (Some named) e ssh_protocol h.common (authority_with_host bare v host named h.common is there writes) (λ need. refl) (host, peels, there) path (written_secure v e h.path) (written_secure (respelled v) e homed) (λ c. inr record { common = c; host = (host, there, unbracketed); path = homed; raw = raw })
+    url_again v ssh (Some named) e ssh_protocol h.common (authority_with_host bare v host named h.common is there writes) (λ need. refl) (host, peels, there) path (written_secure v e h.path) (written_secure (as_read v) e homed) (λ c. inr record { common = c; host = (host, there, unbracketed); path = homed; raw = raw })
 
 -- ---- Git's own protocol
 
@@ -97,7 +97,7 @@ git_again v e is h =
     let (host, there, bracketed) = h.host in
     let writes = bracketed_host_written bare v host bare_not_strict (ap keeps_host e) bracketed (subst (λ o. IfSome o IsUtf8) there is.host) is.port in
     let (path, homed, raw) = transport_path_written v (inr e) h.path (path_of v h.common) h.raw in
-    url_again v git (Some host) e git_protocol h.common (authority_with_host bare v host host h.common is there writes) (λ need. refl) there path (written_git v e) (written_git (respelled v) e) (λ c. record { common = c; host = (host, there, bracketed); path = homed; raw = raw })
+    url_again v git (Some host) e git_protocol h.common (authority_with_host bare v host host h.common is there writes) (λ need. refl) there path (written_git v e) (written_git (as_read v) e) (λ c. record { common = c; host = (host, there, bracketed); path = homed; raw = raw })
 
 -- ---- other schemes
 
@@ -148,14 +148,14 @@ other_by name v None e there is h =
     let (path, raw) = other_path_written v name e h.path (path_of v h.common) h.raw in
     let authority = authority_without_host (mode_of name) v h.common there in
     let required : requires_host name ≡ true → IsSome {T = List ℕ} None = λ need. subst IsSome there (h.hosted (sym (other_hosted name other) ∙ need)) in
-    url_again v (helper_url name) None e (helper_url_protocol name h.scheme_text other) h.common authority required there (subst (λ web. WritesPath web v) (sym other.not_web) path) (written_other v name e h.scheme_text) (written_other (respelled v) name e h.scheme_text) (λ c. record { common = c; scheme_text = h.scheme_text; unknown = h.unknown; host = h.host; hosted = h.hosted; path = h.path; raw = raw })
+    url_again v (helper_url name) None e (helper_url_protocol name h.scheme_text other) h.common authority required there (subst (λ web. WritesPath web v) (sym other.not_web) path) (written_other v name e h.scheme_text) (written_other (as_read v) name e h.scheme_text) (λ c. record { common = c; scheme_text = h.scheme_text; unknown = h.unknown; host = h.host; hosted = h.hosted; path = h.path; raw = raw })
 other_by name v (Some host) e there is h =
     let other = other_scheme name h.unknown in
     let bracketed = subst (λ o. IfSome o IsBracketedHost) there h.host in
     let writes = bracketed_host_written loose v host loose_not_strict (ap keeps_host e) bracketed (subst (λ o. IfSome o IsUtf8) there is.host) is.port in
     let (path, raw) = other_path_written v name e h.path (path_of v h.common) h.raw in
     let authority = subst (λ mode. Authority mode (authority_text v) v.user v.password (Some host) v.port × IsAuthorityPiece (authority_text v)) (sym (other_mode name other)) (authority_with_host loose v host host h.common is there writes) in
-    url_again v (helper_url name) (Some host) e (helper_url_protocol name h.scheme_text other) h.common authority (λ need. refl) there (subst (λ web. WritesPath web v) (sym other.not_web) path) (written_other v name e h.scheme_text) (written_other (respelled v) name e h.scheme_text) (λ c. record { common = c; scheme_text = h.scheme_text; unknown = h.unknown; host = h.host; hosted = h.hosted; path = h.path; raw = raw })
+    url_again v (helper_url name) (Some host) e (helper_url_protocol name h.scheme_text other) h.common authority (λ need. refl) there (subst (λ web. WritesPath web v) (sym other.not_web) path) (written_other v name e h.scheme_text) (written_other (as_read v) name e h.scheme_text) (λ c. record { common = c; scheme_text = h.scheme_text; unknown = h.unknown; host = h.host; hosted = h.hosted; path = h.path; raw = raw })
 
 -- ---- all kinds
 

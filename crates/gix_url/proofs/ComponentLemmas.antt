@@ -21,7 +21,7 @@ use Rattle.gix_url.specs.Components.{Components, space, ampersand, equals_sign, 
 use Rattle.gix_url.specs.Text.{roots_path, plain_path, matching_or, canonical_path, canonical_text, text}
 use Rattle.gix_url.specs.Settled.{IsSettledUrl, IsSettledWeb, IsSettledBy, IsSettled}
 use Rattle.gix_url.specs.SettledParts.{HasFairSpelling, IsWeb}
-use Rattle.gix_url.specs.WrittenPieces.{respelled}
+use Rattle.gix_url.specs.WrittenPieces.{as_read}
 use Rattle.gix_url.specs.Laws.{SameComponents}
 use Rattle.gix_url.proofs.CutLemmas.{cut_unique, free_or_cut, not_free}
 use Rattle.gix_url.proofs.EscapeLemmas.{is_escape_byte, bytes_from_utf8, decode_byte, decode_encode, decode_encode_utf8, encode_nil, encode_empty, encode-append, encode_byte_kept, encode_lacks_kept, lacks_from_encode}
@@ -487,10 +487,10 @@ retained_parts v true components holds text h = parts_rewritten (λ x. percent_e
 retained_parts v false components lacks text h = parts_rewritten (λ x. x) v (spelled_as v None) components (plain_rewritten v text h)
 
 -- the components with the spelling that is read, by whether the given one matches
-respelled_parts : (v : Location) (b : Bool) (components : Components) → IsWeb v → IsSettledUrl v → matches v.spelling v.path ≡ b → WebParts (respelled v) components ↔ WebParts v components
-respelled_parts v true components web settled h =
+parts_by : (v : Location) (b : Bool) (components : Components) → IsWeb v → IsSettledUrl v → matches v.spelling v.path ≡ b → WebParts (as_read v) components ↔ WebParts v components
+parts_by v true components web settled h =
     subst (λ o. WebParts (spelled_as v o) components ↔ WebParts v components) (sym (spelled_again v web settled.spelling h)) (λ parts. parts, λ parts. parts)
-respelled_parts v false components web settled h =
+parts_by v false components web settled h =
     let read : retained (percent_encode PATH v.path) ≡ retained (canonical_path v) = ap retained (sym (web_path v web ∙ unmatched v.spelling v.path (percent_encode PATH v.path) h)) in
     subst (λ o. WebParts (spelled_as v o) components ↔ WebParts v components) read (retained_parts v (has_percent (percent_encode PATH v.path)) components refl settled.path_text h)
 
@@ -518,8 +518,8 @@ pub same_components : SameComponents
 same_components v w t is web settled has spelled components =
     let h = settled_web v web settled in
     let same = web_text v t web h.common has in
-    let read : w ≡ respelled v = spells_unique (canonical_text v) w (respelled v) (subst (λ z. Spells z w) same spelled) (web_spelled v web is h) in
-    let parts = respelled_parts v (matches v.spelling v.path) components web h.common refl in
-    let first = web_parts (respelled v) components web in
+    let read : w ≡ as_read v = spells_unique (canonical_text v) w (as_read v) (subst (λ z. Spells z w) same spelled) (web_spelled v web is h) in
+    let parts = parts_by v (matches v.spelling v.path) components web h.common refl in
+    let first = web_parts (as_read v) components web in
     let second = web_parts v components web in
     subst (λ l. PartsOf l components ↔ PartsOf v components) (sym read) (λ x. second.1 (parts.0 (first.0 x)), λ x. first.1 (parts.1 (second.0 x)))

@@ -15,7 +15,7 @@ use Rattle.gix_url.specs.Grammar.{path_for, or_root, from_home, retained, requir
 use Rattle.gix_url.specs.Text.{canonical_path, root_part, plain_path, matching_or, roots_path}
 use Rattle.gix_url.specs.Settled.{HasMatch, IsFairSpelling, IsRawPath, IsTransportPath, first_byte, begins_at_home}
 use Rattle.gix_url.specs.SettledParts.{HasFairSpelling, HasUrlPath, IsRootedOrEmpty, IsWeb}
-use Rattle.gix_url.specs.WrittenPieces.{IsEscapedPiece, WritesPath, respelled}
+use Rattle.gix_url.specs.WrittenPieces.{IsEscapedPiece, WritesPath, as_read}
 use Rattle.gix_url.proofs.EscapeLemmas.{decode_kept, decode_encode_utf8, encode_byte_kept, encode_sound, sound_free, sound_kept, utf8-append, utf8_byte, utf8_encode, white_space-append, white_space_byte}
 use Rattle.gix_url.proofs.EscapeSets.{path_holds, white_space_path}
 
@@ -246,7 +246,7 @@ rawly_plainly v r url raw = record {
 }
 
 -- such a path is written so that it means the path, the same again, and raw again
-rawly_written : (v : Location) → IsRawly v → HasUrlPath v → IsRawPath v → WritesPath false v × IsRawPath (respelled v)
+rawly_written : (v : Location) → IsRawly v → HasUrlPath v → IsRawPath v → WritesPath false v × IsRawPath (as_read v)
 rawly_written v r url raw =
     let p = rawly_plainly v r url raw in
     let w : IsWriting v.path v.path (canonical_path v) = subst (λ x. IsWriting v.path x (canonical_path v)) r.plain (plainly_writing false v p url.spelling) in
@@ -261,7 +261,7 @@ other_starts (b ∷ path) (inl none) = inl none
 other_starts (b ∷ path) (inr begins) = inr (rw begins refl)
 
 -- the written path of a settled URL of another scheme means its path, and is written the same again
-pub other_path_written : (v : Location) (name : List ℕ) → v.scheme ≡ helper_url name → IsRootedOrEmpty v.path → HasUrlPath v → IsRawPath v → WritesPath false v × IsRawPath (respelled v)
+pub other_path_written : (v : Location) (name : List ℕ) → v.scheme ≡ helper_url name → IsRootedOrEmpty v.path → HasUrlPath v → IsRawPath v → WritesPath false v × IsRawPath (as_read v)
 other_path_written v name e rooted url raw = rawly_written v record {
   root = cond-false _ _ _ (and_left _ _ (ap roots_path e));
   starts = other_starts v.path rooted;
@@ -376,7 +376,7 @@ home_written v facts h =
     }
 
 -- by where the path stands
-transport_by : (v : Location) → HasHomes v.scheme → IsTransportPath v → HasUrlPath v → IsRawPath v → WritesPath false v × IsTransportPath (respelled v) × IsRawPath (respelled v)
+transport_by : (v : Location) → HasHomes v.scheme → IsTransportPath v → HasUrlPath v → IsRawPath v → WritesPath false v × IsTransportPath (as_read v) × IsRawPath (as_read v)
 transport_by v facts (inl rooted) url raw =
     let both = rawly_written v (rooted_rawly v facts rooted.0 rooted.1) url raw in
     (both.0, inl rooted, both.1)
@@ -386,5 +386,5 @@ transport_by v facts (inr home) url raw =
     (home_written v facts h, inr (home.0, λ (s, is, same). none_or_some s (sym (home_none v facts h) ∙ is)), λ none. all)
 
 -- the written path of a settled URL of Secure Shell or of Git's own protocol means its path, and is written the same again
-pub transport_path_written : (v : Location) → (v.scheme ≡ ssh) ⊎ (v.scheme ≡ git) → IsTransportPath v → HasUrlPath v → IsRawPath v → WritesPath false v × IsTransportPath (respelled v) × IsRawPath (respelled v)
+pub transport_path_written : (v : Location) → (v.scheme ≡ ssh) ⊎ (v.scheme ≡ git) → IsTransportPath v → HasUrlPath v → IsRawPath v → WritesPath false v × IsTransportPath (as_read v) × IsRawPath (as_read v)
 transport_path_written v transport path url raw = transport_by v (homes v transport) path url raw

@@ -30,7 +30,7 @@ use Rattle.gix_url.specs.SettledParts.{HasFairSpelling, IsHosted, IsWrittenAsUrl
 use Rattle.std.proofs.lemmas.Option.{IfSome_then}
 use Rattle.gix_url.specs.Hosts.Names.{nothing}
 use Rattle.gix_url.specs.Laws.{ComesBack}
-use Rattle.gix_url.specs.WrittenPieces.{IsEscapedPiece, IsAuthorityPiece, WritesInformation, host_and_port, WritesHost, respelled, WritesPath}
+use Rattle.gix_url.specs.WrittenPieces.{IsEscapedPiece, IsAuthorityPiece, WritesInformation, host_and_port, WritesHost, as_read, WritesPath}
 use Rattle.gix_url.proofs.WrittenUserLemmas.{information_written, joined_escaped, joined_pieces, at_sign_piece}
 use Rattle.gix_url.proofs.UrlLocationLemmas.{spelled_url}
 use Rattle.gix_url.proofs.LengthLemmas.{fits_from_text}
@@ -177,30 +177,30 @@ parts_spelled v named h = record {
 }
 
 -- the text is read as the location with the spelling that was written
-pub readable_spelled : (v : Location) (named : Option (List ℕ)) → IsReadable v named → Spells (canonical_text v) (respelled v)
+pub readable_spelled : (v : Location) (named : Option (List ℕ)) → IsReadable v named → Spells (canonical_text v) (as_read v)
 readable_spelled v named h = Spells.url (spelled_url (parts_spelled v named h) h.scheme.protocol h.scheme.not_ext record {
   host = v.host;
   pathed = h.path.present;
   hosted = h.hosted;
-  value = ap (λ f. record (respelled v) { flag = f }) h.unflagged ∙ ap (λ p. record (respelled v) { flag = false; path = p }) (sym h.path.meant);
+  value = ap (λ f. record (as_read v) { flag = f }) h.unflagged ∙ ap (λ p. record (as_read v) { flag = false; path = p }) (sym h.path.meant);
 })
 
 -- the host is written the same with another spelling
-host_respelled : (v : Location) (host : Option (List ℕ)) → host_part (respelled v) host ≡ host_part v host
-host_respelled v None = refl
-host_respelled v (Some host) = refl
+host_as_read : (v : Location) (host : Option (List ℕ)) → host_part (as_read v) host ≡ host_part v host
+host_as_read v None = refl
+host_as_read v (Some host) = refl
 
 -- so is the text
-text_respelled : (v : Location) (named : Option (List ℕ)) → IsReadable v named → canonical_text (respelled v) ≡ canonical_text v
-text_respelled v named h =
-    ap (λ t. protocol_text v.scheme ++ (codes "://" ++ (user_information v.user v.password ++ t))) (ap (λ host. host ++ (port_part v.port ++ canonical_path (respelled v))) (host_respelled v v.host) ∙ ap (λ path. host_part v v.host ++ (port_part v.port ++ path)) h.path.again)
+text_as_read : (v : Location) (named : Option (List ℕ)) → IsReadable v named → canonical_text (as_read v) ≡ canonical_text v
+text_as_read v named h =
+    ap (λ t. protocol_text v.scheme ++ (codes "://" ++ (user_information v.user v.password ++ t))) (ap (λ host. host ++ (port_part v.port ++ canonical_path (as_read v))) (host_as_read v v.host) ∙ ap (λ path. host_part v v.host ++ (port_part v.port ++ path)) h.path.again)
 
 -- a readable location comes back
-readable_again : (v : Location) (named : Option (List ℕ)) → IsReadable v named → text v ≡ Ok (canonical_text v) → text (respelled v) ≡ Ok (canonical_text v) → IsSettled (respelled v) → (back : ComesBack v) × IsSettled back.reread
+readable_again : (v : Location) (named : Option (List ℕ)) → IsReadable v named → text v ≡ Ok (canonical_text v) → text (as_read v) ≡ Ok (canonical_text v) → IsSettled (as_read v) → (back : ComesBack v) × IsSettled back.reread
 readable_again v named h first second settled = (
   record {
     written = canonical_text v;
-    reread = respelled v;
+    reread = as_read v;
     has_text = first;
     spelled = readable_spelled v named h;
     same_fields = refl;
@@ -244,8 +244,8 @@ authority_without_host mode v h e =
     (subst (λ t. Authority mode t v.user v.password None v.port) (sym empty) (host_alone refl (nothing refl refl port) user password), subst IsAuthorityPiece (sym empty) empty_piece)
 
 -- all that a settled URL says but of host and scheme is kept with another spelling
-respelled_url : (v : Location) → IsSettledUrl v → FitsText (canonical_text v) → text (respelled v) ≡ Ok (canonical_text v) → HasFairSpelling (respelled v) → IsSettledUrl (respelled v)
-respelled_url v h fits written fair = record {
+url_as_read : (v : Location) → IsSettledUrl v → FitsText (canonical_text v) → text (as_read v) ≡ Ok (canonical_text v) → HasFairSpelling (as_read v) → IsSettledUrl (as_read v)
+url_as_read v h fits written fair = record {
   unflagged = h.unflagged;
   password = h.password;
   user = h.user;
@@ -275,11 +275,11 @@ url_readable v p named e known h authority required hosted path written =
     }
 
 -- and comes back
-pub url_again : (v : Location) (p : Protocol) (named : Option (List ℕ)) → v.scheme ≡ p → IsUrlProtocol p → IsSettledUrl v → Authority (mode_of (protocol_text p)) (authority_text v) v.user v.password named v.port × IsAuthorityPiece (authority_text v) → (requires_host (protocol_text p) ≡ true → IsSome named) → HostFor p named v.host → WritesPath (is_web_scheme (protocol_text p)) v → IsWrittenAsUrl v → IsWrittenAsUrl (respelled v) → (IsSettledUrl (respelled v) → IsSettledBy p (respelled v)) → (back : ComesBack v) × IsSettled back.reread
+pub url_again : (v : Location) (p : Protocol) (named : Option (List ℕ)) → v.scheme ≡ p → IsUrlProtocol p → IsSettledUrl v → Authority (mode_of (protocol_text p)) (authority_text v) v.user v.password named v.port × IsAuthorityPiece (authority_text v) → (requires_host (protocol_text p) ≡ true → IsSome named) → HostFor p named v.host → WritesPath (is_web_scheme (protocol_text p)) v → IsWrittenAsUrl v → IsWrittenAsUrl (as_read v) → (IsSettledUrl (as_read v) → IsSettledBy p (as_read v)) → (back : ComesBack v) × IsSettled back.reread
 url_again v p named e known h authority required hosted path written rewritten settled =
     let is_hosted : IsHosted v = record { user_hosted = h.user_hosted; port_hosted = h.port_hosted } in
     let first : text v ≡ Ok (canonical_text v) = written.canonical h.unflagged is_hosted in
     let readable : IsReadable v named = url_readable v p named e known h authority required hosted path written in
-    let second : text (respelled v) ≡ Ok (canonical_text v) = rewritten.canonical h.unflagged (record { user_hosted = h.user_hosted; port_hosted = h.port_hosted }) ∙ ap Ok (text_respelled v named readable) in
-    let again = settled (respelled_url v h readable.fits second path.fair) in
-    readable_again v named readable first second (subst (λ q. IsSettledBy q (respelled v)) (sym e) again)
+    let second : text (as_read v) ≡ Ok (canonical_text v) = rewritten.canonical h.unflagged (record { user_hosted = h.user_hosted; port_hosted = h.port_hosted }) ∙ ap Ok (text_as_read v named readable) in
+    let again = settled (url_as_read v h readable.fits second path.fair) in
+    readable_again v named readable first second (subst (λ q. IsSettledBy q (as_read v)) (sym e) again)

@@ -41,8 +41,8 @@ pub record WritesHost (mode : Mode) (v : Location) (host named : List ℕ) : Typ
   pub piece : IsAuthorityPiece (host_and_port v host)
 
 -- the location with the spelling that its URL is read with
-abbrev pub respelled : Location → Location
-respelled v = record v { spelling = retained (canonical_path v) }
+abbrev pub as_read : Location → Location
+as_read v = record v { spelling = retained (canonical_path v) }
 
 -- the written path means the path, and is written the same again
 pub record WritesPath (web : Bool) (v : Location) : Type 0 where
@@ -51,5 +51,5 @@ pub record WritesPath (web : Bool) (v : Location) : Type 0 where
   pub decoded : IsUtf8 (percent_decode (canonical_path v))
   pub meant : path_for v.scheme (percent_decode (canonical_path v)) ≡ v.path
   pub present : requires_path v.scheme ≡ true → 0 < length (canonical_path v)
-  pub again : canonical_path (respelled v) ≡ canonical_path v
-  pub fair : HasFairSpelling (respelled v)
+  pub again : canonical_path (as_read v) ≡ canonical_path v
+  pub fair : HasFairSpelling (as_read v)
