@@ -14,7 +14,7 @@ pub use crate::value_law::law_value;
 ///   location of its input.
 /// - `settled_again`: the text of a settled location spells a location with the same public fields, which is settled
 ///   and has that text. Rewriters of remotes read back what they wrote. (Each `Url` is such a value: `law_value`.)
-/// - `text_decides`: settled locations with one text agree in every public field. Matchers of credentials compare
+/// - `text_decides`: two settled locations whose texts are equal have equal public fields. Matchers of credentials compare
 ///   texts.
 /// - `components`: what is read of a settled location of HTTP has the same path, query and fragment.
 /// - `before`: each location that bytes spelled before the scp form took `user@[address]:path` is still what they
