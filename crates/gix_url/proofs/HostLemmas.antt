@@ -24,8 +24,9 @@ use Rattle.gix_url.specs.Hosts.{Mode, is_dns_byte, is_http_host_byte, HostText, 
 use Rattle.gix_url.specs.Hosts.Mode.{strict, bare, loose}
 use Rattle.gix_url.specs.Flaws.{IsNoPort, HasBadPort, IsPortPlace, IsNoInner, BracketsAround, HasBadHost, NameFlaw}
 use Rattle.gix_url.specs.HostPieces.{EndsHost, Follows, IsEscapedZone, IsInner, in_brackets, lowercase_address, shown_literal}
-use Rattle.gix_url.proofs.CutLemmas.{heads, tails, class_cut_unique, cut_unique, free-append, free-cons, free_head_tail, free_of_all, free_or_cut, not_free}
-use Rattle.gix_url.proofs.AddressLemmas.{is_address_byte, address_bytes, address_free, address_two_colons}
+use Rattle.gix_url.proofs.CutLemmas.{heads, tails, class_cut_unique, cut_unique, free-append, free-cons, free_begins, free_head_tail, free_of_all, free_or_cut, begins-append, not_free}
+use Rattle.gix_url.proofs.EscapeLemmas.{ascii_class, decode_kept, decodes_in_parts, sound_free, utf8_byte}
+use Rattle.gix_url.proofs.AddressLemmas.{is_address_byte, address_byte_ascii, address_bytes, address_free, address_two_colons}
 
 -- ---- ports
 
@@ -151,16 +152,6 @@ follows_unique {mode} base other host second port last same (Follows.number c m 
     (h ∙ ap Some same ∙ sym k, p ∙ ap Some number ∙ sym q)
 
 -- ---- the looks of a piece
-
--- a text that is free of a byte doesn't begin with it
-free_begins : (c : ℕ) (t : List ℕ) → FreeOf c t → begins_with c t ≡ false
-free_begins c [] h = refl
-free_begins c (b ∷ t) h = (free_head_tail c b t h).0
-
--- how a text begins, so does the whole with another text behind it
-begins-append : (c : ℕ) (t rest : List ℕ) → 0 < length t → begins_with c (t ++ rest) ≡ begins_with c t
-begins-append c [] rest some = absurd (omega arith)
-begins-append c (b ∷ t) rest some = refl
 
 -- a host and a port's place
 abbrev pub IsPlainPiece : List ℕ → Type 0
@@ -408,30 +399,12 @@ flawed_unnamed mode piece fault.HostRequired h host port n = h
 
 -- ---- ASCII and UTF-8
 
--- bytes of a class are ASCII where the class is
-ascii_class : (test : ℕ → Bool) → ((b : ℕ) → test b ≡ true → b < 128) → (bs : List ℕ) → list_all test bs ≡ true → IsAscii bs
-ascii_class test within [] h i = omega arith
-ascii_class test within (b ∷ bs) h zero = within b (and_parts (test b) (list_all test bs) h).0
-ascii_class test within (b ∷ bs) h (suc i) = ascii_class test within bs (and_parts (test b) (list_all test bs) h).1 i
-
--- one such byte is text
-one_ascii : (b : ℕ) → b < 128 → IsAscii (b ∷ [])
-one_ascii b h zero = h
-one_ascii b h (suc i) = omega arith
-
-one_utf8 : (b : ℕ) → b < 128 → IsUtf8 (b ∷ [])
-one_utf8 b h = IsUtf8-from_ascii (b ∷ []) (one_ascii b h)
-
 -- decimal digits are ASCII
 digit_ascii : (b : ℕ) → is_ascii_digit b ≡ true → b < 128
 digit_ascii b h = grind (arith, nat_tests)
 
 pub digits_utf8 : (bs : List ℕ) → list_all is_ascii_digit bs ≡ true → IsUtf8 bs
 digits_utf8 bs h = IsUtf8-from_ascii bs (ascii_class is_ascii_digit digit_ascii bs h)
-
--- a byte of an address is ASCII
-address_byte_ascii : (b : ℕ) → is_address_byte b ≡ true → b < 128
-address_byte_ascii b h = grind (arith, nat_tests)
 
 -- lower case keeps ASCII
 byte_lowercase_ascii : (b : ℕ) → b < 128 → to_ascii_lowercase b < 128
@@ -453,10 +426,7 @@ address_lowercase_utf8 t h = IsUtf8-from_ascii (lowercase t) (address_lowercase_
 
 -- what holds no `%` stays, with another text behind it
 decoded_behind : (a rest : List ℕ) → FreeOf percent_sign a → percent_decode (a ++ rest) ≡ a ++ percent_decode rest
-decoded_behind [] rest h = refl
-decoded_behind (b ∷ a) rest h =
-    let (other, more) = free_head_tail percent_sign b a h in
-    percent_decode_not_percent b (a ++ rest) (λ e. both_ways (b == percent_sign) other (eq-eqb b percent_sign e)) ∙ ap (λ t. b ∷ t) (decoded_behind a rest more)
+decoded_behind a rest h = decodes_in_parts a rest (sound_free a h) ∙ ap (λ front. front ++ percent_decode rest) (decode_kept a h)
 
 -- lower case brings no `%`
 byte_lowercase_percent : (b : ℕ) → (b == percent_sign) ≡ false → (to_ascii_lowercase b == percent_sign) ≡ false
@@ -468,10 +438,6 @@ lowercase_no_percent (b ∷ a) h =
     let (other, more) = free_head_tail percent_sign b a h in
     free-cons percent_sign (to_ascii_lowercase b) (lowercase a) (byte_lowercase_percent b other) (lowercase_no_percent a more)
 
--- an address stays as it is decoded
-address_decoded : (a : List ℕ) → FreeOf percent_sign a → percent_decode a ≡ a
-address_decoded a h = ap percent_decode (sym (append-nil a)) ∙ decoded_behind a [] h ∙ ap (λ t. a ++ t) percent_decode-nil ∙ append-nil a
-
 -- and `%25` behind it is a `%`
 zone_decoded : (a z : List ℕ) → FreeOf percent_sign a → percent_decode (a ++ percent_sign ∷ (50 ∷ (53 ∷ z))) ≡ a ++ percent_sign ∷ percent_decode z
 zone_decoded a z h =
@@ -481,7 +447,7 @@ zone_decoded a z h =
 literal_decoded : (t n : List ℕ) → Literal t n → percent_decode n ≡ lowercase_address (percent_decode t)
 literal_decoded t n (address h e) =
     let free = address_no_percent t h in
-    ap percent_decode e ∙ address_decoded (lowercase t) (lowercase_no_percent t free) ∙ sym (ap lowercase_address (address_decoded t free) ∙ lowercase_address_alone t free)
+    ap percent_decode e ∙ decode_kept (lowercase t) (lowercase_no_percent t free) ∙ sym (ap lowercase_address (decode_kept t free) ∙ lowercase_address_alone t free)
 literal_decoded t n (zoned a z h zone is e) =
     let free = address_no_percent a h in
     ap percent_decode e ∙ zone_decoded (lowercase a) z (lowercase_no_percent a free)
@@ -490,11 +456,11 @@ literal_decoded t n (zoned a z h zone is e) =
 -- a decoded literal is text
 literal_utf8 : (t n : List ℕ) → Literal t n → IsUtf8 (percent_decode n)
 literal_utf8 t n (address h e) =
-    let shown = ap percent_decode e ∙ address_decoded (lowercase t) (lowercase_no_percent t (address_no_percent t h)) in
+    let shown = ap percent_decode e ∙ decode_kept (lowercase t) (lowercase_no_percent t (address_no_percent t h)) in
     subst IsUtf8 (sym shown) (address_lowercase_utf8 t h)
 literal_utf8 t n (zoned a z h zone is e) =
     let shown = ap percent_decode e ∙ zone_decoded (lowercase a) z (lowercase_no_percent a (address_no_percent a h)) in
-    subst IsUtf8 (sym shown) (IsUtf8-append (lowercase a) (percent_sign ∷ percent_decode z) (address_lowercase_utf8 a h) (IsUtf8-append (percent_sign ∷ []) (percent_decode z) (one_utf8 percent_sign (omega arith)) zone.text))
+    subst IsUtf8 (sym shown) (IsUtf8-append (lowercase a) (percent_sign ∷ percent_decode z) (address_lowercase_utf8 a h) (IsUtf8-append (percent_sign ∷ []) (percent_decode z) (utf8_byte percent_sign (omega arith)) zone.text))
 
 -- outside HTTP a literal between brackets stands for its decoding
 bracketed_literal : (t n : List ℕ) → Literal t n → Bracketed t (lowercase_address (percent_decode t))
@@ -631,10 +597,10 @@ host_text_utf8 loose t named h = subst IsUtf8 (sym h.1) (normal_utf8 (percent_de
 
 -- a byte in front of or behind a text
 utf8_cons : (b : ℕ) (t : List ℕ) → b < 128 → IsUtf8 t → IsUtf8 (b ∷ t)
-utf8_cons b t h u = IsUtf8-append (b ∷ []) t (one_utf8 b h) u
+utf8_cons b t h u = IsUtf8-append (b ∷ []) t (utf8_byte b h) u
 
 utf8_push : (b : ℕ) (t : List ℕ) → b < 128 → IsUtf8 t → IsUtf8 (t ++ b ∷ [])
-utf8_push b t h u = IsUtf8-append t (b ∷ []) u (one_utf8 b h)
+utf8_push b t h u = IsUtf8-append t (b ∷ []) u (utf8_byte b h)
 
 -- the normal form of a literal is text
 literal_normal_utf8 : (t n : List ℕ) → Literal t n → IsUtf8 n
