@@ -7,10 +7,12 @@ use Rattle.std.proofs.lemmas.List.{map-append, length-map}
 use Rattle.std.proofs.lemmas.List.Folds.{list_all-append}
 use Rattle.std.specs.List.{list_all}
 use Rattle.std.specs.Char.{digit_value, is_ascii_hexdigit, to_ascii_lowercase}
+use Rattle.std.specs.Str.{IsUtf8}
 use Rattle.std.specs.Str.Parse.{AllDigits}
 use Rattle.gix_url.specs.Bytes.{colon, dot, FreeOf, lowercase}
 use Rattle.gix_url.specs.Addresses.{IsGroup, IsOctet, IsIpv4Text, joined_by, AreItems, IsIpv6Text}
 use Rattle.gix_url.proofs.CutLemmas.{free_of_all}
+use Rattle.gix_url.proofs.EscapeLemmas.{utf8_class}
 
 -- a byte of an address: a hexadecimal digit, `:` or `.`
 abbrev pub is_address_byte : ℕ → Bool
@@ -94,6 +96,10 @@ address_bytes t (inr short) =
 -- an IPv6 text holds no other byte
 pub address_free : (c : ℕ) (t : List ℕ) → is_address_byte c ≡ false → IsIpv6Text t → FreeOf c t
 address_free c t other h = free_of_all is_address_byte c t (address_bytes t h) other
+
+-- an IPv6 text is UTF-8
+pub address_utf8 : (t : List ℕ) → IsIpv6Text t → IsUtf8 t
+address_utf8 t h = utf8_class is_address_byte address_byte_ascii t (address_bytes t h)
 
 -- a text that holds two colons
 abbrev pub TwoColons : List ℕ → Type 0

@@ -432,6 +432,10 @@ ascii_class test within [] h i = omega arith
 ascii_class test within (b ∷ bs) h zero = within b (and_parts (test b) (list_all test bs) h).0
 ascii_class test within (b ∷ bs) h (suc i) = ascii_class test within bs (and_parts (test b) (list_all test bs) h).1 i
 
+-- so they are UTF-8
+pub utf8_class : (test : ℕ → Bool) → ((b : ℕ) → test b ≡ true → b < 128) → (bs : List ℕ) → list_all test bs ≡ true → IsUtf8 bs
+utf8_class test within bs h = IsUtf8-from_ascii bs (ascii_class test within bs h)
+
 -- an ASCII byte as a text
 pub ascii_byte : (c : ℕ) → c < 128 → IsAscii (c ∷ [])
 ascii_byte c ascii = IsAscii-from_all (c ∷ []) (All-cons (λ b. b < 128) c [] ascii (All-nil (λ b. b < 128)))

@@ -25,8 +25,8 @@ use Rattle.gix_url.specs.Hosts.Mode.{strict, bare, loose}
 use Rattle.gix_url.specs.Flaws.{IsNoPort, HasBadPort, IsPortPlace, IsNoInner, BracketsAround, HasBadHost, NameFlaw}
 use Rattle.gix_url.specs.HostPieces.{EndsHost, Follows, IsEscapedZone, IsInner, in_brackets, lowercase_address, shown_literal}
 use Rattle.gix_url.proofs.CutLemmas.{heads, tails, class_cut_unique, cut_unique, free-append, free-cons, free_begins, free_head_tail, free_of_all, free_or_cut, begins-append, not_free}
-use Rattle.gix_url.proofs.EscapeLemmas.{ascii_class, decode_kept, decodes_in_parts, sound_free, utf8_byte}
-use Rattle.gix_url.proofs.AddressLemmas.{is_address_byte, address_byte_ascii, address_bytes, address_free, address_two_colons}
+use Rattle.gix_url.proofs.EscapeLemmas.{ascii_class, decode_kept, decodes_in_parts, sound_free, utf8_byte, utf8_class}
+use Rattle.gix_url.proofs.AddressLemmas.{is_address_byte, address_bytes, address_free, address_two_colons, address_utf8, address-lowercase}
 
 -- ---- ports
 
@@ -404,7 +404,7 @@ digit_ascii : (b : ℕ) → is_ascii_digit b ≡ true → b < 128
 digit_ascii b h = grind (arith, nat_tests)
 
 pub digits_utf8 : (bs : List ℕ) → list_all is_ascii_digit bs ≡ true → IsUtf8 bs
-digits_utf8 bs h = IsUtf8-from_ascii bs (ascii_class is_ascii_digit digit_ascii bs h)
+digits_utf8 bs h = utf8_class is_ascii_digit digit_ascii bs h
 
 -- lower case keeps ASCII
 byte_lowercase_ascii : (b : ℕ) → b < 128 → to_ascii_lowercase b < 128
@@ -414,13 +414,6 @@ lowercase_ascii : (bs : List ℕ) → IsAscii bs → IsAscii (lowercase bs)
 lowercase_ascii [] h i = omega arith
 lowercase_ascii (b ∷ bs) h zero = byte_lowercase_ascii b (h 0)
 lowercase_ascii (b ∷ bs) h (suc i) = lowercase_ascii bs (λ k. h (suc k)) i
-
--- so an address in lower case is text
-address_lowercase_ascii : (t : List ℕ) → IsIpv6Text t → IsAscii (lowercase t)
-address_lowercase_ascii t h = lowercase_ascii t (ascii_class is_address_byte address_byte_ascii t (address_bytes t h))
-
-address_lowercase_utf8 : (t : List ℕ) → IsIpv6Text t → IsUtf8 (lowercase t)
-address_lowercase_utf8 t h = IsUtf8-from_ascii (lowercase t) (address_lowercase_ascii t h)
 
 -- ---- decoding behind an address
 
@@ -457,10 +450,10 @@ literal_decoded t n (zoned a z h zone is e) =
 literal_utf8 : (t n : List ℕ) → Literal t n → IsUtf8 (percent_decode n)
 literal_utf8 t n (address h e) =
     let shown = ap percent_decode e ∙ decode_kept (lowercase t) (lowercase_no_percent t (address_no_percent t h)) in
-    subst IsUtf8 (sym shown) (address_lowercase_utf8 t h)
+    subst IsUtf8 (sym shown) (address_utf8 (lowercase t) (address-lowercase t h))
 literal_utf8 t n (zoned a z h zone is e) =
     let shown = ap percent_decode e ∙ zone_decoded (lowercase a) z (lowercase_no_percent a (address_no_percent a h)) in
-    subst IsUtf8 (sym shown) (IsUtf8-append (lowercase a) (percent_sign ∷ percent_decode z) (address_lowercase_utf8 a h) (IsUtf8-append (percent_sign ∷ []) (percent_decode z) (utf8_byte percent_sign (omega arith)) zone.text))
+    subst IsUtf8 (sym shown) (IsUtf8-append (lowercase a) (percent_sign ∷ percent_decode z) (address_utf8 (lowercase a) (address-lowercase a h)) (IsUtf8-append (percent_sign ∷ []) (percent_decode z) (utf8_byte percent_sign (omega arith)) zone.text))
 
 -- outside HTTP a literal between brackets stands for its decoding
 bracketed_literal : (t n : List ℕ) → Literal t n → Bracketed t (lowercase_address (percent_decode t))
@@ -591,7 +584,7 @@ normal_utf8 host u =
 
 -- a host outside brackets is text
 host_text_utf8 : (mode : Mode) (t named : List ℕ) → HostText mode t named → IsUtf8 named
-host_text_utf8 strict t named h = subst IsUtf8 (sym h.1) (normal_utf8 t (IsUtf8-from_ascii t (ascii_class is_http_host_byte http_byte_ascii t h.0)))
+host_text_utf8 strict t named h = subst IsUtf8 (sym h.1) (normal_utf8 t (utf8_class is_http_host_byte http_byte_ascii t h.0))
 host_text_utf8 bare t named h = subst IsUtf8 (sym h.1) (normal_utf8 (percent_decode t) h.0)
 host_text_utf8 loose t named h = subst IsUtf8 (sym h.1) (normal_utf8 (percent_decode t) h.0)
 
@@ -604,10 +597,10 @@ utf8_push b t h u = IsUtf8-append t (b ∷ []) u (utf8_byte b h)
 
 -- the normal form of a literal is text
 literal_normal_utf8 : (t n : List ℕ) → Literal t n → IsUtf8 n
-literal_normal_utf8 t n (address h e) = subst IsUtf8 (sym e) (address_lowercase_utf8 t h)
+literal_normal_utf8 t n (address h e) = subst IsUtf8 (sym e) (address_utf8 (lowercase t) (address-lowercase t h))
 literal_normal_utf8 t n (zoned a z h zone is e) =
-    let text : IsUtf8 z = IsUtf8-from_ascii z (ascii_class is_zone_byte zone_byte_ascii z zone.bytes) in
-    subst IsUtf8 (sym e) (IsUtf8-append (lowercase a) (percent_sign ∷ (50 ∷ (53 ∷ z))) (address_lowercase_utf8 a h)
+    let text : IsUtf8 z = utf8_class is_zone_byte zone_byte_ascii z zone.bytes in
+    subst IsUtf8 (sym e) (IsUtf8-append (lowercase a) (percent_sign ∷ (50 ∷ (53 ∷ z))) (address_utf8 (lowercase a) (address-lowercase a h))
     (utf8_cons percent_sign _ (omega arith) (utf8_cons 50 _ (omega arith) (utf8_cons 53 z (omega arith) text))))
 
 -- what stands between brackets is text
@@ -636,9 +629,9 @@ follows_utf8 base host u (Follows.number d n k e h p) = subst IsUtf8 (sym (some_
 
 -- a lowercased address, with or without a colon
 address_piece_utf8 : (piece : List ℕ) → IsAddressPiece piece → IsUtf8 (lowercase piece)
-address_piece_utf8 piece (inl h) = address_lowercase_utf8 piece h
+address_piece_utf8 piece (inl h) = address_utf8 (lowercase piece) (address-lowercase piece h)
 address_piece_utf8 piece (inr (a, h, e)) =
-    subst IsUtf8 (sym (ap lowercase e ∙ map-append to_ascii_lowercase a (colon ∷ []))) (utf8_push colon (lowercase a) (omega arith) (address_lowercase_utf8 a h))
+    subst IsUtf8 (sym (ap lowercase e ∙ map-append to_ascii_lowercase a (colon ∷ []))) (utf8_push colon (lowercase a) (omega arith) (address_utf8 (lowercase a) (address-lowercase a h)))
 
 shape_utf8 : (mode : Mode) (piece host : List ℕ) (port : Option ℕ) → Shape mode piece (Some host) port → IsUtf8 host
 shape_utf8 mode piece host port (Shape.nothing e h p) = absurd (some_not_none h)

@@ -26,7 +26,7 @@ use Rattle.gix_url.specs.Readings.{NoneBut}
 use Rattle.gix_url.specs.Shapes.{FrontCut, HasFrontCut, LacksBrackets, ScpCut, HasScpCut, AddressedCut, AddressedFront, HasAddressedCut, PlainScp, LocalShape}
 use Rattle.gix_url.proofs.CutLemmas.{heads, tails, different_bytes, begins_cut, not_free, free-append, free-cons, free_parts, free_or_cut, cut_unique, last_cut_unique, mark_cut_unique, held_free, helper_name_free, scheme_text_free}
 use Rattle.gix_url.proofs.AddressLemmas.{address_two_colons, address_free}
-use Rattle.gix_url.proofs.EscapeLemmas.{ascii_class, utf8_behind, utf8_parts}
+use Rattle.gix_url.proofs.EscapeLemmas.{utf8_behind, utf8_class, utf8_parts}
 
 -- ---- remote helpers
 
@@ -276,7 +276,7 @@ pub helper_name_utf8 : (name : List ℕ) → is_helper_name name ≡ true → Is
 helper_name_utf8 [] h = absurd (false≢true h)
 helper_name_utf8 (b ∷ bs) h =
     let parts = and_parts (is_ascii_alphanumeric b) (list_all is_name_byte bs) h in
-    IsUtf8-from_ascii (b ∷ bs) (ascii_class is_name_byte name_byte_ascii (b ∷ bs) (and_from _ _ (or_left _ _ parts.0) parts.1))
+    utf8_class is_name_byte name_byte_ascii (b ∷ bs) (and_from _ _ (or_left _ _ parts.0) parts.1)
 
 -- ---- file URLs
 

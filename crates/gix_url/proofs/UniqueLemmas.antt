@@ -20,8 +20,8 @@ use Rattle.gix_url.specs.Schemes.{is_web_scheme, protocol_of, mode_of}
 use Rattle.gix_url.specs.Authority.{unless_empty, user_beside, Credentials, Authority}
 use Rattle.gix_url.specs.Grammar.{helper_protocol, SpellsHelper, UrlParts, SpellsParts, Peels, HostFor, path_for, retained, MeansByProtocol, MeansAs, SpellsUrl, SpellsFile, ScpFront, AddressedShape, ScpUser, Unbrackets, ScpHost, scp_location, SpellsScpBefore, SpellsScpAddressed, SpellsScp, Spells}
 use Rattle.gix_url.proofs.CutLemmas.{heads, tails, class_cut_unique, path_cut_unique, cut_unique, last_cut_unique, last_unique, scheme_text_free, helper_name_free, free-append, free_parts, free_head_tail, free_or_cut, not_free}
-use Rattle.gix_url.proofs.AddressLemmas.{is_address_byte, address_byte_ascii, address_bytes, address_free, address-lowercase}
-use Rattle.gix_url.proofs.EscapeLemmas.{ascii_class, decode_kept, lacks_escaped_percents, escaped_percents_kept}
+use Rattle.gix_url.proofs.AddressLemmas.{address_free, address_utf8, address-lowercase}
+use Rattle.gix_url.proofs.EscapeLemmas.{decode_kept, lacks_escaped_percents, escaped_percents_kept}
 use Rattle.gix_url.proofs.FormLemmas.{scheme_cut_unique, address_cut, addressed_joined, addressed_front_free, address_front_free, address_back_free, url_no_file, url_no_helper, url_not_neither, file_no_helper, file_not_neither, helper_not_neither, scp_neither, scp_no_local}
 use Rattle.gix_url.proofs.HostLemmas.{names_unique}
 
@@ -285,10 +285,6 @@ open_bracket_no_host host x meant e f h =
 -- the lower case of an address has no escape
 lowercase_kept : (a : List ℕ) → IsIpv6Text a → percent_decode (lowercase a) ≡ lowercase a
 lowercase_kept a h = decode_kept (lowercase a) (address_free percent_sign (lowercase a) refl (address-lowercase a h))
-
--- an address is UTF-8
-pub address_utf8 : (a : List ℕ) → IsIpv6Text a → IsUtf8 a
-address_utf8 a h = IsUtf8-from_ascii a (ascii_class is_address_byte address_byte_ascii a (address_bytes a h))
 
 -- an address in brackets names itself in lower case
 bracketed_address_named : (a : List ℕ) → IsIpv6Text a → Names bare (left_bracket ∷ (a ++ right_bracket ∷ [])) (Some (left_bracket ∷ (lowercase a ++ right_bracket ∷ []))) None
