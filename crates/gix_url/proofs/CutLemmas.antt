@@ -317,12 +317,16 @@ mark_cut_unique (c ∷ a) (d ∷ b) x y f g e =
 
 -- ---- schemes and helpers' names
 
--- the name of a helper is free of each byte that is no byte of a name: of `:`, `/`, `@`, `[` by `refl`
-pub helper_name_free : (s : List ℕ) (c : ℕ) → is_helper_name s ≡ true → is_name_byte c ≡ false → FreeOf c s
-helper_name_free [] c h k = refl
-helper_name_free (b ∷ s) c h k =
+-- the bytes of a helper's name are bytes of a name
+pub helper_name_bytes : (s : List ℕ) → is_helper_name s ≡ true → list_all is_name_byte s ≡ true
+helper_name_bytes [] h = refl
+helper_name_bytes (b ∷ s) h =
     let parts = and_parts (is_ascii_alphanumeric b) (list_all is_name_byte s) h in
-    free_of_all is_name_byte c (b ∷ s) (and_from (is_name_byte b) (list_all is_name_byte s) (or_left (is_ascii_alphanumeric b) (is_scheme_mark b) parts.0) parts.1) k
+    and_from (is_name_byte b) (list_all is_name_byte s) (or_left (is_ascii_alphanumeric b) (is_scheme_mark b) parts.0) parts.1
+
+-- so it is free of each other byte: of `:`, `/`, `@`, `[` by `refl`
+pub helper_name_free : (s : List ℕ) (c : ℕ) → is_helper_name s ≡ true → is_name_byte c ≡ false → FreeOf c s
+helper_name_free s c h k = free_of_all is_name_byte c s (helper_name_bytes s h) k
 
 -- a letter is a letter or a digit
 wider : (digit upper lower : Bool) → (upper || lower) ≡ true → ((digit || upper) || lower) ≡ true

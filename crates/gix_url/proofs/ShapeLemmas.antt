@@ -24,7 +24,7 @@ use Rattle.gix_url.specs.Flaws.{UrlShape, OtherShape, MissesPath}
 use Rattle.gix_url.specs.Flaws.MissesPath.{in_file}
 use Rattle.gix_url.specs.Readings.{NoneBut}
 use Rattle.gix_url.specs.Shapes.{FrontCut, HasFrontCut, LacksBrackets, ScpCut, HasScpCut, AddressedCut, AddressedFront, HasAddressedCut, PlainScp, LocalShape}
-use Rattle.gix_url.proofs.CutLemmas.{heads, tails, different_bytes, begins_cut, not_free, free-append, free-cons, free_parts, free_or_cut, cut_unique, last_cut_unique, mark_cut_unique, held_free, helper_name_free, scheme_text_free}
+use Rattle.gix_url.proofs.CutLemmas.{heads, tails, different_bytes, begins_cut, not_free, free-append, free-cons, free_parts, free_or_cut, cut_unique, last_cut_unique, mark_cut_unique, held_free, helper_name_bytes, helper_name_free, scheme_text_free}
 use Rattle.gix_url.proofs.AddressLemmas.{address_two_colons, address_free}
 use Rattle.gix_url.proofs.EscapeLemmas.{utf8_behind, utf8_class, utf8_parts}
 
@@ -273,10 +273,7 @@ name_byte_ascii b h = grind (arith, nat_tests)
 
 -- the name of a helper is UTF-8
 pub helper_name_utf8 : (name : List ℕ) → is_helper_name name ≡ true → IsUtf8 name
-helper_name_utf8 [] h = absurd (false≢true h)
-helper_name_utf8 (b ∷ bs) h =
-    let parts = and_parts (is_ascii_alphanumeric b) (list_all is_name_byte bs) h in
-    utf8_class is_name_byte name_byte_ascii (b ∷ bs) (and_from _ _ (or_left _ _ parts.0) parts.1)
+helper_name_utf8 name h = utf8_class is_name_byte name_byte_ascii name (helper_name_bytes name h)
 
 -- ---- file URLs
 
