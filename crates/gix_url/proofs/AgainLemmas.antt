@@ -1,10 +1,9 @@
 -- Settled locations come back, of every kind.
-use Rattle.std.proofs.Common.{◌≡◌, ℕ, Bool, true, false, inl, inr, List, Option, Some, None, Ok, refl, sym, ap, subst, ◌∙◌}
-use Rattle.std.proofs.lemmas.Bool.{both_ways, false≢true, or_parts, or_from, cond-false}
+use Rattle.std.proofs.Common.{◌≡◌, ℕ, true, false, inl, inr, List, Option, Some, None, Ok, refl, sym, ap, subst, ◌∙◌}
+use Rattle.std.proofs.lemmas.Bool.{both_ways, or_parts, or_from, cond-false}
 use Rattle.std.specs.Prelude.{codes, bytes_eq, ◌||◌, IsSome}
 use Rattle.gix_url.specs.Schemes.{is_ssh_scheme, is_web_scheme, is_known_scheme, protocol_of, mode_of, requires_host}
 use Rattle.gix_url.specs.Bytes.{is_scheme_text}
-use Rattle.gix_url.specs.Hosts.{Mode}
 use Rattle.gix_url.specs.Value.{Protocol, Location, fields}
 use Rattle.gix_url.specs.Grammar.{Spells}
 use Rattle.gix_url.proofs.UniqueLemmas.{spells_unique}

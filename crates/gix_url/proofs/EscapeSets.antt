@@ -1,9 +1,7 @@
 -- What the three sets of escaped bytes hold, by computing at each ASCII byte.
-use Rattle.std.proofs.Common.{◌≡◌, ◌∙◌, ℕ, List, refl, arith}
-use Rattle.std.specs.Char.{is_whitespace}
+use Rattle.std.proofs.Common.{◌∙◌, ℕ, List, refl, arith}
 use Rattle.std.proofs.lemmas.Bool.{agree_below_at}
 use Rattle.std.proofs.lemmas.Bool.Decides.{nat_tests}
-use Rattle.percent_encoding.specs.declared.ascii_set.AsciiSet.{AsciiSet}
 use Rattle.percent_encoding.specs.AsciiSet.{contains}
 use Rattle.percent_encoding.specs.Percent.{percent_encode}
 use Rattle.gix_url.specs.Bytes.{LacksWhiteSpace}

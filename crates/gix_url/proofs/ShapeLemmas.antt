@@ -1,14 +1,9 @@
 -- The forms of a text: where its pieces are cut, that they are cut in one way, and that one form excludes the others.
-use Rattle.std.proofs.Common.{◌≡◌, ℕ, ◌+◌, ◌<◌, ◌≤◌, true, false, ◌⊎◌, inl, inr, List, [], ◌∷◌, ◌++◌, length, take, drop, refl, sym, ap, subst, ◌∙◌, arith, append_assoc, length-append, ◌==◌, eq-eqb, IsUtf8, All, codes, bytes_eq}
-use Rattle.std.proofs.lemmas.Bool.{eqb-true, both_ways, false≢true, and_parts, and_from, or_left}
+use Rattle.std.proofs.Common.{◌≡◌, ℕ, ◌+◌, ◌<◌, ◌≤◌, true, false, ◌⊎◌, inl, inr, List, [], ◌∷◌, ◌++◌, length, take, drop, refl, sym, ap, subst, ◌∙◌, arith, append_assoc, length-append, ◌==◌, eq-eqb, IsUtf8, codes, bytes_eq}
+use Rattle.std.proofs.lemmas.Bool.{eqb-true, both_ways, false≢true, and_parts}
 use Rattle.std.proofs.lemmas.Bool.Decides.{nat_tests}
 use Rattle.std.proofs.lemmas.List.{take_at, drop_at, append_cancel_left}
-use Rattle.std.proofs.lemmas.List.Elements.{All-cons, All-nil}
-use Rattle.std.proofs.lemmas.Str.{IsUtf8-from_ascii}
-use Rattle.std.proofs.lemmas.Str.Ascii.{IsAscii-from_all}
-use Rattle.std.specs.List.{list_all}
 use lib.Utf8.{encode}
-use Rattle.std.specs.Char.{is_ascii_alphanumeric}
 use Rattle.gix_url.specs.declared.error.UrlKind.TheVariants as kind
 use Rattle.gix_url.specs.declared.error.Error.{Error}
 use Rattle.gix_url.specs.declared.error.Error.TheVariants as error

@@ -1,26 +1,17 @@
 -- The written host and port of a settled URL, but for those of HTTP, name the same host and port.
-use Rattle.std.proofs.Common.{◌≡◌, ℕ, ◌<◌, Bool, true, false, ◌||◌, ◌==◌, inl, inr, List, [], ◌∷◌, ◌++◌, length, Option, Some, None, refl, sym, ap, subst, ◌∙◌, arith, lit<, append_assoc, append-nil, if◌then◌else◌}
+use Rattle.std.proofs.Common.{◌≡◌, ℕ, ◌<◌, true, false, inl, inr, List, [], ◌∷◌, ◌++◌, length, Option, Some, None, refl, sym, ap, subst, ◌∙◌, arith, lit<, append_assoc, append-nil, if◌then◌else◌}
 use Rattle.std.specs.Prelude.{IfSome, IsUtf8, decimal}
 use Rattle.std.specs.List.{list_all}
-use Rattle.std.specs.Char.{is_ascii_digit, is_whitespace}
-use Rattle.std.specs.Str.{IsAscii}
 use Rattle.std.proofs.Math.Bool.{and-false}
-use Rattle.std.proofs.lemmas.Bool.{and_parts, and_from, true≢false, false_from_ne_true, true_from_ne_false}
+use Rattle.std.proofs.lemmas.Bool.{and_parts, true≢false, false_from_ne_true, true_from_ne_false}
 use Rattle.std.proofs.lemmas.Bool.Decides.{nat_tests}
-use Rattle.std.proofs.lemmas.Str.{IsUtf8-from_ascii}
-use Rattle.std.proofs.lemmas.Str.Ascii.{IsAscii-from_all}
-use Rattle.std.proofs.lemmas.List.Elements.{All-weaker}
-use Rattle.std.proofs.lemmas.List.Sums.{AllPass-from_list_all, list_all-from_AllPass}
-use Rattle.std.proofs.lemmas.List.Folds.{list_any_none, list_all-append}
-use Rattle.percent_encoding.specs.AsciiSet.{contains}
 use Rattle.percent_encoding.specs.Percent.{percent_encode, percent_decode}
 use Rattle.percent_encoding.proofs.PercentLemmas.{percent_encode_nonempty, percent_encode-nil}
 use Rattle.gix_url.specs.declared.escape.TheConstants.{PASSWORD, USER}
 use Rattle.gix_url.specs.Value.{Protocol, Location}
 use Rattle.gix_url.specs.Value.Protocol.{ssh}
-use Rattle.gix_url.specs.Bytes.{percent_sign, colon, at_sign, left_bracket, backslash, right_bracket, Lacks, FreeOf, begins_with}
-use Rattle.gix_url.specs.Cuts.{is_path_start}
-use Rattle.gix_url.specs.Escapes.{has_percent, is_password_escaped, is_user_escaped, escaped_percents}
+use Rattle.gix_url.specs.Bytes.{percent_sign, colon, left_bracket, right_bracket, FreeOf}
+use Rattle.gix_url.specs.Escapes.{has_percent, is_password_escaped, escaped_percents}
 use Rattle.gix_url.specs.Addresses.{IsIpv6Text, Literal}
 use Rattle.gix_url.specs.AddressTest.{is_ipv6_text}
 use Rattle.gix_url.specs.Hosts.{Mode, normal_host, HostText, AllowsPort, Bracketed, IsPlainHost, Names}
@@ -28,9 +19,9 @@ use Rattle.gix_url.specs.Hosts.Mode.{strict, bare, loose}
 use Rattle.gix_url.specs.Grammar.{Peels}
 use Rattle.gix_url.specs.Text.{has_colon, wants_brackets, keeps_host, open_host, needs_brackets, port_part}
 use Rattle.gix_url.specs.Settled.{IsNormalName, IsNormalAddress, IsBareHost, IsBracketedHost}
-use Rattle.gix_url.specs.WrittenPieces.{IsAuthorityPiece, WritesHost}
+use Rattle.gix_url.specs.WrittenPieces.{WritesHost}
 use Rattle.gix_url.proofs.CutLemmas.{free_begins, free_head_tail, free_or_cut, cut_unique, not_free}
-use Rattle.gix_url.proofs.EscapeLemmas.{sound-append, sound_free, decode_kept, decode_encode_utf8, encode_sound, encode_lacks, encode_free, encode_byte_kept, escaped_percents_kept, utf8-append, utf8_encode, white_space-append, white_space_ascii}
+use Rattle.gix_url.proofs.EscapeLemmas.{decode_kept, encode_free, encode_byte_kept, escaped_percents_kept}
 use Rattle.gix_url.proofs.EscapeSets.{password_holds, user_holds}
 use Rattle.gix_url.proofs.AddressLemmas.{is_address_byte, address_byte_ascii, address_bytes, address_free, address_two_colons}
 use Rattle.gix_url.proofs.AddressTestLemmas.{ipv6_text_from, ipv6_text_to}

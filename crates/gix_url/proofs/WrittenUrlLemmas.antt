@@ -1,29 +1,18 @@
 -- A settled URL comes back: its pieces, joined, are read as its parts.
-use Rattle.std.proofs.Common.{◌≡◌, ℕ, ◌<◌, Bool, true, false, ◌⊎◌, inl, inr, List, [], ◌∷◌, ◌++◌, length, Option, Some, None, Ok, refl, sym, ap, subst, ◌∙◌, arith, append_assoc, append-nil, codes, bytes_eq}
+use Rattle.std.proofs.Common.{◌≡◌, ℕ, ◌<◌, Bool, true, false, List, [], ◌∷◌, ◌++◌, length, Option, Some, None, Ok, refl, sym, ap, subst, ◌∙◌, arith, append_assoc, codes, bytes_eq}
 use Rattle.std.specs.Prelude.{IsUtf8, IsSome, IfSome, is_some}
-use Rattle.std.specs.List.{list_all, list_any}
-use Rattle.std.specs.Char.{is_whitespace}
-use Rattle.std.specs.Str.{IsAscii}
-use Rattle.std.specs.Prelude.{All}
-use Rattle.std.specs.Char.{is_ascii_alphabetic}
-use Rattle.std.proofs.lemmas.List.Elements.{All-cons, All-nil}
-use Rattle.std.proofs.lemmas.Str.{IsUtf8-from_ascii}
-use Rattle.std.proofs.lemmas.Str.Ascii.{IsAscii-from_all}
-use Rattle.std.proofs.lemmas.Bool.{both_ways, false≢true, and_parts, and_from, or_from}
+use Rattle.std.proofs.lemmas.Bool.{false≢true}
 use Rattle.std.proofs.lemmas.Bool.Decides.{nat_tests}
-use Rattle.gix_url.specs.Grammar.{retained}
 use Rattle.gix_url.proofs.CutLemmas.{scheme_text_free, lacks_weaker}
-use Rattle.gix_url.proofs.EscapeLemmas.{sound_free, utf8-append, utf8_byte, white_space-append, white_space_ascii, white_space_byte}
-use Rattle.gix_url.specs.Value.{Protocol, Location, fields}
+use Rattle.gix_url.specs.Value.{Protocol, Location}
 use Rattle.gix_url.specs.Value.Protocol.{ext}
-use Rattle.gix_url.specs.Bytes.{colon, at_sign, backslash, percent_sign, Lacks, FreeOf, LacksWhiteSpace, is_name_byte, is_scheme_text}
+use Rattle.gix_url.specs.Bytes.{colon, at_sign, is_scheme_text}
 use Rattle.gix_url.specs.Cuts.{is_path_start}
-use Rattle.gix_url.specs.Escapes.{is_sound}
-use Rattle.gix_url.specs.Hosts.{Mode, Names}
+use Rattle.gix_url.specs.Hosts.{Mode}
 use Rattle.gix_url.specs.Schemes.{is_web_scheme, protocol_of, protocol_text, mode_of, requires_host}
-use Rattle.gix_url.specs.Authority.{Authority, Fits, FitsText}
+use Rattle.gix_url.specs.Authority.{Authority, FitsText}
 use Rattle.gix_url.specs.Authority.Authority.{host_alone, with_user}
-use Rattle.gix_url.specs.Grammar.{UrlParts, SpellsParts, HostFor, MeansByProtocol, Spells}
+use Rattle.gix_url.specs.Grammar.{UrlParts, SpellsParts, HostFor, Spells}
 use Rattle.gix_url.specs.Text.{user_information, host_part, port_part, canonical_path, canonical_text, text}
 use Rattle.gix_url.specs.Settled.{IsValue, IsSettledUrl, IsSettledBy, IsSettled}
 use Rattle.gix_url.specs.SettledParts.{HasFairSpelling, IsHosted, IsWrittenAsUrl}

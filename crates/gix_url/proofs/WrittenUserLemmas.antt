@@ -1,20 +1,13 @@
 -- The written user information of a URL is read as the same user and password.
 use Rattle.std.specs.Prelude.{IsSome, IfSome, IsUtf8}
-use Rattle.std.proofs.Common.{◌≡◌, ◌∙◌, ℕ, ◌<◌, true, false, List, [], ◌∷◌, ◌++◌, length, Option, Some, None, refl, sym, ap, subst, arith, append_assoc}
+use Rattle.std.proofs.Common.{◌≡◌, ◌∙◌, ℕ, ◌<◌, List, [], ◌∷◌, ◌++◌, length, Option, Some, None, refl, sym, ap, subst, arith, append_assoc}
 use Rattle.std.proofs.lemmas.Bool.{false≢true}
-use Rattle.std.proofs.lemmas.Bool.Decides.{nat_tests}
-use Rattle.percent_encoding.specs.declared.ascii_set.AsciiSet.{AsciiSet}
-use Rattle.percent_encoding.specs.AsciiSet.{contains}
-use Rattle.percent_encoding.specs.Percent.{percent_encode, percent_decode}
+use Rattle.percent_encoding.specs.Percent.{percent_encode}
 use Rattle.gix_url.specs.declared.escape.TheConstants.{PASSWORD, USER}
-use Rattle.gix_url.specs.Bytes.{colon, at_sign, backslash, FreeOf, LacksWhiteSpace}
-use Rattle.gix_url.specs.Cuts.{is_path_start}
-use Rattle.gix_url.specs.Escapes.{is_password_escaped, is_user_escaped}
+use Rattle.gix_url.specs.Bytes.{colon, at_sign}
 use Rattle.gix_url.specs.Authority.{unless_empty}
 use Rattle.gix_url.specs.Authority.Credentials.{user_alone, with_password}
-use Rattle.gix_url.specs.WrittenPieces.{IsEscapedPiece, IsAuthorityPiece, WritesInformation}
-use Rattle.gix_url.proofs.CutLemmas.{lacks-append, free-append}
-use Rattle.gix_url.proofs.EscapeLemmas.{is_escape_byte, sound-append, utf8-append, utf8_byte, white_space-append, white_space_byte, encode_sound, encode_lacks, encode_free, decode_encode_utf8, utf8_encode}
+use Rattle.gix_url.specs.WrittenPieces.{WritesInformation}
 use Rattle.gix_url.proofs.PieceTextLemmas.{joined_hosts, host_piece, user_piece, password_piece, user_no_colon, user_decoded, password_decoded}
 
 -- a text that is not empty stands for itself

@@ -1,18 +1,13 @@
 -- The written host and port of a settled location of HTTP name the same host and port.
-use Rattle.std.proofs.Common.{◌≡◌, ◌≢◌, ℕ, zero, suc, ◌<◌, Bool, true, false, ◌==◌, ◌||◌, inl, inr, List, [], ◌∷◌, ◌++◌, Option, Some, None, IfSome, IsAscii, refl, sym, ap, subst, ◌∙◌, arith, append_assoc, codes}
-use Rattle.std.specs.List.{list_all}
+use Rattle.std.proofs.Common.{◌≡◌, ◌≢◌, ℕ, zero, suc, ◌<◌, false, inl, inr, List, [], ◌∷◌, ◌++◌, Option, Some, None, IfSome, refl, sym, ap, subst, ◌∙◌, arith, append_assoc, codes}
 use Rattle.std.specs.Fmt.{decimal}
-use Rattle.std.specs.Char.{is_ascii_digit, is_whitespace}
-use Rattle.std.proofs.lemmas.Bool.{cond-false, and_parts, and_from, and_left, and_right, or_from, or_left}
+use Rattle.std.proofs.lemmas.Bool.{cond-false, and_left, and_right}
 use Rattle.std.proofs.lemmas.Bool.Decides.{nat_tests}
 use Rattle.std.proofs.lemmas.List.{append-nil}
-use Rattle.std.proofs.lemmas.List.Folds.{list_all-append}
-use Rattle.std.proofs.lemmas.Str.{IsUtf8-from_ascii}
 use Rattle.gix_url.specs.Value.{Location}
-use Rattle.gix_url.specs.Bytes.{colon, at_sign, left_bracket, right_bracket, backslash, percent_sign, Lacks, FreeOf, begins_with}
-use Rattle.gix_url.specs.Cuts.{is_path_start}
-use Rattle.gix_url.specs.Escapes.{is_sound, has_percent}
-use Rattle.gix_url.specs.Addresses.{IsIpv6Text, IsZone, is_zone_byte, Literal}
+use Rattle.gix_url.specs.Bytes.{colon, at_sign, left_bracket, right_bracket, percent_sign, FreeOf}
+use Rattle.gix_url.specs.Escapes.{has_percent}
+use Rattle.gix_url.specs.Addresses.{IsZone, is_zone_byte, Literal}
 use Rattle.gix_url.specs.Addresses.Literal.{address, zoned}
 use Rattle.gix_url.specs.Hosts.{Number, Names, IsPlainHost, HostText, is_http_host_byte}
 use Rattle.gix_url.specs.Hosts.Mode.{strict}
@@ -22,8 +17,7 @@ use Rattle.gix_url.specs.Settled.IsWebHost.{literal, literal_colon, named, named
 use Rattle.gix_url.specs.SettledParts.{IsWeb}
 use Rattle.gix_url.specs.WrittenPieces.{IsAuthorityPiece, WritesHost, host_and_port}
 use Rattle.gix_url.proofs.CutLemmas.{all_weaker, free-append, free_begins, free_of_all}
-use Rattle.gix_url.proofs.EscapeLemmas.{sound-append, sound_free, white_space_ascii}
-use Rattle.gix_url.proofs.AddressLemmas.{is_address_byte, address_bytes, address_free}
+use Rattle.gix_url.proofs.AddressLemmas.{address_free}
 use Rattle.gix_url.proofs.HostLemmas.{number_written}
 use Rattle.gix_url.proofs.PieceTextLemmas.{IsHostPiece, is_host_byte, joined_hosts, host_piece, address_piece, brackets_piece, port_piece}
 
