@@ -8,6 +8,7 @@ use Rattle.std.proofs.lemmas.Fmt.{decimal_is_IsNumeral, digits_decimal}
 use Rattle.std.proofs.lemmas.Str.Parse.{IsNumeralModel, numerals_by_value, parse_digits}
 use Rattle.std.proofs.lemmas.Bool.{cond-false, cond_both, both_ways, false≢true, eqb-true}
 use Rattle.std.proofs.lemmas.Bool.Decides.{nat_tests}
+use Rattle.std.proofs.lemmas.Option.{same_Some}
 use Rattle.std.proofs.lemmas.List.{append-nil, map-append, take_all, drop_all}
 use Rattle.std.proofs.Math.Seq.{take-append_seam, drop-append_seam}
 use Rattle.std.proofs.lemmas.Str.{IsUtf8-from_ascii, IsUtf8-append}
@@ -27,6 +28,18 @@ use Rattle.gix_url.specs.HostPieces.{EndsHost, Follows, IsEscapedZone, IsInner, 
 use Rattle.gix_url.proofs.CutLemmas.{heads, tails, class_cut_unique, cut_unique, free-append, free-cons, free_begins, free_head_tail, free_of_all, free_or_cut, begins-append, not_free}
 use Rattle.gix_url.proofs.EscapeLemmas.{ascii_class, decode_kept, decodes_in_parts, sound_free, utf8_byte, utf8_class}
 use Rattle.gix_url.proofs.AddressLemmas.{address_free, address_two_colons, address_utf8, address-lowercase}
+
+-- ---- modes
+
+-- the modes are three
+pub loose_not_strict : ¬ (loose ≡ strict)
+loose_not_strict e = cc
+
+pub bare_not_strict : ¬ (bare ≡ strict)
+bare_not_strict e = cc
+
+pub loose_not_bare : ¬ (loose ≡ bare)
+loose_not_bare e = cc
 
 -- ---- ports
 
@@ -614,18 +627,14 @@ inner_utf8 loose t n (spec.Bracketed.other h e u) = u
 brackets_utf8 : (inner : List ℕ) → IsUtf8 inner → IsUtf8 (in_brackets inner)
 brackets_utf8 inner u = utf8_cons left_bracket (inner ++ right_bracket ∷ []) (omega arith) (utf8_push right_bracket inner (omega arith) u)
 
--- a value is told by its option
-some_same : {x y : List ℕ} → Some x ≡ Some y → x ≡ y
-some_same e = cc
-
 some_not_none : {x : List ℕ} → Some x ≡ None → ⊥
 some_not_none e = cc
 
 -- a host that something follows is text
 follows_utf8 : {mode : Mode} {rest : List ℕ} {port : Option ℕ} (base host : List ℕ) → IsUtf8 base → Follows mode base rest (Some host) port → IsUtf8 host
-follows_utf8 base host u (Follows.nothing e h p) = subst IsUtf8 (sym (some_same h)) u
-follows_utf8 base host u (Follows.lone_colon e h p) = subst IsUtf8 (sym (some_same h)) (utf8_push colon base (omega arith) u)
-follows_utf8 base host u (Follows.number d n k e h p) = subst IsUtf8 (sym (some_same h)) u
+follows_utf8 base host u (Follows.nothing e h p) = subst IsUtf8 (sym (same_Some _ _ h)) u
+follows_utf8 base host u (Follows.lone_colon e h p) = subst IsUtf8 (sym (same_Some _ _ h)) (utf8_push colon base (omega arith) u)
+follows_utf8 base host u (Follows.number d n k e h p) = subst IsUtf8 (sym (same_Some _ _ h)) u
 
 -- a lowercased address, with or without a colon
 address_piece_utf8 : (piece : List ℕ) → IsAddressPiece piece → IsUtf8 (lowercase piece)
@@ -637,8 +646,8 @@ shape_utf8 : (mode : Mode) (piece host : List ℕ) (port : Option ℕ) → Shape
 shape_utf8 mode piece host port (Shape.nothing e h p) = absurd (some_not_none h)
 shape_utf8 mode piece host port (Shape.bracketed x inner rest f i e g) = follows_utf8 (in_brackets inner) host (brackets_utf8 inner (inner_utf8 mode x inner i)) g
 shape_utf8 mode piece host port (Shape.plain front named rest h t e g) = follows_utf8 named host (host_text_utf8 mode front named t) g
-shape_utf8 mode piece host port (Shape.many m (ManyNames.unbracketed r h) p) = subst IsUtf8 (sym (some_same h)) (address_piece_utf8 piece r.1)
-shape_utf8 mode piece host port (Shape.many m (ManyNames.other_host n s r t h) p) = subst IsUtf8 (sym (some_same h)) (host_text_utf8 mode piece n t)
+shape_utf8 mode piece host port (Shape.many m (ManyNames.unbracketed r h) p) = subst IsUtf8 (sym (same_Some _ _ h)) (address_piece_utf8 piece r.1)
+shape_utf8 mode piece host port (Shape.many m (ManyNames.other_host n s r t h) p) = subst IsUtf8 (sym (same_Some _ _ h)) (host_text_utf8 mode piece n t)
 
 -- a host that is named is text
 pub names_utf8 : (mode : Mode) (piece host : List ℕ) (port : Option ℕ) → Names mode piece (Some host) port → IsUtf8 host

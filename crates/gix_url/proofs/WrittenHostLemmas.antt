@@ -25,7 +25,7 @@ use Rattle.gix_url.proofs.EscapeLemmas.{decode_kept, encode_free, encode_byte_ke
 use Rattle.gix_url.proofs.EscapeSets.{password_holds, user_holds}
 use Rattle.gix_url.proofs.AddressLemmas.{is_address_byte, address_byte_ascii, address_bytes, address_free, address_two_colons}
 use Rattle.gix_url.proofs.AddressTestLemmas.{ipv6_text_from, ipv6_text_to}
-use Rattle.gix_url.proofs.HostLemmas.{number_written}
+use Rattle.gix_url.proofs.HostLemmas.{bare_not_strict, number_written}
 use Rattle.gix_url.proofs.PieceTextLemmas.{IsHostPiece, joined_hosts, host_piece, address_piece, brackets_piece, port_piece, user_piece, user_no_colon, user_decoded}
 
 -- ---- names
@@ -35,10 +35,6 @@ port_allowed : (mode : Mode) (port : ℕ) → ¬ (mode ≡ strict) → AllowsPor
 port_allowed strict port other = absurd (other refl)
 port_allowed bare port other = tt
 port_allowed loose port other = tt
-
--- the mode of Git's own transports isn't that of HTTP
-bare_not_strict : ¬ (bare ≡ strict)
-bare_not_strict e = cc
 
 -- outside HTTP a text stands for what it decodes to, where that is text in its normal form
 text_read : (mode : Mode) (text host : List ℕ) → ¬ (mode ≡ strict) → percent_decode text ≡ host → IsUtf8 host → normal_host host ≡ host → HostText mode text host
