@@ -4,7 +4,7 @@ use Rattle.std.specs.Char.{is_digit, digit_value, is_whitespace, is_ascii_whites
 use Rattle.std.specs.Option.{MatchOption, is_some}
 use Rattle.std.specs.Str.{IsUtf8, encode_utf8_all, chars}
 use Rattle.std.proofs.Math.Bool.{or-false}
-use Rattle.std.proofs.lemmas.Bool.{cond-false, cond_both, ltb-false, cases_lt, cases_Bool, and_parts, and_from, and_left, and_right, or_parts, or_from, false_from_ne_true, or_cases, or_left, or_right, not-true, both_ways, eqb-true, eqb-false, ne_eqb, ltb-true, true≢false, false≢true}
+use Rattle.std.proofs.lemmas.Bool.{cond-false, cond_both, ltb-false, cases_lt, cases_Bool, and_parts, and_from, and_left, and_right, or_parts, or_from, false_from_ne_true, true_from_ne_false, or_cases, or_left, or_right, not-true, both_ways, eqb-true, eqb-false, ne_eqb, ltb-true, true≢false, false≢true}
 use Rattle.std.proofs.lemmas.Bool.Decides.{nat_tests}
 use Rattle.std.proofs.lemmas.List.{append_cancel_left, drop-drop, length-take, length-drop, length-append, nil_from_length, take_at, drop_at, get_or_at}
 use Rattle.std.proofs.lemmas.Str.{IsUtf8-append, IsUtf8-past_char, IsUtf8-encode, IsUtf8-take, IsUtf8-drop, IsUtf8-from_ascii, IsCharBoundary-from_take, IsCharBoundary-at_seam, IsCharBoundary-before_ascii, chars-append, chars-IsAscii, encodes-chars, chars_from_encodes, encode_ascii}
@@ -25,7 +25,7 @@ use Rattle.percent_encoding.specs.Percent.{percent_decode, percent_encode, perce
 use Rattle.percent_encoding.proofs.PercentLemmas.{IsEscapeByte, All-percent_encode, All-percent_encode_byte, percent_encode_nonempty, IsAscii-percent_encode, percent_encode-nil, percent_encode-append, percent_encode_escaped, percent_encode_kept, round_trip, percent_decode-nil, percent_decode_not_percent, percent_decode_escape, length-percent_decode}
 use Rattle.gix_url.specs.Bytes.{percent_sign, Lacks, FreeOf, LacksWhiteSpace}
 use Rattle.gix_url.specs.Escapes.{is_sound, begins_with_digits, escaped_percents}
-use Rattle.gix_url.proofs.CutLemmas.{heads}
+use Rattle.gix_url.proofs.CutLemmas.{heads, lacks_weaker}
 
 -- ---- walks over a decoding
 
@@ -494,13 +494,6 @@ white_space_byte c ascii other = white_space_ascii (c ∷ []) (ascii_byte c asci
 
 -- ---- bytes and characters
 
--- what lacks a wider test lacks a narrower one
-pub lacks_narrower : (narrow wide : ℕ → Bool) (xs : List ℕ) → ((b : ℕ) → wide b ≡ false → narrow b ≡ false) → Lacks wide xs → Lacks narrow xs
-lacks_narrower narrow wide [] less lacks = refl
-lacks_narrower narrow wide (x ∷ xs) less lacks =
-    let parts = or_parts (wide x) (list_any wide xs) lacks in
-    or_from _ _ (less x parts.0) (lacks_narrower narrow wide xs less parts.1)
-
 -- no byte past ASCII passes the test
 abbrev pub IsAsciiTest : (ℕ → Bool) → Type 0
 IsAsciiTest test = (b : ℕ) → 128 ≤ b → test b ≡ false
@@ -551,7 +544,7 @@ any_chars test t ascii utf8 = sym (any_encodes test ascii (chars t)) ∙ ap (lis
 -- a text without white space lacks each ASCII test of white space
 pub lacks_narrower_white_space : (test : ℕ → Bool) (t : List ℕ) → IsAsciiTest test → ((b : ℕ) → is_whitespace b ≡ false → test b ≡ false) → IsUtf8 t → LacksWhiteSpace t → Lacks test t
 lacks_narrower_white_space test t ascii less utf8 lacks =
-    sym (any_chars test t ascii utf8) ∙ lacks_narrower test is_whitespace (chars t) less lacks
+    sym (any_chars test t ascii utf8) ∙ lacks_weaker test is_whitespace (λ b passes. true_from_ne_false (is_whitespace b) (λ none. both_ways (test b) (less b none) passes)) (chars t) lacks
 
 -- a text without white space lacks that of ASCII
 pub lacks_ascii_white_space : (t : List ℕ) → IsUtf8 t → LacksWhiteSpace t → Lacks is_ascii_whitespace t

@@ -1,5 +1,5 @@
 -- Hosts and ports: what a piece of an authority looks like, that it names one host and one port at most, and none where a flaw stands.
-use Rattle.std.proofs.Common.{◌≡◌, ℕ, zero, suc, ◌+◌, ◌<◌, ◌≤◌, true, false, ◌==◌, ◌⊎◌, inl, inr, List, [], ◌∷◌, ◌++◌, length, take, drop, Option, Some, None, Err, ◌^◌, rules, refl, sym, ap, subst, ◌∙◌, arith, append_assoc, length-append}
+use Rattle.std.proofs.Common.{◌≡◌, ℕ, ◌+◌, ◌<◌, ◌≤◌, true, false, ◌==◌, ◌⊎◌, inl, inr, List, [], ◌∷◌, ◌++◌, length, take, drop, Option, Some, None, Err, ◌^◌, rules, refl, sym, ap, subst, ◌∙◌, arith, append_assoc, length-append}
 use Rattle.std.specs.List.{list_all}
 use Rattle.std.specs.Char.{is_ascii_digit, to_ascii_lowercase}
 use Rattle.std.specs.Str.Parse.{IsNumeral, digits_value, without_leading_plus}
@@ -11,9 +11,9 @@ use Rattle.std.proofs.lemmas.Bool.Decides.{nat_tests}
 use Rattle.std.proofs.lemmas.Option.{same_Some}
 use Rattle.std.proofs.lemmas.List.{append-nil, map-append, take_all, drop_all}
 use Rattle.std.proofs.Math.Seq.{take-append_seam, drop-append_seam}
-use Rattle.std.proofs.lemmas.Str.{IsUtf8-from_ascii, IsUtf8-append}
+use Rattle.std.proofs.lemmas.Str.{IsUtf8-append}
 use Rattle.percent_encoding.proofs.PercentLemmas.{length-percent_decode, percent_decode_escape}
-use Rattle.std.specs.Str.{IsAscii, IsUtf8}
+use Rattle.std.specs.Str.{IsUtf8}
 use Rattle.percent_encoding.specs.Percent.{percent_decode}
 use Rattle.gix_url.specs.declared.error.UrlFault.{UrlFault}
 use Rattle.gix_url.specs.declared.error.UrlFault.TheVariants as fault
@@ -25,9 +25,10 @@ use Rattle.gix_url.specs.Hosts.{Mode, is_dns_byte, is_http_host_byte, HostText, 
 use Rattle.gix_url.specs.Hosts.Mode.{strict, bare, loose}
 use Rattle.gix_url.specs.Flaws.{IsNoPort, HasBadPort, IsPortPlace, IsNoInner, BracketsAround, HasBadHost, NameFlaw}
 use Rattle.gix_url.specs.HostPieces.{EndsHost, Follows, IsEscapedZone, IsInner, in_brackets, lowercase_address, shown_literal}
-use Rattle.gix_url.proofs.CutLemmas.{heads, tails, class_cut_unique, cut_unique, free-append, free-cons, free_begins, free_head_tail, free_of_all, free_or_cut, begins-append, not_free}
-use Rattle.gix_url.proofs.EscapeLemmas.{ascii_class, decode_kept, decodes_in_parts, sound_free, utf8_byte, utf8_class}
+use Rattle.gix_url.proofs.CutLemmas.{heads, tails, class_cut_unique, cut_unique, free-append, free_begins, free_head_tail, free_of_all, free_or_cut, begins-append, not_free}
+use Rattle.gix_url.proofs.EscapeLemmas.{decode_kept, decodes_in_parts, sound_free, utf8_byte, utf8_class}
 use Rattle.gix_url.proofs.AddressLemmas.{address_free, address_two_colons, address_utf8, address-lowercase}
+use Rattle.gix_url.proofs.NormalLemmas.{dns_lowercase}
 
 -- ---- modes
 
@@ -419,32 +420,13 @@ digit_ascii b h = grind (arith, nat_tests)
 pub digits_utf8 : (bs : List ℕ) → list_all is_ascii_digit bs ≡ true → IsUtf8 bs
 digits_utf8 bs h = utf8_class is_ascii_digit digit_ascii bs h
 
--- lower case keeps ASCII
-byte_lowercase_ascii : (b : ℕ) → b < 128 → to_ascii_lowercase b < 128
-byte_lowercase_ascii b h = grind (arith, nat_tests)
-
-lowercase_ascii : (bs : List ℕ) → IsAscii bs → IsAscii (lowercase bs)
-lowercase_ascii [] h i = omega arith
-lowercase_ascii (b ∷ bs) h zero = byte_lowercase_ascii b (h 0)
-lowercase_ascii (b ∷ bs) h (suc i) = lowercase_ascii bs (λ k. h (suc k)) i
-
 -- ---- decoding behind an address
 
 -- what holds no `%` stays, with another text behind it
 decoded_behind : (a rest : List ℕ) → FreeOf percent_sign a → percent_decode (a ++ rest) ≡ a ++ percent_decode rest
 decoded_behind a rest h = decodes_in_parts a rest (sound_free a h) ∙ ap (λ front. front ++ percent_decode rest) (decode_kept a h)
 
--- lower case brings no `%`
-byte_lowercase_percent : (b : ℕ) → (b == percent_sign) ≡ false → (to_ascii_lowercase b == percent_sign) ≡ false
-byte_lowercase_percent b h = grind (arith, nat_tests)
-
-lowercase_no_percent : (a : List ℕ) → FreeOf percent_sign a → FreeOf percent_sign (lowercase a)
-lowercase_no_percent [] h = refl
-lowercase_no_percent (b ∷ a) h =
-    let (other, more) = free_head_tail percent_sign b a h in
-    free-cons percent_sign (to_ascii_lowercase b) (lowercase a) (byte_lowercase_percent b other) (lowercase_no_percent a more)
-
--- and `%25` behind it is a `%`
+-- and `%25` behind it is a `%`, with another text behind that
 zone_decoded : (a z : List ℕ) → FreeOf percent_sign a → percent_decode (a ++ percent_sign ∷ (50 ∷ (53 ∷ z))) ≡ a ++ percent_sign ∷ percent_decode z
 zone_decoded a z h =
     decoded_behind a (percent_sign ∷ (50 ∷ (53 ∷ z))) h ∙ ap (λ t. a ++ t) (percent_decode_escape percent_sign 50 53 z refl (omega arith) (omega arith))
@@ -453,19 +435,19 @@ zone_decoded a z h =
 literal_decoded : (t n : List ℕ) → Literal t n → percent_decode n ≡ lowercase_address (percent_decode t)
 literal_decoded t n (address h e) =
     let free = address_no_percent t h in
-    ap percent_decode e ∙ decode_kept (lowercase t) (lowercase_no_percent t free) ∙ sym (ap lowercase_address (decode_kept t free) ∙ lowercase_address_alone t free)
+    ap percent_decode e ∙ decode_kept (lowercase t) (address_no_percent (lowercase t) (address-lowercase t h)) ∙ sym (ap lowercase_address (decode_kept t free) ∙ lowercase_address_alone t free)
 literal_decoded t n (zoned a z h zone is e) =
     let free = address_no_percent a h in
-    ap percent_decode e ∙ zone_decoded (lowercase a) z (lowercase_no_percent a free)
+    ap percent_decode e ∙ zone_decoded (lowercase a) z (address_no_percent (lowercase a) (address-lowercase a h))
     ∙ sym (ap (λ x. lowercase_address (percent_decode x)) is ∙ ap lowercase_address (zone_decoded a z free) ∙ lowercase_address_before a (percent_decode z) free)
 
 -- a decoded literal is text
 literal_utf8 : (t n : List ℕ) → Literal t n → IsUtf8 (percent_decode n)
 literal_utf8 t n (address h e) =
-    let shown = ap percent_decode e ∙ decode_kept (lowercase t) (lowercase_no_percent t (address_no_percent t h)) in
+    let shown = ap percent_decode e ∙ decode_kept (lowercase t) (address_no_percent (lowercase t) (address-lowercase t h)) in
     subst IsUtf8 (sym shown) (address_utf8 (lowercase t) (address-lowercase t h))
 literal_utf8 t n (zoned a z h zone is e) =
-    let shown = ap percent_decode e ∙ zone_decoded (lowercase a) z (lowercase_no_percent a (address_no_percent a h)) in
+    let shown = ap percent_decode e ∙ zone_decoded (lowercase a) z (address_no_percent (lowercase a) (address-lowercase a h)) in
     subst IsUtf8 (sym shown) (IsUtf8-append (lowercase a) (percent_sign ∷ percent_decode z) (address_utf8 (lowercase a) (address-lowercase a h)) (IsUtf8-append (percent_sign ∷ []) (percent_decode z) (utf8_byte percent_sign (omega arith)) zone.text))
 
 -- outside HTTP a literal between brackets stands for its decoding
@@ -592,7 +574,7 @@ zone_byte_ascii b h = grind (arith, nat_tests)
 normal_utf8 : (host : List ℕ) → IsUtf8 host → IsUtf8 (normal_host host)
 normal_utf8 host u =
     cond_both (list_all is_dns_byte host) (lowercase host) host IsUtf8
-    (λ h. IsUtf8-from_ascii (lowercase host) (lowercase_ascii host (ascii_class is_dns_byte dns_byte_ascii host h)))
+    (λ h. utf8_class is_dns_byte dns_byte_ascii (lowercase host) (dns_lowercase host h))
     (λ h. u)
 
 -- a host outside brackets is text

@@ -13,7 +13,7 @@ use Rattle.gix_url.specs.Bytes.{percent_sign, at_sign, colon, left_bracket, righ
 use Rattle.gix_url.specs.Addresses.{is_zone_byte, IsZone, Literal}
 use Rattle.gix_url.specs.AddressTest.{is_ipv6_text}
 use Rattle.gix_url.specs.Hosts.{Mode, IsLiteral, Bracketed, AllowsPort, Number, ReadsAddress, IsPlainHost, Names}
-use Rattle.gix_url.specs.Hosts.Mode.{strict, bare, loose}
+use Rattle.gix_url.specs.Hosts.Mode.{strict, bare}
 use Rattle.gix_url.specs.Authority.{unless_empty, Credentials, Authority}
 use Rattle.gix_url.specs.Flaws.{BracketsAround, HasBadPort, HasBadHost}
 use Rattle.gix_url.specs.Rows.{LiteralRows, NameRows, NoNameRows, AuthorityRows, NoAuthorityRows}

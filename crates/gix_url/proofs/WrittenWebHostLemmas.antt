@@ -39,15 +39,11 @@ name_piece t h = host_piece t (all_weaker is_http_host_byte is_host_byte (λ b i
 
 -- ---- what stands between brackets
 
--- a zone's bytes are no `]`
-zone_no_bracket : (z : List ℕ) → IsZone z → FreeOf right_bracket z
-zone_no_bracket z h = free_of_all is_zone_byte right_bracket z h.bytes refl
-
 -- a literal holds no `]`
 literal_no_bracket : (t n : List ℕ) → Literal t n → FreeOf right_bracket t
 literal_no_bracket t n (address h e) = address_free right_bracket t refl h
 literal_no_bracket t n (zoned a z h zone is e) =
-    subst (λ x. FreeOf right_bracket x) (sym is) (free-append right_bracket a (codes "%25" ++ z) (address_free right_bracket a refl h) (zone_no_bracket z zone))
+    subst (λ x. FreeOf right_bracket x) (sym is) (free-append right_bracket a (codes "%25" ++ z) (address_free right_bracket a refl h) (free_of_all is_zone_byte right_bracket z zone.bytes refl))
 
 -- ---- what is named
 
