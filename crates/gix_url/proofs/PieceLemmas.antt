@@ -20,7 +20,7 @@ use Rattle.gix_url.specs.Cuts.{CutsAt}
 use Rattle.gix_url.specs.Escapes.{escaped_percents}
 use Rattle.gix_url.specs.declared.writer.piece.Piece.{Piece}
 use Rattle.gix_url.specs.Pieces.{piece_text, texts_text}
-use Rattle.gix_url.proofs.CutLemmas.{lacks_before, lacks_after, free_head_tail}
+use Rattle.gix_url.proofs.CutLemmas.{lacks_before, lacks_after}
 use Rattle.gix_url.proofs.EscapeLemmas.{escaped_percents-append, escaped_percents_kept}
 
 -- ---- lengths

@@ -45,7 +45,7 @@ joined_pieces xs ys front back = record {
   before_path = lacks-append (is_path_start true) xs ys front.before_path back.before_path;
 }
 
--- and so it is without `@`
+-- and so are those without `@`
 pub joined_hosts : (xs ys : List ℕ) → IsHostPiece xs → IsHostPiece ys → IsHostPiece (xs ++ ys)
 joined_hosts xs ys front back = record { no_at = free-append at_sign xs ys front.no_at back.no_at; piece = joined_pieces xs ys front.piece back.piece }
 
@@ -63,7 +63,7 @@ is_authority_byte b = is_escaped_byte b && not (b == backslash || is_path_start 
 abbrev pub is_host_byte : ℕ → Bool
 is_host_byte b = is_authority_byte b && not (b == at_sign)
 
--- bytes of an escaped piece, where every escape is sound
+-- a text of such bytes in which every escape is sound is an escaped piece
 pub escaped_piece : (t : List ℕ) → list_all is_escaped_byte t ≡ true → is_sound t ≡ true → IsEscapedPiece t
 escaped_piece t h sound =
     let ascii = ascii_class is_escaped_byte (λ b is. grind (arith, nat_tests)) t h in record {
@@ -72,7 +72,7 @@ escaped_piece t h sound =
       no_white_space = white_space_ascii t ascii (lacks_of_all is_escaped_byte is_whitespace (λ b is. not-true _ (and_parts _ _ is).1) t h);
     }
 
--- those of an authority
+-- one of bytes of an authority is a piece of an authority
 pub authority_piece : (t : List ℕ) → list_all is_authority_byte t ≡ true → is_sound t ≡ true → IsAuthorityPiece t
 authority_piece t h sound = record {
   escaped = escaped_piece t (all_weaker is_authority_byte is_escaped_byte (λ b is. (and_parts _ _ is).0) t h) sound;
@@ -80,30 +80,30 @@ authority_piece t h sound = record {
   before_path = lacks_of_all is_authority_byte (is_path_start true) (λ b is. grind (arith, nat_tests)) t h;
 }
 
--- those of a host and a port
+-- and one of bytes of a host and a port is one without `@`
 pub host_piece : (t : List ℕ) → list_all is_host_byte t ≡ true → is_sound t ≡ true → IsHostPiece t
 host_piece t h sound = record {
   no_at = free_of_all is_host_byte at_sign t h refl;
   piece = authority_piece t (all_weaker is_host_byte is_authority_byte (λ b is. (and_parts _ _ is).0) t h) sound;
 }
 
--- those of a narrower class without `%`
+-- so is one of a narrower class of bytes without `%`
 pub class_piece : (test : ℕ → Bool) → ((b : ℕ) → test b ≡ true → is_host_byte b ≡ true) → test percent_sign ≡ false → (t : List ℕ) → list_all test t ≡ true → IsHostPiece t
 class_piece test within plain t h = host_piece t (all_weaker test is_host_byte within t h) (sound_free t (free_of_all test percent_sign t h plain))
 
--- a scheme
+-- so is a scheme
 pub scheme_piece : (s : List ℕ) → is_scheme_text s ≡ true → IsHostPiece s
 scheme_piece s h = class_piece is_name_byte (λ b is. grind (arith, nat_tests)) refl s (helper_name_bytes s (scheme_helper_name s h))
 
--- an address
+-- so is an address
 pub address_piece : (t : List ℕ) → IsIpv6Text t → IsHostPiece t
 address_piece t h = class_piece is_address_byte (λ b is. grind (arith, nat_tests)) refl t (address_bytes t h)
 
--- such a piece in brackets, or with more behind it than `]`
+-- so are `[`, such a piece and another one, joined
 pub brackets_piece : (t rest : List ℕ) → IsHostPiece t → IsHostPiece rest → IsHostPiece (left_bracket ∷ (t ++ rest))
 brackets_piece t rest inner behind = joined_hosts (left_bracket ∷ []) (t ++ rest) (host_piece (left_bracket ∷ []) refl refl) (joined_hosts t rest inner behind)
 
--- a port behind its colon
+-- so is a port behind its colon
 pub port_piece : (port : Option ℕ) → IfSome port (λ p. p < 65536) → IsHostPiece (port_part port)
 port_piece None small = host_piece [] refl refl
 port_piece (Some p) small =
@@ -115,7 +115,7 @@ port_piece (Some p) small =
 password_has : (b : ℕ) → b < 128 → (is_whitespace b || is_path_start true b) ≡ true → is_password_escaped b ≡ true
 password_has b ascii h = grind (arith, nat_tests)
 
--- what is written by a set that has the bytes escaped in a password
+-- what is written by a set that has the bytes escaped in a password is such a piece
 encoded_piece : (set : AsciiSet) (t : List ℕ) → ((b : ℕ) → b < 128 → is_password_escaped b ≡ true → contains set b ≡ true) → IsHostPiece (percent_encode set t)
 encoded_piece set t has = record {
   no_at = encode_free set t at_sign (has at_sign (omega arith) refl) refl;
@@ -132,11 +132,11 @@ encoded_piece set t has = record {
   };
 }
 
--- a written user
+-- so is a written user
 pub user_piece : (user : List ℕ) → IsHostPiece (percent_encode USER user)
 user_piece user = encoded_piece USER user (λ b ascii is. user_holds b ascii ∙ or_left _ _ is)
 
--- a written password
+-- and a written password
 pub password_piece : (password : List ℕ) → IsHostPiece (percent_encode PASSWORD password)
 password_piece password = encoded_piece PASSWORD password (λ b ascii is. password_holds b ascii ∙ is)
 
