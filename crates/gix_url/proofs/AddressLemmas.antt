@@ -1,19 +1,26 @@
 -- IPv6 texts: their bytes, their colons, and their form in lower case.
-use Rattle.std.proofs.Common.{◌≡◌, ℕ, ◌<◌, ◌≤◌, ◌==◌, ◌||◌, Bool, true, false, List, [], ◌∷◌, ◌++◌, length, map, refl, ap, ◌∙◌, subst, inl, inr, arith, length-append, eqb-true}
-use Rattle.std.proofs.lemmas.Bool.{and_parts, and_from, both_ways, false_from_ne_true}
+use Rattle.std.proofs.Common.{◌≡◌, ℕ, ◌<◌, ◌≤◌, ◌==◌, ◌||◌, Bool, true, false, List, [], ◌∷◌, ◌++◌, length, map, refl, ap, ◌∙◌, inl, inr, arith, length-append}
+use Rattle.std.proofs.lemmas.Bool.{and_parts, and_from}
 use Rattle.std.proofs.lemmas.Bool.Decides.{nat_tests}
 use Rattle.std.proofs.lemmas.Fmt.{decimal_is_IsNumeral}
 use Rattle.std.proofs.lemmas.List.{map-append, length-map}
 use Rattle.std.proofs.lemmas.List.Folds.{list_all-append}
 use Rattle.std.specs.List.{list_all}
 use Rattle.std.specs.Char.{digit_value, is_ascii_hexdigit, to_ascii_lowercase}
+use Rattle.std.specs.Str.{IsUtf8}
 use Rattle.std.specs.Str.Parse.{AllDigits}
 use Rattle.gix_url.specs.Bytes.{colon, dot, FreeOf, lowercase}
 use Rattle.gix_url.specs.Addresses.{IsGroup, IsOctet, IsIpv4Text, joined_by, AreItems, IsIpv6Text}
+use Rattle.gix_url.proofs.CutLemmas.{free_of_all}
+use Rattle.gix_url.proofs.EscapeLemmas.{utf8_class}
 
 -- a byte of an address: a hexadecimal digit, `:` or `.`
 abbrev pub is_address_byte : ℕ → Bool
 is_address_byte b = is_ascii_hexdigit b || (b == colon || b == dot)
+
+-- such a byte is ASCII
+pub address_byte_ascii : (b : ℕ) → is_address_byte b ≡ true → b < 128
+address_byte_ascii b h = grind (arith, nat_tests)
 
 -- two texts of such bytes are one, joined
 bytes_joined : (s t : List ℕ) → list_all is_address_byte s ≡ true → list_all is_address_byte t ≡ true → list_all is_address_byte (s ++ t) ≡ true
@@ -86,18 +93,13 @@ address_bytes t (inr short) =
     (bytes_joined (joined_by colon short.front) _ (items_bytes false short.front _ short.front_items)
     (items_bytes true short.back _ short.back_items))
 
--- a byte that fails a test is in no text whose bytes all pass it
-pub free_of_failing : (test : ℕ → Bool) (c : ℕ) (bs : List ℕ) → test c ≡ false → list_all test bs ≡ true → FreeOf c bs
-free_of_failing test c [] fails h = refl
-free_of_failing test c (b ∷ bs) fails h =
-    let (first, rest) = and_parts (test b) (list_all test bs) h in
-    let other : (b == c) ≡ false =
-    false_from_ne_true (b == c) (λ same. both_ways (test c) fails (subst (λ x. test x ≡ true) (eqb-true b c same) first)) in
-    rw other (free_of_failing test c bs fails rest)
-
 -- an IPv6 text holds no other byte
 pub address_free : (c : ℕ) (t : List ℕ) → is_address_byte c ≡ false → IsIpv6Text t → FreeOf c t
-address_free c t other h = free_of_failing is_address_byte c t other (address_bytes t h)
+address_free c t other h = free_of_all is_address_byte c t (address_bytes t h) other
+
+-- an IPv6 text is UTF-8
+pub address_utf8 : (t : List ℕ) → IsIpv6Text t → IsUtf8 t
+address_utf8 t h = utf8_class is_address_byte address_byte_ascii t (address_bytes t h)
 
 -- a text that holds two colons
 abbrev pub TwoColons : List ℕ → Type 0

@@ -1,10 +1,9 @@
 -- Settled locations come back, of every kind.
-use Rattle.std.proofs.Common.{◌≡◌, ℕ, Bool, true, false, inl, inr, List, Option, Some, None, Ok, refl, sym, ap, subst, ◌∙◌}
-use Rattle.std.proofs.lemmas.Bool.{both_ways, false≢true, or_parts, or_from, cond-false}
+use Rattle.std.proofs.Common.{◌≡◌, ℕ, true, false, inl, inr, List, Option, Some, None, Ok, refl, sym, ap, subst, ◌∙◌}
+use Rattle.std.proofs.lemmas.Bool.{both_ways, or_parts, or_from, cond-false}
 use Rattle.std.specs.Prelude.{codes, bytes_eq, ◌||◌, IsSome}
 use Rattle.gix_url.specs.Schemes.{is_ssh_scheme, is_web_scheme, is_known_scheme, protocol_of, mode_of, requires_host}
 use Rattle.gix_url.specs.Bytes.{is_scheme_text}
-use Rattle.gix_url.specs.Hosts.{Mode}
 use Rattle.gix_url.specs.Value.{Protocol, Location, fields}
 use Rattle.gix_url.specs.Grammar.{Spells}
 use Rattle.gix_url.proofs.UniqueLemmas.{spells_unique}
@@ -17,6 +16,7 @@ use Rattle.gix_url.specs.WrittenPieces.{as_read}
 use Rattle.gix_url.proofs.SettledLemmas.{written_web, written_git, written_secure, written_other}
 use Rattle.gix_url.proofs.WrittenUrlLemmas.{IsUrlProtocol, authority_with_host, authority_without_host, readable_spelled, url_readable, url_again}
 use Rattle.gix_url.proofs.WrittenPathLemmas.{web_path_written, transport_path_written, other_path_written}
+use Rattle.gix_url.proofs.HostLemmas.{bare_not_strict, loose_not_strict}
 use Rattle.gix_url.proofs.WrittenWebHostLemmas.{web_host_written}
 use Rattle.gix_url.proofs.WrittenHostLemmas.{bracketed_host_written, bare_host_written}
 use Rattle.gix_url.proofs.WrittenScpLemmas.{scp_again}
@@ -66,12 +66,6 @@ web_spelled v (inr e) is h =
     let (host, there, web) = h.host in
     let writes = web_host_written v host (inr e) web h.port is.port in
     readable_spelled v (Some host) (url_readable v https (Some host) e https_protocol h.common (authority_with_host strict v host host h.common is there writes) (λ need. refl) there (web_path_written v (inr e) h.path (path_of v h.common)) (written_web v (inr e)))
-
-bare_not_strict : ¬ (bare ≡ strict)
-bare_not_strict e = cc
-
-loose_not_strict : ¬ (loose ≡ strict)
-loose_not_strict e = cc
 
 -- ---- Secure Shell
 

@@ -63,6 +63,20 @@ lacks_weaker t u within (b ∷ bs) h =
     let parts = or_parts (u b) (list_any u bs) h in
     or_from (t b) (list_any t bs) (false_from_ne_true (t b) (λ e. both_ways (u b) parts.0 (within b e))) (lacks_weaker t u within bs parts.1)
 
+-- bytes of a class are bytes of a wider one
+pub all_weaker : (narrow wide : ℕ → Bool) → ((b : ℕ) → narrow b ≡ true → wide b ≡ true) → (bs : List ℕ) → list_all narrow bs ≡ true → list_all wide bs ≡ true
+all_weaker narrow wide within [] h = refl
+all_weaker narrow wide within (b ∷ bs) h =
+    let parts = and_parts (narrow b) (list_all narrow bs) h in
+    and_from _ _ (within b parts.0) (all_weaker narrow wide within bs parts.1)
+
+-- bytes of a class lack another class that shares no byte with it
+pub lacks_of_all : (test other : ℕ → Bool) → ((b : ℕ) → test b ≡ true → other b ≡ false) → (bs : List ℕ) → list_all test bs ≡ true → Lacks other bs
+lacks_of_all test other apart [] h = refl
+lacks_of_all test other apart (b ∷ bs) h =
+    let parts = and_parts (test b) (list_all test bs) h in
+    or_from _ _ (apart b parts.0) (lacks_of_all test other apart bs parts.1)
+
 -- bytes up to a place lack what none of them passes
 pub lacks_before : (test : ℕ → Bool) (bs : List ℕ) (n : ℕ) → ((k : ℕ) → k < n → ¬ (test (get_or bs k 0) ≡ true)) → Lacks test (take n bs)
 lacks_before test bs zero h = refl
@@ -98,11 +112,8 @@ free_head_tail c = lacks_head_tail (λ b. b == c)
 
 -- bytes of a class are free of a byte outside of it
 pub free_of_all : (test : ℕ → Bool) (c : ℕ) (bs : List ℕ) → list_all test bs ≡ true → test c ≡ false → FreeOf c bs
-free_of_all test c [] h k = refl
-free_of_all test c (b ∷ bs) h k =
-    let parts = and_parts (test b) (list_all test bs) h in
-    let other : (b == c) ≡ false = false_from_ne_true (b == c) (λ e. both_ways (test c) k (ap test (sym (eqb-true b c e)) ∙ parts.0)) in
-    or_from (b == c) (list_any (λ d. d == c) bs) other (free_of_all test c bs parts.1 k)
+free_of_all test c bs h k =
+    lacks_of_all test (λ b. b == c) (λ b is. false_from_ne_true (b == c) (λ e. both_ways (test c) k (ap test (sym (eqb-true b c e)) ∙ is))) bs h
 
 -- a text that lacks a class of bytes is free of each of them
 pub free_of_lacked : (test : ℕ → Bool) (c : ℕ) (bs : List ℕ) → Lacks test bs → test c ≡ true → FreeOf c bs
@@ -124,6 +135,16 @@ free_or_cut c (b ∷ bs) =
 pub begins_cut : (c : ℕ) (bs : List ℕ) → begins_with c bs ≡ true → (rest : List ℕ) × (bs ≡ c ∷ rest)
 begins_cut c [] h = absurd (false≢true h)
 begins_cut c (b ∷ bs) h = (bs, ap (λ d. d ∷ bs) (eqb-true b c h))
+
+-- a text that is free of a byte doesn't begin with it
+pub free_begins : (c : ℕ) (bs : List ℕ) → FreeOf c bs → begins_with c bs ≡ false
+free_begins c [] h = refl
+free_begins c (b ∷ bs) h = (free_head_tail c b bs h).0
+
+-- how a text begins, so does the whole with another text behind it
+pub begins-append : (c : ℕ) (x y : List ℕ) → 0 < length x → begins_with c (x ++ y) ≡ begins_with c x
+begins-append c [] y some = absurd (omega arith)
+begins-append c (b ∷ x) y some = refl
 
 -- a text with a byte in it is not free of the byte
 pub not_free : (c : ℕ) (x y : List ℕ) → FreeOf c (x ++ c ∷ y) → ⊥
@@ -296,12 +317,16 @@ mark_cut_unique (c ∷ a) (d ∷ b) x y f g e =
 
 -- ---- schemes and helpers' names
 
--- the name of a helper is free of each byte that is no byte of a name: of `:`, `/`, `@`, `[` by `refl`
-pub helper_name_free : (s : List ℕ) (c : ℕ) → is_helper_name s ≡ true → is_name_byte c ≡ false → FreeOf c s
-helper_name_free [] c h k = refl
-helper_name_free (b ∷ s) c h k =
+-- the bytes of a helper's name are bytes of a name
+pub helper_name_bytes : (s : List ℕ) → is_helper_name s ≡ true → list_all is_name_byte s ≡ true
+helper_name_bytes [] h = refl
+helper_name_bytes (b ∷ s) h =
     let parts = and_parts (is_ascii_alphanumeric b) (list_all is_name_byte s) h in
-    free_of_all is_name_byte c (b ∷ s) (and_from (is_name_byte b) (list_all is_name_byte s) (or_left (is_ascii_alphanumeric b) (is_scheme_mark b) parts.0) parts.1) k
+    and_from (is_name_byte b) (list_all is_name_byte s) (or_left (is_ascii_alphanumeric b) (is_scheme_mark b) parts.0) parts.1
+
+-- so it is free of each other byte: of `:`, `/`, `@`, `[` by `refl`
+pub helper_name_free : (s : List ℕ) (c : ℕ) → is_helper_name s ≡ true → is_name_byte c ≡ false → FreeOf c s
+helper_name_free s c h k = free_of_all is_name_byte c s (helper_name_bytes s h) k
 
 -- a letter is a letter or a digit
 wider : (digit upper lower : Bool) → (upper || lower) ≡ true → ((digit || upper) || lower) ≡ true

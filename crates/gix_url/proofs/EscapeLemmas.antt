@@ -1,10 +1,10 @@
 -- Escaped texts: where they are sound, how they decode in parts, and how they are UTF-8 in parts.
-use Rattle.std.proofs.Common.{◌≡◌, ◌∙◌, ◌↔◌, ◌<◌, ◌≤◌, ◌+◌, ℕ, Bool, true, false, not, ◌&&◌, ◌||◌, ◌==◌, List, [], ◌∷◌, ◌++◌, Option, Some, None, length, take, drop, ◌*◌, ◌/◌, ◌%◌, nat_lt, cond, All, Fits, w8, IsAscii, get_or, arith, refl, sym, ap, subst, ⊎_elim}
+use Rattle.std.proofs.Common.{◌≡◌, ◌∙◌, ◌↔◌, ◌<◌, ◌≤◌, ◌+◌, ℕ, zero, suc, Bool, true, false, not, ◌&&◌, ◌||◌, ◌==◌, List, [], ◌∷◌, ◌++◌, Option, Some, None, length, take, drop, ◌*◌, ◌/◌, ◌%◌, nat_lt, cond, All, Fits, w8, IsAscii, get_or, arith, refl, sym, ap, subst, ⊎_elim}
 use Rattle.std.specs.Char.{is_digit, digit_value, is_whitespace, is_ascii_whitespace, encode_utf8}
 use Rattle.std.specs.Option.{MatchOption, is_some}
 use Rattle.std.specs.Str.{IsUtf8, encode_utf8_all, chars}
 use Rattle.std.proofs.Math.Bool.{or-false}
-use Rattle.std.proofs.lemmas.Bool.{cond-false, cond_both, ltb-false, cases_lt, cases_Bool, and_parts, and_from, and_left, and_right, or_parts, or_from, false_from_ne_true, or_cases, or_left, or_right, not-true, both_ways, eqb-true, eqb-false, ne_eqb, ltb-true, true≢false, false≢true}
+use Rattle.std.proofs.lemmas.Bool.{cond-false, cond_both, ltb-false, cases_lt, cases_Bool, and_parts, and_from, and_left, and_right, or_parts, or_from, false_from_ne_true, true_from_ne_false, or_cases, or_left, or_right, not-true, both_ways, eqb-true, eqb-false, ne_eqb, ltb-true, true≢false, false≢true}
 use Rattle.std.proofs.lemmas.Bool.Decides.{nat_tests}
 use Rattle.std.proofs.lemmas.List.{append_cancel_left, drop-drop, length-take, length-drop, length-append, nil_from_length, take_at, drop_at, get_or_at}
 use Rattle.std.proofs.lemmas.Str.{IsUtf8-append, IsUtf8-past_char, IsUtf8-encode, IsUtf8-take, IsUtf8-drop, IsUtf8-from_ascii, IsCharBoundary-from_take, IsCharBoundary-at_seam, IsCharBoundary-before_ascii, chars-append, chars-IsAscii, encodes-chars, chars_from_encodes, encode_ascii}
@@ -15,7 +15,7 @@ use Rattle.bstr.proofs.lemmas.SoundLemmas.{SpellsChar-decoded}
 use Rattle.bstr.proofs.lemmas.EncodeLemmas.{decoded-encode}
 use Rattle.std.proofs.lemmas.Str.Ascii.{IsAscii-from_all}
 use Rattle.std.proofs.lemmas.List.Elements.{All-cons, All-nil, All-append, All-weaker, All-from_get_or}
-use Rattle.std.specs.List.{list_any}
+use Rattle.std.specs.List.{list_any, list_all}
 use Rattle.std.specs.Fmt.{digit_glyph}
 use Rattle.std.proofs.lemmas.List.Folds.{list_any_none, list_any-append}
 use Rattle.percent_encoding.specs.declared.ascii_set.AsciiSet.{AsciiSet}
@@ -25,6 +25,7 @@ use Rattle.percent_encoding.specs.Percent.{percent_decode, percent_encode, perce
 use Rattle.percent_encoding.proofs.PercentLemmas.{IsEscapeByte, All-percent_encode, All-percent_encode_byte, percent_encode_nonempty, IsAscii-percent_encode, percent_encode-nil, percent_encode-append, percent_encode_escaped, percent_encode_kept, round_trip, percent_decode-nil, percent_decode_not_percent, percent_decode_escape, length-percent_decode}
 use Rattle.gix_url.specs.Bytes.{percent_sign, Lacks, FreeOf, LacksWhiteSpace}
 use Rattle.gix_url.specs.Escapes.{is_sound, begins_with_digits, escaped_percents}
+use Rattle.gix_url.proofs.CutLemmas.{heads, lacks_weaker}
 
 -- ---- walks over a decoding
 
@@ -33,12 +34,9 @@ pub drop_next : (given : Option ℕ) (whole rest left : List ℕ) (n : ℕ) → 
 drop_next None whole rest left n e h = h.1 ∙ sym (ap (drop 1) h.0) ∙ ap (drop 1) e ∙ drop-drop 1 n whole
 drop_next (Some b) whole rest left n e h = sym (ap (drop 1) h) ∙ ap (drop 1) e ∙ drop-drop 1 n whole
 
-heads : (x y : ℕ) (xs ys : List ℕ) → x ∷ xs ≡ y ∷ ys → x ≡ y
-heads x y xs ys e = cc
-
 -- lists that differ at one place behind an equal front are different
 pub differ_behind : (front xs ys : List ℕ) (x y : ℕ) → (y ≡ x → ⊥) → front ++ x ∷ xs ≡ front ++ y ∷ ys → ⊥
-differ_behind front xs ys x y other e = other (sym (heads x y xs ys (append_cancel_left front (x ∷ xs) (y ∷ ys) e)))
+differ_behind front xs ys x y other e = other (sym (heads (append_cancel_left front (x ∷ xs) (y ∷ ys) e)))
 
 -- four bytes are enough to read the first character
 pub decoded_window : (bs : List ℕ) → decoded (take 4 bs) ≡ decoded bs
@@ -428,6 +426,16 @@ utf8_before xs ys whole rest =
     let at = IsCharBoundary-at_seam (xs ++ ys) xs ys refl rest in
     subst IsUtf8 (take_at xs ys (length xs) refl) (IsUtf8-take (xs ++ ys) (length xs) whole at)
 
+-- bytes of a class are ASCII where the class is
+pub ascii_class : (test : ℕ → Bool) → ((b : ℕ) → test b ≡ true → b < 128) → (bs : List ℕ) → list_all test bs ≡ true → IsAscii bs
+ascii_class test within [] h i = omega arith
+ascii_class test within (b ∷ bs) h zero = within b (and_parts (test b) (list_all test bs) h).0
+ascii_class test within (b ∷ bs) h (suc i) = ascii_class test within bs (and_parts (test b) (list_all test bs) h).1 i
+
+-- so they are UTF-8
+pub utf8_class : (test : ℕ → Bool) → ((b : ℕ) → test b ≡ true → b < 128) → (bs : List ℕ) → list_all test bs ≡ true → IsUtf8 bs
+utf8_class test within bs h = IsUtf8-from_ascii bs (ascii_class test within bs h)
+
 -- an ASCII byte as a text
 pub ascii_byte : (c : ℕ) → c < 128 → IsAscii (c ∷ [])
 ascii_byte c ascii = IsAscii-from_all (c ∷ []) (All-cons (λ b. b < 128) c [] ascii (All-nil (λ b. b < 128)))
@@ -486,13 +494,6 @@ white_space_byte c ascii other = white_space_ascii (c ∷ []) (ascii_byte c asci
 
 -- ---- bytes and characters
 
--- what lacks a wider test lacks a narrower one
-pub lacks_narrower : (narrow wide : ℕ → Bool) (xs : List ℕ) → ((b : ℕ) → wide b ≡ false → narrow b ≡ false) → Lacks wide xs → Lacks narrow xs
-lacks_narrower narrow wide [] less lacks = refl
-lacks_narrower narrow wide (x ∷ xs) less lacks =
-    let parts = or_parts (wide x) (list_any wide xs) lacks in
-    or_from _ _ (less x parts.0) (lacks_narrower narrow wide xs less parts.1)
-
 -- no byte past ASCII passes the test
 abbrev pub IsAsciiTest : (ℕ → Bool) → Type 0
 IsAsciiTest test = (b : ℕ) → 128 ≤ b → test b ≡ false
@@ -543,7 +544,7 @@ any_chars test t ascii utf8 = sym (any_encodes test ascii (chars t)) ∙ ap (lis
 -- a text without white space lacks each ASCII test of white space
 pub lacks_narrower_white_space : (test : ℕ → Bool) (t : List ℕ) → IsAsciiTest test → ((b : ℕ) → is_whitespace b ≡ false → test b ≡ false) → IsUtf8 t → LacksWhiteSpace t → Lacks test t
 lacks_narrower_white_space test t ascii less utf8 lacks =
-    sym (any_chars test t ascii utf8) ∙ lacks_narrower test is_whitespace (chars t) less lacks
+    sym (any_chars test t ascii utf8) ∙ lacks_weaker test is_whitespace (λ b passes. true_from_ne_false (is_whitespace b) (λ none. both_ways (test b) (less b none) passes)) (chars t) lacks
 
 -- a text without white space lacks that of ASCII
 pub lacks_ascii_white_space : (t : List ℕ) → IsUtf8 t → LacksWhiteSpace t → Lacks is_ascii_whitespace t

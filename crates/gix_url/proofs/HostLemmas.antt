@@ -1,18 +1,19 @@
 -- Hosts and ports: what a piece of an authority looks like, that it names one host and one port at most, and none where a flaw stands.
-use Rattle.std.proofs.Common.{◌≡◌, ℕ, zero, suc, ◌+◌, ◌<◌, ◌≤◌, Bool, true, false, ◌==◌, ◌⊎◌, inl, inr, List, [], ◌∷◌, ◌++◌, length, take, drop, Option, Some, None, Err, ◌^◌, rules, refl, sym, ap, subst, ◌∙◌, arith, append_assoc, length-append}
+use Rattle.std.proofs.Common.{◌≡◌, ℕ, ◌+◌, ◌<◌, ◌≤◌, true, false, ◌==◌, ◌⊎◌, inl, inr, List, [], ◌∷◌, ◌++◌, length, take, drop, Option, Some, None, Err, ◌^◌, rules, refl, sym, ap, subst, ◌∙◌, arith, append_assoc, length-append}
 use Rattle.std.specs.List.{list_all}
 use Rattle.std.specs.Char.{is_ascii_digit, to_ascii_lowercase}
 use Rattle.std.specs.Str.Parse.{IsNumeral, digits_value, without_leading_plus}
 use Rattle.std.specs.Fmt.{decimal}
 use Rattle.std.proofs.lemmas.Fmt.{decimal_is_IsNumeral, digits_decimal}
 use Rattle.std.proofs.lemmas.Str.Parse.{IsNumeralModel, numerals_by_value, parse_digits}
-use Rattle.std.proofs.lemmas.Bool.{cond-false, cond_both, both_ways, false≢true, and_parts, eq-eqb, eqb-true}
+use Rattle.std.proofs.lemmas.Bool.{cond-false, cond_both, both_ways, false≢true, eqb-true}
 use Rattle.std.proofs.lemmas.Bool.Decides.{nat_tests}
+use Rattle.std.proofs.lemmas.Option.{same_Some}
 use Rattle.std.proofs.lemmas.List.{append-nil, map-append, take_all, drop_all}
 use Rattle.std.proofs.Math.Seq.{take-append_seam, drop-append_seam}
-use Rattle.std.proofs.lemmas.Str.{IsUtf8-from_ascii, IsUtf8-append}
-use Rattle.percent_encoding.proofs.PercentLemmas.{length-percent_decode, percent_decode-nil, percent_decode_escape, percent_decode_not_percent}
-use Rattle.std.specs.Str.{IsAscii, IsUtf8}
+use Rattle.std.proofs.lemmas.Str.{IsUtf8-append}
+use Rattle.percent_encoding.proofs.PercentLemmas.{length-percent_decode, percent_decode_escape}
+use Rattle.std.specs.Str.{IsUtf8}
 use Rattle.percent_encoding.specs.Percent.{percent_decode}
 use Rattle.gix_url.specs.declared.error.UrlFault.{UrlFault}
 use Rattle.gix_url.specs.declared.error.UrlFault.TheVariants as fault
@@ -24,8 +25,22 @@ use Rattle.gix_url.specs.Hosts.{Mode, is_dns_byte, is_http_host_byte, HostText, 
 use Rattle.gix_url.specs.Hosts.Mode.{strict, bare, loose}
 use Rattle.gix_url.specs.Flaws.{IsNoPort, HasBadPort, IsPortPlace, IsNoInner, BracketsAround, HasBadHost, NameFlaw}
 use Rattle.gix_url.specs.HostPieces.{EndsHost, Follows, IsEscapedZone, IsInner, in_brackets, lowercase_address, shown_literal}
-use Rattle.gix_url.proofs.CutLemmas.{heads, tails, class_cut_unique, cut_unique, free-append, free-cons, free_head_tail, free_of_all, free_or_cut, not_free}
-use Rattle.gix_url.proofs.AddressLemmas.{is_address_byte, address_bytes, address_free, address_two_colons}
+use Rattle.gix_url.proofs.CutLemmas.{heads, tails, class_cut_unique, cut_unique, free-append, free_begins, free_head_tail, free_of_all, free_or_cut, begins-append, not_free}
+use Rattle.gix_url.proofs.EscapeLemmas.{decode_kept, decodes_in_parts, sound_free, utf8_byte, utf8_class}
+use Rattle.gix_url.proofs.AddressLemmas.{address_free, address_two_colons, address_utf8, address-lowercase}
+use Rattle.gix_url.proofs.NormalLemmas.{dns_lowercase}
+
+-- ---- modes
+
+-- the modes are three
+pub loose_not_strict : ¬ (loose ≡ strict)
+loose_not_strict e = cc
+
+pub bare_not_strict : ¬ (bare ≡ strict)
+bare_not_strict e = cc
+
+pub loose_not_bare : ¬ (loose ≡ bare)
+loose_not_bare e = cc
 
 -- ---- ports
 
@@ -151,16 +166,6 @@ follows_unique {mode} base other host second port last same (Follows.number c m 
     (h ∙ ap Some same ∙ sym k, p ∙ ap Some number ∙ sym q)
 
 -- ---- the looks of a piece
-
--- a text that is free of a byte doesn't begin with it
-free_begins : (c : ℕ) (t : List ℕ) → FreeOf c t → begins_with c t ≡ false
-free_begins c [] h = refl
-free_begins c (b ∷ t) h = (free_head_tail c b t h).0
-
--- how a text begins, so does the whole with another text behind it
-begins-append : (c : ℕ) (t rest : List ℕ) → 0 < length t → begins_with c (t ++ rest) ≡ begins_with c t
-begins-append c [] rest some = absurd (omega arith)
-begins-append c (b ∷ t) rest some = refl
 
 -- a host and a port's place
 abbrev pub IsPlainPiece : List ℕ → Type 0
@@ -408,71 +413,20 @@ flawed_unnamed mode piece fault.HostRequired h host port n = h
 
 -- ---- ASCII and UTF-8
 
--- bytes of a class are ASCII where the class is
-ascii_class : (test : ℕ → Bool) → ((b : ℕ) → test b ≡ true → b < 128) → (bs : List ℕ) → list_all test bs ≡ true → IsAscii bs
-ascii_class test within [] h i = omega arith
-ascii_class test within (b ∷ bs) h zero = within b (and_parts (test b) (list_all test bs) h).0
-ascii_class test within (b ∷ bs) h (suc i) = ascii_class test within bs (and_parts (test b) (list_all test bs) h).1 i
-
--- one such byte is text
-one_ascii : (b : ℕ) → b < 128 → IsAscii (b ∷ [])
-one_ascii b h zero = h
-one_ascii b h (suc i) = omega arith
-
-one_utf8 : (b : ℕ) → b < 128 → IsUtf8 (b ∷ [])
-one_utf8 b h = IsUtf8-from_ascii (b ∷ []) (one_ascii b h)
-
 -- decimal digits are ASCII
 digit_ascii : (b : ℕ) → is_ascii_digit b ≡ true → b < 128
 digit_ascii b h = grind (arith, nat_tests)
 
 pub digits_utf8 : (bs : List ℕ) → list_all is_ascii_digit bs ≡ true → IsUtf8 bs
-digits_utf8 bs h = IsUtf8-from_ascii bs (ascii_class is_ascii_digit digit_ascii bs h)
-
--- a byte of an address is ASCII
-address_byte_ascii : (b : ℕ) → is_address_byte b ≡ true → b < 128
-address_byte_ascii b h = grind (arith, nat_tests)
-
--- lower case keeps ASCII
-byte_lowercase_ascii : (b : ℕ) → b < 128 → to_ascii_lowercase b < 128
-byte_lowercase_ascii b h = grind (arith, nat_tests)
-
-lowercase_ascii : (bs : List ℕ) → IsAscii bs → IsAscii (lowercase bs)
-lowercase_ascii [] h i = omega arith
-lowercase_ascii (b ∷ bs) h zero = byte_lowercase_ascii b (h 0)
-lowercase_ascii (b ∷ bs) h (suc i) = lowercase_ascii bs (λ k. h (suc k)) i
-
--- so an address in lower case is text
-address_lowercase_ascii : (t : List ℕ) → IsIpv6Text t → IsAscii (lowercase t)
-address_lowercase_ascii t h = lowercase_ascii t (ascii_class is_address_byte address_byte_ascii t (address_bytes t h))
-
-address_lowercase_utf8 : (t : List ℕ) → IsIpv6Text t → IsUtf8 (lowercase t)
-address_lowercase_utf8 t h = IsUtf8-from_ascii (lowercase t) (address_lowercase_ascii t h)
+digits_utf8 bs h = utf8_class is_ascii_digit digit_ascii bs h
 
 -- ---- decoding behind an address
 
 -- what holds no `%` stays, with another text behind it
 decoded_behind : (a rest : List ℕ) → FreeOf percent_sign a → percent_decode (a ++ rest) ≡ a ++ percent_decode rest
-decoded_behind [] rest h = refl
-decoded_behind (b ∷ a) rest h =
-    let (other, more) = free_head_tail percent_sign b a h in
-    percent_decode_not_percent b (a ++ rest) (λ e. both_ways (b == percent_sign) other (eq-eqb b percent_sign e)) ∙ ap (λ t. b ∷ t) (decoded_behind a rest more)
+decoded_behind a rest h = decodes_in_parts a rest (sound_free a h) ∙ ap (λ front. front ++ percent_decode rest) (decode_kept a h)
 
--- lower case brings no `%`
-byte_lowercase_percent : (b : ℕ) → (b == percent_sign) ≡ false → (to_ascii_lowercase b == percent_sign) ≡ false
-byte_lowercase_percent b h = grind (arith, nat_tests)
-
-lowercase_no_percent : (a : List ℕ) → FreeOf percent_sign a → FreeOf percent_sign (lowercase a)
-lowercase_no_percent [] h = refl
-lowercase_no_percent (b ∷ a) h =
-    let (other, more) = free_head_tail percent_sign b a h in
-    free-cons percent_sign (to_ascii_lowercase b) (lowercase a) (byte_lowercase_percent b other) (lowercase_no_percent a more)
-
--- an address stays as it is decoded
-address_decoded : (a : List ℕ) → FreeOf percent_sign a → percent_decode a ≡ a
-address_decoded a h = ap percent_decode (sym (append-nil a)) ∙ decoded_behind a [] h ∙ ap (λ t. a ++ t) percent_decode-nil ∙ append-nil a
-
--- and `%25` behind it is a `%`
+-- and `%25` behind it is a `%`, with another text behind that
 zone_decoded : (a z : List ℕ) → FreeOf percent_sign a → percent_decode (a ++ percent_sign ∷ (50 ∷ (53 ∷ z))) ≡ a ++ percent_sign ∷ percent_decode z
 zone_decoded a z h =
     decoded_behind a (percent_sign ∷ (50 ∷ (53 ∷ z))) h ∙ ap (λ t. a ++ t) (percent_decode_escape percent_sign 50 53 z refl (omega arith) (omega arith))
@@ -481,20 +435,20 @@ zone_decoded a z h =
 literal_decoded : (t n : List ℕ) → Literal t n → percent_decode n ≡ lowercase_address (percent_decode t)
 literal_decoded t n (address h e) =
     let free = address_no_percent t h in
-    ap percent_decode e ∙ address_decoded (lowercase t) (lowercase_no_percent t free) ∙ sym (ap lowercase_address (address_decoded t free) ∙ lowercase_address_alone t free)
+    ap percent_decode e ∙ decode_kept (lowercase t) (address_no_percent (lowercase t) (address-lowercase t h)) ∙ sym (ap lowercase_address (decode_kept t free) ∙ lowercase_address_alone t free)
 literal_decoded t n (zoned a z h zone is e) =
     let free = address_no_percent a h in
-    ap percent_decode e ∙ zone_decoded (lowercase a) z (lowercase_no_percent a free)
+    ap percent_decode e ∙ zone_decoded (lowercase a) z (address_no_percent (lowercase a) (address-lowercase a h))
     ∙ sym (ap (λ x. lowercase_address (percent_decode x)) is ∙ ap lowercase_address (zone_decoded a z free) ∙ lowercase_address_before a (percent_decode z) free)
 
 -- a decoded literal is text
 literal_utf8 : (t n : List ℕ) → Literal t n → IsUtf8 (percent_decode n)
 literal_utf8 t n (address h e) =
-    let shown = ap percent_decode e ∙ address_decoded (lowercase t) (lowercase_no_percent t (address_no_percent t h)) in
-    subst IsUtf8 (sym shown) (address_lowercase_utf8 t h)
+    let shown = ap percent_decode e ∙ decode_kept (lowercase t) (address_no_percent (lowercase t) (address-lowercase t h)) in
+    subst IsUtf8 (sym shown) (address_utf8 (lowercase t) (address-lowercase t h))
 literal_utf8 t n (zoned a z h zone is e) =
-    let shown = ap percent_decode e ∙ zone_decoded (lowercase a) z (lowercase_no_percent a (address_no_percent a h)) in
-    subst IsUtf8 (sym shown) (IsUtf8-append (lowercase a) (percent_sign ∷ percent_decode z) (address_lowercase_utf8 a h) (IsUtf8-append (percent_sign ∷ []) (percent_decode z) (one_utf8 percent_sign (omega arith)) zone.text))
+    let shown = ap percent_decode e ∙ zone_decoded (lowercase a) z (address_no_percent (lowercase a) (address-lowercase a h)) in
+    subst IsUtf8 (sym shown) (IsUtf8-append (lowercase a) (percent_sign ∷ percent_decode z) (address_utf8 (lowercase a) (address-lowercase a h)) (IsUtf8-append (percent_sign ∷ []) (percent_decode z) (utf8_byte percent_sign (omega arith)) zone.text))
 
 -- outside HTTP a literal between brackets stands for its decoding
 bracketed_literal : (t n : List ℕ) → Literal t n → Bracketed t (lowercase_address (percent_decode t))
@@ -620,28 +574,28 @@ zone_byte_ascii b h = grind (arith, nat_tests)
 normal_utf8 : (host : List ℕ) → IsUtf8 host → IsUtf8 (normal_host host)
 normal_utf8 host u =
     cond_both (list_all is_dns_byte host) (lowercase host) host IsUtf8
-    (λ h. IsUtf8-from_ascii (lowercase host) (lowercase_ascii host (ascii_class is_dns_byte dns_byte_ascii host h)))
+    (λ h. utf8_class is_dns_byte dns_byte_ascii (lowercase host) (dns_lowercase host h))
     (λ h. u)
 
 -- a host outside brackets is text
 host_text_utf8 : (mode : Mode) (t named : List ℕ) → HostText mode t named → IsUtf8 named
-host_text_utf8 strict t named h = subst IsUtf8 (sym h.1) (normal_utf8 t (IsUtf8-from_ascii t (ascii_class is_http_host_byte http_byte_ascii t h.0)))
+host_text_utf8 strict t named h = subst IsUtf8 (sym h.1) (normal_utf8 t (utf8_class is_http_host_byte http_byte_ascii t h.0))
 host_text_utf8 bare t named h = subst IsUtf8 (sym h.1) (normal_utf8 (percent_decode t) h.0)
 host_text_utf8 loose t named h = subst IsUtf8 (sym h.1) (normal_utf8 (percent_decode t) h.0)
 
 -- a byte in front of or behind a text
 utf8_cons : (b : ℕ) (t : List ℕ) → b < 128 → IsUtf8 t → IsUtf8 (b ∷ t)
-utf8_cons b t h u = IsUtf8-append (b ∷ []) t (one_utf8 b h) u
+utf8_cons b t h u = IsUtf8-append (b ∷ []) t (utf8_byte b h) u
 
 utf8_push : (b : ℕ) (t : List ℕ) → b < 128 → IsUtf8 t → IsUtf8 (t ++ b ∷ [])
-utf8_push b t h u = IsUtf8-append t (b ∷ []) u (one_utf8 b h)
+utf8_push b t h u = IsUtf8-append t (b ∷ []) u (utf8_byte b h)
 
 -- the normal form of a literal is text
 literal_normal_utf8 : (t n : List ℕ) → Literal t n → IsUtf8 n
-literal_normal_utf8 t n (address h e) = subst IsUtf8 (sym e) (address_lowercase_utf8 t h)
+literal_normal_utf8 t n (address h e) = subst IsUtf8 (sym e) (address_utf8 (lowercase t) (address-lowercase t h))
 literal_normal_utf8 t n (zoned a z h zone is e) =
-    let text : IsUtf8 z = IsUtf8-from_ascii z (ascii_class is_zone_byte zone_byte_ascii z zone.bytes) in
-    subst IsUtf8 (sym e) (IsUtf8-append (lowercase a) (percent_sign ∷ (50 ∷ (53 ∷ z))) (address_lowercase_utf8 a h)
+    let text : IsUtf8 z = utf8_class is_zone_byte zone_byte_ascii z zone.bytes in
+    subst IsUtf8 (sym e) (IsUtf8-append (lowercase a) (percent_sign ∷ (50 ∷ (53 ∷ z))) (address_utf8 (lowercase a) (address-lowercase a h))
     (utf8_cons percent_sign _ (omega arith) (utf8_cons 50 _ (omega arith) (utf8_cons 53 z (omega arith) text))))
 
 -- what stands between brackets is text
@@ -655,31 +609,27 @@ inner_utf8 loose t n (spec.Bracketed.other h e u) = u
 brackets_utf8 : (inner : List ℕ) → IsUtf8 inner → IsUtf8 (in_brackets inner)
 brackets_utf8 inner u = utf8_cons left_bracket (inner ++ right_bracket ∷ []) (omega arith) (utf8_push right_bracket inner (omega arith) u)
 
--- a value is told by its option
-some_same : {x y : List ℕ} → Some x ≡ Some y → x ≡ y
-some_same e = cc
-
 some_not_none : {x : List ℕ} → Some x ≡ None → ⊥
 some_not_none e = cc
 
 -- a host that something follows is text
 follows_utf8 : {mode : Mode} {rest : List ℕ} {port : Option ℕ} (base host : List ℕ) → IsUtf8 base → Follows mode base rest (Some host) port → IsUtf8 host
-follows_utf8 base host u (Follows.nothing e h p) = subst IsUtf8 (sym (some_same h)) u
-follows_utf8 base host u (Follows.lone_colon e h p) = subst IsUtf8 (sym (some_same h)) (utf8_push colon base (omega arith) u)
-follows_utf8 base host u (Follows.number d n k e h p) = subst IsUtf8 (sym (some_same h)) u
+follows_utf8 base host u (Follows.nothing e h p) = subst IsUtf8 (sym (same_Some _ _ h)) u
+follows_utf8 base host u (Follows.lone_colon e h p) = subst IsUtf8 (sym (same_Some _ _ h)) (utf8_push colon base (omega arith) u)
+follows_utf8 base host u (Follows.number d n k e h p) = subst IsUtf8 (sym (same_Some _ _ h)) u
 
 -- a lowercased address, with or without a colon
 address_piece_utf8 : (piece : List ℕ) → IsAddressPiece piece → IsUtf8 (lowercase piece)
-address_piece_utf8 piece (inl h) = address_lowercase_utf8 piece h
+address_piece_utf8 piece (inl h) = address_utf8 (lowercase piece) (address-lowercase piece h)
 address_piece_utf8 piece (inr (a, h, e)) =
-    subst IsUtf8 (sym (ap lowercase e ∙ map-append to_ascii_lowercase a (colon ∷ []))) (utf8_push colon (lowercase a) (omega arith) (address_lowercase_utf8 a h))
+    subst IsUtf8 (sym (ap lowercase e ∙ map-append to_ascii_lowercase a (colon ∷ []))) (utf8_push colon (lowercase a) (omega arith) (address_utf8 (lowercase a) (address-lowercase a h)))
 
 shape_utf8 : (mode : Mode) (piece host : List ℕ) (port : Option ℕ) → Shape mode piece (Some host) port → IsUtf8 host
 shape_utf8 mode piece host port (Shape.nothing e h p) = absurd (some_not_none h)
 shape_utf8 mode piece host port (Shape.bracketed x inner rest f i e g) = follows_utf8 (in_brackets inner) host (brackets_utf8 inner (inner_utf8 mode x inner i)) g
 shape_utf8 mode piece host port (Shape.plain front named rest h t e g) = follows_utf8 named host (host_text_utf8 mode front named t) g
-shape_utf8 mode piece host port (Shape.many m (ManyNames.unbracketed r h) p) = subst IsUtf8 (sym (some_same h)) (address_piece_utf8 piece r.1)
-shape_utf8 mode piece host port (Shape.many m (ManyNames.other_host n s r t h) p) = subst IsUtf8 (sym (some_same h)) (host_text_utf8 mode piece n t)
+shape_utf8 mode piece host port (Shape.many m (ManyNames.unbracketed r h) p) = subst IsUtf8 (sym (same_Some _ _ h)) (address_piece_utf8 piece r.1)
+shape_utf8 mode piece host port (Shape.many m (ManyNames.other_host n s r t h) p) = subst IsUtf8 (sym (same_Some _ _ h)) (host_text_utf8 mode piece n t)
 
 -- a host that is named is text
 pub names_utf8 : (mode : Mode) (piece host : List ℕ) (port : Option ℕ) → Names mode piece (Some host) port → IsUtf8 host

@@ -27,6 +27,7 @@ pub mod ScpLemmas
 pub mod SettledLemmas
 pub mod PieceLemmas
 pub mod DisplayLemmas
+pub mod PieceTextLemmas
 pub mod WrittenUserLemmas
 pub mod WrittenUrlLemmas
 pub mod WrittenPathLemmas

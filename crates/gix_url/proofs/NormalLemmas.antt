@@ -15,7 +15,7 @@ use Rattle.gix_url.proofs.AddressLemmas.{lowercase_twice, address-lowercase}
 dns_byte_lowercase : (b : ℕ) → is_dns_byte b ≡ true → is_dns_byte (to_ascii_lowercase b) ≡ true
 dns_byte_lowercase b h = grind (arith, nat_tests)
 
-dns_lowercase : (bs : List ℕ) → list_all is_dns_byte bs ≡ true → list_all is_dns_byte (lowercase bs) ≡ true
+pub dns_lowercase : (bs : List ℕ) → list_all is_dns_byte bs ≡ true → list_all is_dns_byte (lowercase bs) ≡ true
 dns_lowercase [] h = refl
 dns_lowercase (b ∷ bs) h =
     let parts = and_parts (is_dns_byte b) (list_all is_dns_byte bs) h in

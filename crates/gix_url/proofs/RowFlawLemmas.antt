@@ -14,7 +14,8 @@ use Rattle.gix_url.specs.Rows.{NameFlawRows, FlawRows}
 use Rattle.gix_url.specs.declared.error.UrlFault.TheVariants as fault
 use Rattle.gix_url.proofs.CutLemmas.{tails, cut_unique}
 use Rattle.gix_url.proofs.AddressTestLemmas.{ipv6_text_from}
-use Rattle.gix_url.proofs.RowNameLemmas.{plain_row, not_literal_free, web_port_not_zero, port_not_too_large, loose_not_strict, loose_not_bare}
+use Rattle.gix_url.proofs.RowNameLemmas.{plain_row, not_literal_free, web_port_not_zero, port_not_too_large}
+use Rattle.gix_url.proofs.HostLemmas.{loose_not_strict, loose_not_bare}
 use Rattle.gix_url.proofs.RowFormLemmas.{holds, not_held, no_helper_at, neither_at, shape_row}
 
 -- the bytes of `:` and of no character are no text

@@ -13,14 +13,14 @@ use Rattle.gix_url.specs.Bytes.{percent_sign, at_sign, colon, left_bracket, righ
 use Rattle.gix_url.specs.Addresses.{is_zone_byte, IsZone, Literal}
 use Rattle.gix_url.specs.AddressTest.{is_ipv6_text}
 use Rattle.gix_url.specs.Hosts.{Mode, IsLiteral, Bracketed, AllowsPort, Number, ReadsAddress, IsPlainHost, Names}
-use Rattle.gix_url.specs.Hosts.Mode.{strict, bare, loose}
+use Rattle.gix_url.specs.Hosts.Mode.{strict, bare}
 use Rattle.gix_url.specs.Authority.{unless_empty, Credentials, Authority}
 use Rattle.gix_url.specs.Flaws.{BracketsAround, HasBadPort, HasBadHost}
 use Rattle.gix_url.specs.Rows.{LiteralRows, NameRows, NoNameRows, AuthorityRows, NoAuthorityRows}
 use Rattle.gix_url.proofs.CutLemmas.{tails, different_bytes, last_unique, cut_unique, last_cut_unique, not_free}
 use Rattle.gix_url.proofs.AddressTestLemmas.{ipv6_text_from, ipv6_text_to}
 use Rattle.gix_url.proofs.AddressLemmas.{address_free}
-use Rattle.gix_url.proofs.HostLemmas.{names_unique, flawed_unnamed}
+use Rattle.gix_url.proofs.HostLemmas.{loose_not_strict, bare_not_strict, loose_not_bare, names_unique, flawed_unnamed}
 
 -- ---- what can't be
 
@@ -101,16 +101,6 @@ port_alone_no_address : ¬ ReadsAddress bare (codes ":80")
 unfolding is_ipv6_text
 port_alone_no_address (e, inl h) = both_ways _ refl (ipv6_text_to (codes ":80") h)
 port_alone_no_address (e, inr (a, h, is)) = other_byte 48 58 refl (last_unique (codes ":8") a 48 58 is).1
-
--- the modes are three
-pub loose_not_strict : ¬ (loose ≡ strict)
-loose_not_strict e = cc
-
-bare_not_strict : ¬ (bare ≡ strict)
-bare_not_strict e = cc
-
-pub loose_not_bare : ¬ (loose ≡ bare)
-loose_not_bare e = cc
 
 -- what a piece names
 pub name_rows : NameRows

@@ -1,14 +1,9 @@
 -- The forms of a text: where its pieces are cut, that they are cut in one way, and that one form excludes the others.
-use Rattle.std.proofs.Common.{◌≡◌, ℕ, ◌+◌, ◌<◌, ◌≤◌, true, false, ◌⊎◌, inl, inr, List, [], ◌∷◌, ◌++◌, length, take, drop, refl, sym, ap, subst, ◌∙◌, arith, append_assoc, length-append, ◌==◌, eq-eqb, IsUtf8, All, codes, bytes_eq}
-use Rattle.std.proofs.lemmas.Bool.{eqb-true, both_ways, false≢true, and_parts, and_from, or_left}
+use Rattle.std.proofs.Common.{◌≡◌, ℕ, ◌+◌, ◌<◌, ◌≤◌, true, false, ◌⊎◌, inl, inr, List, [], ◌∷◌, ◌++◌, length, take, drop, refl, sym, ap, subst, ◌∙◌, arith, append_assoc, length-append, ◌==◌, eq-eqb, IsUtf8, codes, bytes_eq}
+use Rattle.std.proofs.lemmas.Bool.{eqb-true, both_ways, false≢true, and_parts}
 use Rattle.std.proofs.lemmas.Bool.Decides.{nat_tests}
 use Rattle.std.proofs.lemmas.List.{take_at, drop_at, append_cancel_left}
-use Rattle.std.proofs.lemmas.List.Elements.{All-cons, All-nil}
-use Rattle.std.proofs.lemmas.Str.{IsUtf8-from_ascii}
-use Rattle.std.proofs.lemmas.Str.Ascii.{IsAscii-from_all}
-use Rattle.std.specs.List.{list_all}
 use lib.Utf8.{encode}
-use Rattle.std.specs.Char.{is_ascii_alphanumeric}
 use Rattle.gix_url.specs.declared.error.UrlKind.TheVariants as kind
 use Rattle.gix_url.specs.declared.error.Error.{Error}
 use Rattle.gix_url.specs.declared.error.Error.TheVariants as error
@@ -24,9 +19,9 @@ use Rattle.gix_url.specs.Flaws.{UrlShape, OtherShape, MissesPath}
 use Rattle.gix_url.specs.Flaws.MissesPath.{in_file}
 use Rattle.gix_url.specs.Readings.{NoneBut}
 use Rattle.gix_url.specs.Shapes.{FrontCut, HasFrontCut, LacksBrackets, ScpCut, HasScpCut, AddressedCut, AddressedFront, HasAddressedCut, PlainScp, LocalShape}
-use Rattle.gix_url.proofs.CutLemmas.{heads, tails, different_bytes, begins_cut, not_free, free-append, free-cons, free_parts, free_or_cut, cut_unique, last_cut_unique, mark_cut_unique, held_free, helper_name_free, scheme_text_free}
+use Rattle.gix_url.proofs.CutLemmas.{heads, tails, different_bytes, begins_cut, not_free, free-append, free-cons, free_parts, free_or_cut, cut_unique, last_cut_unique, mark_cut_unique, held_free, helper_name_bytes, helper_name_free, scheme_text_free}
 use Rattle.gix_url.proofs.AddressLemmas.{address_two_colons, address_free}
-use Rattle.gix_url.proofs.EscapeLemmas.{utf8_behind, utf8_parts}
+use Rattle.gix_url.proofs.EscapeLemmas.{utf8_behind, utf8_class, utf8_parts}
 
 -- ---- remote helpers
 
@@ -271,19 +266,9 @@ none_but fits none (error.Unwritable fault) = none
 name_byte_ascii : (b : ℕ) → is_name_byte b ≡ true → b < 128
 name_byte_ascii b h = grind (arith, nat_tests)
 
--- bytes of a name are ASCII
-name_bytes_ascii : (bs : List ℕ) → list_all is_name_byte bs ≡ true → All (λ b. b < 128) bs
-name_bytes_ascii [] h = All-nil (λ b. b < 128)
-name_bytes_ascii (b ∷ bs) h =
-    let parts = and_parts (is_name_byte b) (list_all is_name_byte bs) h in
-    All-cons (λ b. b < 128) b bs (name_byte_ascii b parts.0) (name_bytes_ascii bs parts.1)
-
 -- the name of a helper is UTF-8
 pub helper_name_utf8 : (name : List ℕ) → is_helper_name name ≡ true → IsUtf8 name
-helper_name_utf8 [] h = absurd (false≢true h)
-helper_name_utf8 (b ∷ bs) h =
-    let parts = and_parts (is_ascii_alphanumeric b) (list_all is_name_byte bs) h in
-    IsUtf8-from_ascii (b ∷ bs) (IsAscii-from_all (b ∷ bs) (name_bytes_ascii (b ∷ bs) (and_from _ _ (or_left _ _ parts.0) parts.1)))
+helper_name_utf8 name h = utf8_class is_name_byte name_byte_ascii name (helper_name_bytes name h)
 
 -- ---- file URLs
 

@@ -1,11 +1,6 @@
 -- Bytes spell one location at most: inside each form the bytes determine the pieces, and the forms exclude one another.
-use Rattle.std.proofs.Common.{◌≡◌, ℕ, ◌<◌, ◌==◌, All, arith, ◌⊎◌, inl, inr, true, false, List, [], ◌∷◌, ◌++◌, Option, Some, None, refl, sym, ap, subst, ◌∙◌, append_assoc, codes, IsUtf8}
-use Rattle.std.proofs.lemmas.Bool.{and_parts, both_ways, false≢true, eq-eqb, eqb-false}
-use Rattle.std.proofs.lemmas.Bool.Decides.{nat_tests}
-use Rattle.std.proofs.lemmas.List.Elements.{All-cons, All-nil}
-use Rattle.std.proofs.lemmas.Str.{IsUtf8-from_ascii}
-use Rattle.std.proofs.lemmas.Str.Ascii.{IsAscii-from_all}
-use Rattle.std.specs.List.{list_all}
+use Rattle.std.proofs.Common.{◌≡◌, ℕ, ◌==◌, ◌⊎◌, inl, inr, true, false, List, [], ◌∷◌, ◌++◌, Option, Some, None, refl, sym, ap, subst, ◌∙◌, append_assoc, codes}
+use Rattle.std.proofs.lemmas.Bool.{both_ways, false≢true, eq-eqb, eqb-false}
 use Rattle.std.proofs.lemmas.Option.{same_Some}
 use Rattle.percent_encoding.specs.Percent.{percent_decode}
 use Rattle.gix_url.specs.Value.{Protocol, Location, path_alone}
@@ -20,7 +15,7 @@ use Rattle.gix_url.specs.Schemes.{is_web_scheme, protocol_of, mode_of}
 use Rattle.gix_url.specs.Authority.{unless_empty, user_beside, Credentials, Authority}
 use Rattle.gix_url.specs.Grammar.{helper_protocol, SpellsHelper, UrlParts, SpellsParts, Peels, HostFor, path_for, retained, MeansByProtocol, MeansAs, SpellsUrl, SpellsFile, ScpFront, AddressedShape, ScpUser, Unbrackets, ScpHost, scp_location, SpellsScpBefore, SpellsScpAddressed, SpellsScp, Spells}
 use Rattle.gix_url.proofs.CutLemmas.{heads, tails, class_cut_unique, path_cut_unique, cut_unique, last_cut_unique, last_unique, scheme_text_free, helper_name_free, free-append, free_parts, free_head_tail, free_or_cut, not_free}
-use Rattle.gix_url.proofs.AddressLemmas.{is_address_byte, address_bytes, address_free, address-lowercase}
+use Rattle.gix_url.proofs.AddressLemmas.{address_free, address_utf8, address-lowercase}
 use Rattle.gix_url.proofs.EscapeLemmas.{decode_kept, lacks_escaped_percents, escaped_percents_kept}
 use Rattle.gix_url.proofs.FormLemmas.{scheme_cut_unique, address_cut, addressed_joined, addressed_front_free, address_front_free, address_back_free, url_no_file, url_no_helper, url_not_neither, file_no_helper, file_not_neither, helper_not_neither, scp_neither, scp_no_local}
 use Rattle.gix_url.proofs.HostLemmas.{names_unique}
@@ -285,21 +280,6 @@ open_bracket_no_host host x meant e f h =
 -- the lower case of an address has no escape
 lowercase_kept : (a : List ℕ) → IsIpv6Text a → percent_decode (lowercase a) ≡ lowercase a
 lowercase_kept a h = decode_kept (lowercase a) (address_free percent_sign (lowercase a) refl (address-lowercase a h))
-
--- a byte of an address is below 128
-address_byte_ascii : (b : ℕ) → is_address_byte b ≡ true → b < 128
-address_byte_ascii b h = grind (arith, nat_tests)
-
--- so are all
-address_bytes_ascii : (t : List ℕ) → list_all is_address_byte t ≡ true → All (λ b. b < 128) t
-address_bytes_ascii [] h = All-nil (λ b. b < 128)
-address_bytes_ascii (b ∷ t) h =
-    let parts = and_parts (is_address_byte b) (list_all is_address_byte t) h in
-    All-cons (λ b. b < 128) b t (address_byte_ascii b parts.0) (address_bytes_ascii t parts.1)
-
--- an address is UTF-8
-pub address_utf8 : (a : List ℕ) → IsIpv6Text a → IsUtf8 a
-address_utf8 a h = IsUtf8-from_ascii a (IsAscii-from_all a (address_bytes_ascii a (address_bytes a h)))
 
 -- an address in brackets names itself in lower case
 bracketed_address_named : (a : List ℕ) → IsIpv6Text a → Names bare (left_bracket ∷ (a ++ right_bracket ∷ [])) (Some (left_bracket ∷ (lowercase a ++ right_bracket ∷ []))) None

@@ -27,7 +27,7 @@ use Rattle.gix_url.specs.Text.{user_information, host_part, port_part, root_part
 use Rattle.gix_url.specs.Settled.{first_byte, IsFairSpelling, HasFittingText, IsWebName, IsWebHost, IsSettledWeb}
 use Rattle.gix_url.specs.Settled.IsWebHost.{literal, literal_colon, named, named_colon}
 use Rattle.gix_url.specs.SettledParts.{IsWeb, IsHosted}
-use Rattle.gix_url.proofs.CutLemmas.{free-append, free_of_all, free_head_tail, free_parts}
+use Rattle.gix_url.proofs.CutLemmas.{free-append, free_begins, free_of_all, free_parts}
 use Rattle.gix_url.proofs.EscapeLemmas.{sound_tail, sound_parts, sound_around, sound_free, decode_byte, decode_kept, encode_byte_kept, encode_sound, utf8_byte, utf8_seam, utf8_encode, white_space_parts}
 use Rattle.gix_url.proofs.EscapeSets.{path_holds, white_space_path}
 use Rattle.gix_url.proofs.NormalLemmas.{normal_again, literal_again}
@@ -82,11 +82,6 @@ web_name_of : (text name : List ℕ) → 0 < length text → is_sound text ≡ t
 web_name_of text name some sound meant =
     let facts = normal_facts text (list_all is_dns_byte text) refl some sound meant.0 in
     subst IsWebName (sym meant.1) record { nonempty = facts.0; bytes = facts.1; sound = facts.2; normal = normal_again text }
-
--- a text that is free of a byte doesn't begin with it
-free_begins : (c : ℕ) (t : List ℕ) → FreeOf c t → begins_with c t ≡ false
-free_begins c [] free = refl
-free_begins c (b ∷ bs) free = (free_head_tail c b bs free).0
 
 -- a name of HTTP with a colon behind it has no bracket at its front
 no_bracket_before_colon : (name : List ℕ) → IsWebName name → begins_with left_bracket (name ++ colon ∷ []) ≡ false

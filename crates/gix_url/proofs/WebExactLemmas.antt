@@ -22,7 +22,7 @@ use Rattle.gix_url.specs.Text.{has_colon, wants_brackets, needs_brackets, user_i
 use Rattle.gix_url.specs.Settled.{IsSettledWeb}
 use Rattle.gix_url.specs.SettledParts.{IsWeb}
 use Rattle.gix_url.specs.WrittenPieces.{WritesInformation}
-use Rattle.gix_url.proofs.CutLemmas.{lacks-append, lacks-cons, free_of_all, free_of_lacked, held_free, lacks_weaker, mark_cut_unique, not_free, path_cut_unique, scheme_text_free}
+use Rattle.gix_url.proofs.CutLemmas.{begins-append, lacks-append, lacks-cons, lacks_of_all, free_of_all, free_of_lacked, held_free, lacks_weaker, mark_cut_unique, not_free, path_cut_unique, scheme_text_free}
 use Rattle.gix_url.proofs.EscapeLemmas.{lacks_escaped_percents}
 use Rattle.gix_url.proofs.RowNameLemmas.{some_is_none}
 use Rattle.gix_url.proofs.UrlLemmas.{authority_alone, authority_cut, scheme_no_mark}
@@ -31,7 +31,6 @@ use Rattle.gix_url.proofs.SettledLemmas.{written_web}
 use Rattle.gix_url.proofs.WrittenUserLemmas.{information_written}
 use Rattle.gix_url.proofs.WrittenUrlLemmas.{authority_text, canonical_cut}
 use Rattle.gix_url.proofs.WrittenPathLemmas.{web_path_written}
-use Rattle.gix_url.proofs.WrittenWebHostLemmas.{lacks_of_all}
 use Rattle.gix_url.proofs.WebClosedLemmas.{http_lowercase, strict_not_bare, is_web_protocol, web_scheme_of, means_scheme, web_meant, web_value, web_protocol, AreCredentials, authority_closed, url_path_closed, web_closed, web_exact_spelling}
 
 -- ---- hosts with a colon at their end
@@ -82,14 +81,9 @@ colon_held t user password host front port (with_user information piece free e c
 
 -- ---- pieces with a bracket at their front
 
--- a text that isn't empty begins as it does with more behind it
-begins_longer : (c : ℕ) (t rest : List ℕ) → 0 < length t → begins_with c (t ++ rest) ≡ begins_with c t
-begins_longer c [] rest some = absurd (omega (arith, some))
-begins_longer c (b ∷ t) rest some = refl
-
 -- a piece that begins as a plain host has no bracket at its front
 no_bracket_before : (piece t rest : List ℕ) → piece ≡ t ++ rest → 0 < length t → begins_with left_bracket t ≡ false → begins_with left_bracket piece ≡ false
-no_bracket_before piece t rest e some other = ap (begins_with left_bracket) e ∙ begins_longer left_bracket t rest some ∙ other
+no_bracket_before piece t rest e some other = ap (begins_with left_bracket) e ∙ begins-append left_bracket t rest some ∙ other
 
 -- in HTTP a piece with a bracket at its front names a host with one
 bracket_named : (piece host : List ℕ) (port : Option ℕ) → begins_with left_bracket piece ≡ true → Names strict piece (Some host) port → begins_with left_bracket host ≡ true

@@ -1,26 +1,17 @@
 -- The written host and port of a settled URL, but for those of HTTP, name the same host and port.
-use Rattle.std.proofs.Common.{◌≡◌, ℕ, ◌<◌, Bool, true, false, ◌||◌, ◌==◌, inl, inr, List, [], ◌∷◌, ◌++◌, length, Option, Some, None, refl, sym, ap, subst, ◌∙◌, arith, lit<, append_assoc, append-nil, if◌then◌else◌}
+use Rattle.std.proofs.Common.{◌≡◌, ℕ, ◌<◌, true, false, inl, inr, List, [], ◌∷◌, ◌++◌, length, Option, Some, None, refl, sym, ap, subst, ◌∙◌, arith, lit<, append_assoc, append-nil, if◌then◌else◌}
 use Rattle.std.specs.Prelude.{IfSome, IsUtf8, decimal}
 use Rattle.std.specs.List.{list_all}
-use Rattle.std.specs.Char.{is_ascii_digit, is_whitespace}
-use Rattle.std.specs.Str.{IsAscii}
 use Rattle.std.proofs.Math.Bool.{and-false}
-use Rattle.std.proofs.lemmas.Bool.{and_parts, and_from, true≢false, false_from_ne_true, true_from_ne_false}
+use Rattle.std.proofs.lemmas.Bool.{and_parts, true≢false, false_from_ne_true, true_from_ne_false}
 use Rattle.std.proofs.lemmas.Bool.Decides.{nat_tests}
-use Rattle.std.proofs.lemmas.Str.{IsUtf8-from_ascii}
-use Rattle.std.proofs.lemmas.Str.Ascii.{IsAscii-from_all}
-use Rattle.std.proofs.lemmas.List.Elements.{All-weaker}
-use Rattle.std.proofs.lemmas.List.Sums.{AllPass-from_list_all, list_all-from_AllPass}
-use Rattle.std.proofs.lemmas.List.Folds.{list_any_none, list_all-append}
-use Rattle.percent_encoding.specs.AsciiSet.{contains}
 use Rattle.percent_encoding.specs.Percent.{percent_encode, percent_decode}
 use Rattle.percent_encoding.proofs.PercentLemmas.{percent_encode_nonempty, percent_encode-nil}
 use Rattle.gix_url.specs.declared.escape.TheConstants.{PASSWORD, USER}
 use Rattle.gix_url.specs.Value.{Protocol, Location}
 use Rattle.gix_url.specs.Value.Protocol.{ssh}
-use Rattle.gix_url.specs.Bytes.{percent_sign, colon, at_sign, left_bracket, backslash, right_bracket, Lacks, FreeOf, begins_with}
-use Rattle.gix_url.specs.Cuts.{is_path_start}
-use Rattle.gix_url.specs.Escapes.{has_percent, is_password_escaped, is_user_escaped, escaped_percents}
+use Rattle.gix_url.specs.Bytes.{percent_sign, colon, left_bracket, right_bracket, FreeOf}
+use Rattle.gix_url.specs.Escapes.{has_percent, is_password_escaped, escaped_percents}
 use Rattle.gix_url.specs.Addresses.{IsIpv6Text, Literal}
 use Rattle.gix_url.specs.AddressTest.{is_ipv6_text}
 use Rattle.gix_url.specs.Hosts.{Mode, normal_host, HostText, AllowsPort, Bracketed, IsPlainHost, Names}
@@ -28,113 +19,14 @@ use Rattle.gix_url.specs.Hosts.Mode.{strict, bare, loose}
 use Rattle.gix_url.specs.Grammar.{Peels}
 use Rattle.gix_url.specs.Text.{has_colon, wants_brackets, keeps_host, open_host, needs_brackets, port_part}
 use Rattle.gix_url.specs.Settled.{IsNormalName, IsNormalAddress, IsBareHost, IsBracketedHost}
-use Rattle.gix_url.specs.WrittenPieces.{IsAuthorityPiece, WritesHost}
-use Rattle.gix_url.proofs.CutLemmas.{lacks-append, free-append, free_head_tail, free_of_all, free_or_cut, cut_unique, not_free}
-use Rattle.gix_url.proofs.EscapeLemmas.{sound-append, sound_free, decode_kept, decode_encode_utf8, encode_sound, encode_lacks, encode_free, encode_byte_kept, escaped_percents_kept, utf8-append, utf8_encode, white_space-append, white_space_ascii}
-use Rattle.gix_url.proofs.EscapeSets.{password_holds, user_holds, white_space_user}
-use Rattle.gix_url.proofs.AddressLemmas.{is_address_byte, address_bytes, address_free, address_two_colons}
+use Rattle.gix_url.specs.WrittenPieces.{WritesHost}
+use Rattle.gix_url.proofs.CutLemmas.{free_begins, free_head_tail, free_or_cut, cut_unique, not_free}
+use Rattle.gix_url.proofs.EscapeLemmas.{decode_kept, encode_free, encode_byte_kept, escaped_percents_kept}
+use Rattle.gix_url.proofs.EscapeSets.{password_holds, user_holds}
+use Rattle.gix_url.proofs.AddressLemmas.{is_address_byte, address_byte_ascii, address_bytes, address_free, address_two_colons}
 use Rattle.gix_url.proofs.AddressTestLemmas.{ipv6_text_from, ipv6_text_to}
-use Rattle.gix_url.proofs.HostLemmas.{decimal_digits, number_written}
-
--- ---- pieces of an authority
-
--- a piece of an authority that holds no `@`
-record IsHostPiece (t : List ℕ) : Type 0 where
-  no_at : FreeOf at_sign t
-  piece : IsAuthorityPiece t
-
--- two such pieces are one, joined
-pieces_joined : (x y : List ℕ) → IsHostPiece x → IsHostPiece y → IsHostPiece (x ++ y)
-pieces_joined x y h k =
-    let front = h.piece.escaped in
-    let rest = k.piece.escaped in
-    record {
-      no_at = free-append at_sign x y h.no_at k.no_at;
-      piece = record {
-        escaped = record {
-          text = utf8-append x y front.text rest.text;
-          sound = sound-append x y front.sound rest.sound;
-          no_white_space = white_space-append x y front.text front.no_white_space rest.no_white_space;
-        };
-        no_backslash = free-append backslash x y h.piece.no_backslash k.piece.no_backslash;
-        before_path = lacks-append (is_path_start true) x y h.piece.before_path k.piece.before_path;
-      };
-    }
-
--- a byte of an address, or a bracket
-abbrev is_bracketed_byte : ℕ → Bool
-is_bracketed_byte b = is_address_byte b || (b == left_bracket || b == right_bracket)
-
--- a text of a class of bytes lacks each byte that the class lacks
-class_lacks : (class test : ℕ → Bool) (t : List ℕ) → ((b : ℕ) → class b ≡ true → test b ≡ false) → list_all class t ≡ true → Lacks test t
-class_lacks class test t apart h = list_any_none test t (All-weaker (λ b. class b ≡ true) (λ b. test b ≡ false) apart t (AllPass-from_list_all class t h))
-
--- and it is of each wider class
-class_wider : (class wide : ℕ → Bool) (t : List ℕ) → ((b : ℕ) → class b ≡ true → wide b ≡ true) → list_all class t ≡ true → list_all wide t ≡ true
-class_wider class wide t within h = list_all-from_AllPass wide t (All-weaker (λ b. class b ≡ true) (λ b. wide b ≡ true) within t (AllPass-from_list_all class t h))
-
--- such a byte is ASCII
-bracketed_byte_ascii : (b : ℕ) → is_bracketed_byte b ≡ true → b < 128
-bracketed_byte_ascii b h = grind (arith, nat_tests)
-
--- it is no white space
-bracketed_byte_space : (b : ℕ) → is_bracketed_byte b ≡ true → is_whitespace b ≡ false
-bracketed_byte_space b h = grind (arith, nat_tests)
-
--- and it starts no path
-bracketed_byte_path : (b : ℕ) → is_bracketed_byte b ≡ true → is_path_start true b ≡ false
-bracketed_byte_path b h = grind (arith, nat_tests)
-
--- a text of such bytes is ASCII
-bracketed_ascii : (t : List ℕ) → list_all is_bracketed_byte t ≡ true → IsAscii t
-bracketed_ascii t h = IsAscii-from_all t (All-weaker (λ b. is_bracketed_byte b ≡ true) (λ b. b < 128) bracketed_byte_ascii t (AllPass-from_list_all is_bracketed_byte t h))
-
--- and it is a piece that holds no `@`
-bracketed_piece : (t : List ℕ) → list_all is_bracketed_byte t ≡ true → IsHostPiece t
-bracketed_piece t h = record {
-  no_at = free_of_all is_bracketed_byte at_sign t h refl;
-  piece = record {
-    escaped = record {
-      text = IsUtf8-from_ascii t (bracketed_ascii t h);
-      sound = sound_free t (free_of_all is_bracketed_byte percent_sign t h refl);
-      no_white_space = white_space_ascii t (bracketed_ascii t h) (class_lacks is_bracketed_byte is_whitespace t bracketed_byte_space h);
-    };
-    no_backslash = free_of_all is_bracketed_byte backslash t h refl;
-    before_path = class_lacks is_bracketed_byte (is_path_start true) t bracketed_byte_path h;
-  };
-}
-
--- a byte that is escaped in a user is in its set
-user_has : (c : ℕ) → c < 128 → is_user_escaped c ≡ true → contains USER c ≡ true
-user_has c ascii escaped = user_holds c ascii ∙ escaped
-
--- a byte that a user is written with starts no path
-user_byte_path : (b : ℕ) → is_user_escaped b ≡ false → is_path_start true b ≡ false
-user_byte_path b h = grind (arith, nat_tests)
-
--- a text escaped as a user is such a piece
-user_piece : (t : List ℕ) → IsHostPiece (percent_encode USER t)
-user_piece t = record {
-  no_at = encode_free USER t at_sign (user_has at_sign (lit< tt) refl) refl;
-  piece = record {
-    escaped = record {
-      text = utf8_encode USER t;
-      sound = encode_sound USER t (user_has percent_sign (lit< tt) refl);
-      no_white_space = white_space_user t;
-    };
-    no_backslash = encode_free USER t backslash (user_has backslash (lit< tt) refl) refl;
-    before_path = encode_lacks (is_path_start true) USER t (λ b ascii out. user_byte_path b (sym (user_holds b ascii) ∙ out)) (λ b escape. grind (arith, nat_tests));
-  };
-}
-
--- a decimal digit is such a byte
-digit_bracketed : (b : ℕ) → is_ascii_digit b ≡ true → is_bracketed_byte b ≡ true
-digit_bracketed b h = grind (arith, nat_tests)
-
--- a written port is such a piece
-port_piece : (port : Option ℕ) → IfSome port (λ p. p < 65536) → IsHostPiece (port_part port)
-port_piece None small = bracketed_piece [] refl
-port_piece (Some p) small = bracketed_piece (colon ∷ decimal p) (class_wider is_ascii_digit is_bracketed_byte (decimal p) digit_bracketed (decimal_digits p small).1)
+use Rattle.gix_url.proofs.HostLemmas.{bare_not_strict, number_written}
+use Rattle.gix_url.proofs.PieceTextLemmas.{IsHostPiece, joined_hosts, host_piece, address_piece, brackets_piece, port_piece, user_piece, user_no_colon, user_decoded}
 
 -- ---- names
 
@@ -144,27 +36,18 @@ port_allowed strict port other = absurd (other refl)
 port_allowed bare port other = tt
 port_allowed loose port other = tt
 
--- the mode of Git's own transports isn't that of HTTP
-bare_not_strict : ¬ (bare ≡ strict)
-bare_not_strict e = cc
-
 -- outside HTTP a text stands for what it decodes to, where that is text in its normal form
 text_read : (mode : Mode) (text host : List ℕ) → ¬ (mode ≡ strict) → percent_decode text ≡ host → IsUtf8 host → normal_host host ≡ host → HostText mode text host
 text_read strict text host other decoded utf8 normal = absurd (other refl)
 text_read bare text host other decoded utf8 normal = (subst IsUtf8 (sym decoded) utf8, sym (ap normal_host decoded ∙ normal))
 text_read loose text host other decoded utf8 normal = (subst IsUtf8 (sym decoded) utf8, sym (ap normal_host decoded ∙ normal))
 
--- a text that is free of a byte doesn't begin with it
-free_begins : (c : ℕ) (t : List ℕ) → FreeOf c t → begins_with c t ≡ false
-free_begins c [] h = refl
-free_begins c (b ∷ t) h = (free_head_tail c b t h).0
-
 -- a text escaped as a user is a host outside brackets
 user_plain : (t : List ℕ) → 0 < length t → IsPlainHost (percent_encode USER t)
 user_plain t some = record {
   nonempty = percent_encode_nonempty USER t some;
-  no_colon = encode_free USER t colon (user_has colon (lit< tt) refl) refl;
-  no_bracket = free_begins left_bracket (percent_encode USER t) (encode_free USER t left_bracket (user_has left_bracket (lit< tt) refl) refl);
+  no_colon = user_no_colon t;
+  no_bracket = free_begins left_bracket (percent_encode USER t) (encode_free USER t left_bracket (user_holds left_bracket (lit< tt)) refl);
 }
 
 -- a host outside brackets and its port name what the host stands for and the port
@@ -184,11 +67,10 @@ written_as_user protocol port host escapes unmarked other = rw (unmarked, escape
 open_host_written : (mode : Mode) (v : Location) (host : List ℕ) → ¬ (mode ≡ strict) → keeps_host v.scheme ≡ false → 0 < length host → normal_host host ≡ host → wants_brackets host ≡ false → is_ipv6_text host ≡ false → IsUtf8 host → IfSome v.port (λ p. p < 65536) → WritesHost mode v host host
 open_host_written mode v host other escapes some normal unmarked no_address utf8 small =
     let text : written_host v.scheme v.port host ≡ percent_encode USER host = written_as_user v.scheme v.port host escapes unmarked no_address in
-    let decoded = decode_encode_utf8 USER host (user_has percent_sign (lit< tt) refl) utf8 in
-    let piece : IsHostPiece (written_host v.scheme v.port host ++ port_part v.port) = rw text (pieces_joined (percent_encode USER host) (port_part v.port) (user_piece host) (port_piece v.port small)) in
+    let piece : IsHostPiece (written_host v.scheme v.port host ++ port_part v.port) = rw text (joined_hosts (percent_encode USER host) (port_part v.port) (user_piece host) (port_piece v.port small)) in
     record {
       no_at = piece.no_at;
-      names = rw text (plain_named mode (percent_encode USER host) host v.port other (user_plain host some) (text_read mode (percent_encode USER host) host other decoded utf8 normal) small);
+      names = rw text (plain_named mode (percent_encode USER host) host v.port other (user_plain host some) (text_read mode (percent_encode USER host) host other (user_decoded host utf8) utf8 normal) small);
       piece = piece.piece;
     }
 
@@ -256,11 +138,7 @@ address_wants a h =
     not_free colon x (y ++ colon ∷ z) (subst (λ s. FreeOf colon s) is none)) in
     rw (colons, closed) refl
 
--- a byte of an address may stand between brackets
-address_bracketed : (b : ℕ) → is_address_byte b ≡ true → is_bracketed_byte b ≡ true
-address_bracketed b h = rw h refl
-
--- and it is not escaped in a password
+-- a byte of an address is not escaped in a password
 address_byte_kept : (b : ℕ) → is_address_byte b ≡ true → is_password_escaped b ≡ false
 address_byte_kept b h = grind (arith, nat_tests)
 
@@ -269,12 +147,8 @@ password_kept : (t : List ℕ) → list_all is_address_byte t ≡ true → perce
 password_kept [] h = percent_encode-nil PASSWORD
 password_kept (b ∷ t) h =
     let (first, rest) = and_parts (is_address_byte b) (list_all is_address_byte t) h in
-    let ascii = bracketed_byte_ascii b (address_bracketed b first) in
+    let ascii = address_byte_ascii b first in
     encode_byte_kept PASSWORD b t ascii (password_holds b ascii ∙ address_byte_kept b first) ∙ ap (λ x. b ∷ x) (password_kept t rest)
-
--- an address is a piece of an authority
-address_piece : (a : List ℕ) → IsIpv6Text a → IsHostPiece a
-address_piece a h = bracketed_piece a (class_wider is_address_byte is_bracketed_byte a address_bracketed (address_bytes a h))
 
 -- without a port it is written as it is
 address_alone : (protocol : Protocol) (a : List ℕ) → keeps_host protocol ≡ false → IsIpv6Text a → written_host protocol None a ≡ a
@@ -312,12 +186,10 @@ address_named_port : (a : List ℕ) (p : ℕ) → IsNormalAddress a → IsUtf8 a
 address_named_port a p h utf8 small =
     let decoded : percent_decode a ≡ a = decode_kept a (address_free percent_sign a refl h.address) in
     let inner : Bracketed a a = Bracketed.literal a (Literal.address h.address (sym h.lower)) (sym decoded) utf8 in
-    let inside : list_all is_bracketed_byte (a ++ right_bracket ∷ []) ≡ true =
-    list_all-append is_bracketed_byte a (right_bracket ∷ []) ∙ and_from _ _ (class_wider is_address_byte is_bracketed_byte a address_bracketed (address_bytes a h.address)) refl in
     record {
       named = left_bracket ∷ (a ++ right_bracket ∷ []);
       names = Names.bracketed_port a a (decimal p) p (address_free right_bracket a refl h.address) inner (number_written bare p small tt) (ap (λ t. left_bracket ∷ t) (append_assoc a (right_bracket ∷ []) (colon ∷ decimal p))) refl refl;
-      piece = pieces_joined (left_bracket ∷ (a ++ right_bracket ∷ [])) (port_part (Some p)) (bracketed_piece (left_bracket ∷ (a ++ right_bracket ∷ [])) inside) (port_piece (Some p) small);
+      piece = joined_hosts (left_bracket ∷ (a ++ right_bracket ∷ [])) (port_part (Some p)) (brackets_piece a (right_bracket ∷ []) (address_piece a h.address) (host_piece (right_bracket ∷ []) refl refl)) (port_piece (Some p) small);
       peels = Peels.brackets refl;
     }
 

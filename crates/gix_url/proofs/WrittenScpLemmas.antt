@@ -19,12 +19,11 @@ use Rattle.gix_url.specs.Text.{text, is_relative, raw_user, raw_host, has_colon,
 use Rattle.gix_url.specs.Settled.{IsValue, IsScpName, IsScpUser, IsNormalAddress, IsSettledScp, IsSettled, LooksLikeHelper, begins_at_home, begins_with_slashes}
 use Rattle.gix_url.specs.SettledParts.{IsScpPath}
 use Rattle.gix_url.specs.Laws.{ComesBack}
-use Rattle.gix_url.proofs.CutLemmas.{heads, tails, different_bytes, not_free, free-append, free-cons, free_head_tail, helper_name_free}
-use Rattle.gix_url.proofs.AddressLemmas.{is_address_byte, address_bytes, address_free}
+use Rattle.gix_url.proofs.CutLemmas.{heads, tails, different_bytes, not_free, free-append, free_begins, free-cons, free_head_tail, helper_name_free}
+use Rattle.gix_url.proofs.AddressLemmas.{is_address_byte, address_byte_ascii, address_bytes, address_free, address_utf8}
 use Rattle.gix_url.proofs.EscapeLemmas.{decode_kept, decode_escaped_percents, lacks_escaped_percents, escaped_percents_kept, utf8-append, utf8_byte, utf8_joined, white_space-append, white_space_ascii, white_space_byte}
 use Rattle.gix_url.proofs.FormLemmas.{address_cut, addressed_joined, addressed_front_free}
 use Rattle.gix_url.proofs.ShapeLemmas.{helper_front}
-use Rattle.gix_url.proofs.UniqueLemmas.{address_utf8}
 
 -- ---- values
 
@@ -120,11 +119,6 @@ name_front_no_colon (Some user) h u n = free-append colon user (at_sign ∷ h) u
 name_front_no_slash : (user : Option (List ℕ)) (h : List ℕ) → IfSome user IsScpUser → IsScpName h → FreeOf slash (name_front user h)
 name_front_no_slash None h u n = n.no_slash
 name_front_no_slash (Some user) h u n = free-append slash user (at_sign ∷ h) u.no_slash (free-cons slash at_sign h refl n.no_slash)
-
--- a text free of a byte doesn't begin with it
-free_begins : (c : ℕ) (t : List ℕ) → FreeOf c t → begins_with c t ≡ false
-free_begins c [] free = refl
-free_begins c (b ∷ t) free = (free_head_tail c b t free).0
 
 -- a text in front of an `@` that begins with no bracket
 begins_before_at : (user rest : List ℕ) → begins_with left_bracket user ≡ false → begins_with left_bracket (user ++ at_sign ∷ rest) ≡ false
@@ -264,11 +258,7 @@ all_address_bytes P each (b ∷ t) h =
     let parts = and_parts (is_address_byte b) (list_all is_address_byte t) h in
     All-cons P b t (each b parts.0) (all_address_bytes P each t parts.1)
 
--- such a byte is ASCII
-address_byte_ascii : (b : ℕ) → is_address_byte b ≡ true → b < 128
-address_byte_ascii b h = grind (arith, nat_tests)
-
--- and no white space
+-- such a byte is no white space
 address_byte_no_space : (b : ℕ) → is_address_byte b ≡ true → is_whitespace b ≡ false
 address_byte_no_space b h = grind (arith, nat_tests)
 

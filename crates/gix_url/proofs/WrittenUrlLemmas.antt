@@ -1,29 +1,18 @@
 -- A settled URL comes back: its pieces, joined, are read as its parts.
-use Rattle.std.proofs.Common.{◌≡◌, ℕ, ◌<◌, Bool, true, false, ◌⊎◌, inl, inr, List, [], ◌∷◌, ◌++◌, length, Option, Some, None, Ok, refl, sym, ap, subst, ◌∙◌, arith, append_assoc, append-nil, codes, bytes_eq}
+use Rattle.std.proofs.Common.{◌≡◌, ℕ, ◌<◌, Bool, true, false, List, [], ◌∷◌, ◌++◌, length, Option, Some, None, Ok, refl, sym, ap, subst, ◌∙◌, arith, append_assoc, codes, bytes_eq}
 use Rattle.std.specs.Prelude.{IsUtf8, IsSome, IfSome, is_some}
-use Rattle.std.specs.List.{list_all, list_any}
-use Rattle.std.specs.Char.{is_whitespace}
-use Rattle.std.specs.Str.{IsAscii}
-use Rattle.std.specs.Prelude.{All}
-use Rattle.std.specs.Char.{is_ascii_alphabetic}
-use Rattle.std.proofs.lemmas.List.Elements.{All-cons, All-nil}
-use Rattle.std.proofs.lemmas.Str.{IsUtf8-from_ascii}
-use Rattle.std.proofs.lemmas.Str.Ascii.{IsAscii-from_all}
-use Rattle.std.proofs.lemmas.Bool.{both_ways, false≢true, and_parts, and_from, or_from}
+use Rattle.std.proofs.lemmas.Bool.{false≢true}
 use Rattle.std.proofs.lemmas.Bool.Decides.{nat_tests}
-use Rattle.gix_url.specs.Grammar.{retained}
 use Rattle.gix_url.proofs.CutLemmas.{scheme_text_free, lacks_weaker}
-use Rattle.gix_url.proofs.EscapeLemmas.{sound_free, utf8-append, utf8_byte, white_space-append, white_space_ascii, white_space_byte}
-use Rattle.gix_url.specs.Value.{Protocol, Location, fields}
+use Rattle.gix_url.specs.Value.{Protocol, Location}
 use Rattle.gix_url.specs.Value.Protocol.{ext}
-use Rattle.gix_url.specs.Bytes.{colon, at_sign, backslash, percent_sign, Lacks, FreeOf, LacksWhiteSpace, is_name_byte, is_scheme_text}
+use Rattle.gix_url.specs.Bytes.{colon, at_sign, is_scheme_text}
 use Rattle.gix_url.specs.Cuts.{is_path_start}
-use Rattle.gix_url.specs.Escapes.{is_sound}
-use Rattle.gix_url.specs.Hosts.{Mode, Names}
+use Rattle.gix_url.specs.Hosts.{Mode}
 use Rattle.gix_url.specs.Schemes.{is_web_scheme, protocol_of, protocol_text, mode_of, requires_host}
-use Rattle.gix_url.specs.Authority.{Authority, Fits, FitsText}
+use Rattle.gix_url.specs.Authority.{Authority, FitsText}
 use Rattle.gix_url.specs.Authority.Authority.{host_alone, with_user}
-use Rattle.gix_url.specs.Grammar.{UrlParts, SpellsParts, HostFor, MeansByProtocol, Spells}
+use Rattle.gix_url.specs.Grammar.{UrlParts, SpellsParts, HostFor, Spells}
 use Rattle.gix_url.specs.Text.{user_information, host_part, port_part, canonical_path, canonical_text, text}
 use Rattle.gix_url.specs.Settled.{IsValue, IsSettledUrl, IsSettledBy, IsSettled}
 use Rattle.gix_url.specs.SettledParts.{HasFairSpelling, IsHosted, IsWrittenAsUrl}
@@ -31,15 +20,12 @@ use Rattle.std.proofs.lemmas.Option.{IfSome_then}
 use Rattle.gix_url.specs.Hosts.Names.{nothing}
 use Rattle.gix_url.specs.Laws.{ComesBack}
 use Rattle.gix_url.specs.WrittenPieces.{IsEscapedPiece, IsAuthorityPiece, WritesInformation, host_and_port, WritesHost, as_read, WritesPath}
-use Rattle.gix_url.proofs.WrittenUserLemmas.{information_written, joined_escaped, joined_pieces, at_sign_piece}
+use Rattle.gix_url.proofs.WrittenUserLemmas.{information_written}
+use Rattle.gix_url.proofs.PieceTextLemmas.{joined_escaped, joined_pieces, escaped_piece, authority_piece, scheme_piece}
 use Rattle.gix_url.proofs.UrlLocationLemmas.{spelled_url}
 use Rattle.gix_url.proofs.LengthLemmas.{fits_from_text}
 
 -- ---- the authority
-
--- an empty authority
-empty_piece : IsAuthorityPiece []
-empty_piece = record { escaped = record { text = IsUtf8-from_ascii [] (IsAscii-from_all [] (All-nil (λ b. b < 128))); sound = refl; no_white_space = white_space_ascii [] (IsAscii-from_all [] (All-nil (λ b. b < 128))) refl }; no_backslash = refl; before_path = refl }
 
 -- a host that is written is read, behind user information or alone
 pub hosted_written : (mode : Mode) (v : Location) (host named : List ℕ) (user password : Option (List ℕ)) → ((u : List ℕ) → user ≡ Some u → WritesInformation u password) → (IsSome password → IsSome user) → WritesHost mode v host named → Authority mode (user_information user password ++ host_and_port v host) user password (Some named) v.port × IsAuthorityPiece (user_information user password ++ host_and_port v host)
@@ -50,7 +36,7 @@ hosted_written mode v host named (Some u) password information beside h =
     let front = i.information ++ at_sign ∷ [] in
     let whole : user_information (Some u) password ++ host_and_port v host ≡ i.information ++ at_sign ∷ host_and_port v host =
     ap (λ t. t ++ host_and_port v host) i.written ∙ append_assoc i.information (at_sign ∷ []) (host_and_port v host) in
-    let piece = joined_pieces front (host_and_port v host) (joined_pieces i.information (at_sign ∷ []) i.piece at_sign_piece) h.piece in (
+    let piece = joined_pieces front (host_and_port v host) (joined_pieces i.information (at_sign ∷ []) i.piece (authority_piece (at_sign ∷ []) refl refl)) h.piece in (
       subst (λ t. Authority mode t (Some u) password (Some named) v.port) (sym whole) (with_user i.information (host_and_port v host) h.no_at refl i.credentials h.names refl),
       subst (λ t. IsAuthorityPiece (t ++ host_and_port v host)) (sym i.written) piece,
     )
@@ -77,46 +63,6 @@ pub record IsReadable (v : Location) (named : Option (List ℕ)) : Type 0 where
   pub path : WritesPath (is_web_scheme (protocol_text v.scheme)) v
   pub fits : FitsText (canonical_text v)
 
--- a letter is a byte of a name
-letter_named : (b : ℕ) → is_ascii_alphabetic b ≡ true → is_name_byte b ≡ true
-letter_named b h = grind (arith, nat_tests)
-
--- a byte of a name is below 128
-name_byte_ascii : (b : ℕ) → is_name_byte b ≡ true → b < 128
-name_byte_ascii b h = grind (arith, nat_tests)
-
--- and no white space
-name_byte_no_space : (b : ℕ) → is_name_byte b ≡ true → is_whitespace b ≡ false
-name_byte_no_space b h = grind (arith, nat_tests)
-
-names_ascii : (t : List ℕ) → list_all is_name_byte t ≡ true → All (λ b. b < 128) t
-names_ascii [] h = All-nil (λ b. b < 128)
-names_ascii (b ∷ t) h =
-    let parts = and_parts (is_name_byte b) (list_all is_name_byte t) h in
-    All-cons (λ b. b < 128) b t (name_byte_ascii b parts.0) (names_ascii t parts.1)
-
-names_no_space : (t : List ℕ) → list_all is_name_byte t ≡ true → list_any is_whitespace t ≡ false
-names_no_space [] h = refl
-names_no_space (b ∷ t) h =
-    let parts = and_parts (is_name_byte b) (list_all is_name_byte t) h in
-    or_from _ _ (name_byte_no_space b parts.0) (names_no_space t parts.1)
-
--- the bytes of a scheme are bytes of a name
-scheme_bytes : (s : List ℕ) → is_scheme_text s ≡ true → list_all is_name_byte s ≡ true
-scheme_bytes [] h = refl
-scheme_bytes (b ∷ s) h =
-    let parts = and_parts (is_ascii_alphabetic b) (list_all is_name_byte s) h in
-    and_from _ _ (letter_named b parts.0) parts.1
-
--- a scheme is an escaped piece
-scheme_piece : (s : List ℕ) → is_scheme_text s ≡ true → IsEscapedPiece s
-scheme_piece s h =
-    let ascii : IsAscii s = IsAscii-from_all s (names_ascii s (scheme_bytes s h)) in record {
-      text = IsUtf8-from_ascii s ascii;
-      sound = sound_free s (scheme_text_free s percent_sign h refl);
-      no_white_space = white_space_ascii s ascii (names_no_space s (scheme_bytes s h));
-    }
-
 -- the text of a URL, cut before its path
 pub canonical_cut : (v : Location) → canonical_text v ≡ protocol_text v.scheme ++ (codes "://" ++ (authority_text v ++ canonical_path v))
 canonical_cut v =
@@ -137,20 +83,12 @@ parts_read v named = record {
   path = canonical_path v;
 }
 
--- `://` is an escaped piece
-mark_piece : IsEscapedPiece (codes "://")
-mark_piece = record {
-  text = utf8-append (colon ∷ []) (47 ∷ 47 ∷ []) (utf8_byte colon (omega arith)) (utf8-append (47 ∷ []) (47 ∷ []) (utf8_byte 47 (omega arith)) (utf8_byte 47 (omega arith)));
-  sound = refl;
-  no_white_space = white_space-append (colon ∷ []) (47 ∷ 47 ∷ []) (utf8_byte colon (omega arith)) (white_space_byte colon (omega arith) refl) (white_space-append (47 ∷ []) (47 ∷ []) (utf8_byte 47 (omega arith)) (white_space_byte 47 (omega arith) refl) (white_space_byte 47 (omega arith) refl));
-}
-
--- so is the whole text
+-- the whole text is an escaped piece
 text_piece : (v : Location) (named : Option (List ℕ)) → IsReadable v named → IsEscapedPiece (canonical_text v)
 text_piece v named h =
     let rest = joined_escaped (authority_text v) (canonical_path v) h.piece.escaped h.path.escaped in
-    let marked = joined_escaped (codes "://") (authority_text v ++ canonical_path v) mark_piece rest in
-    subst IsEscapedPiece (sym (canonical_cut v)) (joined_escaped (protocol_text v.scheme) (codes "://" ++ (authority_text v ++ canonical_path v)) (scheme_piece (protocol_text v.scheme) h.scheme.scheme_text) marked)
+    let marked = joined_escaped (codes "://") (authority_text v ++ canonical_path v) (escaped_piece (codes "://") refl refl) rest in
+    subst IsEscapedPiece (sym (canonical_cut v)) (joined_escaped (protocol_text v.scheme) (codes "://" ++ (authority_text v ++ canonical_path v)) (scheme_piece (protocol_text v.scheme) h.scheme.scheme_text).piece.escaped marked)
 
 -- no path starts in the authority
 web_starts : (web : Bool) (b : ℕ) → is_path_start web b ≡ true → is_path_start true b ≡ true
@@ -241,7 +179,7 @@ authority_without_host mode v h e =
     let password : v.password ≡ None = none_given v.password v.user user (password_beside v.user v.password h.password) in
     let empty : authority_text v ≡ [] =
     ap (λ o. user_information o v.password ++ (host_part v v.host ++ port_part v.port)) user ∙ ap (λ o. host_part v o ++ port_part v.port) e ∙ ap port_part port in
-    (subst (λ t. Authority mode t v.user v.password None v.port) (sym empty) (host_alone refl (nothing refl refl port) user password), subst IsAuthorityPiece (sym empty) empty_piece)
+    (subst (λ t. Authority mode t v.user v.password None v.port) (sym empty) (host_alone refl (nothing refl refl port) user password), subst IsAuthorityPiece (sym empty) (authority_piece [] refl refl))
 
 -- all that a settled URL says but of host and scheme is kept with another spelling
 url_as_read : (v : Location) → IsSettledUrl v → FitsText (canonical_text v) → text (as_read v) ≡ Ok (canonical_text v) → HasFairSpelling (as_read v) → IsSettledUrl (as_read v)

@@ -1,18 +1,13 @@
 -- The written host and port of a settled location of HTTP name the same host and port.
-use Rattle.std.proofs.Common.{◌≡◌, ◌≢◌, ℕ, zero, suc, ◌<◌, Bool, true, false, ◌==◌, ◌||◌, inl, inr, List, [], ◌∷◌, ◌++◌, Option, Some, None, IfSome, IsAscii, refl, sym, ap, subst, ◌∙◌, arith, append_assoc, codes}
-use Rattle.std.specs.List.{list_all}
+use Rattle.std.proofs.Common.{◌≡◌, ◌≢◌, ℕ, zero, suc, ◌<◌, false, inl, inr, List, [], ◌∷◌, ◌++◌, Option, Some, None, IfSome, refl, sym, ap, subst, ◌∙◌, arith, append_assoc, codes}
 use Rattle.std.specs.Fmt.{decimal}
-use Rattle.std.specs.Char.{is_ascii_digit, is_whitespace}
-use Rattle.std.proofs.lemmas.Bool.{cond-false, and_parts, and_from, and_left, and_right, or_from, or_left}
+use Rattle.std.proofs.lemmas.Bool.{cond-false, and_left, and_right}
 use Rattle.std.proofs.lemmas.Bool.Decides.{nat_tests}
 use Rattle.std.proofs.lemmas.List.{append-nil}
-use Rattle.std.proofs.lemmas.List.Folds.{list_all-append}
-use Rattle.std.proofs.lemmas.Str.{IsUtf8-from_ascii}
 use Rattle.gix_url.specs.Value.{Location}
-use Rattle.gix_url.specs.Bytes.{colon, at_sign, left_bracket, right_bracket, backslash, percent_sign, Lacks, FreeOf, begins_with}
-use Rattle.gix_url.specs.Cuts.{is_path_start}
-use Rattle.gix_url.specs.Escapes.{is_sound, has_percent}
-use Rattle.gix_url.specs.Addresses.{IsIpv6Text, IsZone, is_zone_byte, Literal}
+use Rattle.gix_url.specs.Bytes.{colon, at_sign, left_bracket, right_bracket, percent_sign, FreeOf}
+use Rattle.gix_url.specs.Escapes.{has_percent}
+use Rattle.gix_url.specs.Addresses.{IsZone, is_zone_byte, Literal}
 use Rattle.gix_url.specs.Addresses.Literal.{address, zoned}
 use Rattle.gix_url.specs.Hosts.{Number, Names, IsPlainHost, HostText, is_http_host_byte}
 use Rattle.gix_url.specs.Hosts.Mode.{strict}
@@ -21,139 +16,34 @@ use Rattle.gix_url.specs.Settled.{IsWebName, IsWebHost}
 use Rattle.gix_url.specs.Settled.IsWebHost.{literal, literal_colon, named, named_colon}
 use Rattle.gix_url.specs.SettledParts.{IsWeb}
 use Rattle.gix_url.specs.WrittenPieces.{IsAuthorityPiece, WritesHost, host_and_port}
-use Rattle.gix_url.proofs.CutLemmas.{free-append, free_head_tail, free_of_all}
-use Rattle.gix_url.proofs.EscapeLemmas.{sound-append, sound_free, white_space_ascii}
-use Rattle.gix_url.proofs.AddressLemmas.{is_address_byte, address_bytes, address_free}
-use Rattle.gix_url.proofs.HostLemmas.{decimal_digits, number_written}
+use Rattle.gix_url.proofs.CutLemmas.{all_weaker, free-append, free_begins, free_of_all}
+use Rattle.gix_url.proofs.AddressLemmas.{address_free}
+use Rattle.gix_url.proofs.HostLemmas.{number_written}
+use Rattle.gix_url.proofs.PieceTextLemmas.{IsHostPiece, is_host_byte, joined_hosts, host_piece, address_piece, brackets_piece, port_piece}
 
--- ---- classes of bytes
+-- ---- pieces
 
--- a byte that the host and the port of an HTTP location are written with: one of a host, `:`, `[` or `]`
-abbrev is_web_byte : ℕ → Bool
-is_web_byte b = is_http_host_byte b || (b == colon || (b == left_bracket || b == right_bracket))
-
--- bytes of a class are bytes of a wider one
-all_weaker : (narrow wide : ℕ → Bool) → ((b : ℕ) → narrow b ≡ true → wide b ≡ true) → (bs : List ℕ) → list_all narrow bs ≡ true → list_all wide bs ≡ true
-all_weaker narrow wide within [] h = refl
-all_weaker narrow wide within (b ∷ bs) h =
-    let parts = and_parts (narrow b) (list_all narrow bs) h in
-    and_from _ _ (within b parts.0) (all_weaker narrow wide within bs parts.1)
-
--- bytes of a class lack another class that shares no byte with it
-pub lacks_of_all : (test other : ℕ → Bool) → ((b : ℕ) → test b ≡ true → other b ≡ false) → (bs : List ℕ) → list_all test bs ≡ true → Lacks other bs
-lacks_of_all test other apart [] h = refl
-lacks_of_all test other apart (b ∷ bs) h =
-    let parts = and_parts (test b) (list_all test bs) h in
-    or_from _ _ (apart b parts.0) (lacks_of_all test other apart bs parts.1)
-
--- bytes of a class are ASCII where the class is
-ascii_of_all : (test : ℕ → Bool) → ((b : ℕ) → test b ≡ true → b < 128) → (bs : List ℕ) → list_all test bs ≡ true → IsAscii bs
-ascii_of_all test within [] h i = omega arith
-ascii_of_all test within (b ∷ bs) h zero = within b (and_parts (test b) (list_all test bs) h).0
-ascii_of_all test within (b ∷ bs) h (suc i) = ascii_of_all test within bs (and_parts (test b) (list_all test bs) h).1 i
-
--- such a byte is ASCII
-web_byte_ascii : (b : ℕ) → is_web_byte b ≡ true → b < 128
-web_byte_ascii b h = grind (arith, nat_tests)
-
--- such a byte is no white space
-web_byte_no_white_space : (b : ℕ) → is_web_byte b ≡ true → is_whitespace b ≡ false
-web_byte_no_white_space b h = grind (arith, nat_tests)
-
--- such a byte starts no path
-web_byte_before_path : (b : ℕ) → is_web_byte b ≡ true → is_path_start true b ≡ false
-web_byte_before_path b h = grind (arith, nat_tests)
-
--- a byte of an address is such a byte
-address_web_byte : (b : ℕ) → is_address_byte b ≡ true → is_web_byte b ≡ true
-address_web_byte b h = grind (arith, nat_tests)
-
--- so is one of a zone
-zone_web_byte : (b : ℕ) → is_zone_byte b ≡ true → is_web_byte b ≡ true
-zone_web_byte b h = grind (arith, nat_tests)
-
--- and a decimal digit
-digit_web_byte : (b : ℕ) → is_ascii_digit b ≡ true → is_web_byte b ≡ true
-digit_web_byte b h = grind (arith, nat_tests)
-
--- ---- texts of such bytes
-
--- such bytes, in which every escape is sound
-record IsWebPiece (t : List ℕ) : Type 0 where
-  pub bytes : list_all is_web_byte t ≡ true
-  pub sound : is_sound t ≡ true
-
--- two such texts are one, joined
-piece-append : (x y : List ℕ) → IsWebPiece x → IsWebPiece y → IsWebPiece (x ++ y)
-piece-append x y h k = record {
-  bytes = list_all-append is_web_byte x y ∙ and_from _ _ h.bytes k.bytes;
-  sound = sound-append x y h.sound k.sound;
-}
-
--- such bytes without `%` are such a text
-piece_plain : (t : List ℕ) → list_all is_web_byte t ≡ true → FreeOf percent_sign t → IsWebPiece t
-piece_plain t bytes free = record { bytes = bytes; sound = sound_free t free }
-
--- such a text may stand in an authority
-piece_stands : (t : List ℕ) → IsWebPiece t → IsAuthorityPiece t
-piece_stands t h =
-    let ascii : IsAscii t = ascii_of_all is_web_byte web_byte_ascii t h.bytes in record {
-      escaped = record {
-        text = IsUtf8-from_ascii t ascii;
-        sound = h.sound;
-        no_white_space = white_space_ascii t ascii (lacks_of_all is_web_byte is_whitespace web_byte_no_white_space t h.bytes);
-      };
-      no_backslash = free_of_all is_web_byte backslash t h.bytes refl;
-      before_path = lacks_of_all is_web_byte (is_path_start true) web_byte_before_path t h.bytes;
-    }
-
--- an address is such a text
-address_piece : (t : List ℕ) → IsIpv6Text t → IsWebPiece t
-address_piece t h = piece_plain t (all_weaker is_address_byte is_web_byte address_web_byte t (address_bytes t h)) (address_free percent_sign t refl h)
-
--- so is a zone
-zone_piece : (z : List ℕ) → IsZone z → IsWebPiece z
-zone_piece z h = record { bytes = all_weaker is_zone_byte is_web_byte zone_web_byte z h.bytes; sound = h.sound }
-
--- and `%25` with a zone behind it
-escaped_zone_piece : (z : List ℕ) → IsZone z → IsWebPiece (codes "%25" ++ z)
-escaped_zone_piece z h = piece-append (codes "%25") z (record { bytes = refl; sound = refl }) (zone_piece z h)
+-- a zone is a piece of a host
+zone_piece : (z : List ℕ) → IsZone z → IsHostPiece z
+zone_piece z h = host_piece z (all_weaker is_zone_byte is_host_byte (λ b is. grind (arith, nat_tests)) z h.bytes) h.sound
 
 -- so is a literal
-literal_piece : (t n : List ℕ) → Literal t n → IsWebPiece t
+literal_piece : (t n : List ℕ) → Literal t n → IsHostPiece t
 literal_piece t n (address h e) = address_piece t h
 literal_piece t n (zoned a z h zone is e) =
-    subst (λ x. IsWebPiece x) (sym is) (piece-append a (codes "%25" ++ z) (address_piece a h) (escaped_zone_piece z zone))
+    subst IsHostPiece (sym is) (joined_hosts a (codes "%25" ++ z) (address_piece a h) (joined_hosts (codes "%25") z (host_piece (codes "%25") refl refl) (zone_piece z zone)))
 
--- so are `[`, a literal and such a text behind it
-brackets_piece : (n rest : List ℕ) → Literal n n → IsWebPiece rest → IsWebPiece (left_bracket ∷ (n ++ rest))
-brackets_piece n rest l h = piece-append (left_bracket ∷ []) (n ++ rest) (record { bytes = refl; sound = refl }) (piece-append n rest (literal_piece n n l) h)
-
--- so is a name
-name_piece : (t : List ℕ) → IsWebName t → IsWebPiece t
-name_piece t h = record {
-  bytes = all_weaker is_http_host_byte is_web_byte (λ b e. or_left _ _ e) t h.bytes;
-  sound = h.sound;
-}
-
--- so is a port behind its colon
-port_piece : (port : Option ℕ) → IfSome port (λ p. p < 65536) → IsWebPiece (port_part port)
-port_piece None within = record { bytes = refl; sound = refl }
-port_piece (Some p) within =
-    let digits : list_all is_ascii_digit (decimal p) ≡ true = (decimal_digits p within).1 in
-    piece_plain (colon ∷ decimal p) (all_weaker is_ascii_digit is_web_byte digit_web_byte (decimal p) digits) (free_of_all is_ascii_digit percent_sign (decimal p) digits refl)
+-- and a name
+name_piece : (t : List ℕ) → IsWebName t → IsHostPiece t
+name_piece t h = host_piece t (all_weaker is_http_host_byte is_host_byte (λ b is. grind (arith, nat_tests)) t h.bytes) h.sound
 
 -- ---- what stands between brackets
-
--- a zone's bytes are no `]`
-zone_no_bracket : (z : List ℕ) → IsZone z → FreeOf right_bracket z
-zone_no_bracket z h = free_of_all is_zone_byte right_bracket z h.bytes refl
 
 -- a literal holds no `]`
 literal_no_bracket : (t n : List ℕ) → Literal t n → FreeOf right_bracket t
 literal_no_bracket t n (address h e) = address_free right_bracket t refl h
 literal_no_bracket t n (zoned a z h zone is e) =
-    subst (λ x. FreeOf right_bracket x) (sym is) (free-append right_bracket a (codes "%25" ++ z) (address_free right_bracket a refl h) (zone_no_bracket z zone))
+    subst (λ x. FreeOf right_bracket x) (sym is) (free-append right_bracket a (codes "%25" ++ z) (address_free right_bracket a refl h) (free_of_all is_zone_byte right_bracket z zone.bytes refl))
 
 -- ---- what is named
 
@@ -178,17 +68,12 @@ literal_colon_named : (n : List ℕ) → Literal n n → Names strict ((left_bra
 literal_colon_named n l =
     Names.bracketed_colon n n (literal_no_bracket n n l) l (append-nil (left_bracket ∷ (n ++ right_bracket ∷ (colon ∷ [])))) refl refl
 
--- a text that is free of a byte doesn't begin with it
-begins_other : (c : ℕ) (t : List ℕ) → FreeOf c t → begins_with c t ≡ false
-begins_other c [] h = refl
-begins_other c (b ∷ t) h = (free_head_tail c b t h).0
-
 -- a name is a plain host
 name_plain : (t : List ℕ) → IsWebName t → IsPlainHost t
 name_plain t h = record {
   nonempty = h.nonempty;
   no_colon = free_of_all is_http_host_byte colon t h.bytes refl;
-  no_bracket = begins_other left_bracket t (free_of_all is_http_host_byte left_bracket t h.bytes refl);
+  no_bracket = free_begins left_bracket t (free_of_all is_http_host_byte left_bracket t h.bytes refl);
 }
 
 -- and stands for itself
@@ -220,18 +105,18 @@ portless_unwanted t free = and_right (wants_brackets t) _ free
 
 -- ---- the host and the port of a location
 
--- a host takes no brackets, names itself with the port behind it, and is written in such bytes
+-- a host takes no brackets, names itself with the port behind it, and is a piece of a host
 record IsWebWritten (port : Option ℕ) (host : List ℕ) : Type 0 where
   pub unbracketed : needs_brackets port host ≡ false
   pub names : Names strict (host ++ port_part port) (Some host) port
-  pub piece : IsWebPiece host
+  pub piece : IsHostPiece host
 
 -- a literal in brackets
 literal_written : (port : Option ℕ) (n : List ℕ) → Literal n n → port ≢ Some 0 → IfSome port (λ p. p < 65536) → IsWebWritten port (left_bracket ∷ (n ++ right_bracket ∷ []))
 literal_written port n l other within = record {
   unbracketed = bracketed_unwanted port (n ++ right_bracket ∷ []);
   names = literal_named port n l other within;
-  piece = brackets_piece n (right_bracket ∷ []) l record { bytes = refl; sound = refl };
+  piece = brackets_piece n (right_bracket ∷ []) (literal_piece n n l) (host_piece (right_bracket ∷ []) refl refl);
 }
 
 -- one with a colon behind it
@@ -239,7 +124,7 @@ literal_colon_written : (n : List ℕ) → Literal n n → IsWebWritten None (le
 literal_colon_written n l = record {
   unbracketed = bracketed_unwanted None (n ++ right_bracket ∷ (colon ∷ []));
   names = literal_colon_named n l;
-  piece = brackets_piece n (right_bracket ∷ (colon ∷ [])) l record { bytes = refl; sound = refl };
+  piece = brackets_piece n (right_bracket ∷ (colon ∷ [])) (literal_piece n n l) (host_piece (right_bracket ∷ (colon ∷ [])) refl refl);
 }
 
 -- a name
@@ -255,7 +140,7 @@ name_colon_written : (t : List ℕ) → IsWebName t → has_percent t ≡ false 
 name_colon_written t h free = record {
   unbracketed = portless_unwanted (t ++ colon ∷ []) (free-append percent_sign t (colon ∷ []) free refl);
   names = name_colon_named t h;
-  piece = piece-append t (colon ∷ []) (name_piece t h) (record { bytes = refl; sound = refl });
+  piece = joined_hosts t (colon ∷ []) (name_piece t h) (host_piece (colon ∷ []) refl refl);
 }
 
 -- each settled host of HTTP
@@ -280,9 +165,9 @@ web_host_and_port v host web h = ap (λ x. x ++ port_part v.port) (sym (cond-fal
 pub web_host_written : (v : Location) (host : List ℕ) → IsWeb v → IsWebHost v.port host → v.port ≢ Some 0 → IfSome v.port (λ p. p < 65536) → WritesHost strict v host host
 web_host_written v host web settled other within =
     let w = host_written v.port host settled other within in
-    let whole = piece-append host (port_part v.port) w.piece (port_piece v.port within) in
+    let whole = joined_hosts host (port_part v.port) w.piece (port_piece v.port within) in
     let same = web_host_and_port v host web w.unbracketed in record {
-      no_at = subst (λ x. FreeOf at_sign x) same (free_of_all is_web_byte at_sign (host ++ port_part v.port) whole.bytes refl);
+      no_at = subst (λ x. FreeOf at_sign x) same whole.no_at;
       names = subst (λ x. Names strict x (Some host) v.port) same w.names;
-      piece = subst (λ x. IsAuthorityPiece x) same (piece_stands (host ++ port_part v.port) whole);
+      piece = subst (λ x. IsAuthorityPiece x) same whole.piece;
     }

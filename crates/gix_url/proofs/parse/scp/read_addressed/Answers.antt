@@ -3,7 +3,7 @@ use Rattle.std.proofs.Common.{refl, subst}
 use Rattle.gix_url.specs.Grammar.{AddressedShape, SpellsScp}
 use Rattle.gix_url.specs.Flaws.MissesPath.{behind_address}
 use Rattle.gix_url.proofs.ShapeLemmas.{none_but}
-use Rattle.gix_url.proofs.UniqueLemmas.{address_utf8}
+use Rattle.gix_url.proofs.AddressLemmas.{address_utf8}
 use Rattle.gix_url.proofs.ScpLemmas.{addressed_no_path, addressed_user_utf8, empty_tested}
 use Rattle.gix_url.proofs.parse.scp.read_addressed.Goals as goal
 
