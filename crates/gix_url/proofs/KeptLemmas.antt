@@ -6,10 +6,11 @@ use Rattle.gix_url.specs.Value.{Protocol, Location, fields, path_alone}
 use Rattle.gix_url.specs.Value.Protocol.{file, git, ssh, http, https, ext, helper, helper_url}
 use Rattle.gix_url.specs.Bytes.{colon, is_helper_name}
 use Rattle.gix_url.specs.Schemes.{is_ssh_scheme, protocol_of}
-use Rattle.gix_url.specs.Grammar.{IsNeither, IsScpShaped, helper_protocol, SpellsHelper, UrlParts, MeansByProtocol, MeansAs, SpellsScp, SpellsLocal, Spells}
+use Rattle.gix_url.specs.Grammar.{IsNeither, IsScpShaped, helper_protocol, SpellsHelper, SpellsUrl, SpellsScp, SpellsLocal, Spells}
 use Rattle.gix_url.specs.Text.{text}
 use Rattle.gix_url.specs.Settled.{HasHostAlone, IsSettledLocal, IsSettledHelper, IsSettledBy, IsSettled}
 use Rattle.gix_url.specs.Laws.{keeps_bytes, KeepsBytes, ComesBack}
+use Rattle.gix_url.proofs.SchemeLemmas.{protocol_cases, means_cases}
 
 -- ---- values
 
@@ -91,41 +92,24 @@ local_unchanged b v h = (
 
 -- ---- closure
 
--- the protocol is that of a remote helper with a name
-abbrev is_helper_protocol : Protocol → Bool
-is_helper_protocol (helper name) = true
-is_helper_protocol file = false
-is_helper_protocol git = false
-is_helper_protocol ssh = false
-is_helper_protocol http = false
-is_helper_protocol https = false
-is_helper_protocol ext = false
-is_helper_protocol (helper_url name) = false
+-- no URL but that of `ext` keeps its bytes
+url_loses : (s : List ℕ) → ¬ (protocol_of s ≡ ext) → keeps_bytes (protocol_of s) false ≡ true → ⊥
+url_loses s = protocol_cases (λ p. ¬ (p ≡ ext) → keeps_bytes p false ≡ true → ⊥) s
+    (λ e other keeps. false≢true keeps)
+    (λ e other keeps. false≢true keeps)
+    (λ other keeps. false≢true keeps)
+    (λ e other keeps. false≢true keeps)
+    (λ e other keeps. false≢true keeps)
+    (λ other keeps. other refl)
+    (λ other keeps. false≢true keeps)
 
--- no scheme of a URL is
-no_helper_scheme : (ssh_named file_named git_named http_named https_named ext_named : Bool) (s : List ℕ) → is_helper_protocol (if ssh_named then ssh else (if file_named then file else (if git_named then git else (if http_named then http else (if https_named then https else (if ext_named then ext else helper_url s)))))) ≡ false
-no_helper_scheme true a b c d e s = refl
-no_helper_scheme false true b c d e s = refl
-no_helper_scheme false false true c d e s = refl
-no_helper_scheme false false false true d e s = refl
-no_helper_scheme false false false false true e s = refl
-no_helper_scheme false false false false false true s = refl
-no_helper_scheme false false false false false false s = refl
-
--- a location without the flag keeps no bytes, but for remote helpers
-unflagged_kept : (protocol : Protocol) (b : List ℕ) (parts : UrlParts) (v : Location) → keeps_bytes protocol false ≡ false → KeepsBytes v → MeansByProtocol protocol parts v → ⊥
-unflagged_kept protocol b parts v loses keeps h = both_ways (keeps_bytes protocol false) loses (subst (λ l. KeepsBytes l) h.value keeps)
-
--- the one URL that keeps its bytes is that of `ext`
-url_kept : (protocol : Protocol) (b : List ℕ) (parts : UrlParts) (v : Location) → is_helper_protocol protocol ≡ false → KeepsBytes v → MeansAs protocol b parts v → v ≡ path_alone ext true b
-url_kept ext b parts v other keeps h = h
-url_kept file b parts v other keeps h = absurd (unflagged_kept file b parts v refl keeps h)
-url_kept git b parts v other keeps h = absurd (unflagged_kept git b parts v refl keeps h)
-url_kept ssh b parts v other keeps h = absurd (unflagged_kept ssh b parts v refl keeps h)
-url_kept http b parts v other keeps h = absurd (unflagged_kept http b parts v refl keeps h)
-url_kept https b parts v other keeps h = absurd (unflagged_kept https b parts v refl keeps h)
-url_kept (helper name) b parts v other keeps h = absurd (false≢true (sym other))
-url_kept (helper_url name) b parts v other keeps h = absurd (unflagged_kept (helper_url name) b parts v refl keeps h)
+-- a URL that keeps its bytes is its own path
+url_kept : (b : List ℕ) (v : Location) → SpellsUrl b v → KeepsBytes v → v ≡ path_alone ext true b
+url_kept b v h keeps =
+    elim (means_cases (protocol_of h.parts.scheme) b h.parts v h.means) [
+      | inl m ↦ m.1
+      | inr m ↦ absurd (url_loses h.parts.scheme m.0 (subst (λ l. KeepsBytes l) m.1.value keeps))
+    ]
 
 -- nothing in the scp form keeps its bytes
 scp_not_kept : (b : List ℕ) (v : Location) → SpellsScp b v → KeepsBytes v → ⊥
@@ -134,10 +118,7 @@ scp_not_kept b v (inr h) keeps = false≢true (subst (λ l. KeepsBytes l) h.valu
 
 -- what is spelled and keeps its bytes is settled
 pub kept_closed : (b : List ℕ) (v : Location) → Spells b v → KeepsBytes v → IsSettled v
-kept_closed b v (Spells.url h) keeps =
-    let s = h.parts.scheme in
-    let other = no_helper_scheme (is_ssh_scheme s) (bytes_eq s (codes "file")) (bytes_eq s (codes "git")) (bytes_eq s (codes "http")) (bytes_eq s (codes "https")) (bytes_eq s (codes "ext")) s in
-    subst (λ l. IsSettled l) (sym (url_kept (protocol_of s) b h.parts v other keeps h.means)) (helper_settled (codes "ext") b refl)
+kept_closed b v (Spells.url h) keeps = subst (λ l. IsSettled l) (sym (url_kept b v h keeps)) (helper_settled (codes "ext") b refl)
 kept_closed b v (Spells.file_url h) keeps = absurd (false≢true (subst (λ l. KeepsBytes l) h.value keeps))
 kept_closed b v (Spells.remote_helper h) keeps = (helper_unchanged b v h).0
 kept_closed b v (Spells.scp_form h) keeps = absurd (scp_not_kept b v h keeps)
