@@ -19,6 +19,7 @@ use Rattle.gix_url.specs.Hosts.Mode.{bare}
 use Rattle.gix_url.specs.Schemes.{is_web_scheme, protocol_of, mode_of}
 use Rattle.gix_url.specs.Authority.{unless_empty, user_beside, Credentials, Authority}
 use Rattle.gix_url.specs.Grammar.{helper_protocol, SpellsHelper, UrlParts, SpellsParts, Peels, HostFor, path_for, retained, MeansByProtocol, MeansAs, SpellsUrl, SpellsFile, ScpFront, AddressedShape, ScpUser, Unbrackets, ScpHost, scp_location, SpellsScpBefore, SpellsScpAddressed, SpellsScp, Spells}
+use Rattle.gix_url.proofs.SchemeLemmas.{means_cases}
 use Rattle.gix_url.proofs.CutLemmas.{heads, tails, class_cut_unique, path_cut_unique, cut_unique, last_cut_unique, last_unique, scheme_text_free, helper_name_free, free-append, free_parts, free_head_tail, free_or_cut, not_free}
 use Rattle.gix_url.proofs.AddressLemmas.{is_address_byte, address_bytes, address_free, address-lowercase}
 use Rattle.gix_url.proofs.EscapeLemmas.{decode_kept, lacks_escaped_percents, escaped_percents_kept}
@@ -120,7 +121,7 @@ host_for_unique (helper name) named host other h k = h ∙ sym k
 host_for_unique (helper_url name) named host other h k = h ∙ sym k
 
 -- what the parts of a URL mean with this host
-abbrev meant_with : Protocol → UrlParts → Option (List ℕ) → Location
+abbrev pub meant_with : Protocol → UrlParts → Option (List ℕ) → Location
 meant_with protocol parts host = record {
   scheme = protocol;
   user = parts.user;
@@ -139,14 +140,13 @@ by_protocol_unique protocol parts v w h k =
 
 -- the parts of a URL mean one location
 pub means_unique : (protocol : Protocol) (b : List ℕ) (parts : UrlParts) (v w : Location) → MeansAs protocol b parts v → MeansAs protocol b parts w → v ≡ w
-means_unique ext b parts v w h k = h ∙ sym k
-means_unique file b parts v w h k = by_protocol_unique file parts v w h k
-means_unique git b parts v w h k = by_protocol_unique git parts v w h k
-means_unique ssh b parts v w h k = by_protocol_unique ssh parts v w h k
-means_unique http b parts v w h k = by_protocol_unique http parts v w h k
-means_unique https b parts v w h k = by_protocol_unique https parts v w h k
-means_unique (helper name) b parts v w h k = by_protocol_unique (helper name) parts v w h k
-means_unique (helper_url name) b parts v w h k = by_protocol_unique (helper_url name) parts v w h k
+means_unique protocol b parts v w h k =
+    elim (means_cases protocol b parts v h) [
+      | inl m ↦
+          elim (means_cases protocol b parts w k) [ inl n ↦ m.1 ∙ sym n.1 | inr n ↦ absurd (n.0 m.0) ]
+      | inr m ↦
+          elim (means_cases protocol b parts w k) [ inl n ↦ absurd (m.0 n.0) | inr n ↦ by_protocol_unique protocol parts v w m.1 n.1 ]
+    ]
 
 -- a URL's bytes spell one location in its form
 pub url_unique : (b : List ℕ) (v w : Location) → SpellsUrl b v → SpellsUrl b w → v ≡ w
