@@ -17,7 +17,8 @@ use Rattle.gix_url.specs.Laws.{keeps_bytes, KeepsBytes, ComesBack, is_closed, Is
 use Rattle.gix_url.proofs.CutLemmas.{tails, last_unique}
 use Rattle.gix_url.proofs.KeptLemmas.{kept_closed, kept_exact}
 use Rattle.gix_url.proofs.FileLemmas.{file_closed, file_exact}
-use Rattle.gix_url.proofs.WebClosedLemmas.{is_web_protocol, web_scheme_of, means_scheme, web_meant, web_value, web_protocol, web_closed}
+use Rattle.gix_url.proofs.WebClosedLemmas.{web_read, web_closed}
+use Rattle.gix_url.proofs.SchemeLemmas.{protocol_cases, helper_cases, means_scheme}
 use Rattle.gix_url.proofs.SettledLemmas.{written_web, fitting_text}
 use Rattle.gix_url.proofs.WebExactLemmas.{spelled_by_url, web_exact}
 use Rattle.gix_url.proofs.AgainLemmas.{settled_again}
@@ -115,10 +116,8 @@ fitting_by v false web written e = inr (λ fits. both_ways _ e ((fitting_text v 
 -- a URL of HTTP that is read has a host, and the text of a URL
 web_written : (b : List ℕ) (v : Location) → SpellsUrl b v → IsWeb v → IsSome v.host × (text v ≡ Ok (canonical_text v))
 web_written b v h web =
-    let protocol = protocol_of h.parts.scheme in
-    let is_web : is_web_protocol protocol ≡ true = ap is_web_protocol (sym (means_scheme protocol b h.parts v h.means)) ∙ web_protocol v web in
-    let value : v ≡ web_meant protocol h.parts = web_value protocol b h.parts v is_web h.means in
-    let hosted : IsSome v.host = subst (λ l. IsSome l.host) (sym value) (h.spelled.hosted (or_left _ _ (web_scheme_of h.parts.scheme is_web))) in
+    let (is_web, value) = web_read b v h web in
+    let hosted : IsSome v.host = subst (λ l. IsSome l.host) (sym value) (h.spelled.hosted (or_left _ _ is_web)) in
     (hosted, (written_web v web).canonical (ap (λ l. l.flag) value) (record { user_hosted = λ given. hosted; port_hosted = λ given. hosted }))
 
 -- a settled location of HTTP is settled
@@ -142,41 +141,18 @@ web_closed_by b v (Some host) there h web =
 
 -- ---- all kinds
 
--- the protocol of local files
-abbrev is_file : Protocol → Bool
-is_file file = true
-is_file git = false
-is_file ssh = false
-is_file http = false
-is_file https = false
-is_file ext = false
-is_file (helper name) = false
-is_file (helper_url name) = false
-
--- no scheme of a URL but `file` has it
-no_file_scheme : (ssh_named git_named http_named https_named ext_named : Bool) (s : List ℕ) → bytes_eq s (codes "file") ≡ false → is_file (if ssh_named then ssh else (if bytes_eq s (codes "file") then file else (if git_named then git else (if http_named then http else (if https_named then https else (if ext_named then ext else helper_url s)))))) ≡ false
-no_file_scheme true b c d e s h = refl
-no_file_scheme false true c d e s h = rw h refl
-no_file_scheme false false true d e s h = rw h refl
-no_file_scheme false false false true e s h = rw h refl
-no_file_scheme false false false false true s h = rw h refl
-no_file_scheme false false false false false s h = rw h refl
-
--- the protocol of a remote helper isn't it either
-no_file_helper : (is_ext : Bool) (name : List ℕ) → is_file (if is_ext then ext else helper name) ≡ false
-no_file_helper true name = refl
-no_file_helper false name = refl
+-- no scheme of a URL but `file` has the protocol of local files
+not_file_scheme : (s : List ℕ) → bytes_eq s (codes "file") ≡ false → ¬ (protocol_of s ≡ file)
+not_file_scheme s other = protocol_cases (λ p. ¬ (p ≡ file)) s (λ same e. cc) (λ same e. both_ways _ other same) (λ e. cc) (λ same e. cc) (λ same e. cc) (λ e. cc) (λ e. cc)
 
 -- a location of local files without the flag is spelled by a file URL
-spelled_by_file : (b : List ℕ) (v : Location) → is_file v.scheme ≡ true → v.flag ≡ false → Spells b v → SpellsFile b v
+spelled_by_file : (b : List ℕ) (v : Location) → v.scheme ≡ file → v.flag ≡ false → Spells b v → SpellsFile b v
 spelled_by_file b v e unflagged (Spells.url h) =
-    let s = h.parts.scheme in
-    let other = no_file_scheme (is_ssh_scheme s) (bytes_eq s (codes "git")) (bytes_eq s (codes "http")) (bytes_eq s (codes "https")) (bytes_eq s (codes "ext")) s h.spelled.not_file in
-    absurd (both_ways (is_file v.scheme) (ap is_file (means_scheme (protocol_of s) b h.parts v h.means) ∙ other) e)
+    absurd (not_file_scheme h.parts.scheme h.spelled.not_file (sym (means_scheme (protocol_of h.parts.scheme) b h.parts v h.means) ∙ e))
 spelled_by_file b v e unflagged (Spells.file_url h) = h
-spelled_by_file b v e unflagged (Spells.remote_helper h) = absurd (both_ways (is_file v.scheme) (ap (λ l. is_file l.scheme) h.value ∙ no_file_helper (bytes_eq h.name (codes "ext")) h.name) e)
-spelled_by_file b v e unflagged (Spells.scp_form (inl h)) = absurd (both_ways (is_file v.scheme) (ap (λ l. is_file l.scheme) h.value) e)
-spelled_by_file b v e unflagged (Spells.scp_form (inr h)) = absurd (both_ways (is_file v.scheme) (ap (λ l. is_file l.scheme) h.value) e)
+spelled_by_file b v e unflagged (Spells.remote_helper h) = absurd (helper_cases (λ p. ¬ (p ≡ file)) h.name (λ e. cc) (λ e. cc) (sym (ap (λ l. l.scheme) h.value) ∙ e))
+spelled_by_file b v e unflagged (Spells.scp_form (inl h)) = absurd (both_ways v.flag unflagged (ap (λ l. l.flag) h.value))
+spelled_by_file b v e unflagged (Spells.scp_form (inr h)) = absurd (both_ways v.flag unflagged (ap (λ l. l.flag) h.value))
 spelled_by_file b v e unflagged (Spells.local_path h) = absurd (both_ways v.flag unflagged (ap (λ l. l.flag) h.value))
 
 -- what keeps its bytes is settled
@@ -186,12 +162,12 @@ bytes_closed b v p flag e f keeps s = inl (kept_closed b v s (ap (λ q. keeps_by
 -- local files are settled, with the flag or without it
 files_closed : (b : List ℕ) (v : Location) (flag : Bool) → v.scheme ≡ file → v.flag ≡ flag → Spells b v → IsSettled v ⊎ IsCorner v
 files_closed b v true e f s = bytes_closed b v file true e f refl s
-files_closed b v false e f s = file_closed_by b v v.host refl e (spelled_by_file b v (ap is_file e) f s)
+files_closed b v false e f s = file_closed_by b v v.host refl e (spelled_by_file b v e f s)
 
 -- a location of HTTP is
 webs_closed : (b : List ℕ) (v : Location) → IsWeb v → Spells b v → IsSettled v ⊎ IsCorner v
 webs_closed b v web s =
-    elim (web_closed_by b v v.host refl (spelled_by_url b v (web_protocol v web) s) web) [
+    elim (web_closed_by b v v.host refl (spelled_by_url b v web s) web) [
       | inl h ↦ inl (web_settled v web h)
       | inr corner ↦ inr corner
     ]

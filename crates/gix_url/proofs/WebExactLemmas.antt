@@ -7,7 +7,7 @@ use Rattle.std.proofs.lemmas.Bool.Decides.{nat_tests}
 use Rattle.std.proofs.lemmas.List.{append-nil}
 use Rattle.std.proofs.lemmas.Option.{IfSome_then, same_Some}
 use Rattle.gix_url.specs.Value.{Protocol, Location, fields}
-use Rattle.gix_url.specs.Value.Protocol.{ext, helper}
+use Rattle.gix_url.specs.Value.Protocol.{file, ssh, ext, helper}
 use Rattle.gix_url.specs.Bytes.{at_sign, colon, left_bracket, right_bracket, Lacks, FreeOf, begins_with}
 use Rattle.gix_url.specs.Cuts.{is_path_start, StartsPath}
 use Rattle.gix_url.specs.Escapes.{has_percent, escaped_percents}
@@ -24,6 +24,7 @@ use Rattle.gix_url.specs.SettledParts.{IsWeb}
 use Rattle.gix_url.specs.WrittenPieces.{WritesInformation}
 use Rattle.gix_url.proofs.CutLemmas.{lacks-append, lacks-cons, free_of_all, free_of_lacked, held_free, lacks_weaker, mark_cut_unique, not_free, path_cut_unique, scheme_text_free}
 use Rattle.gix_url.proofs.EscapeLemmas.{lacks_escaped_percents}
+use Rattle.gix_url.proofs.SchemeLemmas.{helper_cases}
 use Rattle.gix_url.proofs.RowNameLemmas.{some_is_none}
 use Rattle.gix_url.proofs.UrlLemmas.{authority_alone, authority_cut, scheme_no_mark}
 use Rattle.gix_url.proofs.UrlLocationLemmas.{texts}
@@ -32,7 +33,7 @@ use Rattle.gix_url.proofs.WrittenUserLemmas.{information_written}
 use Rattle.gix_url.proofs.WrittenUrlLemmas.{authority_text, canonical_cut}
 use Rattle.gix_url.proofs.WrittenPathLemmas.{web_path_written}
 use Rattle.gix_url.proofs.WrittenWebHostLemmas.{lacks_of_all}
-use Rattle.gix_url.proofs.WebClosedLemmas.{http_lowercase, strict_not_bare, is_web_protocol, web_scheme_of, means_scheme, web_meant, web_value, web_protocol, AreCredentials, authority_closed, url_path_closed, web_closed, web_exact_spelling}
+use Rattle.gix_url.proofs.WebClosedLemmas.{http_lowercase, strict_not_bare, not_web, web_meant, web_read, AreCredentials, authority_closed, url_path_closed, web_closed, web_exact_spelling}
 
 -- ---- hosts with a colon at their end
 
@@ -215,30 +216,19 @@ no_corner_parts {t} {parts} protocol web is_web h written host front hosted ends
 -- neither is that of a location that is read
 no_corner : (t : List ℕ) (w : Location) → SpellsUrl t w → IsWeb w → text w ≡ Ok t → (host front : List ℕ) → w.host ≡ Some host → host ≡ front ++ colon ∷ [] → begins_with left_bracket host ≡ false → has_percent host ≡ true → ⊥
 no_corner t w url web written host front hosted ends no_bracket escaped =
-    let protocol = protocol_of url.parts.scheme in
-    let is_web : is_web_protocol protocol ≡ true = ap is_web_protocol (sym (means_scheme protocol t url.parts w url.means)) ∙ web_protocol w web in
-    let value : w ≡ web_meant protocol url.parts = web_value protocol t url.parts w is_web url.means in
-    no_corner_parts protocol (subst (λ l. IsWeb l) value web) (web_scheme_of url.parts.scheme is_web) url.spelled (subst (λ l. text l ≡ Ok t) value written) host front (sym (ap (λ l. l.host) value) ∙ hosted) ends no_bracket escaped
+    let (is_web, value) = web_read t w url web in
+    no_corner_parts (protocol_of url.parts.scheme) (subst (λ l. IsWeb l) value web) is_web url.spelled (subst (λ l. text l ≡ Ok t) value written) host front (sym (ap (λ l. l.host) value) ∙ hosted) ends no_bracket escaped
 
 -- ---- nothing else comes back
 
--- the protocol of a remote helper is none of HTTP, by whether its name is `ext`
-helper_no_web : (name : List ℕ) (is_ext : Bool) → is_web_protocol (if is_ext then ext else helper name) ≡ false
-helper_no_web name true = refl
-helper_no_web name false = refl
-
--- a scheme that is none of HTTP
-not_web : {A : Type 0} (p q : Protocol) → p ≡ q → is_web_protocol q ≡ false → is_web_protocol p ≡ true → A
-not_web p q e other web = absurd (both_ways _ other (sym (ap is_web_protocol e) ∙ web))
-
 -- a location of HTTP is spelled by a URL
-pub spelled_by_url : (t : List ℕ) (w : Location) → is_web_protocol w.scheme ≡ true → Spells t w → SpellsUrl t w
+pub spelled_by_url : (t : List ℕ) (w : Location) → IsWeb w → Spells t w → SpellsUrl t w
 spelled_by_url t w web (Spells.url h) = h
-spelled_by_url t w web (Spells.file_url h) = not_web _ _ (ap (λ l. l.scheme) h.value) refl web
-spelled_by_url t w web (Spells.remote_helper h) = not_web _ _ (ap (λ l. l.scheme) h.value) (helper_no_web h.name (bytes_eq h.name (codes "ext"))) web
-spelled_by_url t w web (Spells.scp_form (inl h)) = not_web _ _ (ap (λ l. l.scheme) h.value) refl web
-spelled_by_url t w web (Spells.scp_form (inr h)) = not_web _ _ (ap (λ l. l.scheme) h.value) refl web
-spelled_by_url t w web (Spells.local_path h) = not_web _ _ (ap (λ l. l.scheme) h.value) refl web
+spelled_by_url t w web (Spells.file_url h) = not_web file w refl (ap (λ l. l.scheme) h.value) web
+spelled_by_url t w web (Spells.remote_helper h) = helper_cases (λ p. w.scheme ≡ p → SpellsUrl t w) h.name (λ e. not_web ext w refl e web) (λ e. not_web (helper h.name) w refl e web) (ap (λ l. l.scheme) h.value)
+spelled_by_url t w web (Spells.scp_form (inl h)) = not_web ssh w refl (ap (λ l. l.scheme) h.value) web
+spelled_by_url t w web (Spells.scp_form (inr h)) = not_web ssh w refl (ap (λ l. l.scheme) h.value) web
+spelled_by_url t w web (Spells.local_path h) = not_web file w refl (ap (λ l. l.scheme) h.value) web
 
 -- one of two tests passes, where they don't fail together
 either_by : (bracket escaped : Bool) → (bracket ≡ false → escaped ≡ true → ⊥) → (bracket ≡ true) ⊎ (escaped ≡ false)
@@ -272,4 +262,4 @@ web_alike v w e (inr h) = inr (e ∙ h)
 pub web_exact : (v w : Location) (t : List ℕ) → IsWeb v → (¬ (v.spelling ≡ Some v.path)) → text v ≡ Ok t → Spells t w → fields w ≡ fields v → text w ≡ Ok t → IsSettledWeb v
 web_exact v w t web apart written spelled same again =
     let reread : IsWeb w = web_alike v w (ap (λ l. l.scheme) same) web in
-    web_exact_spelling v w web apart same (again ∙ sym written) (reread_settled t w (spelled_by_url t w (web_protocol w reread) spelled) reread again)
+    web_exact_spelling v w web apart same (again ∙ sym written) (reread_settled t w (spelled_by_url t w reread spelled) reread again)
