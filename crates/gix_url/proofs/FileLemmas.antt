@@ -27,7 +27,8 @@ use Rattle.gix_url.specs.Flaws.{UrlShape}
 use Rattle.gix_url.proofs.CutLemmas.{different_bytes, begins_cut, held_free}
 use Rattle.gix_url.proofs.EscapeLemmas.{utf8-append, utf8_behind, utf8_seam}
 use Rattle.gix_url.proofs.FormLemmas.{mark_no_helper}
-use Rattle.gix_url.proofs.ShapeLemmas.{spelled_as_file}
+use Rattle.gix_url.proofs.ShapeLemmas.{file_mark_utf8, url_shaped, spelled_as_file}
+use Rattle.gix_url.proofs.WrittenPathLemmas.{matched, unmatched}
 
 -- ---- values
 
@@ -89,28 +90,14 @@ host_written : (host : Option (List ℕ)) (path : List ℕ) (spelling : Option (
 host_written None path spelling h = refl
 host_written (Some host) path spelling h = cond-false _ _ _ (no_brackets host h)
 
--- a path that no spelling matches is written as it is
-path_written_by : (s path : List ℕ) (same : Bool) → bytes_eq (percent_decode s) path ≡ same → ¬ (percent_decode s ≡ path) → matching_or (Some s) path path ≡ path
-path_written_by s path true e apart = absurd (apart ((bytes_eq-Decides (percent_decode s) path).0 e))
-path_written_by s path false e apart = cond-false _ _ _ e
-
-path_written : (host : Option (List ℕ)) (path : List ℕ) (spelling : Option (List ℕ)) → ¬ HasMatch (at_file host path spelling) → matching_or spelling path path ≡ path
-path_written host path None apart = refl
-path_written host path (Some s) apart = path_written_by s path (bytes_eq (percent_decode s) path) refl (λ d. apart (s, refl, d))
-
 -- the text of a settled file URL holds its host and its path as they are
 settled_text : (host : Option (List ℕ)) (path : List ℕ) (spelling : Option (List ℕ)) → ¬ HasMatch (at_file host path spelling) → IfSome host IsFileHost → text (at_file host path spelling) ≡ Ok (codes "file://" ++ (as_it_is host ++ path))
 settled_text host path spelling apart hosted =
     file_text host path spelling
     ∙ ap (λ h. Ok (codes "file://" ++ (h ++ matching_or spelling path path))) (host_written host path spelling hosted)
-    ∙ ap (λ p. Ok (codes "file://" ++ (as_it_is host ++ p))) (path_written host path spelling apart)
+    ∙ ap (λ p. Ok (codes "file://" ++ (as_it_is host ++ p))) (unmatched spelling path path apart)
 
 -- ---- settled file URLs come back
-
--- the mark of a file URL is UTF-8
-mark_utf8 : IsUtf8 (codes "file://")
-unfolding encode
-mark_utf8 = (codes "file://", (refl, refl))
 
 -- a settled host is not empty
 host_kept : (host : List ℕ) → 0 < length host → unless_empty host ≡ Some host
@@ -138,7 +125,7 @@ settled_spelled host path hosted is_text path_text rooted = record {
   host = as_it_is host;
   path = path;
   joined = refl;
-  text = utf8-append (codes "file://") (as_it_is host ++ path) mark_utf8 (utf8-append (as_it_is host) path (host_utf8 host is_text) path_text);
+  text = utf8-append (codes "file://") (as_it_is host ++ path) file_mark_utf8 (utf8-append (as_it_is host) path (host_utf8 host is_text) path_text);
   no_slash = host_no_slash host hosted;
   rooted = rooted;
   value = ap (λ h. at_file h path None) (sym (host_read host hosted));
@@ -179,7 +166,7 @@ host_settled (b ∷ bs) free stays = record { nonempty = omega arith; no_slash =
 path_utf8 : (host path : List ℕ) → IsUtf8 (codes "file://" ++ (host ++ path)) → begins_with slash path ≡ true → IsUtf8 path
 path_utf8 host path is_text rooted =
     let (rest, cut) = begins_cut slash path rooted in
-    let behind : IsUtf8 (host ++ path) = utf8_behind (codes "file://") (host ++ path) is_text mark_utf8 in
+    let behind : IsUtf8 (host ++ path) = utf8_behind (codes "file://") (host ++ path) is_text file_mark_utf8 in
     subst IsUtf8 (sym cut) (utf8_seam host rest slash (subst (λ p. IsUtf8 (host ++ p)) cut behind) (lit< tt)).1
 
 -- what is read as a file URL is settled, but for a host with a colon and an escape that has no bracket at its front
@@ -214,7 +201,7 @@ behind_mark v = user_information v.user v.password ++ (host_part v v.host ++ (po
 file_shaped : (v : Location) (t : List ℕ) → v.scheme ≡ file → v.flag ≡ false → text v ≡ Ok t → UrlShape t (codes "file") (behind_mark v)
 file_shaped v t scheme unflagged e =
     let joined : t ≡ codes "file" ++ (url_mark ++ behind_mark v) = sym (file_canonical v t scheme unflagged e) ∙ ap (λ p. protocol_text p ++ (url_mark ++ behind_mark v)) scheme in
-    record { no_helper = mark_no_helper t (codes "file") (behind_mark v) refl joined; first = held_free (codes "file") refl; joined = joined }
+    url_shaped t (codes "file") (behind_mark v) refl joined
 
 -- a host that needs no brackets is such a host, by the tests of its bytes
 stays_by : (colons bracket percents : Bool) → ((colons && not bracket) && percents) ≡ false → (bracket ≡ true) ⊎ ((colons ≡ false) ⊎ (percents ≡ false))
@@ -248,7 +235,7 @@ host_stays (b ∷ bs) path e h some =
 spelling_is_path : (host : Option (List ℕ)) (path s t : List ℕ) → percent_decode s ≡ path → text (at_file host path (Some s)) ≡ Ok t → text (at_file host path None) ≡ Ok t → s ≡ path
 spelling_is_path host path s t decoded spelled plain =
     let front = host_part (at_file host path None) host in
-    let used : matching_or (Some s) path path ≡ s = cond-true _ _ _ ((bytes_eq-Decides (percent_decode s) path).1 decoded) in
+    let used : matching_or (Some s) path path ≡ s = matched s path path decoded in
     let both : codes "file://" ++ (front ++ matching_or (Some s) path path) ≡ codes "file://" ++ (front ++ path) = same_written refl (spelled ∙ sym plain) in
     sym used ∙ append_cancel_left front (matching_or (Some s) path path) path (append_cancel_left (codes "file://") (front ++ matching_or (Some s) path path) (front ++ path) both)
 

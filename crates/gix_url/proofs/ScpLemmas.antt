@@ -21,7 +21,7 @@ use Rattle.gix_url.specs.ScpPieces.{ColonsInside, NamesNoPort, NamesHost, PieceF
 use Rattle.gix_url.proofs.CutLemmas.{heads, tails, not_free, free_parts, free_head_tail, free_of_all}
 use Rattle.gix_url.proofs.EscapeLemmas.{lacks_escaped_percents, escaped_percents-append, utf8_parts}
 use Rattle.gix_url.proofs.HostLemmas.{names_unique}
-use Rattle.gix_url.proofs.ShapeLemmas.{front_cut_unique}
+use Rattle.gix_url.proofs.ShapeLemmas.{same_front}
 use Rattle.gix_url.proofs.FormLemmas.{address_cut, address_front_free}
 use Rattle.gix_url.proofs.UniqueLemmas.{scp_user_unique, addressed_unique, open_bracket_no_host, front_of_addressed}
 
@@ -159,8 +159,7 @@ backslash_refused host held = (λ meant k. held k.no_backslash, ScpHostFlaw.hold
 
 -- the front and the path are the only ones
 scp_shape_unique : (b front path other second : List ℕ) → ScpShape b front path → ScpShape b other second → (front ≡ other) × (path ≡ second)
-scp_shape_unique b front path other second h k =
-    front_cut_unique b front path other second (record { joined = h.joined; shape = h.shape }) (record { joined = k.joined; shape = k.shape })
+scp_shape_unique b front path other second h k = same_front b front path other second h.joined k.joined h.shape k.shape
 
 -- no path, no location
 pub scp_no_path : (b front : List ℕ) → ScpShape b front [] → (v : Location) → ¬ SpellsScpBefore b v
@@ -236,11 +235,6 @@ addressed_user_utf8 b user address path k text =
     (utf8_parts user (left_bracket ∷ (address ++ right_bracket ∷ (colon ∷ path))) at_sign (subst IsUtf8 k.joined text) (omega arith)).0
 
 -- ---- tests and steps of the code
-
--- a text that passed the test is empty
-pub empty_tested : (t : List ℕ) → true ≡ (length t == 0) → t ≡ []
-empty_tested [] h = refl
-empty_tested (b ∷ t) h = let wrong : eqb (length (b ∷ t)) 0 ≡ true = sym h in absurd (omega (arith, eqb-true (length (b ∷ t)) 0 wrong))
 
 -- one byte more is written
 pub escaped_step : (text : List ℕ) (i : ℕ) → i < length text → escaped_percents (drop i text) ≡ (if slice_index text i == percent_sign then 37 ∷ 50 ∷ 53 ∷ escaped_percents (drop (i + 1) text) else slice_index text i ∷ escaped_percents (drop (i + 1) text))
