@@ -27,6 +27,8 @@ use Rattle.gix_url.specs.Flaws.{UrlShape}
 use Rattle.gix_url.proofs.CutLemmas.{different_bytes, begins_cut, held_free}
 use Rattle.gix_url.proofs.EscapeLemmas.{utf8-append, utf8_behind, utf8_seam}
 use Rattle.gix_url.proofs.FormLemmas.{mark_no_helper}
+use Rattle.gix_url.proofs.SettledLemmas.{one_text}
+use Rattle.gix_url.proofs.UrlLemmas.{some_kept}
 use Rattle.gix_url.proofs.ShapeLemmas.{file_mark_utf8, url_shaped, spelled_as_file}
 use Rattle.gix_url.proofs.WrittenPathLemmas.{matched, unmatched}
 
@@ -99,15 +101,10 @@ settled_text host path spelling apart hosted =
 
 -- ---- settled file URLs come back
 
--- a settled host is not empty
-host_kept : (host : List ℕ) → 0 < length host → unless_empty host ≡ Some host
-host_kept [] some = absurd (omega (arith, some))
-host_kept (b ∷ bs) some = refl
-
--- it is read as it is written
+-- a settled host is read as it is written
 host_read : (host : Option (List ℕ)) → IfSome host IsFileHost → unless_empty (as_it_is host) ≡ host
 host_read None h = refl
-host_read (Some host) h = host_kept host h.nonempty
+host_read (Some host) h = some_kept host (λ e. absurd (omega (arith, ap length e, h.nonempty)))
 
 -- it has no `/`
 host_no_slash : (host : Option (List ℕ)) → IfSome host IsFileHost → FreeOf slash (as_it_is host)
@@ -154,7 +151,7 @@ file_again v scheme valid h =
 -- ---- what is read is settled
 
 -- a bracket stands at the front of the host, or it has no colon or no escape
-abbrev StaysOpen : List ℕ → Type 0
+abbrev pub StaysOpen : List ℕ → Type 0
 StaysOpen host = (begins_with left_bracket host ≡ true) ⊎ (FreeOf colon host ⊎ (has_percent host ≡ false))
 
 -- the host of a file URL is settled but for one corner
@@ -170,7 +167,7 @@ path_utf8 host path is_text rooted =
     subst IsUtf8 (sym cut) (utf8_seam host rest slash (subst (λ p. IsUtf8 (host ++ p)) cut behind) (lit< tt)).1
 
 -- what is read as a file URL is settled, but for a host with a colon and an escape that has no bracket at its front
-pub file_closed : (b : List ℕ) (v : Location) → SpellsFile b v → ((h : List ℕ) → v.host ≡ Some h → (begins_with left_bracket h ≡ true) ⊎ (FreeOf colon h ⊎ (has_percent h ≡ false))) → IsSettledFile v
+pub file_closed : (b : List ℕ) (v : Location) → SpellsFile b v → ((h : List ℕ) → v.host ≡ Some h → StaysOpen h) → IsSettledFile v
 file_closed b v h stays =
     let hosted = host_settled h.host h.no_slash (λ host e. stays host (ap (λ l. l.host) h.value ∙ e)) in
     let is_text = path_utf8 h.host h.path (subst IsUtf8 h.joined h.text) h.rooted in
@@ -178,14 +175,10 @@ file_closed b v h stays =
 
 -- ---- nothing else comes back
 
--- a result holds one text
-same_written : {r : Result (List ℕ) WriteFault} {s t : List ℕ} → r ≡ Ok s → r ≡ Ok t → s ≡ t
-same_written h k = let both = sym h ∙ k in cc
-
 -- the text that is written, where there is one, is that of a URL
 canonical_by : (v : Location) (t : List ℕ) (fault : Bool) → in_form (if fault then Err UserWithoutHost else Ok canonical_form) v ≡ Ok t → canonical_text v ≡ t
 canonical_by v t true e = absurd (false≢true (ap is_ok e))
-canonical_by v t false e = same_written refl e
+canonical_by v t false e = one_text refl e
 
 -- a location with the scheme of file URLs and without the flag is written as a URL
 file_canonical : (v : Location) (t : List ℕ) → v.scheme ≡ file → v.flag ≡ false → text v ≡ Ok t → canonical_text v ≡ t
@@ -228,7 +221,7 @@ host_stays : (host path : List ℕ) → text (at_file (unless_empty host) path N
 host_stays [] path e h some = absurd (none-some h some)
 host_stays (b ∷ bs) path e h some =
     let host = b ∷ bs in
-    let cut = append_cancel_left (codes "file://") (host_part (at_file (Some host) path None) (Some host) ++ path) (host ++ path) (same_written refl e) in
+    let cut = append_cancel_left (codes "file://") (host_part (at_file (Some host) path None) (Some host) ++ path) (host ++ path) (one_text refl e) in
     subst StaysOpen (same_Some host h some) (host_stays_by host path (needs_brackets None host) refl cut)
 
 -- a spelling that matches and is written as the path is the path
@@ -236,7 +229,7 @@ spelling_is_path : (host : Option (List ℕ)) (path s t : List ℕ) → percent_
 spelling_is_path host path s t decoded spelled plain =
     let front = host_part (at_file host path None) host in
     let used : matching_or (Some s) path path ≡ s = matched s path path decoded in
-    let both : codes "file://" ++ (front ++ matching_or (Some s) path path) ≡ codes "file://" ++ (front ++ path) = same_written refl (spelled ∙ sym plain) in
+    let both : codes "file://" ++ (front ++ matching_or (Some s) path path) ≡ codes "file://" ++ (front ++ path) = one_text refl (spelled ∙ sym plain) in
     sym used ∙ append_cancel_left front (matching_or (Some s) path path) path (append_cancel_left (codes "file://") (front ++ matching_or (Some s) path path) (front ++ path) both)
 
 -- what is read from the text of a location is settled where it has that text too

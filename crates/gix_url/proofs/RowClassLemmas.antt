@@ -3,6 +3,7 @@ use Rattle.std.proofs.Common.{◌≡◌, ℕ, true, false, ◌==◌, ◌⊎◌, 
 use Rattle.std.specs.List.{list_any}
 use Rattle.std.specs.Str.{chars}
 use Rattle.std.proofs.lemmas.Bool.{both_ways, false≢true, ltb-true, leb-true}
+use Rattle.std.proofs.lemmas.Option.{same_Some}
 use Rattle.std.proofs.lemmas.Str.{IsUtf8-from_is_utf8}
 use Rattle.percent_encoding.proofs.OnLiterals.{percent_encoding_on_literals}
 use Rattle.bstr.proofs.Computing.{computing}
@@ -17,10 +18,6 @@ use Rattle.gix_url.proofs.CutLemmas.{different_bytes, last_unique}
 use Rattle.gix_url.proofs.AddressTestLemmas.{ipv6_text_from, ipv6_text_to}
 use Rattle.gix_url.proofs.RowNameLemmas.{none_is_some, some_is_none, other_byte}
 use Rattle.gix_url.proofs.RowFormLemmas.{not_held, neither_free, neither_at, no_scp_free, dot_path_no_scp, shape_row, fits_row}
-
--- some are the same that have the same
-some_same : (x y : List ℕ) → Some x ≡ Some y → x ≡ y
-some_same x y e = cc
 
 -- ---- hosts of HTTP
 
@@ -153,7 +150,7 @@ settled_rows = (
 
 -- the host decides
 unsettled_host : (port : Option ℕ) (host : List ℕ) → ¬ IsWebHost port host → ¬ ((h : List ℕ) × (Some host ≡ Some h) × IsWebHost port h)
-unsettled_host port host other (h, e, w) = other (subst (λ t. IsWebHost port t) (sym (some_same host h e)) w)
+unsettled_host port host other (h, e, w) = other (subst (λ t. IsWebHost port t) (sym (same_Some host h e)) w)
 
 -- a password that is there is not empty
 present_password : ¬ IsSettled (record (at_host https (codes "h") (codes "/p")) { user = Some (codes "u"); password = Some [] })
@@ -229,7 +226,7 @@ open_brackets (inl h) = false≢true (sym h.unbracketed.no_left_bracket)
 open_brackets (inr (address, h, e)) = other_byte 121 93 refl (last_unique (codes "[x]") (left_bracket ∷ address) 121 93 e).1
 
 odd_brackets : ¬ IsSettled (at_host git (codes "[x]y") (codes "/p"))
-odd_brackets s = open_brackets (subst IsBracketedHost (sym (some_same (codes "[x]y") s.host.0 s.host.1)) s.host.2)
+odd_brackets s = open_brackets (subst IsBracketedHost (sym (same_Some (codes "[x]y") s.host.0 s.host.1)) s.host.2)
 
 -- a known scheme is another protocol
 known_scheme : ¬ IsSettled (at_host (helper_url (codes "ssh")) (codes "h") (codes "/p"))
@@ -281,7 +278,7 @@ scp_user_colon (inr s) = false≢true (sym s.common.unflagged)
 
 -- a host and a path behind two colons look like a remote helper
 scp_like_helper : ¬ IsSettled (in_scp None (codes "host") (codes ":path"))
-scp_like_helper (inl s) = s.host.3 (refl, ap is_helper_name (sym (some_same (codes "host") s.host.0 s.host.1)), refl)
+scp_like_helper (inl s) = s.host.3 (refl, ap is_helper_name (sym (same_Some (codes "host") s.host.0 s.host.1)), refl)
 scp_like_helper (inr s) = false≢true (sym s.common.unflagged)
 
 -- an address of the scp form has no zone
@@ -291,7 +288,7 @@ scp_zone_host h e (inl n) = both_ways _ n.normal.unbracketed.no_colon (ap (list_
 scp_zone_host h e (inr a) = both_ways _ refl (ap is_ipv6_text e ∙ ipv6_text_to h a.address)
 
 scp_zone : ¬ IsSettled (in_scp None (codes "fe80::1%Eth0") (codes "p"))
-scp_zone (inl s) = scp_zone_host s.host.0 (some_same (codes "fe80::1%Eth0") s.host.0 s.host.1) s.host.2
+scp_zone (inl s) = scp_zone_host s.host.0 (same_Some (codes "fe80::1%Eth0") s.host.0 s.host.1) s.host.2
 scp_zone (inr s) = false≢true (sym s.common.unflagged)
 
 -- the name `ext` is no other helper's

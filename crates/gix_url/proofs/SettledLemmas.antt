@@ -1,5 +1,5 @@
 -- The settled class by its parts: what the small tests tell, joined.
-use Rattle.std.proofs.Common.{⊎_elim, ◌≡◌, ◌↔◌, ℕ, Bool, true, false, not, ◌==◌, ◌⊎◌, inl, inr, List, [], ◌∷◌, ◌++◌, refl, sym, ap, subst, ◌∙◌, append_assoc, Option, Some, None, IsSome, Ok, ◌&&◌, IsTrue}
+use Rattle.std.proofs.Common.{⊎_elim, ◌≡◌, ◌↔◌, ℕ, Bool, true, false, not, ◌==◌, ◌⊎◌, inl, inr, List, [], ◌∷◌, ◌++◌, refl, sym, ap, subst, ◌∙◌, append_assoc, Option, Some, None, IsSome, Result, Ok, ◌&&◌, IsTrue}
 use Rattle.std.specs.List.{list_all}
 use Rattle.std.specs.Option.{is_some, is_none}
 use Rattle.std.proofs.lemmas.List.{append_cancel_right}
@@ -277,6 +277,10 @@ settled_scp v = (
 
 -- ---- the texts of settled URLs
 
+-- a result holds one text
+pub one_text : {E : Type 0} {r : Result (List ℕ) E} {s t : List ℕ} → r ≡ Ok s → r ≡ Ok t → s ≡ t
+one_text h k = let both = sym h ∙ k in cc
+
 -- there isn't a user without a host
 both_given : (user host : Option (List ℕ)) → (IsSome user → IsSome host) → (is_some user && is_none host) ≡ false
 both_given None host hosted = refl
@@ -345,5 +349,5 @@ fitting_text v t free canonical is =
     let rest = user_information v.user v.password ++ (host_part v v.host ++ (port_part v.port ++ canonical_path v)) in
     let test : IsPiecesShort (protocol_text v.scheme) t ↔ FitsText t = fits_text (protocol_text v.scheme) rest t free same in (
       λ short. (t, sym is, test.0 short),
-      λ (x, e, fits). let both : Ok x ≡ Ok t = sym e ∙ sym is in let equal : x ≡ t = cc in test.1 (subst FitsText equal fits),
+      λ (x, e, fits). test.1 (subst FitsText (one_text e (sym is)) fits),
     )

@@ -35,7 +35,7 @@ use Rattle.gix_url.proofs.NormalLemmas.{all_lowercase, dns_lowercase, normal_aga
 use Rattle.gix_url.proofs.SchemeLemmas.{protocol_cases}
 use Rattle.gix_url.proofs.WrittenPathLemmas.{start_ascii, matched, written_fair}
 use Rattle.gix_url.proofs.RowNameLemmas.{none_is_some, some_is_none}
-use Rattle.gix_url.proofs.SettledLemmas.{written_web}
+use Rattle.gix_url.proofs.SettledLemmas.{one_text, written_web}
 
 -- ---- hosts
 
@@ -43,30 +43,30 @@ use Rattle.gix_url.proofs.SettledLemmas.{written_web}
 http_byte_lowercase : (b : ℕ) → is_http_host_byte b ≡ true → is_http_host_byte (to_ascii_lowercase b) ≡ true
 http_byte_lowercase b h = grind (arith, nat_tests)
 
--- a text of such bytes stays one in lower case
-pub http_lowercase : (bs : List ℕ) → list_all is_http_host_byte bs ≡ true → list_all is_http_host_byte (lowercase bs) ≡ true
-http_lowercase bs h = all_lowercase is_http_host_byte http_byte_lowercase bs h
+-- the normal form of a host of HTTP is one, by whether the host looks like a domain name
+normal_bytes : (text : List ℕ) (is_domain : Bool) → list_all is_dns_byte text ≡ is_domain → list_all is_http_host_byte text ≡ true → list_all is_http_host_byte (normal_host text) ≡ true
+normal_bytes text true domain bytes = ap (list_all is_http_host_byte) (cond-true _ _ _ domain) ∙ all_lowercase is_http_host_byte http_byte_lowercase text bytes
+normal_bytes text false other bytes = ap (list_all is_http_host_byte) (cond-false _ _ _ other) ∙ bytes
 
--- the normal form of a sound host of HTTP is one, by whether the host looks like a domain name
-normal_facts : (text : List ℕ) (is_domain : Bool) → list_all is_dns_byte text ≡ is_domain → 0 < length text → is_sound text ≡ true → list_all is_http_host_byte text ≡ true → (0 < length (normal_host text)) × (list_all is_http_host_byte (normal_host text) ≡ true) × (is_sound (normal_host text) ≡ true)
-normal_facts text true domain some sound bytes =
-    let lower : normal_host text ≡ lowercase text = cond-true _ _ _ domain in (
-      subst (λ t. 0 < length t) (sym lower) (subst (λ n. 0 < n) (sym (length-map text to_ascii_lowercase)) some),
-      ap (list_all is_http_host_byte) lower ∙ http_lowercase text bytes,
-      ap is_sound lower ∙ sound_free (lowercase text) (free_of_all is_dns_byte percent_sign (lowercase text) (dns_lowercase text domain) refl),
-    )
-normal_facts text false other some sound bytes =
-    let same : normal_host text ≡ text = cond-false _ _ _ other in (
-      subst (λ t. 0 < length t) (sym same) some,
-      ap (list_all is_http_host_byte) same ∙ bytes,
-      ap is_sound same ∙ sound,
-    )
+-- what a text stands for in HTTP is made of such bytes
+pub meant_bytes : (text name : List ℕ) → HostText strict text name → list_all is_http_host_byte name ≡ true
+meant_bytes text name meant = ap (list_all is_http_host_byte) meant.1 ∙ normal_bytes text (list_all is_dns_byte text) refl meant.0
+
+-- the normal form of a sound text is sound, and as long
+normal_facts : (text : List ℕ) (is_domain : Bool) → list_all is_dns_byte text ≡ is_domain → 0 < length text → is_sound text ≡ true → (0 < length (normal_host text)) × (is_sound (normal_host text) ≡ true)
+normal_facts text true domain some sound =
+    let lower : normal_host text ≡ lowercase text = cond-true _ _ _ domain in
+    (subst (λ t. 0 < length t) (sym lower) (subst (λ n. 0 < n) (sym (length-map text to_ascii_lowercase)) some), ap is_sound lower ∙ sound_free (lowercase text) (free_of_all is_dns_byte percent_sign (lowercase text) (dns_lowercase text domain) refl))
+normal_facts text false other some sound =
+    let same : normal_host text ≡ text = cond-false _ _ _ other in
+    (subst (λ t. 0 < length t) (sym same) some, ap is_sound same ∙ sound)
 
 -- what a sound text stands for in HTTP is a name that stays as it is
 web_name_of : (text name : List ℕ) → 0 < length text → is_sound text ≡ true → HostText strict text name → IsWebName name
 web_name_of text name some sound meant =
-    let facts = normal_facts text (list_all is_dns_byte text) refl some sound meant.0 in
-    subst IsWebName (sym meant.1) record { nonempty = facts.0; bytes = facts.1; sound = facts.2; normal = normal_again text }
+    let facts = normal_facts text (list_all is_dns_byte text) refl some sound in
+    let is : name ≡ normal_host text = meant.1 in
+    record { nonempty = subst (λ t. 0 < length t) (sym is) facts.0; bytes = meant_bytes text name meant; sound = ap is_sound is ∙ facts.1; normal = ap normal_host is ∙ normal_again text ∙ sym is }
 
 -- a text that is free of a byte doesn't begin with it
 free_begins : (c : ℕ) (t : List ℕ) → FreeOf c t → begins_with c t ≡ false
@@ -78,8 +78,16 @@ no_bracket_before_colon : (name : List ℕ) → IsWebName name → begins_with l
 no_bracket_before_colon name h =
     free_begins left_bracket (name ++ colon ∷ []) (free-append left_bracket name (colon ∷ []) (free_of_all is_http_host_byte left_bracket name h.bytes refl) refl)
 
--- such a name holds no `%` where the host begins with a bracket or holds none
-name_before_colon : (host name : List ℕ) → IsWebName name → host ≡ name ++ colon ∷ [] → (begins_with left_bracket host ≡ true) ⊎ (has_percent host ≡ false) → has_percent name ≡ false
+-- the host begins with a bracket or holds no `%`
+abbrev pub StaysBare : List ℕ → Type 0
+StaysBare host = (begins_with left_bracket host ≡ true) ⊎ (has_percent host ≡ false)
+
+-- so does a host with a colon at its end
+abbrev pub IsApart : List ℕ → Type 0
+IsApart host = (front : List ℕ) → host ≡ front ++ colon ∷ [] → StaysBare host
+
+-- such a name holds no `%` there
+name_before_colon : (host name : List ℕ) → IsWebName name → host ≡ name ++ colon ∷ [] → StaysBare host → has_percent name ≡ false
 name_before_colon host name h e (inl bracket) = absurd (both_ways _ (no_bracket_before_colon name h) (ap (begins_with left_bracket) (sym e) ∙ bracket))
 name_before_colon host name h e (inr free) = (free_parts percent_sign name (colon ∷ []) (subst (λ t. FreeOf percent_sign t) e free)).0
 
@@ -96,7 +104,7 @@ pub strict_not_bare : ¬ (strict ≡ bare)
 strict_not_bare e = cc
 
 -- a host and a port that a sound piece names in HTTP are settled, but for a name with `%` and a colon behind it
-pub web_host_closed : (piece host : List ℕ) (port : Option ℕ) → is_sound piece ≡ true → Names strict piece (Some host) port → ((front : List ℕ) → host ≡ front ++ colon ∷ [] → (begins_with left_bracket host ≡ true) ⊎ (has_percent host ≡ false)) → IsWebHost port host × (port ≢ Some 0)
+pub web_host_closed : (piece host : List ℕ) (port : Option ℕ) → is_sound piece ≡ true → Names strict piece (Some host) port → IsApart host → IsWebHost port host × (port ≢ Some 0)
 web_host_closed piece host port sound (nothing e named_as at) apart = some_is_none host named_as
 web_host_closed piece host port sound (bracketed x inner free spelled e named_as at) apart =
     (literal inner (literal_again x inner spelled) (same_Some _ _ named_as), none_not_zero port at)
@@ -286,7 +294,7 @@ url_path_closed {b} {parts} web h =
     path_closed (parts.scheme ++ (codes "://" ++ h.authority)) parts.path (subst (λ w. StartsPath w parts.path) web h.path_starts) (subst IsUtf8 joined h.text) (subst (λ t. is_sound t ≡ true) joined h.sound) (subst LacksWhiteSpace joined h.no_white_space) h.path_text
 
 -- what the parts of a URL of HTTP mean is settled
-parts_closed : {b : List ℕ} {parts : UrlParts} → (protocol : Protocol) → is_web_scheme parts.scheme ≡ true → SpellsParts b parts → ((host front : List ℕ) → parts.host ≡ Some host → host ≡ front ++ colon ∷ [] → (begins_with left_bracket host ≡ true) ⊎ (has_percent host ≡ false)) → HasFittingText (web_meant protocol parts) → IsSettledWeb (web_meant protocol parts)
+parts_closed : {b : List ℕ} {parts : UrlParts} → (protocol : Protocol) → is_web_scheme parts.scheme ≡ true → SpellsParts b parts → ((host : List ℕ) → parts.host ≡ Some host → IsApart host) → HasFittingText (web_meant protocol parts) → IsSettledWeb (web_meant protocol parts)
 parts_closed {b} {parts} protocol web h apart fits =
     let mode : mode_of parts.scheme ≡ strict = cond-true _ _ _ web in
     let hosted : IsSome parts.host = h.hosted (or_left _ _ web) in
@@ -295,7 +303,7 @@ parts_closed {b} {parts} protocol web h apart fits =
     let named : Authority strict h.authority parts.user parts.password parts.host parts.port = subst (λ m. Authority m h.authority parts.user parts.password parts.host parts.port) mode h.named in
     let credentials = authority_closed strict h.authority parts.user parts.password parts.host parts.port named in
     let names = authority_names strict h.authority parts.user parts.password parts.host parts.port (authority_sound parts.scheme h.authority way.front_sound) named in
-    let host = web_host_closed names.0 some.0 parts.port names.1 (subst (λ o. Names strict names.0 o parts.port) some.1 names.2) (λ front e. apart some.0 front some.1 e) in record {
+    let host = web_host_closed names.0 some.0 parts.port names.1 (subst (λ o. Names strict names.0 o parts.port) some.1 names.2) (apart some.0 some.1) in record {
       common = record {
         unflagged = refl;
         password = credentials.0;
@@ -312,21 +320,17 @@ parts_closed {b} {parts} protocol web h apart fits =
     }
 
 -- a location of HTTP that is read is settled where its text is short enough, but for a host with `%` and a colon behind it
-pub web_closed : (b : List ℕ) (v : Location) → SpellsUrl b v → IsWeb v → ((h front : List ℕ) → v.host ≡ Some h → h ≡ front ++ colon ∷ [] → (begins_with left_bracket h ≡ true) ⊎ (has_percent h ≡ false)) → HasFittingText v → IsSettledWeb v
+pub web_closed : (b : List ℕ) (v : Location) → SpellsUrl b v → IsWeb v → ((h : List ℕ) → v.host ≡ Some h → IsApart h) → HasFittingText v → IsSettledWeb v
 web_closed b v h web apart fits =
     let (is_web, value) = web_read b v h web in
     subst (λ l. IsSettledWeb l) (sym value)
-    (parts_closed (protocol_of h.parts.scheme) is_web h.spelled (λ host front e. apart host front (ap (λ l. l.host) value ∙ e)) (subst (λ l. HasFittingText l) value fits))
+    (parts_closed (protocol_of h.parts.scheme) is_web h.spelled (λ host e. apart host (ap (λ l. l.host) value ∙ e)) (subst (λ l. HasFittingText l) value fits))
 
 -- ---- the same text
 
 -- the location with another spelling
-abbrev spelled_as : Location → Option (List ℕ) → Location
+abbrev pub spelled_as : Location → Option (List ℕ) → Location
 spelled_as v spelling = record v { spelling = spelling }
-
--- a text that is there is one
-okay_same : {E : Type 0} (r : Result (List ℕ) E) (x y : List ℕ) → r ≡ Ok x → r ≡ Ok y → x ≡ y
-okay_same r x y h k = let both : Ok x ≡ Ok y = sym h ∙ k in cc
 
 -- locations of HTTP that differ in their spellings and are written alike have paths that are written alike
 same_paths : (v : Location) (spelling : Option (List ℕ)) → IsWeb v → v.flag ≡ false → IsHosted v → text (spelled_as v spelling) ≡ text v → matching_or spelling v.path (plain_path v.scheme v.path) ≡ matching_or v.spelling v.path (plain_path v.scheme v.path)
@@ -334,7 +338,7 @@ same_paths v spelling web unflagged hosted same =
     let w = spelled_as v spelling in
     let mine : text v ≡ Ok (canonical_text v) = (written_web v web).canonical unflagged hosted in
     let other : text w ≡ Ok (canonical_text w) = (written_web w web).canonical unflagged record { user_hosted = hosted.user_hosted; port_hosted = hosted.port_hosted } in
-    let whole : canonical_text w ≡ canonical_text v = okay_same (text w) _ _ other (same ∙ mine) in
+    let whole : canonical_text w ≡ canonical_text v = one_text other (same ∙ mine) in
     let behind = append_cancel_left (protocol_text v.scheme) _ _ whole in
     let authority = append_cancel_left (codes "://") _ _ behind in
     let host = append_cancel_left (user_information v.user v.password) _ _ authority in

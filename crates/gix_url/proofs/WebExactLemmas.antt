@@ -28,12 +28,13 @@ use Rattle.gix_url.proofs.SchemeLemmas.{helper_cases}
 use Rattle.gix_url.proofs.RowNameLemmas.{some_is_none}
 use Rattle.gix_url.proofs.UrlLemmas.{authority_alone, authority_cut, scheme_no_mark}
 use Rattle.gix_url.proofs.UrlLocationLemmas.{texts}
-use Rattle.gix_url.proofs.SettledLemmas.{written_web}
+use Rattle.gix_url.proofs.SettledLemmas.{one_text, written_web}
 use Rattle.gix_url.proofs.WrittenUserLemmas.{information_written}
 use Rattle.gix_url.proofs.WrittenUrlLemmas.{authority_text, canonical_cut}
 use Rattle.gix_url.proofs.WrittenPathLemmas.{web_path_written}
+use Rattle.gix_url.proofs.WrittenScpLemmas.{holds_colon}
 use Rattle.gix_url.proofs.WrittenWebHostLemmas.{lacks_of_all}
-use Rattle.gix_url.proofs.WebClosedLemmas.{http_lowercase, strict_not_bare, not_web, web_meant, web_read, AreCredentials, authority_closed, url_path_closed, web_closed, web_exact_spelling}
+use Rattle.gix_url.proofs.WebClosedLemmas.{meant_bytes, strict_not_bare, not_web, web_meant, web_read, AreCredentials, authority_closed, url_path_closed, web_closed, web_exact_spelling}
 
 -- ---- hosts with a colon at their end
 
@@ -44,15 +45,6 @@ ends_host b = b == at_sign || is_path_start true b
 -- a byte of a host of HTTP is no such byte
 host_byte_inside : (b : ℕ) → is_http_host_byte b ≡ true → ends_host b ≡ false
 host_byte_inside b h = grind (arith, nat_tests)
-
--- the normal form of a host of HTTP is one, by whether the host looks like a domain name
-normal_bytes : (text : List ℕ) (is_domain : Bool) → list_all is_dns_byte text ≡ is_domain → list_all is_http_host_byte text ≡ true → list_all is_http_host_byte (normal_host text) ≡ true
-normal_bytes text true domain bytes = ap (list_all is_http_host_byte) (cond-true _ _ _ domain) ∙ http_lowercase text bytes
-normal_bytes text false other bytes = ap (list_all is_http_host_byte) (cond-false _ _ _ other) ∙ bytes
-
--- what a text stands for in HTTP is made of such bytes
-meant_bytes : (text named : List ℕ) → HostText strict text named → list_all is_http_host_byte named ≡ true
-meant_bytes text named meant = ap (list_all is_http_host_byte) meant.1 ∙ normal_bytes text (list_all is_dns_byte text) refl meant.0
 
 -- a host of such bytes has no colon at its end
 no_colon_behind : {A : Type 0} (host front named : List ℕ) → list_all is_http_host_byte named ≡ true → host ≡ named → host ≡ front ++ colon ∷ [] → A
@@ -124,18 +116,10 @@ brackets_no_at host lacks = free_of_lacked ends_host at_sign (in_brackets host) 
 brackets_before_path : (host : List ℕ) → Lacks ends_host host → Lacks (is_path_start true) (in_brackets host)
 brackets_before_path host lacks = lacks_weaker (is_path_start true) ends_host (λ b e. or_right (b == at_sign) _ e) (in_brackets host) (brackets_lack host lacks)
 
--- a text with a colon at its end holds one
-colon_there : (host front : List ℕ) → host ≡ front ++ colon ∷ [] → has_colon host ≡ true
-colon_there host front ends =
-    elim (cases_Bool (has_colon host)) [
-      | inl there ↦ there
-      | inr free ↦ absurd (not_free colon front [] (subst (λ t. FreeOf colon t) ends free))
-    ]
-
 -- a host with a colon at its end and an escape in it, and without a bracket at its front, is written in brackets
 brackets_needed : (port : Option ℕ) (host front : List ℕ) → host ≡ front ++ colon ∷ [] → begins_with left_bracket host ≡ false → has_percent host ≡ true → needs_brackets port host ≡ true
 brackets_needed port host front ends no_bracket escaped =
-    and_from (wants_brackets host) _ (and_from (has_colon host) _ (colon_there host front ends) (ap not no_bracket)) (or_right (is_some port) _ escaped)
+    and_from (wants_brackets host) _ (and_from (has_colon host) _ (ap has_colon ends ∙ holds_colon front []) (ap not no_bracket)) (or_right (is_some port) _ escaped)
 
 -- ---- user information in front of them
 
@@ -195,8 +179,7 @@ path_shown {t} {parts} protocol web is_web h =
 -- what is read has its canonical text
 canonical_shown : (t : List ℕ) (protocol : Protocol) (parts : UrlParts) → IsWeb (web_meant protocol parts) → IsSome parts.host → text (web_meant protocol parts) ≡ Ok t → canonical_text (web_meant protocol parts) ≡ t
 canonical_shown t protocol parts web hosted written =
-    let canonical = (written_web (web_meant protocol parts) web).canonical refl record { user_hosted = λ given. hosted; port_hosted = λ given. hosted } in
-    let both : Ok (canonical_text (web_meant protocol parts)) ≡ Ok t = sym canonical ∙ written in cc
+    one_text ((written_web (web_meant protocol parts) web).canonical refl record { user_hosted = λ given. hosted; port_hosted = λ given. hosted }) written
 
 -- a host with an escape and a colon at its end, and without a bracket at its front, isn't written as it was read
 no_corner_parts : {t : List ℕ} {parts : UrlParts} → (protocol : Protocol) → IsWeb (web_meant protocol parts) → is_web_scheme parts.scheme ≡ true → SpellsParts t parts → text (web_meant protocol parts) ≡ Ok t → (host front : List ℕ) → parts.host ≡ Some host → host ≡ front ++ colon ∷ [] → begins_with left_bracket host ≡ false → has_percent host ≡ true → ⊥
@@ -250,7 +233,7 @@ fits_read {t} {parts} h = record {
 reread_settled : (t : List ℕ) (w : Location) → SpellsUrl t w → IsWeb w → text w ≡ Ok t → IsSettledWeb w
 reread_settled t w url web written =
     web_closed t w url web
-    (λ h front hosted ends. either_by _ _ (λ no_bracket escaped. no_corner t w url web written h front hosted ends no_bracket escaped))
+    (λ h hosted front ends. either_by _ _ (λ no_bracket escaped. no_corner t w url web written h front hosted ends no_bracket escaped))
     (t, written, fits_read url.spelled)
 
 -- locations with the same scheme are of HTTP alike
