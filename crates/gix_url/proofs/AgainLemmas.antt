@@ -1,10 +1,9 @@
 -- Settled locations come back, of every kind.
-use Rattle.std.proofs.Common.{◌≡◌, ℕ, Bool, true, false, inl, inr, List, Option, Some, None, Ok, refl, sym, ap, subst, ◌∙◌}
-use Rattle.std.proofs.lemmas.Bool.{both_ways, false≢true, or_parts, or_from, cond-false}
+use Rattle.std.proofs.Common.{◌≡◌, ℕ, true, false, inl, inr, List, Option, Some, None, refl, sym, ap, subst, ◌∙◌}
+use Rattle.std.proofs.lemmas.Bool.{or_parts, or_from, cond-false}
 use Rattle.std.specs.Prelude.{codes, bytes_eq, ◌||◌, IsSome}
 use Rattle.gix_url.specs.Schemes.{is_ssh_scheme, is_web_scheme, is_known_scheme, protocol_of, mode_of, requires_host}
 use Rattle.gix_url.specs.Bytes.{is_scheme_text}
-use Rattle.gix_url.specs.Hosts.{Mode}
 use Rattle.gix_url.specs.Value.{Protocol, Location, fields}
 use Rattle.gix_url.specs.Grammar.{Spells}
 use Rattle.gix_url.proofs.UniqueLemmas.{spells_unique}
@@ -12,7 +11,7 @@ use Rattle.gix_url.specs.Value.Protocol.{file, git, ssh, http, https, ext, helpe
 use Rattle.gix_url.specs.Hosts.Mode.{strict, bare, loose}
 use Rattle.gix_url.specs.Settled.{is_ftp, IsValue, IsSettledUrl, IsSettledWeb, IsSettledSecure, IsSettledGit, IsSettledHelperUrl, IsSettledBy, IsSettled}
 use Rattle.gix_url.specs.SettledParts.{IsWeb, HasUrlPath}
-use Rattle.gix_url.specs.Laws.{keeps_bytes, ComesBack, TextDecides}
+use Rattle.gix_url.specs.Laws.{ComesBack, TextDecides}
 use Rattle.gix_url.specs.WrittenPieces.{as_read}
 use Rattle.gix_url.proofs.SettledLemmas.{one_text, written_web, written_git, written_secure, written_other}
 use Rattle.gix_url.proofs.WrittenUrlLemmas.{IsUrlProtocol, authority_with_host, authority_without_host, readable_spelled, url_readable, url_again}

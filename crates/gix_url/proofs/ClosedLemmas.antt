@@ -1,27 +1,25 @@
 -- What is read is settled but for corners, and of these kinds what comes back is settled.
-use Rattle.std.proofs.Common.{◌≡◌, ℕ, Bool, true, false, ◌⊎◌, inl, inr, List, [], ◌∷◌, ◌++◌, Option, Some, None, Ok, refl, sym, ap, subst, ◌∙◌, ◌==◌, ◌≤◌, arith, length, length-append, take, codes, bytes_eq, if◌then◌else◌}
+use Rattle.std.proofs.Common.{◌≡◌, ℕ, Bool, true, false, ◌⊎◌, inl, inr, List, [], ◌∷◌, ◌++◌, Option, Some, None, Ok, refl, sym, ap, subst, ◌∙◌, ◌≤◌, arith, length, length-append, take, codes, bytes_eq}
 use Rattle.std.specs.Prelude.{is_some, IsSome}
-use Rattle.std.specs.List.{list_any}
-use Rattle.std.proofs.lemmas.Bool.{cases_Bool, both_ways, false≢true, leb-true, or_left, eqb-true, eq-eqb}
+use Rattle.std.proofs.lemmas.Bool.{cases_Bool, both_ways, false≢true, leb-true, or_left}
 use Rattle.std.proofs.lemmas.List.{take_at}
 use Rattle.std.proofs.lemmas.Option.{none-some, same_Some}
 use Rattle.std.proofs.lemmas.Slice.Eq.{bytes_eq-Decides}
-use Rattle.gix_url.specs.Value.{Protocol, Location, fields}
+use Rattle.gix_url.specs.Value.{Protocol, Location}
 use Rattle.gix_url.specs.Value.Protocol.{file, git, ssh, http, https, ext, helper, helper_url}
-use Rattle.gix_url.specs.Bytes.{colon, left_bracket, FreeOf, begins_with}
+use Rattle.gix_url.specs.Bytes.{colon, left_bracket, begins_with}
 use Rattle.gix_url.specs.Escapes.{has_percent}
-use Rattle.gix_url.specs.Schemes.{is_ssh_scheme, protocol_of, protocol_text}
+use Rattle.gix_url.specs.Schemes.{protocol_of, protocol_text}
 use Rattle.gix_url.specs.Walks.{is_walk_short, text_walk_past, text_walk_for}
 use Rattle.gix_url.specs.Grammar.{SpellsUrl, SpellsFile, Spells}
 use Rattle.gix_url.specs.Text.{has_colon, canonical_text, text}
-use Rattle.gix_url.specs.Settled.{IsValue, IsSettledFile, IsSettledWeb, HasFittingText, IsSettledBy, IsSettled}
+use Rattle.gix_url.specs.Settled.{IsSettledFile, IsSettledWeb, HasFittingText, IsSettledBy, IsSettled}
 use Rattle.gix_url.specs.SettledParts.{IsWeb}
-use Rattle.gix_url.specs.Laws.{keeps_bytes, KeepsBytes, ComesBack, is_closed, IsCorner, Closed, Exact}
-use Rattle.gix_url.proofs.CutLemmas.{tails, last_unique}
+use Rattle.gix_url.specs.Laws.{keeps_bytes, ComesBack, is_closed, IsCorner, Closed, Exact}
 use Rattle.gix_url.proofs.KeptLemmas.{kept_closed, kept_exact}
 use Rattle.gix_url.proofs.FileLemmas.{StaysOpen, file_closed, file_exact}
 use Rattle.gix_url.proofs.WebClosedLemmas.{StaysBare, IsApart, web_read, web_closed}
-use Rattle.gix_url.proofs.SchemeLemmas.{protocol_cases, helper_cases, means_scheme}
+use Rattle.gix_url.proofs.SchemeLemmas.{protocol_cases, means_scheme}
 use Rattle.gix_url.proofs.SettledLemmas.{written_web, fitting_text}
 use Rattle.gix_url.proofs.WebExactLemmas.{spelled_by_url, web_exact}
 use Rattle.gix_url.proofs.AgainLemmas.{settled_again}

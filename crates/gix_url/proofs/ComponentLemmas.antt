@@ -360,7 +360,7 @@ pairs_written f v w ((b ∷ bs) ∷ fields) pairs h small (name, value, others, 
     let bytes = bytes_split field name value (All-head IsBytes field fields small) split in
     let more = pairs_written f v w fields others h (All-tail IsBytes field fields small) rest in
     let same : (term_of v name, term_of v value) ∷ others ≡ (term_of w (f name), term_of w (f value)) ∷ others =
-        (λ i. (sym (h.term name bytes.0) i, sym (h.term value bytes.1) i) ∷ others) in
+    (λ i. (sym (h.term name bytes.0) i, sym (h.term value bytes.1) i) ∷ others) in
     (adds_pair w (f field) (map f fields) pairs (some_written f b bs h.way)).1 (f name, f value, others, split_written f field name value h.way split, more, e ∙ same)
 
 -- and the writings for what the fields stand for

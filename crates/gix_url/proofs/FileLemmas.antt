@@ -1,15 +1,12 @@
 -- File URLs: what is read as one is settled but for one corner, a settled one comes back, and nothing else does.
-use Rattle.std.proofs.Common.{◌≡◌, ℕ, ◌<◌, Bool, true, false, not, ◌&&◌, ◌⊎◌, inl, inr, List, [], ◌∷◌, ◌++◌, length, Option, Some, None, Result, Ok, Err, refl, sym, ap, subst, ◌∙◌, arith, codes, bytes_eq, lit<, if◌then◌else◌}
+use Rattle.std.proofs.Common.{◌≡◌, ℕ, Bool, true, false, not, ◌&&◌, ◌⊎◌, inl, inr, List, [], ◌∷◌, ◌++◌, length, Option, Some, None, Ok, Err, refl, sym, ap, subst, ◌∙◌, arith, codes, lit<, if◌then◌else◌}
 use Rattle.std.specs.Prelude.{IfSome, IsUtf8, is_some, is_none}
 use Rattle.std.specs.Result.{is_ok}
-use lib.Utf8.{encode}
 use Rattle.std.proofs.lemmas.Bool.{cond-true, cond-false, and_left, and_right, and_parts, not-true, false≢true}
 use Rattle.std.proofs.lemmas.List.{append_cancel_left}
-use Rattle.std.proofs.lemmas.Slice.Eq.{bytes_eq-Decides}
 use Rattle.std.proofs.lemmas.Option.{none-some, same_Some}
 use Rattle.std.proofs.lemmas.Str.{IsUtf8-nil}
 use Rattle.percent_encoding.specs.Percent.{percent_decode}
-use Rattle.gix_url.specs.declared.error.WriteFault.{WriteFault}
 use Rattle.gix_url.specs.declared.error.WriteFault.TheVariants.{UserWithoutHost}
 use Rattle.gix_url.specs.Value.{Location, fields, path_alone}
 use Rattle.gix_url.specs.Value.Protocol.{file}
@@ -24,9 +21,8 @@ use Rattle.gix_url.specs.Text.Form.{canonical_form}
 use Rattle.gix_url.specs.Settled.{IsValue, HasMatch, IsFileHost, IsSettledFile, IsSettled}
 use Rattle.gix_url.specs.Laws.{ComesBack}
 use Rattle.gix_url.specs.Flaws.{UrlShape}
-use Rattle.gix_url.proofs.CutLemmas.{different_bytes, begins_cut, held_free}
+use Rattle.gix_url.proofs.CutLemmas.{different_bytes, begins_cut}
 use Rattle.gix_url.proofs.EscapeLemmas.{utf8-append, utf8_behind, utf8_seam}
-use Rattle.gix_url.proofs.FormLemmas.{mark_no_helper}
 use Rattle.gix_url.proofs.SettledLemmas.{one_text}
 use Rattle.gix_url.proofs.UrlLemmas.{some_kept}
 use Rattle.gix_url.proofs.ShapeLemmas.{file_mark_utf8, url_shaped, spelled_as_file}

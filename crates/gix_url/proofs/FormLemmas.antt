@@ -1,11 +1,11 @@
 -- The forms of a text exclude one another.
-use Rattle.std.proofs.Common.{◌≡◌, ℕ, inl, inr, false, List, [], ◌∷◌, ◌++◌, refl, sym, ap, subst, ◌∙◌, append_assoc, codes, bytes_eq}
-use Rattle.std.proofs.lemmas.Bool.{both_ways, cases_Bool}
+use Rattle.std.proofs.Common.{◌≡◌, ℕ, inl, inr, false, List, [], ◌∷◌, ◌++◌, refl, sym, ap, subst, ◌∙◌, append_assoc, codes}
+use Rattle.std.proofs.lemmas.Bool.{cases_Bool}
 use Rattle.gix_url.specs.Value.{Location}
 use Rattle.gix_url.specs.Bytes.{slash, colon, at_sign, left_bracket, right_bracket, FreeOf, begins_with}
 use Rattle.gix_url.specs.Cuts.{url_mark}
 use Rattle.gix_url.specs.Addresses.{IsIpv6Text}
-use Rattle.gix_url.specs.Grammar.{HasHelperForm, IsNeither, ScpFront, ScpShape, AddressedShape, IsScpShaped, SpellsHelper, SpellsUrl, SpellsFile, SpellsScp, SpellsLocal, Spells}
+use Rattle.gix_url.specs.Grammar.{HasHelperForm, IsNeither, ScpFront, ScpShape, AddressedShape, IsScpShaped, SpellsUrl, SpellsFile, SpellsScp, SpellsLocal, Spells}
 use Rattle.gix_url.specs.Laws.{IsAddressed, SpellsLocalBefore, SpellsBefore}
 use Rattle.gix_url.proofs.CutLemmas.{tails, different_bytes, cut_unique, helper_name_free, scheme_text_free, free-append, free_parts, free_head_tail, free_or_cut, begins_cut, not_free}
 use Rattle.gix_url.proofs.AddressLemmas.{is_address_byte, address_free, address_two_colons}

@@ -25,8 +25,8 @@ use Rattle.gix_url.specs.Flaws.{UrlShape, OtherShape, MissesPath}
 use Rattle.gix_url.specs.Flaws.MissesPath.{in_file}
 use Rattle.gix_url.specs.Readings.{NoneBut}
 use Rattle.gix_url.specs.Shapes.{FrontCut, HasFrontCut, LacksBrackets, ScpCut, HasScpCut, AddressedCut, AddressedFront, HasAddressedCut, PlainScp, LocalShape}
-use Rattle.gix_url.proofs.CutLemmas.{heads, tails, different_bytes, begins_cut, not_free, free-append, free-cons, free_parts, free_or_cut, cut_unique, last_cut_unique, mark_cut_unique, held_free, helper_name_free, scheme_text_free}
-use Rattle.gix_url.proofs.AddressLemmas.{address_two_colons, address_free}
+use Rattle.gix_url.proofs.CutLemmas.{heads, tails, different_bytes, begins_cut, not_free, free-cons, free_parts, cut_unique, last_cut_unique, mark_cut_unique, held_free, helper_name_free, scheme_text_free}
+use Rattle.gix_url.proofs.AddressLemmas.{address_free}
 use Rattle.gix_url.proofs.EscapeLemmas.{utf8_behind, utf8_parts}
 use Rattle.gix_url.proofs.FormLemmas.{address_cut, addressed_joined, addressed_front_free, address_front_free, mark_no_helper, url_scheme_free, url_not_neither, file_not_neither, scp_neither, scp_shaped}
 

@@ -1,25 +1,23 @@
 -- Locations of HTTP: what is read is settled, but for two corners.
-use Rattle.std.proofs.Common.{◌≡◌, ◌≢◌, ℕ, ◌<◌, Bool, true, false, ◌==◌, ◌||◌, ◌⊎◌, inl, inr, List, [], ◌∷◌, ◌++◌, length, Option, Some, None, Result, Ok, IsSome, IsUtf8, refl, sym, ap, subst, ◌∙◌, arith, append_assoc, codes, bytes_eq, if◌then◌else◌, lit<}
+use Rattle.std.proofs.Common.{◌≡◌, ◌≢◌, ℕ, ◌<◌, Bool, true, false, ◌==◌, ◌⊎◌, inl, inr, List, [], ◌∷◌, ◌++◌, length, Option, Some, None, Ok, IsSome, IsUtf8, refl, sym, ap, subst, ◌∙◌, arith, append_assoc, codes, lit<}
 use Rattle.std.specs.Prelude.{IfSome}
 use Rattle.std.specs.List.{list_all}
 use Rattle.std.specs.Char.{to_ascii_lowercase, is_digit}
 use Rattle.std.proofs.lemmas.Option.{same_Some}
-use Rattle.std.proofs.lemmas.Bool.{or_right, cond-true, cond-false, and_parts, and_from, or_left, both_ways, false≢true}
+use Rattle.std.proofs.lemmas.Bool.{or_right, cond-true, cond-false, or_left, both_ways, false≢true}
 use Rattle.std.proofs.lemmas.Bool.Decides.{nat_tests}
 use Rattle.std.proofs.lemmas.List.{append_cancel_left, length-map, append-nil}
-use Rattle.std.proofs.lemmas.Slice.Eq.{bytes_eq-Decides}
-use Rattle.percent_encoding.specs.Percent.{percent_encode, percent_decode}
+use Rattle.percent_encoding.specs.Percent.{percent_decode}
 use Rattle.percent_encoding.proofs.PercentLemmas.{percent_decode-nil}
-use Rattle.gix_url.specs.declared.escape.TheConstants.{PATH}
 use Rattle.gix_url.specs.Value.{Protocol, Location, fields}
 use Rattle.gix_url.specs.Value.Protocol.{file, git, ssh, http, https, ext, helper, helper_url}
 use Rattle.gix_url.specs.Bytes.{percent_sign, slash, colon, at_sign, left_bracket, FreeOf, begins_by, begins_with, lowercase, LacksWhiteSpace}
 use Rattle.gix_url.specs.Cuts.{is_path_start, StartsPath}
-use Rattle.gix_url.specs.Escapes.{is_sound, has_percent, is_path_escaped}
+use Rattle.gix_url.specs.Escapes.{is_sound, has_percent}
 use Rattle.gix_url.specs.Hosts.{Mode, is_dns_byte, is_http_host_byte, normal_host, HostText, Names}
 use Rattle.gix_url.specs.Hosts.Mode.{strict, bare}
 use Rattle.gix_url.specs.Hosts.Names.{nothing, bracketed, bracketed_colon, bracketed_port, unbracketed, plain, plain_colon, plain_port, colons}
-use Rattle.gix_url.specs.Schemes.{is_ssh_scheme, is_web_scheme, protocol_of, protocol_text, mode_of}
+use Rattle.gix_url.specs.Schemes.{is_web_scheme, protocol_of, protocol_text, mode_of}
 use Rattle.gix_url.specs.Authority.{unless_empty, user_beside, Credentials, Authority}
 use Rattle.gix_url.specs.Authority.Credentials.{user_alone, with_password}
 use Rattle.gix_url.specs.Authority.Authority.{host_alone, with_user}
@@ -29,8 +27,7 @@ use Rattle.gix_url.specs.Settled.{first_byte, IsFairSpelling, HasFittingText, Is
 use Rattle.gix_url.specs.Settled.IsWebHost.{literal, literal_colon, named, named_colon}
 use Rattle.gix_url.specs.SettledParts.{IsWeb, IsHosted}
 use Rattle.gix_url.proofs.CutLemmas.{free-append, free_of_all, free_head_tail, free_parts}
-use Rattle.gix_url.proofs.EscapeLemmas.{sound_tail, sound_parts, sound_around, sound_free, decode_byte, decode_kept, encode_byte_kept, encode_sound, utf8_byte, utf8_seam, utf8_encode, white_space_parts}
-use Rattle.gix_url.proofs.EscapeSets.{path_holds, white_space_path}
+use Rattle.gix_url.proofs.EscapeLemmas.{sound_tail, sound_parts, sound_around, sound_free, decode_byte, utf8_byte, utf8_seam, white_space_parts}
 use Rattle.gix_url.proofs.NormalLemmas.{all_lowercase, dns_lowercase, normal_again, literal_again}
 use Rattle.gix_url.proofs.SchemeLemmas.{protocol_cases}
 use Rattle.gix_url.proofs.WrittenPathLemmas.{start_ascii, matched, written_fair}

@@ -1,8 +1,8 @@
 -- Locations of HTTP: nothing outside the settled class comes back.
-use Rattle.std.proofs.Common.{◌≡◌, ℕ, ◌<◌, Bool, true, false, not, ◌==◌, ◌||◌, ◌⊎◌, inl, inr, List, [], ◌∷◌, ◌++◌, length, Option, Some, None, Ok, IsSome, refl, sym, ap, subst, ◌∙◌, arith, append_assoc, bytes_eq, codes, if◌then◌else◌}
+use Rattle.std.proofs.Common.{◌≡◌, ℕ, ◌<◌, Bool, true, false, not, ◌==◌, ◌||◌, ◌⊎◌, inl, inr, List, [], ◌∷◌, ◌++◌, length, Option, Some, None, Ok, IsSome, refl, sym, ap, subst, ◌∙◌, arith, append_assoc, codes}
 use Rattle.std.specs.Prelude.{IfSome, IsUtf8, is_some}
 use Rattle.std.specs.List.{list_all}
-use Rattle.std.proofs.lemmas.Bool.{cond-true, cond-false, and_from, or_right, both_ways, cases_Bool}
+use Rattle.std.proofs.lemmas.Bool.{cond-true, and_from, or_right, both_ways}
 use Rattle.std.proofs.lemmas.Bool.Decides.{nat_tests}
 use Rattle.std.proofs.lemmas.List.{append-nil}
 use Rattle.std.proofs.lemmas.Option.{IfSome_then, same_Some}
@@ -11,7 +11,7 @@ use Rattle.gix_url.specs.Value.Protocol.{file, ssh, ext, helper}
 use Rattle.gix_url.specs.Bytes.{at_sign, colon, left_bracket, right_bracket, Lacks, FreeOf, begins_with}
 use Rattle.gix_url.specs.Cuts.{is_path_start, StartsPath}
 use Rattle.gix_url.specs.Escapes.{has_percent, escaped_percents}
-use Rattle.gix_url.specs.Hosts.{is_dns_byte, is_http_host_byte, normal_host, HostText, Names}
+use Rattle.gix_url.specs.Hosts.{is_http_host_byte, Names}
 use Rattle.gix_url.specs.Hosts.Mode.{strict}
 use Rattle.gix_url.specs.Hosts.Names.{nothing, bracketed, bracketed_colon, bracketed_port, unbracketed, plain, plain_colon, plain_port, colons}
 use Rattle.gix_url.specs.Schemes.{is_web_scheme, protocol_of, protocol_text, mode_of}

@@ -11,17 +11,17 @@ use Rattle.gix_url.specs.Value.{Location, fields, path_alone}
 use Rattle.gix_url.specs.Value.Protocol.{ssh}
 use Rattle.gix_url.specs.Bytes.{percent_sign, slash, colon, at_sign, left_bracket, backslash, right_bracket, FreeOf, begins_with, Holds, LacksWhiteSpace, is_helper_name}
 use Rattle.gix_url.specs.Escapes.{escaped_percents}
-use Rattle.gix_url.specs.Addresses.{IsIpv6Text, Literal}
-use Rattle.gix_url.specs.Hosts.{Bracketed, Names, normal_host}
+use Rattle.gix_url.specs.Addresses.{IsIpv6Text}
+use Rattle.gix_url.specs.Hosts.{Names, normal_host}
 use Rattle.gix_url.specs.Hosts.Mode.{bare}
-use Rattle.gix_url.specs.Grammar.{HasHelperForm, IsNeither, ScpFront, ScpShape, AddressedShape, ScpUser, ScpHost, IsBracketed, Unbrackets, SpellsScp, SpellsScpBefore, Spells, from_home, scp_location}
+use Rattle.gix_url.specs.Grammar.{HasHelperForm, IsNeither, ScpFront, ScpShape, AddressedShape, ScpUser, ScpHost, IsBracketed, Unbrackets, SpellsScp, SpellsScpBefore, Spells, scp_location}
 use Rattle.gix_url.specs.Text.{text, is_relative, raw_user, raw_host, has_colon, wants_brackets}
 use Rattle.gix_url.specs.Settled.{IsValue, IsScpName, IsScpUser, IsNormalAddress, IsSettledScp, IsSettled, LooksLikeHelper, begins_at_home, begins_with_slashes}
 use Rattle.gix_url.specs.SettledParts.{IsScpPath}
 use Rattle.gix_url.specs.Laws.{ComesBack}
 use Rattle.gix_url.proofs.CutLemmas.{heads, tails, different_bytes, not_free, free-append, free-cons, free_head_tail, helper_name_free}
 use Rattle.gix_url.proofs.AddressLemmas.{is_address_byte, address_bytes, address_free}
-use Rattle.gix_url.proofs.EscapeLemmas.{decode_kept, decode_escaped_percents, lacks_escaped_percents, escaped_percents_kept, utf8-append, utf8_byte, utf8_joined, white_space-append, white_space_ascii, white_space_byte}
+use Rattle.gix_url.proofs.EscapeLemmas.{decode_escaped_percents, lacks_escaped_percents, escaped_percents_kept, utf8-append, utf8_byte, utf8_joined, white_space-append, white_space_ascii, white_space_byte}
 use Rattle.gix_url.proofs.FormLemmas.{begins_before_at, address_cut, addressed_joined, addressed_front_free}
 use Rattle.gix_url.proofs.ShapeLemmas.{helper_front}
 use Rattle.gix_url.proofs.UniqueLemmas.{address_utf8, bracketed_address_named}
