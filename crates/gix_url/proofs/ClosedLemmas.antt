@@ -107,7 +107,7 @@ web_settled v (inl e) h = subst (λ p. IsSettledBy p v) (sym e) h
 web_settled v (inr e) h = subst (λ p. IsSettledBy p v) (sym e) h
 
 -- a location of HTTP that is read is settled, or stands in a corner
-web_closed_by : (b : List ℕ) (v : Location) (host : Option (List ℕ)) → v.host ≡ host → SpellsUrl b v → IsWeb v → IsSettledWeb v ⊎ IsCorner v
+web_closed_by : (b : List ℕ) (v : Location) (host : Option (List ℕ)) → v.host ≡ host → SpellsUrl b v → IsWeb v → IsSettled v ⊎ IsCorner v
 web_closed_by b v None there h web = absurd (false≢true (ap is_some (sym there) ∙ (web_written b v h web).0))
 web_closed_by b v (Some host) there h web =
     let written = (web_written b v h web).1 in
@@ -116,7 +116,7 @@ web_closed_by b v (Some host) there h web =
       | inl apart ↦
           elim (fitting_by v _ web written refl) [
             | inr long ↦ inr (IsCorner.web_length web long)
-            | inl fits ↦ inl (web_closed b v h web (λ other is. subst IsApart (same_Some host other (sym there ∙ is)) apart) fits)
+            | inl fits ↦ inl (web_settled v web (web_closed b v h web (λ other is. subst IsApart (same_Some host other (sym there ∙ is)) apart) fits))
           ]
     ]
 
@@ -147,11 +147,7 @@ files_closed b v false e f s = file_closed_by b v v.host refl e (spelled_by_file
 
 -- a location of HTTP is
 webs_closed : (b : List ℕ) (v : Location) → IsWeb v → Spells b v → IsSettled v ⊎ IsCorner v
-webs_closed b v web s =
-    elim (web_closed_by b v v.host refl (spelled_by_url b v web s) web) [
-      | inl h ↦ inl (web_settled v web h)
-      | inr corner ↦ inr corner
-    ]
+webs_closed b v web s = web_closed_by b v v.host refl (spelled_by_url b v web s) web
 
 -- by protocol
 closed_by : (p : Protocol) (b : List ℕ) (v : Location) → v.scheme ≡ p → is_closed p ≡ true → Spells b v → IsSettled v ⊎ IsCorner v

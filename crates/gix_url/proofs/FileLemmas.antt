@@ -23,7 +23,7 @@ use Rattle.gix_url.specs.Laws.{ComesBack}
 use Rattle.gix_url.specs.Flaws.{UrlShape}
 use Rattle.gix_url.proofs.CutLemmas.{different_bytes, begins_cut}
 use Rattle.gix_url.proofs.EscapeLemmas.{utf8-append, utf8_behind, utf8_seam}
-use Rattle.gix_url.proofs.SettledLemmas.{one_text}
+use Rattle.gix_url.proofs.SettledLemmas.{one_text, value_of}
 use Rattle.gix_url.proofs.UrlLemmas.{some_kept}
 use Rattle.gix_url.proofs.ShapeLemmas.{file_mark_utf8, url_shaped, spelled_as_file}
 use Rattle.gix_url.proofs.WrittenPathLemmas.{matched, unmatched}
@@ -36,16 +36,8 @@ at_file host path spelling = record (path_alone file false path) { host = host; 
 
 -- a settled file URL is such a value
 file_value : (v : Location) → v.scheme ≡ file → IsSettledFile v → v ≡ at_file v.host v.path v.spelling
-file_value v scheme h = λ i. record {
-  scheme = scheme i;
-  user = h.alone.no_user i;
-  password = h.alone.no_password i;
-  host = v.host;
-  flag = h.unflagged i;
-  port = h.alone.no_port i;
-  path = v.path;
-  spelling = v.spelling;
-}
+file_value v scheme h =
+    value_of v file false scheme h.unflagged h.alone.no_password h.alone.no_port ∙ ap (λ user. record (at_file v.host v.path v.spelling) { user = user }) h.alone.no_user
 
 -- such a value is settled where its host and its path are, and no spelling matches
 settled_at : (host : Option (List ℕ)) (path : List ℕ) (spelling : Option (List ℕ)) → ¬ HasMatch (at_file host path spelling) → IfSome host IsFileHost → IsUtf8 path → begins_with slash path ≡ true → IsSettledFile (at_file host path spelling)

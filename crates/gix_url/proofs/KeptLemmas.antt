@@ -10,6 +10,7 @@ use Rattle.gix_url.specs.Grammar.{IsNeither, IsScpShaped, helper_protocol, Spell
 use Rattle.gix_url.specs.Text.{text}
 use Rattle.gix_url.specs.Settled.{HasHostAlone, IsSettledLocal, IsSettledHelper, IsSettledBy, IsSettled}
 use Rattle.gix_url.specs.Laws.{keeps_bytes, KeepsBytes, ComesBack}
+use Rattle.gix_url.proofs.SettledLemmas.{value_of}
 use Rattle.gix_url.proofs.SchemeLemmas.{protocol_cases, means_cases}
 
 -- ---- values
@@ -20,16 +21,10 @@ kept protocol path spelling = record (path_alone protocol true path) { spelling 
 
 -- a location without the other parts is such a value
 kept_value : (v : Location) (protocol : Protocol) → v.scheme ≡ protocol → v.flag ≡ true → HasHostAlone v → v.host ≡ None → v ≡ kept protocol v.path v.spelling
-kept_value v protocol scheme flagged alone no_host = λ i. record {
-  scheme = scheme i;
-  user = alone.no_user i;
-  password = alone.no_password i;
-  host = no_host i;
-  flag = flagged i;
-  port = alone.no_port i;
-  path = v.path;
-  spelling = v.spelling;
-}
+kept_value v protocol scheme flagged alone no_host =
+    value_of v protocol true scheme flagged alone.no_password alone.no_port
+    ∙ ap (λ user. record (kept protocol v.path v.spelling) { user = user; host = v.host }) alone.no_user
+    ∙ ap (λ host. record (kept protocol v.path v.spelling) { host = host }) no_host
 
 -- a value without parts of an authority
 path_alone_alone : (protocol : Protocol) (path : List ℕ) → HasHostAlone (path_alone protocol true path)

@@ -5,7 +5,7 @@ use Rattle.std.specs.Option.{is_some, is_none}
 use Rattle.std.proofs.lemmas.List.{append_cancel_right}
 use Rattle.std.proofs.lemmas.List.Folds.{list_all-append}
 use Rattle.std.proofs.lemmas.Bool.{cond-false, and_right, both_ways, false≢true, true≢false, not-false, and_parts}
-use Rattle.gix_url.specs.Value.{Location}
+use Rattle.gix_url.specs.Value.{Protocol, Location, path_alone}
 use Rattle.gix_url.specs.Value.Protocol.{ssh, git, helper_url}
 use Rattle.gix_url.specs.Bytes.{colon, left_bracket, right_bracket, percent_sign, slash, tilde, begins_with, is_scheme_text, FreeOf, lowercase}
 use Rattle.gix_url.specs.Escapes.{has_percent}
@@ -50,6 +50,21 @@ second_needed a b fails first second either = (
 pub none_tested : {A : Type 0} (o : Option A) (b : Bool) → is_some o ≡ not b → IsTrue b ↔ (o ≡ None)
 none_tested None b e = (λ yes. refl, λ none. not-false b (sym e))
 none_tested (Some x) b e = (λ yes. absurd (true≢false (e ∙ ap not yes)), λ none. cc)
+
+-- ---- values
+
+-- a location without password and port is made of its other parts
+pub value_of : (v : Location) (protocol : Protocol) (flag : Bool) → v.scheme ≡ protocol → v.flag ≡ flag → v.password ≡ None → v.port ≡ None → v ≡ record (path_alone protocol flag v.path) { user = v.user; host = v.host; spelling = v.spelling }
+value_of v protocol flag scheme flagged no_password no_port = λ i. record {
+  scheme = scheme i;
+  user = v.user;
+  password = no_password i;
+  host = v.host;
+  flag = flagged i;
+  port = no_port i;
+  path = v.path;
+  spelling = v.spelling;
+}
 
 -- ---- local paths
 

@@ -149,30 +149,19 @@ addressed_colon b none (u, a, p, h) =
     let (x, y, free, two) = address_cut a h.addressed in
     not_free colon (u ++ at_sign ∷ (left_bracket ∷ x)) (y ++ right_bracket ∷ (colon ∷ p)) (subst (λ t. FreeOf colon t) (h.joined ∙ addressed_joined u a p x y two) none)
 
--- the user ends at the last `@` before it
-pub addressed_user : (b front rest user last u a p : List ℕ) → AddressedCut b u a p → FreeOf colon front → b ≡ front ++ colon ∷ rest → FreeOf at_sign last → front ≡ user ++ at_sign ∷ last → u ≡ user
+-- the user ends at the last `@` before it, and this follows it
+addressed_user : (b front rest user last u a p : List ℕ) → AddressedCut b u a p → FreeOf colon front → b ≡ front ++ colon ∷ rest → FreeOf at_sign last → front ≡ user ++ at_sign ∷ last
+    → (u ≡ user) × (drop (length user) b ≡ at_sign ∷ (left_bracket ∷ (a ++ right_bracket ∷ (colon ∷ p))))
 addressed_user b front rest user last u a p h free e none f =
     let (x, no_at, is) = addressed_front b front rest u a p h free e in
-    (last_cut_unique at_sign u user (left_bracket ∷ x) last (free-cons at_sign left_bracket x refl no_at) none (sym is ∙ f)).0
-
--- and this follows it
-pub addressed_tail : (b user u a p : List ℕ) → AddressedCut b u a p → u ≡ user → drop (length user) b ≡ at_sign ∷ (left_bracket ∷ (a ++ right_bracket ∷ (colon ∷ p)))
-addressed_tail b user u a p h e =
-    ap (drop (length user)) h.joined ∙ drop_at u (at_sign ∷ (left_bracket ∷ (a ++ right_bracket ∷ (colon ∷ p)))) (length user) (ap length e)
-
--- what stands behind the bracket
-pub addressed_only : (b front rest user last behind : List ℕ) → FreeOf colon front → b ≡ front ++ colon ∷ rest → FreeOf at_sign last → front ≡ user ++ at_sign ∷ last
-    → drop (length user) b ≡ at_sign ∷ (left_bracket ∷ behind) → (u a p : List ℕ) → AddressedCut b u a p → (u ≡ user) × (behind ≡ a ++ right_bracket ∷ (colon ∷ p))
-addressed_only b front rest user last behind free e none f tail u a p h =
-    let same = addressed_user b front rest user last u a p h free e none f in
-    (same, tails (tails (sym tail ∙ addressed_tail b user u a p h same)))
+    let same : u ≡ user = (last_cut_unique at_sign u user (left_bracket ∷ x) last (free-cons at_sign left_bracket x refl no_at) none (sym is ∙ f)).0 in
+    (same, ap (drop (length user)) h.joined ∙ drop_at u (at_sign ∷ (left_bracket ∷ (a ++ right_bracket ∷ (colon ∷ p)))) (length user) (ap length same))
 
 -- no `@` or no bracket where the user ends
 pub addressed_no_bracket : (b front rest user last behind : List ℕ) → FreeOf colon front → b ≡ front ++ colon ∷ rest → FreeOf at_sign last → front ≡ user ++ at_sign ∷ last
     → drop (length user) b ≡ at_sign ∷ behind → begins_with left_bracket behind ≡ false → ¬ HasAddressedCut b
 addressed_no_bracket b front rest user last behind free e none f tail other (u, a, p, h) =
-    let same = addressed_user b front rest user last u a p h free e none f in
-    let is : behind ≡ left_bracket ∷ (a ++ right_bracket ∷ (colon ∷ p)) = tails (sym tail ∙ addressed_tail b user u a p h same) in
+    let is : behind ≡ left_bracket ∷ (a ++ right_bracket ∷ (colon ∷ p)) = tails (sym tail ∙ (addressed_user b front rest user last u a p h free e none f).1) in
     false≢true (sym other ∙ ap (begins_with left_bracket) is)
 
 -- the user and the bracket, as they were cut one behind the other
@@ -184,7 +173,9 @@ addressed_cut_front b front rest user last behind free e none f tail =
     record {
       joined = whole ∙ ap (λ t. user ++ t) (same ∙ tail);
       no_colon = (free_parts colon user (at_sign ∷ last) (subst (λ t. FreeOf colon t) f free)).0;
-      only = addressed_only b front rest user last behind free e none f tail;
+      only = λ u a p h.
+          let same = addressed_user b front rest user last u a p h free e none f in
+          (same.0, tails (tails (sym tail ∙ same.1)));
     }
 
 -- no bracket that closes it

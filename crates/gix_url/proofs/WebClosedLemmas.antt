@@ -128,12 +128,7 @@ web_host_closed piece host port sound (colons name not_strict other begins many 
 abbrev is_web_protocol : Protocol → Bool
 is_web_protocol http = true
 is_web_protocol https = true
-is_web_protocol file = false
-is_web_protocol git = false
-is_web_protocol ssh = false
-is_web_protocol ext = false
-is_web_protocol (helper name) = false
-is_web_protocol (helper_url name) = false
+is_web_protocol _ = false
 
 -- a location with another one is none of HTTP
 pub not_web : {A : Type 0} (protocol : Protocol) (v : Location) → is_web_protocol protocol ≡ false → v.scheme ≡ protocol → IsWeb v → A
@@ -269,11 +264,10 @@ path_closed front (c ∷ rest) (inr start) text sound space meant = some_path fr
 
 -- ---- locations
 
--- the authority behind a scheme and `://` is sound where the whole is
-authority_sound : (scheme authority : List ℕ) → is_sound (scheme ++ (codes "://" ++ authority)) ≡ true → is_sound authority ≡ true
-authority_sound scheme authority sound =
-    let behind = (sound_around scheme (slash ∷ (slash ∷ authority)) colon refl sound).1 in
-    sound_tail slash authority (sound_tail slash (slash ∷ authority) behind)
+-- what stands at the end of a sound text is sound
+pub sound_behind : (xs ys : List ℕ) → is_sound (xs ++ ys) ≡ true → is_sound ys ≡ true
+sound_behind [] ys sound = sound
+sound_behind (x ∷ xs) ys sound = sound_behind xs ys (sound_tail x (xs ++ ys) sound)
 
 -- what is there
 some_there : {A : Type 0} (o : Option A) → IsSome o → (x : A) × (o ≡ Some x)
@@ -281,7 +275,7 @@ some_there None some = absurd (false≢true some)
 some_there (Some x) some = (x, refl)
 
 -- the front of a URL and its path, joined
-parts_joined : {b : List ℕ} {parts : UrlParts} → (h : SpellsParts b parts) → b ≡ (parts.scheme ++ (codes "://" ++ h.authority)) ++ parts.path
+pub parts_joined : {b : List ℕ} {parts : UrlParts} → (h : SpellsParts b parts) → b ≡ (parts.scheme ++ (codes "://" ++ h.authority)) ++ parts.path
 parts_joined {b} {parts} h = h.joined ∙ sym (append_assoc parts.scheme (codes "://" ++ h.authority) parts.path)
 
 -- the path of a URL of HTTP
@@ -299,7 +293,7 @@ parts_closed {b} {parts} protocol web h apart fits =
     let way = url_path_closed web h in
     let named : Authority strict h.authority parts.user parts.password parts.host parts.port = subst (λ m. Authority m h.authority parts.user parts.password parts.host parts.port) mode h.named in
     let credentials = authority_closed strict h.authority parts.user parts.password parts.host parts.port named in
-    let names = authority_names strict h.authority parts.user parts.password parts.host parts.port (authority_sound parts.scheme h.authority way.front_sound) named in
+    let names = authority_names strict h.authority parts.user parts.password parts.host parts.port (sound_behind (codes "://") h.authority (sound_behind parts.scheme (codes "://" ++ h.authority) way.front_sound)) named in
     let host = web_host_closed names.0 some.0 parts.port names.1 (subst (λ o. Names strict names.0 o parts.port) some.1 names.2) (apart some.0 some.1) in record {
       common = record {
         unflagged = refl;

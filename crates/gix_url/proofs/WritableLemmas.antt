@@ -27,7 +27,7 @@ use Rattle.gix_url.proofs.UniqueLemmas.{meant_with}
 use Rattle.gix_url.proofs.KeptLemmas.{helper_unchanged, local_unchanged}
 use Rattle.gix_url.proofs.SettledLemmas.{host_given, not_relative, secure_choice}
 use Rattle.gix_url.proofs.RowNameLemmas.{none_is_some}
-use Rattle.gix_url.proofs.WebClosedLemmas.{retained_by}
+use Rattle.gix_url.proofs.WebClosedLemmas.{retained_by, sound_behind, parts_joined}
 use Rattle.gix_url.proofs.WrittenScpLemmas.{scp_written}
 
 -- ---- a text
@@ -160,11 +160,6 @@ decoding_shorter (b ∷ bs) sound held = ⊎_elim
     omega (arith, ap length (decode_byte b bs other), rest))
     (cases_Bool (b == 37))
 
--- what stands at the end of a sound text is sound
-sound_behind : (xs ys : List ℕ) → is_sound (xs ++ ys) ≡ true → is_sound ys ≡ true
-sound_behind [] ys sound = sound
-sound_behind (x ∷ xs) ys sound = sound_behind xs ys (sound_tail x (xs ++ ys) sound)
-
 -- a path below a home folder isn't longer than it was
 from_home_short : (path : List ℕ) → length (from_home path) ≤ length path
 from_home_short [] = omega arith
@@ -209,9 +204,7 @@ retained_other protocol path sound e =
 -- the path of a URL is sound
 path_sound : (b : List ℕ) (parts : UrlParts) → SpellsParts b parts → is_sound parts.path ≡ true
 path_sound b parts h =
-    let front = parts.scheme ++ (codes "://" ++ h.authority) in
-    let joined = h.joined ∙ sym (append_assoc parts.scheme (codes "://" ++ h.authority) parts.path) in
-    sound_behind front parts.path (subst (λ t. is_sound t ≡ true) joined h.sound)
+    sound_behind (parts.scheme ++ (codes "://" ++ h.authority)) parts.path (subst (λ t. is_sound t ≡ true) (parts_joined h) h.sound)
 
 -- the spelling isn't the path in what the parts of a URL mean
 meant_other : (protocol : Protocol) (b : List ℕ) (parts : UrlParts) (v : Location) → SpellsParts b parts → MeansByProtocol protocol parts v → ¬ (v.spelling ≡ Some v.path)

@@ -25,7 +25,7 @@ use Rattle.gix_url.proofs.EscapeLemmas.{decode_escaped_percents, lacks_escaped_p
 use Rattle.gix_url.proofs.FormLemmas.{begins_before_at, address_cut, addressed_joined, addressed_front_free}
 use Rattle.gix_url.proofs.ShapeLemmas.{helper_front}
 use Rattle.gix_url.proofs.UniqueLemmas.{address_utf8, bracketed_address_named}
-use Rattle.gix_url.proofs.SettledLemmas.{settled_scp}
+use Rattle.gix_url.proofs.SettledLemmas.{settled_scp, value_of}
 use Rattle.gix_url.proofs.WrittenPathLemmas.{homeless_kept}
 
 -- ---- values
@@ -36,16 +36,8 @@ scp_value user host path spelling = record (path_alone ssh true path) { user = u
 
 -- a settled location in the scp form is such a value
 scp_value_of : (v : Location) (h : List ℕ) → v.scheme ≡ ssh → IsSettledScp v → v.host ≡ Some h → v ≡ scp_value v.user h v.path v.spelling
-scp_value_of v h scheme s host = λ i. record {
-  scheme = scheme i;
-  user = v.user;
-  password = s.no_password i;
-  host = host i;
-  flag = s.flagged i;
-  port = s.no_port i;
-  path = v.path;
-  spelling = v.spelling;
-}
+scp_value_of v h scheme s host =
+    value_of v ssh true scheme s.flagged s.no_password s.no_port ∙ ap (λ o. record (path_alone ssh true v.path) { user = v.user; host = o; spelling = v.spelling }) host
 
 -- the location that is read is the value without a spelling
 scp_value_read : (user : Option (List ℕ)) (host path : List ℕ) → begins_at_home path ≡ false → scp_value user host path None ≡ scp_location user host path
