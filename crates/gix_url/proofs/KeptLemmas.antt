@@ -11,7 +11,7 @@ use Rattle.gix_url.specs.Text.{text}
 use Rattle.gix_url.specs.Settled.{HasHostAlone, IsSettledLocal, IsSettledHelper, IsSettledBy, IsSettled}
 use Rattle.gix_url.specs.Laws.{keeps_bytes, KeepsBytes, ComesBack}
 use Rattle.gix_url.proofs.SettledLemmas.{value_of}
-use Rattle.gix_url.proofs.SchemeLemmas.{protocol_cases, means_cases}
+use Rattle.gix_url.proofs.SchemeLemmas.{protocol_cases, helper_cases, means_cases}
 
 -- ---- values
 
@@ -42,23 +42,17 @@ local_written path spelling = refl
 
 -- ---- what is spelled is settled, and written as it was read
 
--- a helper's name is `ext`, or not
-helper_settled_as : (is_ext : Bool) (name path : List ℕ) → bytes_eq name (codes "ext") ≡ is_ext → is_helper_name name ≡ true → IsSettled (path_alone (if is_ext then ext else helper name) true path)
-helper_settled_as true name path same named = record { flagged = refl; alone = path_alone_alone ext path; no_host = refl; named = refl }
-helper_settled_as false name path other named = (record { flagged = refl; alone = path_alone_alone (helper name) path; no_host = refl; named = named }, other)
-
 -- a remote helper without a spelling is settled
 helper_settled : (name path : List ℕ) → is_helper_name name ≡ true → IsSettled (path_alone (helper_protocol name) true path)
-helper_settled name path named = helper_settled_as (bytes_eq name (codes "ext")) name path refl named
-
--- the text, by whether the name is `ext`
-helper_text_as : (is_ext : Bool) (name path : List ℕ) → bytes_eq name (codes "ext") ≡ is_ext → is_helper_name name ≡ true → text (path_alone (if is_ext then ext else helper name) true path) ≡ Ok (name ++ colon ∷ (colon ∷ path))
-helper_text_as true name path same named = ap (λ n. Ok (n ++ colon ∷ (colon ∷ path))) (sym ((bytes_eq-Decides name (codes "ext")).0 same))
-helper_text_as false name path other named = helper_written name path None named
+helper_settled name path named = helper_cases (λ p. IsSettled (path_alone p true path)) name
+    (λ same. record { flagged = refl; alone = path_alone_alone ext path; no_host = refl; named = refl })
+    (λ other. (record { flagged = refl; alone = path_alone_alone (helper name) path; no_host = refl; named = named }, other))
 
 -- and written as its name, `::` and its path
 helper_text : (name path : List ℕ) → is_helper_name name ≡ true → text (path_alone (helper_protocol name) true path) ≡ Ok (name ++ colon ∷ (colon ∷ path))
-helper_text name path named = helper_text_as (bytes_eq name (codes "ext")) name path refl named
+helper_text name path named = helper_cases (λ p. text (path_alone p true path) ≡ Ok (name ++ colon ∷ (colon ∷ path))) name
+    (λ same. ap (λ n. Ok (n ++ colon ∷ (colon ∷ path))) (sym ((bytes_eq-Decides name (codes "ext")).0 same)))
+    (λ other. helper_written name path None named)
 
 -- what a remote helper's form spells is settled, and written as it was read
 pub helper_unchanged : (b : List ℕ) (v : Location) → SpellsHelper b v → IsSettled v × (text v ≡ Ok b)

@@ -17,8 +17,8 @@ protocol_cases P s of_ssh of_file of_git of_http of_https of_ext other =
     (λ e. chosen P (bytes_eq s (codes "http")) _ _ of_http (λ e. chosen P (bytes_eq s (codes "https")) _ _ of_https (λ e. chosen P (bytes_eq s (codes "ext")) _ _ (λ e. of_ext) (λ e. other))))))
 
 -- the same of those of a remote helper
-pub helper_cases : (P : Protocol → Type 0) (name : List ℕ) → P ext → P (helper name) → P (helper_protocol name)
-helper_cases P name of_ext other = chosen P (bytes_eq name (codes "ext")) _ _ (λ e. of_ext) (λ e. other)
+pub helper_cases : (P : Protocol → Type 0) (name : List ℕ) → (bytes_eq name (codes "ext") ≡ true → P ext) → (bytes_eq name (codes "ext") ≡ false → P (helper name)) → P (helper_protocol name)
+helper_cases P name of_ext other = chosen P (bytes_eq name (codes "ext")) _ _ of_ext other
 
 -- a URL keeps its text as the path where its protocol is `ext`, and else its parts decide
 pub means_cases : (protocol : Protocol) (b : List ℕ) (parts : UrlParts) (v : Location) → MeansAs protocol b parts v → ((protocol ≡ ext) × (v ≡ path_alone ext true b)) ⊎ ((¬ (protocol ≡ ext)) × MeansByProtocol protocol parts v)

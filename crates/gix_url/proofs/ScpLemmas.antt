@@ -167,10 +167,6 @@ scp_no_path b front h v k =
     let same = scp_shape_unique b front [] k.front k.path h k.shape in
     absurd (omega (arith, ap length same.1, k.pathed))
 
--- no text, no location
-pub scp_no_text : (b : List ℕ) → ¬ IsUtf8 b → (v : Location) → ¬ SpellsScpBefore b v
-scp_no_text b other v k = other k.text
-
 -- no host, no location
 pub scp_no_host : (b front path : List ℕ) (user : Option (List ℕ)) (host : List ℕ) → ScpShape b front path → ScpUser front user host → FreeOf at_sign host → ((meant : List ℕ) → ¬ ScpHost host meant) → (v : Location) → ¬ SpellsScpBefore b v
 scp_no_host b front path user host h split at none v k =
@@ -224,11 +220,6 @@ addressed_no_path b user address k v (inr h) =
     let same = addressed_unique b user h.user address h.address [] h.path k h.shape in
     absurd (omega (arith, ap length same.2, h.pathed))
 
--- a text that isn't UTF-8 is not spelled
-pub no_scp_text : (b : List ℕ) → ¬ IsUtf8 b → (v : Location) → ¬ SpellsScp b v
-no_scp_text b other v (inl h) = other h.text
-no_scp_text b other v (inr h) = other h.text
-
 -- the user before an address is UTF-8
 pub addressed_user_utf8 : (b user address path : List ℕ) → AddressedShape b user address path → IsUtf8 b → IsUtf8 user
 addressed_user_utf8 b user address path k text =
@@ -236,6 +227,3 @@ addressed_user_utf8 b user address path k text =
 
 -- ---- tests and steps of the code
 
--- one byte more is written
-pub escaped_step : (text : List ℕ) (i : ℕ) → i < length text → escaped_percents (drop i text) ≡ (if slice_index text i == percent_sign then 37 ∷ 50 ∷ 53 ∷ escaped_percents (drop (i + 1) text) else slice_index text i ∷ escaped_percents (drop (i + 1) text))
-escaped_step text i h = rw (add-one, drop-cons text i 0) refl

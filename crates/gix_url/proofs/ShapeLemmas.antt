@@ -72,41 +72,14 @@ same_front b f p g q e k (bracketed i a free none m) (bracketed j c free' none' 
     let rest = cut_unique colon a c p q none none' parts.1 in
     (m ∙ ap (λ x. left_bracket ∷ (x ++ right_bracket ∷ a)) parts.0 ∙ ap (λ x. left_bracket ∷ (j ++ right_bracket ∷ x)) rest.0 ∙ sym n, rest.1)
 
--- the front of a text begins with the text's first byte, if with any
-begins_front : (b front path : List ℕ) → b ≡ front ++ colon ∷ path → begins_with left_bracket b ≡ false → begins_with left_bracket front ≡ false
-begins_front b [] path e h = refl
-begins_front b (c ∷ front) path e h = ap (begins_with left_bracket) (sym e) ∙ h
-
--- the first colon, where no brackets stand at the front
-pub front_plain : (b front path : List ℕ) → LacksBrackets b → FreeOf colon front → b ≡ front ++ colon ∷ path → FrontCut b front path
-front_plain b front path (inl h) free e = record { joined = e; shape = plain free (inl (begins_front b front path e h)) }
-front_plain b front path (inr h) free e = record { joined = e; shape = plain free (inr h) }
-
--- no colon at all
-pub front_none : (b : List ℕ) → FreeOf colon b → ¬ HasFrontCut b
-front_none b free (front, path, h) = not_free colon front path (subst (λ x. FreeOf colon x) h.joined free)
-
--- the first colon behind brackets at the front
-pub front_bracketed : (b inside rest path : List ℕ) → FreeOf right_bracket inside → FreeOf colon rest → b ≡ left_bracket ∷ (inside ++ right_bracket ∷ (rest ++ colon ∷ path)) → FrontCut b (left_bracket ∷ (inside ++ right_bracket ∷ rest)) path
-front_bracketed b inside rest path free none e = record {
-  joined = e ∙ ap (λ x. left_bracket ∷ x) (sym (append_assoc inside (right_bracket ∷ rest) (colon ∷ path)));
-  shape = bracketed inside rest free none refl;
-}
-
--- that front is a part of the text's beginning
-pub front_length : (b inside behind rest path : List ℕ) → b ≡ left_bracket ∷ (inside ++ right_bracket ∷ behind) → behind ≡ rest ++ colon ∷ path → length inside + length rest + 2 ≤ length b
-front_length b inside behind rest path e f =
-    omega (arith, ap length e, ap length f, length-append inside (right_bracket ∷ behind), length-append rest (colon ∷ path))
-
--- the same, cut by its length
+-- the first colon behind brackets at the front, which is cut by its place
 pub front_taken : (b inside behind rest path : List ℕ) → FreeOf right_bracket inside → FreeOf colon rest → b ≡ left_bracket ∷ (inside ++ right_bracket ∷ behind) → behind ≡ rest ++ colon ∷ path → FrontCut b (take (length inside + length rest + 2) b) path
 front_taken b inside behind rest path free none e f =
-    let whole : b ≡ left_bracket ∷ (inside ++ right_bracket ∷ (rest ++ colon ∷ path)) = e ∙ ap (λ x. left_bracket ∷ (inside ++ right_bracket ∷ x)) f in
-    let found = front_bracketed b inside rest path free none whole in
     let front = left_bracket ∷ (inside ++ right_bracket ∷ rest) in
-    let size : length inside + length rest + 2 ≡ length front = omega (arith, length-append inside (right_bracket ∷ rest)) in
-    let same : take (length inside + length rest + 2) b ≡ front = ap (take (length inside + length rest + 2)) found.joined ∙ take_at front (colon ∷ path) (length inside + length rest + 2) (sym size) in
-    subst (λ x. FrontCut b x path) (sym same) found
+    let place = length inside + length rest + 2 in
+    let joined : b ≡ front ++ colon ∷ path = e ∙ ap (λ x. left_bracket ∷ (inside ++ right_bracket ∷ x)) f ∙ ap (λ x. left_bracket ∷ x) (sym (append_assoc inside (right_bracket ∷ rest) (colon ∷ path))) in
+    let same : take place b ≡ front = ap (take place) joined ∙ take_at front (colon ∷ path) place (omega (arith, length-append inside (right_bracket ∷ rest))) in
+    subst (λ x. FrontCut b x path) (sym same) record { joined = joined; shape = bracketed inside rest free none refl }
 
 -- no front where no colon stands behind the brackets
 no_front : (b inside behind front path : List ℕ) → FreeOf right_bracket inside → b ≡ left_bracket ∷ (inside ++ right_bracket ∷ behind) → FreeOf colon behind → b ≡ front ++ colon ∷ path → ScpFront b front → ⊥
@@ -143,12 +116,6 @@ addressed_at b front rest free e none (u, a, p, h) =
     let (x, no_at, is) = addressed_front b front rest u a p h free e in
     not_free at_sign u (left_bracket ∷ x) (subst (λ t. FreeOf at_sign t) is none)
 
--- a colon stands in it
-pub addressed_colon : (b : List ℕ) → FreeOf colon b → ¬ HasAddressedCut b
-addressed_colon b none (u, a, p, h) =
-    let (x, y, free, two) = address_cut a h.addressed in
-    not_free colon (u ++ at_sign ∷ (left_bracket ∷ x)) (y ++ right_bracket ∷ (colon ∷ p)) (subst (λ t. FreeOf colon t) (h.joined ∙ addressed_joined u a p x y two) none)
-
 -- the user ends at the last `@` before it, and this follows it
 addressed_user : (b front rest user last u a p : List ℕ) → AddressedCut b u a p → FreeOf colon front → b ≡ front ++ colon ∷ rest → FreeOf at_sign last → front ≡ user ++ at_sign ∷ last
     → (u ≡ user) × (drop (length user) b ≡ at_sign ∷ (left_bracket ∷ (a ++ right_bracket ∷ (colon ∷ p))))
@@ -178,11 +145,6 @@ addressed_cut_front b front rest user last behind free e none f tail =
           (same.0, tails (tails (sym tail ∙ same.1)));
     }
 
--- no bracket that closes it
-pub addressed_no_end : (b user behind : List ℕ) → AddressedFront b user behind → FreeOf right_bracket behind → ¬ HasAddressedCut b
-addressed_no_end b user behind s none (u, a, p, h) =
-    not_free right_bracket a (colon ∷ p) (subst (λ t. FreeOf right_bracket t) (s.only u a p h).1 none)
-
 -- the address and what follows it
 addressed_pieces : (b user behind address path u a p : List ℕ) → AddressedFront b user behind → FreeOf right_bracket address → behind ≡ address ++ right_bracket ∷ path → AddressedCut b u a p → (a ≡ address) × (colon ∷ p ≡ path)
 addressed_pieces b user behind address path u a p s free e h =
@@ -198,15 +160,6 @@ pub addressed_other : (b user behind address path : List ℕ) → AddressedFront
 addressed_other b user behind address path s free e other (u, a, p, h) =
     let same = addressed_pieces b user behind address path u a p s free e h in
     other (subst (λ t. FreeOf slash t) (s.only u a p h).0 h.no_slash) (subst IsIpv6Text same.0 h.addressed)
-
--- all pieces
-pub addressed_found : (b user behind address rest path : List ℕ) → AddressedFront b user behind → behind ≡ address ++ right_bracket ∷ rest → rest ≡ colon ∷ path → FreeOf slash user → IsIpv6Text address → AddressedCut b user address path
-addressed_found b user behind address rest path s e f free is = record {
-  joined = s.joined ∙ ap (λ t. user ++ at_sign ∷ (left_bracket ∷ t)) (e ∙ ap (λ t. address ++ right_bracket ∷ t) f);
-  no_slash = free;
-  no_colon = s.no_colon;
-  addressed = is;
-}
 
 -- ---- the answers
 

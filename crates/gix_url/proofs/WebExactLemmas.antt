@@ -208,7 +208,7 @@ no_corner t w url web written host front hosted ends no_bracket escaped =
 pub spelled_by_url : (t : List ℕ) (w : Location) → IsWeb w → Spells t w → SpellsUrl t w
 spelled_by_url t w web (Spells.url h) = h
 spelled_by_url t w web (Spells.file_url h) = not_web file w refl (ap (λ l. l.scheme) h.value) web
-spelled_by_url t w web (Spells.remote_helper h) = helper_cases (λ p. w.scheme ≡ p → SpellsUrl t w) h.name (λ e. not_web ext w refl e web) (λ e. not_web (helper h.name) w refl e web) (ap (λ l. l.scheme) h.value)
+spelled_by_url t w web (Spells.remote_helper h) = helper_cases (λ p. w.scheme ≡ p → SpellsUrl t w) h.name (λ same e. not_web ext w refl e web) (λ other e. not_web (helper h.name) w refl e web) (ap (λ l. l.scheme) h.value)
 spelled_by_url t w web (Spells.scp_form (inl h)) = not_web ssh w refl (ap (λ l. l.scheme) h.value) web
 spelled_by_url t w web (Spells.scp_form (inr h)) = not_web ssh w refl (ap (λ l. l.scheme) h.value) web
 spelled_by_url t w web (Spells.local_path h) = not_web file w refl (ap (λ l. l.scheme) h.value) web
