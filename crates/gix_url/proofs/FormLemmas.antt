@@ -64,11 +64,11 @@ address_back_free c t x y other h e = (free_head_tail c colon y (address_pieces_
 pub url_scheme_free : {b : List ℕ} {v : Location} (h : SpellsUrl b v) → FreeOf colon h.parts.scheme
 url_scheme_free h = scheme_text_free h.parts.scheme colon h.spelled.scheme_text refl
 
--- nothing with a mark behind its scheme has the scp form or is a local path
+-- a URL hasn't the scp form and is no local path
 pub url_not_neither : {b : List ℕ} {v : Location} → SpellsUrl b v → IsNeither b → ⊥
 url_not_neither h k = k.no_mark (h.parts.scheme, h.spelled.authority ++ h.parts.path, h.spelled.joined)
 
--- so has no file URL
+-- the same of a file URL
 pub file_not_neither : {b : List ℕ} {v : Location} → SpellsFile b v → IsNeither b → ⊥
 file_not_neither h k = k.no_mark (codes "file", h.host ++ h.path, h.joined)
 

@@ -1,5 +1,5 @@
 -- The scp form: its colons, the piece that its host is read from, and what is refused.
-use Rattle.std.proofs.Common.{◌≡◌, ℕ, ◌<◌, false, ◌==◌, ◌⊎◌, inl, inr, List, [], ◌∷◌, ◌++◌, length, Option, Some, None, refl, sym, ap, subst, ◌∙◌, arith, append_assoc, add-one, drop, eq-eqb, IsUtf8, if◌then◌else◌, slice_index, drop-cons, ◌+◌, IfSome, option_map, Bor}
+use Rattle.std.proofs.Common.{◌≡◌, ℕ, false, ◌==◌, ◌⊎◌, inl, inr, List, [], ◌∷◌, ◌++◌, length, Option, Some, None, refl, sym, ap, subst, ◌∙◌, arith, append_assoc, eq-eqb, IsUtf8, IfSome, option_map, Bor}
 use Rattle.std.proofs.lemmas.Bool.{both_ways, cases_Bool}
 use Rattle.std.proofs.lemmas.Option.{same_Some}
 use Rattle.std.specs.Char.{is_ascii_digit}
@@ -226,4 +226,3 @@ addressed_user_utf8 b user address path k text =
     (utf8_parts user (left_bracket ∷ (address ++ right_bracket ∷ (colon ∷ path))) at_sign (subst IsUtf8 k.joined text) (omega arith)).0
 
 -- ---- tests and steps of the code
-

@@ -1,5 +1,5 @@
 -- The forms of a text: where its pieces are cut, that they are cut in one way, and that one form excludes the others.
-use Rattle.std.proofs.Common.{◌≡◌, ℕ, ◌+◌, ◌<◌, ◌≤◌, true, false, ◌⊎◌, inl, inr, List, [], ◌∷◌, ◌++◌, length, take, drop, refl, sym, ap, subst, ◌∙◌, arith, append_assoc, length-append, ◌==◌, eq-eqb, IsUtf8, All, codes, bytes_eq}
+use Rattle.std.proofs.Common.{◌≡◌, ℕ, ◌+◌, ◌<◌, true, false, ◌⊎◌, inl, inr, List, [], ◌∷◌, ◌++◌, length, take, drop, refl, sym, ap, subst, ◌∙◌, arith, append_assoc, length-append, ◌==◌, eq-eqb, IsUtf8, All, codes, bytes_eq}
 use Rattle.std.proofs.lemmas.Bool.{eqb-true, both_ways, false≢true, and_parts, and_from, or_left}
 use Rattle.std.proofs.lemmas.Bool.Decides.{nat_tests}
 use Rattle.std.proofs.lemmas.Slice.Eq.{bytes_eq-Decides}
@@ -24,7 +24,7 @@ use Rattle.gix_url.specs.Authority.{unless_empty, Fits}
 use Rattle.gix_url.specs.Flaws.{UrlShape, OtherShape, MissesPath}
 use Rattle.gix_url.specs.Flaws.MissesPath.{in_file}
 use Rattle.gix_url.specs.Readings.{NoneBut}
-use Rattle.gix_url.specs.Shapes.{FrontCut, HasFrontCut, LacksBrackets, ScpCut, HasScpCut, AddressedCut, AddressedFront, HasAddressedCut, PlainScp, LocalShape}
+use Rattle.gix_url.specs.Shapes.{FrontCut, HasFrontCut, ScpCut, HasScpCut, AddressedCut, AddressedFront, HasAddressedCut, PlainScp, LocalShape}
 use Rattle.gix_url.proofs.CutLemmas.{heads, tails, different_bytes, begins_cut, not_free, free-cons, free_parts, cut_unique, last_cut_unique, mark_cut_unique, held_free, helper_name_free, scheme_text_free}
 use Rattle.gix_url.proofs.AddressLemmas.{address_free}
 use Rattle.gix_url.proofs.EscapeLemmas.{utf8_behind, utf8_parts}
