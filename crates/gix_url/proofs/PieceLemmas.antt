@@ -20,7 +20,8 @@ use Rattle.gix_url.specs.Cuts.{CutsAt}
 use Rattle.gix_url.specs.Escapes.{escaped_percents}
 use Rattle.gix_url.specs.declared.writer.piece.Piece.{Piece}
 use Rattle.gix_url.specs.Pieces.{piece_text, texts_text}
-use Rattle.gix_url.proofs.CutLemmas.{lacks_before, lacks_after, free_head_tail}
+use Rattle.gix_url.proofs.CutLemmas.{lacks_before, lacks_after}
+use Rattle.gix_url.proofs.EscapeLemmas.{escaped_percents-append, escaped_percents_kept}
 
 -- ---- lengths
 
@@ -68,21 +69,10 @@ length_percents (b ∷ bs) =
 
 -- ---- percents
 
--- what is free of `%` is written as it is
-pub percents_free : (x y : List ℕ) → FreeOf percent_sign x → escaped_percents (x ++ y) ≡ x ++ escaped_percents y
-percents_free [] y free = refl
-percents_free (b ∷ x) y free =
-    let parts = free_head_tail percent_sign b x free in
-    cond-false (b == percent_sign) (37 ∷ 50 ∷ 53 ∷ escaped_percents (x ++ y)) (b ∷ escaped_percents (x ++ y)) parts.0
-    ∙ ap (λ z. b ∷ z) (percents_free x y parts.1)
-
--- the same of a whole text
-pub percents_none : (x : List ℕ) → FreeOf percent_sign x → escaped_percents x ≡ x
-percents_none x free = ap escaped_percents (sym (append-nil x)) ∙ (percents_free x [] free ∙ append-nil x)
-
 -- a text is written as what stands before the first `%`, its escape, and what is written behind it
 pub percents_cut : (t x y : List ℕ) → FreeOf percent_sign x → t ≡ x ++ percent_sign ∷ y → escaped_percents t ≡ x ++ 37 ∷ 50 ∷ 53 ∷ escaped_percents y
-percents_cut t x y free whole = ap escaped_percents whole ∙ percents_free x (percent_sign ∷ y) free
+percents_cut t x y free whole =
+    ap escaped_percents whole ∙ escaped_percents-append x (percent_sign ∷ y) ∙ ap (λ z. z ++ escaped_percents (percent_sign ∷ y)) (escaped_percents_kept x free)
 
 -- ---- the first byte
 
