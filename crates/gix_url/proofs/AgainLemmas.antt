@@ -1,7 +1,7 @@
 -- Settled locations come back, of every kind.
 use Rattle.std.proofs.Common.{◌≡◌, ℕ, true, false, inl, inr, List, Option, Some, None, Ok, refl, sym, ap, subst, ◌∙◌}
 use Rattle.std.proofs.lemmas.Bool.{both_ways, or_parts, or_from, cond-false}
-use Rattle.std.specs.Prelude.{codes, bytes_eq, ◌||◌, IsSome}
+use Rattle.std.specs.Prelude.{codes, bytes_eq, ◌||◌, IsSome, IfSome, IsUtf8}
 use Rattle.gix_url.specs.Schemes.{is_ssh_scheme, is_web_scheme, is_known_scheme, protocol_of, mode_of, requires_host}
 use Rattle.gix_url.specs.Bytes.{is_scheme_text}
 use Rattle.gix_url.specs.Value.{Protocol, Location, fields}
@@ -9,12 +9,12 @@ use Rattle.gix_url.specs.Grammar.{Spells}
 use Rattle.gix_url.proofs.UniqueLemmas.{spells_unique}
 use Rattle.gix_url.specs.Value.Protocol.{file, git, ssh, http, https, ext, helper, helper_url}
 use Rattle.gix_url.specs.Hosts.Mode.{strict, bare, loose}
-use Rattle.gix_url.specs.Settled.{is_ftp, IsValue, IsSettledUrl, IsSettledWeb, IsSettledSecure, IsSettledGit, IsSettledHelperUrl, IsSettledBy, IsSettled}
+use Rattle.gix_url.specs.Settled.{is_ftp, IsValue, IsSettledUrl, IsSettledWeb, IsSettledSecure, IsSettledGit, IsSettledHelperUrl, IsSettledBy, IsSettled, IsBracketedHost}
 use Rattle.gix_url.specs.SettledParts.{IsWeb, HasUrlPath}
-use Rattle.gix_url.specs.Laws.{keeps_bytes, ComesBack, TextDecides}
-use Rattle.gix_url.specs.WrittenPieces.{as_read}
-use Rattle.gix_url.proofs.SettledLemmas.{written_web, written_git, written_secure, written_other}
-use Rattle.gix_url.proofs.WrittenUrlLemmas.{IsUrlProtocol, authority_with_host, authority_without_host, readable_spelled, url_readable, url_again}
+use Rattle.gix_url.specs.Laws.{ComesBack, TextDecides}
+use Rattle.gix_url.specs.WrittenPieces.{as_read, WritesPath, IsAuthorityPiece}
+use Rattle.gix_url.proofs.SettledLemmas.{one_text, written_web, written_git, written_secure, written_other}
+use Rattle.gix_url.proofs.WrittenUrlLemmas.{IsUrlProtocol, authority_with_host, authority_without_host, readable_spelled, url_readable, url_again, authority_text}
 use Rattle.gix_url.proofs.WrittenPathLemmas.{web_path_written, transport_path_written, other_path_written}
 use Rattle.gix_url.proofs.HostLemmas.{bare_not_strict, loose_not_strict}
 use Rattle.gix_url.proofs.WrittenWebHostLemmas.{web_host_written}
@@ -23,27 +23,19 @@ use Rattle.gix_url.proofs.WrittenScpLemmas.{scp_again}
 use Rattle.gix_url.proofs.FileLemmas.{file_again}
 use Rattle.gix_url.proofs.KeptLemmas.{local_again, ext_again, helper_again}
 use Rattle.gix_url.specs.Text.{keeps_host, canonical_text}
-use Rattle.std.specs.Prelude.{IfSome, IsUtf8}
-use Rattle.gix_url.specs.Settled.{IsBracketedHost}
 use Rattle.gix_url.specs.Authority.{Authority}
-use Rattle.gix_url.specs.WrittenPieces.{WritesPath, IsAuthorityPiece}
-use Rattle.gix_url.proofs.WrittenUrlLemmas.{authority_text}
 
 -- the path of a settled URL
 path_of : (v : Location) → IsSettledUrl v → HasUrlPath v
 path_of v h = record { path_text = h.path_text; spelling = h.spelling }
 
--- a protocol whose URLs don't keep their bytes isn't `ext`
-not_kept : (p : Protocol) → p ≡ ext → keeps_bytes p false ≡ false → ⊥
-not_kept p e h = both_ways (keeps_bytes p false) h (ap (λ q. keeps_bytes q false) e)
-
 -- ---- HTTP
 
 http_protocol : IsUrlProtocol http
-http_protocol = record { scheme_text = refl; not_file = refl; protocol = refl; not_ext = λ e. not_kept http e refl }
+http_protocol = record { scheme_text = refl; not_file = refl; protocol = refl; not_ext = λ e. cc }
 
 https_protocol : IsUrlProtocol https
-https_protocol = record { scheme_text = refl; not_file = refl; protocol = refl; not_ext = λ e. not_kept https e refl }
+https_protocol = record { scheme_text = refl; not_file = refl; protocol = refl; not_ext = λ e. cc }
 
 -- a settled location of HTTP comes back
 web_again : (v : Location) → IsWeb v → IsValue v → IsSettledWeb v → (back : ComesBack v) × IsSettled back.reread
@@ -70,7 +62,7 @@ web_spelled v (inr e) is h =
 -- ---- Secure Shell
 
 ssh_protocol : IsUrlProtocol ssh
-ssh_protocol = record { scheme_text = refl; not_file = refl; protocol = refl; not_ext = λ e. not_kept ssh e refl }
+ssh_protocol = record { scheme_text = refl; not_file = refl; protocol = refl; not_ext = λ e. cc }
 
 -- a settled URL of Secure Shell comes back
 secure_again : (v : Location) → v.scheme ≡ ssh → IsValue v → IsSettledSecure v → (back : ComesBack v) × IsSettled back.reread
@@ -83,13 +75,13 @@ secure_again v e is h =
 -- ---- Git's own protocol
 
 git_protocol : IsUrlProtocol git
-git_protocol = record { scheme_text = refl; not_file = refl; protocol = refl; not_ext = λ e. not_kept git e refl }
+git_protocol = record { scheme_text = refl; not_file = refl; protocol = refl; not_ext = λ e. cc }
 
 -- a settled URL of Git's own protocol comes back
 git_again : (v : Location) → v.scheme ≡ git → IsValue v → IsSettledGit v → (back : ComesBack v) × IsSettled back.reread
 git_again v e is h =
     let (host, there, bracketed) = h.host in
-    let writes = bracketed_host_written bare v host bare_not_strict (ap keeps_host e) bracketed (subst (λ o. IfSome o IsUtf8) there is.host) is.port in
+    let writes = bracketed_host_written bare v host (λ e. cc) (ap keeps_host e) bracketed (subst (λ o. IfSome o IsUtf8) there is.host) is.port in
     let (path, homed, raw) = transport_path_written v (inr e) h.path (path_of v h.common) h.raw in
     url_again v git (Some host) e git_protocol h.common (authority_with_host bare v host host h.common is there writes) (λ need. refl) there path (written_git v e) (written_git (as_read v) e) (λ c. record { common = c; host = (host, there, bracketed); path = homed; raw = raw })
 
@@ -132,7 +124,7 @@ helper_url_protocol name spelled h = record {
   scheme_text = spelled;
   not_file = h.not_file;
   protocol = sym (other_protocol name h);
-  not_ext = λ e. not_kept (helper_url name) e refl;
+  not_ext = λ e. cc;
 }
 
 -- a settled URL of another scheme, with its host or without one
@@ -146,7 +138,7 @@ other_by name v None e there is h =
 other_by name v (Some host) e there is h =
     let other = other_scheme name h.unknown in
     let bracketed = subst (λ o. IfSome o IsBracketedHost) there h.host in
-    let writes = bracketed_host_written loose v host loose_not_strict (ap keeps_host e) bracketed (subst (λ o. IfSome o IsUtf8) there is.host) is.port in
+    let writes = bracketed_host_written loose v host (λ e. cc) (ap keeps_host e) bracketed (subst (λ o. IfSome o IsUtf8) there is.host) is.port in
     let (path, raw) = other_path_written v name e h.path (path_of v h.common) h.raw in
     let authority = subst (λ mode. Authority mode (authority_text v) v.user v.password (Some host) v.port × IsAuthorityPiece (authority_text v)) (sym (other_mode name other)) (authority_with_host loose v host host h.common is there writes) in
     url_again v (helper_url name) (Some host) e (helper_url_protocol name h.scheme_text other) h.common authority (λ need. refl) there (subst (λ web. WritesPath web v) (sym other.not_web) path) (written_other v name e h.scheme_text) (written_other (as_read v) name e h.scheme_text) (λ c. record { common = c; scheme_text = h.scheme_text; unknown = h.unknown; host = h.host; hosted = h.hosted; path = h.path; raw = raw })
@@ -175,7 +167,6 @@ pub text_decides : TextDecides
 text_decides v w is_v is_w settled_v settled_w same =
     let (back, again) = settled_again v is_v settled_v in
     let (other, also) = settled_again w is_w settled_w in
-    let both : Ok back.written ≡ Ok other.written = sym back.has_text ∙ same ∙ other.has_text in
-    let one : back.written ≡ other.written = cc in
+    let one : back.written ≡ other.written = one_text back.has_text (same ∙ other.has_text) in
     let read : back.reread ≡ other.reread = spells_unique other.written back.reread other.reread (subst (λ t. Spells t back.reread) one back.spelled) other.spelled in
     sym back.same_fields ∙ ap (λ l. fields l) read ∙ other.same_fields

@@ -1,12 +1,15 @@
 -- What is read is settled but for corners, and of these kinds what comes back is settled.
-use Rattle.std.proofs.Common.{◌≡◌, ℕ, Bool, true, false, ◌⊎◌, inl, inr, List, [], ◌∷◌, ◌++◌, Option, Some, None, Ok, refl, sym, ap, subst, ◌∙◌, ◌==◌, ◌≤◌, arith, length, length-append, codes, bytes_eq, if◌then◌else◌}
+use Rattle.std.proofs.Common.{◌≡◌, ℕ, Bool, true, false, ◌⊎◌, inl, inr, List, [], ◌∷◌, ◌++◌, Option, Some, None, Ok, refl, sym, ap, subst, ◌∙◌, ◌≤◌, arith, length, length-append, take, codes, bytes_eq}
 use Rattle.std.specs.Prelude.{is_some, IsSome}
-use Rattle.std.proofs.lemmas.Bool.{both_ways, false≢true, leb-true, or_left, eqb-true, eq-eqb}
+use Rattle.std.proofs.lemmas.Bool.{both_ways, false≢true, leb-true, or_left, eqb-true, eq-eqb, cases_Bool}
+use Rattle.std.proofs.lemmas.List.{take_at}
+use Rattle.std.proofs.lemmas.Option.{none-some, same_Some}
+use Rattle.std.proofs.lemmas.Slice.Eq.{bytes_eq-Decides}
 use Rattle.gix_url.specs.Value.{Protocol, Location}
 use Rattle.gix_url.specs.Value.Protocol.{file, git, ssh, http, https, ext, helper, helper_url}
-use Rattle.gix_url.specs.Bytes.{colon, left_bracket, FreeOf, begins_with}
+use Rattle.gix_url.specs.Bytes.{colon, left_bracket, begins_with}
 use Rattle.gix_url.specs.Escapes.{has_percent}
-use Rattle.gix_url.specs.Schemes.{is_ssh_scheme, protocol_of, protocol_text}
+use Rattle.gix_url.specs.Schemes.{protocol_of, protocol_text}
 use Rattle.gix_url.specs.Walks.{is_walk_short, text_walk_past, text_walk_for}
 use Rattle.gix_url.specs.Grammar.{SpellsUrl, SpellsFile, Spells}
 use Rattle.gix_url.specs.Text.{has_colon, canonical_text, text}
@@ -15,8 +18,9 @@ use Rattle.gix_url.specs.SettledParts.{IsWeb}
 use Rattle.gix_url.specs.Laws.{keeps_bytes, ComesBack, is_closed, IsCorner, Closed, Exact}
 use Rattle.gix_url.proofs.CutLemmas.{tails, last_unique}
 use Rattle.gix_url.proofs.KeptLemmas.{kept_closed, kept_exact}
-use Rattle.gix_url.proofs.FileLemmas.{file_closed, file_exact}
-use Rattle.gix_url.proofs.WebClosedLemmas.{is_web_protocol, web_scheme_of, means_scheme, web_meant, web_value, web_protocol, web_closed}
+use Rattle.gix_url.proofs.FileLemmas.{StaysOpen, file_closed, file_exact}
+use Rattle.gix_url.proofs.WebClosedLemmas.{StaysBare, IsApart, web_read, web_closed}
+use Rattle.gix_url.proofs.SchemeLemmas.{protocol_cases, means_scheme}
 use Rattle.gix_url.proofs.SettledLemmas.{written_web, fitting_text}
 use Rattle.gix_url.proofs.WebExactLemmas.{spelled_by_url, web_exact}
 use Rattle.gix_url.proofs.AgainLemmas.{settled_again}
@@ -24,22 +28,11 @@ use Rattle.gix_url.proofs.AgainLemmas.{settled_again}
 -- ---- file URLs
 
 -- a host of a file URL is settled, or stands in the corner
-file_host_by : (v : Location) (host : List ℕ) (bracket has_mark escaped : Bool) → v.scheme ≡ file → v.host ≡ Some host → begins_with left_bracket host ≡ bracket → has_colon host ≡ has_mark → has_percent host ≡ escaped → ((begins_with left_bracket host ≡ true) ⊎ (FreeOf colon host ⊎ (has_percent host ≡ false))) ⊎ IsCorner v
+file_host_by : (v : Location) (host : List ℕ) (bracket has_mark escaped : Bool) → v.scheme ≡ file → v.host ≡ Some host → begins_with left_bracket host ≡ bracket → has_colon host ≡ has_mark → has_percent host ≡ escaped → StaysOpen host ⊎ IsCorner v
 file_host_by v host true has_mark escaped e there b c p = inl (inl b)
 file_host_by v host false false escaped e there b c p = inl (inr (inl c))
 file_host_by v host false true false e there b c p = inl (inr (inr p))
 file_host_by v host false true true e there b c p = inr (IsCorner.file_host host e there b c p)
-
--- no host of a file URL stands in the corner where there is none
-no_host_apart : (v : Location) → v.host ≡ None → (host : List ℕ) → v.host ≡ Some host → (begins_with left_bracket host ≡ true) ⊎ (FreeOf colon host ⊎ (has_percent host ≡ false))
-no_host_apart v none host e = absurd (false≢true (ap is_some (sym none ∙ e)))
-
--- the host that is there is the one
-host_there : (v : Location) (host : List ℕ) → v.host ≡ Some host → (P : List ℕ → Type 0) → P host → (other : List ℕ) → v.host ≡ Some other → P other
-host_there v host there P h other e =
-    let both : Some host ≡ Some other = sym there ∙ e in
-    let same : host ≡ other = cc in
-    subst P same h
 
 -- a settled file URL is settled
 file_settled : (v : Location) → v.scheme ≡ file → IsSettledFile v → IsSettled v
@@ -47,10 +40,10 @@ file_settled v e h = subst (λ p. IsSettledBy p v) (sym e) (inr h)
 
 -- a file URL that is read is settled, or stands in the corner
 file_closed_by : (b : List ℕ) (v : Location) (host : Option (List ℕ)) → v.host ≡ host → v.scheme ≡ file → SpellsFile b v → IsSettled v ⊎ IsCorner v
-file_closed_by b v None there e h = inl (file_settled v e (file_closed b v h (no_host_apart v there)))
+file_closed_by b v None there e h = inl (file_settled v e (file_closed b v h (λ host is. absurd (none-some host (sym there ∙ is)))))
 file_closed_by b v (Some host) there e h =
     elim (file_host_by v host (begins_with left_bracket host) (has_colon host) (has_percent host) e there refl refl refl) [
-      | inl apart ↦ inl (file_settled v e (file_closed b v h (host_there v host there (λ x. (begins_with left_bracket x ≡ true) ⊎ (FreeOf colon x ⊎ (has_percent x ≡ false))) apart)))
+      | inl apart ↦ inl (file_settled v e (file_closed b v h (λ other is. subst StaysOpen (same_Some host other (sym there ∙ is)) apart)))
       | inr corner ↦ inr corner
     ]
 
@@ -60,42 +53,33 @@ file_closed_by b v (Some host) there e h =
 abbrev EndsOrNot : ℕ → List ℕ → Type 0
 EndsOrNot c t = ((front : List ℕ) × (t ≡ front ++ c ∷ [])) ⊎ ((front : List ℕ) → ¬ (t ≡ front ++ c ∷ []))
 
--- a single byte is the one, or isn't
-single_by : (c b : ℕ) (is : Bool) → (b == c) ≡ is → EndsOrNot c (b ∷ [])
-single_by c b true e = inl ([], ap (λ x. x ∷ []) (eqb-true b c e))
-single_by c b false e = inr (λ front same. both_ways (b == c) e (eq-eqb b c (last_unique [] front b c same).1))
-
--- a longer text ends as what follows its first byte
-longer_end : (c b d : ℕ) (t front : List ℕ) → ((other : List ℕ) → ¬ (d ∷ t ≡ other ++ c ∷ [])) → ¬ (b ∷ d ∷ t ≡ front ++ c ∷ [])
-longer_end c b d t [] other e = omega (arith, ap length e)
-longer_end c b d t (x ∷ front) other e = other front (tails e)
-
+-- by whether the byte behind all but one byte of the text makes it up
 ends_or_not : (c : ℕ) (t : List ℕ) → EndsOrNot c t
 ends_or_not c [] = inr (λ front e. absurd (omega (arith, ap length e, length-append front (c ∷ []))))
-ends_or_not c (b ∷ []) = single_by c b (b == c) refl
-ends_or_not c (b ∷ d ∷ t) =
-    elim (ends_or_not c (d ∷ t)) [
-      | inl (front, e) ↦ inl (b ∷ front, ap (λ x. b ∷ x) e)
-      | inr other ↦ inr (λ front e. longer_end c b d t front other e)
+ends_or_not c (b ∷ t) =
+    let before = take (length t) (b ∷ t) in
+    let same = bytes_eq-Decides (b ∷ t) (before ++ c ∷ []) in
+    elim (cases_Bool (bytes_eq (b ∷ t) (before ++ c ∷ []))) [
+      | inl ends ↦ inl (before, same.0 ends)
+      | inr other ↦
+          inr (λ front e.
+          let is : before ≡ front = ap (take (length t)) e ∙ take_at front (c ∷ []) (length t) (omega (arith, ap length e, length-append front (c ∷ []))) in
+          both_ways _ other (same.1 (e ∙ ap (λ x. x ++ c ∷ []) (sym is))))
     ]
 
--- the host doesn't stand in the corner
-abbrev IsApart : List ℕ → Type 0
-IsApart host = (front : List ℕ) → host ≡ front ++ colon ∷ [] → (begins_with left_bracket host ≡ true) ⊎ (has_percent host ≡ false)
-
 -- a host of HTTP that ends in `:` stands in the corner, or doesn't
-ending_by : (v : Location) (front : List ℕ) (bracket escaped : Bool) → IsWeb v → v.host ≡ Some (front ++ colon ∷ []) → begins_with left_bracket (front ++ colon ∷ []) ≡ bracket → has_percent (front ++ colon ∷ []) ≡ escaped → ((begins_with left_bracket (front ++ colon ∷ []) ≡ true) ⊎ (has_percent (front ++ colon ∷ []) ≡ false)) ⊎ IsCorner v
-ending_by v front true escaped web there b p = inl (inl b)
-ending_by v front false false web there b p = inl (inr p)
-ending_by v front false true web there b p = inr (IsCorner.web_host front web there b p)
+ending_by : (v : Location) (host front : List ℕ) (bracket escaped : Bool) → IsWeb v → v.host ≡ Some host → host ≡ front ++ colon ∷ [] → begins_with left_bracket host ≡ bracket → has_percent host ≡ escaped → StaysBare host ⊎ IsCorner v
+ending_by v host front true escaped web there ends b p = inl (inl b)
+ending_by v host front false false web there ends b p = inl (inr p)
+ending_by v host front false true web there ends b p = inr (IsCorner.web_host front web (there ∙ ap Some ends) (ap (begins_with left_bracket) (sym ends) ∙ b) (ap has_percent (sym ends) ∙ p))
 
 -- any host of HTTP does
 web_host_by : (v : Location) (host : List ℕ) → IsWeb v → v.host ≡ Some host → IsApart host ⊎ IsCorner v
 web_host_by v host web there =
     elim (ends_or_not colon host) [
-      | inl (front, e) ↦
-          elim (ending_by v front (begins_with left_bracket (front ++ colon ∷ [])) (has_percent (front ++ colon ∷ [])) web (there ∙ ap Some e) refl refl) [
-            | inl apart ↦ inl (λ other same. subst (λ x. (begins_with left_bracket x ≡ true) ⊎ (has_percent x ≡ false)) (sym e) apart)
+      | inl (front, ends) ↦
+          elim (ending_by v host front (begins_with left_bracket host) (has_percent host) web there ends refl refl) [
+            | inl apart ↦ inl (λ other same. apart)
             | inr corner ↦ inr corner
           ]
       | inr other ↦ inl (λ front e. absurd (other front e))
@@ -114,10 +98,8 @@ fitting_by v false web written e = inr (λ fits. both_ways _ e ((fitting_text v 
 -- a URL of HTTP that is read has a host, and the text of a URL
 web_written : (b : List ℕ) (v : Location) → SpellsUrl b v → IsWeb v → IsSome v.host × (text v ≡ Ok (canonical_text v))
 web_written b v h web =
-    let protocol = protocol_of h.parts.scheme in
-    let is_web : is_web_protocol protocol ≡ true = ap is_web_protocol (sym (means_scheme protocol b h.parts v h.means)) ∙ web_protocol v web in
-    let value : v ≡ web_meant protocol h.parts = web_value protocol b h.parts v is_web h.means in
-    let hosted : IsSome v.host = subst (λ l. IsSome l.host) (sym value) (h.spelled.hosted (or_left _ _ (web_scheme_of h.parts.scheme is_web))) in
+    let (is_web, value) = web_read b v h web in
+    let hosted : IsSome v.host = subst (λ l. IsSome l.host) (sym value) (h.spelled.hosted (or_left _ _ is_web)) in
     (hosted, (written_web v web).canonical (ap (λ l. l.flag) value) (record { user_hosted = λ given. hosted; port_hosted = λ given. hosted }))
 
 -- a settled location of HTTP is settled
@@ -126,7 +108,7 @@ web_settled v (inl e) h = subst (λ p. IsSettledBy p v) (sym e) h
 web_settled v (inr e) h = subst (λ p. IsSettledBy p v) (sym e) h
 
 -- a location of HTTP that is read is settled, or stands in a corner
-web_closed_by : (b : List ℕ) (v : Location) (host : Option (List ℕ)) → v.host ≡ host → SpellsUrl b v → IsWeb v → IsSettledWeb v ⊎ IsCorner v
+web_closed_by : (b : List ℕ) (v : Location) (host : Option (List ℕ)) → v.host ≡ host → SpellsUrl b v → IsWeb v → IsSettled v ⊎ IsCorner v
 web_closed_by b v None there h web = absurd (false≢true (ap is_some (sym there) ∙ (web_written b v h web).0))
 web_closed_by b v (Some host) there h web =
     let written = (web_written b v h web).1 in
@@ -135,47 +117,24 @@ web_closed_by b v (Some host) there h web =
       | inl apart ↦
           elim (fitting_by v _ web written refl) [
             | inr long ↦ inr (IsCorner.web_length web long)
-            | inl fits ↦ inl (web_closed b v h web (λ other front e. host_there v host there IsApart apart other e front) fits)
+            | inl fits ↦ inl (web_settled v web (web_closed b v h web (λ other is. subst IsApart (same_Some host other (sym there ∙ is)) apart) fits))
           ]
     ]
 
 -- ---- all kinds
 
--- the protocol of local files
-abbrev is_file : Protocol → Bool
-is_file file = true
-is_file git = false
-is_file ssh = false
-is_file http = false
-is_file https = false
-is_file ext = false
-is_file (helper name) = false
-is_file (helper_url name) = false
-
--- no scheme of a URL but `file` has it
-no_file_scheme : (ssh_named git_named http_named https_named ext_named : Bool) (s : List ℕ) → bytes_eq s (codes "file") ≡ false → is_file (if ssh_named then ssh else (if bytes_eq s (codes "file") then file else (if git_named then git else (if http_named then http else (if https_named then https else (if ext_named then ext else helper_url s)))))) ≡ false
-no_file_scheme true b c d e s h = refl
-no_file_scheme false true c d e s h = rw h refl
-no_file_scheme false false true d e s h = rw h refl
-no_file_scheme false false false true e s h = rw h refl
-no_file_scheme false false false false true s h = rw h refl
-no_file_scheme false false false false false s h = rw h refl
-
--- the protocol of a remote helper isn't it either
-no_file_helper : (is_ext : Bool) (name : List ℕ) → is_file (if is_ext then ext else helper name) ≡ false
-no_file_helper true name = refl
-no_file_helper false name = refl
+-- no scheme of a URL but `file` has the protocol of local files
+not_file_scheme : (s : List ℕ) → bytes_eq s (codes "file") ≡ false → ¬ (protocol_of s ≡ file)
+not_file_scheme s other = protocol_cases (λ p. ¬ (p ≡ file)) s (λ same e. cc) (λ same e. both_ways _ other same) (λ e. cc) (λ same e. cc) (λ same e. cc) (λ e. cc) (λ e. cc)
 
 -- a location of local files without the flag is spelled by a file URL
-spelled_by_file : (b : List ℕ) (v : Location) → is_file v.scheme ≡ true → v.flag ≡ false → Spells b v → SpellsFile b v
+spelled_by_file : (b : List ℕ) (v : Location) → v.scheme ≡ file → v.flag ≡ false → Spells b v → SpellsFile b v
 spelled_by_file b v e unflagged (Spells.url h) =
-    let s = h.parts.scheme in
-    let other = no_file_scheme (is_ssh_scheme s) (bytes_eq s (codes "git")) (bytes_eq s (codes "http")) (bytes_eq s (codes "https")) (bytes_eq s (codes "ext")) s h.spelled.not_file in
-    absurd (both_ways (is_file v.scheme) (ap is_file (means_scheme (protocol_of s) b h.parts v h.means) ∙ other) e)
+    absurd (not_file_scheme h.parts.scheme h.spelled.not_file (sym (means_scheme (protocol_of h.parts.scheme) b h.parts v h.means) ∙ e))
 spelled_by_file b v e unflagged (Spells.file_url h) = h
-spelled_by_file b v e unflagged (Spells.remote_helper h) = absurd (both_ways (is_file v.scheme) (ap (λ l. is_file l.scheme) h.value ∙ no_file_helper (bytes_eq h.name (codes "ext")) h.name) e)
-spelled_by_file b v e unflagged (Spells.scp_form (inl h)) = absurd (both_ways (is_file v.scheme) (ap (λ l. is_file l.scheme) h.value) e)
-spelled_by_file b v e unflagged (Spells.scp_form (inr h)) = absurd (both_ways (is_file v.scheme) (ap (λ l. is_file l.scheme) h.value) e)
+spelled_by_file b v e unflagged (Spells.remote_helper h) = absurd (both_ways v.flag unflagged (ap (λ l. l.flag) h.value))
+spelled_by_file b v e unflagged (Spells.scp_form (inl h)) = absurd (both_ways v.flag unflagged (ap (λ l. l.flag) h.value))
+spelled_by_file b v e unflagged (Spells.scp_form (inr h)) = absurd (both_ways v.flag unflagged (ap (λ l. l.flag) h.value))
 spelled_by_file b v e unflagged (Spells.local_path h) = absurd (both_ways v.flag unflagged (ap (λ l. l.flag) h.value))
 
 -- what keeps its bytes is settled
@@ -185,15 +144,11 @@ bytes_closed b v p flag e f keeps s = inl (kept_closed b v s (ap (λ q. keeps_by
 -- local files are settled, with the flag or without it
 files_closed : (b : List ℕ) (v : Location) (flag : Bool) → v.scheme ≡ file → v.flag ≡ flag → Spells b v → IsSettled v ⊎ IsCorner v
 files_closed b v true e f s = bytes_closed b v file true e f refl s
-files_closed b v false e f s = file_closed_by b v v.host refl e (spelled_by_file b v (ap is_file e) f s)
+files_closed b v false e f s = file_closed_by b v v.host refl e (spelled_by_file b v e f s)
 
 -- a location of HTTP is
 webs_closed : (b : List ℕ) (v : Location) → IsWeb v → Spells b v → IsSettled v ⊎ IsCorner v
-webs_closed b v web s =
-    elim (web_closed_by b v v.host refl (spelled_by_url b v (web_protocol v web) s) web) [
-      | inl h ↦ inl (web_settled v web h)
-      | inr corner ↦ inr corner
-    ]
+webs_closed b v web s = web_closed_by b v v.host refl (spelled_by_url b v web s) web
 
 -- by protocol
 closed_by : (p : Protocol) (b : List ℕ) (v : Location) → v.scheme ≡ p → is_closed p ≡ true → Spells b v → IsSettled v ⊎ IsCorner v

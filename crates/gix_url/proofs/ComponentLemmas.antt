@@ -26,7 +26,8 @@ use Rattle.gix_url.specs.Laws.{SameComponents}
 use Rattle.gix_url.proofs.CutLemmas.{cut_unique, free_or_cut, not_free}
 use Rattle.gix_url.proofs.EscapeLemmas.{is_escape_byte, bytes_from_utf8, decode_byte, decode_encode, decode_encode_utf8, encode_nil, encode_empty, encode-append, encode_byte_kept, encode_lacks_kept, lacks_from_encode}
 use Rattle.gix_url.proofs.EscapeSets.{path_holds}
-use Rattle.gix_url.proofs.SettledLemmas.{written_web}
+use Rattle.gix_url.proofs.SettledLemmas.{one_text, written_web}
+use Rattle.gix_url.proofs.WebClosedLemmas.{spelled_as}
 use Rattle.gix_url.proofs.UniqueLemmas.{spells_unique}
 use Rattle.gix_url.proofs.AgainLemmas.{web_spelled}
 
@@ -359,7 +360,7 @@ pairs_written f v w ((b ∷ bs) ∷ fields) pairs h small (name, value, others, 
     let bytes = bytes_split field name value (All-head IsBytes field fields small) split in
     let more = pairs_written f v w fields others h (All-tail IsBytes field fields small) rest in
     let same : (term_of v name, term_of v value) ∷ others ≡ (term_of w (f name), term_of w (f value)) ∷ others =
-        (λ i. (sym (h.term name bytes.0) i, sym (h.term value bytes.1) i) ∷ others) in
+    (λ i. (sym (h.term name bytes.0) i, sym (h.term value bytes.1) i) ∷ others) in
     (adds_pair w (f field) (map f fields) pairs (some_written f b bs h.way)).1 (f name, f value, others, split_written f field name value h.way split, more, e ∙ same)
 
 -- and the writings for what the fields stand for
@@ -451,10 +452,6 @@ spelled_again v web fair h =
     let (s, is, decoded, chosen) = matched v.spelling v.path (percent_encode PATH v.path) h in
     ap retained (web_path v web ∙ chosen) ∙ cond-true _ _ _ (fair s is decoded).escaped ∙ sym is
 
--- the location with another spelling
-abbrev spelled_as : Location → Option (List ℕ) → Location
-spelled_as v spelling = record v { spelling = spelling }
-
 -- where no spelling matches and the encoding of the path is read as one, it is the encoding of the path
 encoded_rewritten : (v : Location) → IsUtf8 v.path → matches v.spelling v.path ≡ false → IsRewritten (λ x. percent_encode PATH x) v (spelled_as v (Some (percent_encode PATH v.path)))
 encoded_rewritten v text h =
@@ -508,10 +505,7 @@ web_parts v components (inr e) = (λ h. subst (λ p. PartsBy p v components) e h
 
 -- its text is the one of a URL
 web_text : (v : Location) (t : List ℕ) → IsWeb v → IsSettledUrl v → text v ≡ Ok t → t ≡ canonical_text v
-web_text v t web h has =
-    let first : text v ≡ Ok (canonical_text v) = (written_web v web).canonical h.unflagged record { user_hosted = h.user_hosted; port_hosted = h.port_hosted } in
-    let okay : Ok t ≡ Ok (canonical_text v) = sym has ∙ first in
-    cc
+web_text v t web h has = one_text has ((written_web v web).canonical h.unflagged record { user_hosted = h.user_hosted; port_hosted = h.port_hosted })
 
 -- what is read of a settled location of HTTP has the same components
 pub same_components : SameComponents

@@ -1,15 +1,12 @@
 -- File URLs: what is read as one is settled but for one corner, a settled one comes back, and nothing else does.
-use Rattle.std.proofs.Common.{◌≡◌, ℕ, ◌<◌, Bool, true, false, not, ◌&&◌, ◌⊎◌, inl, inr, List, [], ◌∷◌, ◌++◌, length, Option, Some, None, Result, Ok, Err, refl, sym, ap, subst, ◌∙◌, arith, codes, bytes_eq, lit<, if◌then◌else◌}
+use Rattle.std.proofs.Common.{◌≡◌, ℕ, Bool, true, false, not, ◌&&◌, ◌⊎◌, inl, inr, List, [], ◌∷◌, ◌++◌, length, Option, Some, None, Ok, Err, refl, sym, ap, subst, ◌∙◌, arith, codes, lit<, if◌then◌else◌}
 use Rattle.std.specs.Prelude.{IfSome, IsUtf8, is_some, is_none}
 use Rattle.std.specs.Result.{is_ok}
-use lib.Utf8.{encode}
 use Rattle.std.proofs.lemmas.Bool.{cond-true, cond-false, and_left, and_right, and_parts, not-true, false≢true}
 use Rattle.std.proofs.lemmas.List.{append_cancel_left}
-use Rattle.std.proofs.lemmas.Slice.Eq.{bytes_eq-Decides}
 use Rattle.std.proofs.lemmas.Option.{none-some, same_Some}
 use Rattle.std.proofs.lemmas.Str.{IsUtf8-nil}
 use Rattle.percent_encoding.specs.Percent.{percent_decode}
-use Rattle.gix_url.specs.declared.error.WriteFault.{WriteFault}
 use Rattle.gix_url.specs.declared.error.WriteFault.TheVariants.{UserWithoutHost}
 use Rattle.gix_url.specs.Value.{Location, fields, path_alone}
 use Rattle.gix_url.specs.Value.Protocol.{file}
@@ -24,10 +21,12 @@ use Rattle.gix_url.specs.Text.Form.{canonical_form}
 use Rattle.gix_url.specs.Settled.{IsValue, HasMatch, IsFileHost, IsSettledFile, IsSettled}
 use Rattle.gix_url.specs.Laws.{ComesBack}
 use Rattle.gix_url.specs.Flaws.{UrlShape}
-use Rattle.gix_url.proofs.CutLemmas.{different_bytes, begins_cut, held_free}
+use Rattle.gix_url.proofs.CutLemmas.{different_bytes, begins_cut}
 use Rattle.gix_url.proofs.EscapeLemmas.{utf8-append, utf8_behind, utf8_seam}
-use Rattle.gix_url.proofs.FormLemmas.{mark_no_helper}
-use Rattle.gix_url.proofs.ShapeLemmas.{spelled_as_file}
+use Rattle.gix_url.proofs.SettledLemmas.{one_text, value_of}
+use Rattle.gix_url.proofs.UrlLemmas.{some_kept}
+use Rattle.gix_url.proofs.ShapeLemmas.{file_mark_utf8, url_shaped, spelled_as_file}
+use Rattle.gix_url.proofs.WrittenPathLemmas.{matched, unmatched}
 
 -- ---- values
 
@@ -37,16 +36,8 @@ at_file host path spelling = record (path_alone file false path) { host = host; 
 
 -- a settled file URL is such a value
 file_value : (v : Location) → v.scheme ≡ file → IsSettledFile v → v ≡ at_file v.host v.path v.spelling
-file_value v scheme h = λ i. record {
-  scheme = scheme i;
-  user = h.alone.no_user i;
-  password = h.alone.no_password i;
-  host = v.host;
-  flag = h.unflagged i;
-  port = h.alone.no_port i;
-  path = v.path;
-  spelling = v.spelling;
-}
+file_value v scheme h =
+    value_of v file false scheme h.unflagged h.alone.no_password h.alone.no_port ∙ ap (λ user. record (at_file v.host v.path v.spelling) { user = user }) h.alone.no_user
 
 -- such a value is settled where its host and its path are, and no spelling matches
 settled_at : (host : Option (List ℕ)) (path : List ℕ) (spelling : Option (List ℕ)) → ¬ HasMatch (at_file host path spelling) → IfSome host IsFileHost → IsUtf8 path → begins_with slash path ≡ true → IsSettledFile (at_file host path spelling)
@@ -89,38 +80,19 @@ host_written : (host : Option (List ℕ)) (path : List ℕ) (spelling : Option (
 host_written None path spelling h = refl
 host_written (Some host) path spelling h = cond-false _ _ _ (no_brackets host h)
 
--- a path that no spelling matches is written as it is
-path_written_by : (s path : List ℕ) (same : Bool) → bytes_eq (percent_decode s) path ≡ same → ¬ (percent_decode s ≡ path) → matching_or (Some s) path path ≡ path
-path_written_by s path true e apart = absurd (apart ((bytes_eq-Decides (percent_decode s) path).0 e))
-path_written_by s path false e apart = cond-false _ _ _ e
-
-path_written : (host : Option (List ℕ)) (path : List ℕ) (spelling : Option (List ℕ)) → ¬ HasMatch (at_file host path spelling) → matching_or spelling path path ≡ path
-path_written host path None apart = refl
-path_written host path (Some s) apart = path_written_by s path (bytes_eq (percent_decode s) path) refl (λ d. apart (s, refl, d))
-
 -- the text of a settled file URL holds its host and its path as they are
 settled_text : (host : Option (List ℕ)) (path : List ℕ) (spelling : Option (List ℕ)) → ¬ HasMatch (at_file host path spelling) → IfSome host IsFileHost → text (at_file host path spelling) ≡ Ok (codes "file://" ++ (as_it_is host ++ path))
 settled_text host path spelling apart hosted =
     file_text host path spelling
     ∙ ap (λ h. Ok (codes "file://" ++ (h ++ matching_or spelling path path))) (host_written host path spelling hosted)
-    ∙ ap (λ p. Ok (codes "file://" ++ (as_it_is host ++ p))) (path_written host path spelling apart)
+    ∙ ap (λ p. Ok (codes "file://" ++ (as_it_is host ++ p))) (unmatched spelling path path apart)
 
 -- ---- settled file URLs come back
 
--- the mark of a file URL is UTF-8
-mark_utf8 : IsUtf8 (codes "file://")
-unfolding encode
-mark_utf8 = (codes "file://", (refl, refl))
-
--- a settled host is not empty
-host_kept : (host : List ℕ) → 0 < length host → unless_empty host ≡ Some host
-host_kept [] some = absurd (omega (arith, some))
-host_kept (b ∷ bs) some = refl
-
--- it is read as it is written
+-- a settled host is read as it is written
 host_read : (host : Option (List ℕ)) → IfSome host IsFileHost → unless_empty (as_it_is host) ≡ host
 host_read None h = refl
-host_read (Some host) h = host_kept host h.nonempty
+host_read (Some host) h = some_kept host (λ e. absurd (omega (arith, ap length e, h.nonempty)))
 
 -- it has no `/`
 host_no_slash : (host : Option (List ℕ)) → IfSome host IsFileHost → FreeOf slash (as_it_is host)
@@ -138,7 +110,7 @@ settled_spelled host path hosted is_text path_text rooted = record {
   host = as_it_is host;
   path = path;
   joined = refl;
-  text = utf8-append (codes "file://") (as_it_is host ++ path) mark_utf8 (utf8-append (as_it_is host) path (host_utf8 host is_text) path_text);
+  text = utf8-append (codes "file://") (as_it_is host ++ path) file_mark_utf8 (utf8-append (as_it_is host) path (host_utf8 host is_text) path_text);
   no_slash = host_no_slash host hosted;
   rooted = rooted;
   value = ap (λ h. at_file h path None) (sym (host_read host hosted));
@@ -167,7 +139,7 @@ file_again v scheme valid h =
 -- ---- what is read is settled
 
 -- a bracket stands at the front of the host, or it has no colon or no escape
-abbrev StaysOpen : List ℕ → Type 0
+abbrev pub StaysOpen : List ℕ → Type 0
 StaysOpen host = (begins_with left_bracket host ≡ true) ⊎ (FreeOf colon host ⊎ (has_percent host ≡ false))
 
 -- the host of a file URL is settled but for one corner
@@ -179,11 +151,11 @@ host_settled (b ∷ bs) free stays = record { nonempty = omega arith; no_slash =
 path_utf8 : (host path : List ℕ) → IsUtf8 (codes "file://" ++ (host ++ path)) → begins_with slash path ≡ true → IsUtf8 path
 path_utf8 host path is_text rooted =
     let (rest, cut) = begins_cut slash path rooted in
-    let behind : IsUtf8 (host ++ path) = utf8_behind (codes "file://") (host ++ path) is_text mark_utf8 in
+    let behind : IsUtf8 (host ++ path) = utf8_behind (codes "file://") (host ++ path) is_text file_mark_utf8 in
     subst IsUtf8 (sym cut) (utf8_seam host rest slash (subst (λ p. IsUtf8 (host ++ p)) cut behind) (lit< tt)).1
 
 -- what is read as a file URL is settled, but for a host with a colon and an escape that has no bracket at its front
-pub file_closed : (b : List ℕ) (v : Location) → SpellsFile b v → ((h : List ℕ) → v.host ≡ Some h → (begins_with left_bracket h ≡ true) ⊎ (FreeOf colon h ⊎ (has_percent h ≡ false))) → IsSettledFile v
+pub file_closed : (b : List ℕ) (v : Location) → SpellsFile b v → ((h : List ℕ) → v.host ≡ Some h → StaysOpen h) → IsSettledFile v
 file_closed b v h stays =
     let hosted = host_settled h.host h.no_slash (λ host e. stays host (ap (λ l. l.host) h.value ∙ e)) in
     let is_text = path_utf8 h.host h.path (subst IsUtf8 h.joined h.text) h.rooted in
@@ -191,14 +163,10 @@ file_closed b v h stays =
 
 -- ---- nothing else comes back
 
--- a result holds one text
-same_written : {r : Result (List ℕ) WriteFault} {s t : List ℕ} → r ≡ Ok s → r ≡ Ok t → s ≡ t
-same_written h k = let both = sym h ∙ k in cc
-
 -- the text that is written, where there is one, is that of a URL
 canonical_by : (v : Location) (t : List ℕ) (fault : Bool) → in_form (if fault then Err UserWithoutHost else Ok canonical_form) v ≡ Ok t → canonical_text v ≡ t
 canonical_by v t true e = absurd (false≢true (ap is_ok e))
-canonical_by v t false e = same_written refl e
+canonical_by v t false e = one_text refl e
 
 -- a location with the scheme of file URLs and without the flag is written as a URL
 file_canonical : (v : Location) (t : List ℕ) → v.scheme ≡ file → v.flag ≡ false → text v ≡ Ok t → canonical_text v ≡ t
@@ -214,7 +182,7 @@ behind_mark v = user_information v.user v.password ++ (host_part v v.host ++ (po
 file_shaped : (v : Location) (t : List ℕ) → v.scheme ≡ file → v.flag ≡ false → text v ≡ Ok t → UrlShape t (codes "file") (behind_mark v)
 file_shaped v t scheme unflagged e =
     let joined : t ≡ codes "file" ++ (url_mark ++ behind_mark v) = sym (file_canonical v t scheme unflagged e) ∙ ap (λ p. protocol_text p ++ (url_mark ++ behind_mark v)) scheme in
-    record { no_helper = mark_no_helper t (codes "file") (behind_mark v) refl joined; first = held_free (codes "file") refl; joined = joined }
+    url_shaped t (codes "file") (behind_mark v) refl joined
 
 -- a host that needs no brackets is such a host, by the tests of its bytes
 stays_by : (colons bracket percents : Bool) → ((colons && not bracket) && percents) ≡ false → (bracket ≡ true) ⊎ ((colons ≡ false) ⊎ (percents ≡ false))
@@ -241,15 +209,15 @@ host_stays : (host path : List ℕ) → text (at_file (unless_empty host) path N
 host_stays [] path e h some = absurd (none-some h some)
 host_stays (b ∷ bs) path e h some =
     let host = b ∷ bs in
-    let cut = append_cancel_left (codes "file://") (host_part (at_file (Some host) path None) (Some host) ++ path) (host ++ path) (same_written refl e) in
+    let cut = append_cancel_left (codes "file://") (host_part (at_file (Some host) path None) (Some host) ++ path) (host ++ path) (one_text refl e) in
     subst StaysOpen (same_Some host h some) (host_stays_by host path (needs_brackets None host) refl cut)
 
 -- a spelling that matches and is written as the path is the path
 spelling_is_path : (host : Option (List ℕ)) (path s t : List ℕ) → percent_decode s ≡ path → text (at_file host path (Some s)) ≡ Ok t → text (at_file host path None) ≡ Ok t → s ≡ path
 spelling_is_path host path s t decoded spelled plain =
     let front = host_part (at_file host path None) host in
-    let used : matching_or (Some s) path path ≡ s = cond-true _ _ _ ((bytes_eq-Decides (percent_decode s) path).1 decoded) in
-    let both : codes "file://" ++ (front ++ matching_or (Some s) path path) ≡ codes "file://" ++ (front ++ path) = same_written refl (spelled ∙ sym plain) in
+    let used : matching_or (Some s) path path ≡ s = matched s path path decoded in
+    let both : codes "file://" ++ (front ++ matching_or (Some s) path path) ≡ codes "file://" ++ (front ++ path) = one_text refl (spelled ∙ sym plain) in
     sym used ∙ append_cancel_left front (matching_or (Some s) path path) path (append_cancel_left (codes "file://") (front ++ matching_or (Some s) path path) (front ++ path) both)
 
 -- what is read from the text of a location is settled where it has that text too

@@ -1,11 +1,11 @@
 -- The forms of a text exclude one another.
-use Rattle.std.proofs.Common.{◌≡◌, ℕ, inl, inr, false, List, [], ◌∷◌, ◌++◌, refl, sym, ap, subst, ◌∙◌, append_assoc, codes, bytes_eq}
-use Rattle.std.proofs.lemmas.Bool.{both_ways, cases_Bool}
+use Rattle.std.proofs.Common.{◌≡◌, ℕ, inl, inr, false, List, [], ◌∷◌, ◌++◌, refl, sym, ap, subst, ◌∙◌, append_assoc, codes}
+use Rattle.std.proofs.lemmas.Bool.{cases_Bool}
 use Rattle.gix_url.specs.Value.{Location}
 use Rattle.gix_url.specs.Bytes.{slash, colon, at_sign, left_bracket, right_bracket, FreeOf, begins_with}
 use Rattle.gix_url.specs.Cuts.{url_mark}
 use Rattle.gix_url.specs.Addresses.{IsIpv6Text}
-use Rattle.gix_url.specs.Grammar.{HasHelperForm, IsNeither, ScpFront, ScpShape, AddressedShape, IsScpShaped, SpellsHelper, SpellsUrl, SpellsFile, SpellsScp, SpellsLocal, Spells}
+use Rattle.gix_url.specs.Grammar.{HasHelperForm, IsNeither, ScpFront, ScpShape, AddressedShape, IsScpShaped, SpellsUrl, SpellsFile, SpellsScp, SpellsLocal, Spells}
 use Rattle.gix_url.specs.Laws.{IsAddressed, SpellsLocalBefore, SpellsBefore}
 use Rattle.gix_url.proofs.CutLemmas.{tails, different_bytes, cut_unique, helper_name_free, scheme_text_free, free-append, free_parts, free_head_tail, free_or_cut, begins_cut, not_free}
 use Rattle.gix_url.proofs.AddressLemmas.{is_address_byte, address_free, address_two_colons}
@@ -23,12 +23,6 @@ pub mark_no_helper : (b scheme rest : List ℕ) → FreeOf colon scheme → b �
 mark_no_helper b scheme rest free joined (name, address, parts) =
     let pieces = cut_unique colon scheme name (slash ∷ slash ∷ rest) (colon ∷ address) free (helper_name_free name colon parts.named refl) (sym joined ∙ parts.joined) in
     different_bytes 47 58 refl pieces.1
-
--- a text with another scheme than `file` is no file URL
-pub scheme_not_file : (scheme rest other : List ℕ) → FreeOf colon scheme → bytes_eq scheme (codes "file") ≡ false → scheme ++ (url_mark ++ rest) ≡ codes "file://" ++ other → ⊥
-scheme_not_file scheme rest other free apart e =
-    let pieces = scheme_cut_unique scheme (codes "file") rest other free refl e in
-    both_ways (bytes_eq scheme (codes "file")) apart (ap (λ s. bytes_eq s (codes "file")) pieces.0)
 
 -- ---- the shape `user@[address]:path`
 
@@ -67,48 +61,31 @@ address_back_free c t x y other h e = (free_head_tail c colon y (address_pieces_
 -- ---- the forms exclude one another
 
 -- the scheme of a URL has no colon
-url_scheme_free : {b : List ℕ} {v : Location} (h : SpellsUrl b v) → FreeOf colon h.parts.scheme
+pub url_scheme_free : {b : List ℕ} {v : Location} (h : SpellsUrl b v) → FreeOf colon h.parts.scheme
 url_scheme_free h = scheme_text_free h.parts.scheme colon h.spelled.scheme_text refl
 
--- a URL that isn't a file URL is none
-pub url_no_file : {b : List ℕ} {v w : Location} → SpellsUrl b v → SpellsFile b w → ⊥
-url_no_file h k =
-    scheme_not_file h.parts.scheme (h.spelled.authority ++ h.parts.path) (k.host ++ k.path) (url_scheme_free h) h.spelled.not_file (sym h.spelled.joined ∙ k.joined)
-
--- nor is it a remote helper
-pub url_no_helper : {b : List ℕ} {v w : Location} → SpellsUrl b v → SpellsHelper b w → ⊥
-url_no_helper {b} h k = mark_no_helper b h.parts.scheme (h.spelled.authority ++ h.parts.path) (url_scheme_free h) h.spelled.joined (k.name, k.address, k.parts)
-
--- nor has it the scp form or is it a local path
+-- a URL hasn't the scp form and is no local path
 pub url_not_neither : {b : List ℕ} {v : Location} → SpellsUrl b v → IsNeither b → ⊥
 url_not_neither h k = k.no_mark (h.parts.scheme, h.spelled.authority ++ h.parts.path, h.spelled.joined)
 
--- a file URL is no remote helper
-pub file_no_helper : {b : List ℕ} {v w : Location} → SpellsFile b v → SpellsHelper b w → ⊥
-file_no_helper {b} h k = mark_no_helper b (codes "file") (h.host ++ h.path) refl h.joined (k.name, k.address, k.parts)
-
--- nor has it the scp form or is it a local path
+-- the same of a file URL
 pub file_not_neither : {b : List ℕ} {v : Location} → SpellsFile b v → IsNeither b → ⊥
 file_not_neither h k = k.no_mark (codes "file", h.host ++ h.path, h.joined)
-
--- a remote helper hasn't the scp form and is no local path
-pub helper_not_neither : {b : List ℕ} {v : Location} → SpellsHelper b v → IsNeither b → ⊥
-helper_not_neither h k = k.no_helper (h.name, h.address, h.parts)
 
 -- what has the scp form is neither a remote helper nor a URL
 pub scp_neither : {b : List ℕ} {v : Location} → SpellsScp b v → IsNeither b
 scp_neither (inl h) = h.shape.neither
 scp_neither (inr h) = h.shape.neither
 
--- what has the scp form is no local path
-pub scp_no_local : {b : List ℕ} {v w : Location} → SpellsScp b v → SpellsLocal b w → ⊥
-scp_no_local (inl h) k = k.no_scp (inl (h.front, h.path, h.shape))
-scp_no_local (inr h) k = k.no_scp (inr (h.user, h.address, h.path, h.shape))
+-- it has a shape of that form
+pub scp_shaped : {b : List ℕ} {v : Location} → SpellsScp b v → IsScpShaped b
+scp_shaped (inl h) = inl (h.front, h.path, h.shape)
+scp_shaped (inr h) = inr (h.user, h.address, h.path, h.shape)
 
 -- ---- the shape `user@[address]:path` is one of the earlier scp form too
 
 -- a text in front of an `@` that begins with no bracket
-begins_before_at : (user rest : List ℕ) → begins_with left_bracket user ≡ false → begins_with left_bracket (user ++ at_sign ∷ rest) ≡ false
+pub begins_before_at : (user rest : List ℕ) → begins_with left_bracket user ≡ false → begins_with left_bracket (user ++ at_sign ∷ rest) ≡ false
 begins_before_at [] rest h = refl
 begins_before_at (c ∷ user) rest h = h
 

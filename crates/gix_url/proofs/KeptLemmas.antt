@@ -1,15 +1,17 @@
 -- Remote helpers and local paths: what is read as one is settled and is written as it was read; a settled one comes back, and nothing else does.
-use Rattle.std.proofs.Common.{◌≡◌, ℕ, ◌<◌, Bool, true, false, inl, inr, List, ◌∷◌, ◌++◌, length, Option, None, Ok, refl, sym, ap, subst, ◌∙◌, codes, bytes_eq, if◌then◌else◌}
+use Rattle.std.proofs.Common.{◌≡◌, ℕ, ◌<◌, true, false, inl, inr, List, ◌∷◌, ◌++◌, length, Option, None, Ok, refl, sym, ap, subst, ◌∙◌, codes, bytes_eq}
 use Rattle.std.proofs.lemmas.Bool.{both_ways, false≢true}
 use Rattle.std.proofs.lemmas.Slice.Eq.{bytes_eq-Decides}
 use Rattle.gix_url.specs.Value.{Protocol, Location, fields, path_alone}
 use Rattle.gix_url.specs.Value.Protocol.{file, git, ssh, http, https, ext, helper, helper_url}
 use Rattle.gix_url.specs.Bytes.{colon, is_helper_name}
-use Rattle.gix_url.specs.Schemes.{is_ssh_scheme, protocol_of}
-use Rattle.gix_url.specs.Grammar.{IsNeither, IsScpShaped, helper_protocol, SpellsHelper, UrlParts, MeansByProtocol, MeansAs, SpellsScp, SpellsLocal, Spells}
+use Rattle.gix_url.specs.Schemes.{protocol_of}
+use Rattle.gix_url.specs.Grammar.{IsNeither, IsScpShaped, helper_protocol, SpellsHelper, SpellsUrl, SpellsScp, SpellsLocal, Spells}
 use Rattle.gix_url.specs.Text.{text}
 use Rattle.gix_url.specs.Settled.{HasHostAlone, IsSettledLocal, IsSettledHelper, IsSettledBy, IsSettled}
 use Rattle.gix_url.specs.Laws.{keeps_bytes, KeepsBytes, ComesBack}
+use Rattle.gix_url.proofs.SettledLemmas.{value_of}
+use Rattle.gix_url.proofs.SchemeLemmas.{protocol_cases, helper_cases, means_cases}
 
 -- ---- values
 
@@ -19,16 +21,10 @@ kept protocol path spelling = record (path_alone protocol true path) { spelling 
 
 -- a location without the other parts is such a value
 kept_value : (v : Location) (protocol : Protocol) → v.scheme ≡ protocol → v.flag ≡ true → HasHostAlone v → v.host ≡ None → v ≡ kept protocol v.path v.spelling
-kept_value v protocol scheme flagged alone no_host = λ i. record {
-  scheme = scheme i;
-  user = alone.no_user i;
-  password = alone.no_password i;
-  host = no_host i;
-  flag = flagged i;
-  port = alone.no_port i;
-  path = v.path;
-  spelling = v.spelling;
-}
+kept_value v protocol scheme flagged alone no_host =
+    value_of v protocol true scheme flagged alone.no_password alone.no_port
+    ∙ ap (λ user. record (kept protocol v.path v.spelling) { user = user; host = v.host }) alone.no_user
+    ∙ ap (λ host. record (kept protocol v.path v.spelling) { host = host }) no_host
 
 -- a value without parts of an authority
 path_alone_alone : (protocol : Protocol) (path : List ℕ) → HasHostAlone (path_alone protocol true path)
@@ -46,23 +42,17 @@ local_written path spelling = refl
 
 -- ---- what is spelled is settled, and written as it was read
 
--- a helper's name is `ext`, or not
-helper_settled_as : (is_ext : Bool) (name path : List ℕ) → bytes_eq name (codes "ext") ≡ is_ext → is_helper_name name ≡ true → IsSettled (path_alone (if is_ext then ext else helper name) true path)
-helper_settled_as true name path same named = record { flagged = refl; alone = path_alone_alone ext path; no_host = refl; named = refl }
-helper_settled_as false name path other named = (record { flagged = refl; alone = path_alone_alone (helper name) path; no_host = refl; named = named }, other)
-
 -- a remote helper without a spelling is settled
 helper_settled : (name path : List ℕ) → is_helper_name name ≡ true → IsSettled (path_alone (helper_protocol name) true path)
-helper_settled name path named = helper_settled_as (bytes_eq name (codes "ext")) name path refl named
-
--- the text, by whether the name is `ext`
-helper_text_as : (is_ext : Bool) (name path : List ℕ) → bytes_eq name (codes "ext") ≡ is_ext → is_helper_name name ≡ true → text (path_alone (if is_ext then ext else helper name) true path) ≡ Ok (name ++ colon ∷ (colon ∷ path))
-helper_text_as true name path same named = ap (λ n. Ok (n ++ colon ∷ (colon ∷ path))) (sym ((bytes_eq-Decides name (codes "ext")).0 same))
-helper_text_as false name path other named = helper_written name path None named
+helper_settled name path named = helper_cases (λ p. IsSettled (path_alone p true path)) name
+    (λ same. record { flagged = refl; alone = path_alone_alone ext path; no_host = refl; named = refl })
+    (λ other. (record { flagged = refl; alone = path_alone_alone (helper name) path; no_host = refl; named = named }, other))
 
 -- and written as its name, `::` and its path
 helper_text : (name path : List ℕ) → is_helper_name name ≡ true → text (path_alone (helper_protocol name) true path) ≡ Ok (name ++ colon ∷ (colon ∷ path))
-helper_text name path named = helper_text_as (bytes_eq name (codes "ext")) name path refl named
+helper_text name path named = helper_cases (λ p. text (path_alone p true path) ≡ Ok (name ++ colon ∷ (colon ∷ path))) name
+    (λ same. ap (λ n. Ok (n ++ colon ∷ (colon ∷ path))) (sym ((bytes_eq-Decides name (codes "ext")).0 same)))
+    (λ other. helper_written name path None named)
 
 -- what a remote helper's form spells is settled, and written as it was read
 pub helper_unchanged : (b : List ℕ) (v : Location) → SpellsHelper b v → IsSettled v × (text v ≡ Ok b)
@@ -91,41 +81,24 @@ local_unchanged b v h = (
 
 -- ---- closure
 
--- the protocol is that of a remote helper with a name
-abbrev is_helper_protocol : Protocol → Bool
-is_helper_protocol (helper name) = true
-is_helper_protocol file = false
-is_helper_protocol git = false
-is_helper_protocol ssh = false
-is_helper_protocol http = false
-is_helper_protocol https = false
-is_helper_protocol ext = false
-is_helper_protocol (helper_url name) = false
+-- no URL but that of `ext` keeps its bytes
+url_loses : (s : List ℕ) → ¬ (protocol_of s ≡ ext) → keeps_bytes (protocol_of s) false ≡ true → ⊥
+url_loses s = protocol_cases (λ p. ¬ (p ≡ ext) → keeps_bytes p false ≡ true → ⊥) s
+    (λ e other keeps. false≢true keeps)
+    (λ e other keeps. false≢true keeps)
+    (λ other keeps. false≢true keeps)
+    (λ e other keeps. false≢true keeps)
+    (λ e other keeps. false≢true keeps)
+    (λ other keeps. other refl)
+    (λ other keeps. false≢true keeps)
 
--- no scheme of a URL is
-no_helper_scheme : (ssh_named file_named git_named http_named https_named ext_named : Bool) (s : List ℕ) → is_helper_protocol (if ssh_named then ssh else (if file_named then file else (if git_named then git else (if http_named then http else (if https_named then https else (if ext_named then ext else helper_url s)))))) ≡ false
-no_helper_scheme true a b c d e s = refl
-no_helper_scheme false true b c d e s = refl
-no_helper_scheme false false true c d e s = refl
-no_helper_scheme false false false true d e s = refl
-no_helper_scheme false false false false true e s = refl
-no_helper_scheme false false false false false true s = refl
-no_helper_scheme false false false false false false s = refl
-
--- a location without the flag keeps no bytes, but for remote helpers
-unflagged_kept : (protocol : Protocol) (b : List ℕ) (parts : UrlParts) (v : Location) → keeps_bytes protocol false ≡ false → KeepsBytes v → MeansByProtocol protocol parts v → ⊥
-unflagged_kept protocol b parts v loses keeps h = both_ways (keeps_bytes protocol false) loses (subst (λ l. KeepsBytes l) h.value keeps)
-
--- the one URL that keeps its bytes is that of `ext`
-url_kept : (protocol : Protocol) (b : List ℕ) (parts : UrlParts) (v : Location) → is_helper_protocol protocol ≡ false → KeepsBytes v → MeansAs protocol b parts v → v ≡ path_alone ext true b
-url_kept ext b parts v other keeps h = h
-url_kept file b parts v other keeps h = absurd (unflagged_kept file b parts v refl keeps h)
-url_kept git b parts v other keeps h = absurd (unflagged_kept git b parts v refl keeps h)
-url_kept ssh b parts v other keeps h = absurd (unflagged_kept ssh b parts v refl keeps h)
-url_kept http b parts v other keeps h = absurd (unflagged_kept http b parts v refl keeps h)
-url_kept https b parts v other keeps h = absurd (unflagged_kept https b parts v refl keeps h)
-url_kept (helper name) b parts v other keeps h = absurd (false≢true (sym other))
-url_kept (helper_url name) b parts v other keeps h = absurd (unflagged_kept (helper_url name) b parts v refl keeps h)
+-- a URL that keeps its bytes is its own path
+url_kept : (b : List ℕ) (v : Location) → SpellsUrl b v → KeepsBytes v → v ≡ path_alone ext true b
+url_kept b v h keeps =
+    elim (means_cases (protocol_of h.parts.scheme) b h.parts v h.means) [
+      | inl m ↦ m.1
+      | inr m ↦ absurd (url_loses h.parts.scheme m.0 (subst (λ l. KeepsBytes l) m.1.value keeps))
+    ]
 
 -- nothing in the scp form keeps its bytes
 scp_not_kept : (b : List ℕ) (v : Location) → SpellsScp b v → KeepsBytes v → ⊥
@@ -134,10 +107,7 @@ scp_not_kept b v (inr h) keeps = false≢true (subst (λ l. KeepsBytes l) h.valu
 
 -- what is spelled and keeps its bytes is settled
 pub kept_closed : (b : List ℕ) (v : Location) → Spells b v → KeepsBytes v → IsSettled v
-kept_closed b v (Spells.url h) keeps =
-    let s = h.parts.scheme in
-    let other = no_helper_scheme (is_ssh_scheme s) (bytes_eq s (codes "file")) (bytes_eq s (codes "git")) (bytes_eq s (codes "http")) (bytes_eq s (codes "https")) (bytes_eq s (codes "ext")) s in
-    subst (λ l. IsSettled l) (sym (url_kept (protocol_of s) b h.parts v other keeps h.means)) (helper_settled (codes "ext") b refl)
+kept_closed b v (Spells.url h) keeps = subst (λ l. IsSettled l) (sym (url_kept b v h keeps)) (helper_settled (codes "ext") b refl)
 kept_closed b v (Spells.file_url h) keeps = absurd (false≢true (subst (λ l. KeepsBytes l) h.value keeps))
 kept_closed b v (Spells.remote_helper h) keeps = (helper_unchanged b v h).0
 kept_closed b v (Spells.scp_form h) keeps = absurd (scp_not_kept b v h keeps)

@@ -41,3 +41,4 @@ pub mod WebExactLemmas
 pub mod ClosedLemmas
 pub mod WritableLemmas
 pub mod ComponentLemmas
+pub mod SchemeLemmas

@@ -69,13 +69,10 @@ length_percents (b ∷ bs) =
 
 -- ---- percents
 
--- what is free of `%` is written as it is
-pub percents_free : (x y : List ℕ) → FreeOf percent_sign x → escaped_percents (x ++ y) ≡ x ++ escaped_percents y
-percents_free x y free = escaped_percents-append x y ∙ ap (λ z. z ++ escaped_percents y) (escaped_percents_kept x free)
-
 -- a text is written as what stands before the first `%`, its escape, and what is written behind it
 pub percents_cut : (t x y : List ℕ) → FreeOf percent_sign x → t ≡ x ++ percent_sign ∷ y → escaped_percents t ≡ x ++ 37 ∷ 50 ∷ 53 ∷ escaped_percents y
-percents_cut t x y free whole = ap escaped_percents whole ∙ percents_free x (percent_sign ∷ y) free
+percents_cut t x y free whole =
+    ap escaped_percents whole ∙ escaped_percents-append x (percent_sign ∷ y) ∙ ap (λ z. z ++ escaped_percents (percent_sign ∷ y)) (escaped_percents_kept x free)
 
 -- ---- the first byte
 

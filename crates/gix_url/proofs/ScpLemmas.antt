@@ -1,5 +1,5 @@
 -- The scp form: its colons, the piece that its host is read from, and what is refused.
-use Rattle.std.proofs.Common.{◌≡◌, ℕ, ◌<◌, true, false, ◌==◌, ◌⊎◌, inl, inr, List, [], ◌∷◌, ◌++◌, length, Option, Some, None, refl, sym, ap, subst, ◌∙◌, arith, append_assoc, add-one, drop, eq-eqb, IsUtf8, if◌then◌else◌, slice_index, drop-cons, ◌+◌, eqb, eqb-true, IfSome, option_map, Bor}
+use Rattle.std.proofs.Common.{◌≡◌, ℕ, false, ◌==◌, ◌⊎◌, inl, inr, List, [], ◌∷◌, ◌++◌, length, Option, Some, None, refl, sym, ap, subst, ◌∙◌, arith, append_assoc, eq-eqb, IsUtf8, IfSome, option_map, Bor}
 use Rattle.std.proofs.lemmas.Bool.{both_ways, cases_Bool}
 use Rattle.std.proofs.lemmas.Option.{same_Some}
 use Rattle.std.specs.Char.{is_ascii_digit}
@@ -21,7 +21,7 @@ use Rattle.gix_url.specs.ScpPieces.{ColonsInside, NamesNoPort, NamesHost, PieceF
 use Rattle.gix_url.proofs.CutLemmas.{heads, tails, not_free, free_parts, free_head_tail, free_of_all}
 use Rattle.gix_url.proofs.EscapeLemmas.{lacks_escaped_percents, escaped_percents-append, utf8_parts}
 use Rattle.gix_url.proofs.HostLemmas.{names_unique}
-use Rattle.gix_url.proofs.ShapeLemmas.{front_cut_unique}
+use Rattle.gix_url.proofs.ShapeLemmas.{same_front}
 use Rattle.gix_url.proofs.FormLemmas.{address_cut, address_front_free}
 use Rattle.gix_url.proofs.UniqueLemmas.{scp_user_unique, addressed_unique, open_bracket_no_host, front_of_addressed}
 
@@ -159,18 +159,13 @@ backslash_refused host held = (λ meant k. held k.no_backslash, ScpHostFlaw.hold
 
 -- the front and the path are the only ones
 scp_shape_unique : (b front path other second : List ℕ) → ScpShape b front path → ScpShape b other second → (front ≡ other) × (path ≡ second)
-scp_shape_unique b front path other second h k =
-    front_cut_unique b front path other second (record { joined = h.joined; shape = h.shape }) (record { joined = k.joined; shape = k.shape })
+scp_shape_unique b front path other second h k = same_front b front path other second h.joined k.joined h.shape k.shape
 
 -- no path, no location
 pub scp_no_path : (b front : List ℕ) → ScpShape b front [] → (v : Location) → ¬ SpellsScpBefore b v
 scp_no_path b front h v k =
     let same = scp_shape_unique b front [] k.front k.path h k.shape in
     absurd (omega (arith, ap length same.1, k.pathed))
-
--- no text, no location
-pub scp_no_text : (b : List ℕ) → ¬ IsUtf8 b → (v : Location) → ¬ SpellsScpBefore b v
-scp_no_text b other v k = other k.text
 
 -- no host, no location
 pub scp_no_host : (b front path : List ℕ) (user : Option (List ℕ)) (host : List ℕ) → ScpShape b front path → ScpUser front user host → FreeOf at_sign host → ((meant : List ℕ) → ¬ ScpHost host meant) → (v : Location) → ¬ SpellsScpBefore b v
@@ -225,23 +220,9 @@ addressed_no_path b user address k v (inr h) =
     let same = addressed_unique b user h.user address h.address [] h.path k h.shape in
     absurd (omega (arith, ap length same.2, h.pathed))
 
--- a text that isn't UTF-8 is not spelled
-pub no_scp_text : (b : List ℕ) → ¬ IsUtf8 b → (v : Location) → ¬ SpellsScp b v
-no_scp_text b other v (inl h) = other h.text
-no_scp_text b other v (inr h) = other h.text
-
 -- the user before an address is UTF-8
 pub addressed_user_utf8 : (b user address path : List ℕ) → AddressedShape b user address path → IsUtf8 b → IsUtf8 user
 addressed_user_utf8 b user address path k text =
     (utf8_parts user (left_bracket ∷ (address ++ right_bracket ∷ (colon ∷ path))) at_sign (subst IsUtf8 k.joined text) (omega arith)).0
 
 -- ---- tests and steps of the code
-
--- a text that passed the test is empty
-pub empty_tested : (t : List ℕ) → true ≡ (length t == 0) → t ≡ []
-empty_tested [] h = refl
-empty_tested (b ∷ t) h = let wrong : eqb (length (b ∷ t)) 0 ≡ true = sym h in absurd (omega (arith, eqb-true (length (b ∷ t)) 0 wrong))
-
--- one byte more is written
-pub escaped_step : (text : List ℕ) (i : ℕ) → i < length text → escaped_percents (drop i text) ≡ (if slice_index text i == percent_sign then 37 ∷ 50 ∷ 53 ∷ escaped_percents (drop (i + 1) text) else slice_index text i ∷ escaped_percents (drop (i + 1) text))
-escaped_step text i h = rw (add-one, drop-cons text i 0) refl

@@ -1,11 +1,11 @@
 -- The settled class by its parts: what the small tests tell, joined.
-use Rattle.std.proofs.Common.{⊎_elim, ◌≡◌, ◌↔◌, ℕ, Bool, true, false, not, ◌==◌, ◌⊎◌, inl, inr, List, [], ◌∷◌, ◌++◌, refl, sym, ap, subst, ◌∙◌, append_assoc, Option, Some, None, IsSome, Ok, ◌&&◌, IsTrue}
+use Rattle.std.proofs.Common.{⊎_elim, ◌≡◌, ◌↔◌, ℕ, Bool, true, false, not, ◌==◌, ◌⊎◌, inl, inr, List, [], ◌∷◌, ◌++◌, refl, sym, ap, subst, ◌∙◌, append_assoc, Option, Some, None, IsSome, Result, Ok, ◌&&◌, IsTrue}
 use Rattle.std.specs.List.{list_all}
 use Rattle.std.specs.Option.{is_some, is_none}
 use Rattle.std.proofs.lemmas.List.{append_cancel_right}
 use Rattle.std.proofs.lemmas.List.Folds.{list_all-append}
 use Rattle.std.proofs.lemmas.Bool.{cond-false, and_right, both_ways, false≢true, true≢false, not-false, and_parts}
-use Rattle.gix_url.specs.Value.{Location}
+use Rattle.gix_url.specs.Value.{Protocol, Location, path_alone}
 use Rattle.gix_url.specs.Value.Protocol.{ssh, git, helper_url}
 use Rattle.gix_url.specs.Bytes.{colon, left_bracket, right_bracket, percent_sign, slash, tilde, begins_with, is_scheme_text, FreeOf, lowercase}
 use Rattle.gix_url.specs.Escapes.{has_percent}
@@ -50,6 +50,21 @@ second_needed a b fails first second either = (
 pub none_tested : {A : Type 0} (o : Option A) (b : Bool) → is_some o ≡ not b → IsTrue b ↔ (o ≡ None)
 none_tested None b e = (λ yes. refl, λ none. not-false b (sym e))
 none_tested (Some x) b e = (λ yes. absurd (true≢false (e ∙ ap not yes)), λ none. cc)
+
+-- ---- values
+
+-- a location without password and port is made of its other parts
+pub value_of : (v : Location) (protocol : Protocol) (flag : Bool) → v.scheme ≡ protocol → v.flag ≡ flag → v.password ≡ None → v.port ≡ None → v ≡ record (path_alone protocol flag v.path) { user = v.user; host = v.host; spelling = v.spelling }
+value_of v protocol flag scheme flagged no_password no_port = λ i. record {
+  scheme = scheme i;
+  user = v.user;
+  password = no_password i;
+  host = v.host;
+  flag = flagged i;
+  port = no_port i;
+  path = v.path;
+  spelling = v.spelling;
+}
 
 -- ---- local paths
 
@@ -277,6 +292,10 @@ settled_scp v = (
 
 -- ---- the texts of settled URLs
 
+-- a result holds one text
+pub one_text : {E : Type 0} {r : Result (List ℕ) E} {s t : List ℕ} → r ≡ Ok s → r ≡ Ok t → s ≡ t
+one_text h k = let both = sym h ∙ k in cc
+
 -- there isn't a user without a host
 both_given : (user host : Option (List ℕ)) → (IsSome user → IsSome host) → (is_some user && is_none host) ≡ false
 both_given None host hosted = refl
@@ -345,5 +364,5 @@ fitting_text v t free canonical is =
     let rest = user_information v.user v.password ++ (host_part v v.host ++ (port_part v.port ++ canonical_path v)) in
     let test : IsPiecesShort (protocol_text v.scheme) t ↔ FitsText t = fits_text (protocol_text v.scheme) rest t free same in (
       λ short. (t, sym is, test.0 short),
-      λ (x, e, fits). let both : Ok x ≡ Ok t = sym e ∙ sym is in let equal : x ≡ t = cc in test.1 (subst FitsText equal fits),
+      λ (x, e, fits). test.1 (subst FitsText (one_text e (sym is)) fits),
     )

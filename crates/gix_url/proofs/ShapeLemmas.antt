@@ -1,8 +1,13 @@
 -- The forms of a text: where its pieces are cut, that they are cut in one way, and that one form excludes the others.
-use Rattle.std.proofs.Common.{◌≡◌, ℕ, ◌+◌, ◌<◌, ◌≤◌, true, false, ◌⊎◌, inl, inr, List, [], ◌∷◌, ◌++◌, length, take, drop, refl, sym, ap, subst, ◌∙◌, arith, append_assoc, length-append, ◌==◌, eq-eqb, IsUtf8, codes, bytes_eq}
-use Rattle.std.proofs.lemmas.Bool.{eqb-true, both_ways, false≢true, and_parts}
+use Rattle.std.proofs.Common.{◌≡◌, ℕ, ◌+◌, ◌<◌, ◌≤◌, true, false, ◌⊎◌, inl, inr, List, [], ◌∷◌, ◌++◌, length, take, drop, refl, sym, ap, subst, ◌∙◌, arith, append_assoc, length-append, ◌==◌, eq-eqb, IsUtf8, codes, bytes_eq, All}
+use Rattle.std.proofs.lemmas.Bool.{eqb-true, both_ways, false≢true, and_parts, and_from, or_left}
 use Rattle.std.proofs.lemmas.Bool.Decides.{nat_tests}
-use Rattle.std.proofs.lemmas.List.{take_at, drop_at, append_cancel_left}
+use Rattle.std.proofs.lemmas.List.{take_at, drop_at, append_cancel_left, nil_from_length}
+use Rattle.std.proofs.lemmas.Slice.Eq.{bytes_eq-Decides}
+use Rattle.std.proofs.lemmas.List.Elements.{All-cons, All-nil}
+use Rattle.std.proofs.lemmas.Str.{IsUtf8-from_ascii}
+use Rattle.std.proofs.lemmas.Str.Ascii.{IsAscii-from_all}
+use Rattle.std.specs.List.{list_all}
 use lib.Utf8.{encode}
 use Rattle.gix_url.specs.declared.error.UrlKind.TheVariants as kind
 use Rattle.gix_url.specs.declared.error.Error.{Error}
@@ -11,7 +16,7 @@ use Rattle.gix_url.specs.Value.{Location, path_alone}
 use Rattle.gix_url.specs.Value.Protocol.{file}
 use Rattle.gix_url.specs.Bytes.{slash, colon, at_sign, left_bracket, right_bracket, FreeOf, begins_with, is_helper_name, is_name_byte}
 use Rattle.gix_url.specs.Addresses.{IsIpv6Text}
-use Rattle.gix_url.specs.Grammar.{HelperParts, HasHelperForm, IsNeither, ScpFront, AddressedShape, IsScpShaped, SpellsUrl, SpellsFile, SpellsScpBefore, SpellsScp, Spells}
+use Rattle.gix_url.specs.Grammar.{HelperParts, HasHelperForm, IsNeither, ScpFront, AddressedShape, IsScpShaped, SpellsHelper, SpellsUrl, SpellsFile, SpellsScpBefore, SpellsScp, SpellsLocal, Spells}
 use Rattle.gix_url.specs.Grammar.Spells.{url, file_url, remote_helper, scp_form, local_path}
 use Rattle.gix_url.specs.Grammar.ScpFront.{plain, bracketed}
 use Rattle.gix_url.specs.Authority.{unless_empty, Fits}
@@ -22,6 +27,7 @@ use Rattle.gix_url.specs.Shapes.{FrontCut, HasFrontCut, LacksBrackets, ScpCut, H
 use Rattle.gix_url.proofs.CutLemmas.{heads, tails, different_bytes, begins_cut, not_free, free-append, free-cons, free_parts, free_or_cut, cut_unique, last_cut_unique, mark_cut_unique, held_free, helper_name_bytes, helper_name_free, scheme_text_free}
 use Rattle.gix_url.proofs.AddressLemmas.{address_two_colons, address_free}
 use Rattle.gix_url.proofs.EscapeLemmas.{utf8_behind, utf8_class, utf8_parts}
+use Rattle.gix_url.proofs.FormLemmas.{address_cut, addressed_joined, addressed_front_free, address_front_free, mark_no_helper, url_scheme_free, url_not_neither, file_not_neither, scp_neither, scp_shaped}
 
 -- ---- remote helpers
 
@@ -42,7 +48,7 @@ no_helper_unnamed b name rest free e other (n, a, h) =
 -- ---- the colon of the scp form
 
 -- brackets around a part of the front stand around that part of the whole
-bracketed_joined : (b front path inside after : List ℕ) → b ≡ front ++ colon ∷ path → front ≡ left_bracket ∷ (inside ++ right_bracket ∷ after) → b ≡ left_bracket ∷ (inside ++ right_bracket ∷ (after ++ colon ∷ path))
+pub bracketed_joined : (b front path inside after : List ℕ) → b ≡ front ++ colon ∷ path → front ≡ left_bracket ∷ (inside ++ right_bracket ∷ after) → b ≡ left_bracket ∷ (inside ++ right_bracket ∷ (after ++ colon ∷ path))
 bracketed_joined b front path inside after e f =
     e ∙ ap (λ x. x ++ colon ∷ path) f ∙ ap (λ x. left_bracket ∷ x) (append_assoc inside (right_bracket ∷ after) (colon ∷ path))
 
@@ -54,8 +60,8 @@ plain_apart b [] path inside rest e (inl other) k = different_bytes colon left_b
 plain_apart b (c ∷ front) path inside rest e (inl other) k =
     absurd (both_ways (c == left_bracket) other (eq-eqb c left_bracket (heads (sym e ∙ k))))
 
--- two fronts with the colon of the scp form behind them are one
-same_front : (b f p g q : List ℕ) → b ≡ f ++ colon ∷ p → b ≡ g ++ colon ∷ q → ScpFront b f → ScpFront b g → (f ≡ g) × (p ≡ q)
+-- the colon of the scp form is one place of the text
+pub same_front : (b f p g q : List ℕ) → b ≡ f ++ colon ∷ p → b ≡ g ++ colon ∷ q → ScpFront b f → ScpFront b g → (f ≡ g) × (p ≡ q)
 same_front b f p g q e k (plain h _) (plain m _) = cut_unique colon f g p q h m (sym e ∙ k)
 same_front b f p g q e k (plain _ h) (bracketed inside after _ _ m) = plain_apart b f p inside (after ++ colon ∷ q) e h (bracketed_joined b g q inside after k m)
 same_front b f p g q e k (bracketed inside after _ _ m) (plain _ h) = plain_apart b g q inside (after ++ colon ∷ p) k h (bracketed_joined b f p inside after e m)
@@ -65,45 +71,14 @@ same_front b f p g q e k (bracketed i a free none m) (bracketed j c free' none' 
     let rest = cut_unique colon a c p q none none' parts.1 in
     (m ∙ ap (λ x. left_bracket ∷ (x ++ right_bracket ∷ a)) parts.0 ∙ ap (λ x. left_bracket ∷ (j ++ right_bracket ∷ x)) rest.0 ∙ sym n, rest.1)
 
--- the colon of the scp form is one place of the text
-pub front_cut_unique : (b f p g q : List ℕ) → FrontCut b f p → FrontCut b g q → (f ≡ g) × (p ≡ q)
-front_cut_unique b f p g q h k = same_front b f p g q h.joined k.joined h.shape k.shape
-
--- the front of a text begins with the text's first byte, if with any
-begins_front : (b front path : List ℕ) → b ≡ front ++ colon ∷ path → begins_with left_bracket b ≡ false → begins_with left_bracket front ≡ false
-begins_front b [] path e h = refl
-begins_front b (c ∷ front) path e h = ap (begins_with left_bracket) (sym e) ∙ h
-
--- the first colon, where no brackets stand at the front
-pub front_plain : (b front path : List ℕ) → LacksBrackets b → FreeOf colon front → b ≡ front ++ colon ∷ path → FrontCut b front path
-front_plain b front path (inl h) free e = record { joined = e; shape = plain free (inl (begins_front b front path e h)) }
-front_plain b front path (inr h) free e = record { joined = e; shape = plain free (inr h) }
-
--- no colon at all
-pub front_none : (b : List ℕ) → FreeOf colon b → ¬ HasFrontCut b
-front_none b free (front, path, h) = not_free colon front path (subst (λ x. FreeOf colon x) h.joined free)
-
--- the first colon behind brackets at the front
-pub front_bracketed : (b inside rest path : List ℕ) → FreeOf right_bracket inside → FreeOf colon rest → b ≡ left_bracket ∷ (inside ++ right_bracket ∷ (rest ++ colon ∷ path)) → FrontCut b (left_bracket ∷ (inside ++ right_bracket ∷ rest)) path
-front_bracketed b inside rest path free none e = record {
-  joined = e ∙ ap (λ x. left_bracket ∷ x) (sym (append_assoc inside (right_bracket ∷ rest) (colon ∷ path)));
-  shape = bracketed inside rest free none refl;
-}
-
--- that front is a part of the text's beginning
-pub front_length : (b inside behind rest path : List ℕ) → b ≡ left_bracket ∷ (inside ++ right_bracket ∷ behind) → behind ≡ rest ++ colon ∷ path → length inside + length rest + 2 ≤ length b
-front_length b inside behind rest path e f =
-    omega (arith, ap length e, ap length f, length-append inside (right_bracket ∷ behind), length-append rest (colon ∷ path))
-
--- the same, cut by its length
+-- the first colon behind brackets at the front, which is cut by its place
 pub front_taken : (b inside behind rest path : List ℕ) → FreeOf right_bracket inside → FreeOf colon rest → b ≡ left_bracket ∷ (inside ++ right_bracket ∷ behind) → behind ≡ rest ++ colon ∷ path → FrontCut b (take (length inside + length rest + 2) b) path
 front_taken b inside behind rest path free none e f =
-    let whole : b ≡ left_bracket ∷ (inside ++ right_bracket ∷ (rest ++ colon ∷ path)) = e ∙ ap (λ x. left_bracket ∷ (inside ++ right_bracket ∷ x)) f in
-    let found = front_bracketed b inside rest path free none whole in
     let front = left_bracket ∷ (inside ++ right_bracket ∷ rest) in
-    let size : length inside + length rest + 2 ≡ length front = omega (arith, length-append inside (right_bracket ∷ rest)) in
-    let same : take (length inside + length rest + 2) b ≡ front = ap (take (length inside + length rest + 2)) found.joined ∙ take_at front (colon ∷ path) (length inside + length rest + 2) (sym size) in
-    subst (λ x. FrontCut b x path) (sym same) found
+    let place = length inside + length rest + 2 in
+    let joined : b ≡ front ++ colon ∷ path = e ∙ ap (λ x. left_bracket ∷ (inside ++ right_bracket ∷ x)) f ∙ ap (λ x. left_bracket ∷ x) (sym (append_assoc inside (right_bracket ∷ rest) (colon ∷ path))) in
+    let same : take place b ≡ front = ap (take place) joined ∙ take_at front (colon ∷ path) place (omega (arith, length-append inside (right_bracket ∷ rest))) in
+    subst (λ x. FrontCut b x path) (sym same) record { joined = joined; shape = bracketed inside rest free none refl }
 
 -- no front where no colon stands behind the brackets
 no_front : (b inside behind front path : List ℕ) → FreeOf right_bracket inside → b ≡ left_bracket ∷ (inside ++ right_bracket ∷ behind) → FreeOf colon behind → b ≡ front ++ colon ∷ path → ScpFront b front → ⊥
@@ -120,7 +95,7 @@ front_unbracketed b inside behind free e none (front, path, h) = no_front b insi
 -- a `/` before that colon
 pub no_scp_cut : (b front path : List ℕ) → FrontCut b front path → ¬ FreeOf slash front → ¬ HasScpCut b
 no_scp_cut b front path h held (f, p, k) =
-    held (subst (λ x. FreeOf slash x) (front_cut_unique b f p front path k.around h).0 k.no_slash)
+    held (subst (λ x. FreeOf slash x) (same_front b f p front path k.around.joined h.joined k.around.shape h.shape).0 k.no_slash)
 
 -- no such colon
 pub no_scp_uncut : (b : List ℕ) → ¬ HasFrontCut b → ¬ HasScpCut b
@@ -131,17 +106,8 @@ no_scp_uncut b none (f, p, k) = none (f, p, k.around)
 -- the first colon of such a text stands in the address
 pub addressed_front : (b front rest u a p : List ℕ) → AddressedCut b u a p → FreeOf colon front → b ≡ front ++ colon ∷ rest → (x : List ℕ) × FreeOf at_sign x × (front ≡ u ++ at_sign ∷ (left_bracket ∷ x))
 addressed_front b front rest u a p h free e =
-    elim (free_or_cut colon a) [
-      | inl none ↦
-          let (x, y, z, two) = address_two_colons a h.addressed in
-          absurd (not_free colon x (y ++ colon ∷ z) (subst (λ t. FreeOf colon t) two none))
-      | inr (x, y, none, two) ↦
-          let before = free-append colon u (at_sign ∷ (left_bracket ∷ x)) h.no_colon (free-cons colon at_sign (left_bracket ∷ x) refl (free-cons colon left_bracket x refl none)) in
-          let inner : a ++ right_bracket ∷ (colon ∷ p) ≡ x ++ colon ∷ (y ++ right_bracket ∷ (colon ∷ p)) = ap (λ t. t ++ right_bracket ∷ (colon ∷ p)) two ∙ append_assoc x (colon ∷ y) (right_bracket ∷ (colon ∷ p)) in
-          let whole : b ≡ (u ++ at_sign ∷ (left_bracket ∷ x)) ++ colon ∷ (y ++ right_bracket ∷ (colon ∷ p)) = h.joined ∙ ap (λ t. u ++ at_sign ∷ (left_bracket ∷ t)) inner ∙ sym (append_assoc u (at_sign ∷ (left_bracket ∷ x)) (colon ∷ (y ++ right_bracket ∷ (colon ∷ p)))) in
-          let no_at = (free_parts at_sign x (colon ∷ y) (subst (λ t. FreeOf at_sign t) two (address_free at_sign a refl h.addressed))).0 in
-          (x, no_at, (cut_unique colon front (u ++ at_sign ∷ (left_bracket ∷ x)) rest (y ++ right_bracket ∷ (colon ∷ p)) free before (sym e ∙ whole)).0)
-    ]
+    let (x, y, none, two) = address_cut a h.addressed in
+    (x, address_front_free at_sign a x y refl h.addressed two, (cut_unique colon front (u ++ at_sign ∷ (left_bracket ∷ x)) rest (y ++ right_bracket ∷ (colon ∷ p)) free (addressed_front_free u x h.no_colon none) (sym e ∙ h.joined ∙ addressed_joined u a p x y two)).0)
 
 -- an `@` stands before it
 pub addressed_at : (b front rest : List ℕ) → FreeOf colon front → b ≡ front ++ colon ∷ rest → FreeOf at_sign front → ¬ HasAddressedCut b
@@ -149,37 +115,19 @@ addressed_at b front rest free e none (u, a, p, h) =
     let (x, no_at, is) = addressed_front b front rest u a p h free e in
     not_free at_sign u (left_bracket ∷ x) (subst (λ t. FreeOf at_sign t) is none)
 
--- a colon stands in it
-pub addressed_colon : (b : List ℕ) → FreeOf colon b → ¬ HasAddressedCut b
-addressed_colon b none (u, a, p, h) =
-    let whole = subst (λ t. FreeOf colon t) h.joined none in
-    let behind = (free_parts colon u (at_sign ∷ (left_bracket ∷ (a ++ right_bracket ∷ (colon ∷ p)))) whole).1 in
-    not_free colon (at_sign ∷ (left_bracket ∷ (a ++ right_bracket ∷ []))) p (subst (λ t. FreeOf colon t) (ap (λ t. at_sign ∷ (left_bracket ∷ t)) (sym (append_assoc a (right_bracket ∷ []) (colon ∷ p)))) behind)
-
--- the user ends at the last `@` before it
-pub addressed_user : (b front rest user last u a p : List ℕ) → AddressedCut b u a p → FreeOf colon front → b ≡ front ++ colon ∷ rest → FreeOf at_sign last → front ≡ user ++ at_sign ∷ last → u ≡ user
+-- the user ends at the last `@` before it, and this follows it
+addressed_user : (b front rest user last u a p : List ℕ) → AddressedCut b u a p → FreeOf colon front → b ≡ front ++ colon ∷ rest → FreeOf at_sign last → front ≡ user ++ at_sign ∷ last
+    → (u ≡ user) × (drop (length user) b ≡ at_sign ∷ (left_bracket ∷ (a ++ right_bracket ∷ (colon ∷ p))))
 addressed_user b front rest user last u a p h free e none f =
     let (x, no_at, is) = addressed_front b front rest u a p h free e in
-    (last_cut_unique at_sign u user (left_bracket ∷ x) last (free-cons at_sign left_bracket x refl no_at) none (sym is ∙ f)).0
-
--- and this follows it
-pub addressed_tail : (b user u a p : List ℕ) → AddressedCut b u a p → u ≡ user → drop (length user) b ≡ at_sign ∷ (left_bracket ∷ (a ++ right_bracket ∷ (colon ∷ p)))
-addressed_tail b user u a p h e =
-    ap (drop (length user)) h.joined ∙ drop_at u (at_sign ∷ (left_bracket ∷ (a ++ right_bracket ∷ (colon ∷ p)))) (length user) (ap length e)
-
--- what stands behind the bracket
-pub addressed_only : (b front rest user last behind : List ℕ) → FreeOf colon front → b ≡ front ++ colon ∷ rest → FreeOf at_sign last → front ≡ user ++ at_sign ∷ last
-    → drop (length user) b ≡ at_sign ∷ (left_bracket ∷ behind) → (u a p : List ℕ) → AddressedCut b u a p → (u ≡ user) × (behind ≡ a ++ right_bracket ∷ (colon ∷ p))
-addressed_only b front rest user last behind free e none f tail u a p h =
-    let same = addressed_user b front rest user last u a p h free e none f in
-    (same, tails (tails (sym tail ∙ addressed_tail b user u a p h same)))
+    let same : u ≡ user = (last_cut_unique at_sign u user (left_bracket ∷ x) last (free-cons at_sign left_bracket x refl no_at) none (sym is ∙ f)).0 in
+    (same, ap (drop (length user)) h.joined ∙ drop_at u (at_sign ∷ (left_bracket ∷ (a ++ right_bracket ∷ (colon ∷ p)))) (length user) (ap length same))
 
 -- no `@` or no bracket where the user ends
 pub addressed_no_bracket : (b front rest user last behind : List ℕ) → FreeOf colon front → b ≡ front ++ colon ∷ rest → FreeOf at_sign last → front ≡ user ++ at_sign ∷ last
     → drop (length user) b ≡ at_sign ∷ behind → begins_with left_bracket behind ≡ false → ¬ HasAddressedCut b
 addressed_no_bracket b front rest user last behind free e none f tail other (u, a, p, h) =
-    let same = addressed_user b front rest user last u a p h free e none f in
-    let is : behind ≡ left_bracket ∷ (a ++ right_bracket ∷ (colon ∷ p)) = tails (sym tail ∙ addressed_tail b user u a p h same) in
+    let is : behind ≡ left_bracket ∷ (a ++ right_bracket ∷ (colon ∷ p)) = tails (sym tail ∙ (addressed_user b front rest user last u a p h free e none f).1) in
     false≢true (sym other ∙ ap (begins_with left_bracket) is)
 
 -- the user and the bracket, as they were cut one behind the other
@@ -191,13 +139,10 @@ addressed_cut_front b front rest user last behind free e none f tail =
     record {
       joined = whole ∙ ap (λ t. user ++ t) (same ∙ tail);
       no_colon = (free_parts colon user (at_sign ∷ last) (subst (λ t. FreeOf colon t) f free)).0;
-      only = addressed_only b front rest user last behind free e none f tail;
+      only = λ u a p h.
+          let same = addressed_user b front rest user last u a p h free e none f in
+          (same.0, tails (tails (sym tail ∙ same.1)));
     }
-
--- no bracket that closes it
-pub addressed_no_end : (b user behind : List ℕ) → AddressedFront b user behind → FreeOf right_bracket behind → ¬ HasAddressedCut b
-addressed_no_end b user behind s none (u, a, p, h) =
-    not_free right_bracket a (colon ∷ p) (subst (λ t. FreeOf right_bracket t) (s.only u a p h).1 none)
 
 -- the address and what follows it
 addressed_pieces : (b user behind address path u a p : List ℕ) → AddressedFront b user behind → FreeOf right_bracket address → behind ≡ address ++ right_bracket ∷ path → AddressedCut b u a p → (a ≡ address) × (colon ∷ p ≡ path)
@@ -214,15 +159,6 @@ pub addressed_other : (b user behind address path : List ℕ) → AddressedFront
 addressed_other b user behind address path s free e other (u, a, p, h) =
     let same = addressed_pieces b user behind address path u a p s free e h in
     other (subst (λ t. FreeOf slash t) (s.only u a p h).0 h.no_slash) (subst IsIpv6Text same.0 h.addressed)
-
--- all pieces
-pub addressed_found : (b user behind address rest path : List ℕ) → AddressedFront b user behind → behind ≡ address ++ right_bracket ∷ rest → rest ≡ colon ∷ path → FreeOf slash user → IsIpv6Text address → AddressedCut b user address path
-addressed_found b user behind address rest path s e f free is = record {
-  joined = s.joined ∙ ap (λ t. user ++ at_sign ∷ (left_bracket ∷ t)) (e ∙ ap (λ t. address ++ right_bracket ∷ t) f);
-  no_slash = free;
-  no_colon = s.no_colon;
-  addressed = is;
-}
 
 -- ---- the answers
 
@@ -260,6 +196,10 @@ none_but fits none (error.TooLong shown total) = none
 none_but fits none (error.BadUrl kind fault input) = none
 none_but fits none (error.Unwritable fault) = none
 
+-- a text whose length is tested to be 0 is empty
+pub nil_tested : (t : List ℕ) → true ≡ (length t == 0) → t ≡ []
+nil_tested t e = nil_from_length t (eqb-true (length t) 0 (sym e))
+
 -- ---- remote helpers as text
 
 -- a byte of a name is ASCII
@@ -287,7 +227,7 @@ pub file_misses_path : (b rest : List ℕ) → UrlShape b (codes "file") rest �
 file_misses_path b rest s free = in_file rest free s.joined
 
 -- the mark of a file URL is UTF-8
-file_mark_utf8 : IsUtf8 (codes "file://")
+pub file_mark_utf8 : IsUtf8 (codes "file://")
 unfolding encode
 file_mark_utf8 = (codes "file://", (refl, refl))
 
@@ -343,16 +283,17 @@ url_pieces b front rest v s h =
 pub file_pieces : (b front rest : List ℕ) (v : Location) → UrlShape b front rest → SpellsFile b v → codes "file" ≡ front
 file_pieces b front rest v s h = (mark_cut_unique (codes "file") front (h.host ++ h.path) rest (held_free (codes "file") refl) s.first (sym h.joined ∙ s.joined)).0
 
--- texts of equal bytes are one
-pointwise_same : (xs ys : List ℕ) → bytes_eq xs ys ≡ true → xs ≡ ys
-pointwise_same [] [] h = refl
-pointwise_same [] (y ∷ ys) h = absurd (false≢true h)
-pointwise_same (x ∷ xs) [] h = absurd (false≢true h)
-pointwise_same (x ∷ xs) (y ∷ ys) h =
-    let parts = and_parts (x == y) (bytes_eq xs ys) h in
-    let rest = pointwise_same xs ys parts.1 in
-    let first = eqb-true x y parts.0 in
-    cc
+-- a text with a scheme before `://` has the shape of a URL
+pub url_shaped : (b scheme rest : List ℕ) → FreeOf colon scheme → b ≡ scheme ++ (codes "://" ++ rest) → UrlShape b scheme rest
+url_shaped b scheme rest free joined = record { no_helper = mark_no_helper b scheme rest free joined; first = held_free scheme free; joined = joined }
+
+-- so has a file URL
+pub shape_of_file : {b : List ℕ} {v : Location} → (h : SpellsFile b v) → UrlShape b (codes "file") (h.host ++ h.path)
+shape_of_file {b} h = url_shaped b (codes "file") (h.host ++ h.path) refl h.joined
+
+-- and any other URL
+pub shape_of_url : {b : List ℕ} {v : Location} → (h : SpellsUrl b v) → OtherShape b h.parts.scheme (h.spelled.authority ++ h.parts.path)
+shape_of_url {b} h = record { shape = url_shaped b h.parts.scheme (h.spelled.authority ++ h.parts.path) (url_scheme_free h) h.spelled.joined; not_file = h.spelled.not_file }
 
 -- a file URL is spelled as one alone
 pub spelled_as_file : (b rest : List ℕ) → UrlShape b (codes "file") rest → (v : Location) → Spells b v → SpellsFile b v
@@ -360,13 +301,12 @@ spelled_as_file b rest s v (url h) =
     absurd (both_ways (bytes_eq h.parts.scheme (codes "file")) h.spelled.not_file (ap (λ t. bytes_eq t (codes "file")) (url_pieces b (codes "file") rest v s h).0))
 spelled_as_file b rest s v (file_url h) = h
 spelled_as_file b rest s v (remote_helper h) = absurd (s.no_helper (h.name, h.address, h.parts))
-spelled_as_file b rest s v (scp_form (inl h)) = absurd (url_not_shaped b (codes "file") rest s h.shape.neither)
-spelled_as_file b rest s v (scp_form (inr h)) = absurd (url_not_shaped b (codes "file") rest s h.shape.neither)
+spelled_as_file b rest s v (scp_form h) = absurd (url_not_shaped b (codes "file") rest s (scp_neither h))
 spelled_as_file b rest s v (local_path h) = absurd (url_not_shaped b (codes "file") rest s h.neither)
 
 -- a scheme that passed the test
 pub file_shape : (b scheme rest : List ℕ) → UrlShape b scheme rest → true ≡ bytes_eq scheme (codes "file") → UrlShape b (codes "file") rest
-file_shape b scheme rest s h = subst (λ t. UrlShape b t rest) (pointwise_same scheme (codes "file") (sym h)) s
+file_shape b scheme rest s h = subst (λ t. UrlShape b t rest) ((bytes_eq-Decides scheme (codes "file")).0 (sym h)) s
 
 -- and one that failed it
 pub other_shape : (b scheme rest : List ℕ) → UrlShape b scheme rest → false ≡ bytes_eq scheme (codes "file") → OtherShape b scheme rest
@@ -378,24 +318,32 @@ spelled_as_url b front rest s v (url h) = h
 spelled_as_url b front rest s v (file_url h) =
     absurd (both_ways (bytes_eq front (codes "file")) s.not_file (ap (λ t. bytes_eq t (codes "file")) (sym (file_pieces b front rest v s.shape h))))
 spelled_as_url b front rest s v (remote_helper h) = absurd (s.shape.no_helper (h.name, h.address, h.parts))
-spelled_as_url b front rest s v (scp_form (inl h)) = absurd (url_not_shaped b front rest s.shape h.shape.neither)
-spelled_as_url b front rest s v (scp_form (inr h)) = absurd (url_not_shaped b front rest s.shape h.shape.neither)
+spelled_as_url b front rest s v (scp_form h) = absurd (url_not_shaped b front rest s.shape (scp_neither h))
 spelled_as_url b front rest s v (local_path h) = absurd (url_not_shaped b front rest s.shape h.neither)
 
+-- a text in the form of a remote helper is spelled as one alone
+pub spelled_as_helper : (b : List ℕ) → HasHelperForm b → (v : Location) → Spells b v → SpellsHelper b v
+spelled_as_helper b s v (url h) = absurd ((shape_of_url h).shape.no_helper s)
+spelled_as_helper b s v (file_url h) = absurd ((shape_of_file h).no_helper s)
+spelled_as_helper b s v (remote_helper h) = h
+spelled_as_helper b s v (scp_form h) = absurd ((scp_neither h).no_helper s)
+spelled_as_helper b s v (local_path h) = absurd (h.neither.no_helper s)
+
 -- what is neither a helper nor a URL is spelled in the scp form or as a local path
-url_not_neither : (b : List ℕ) (v : Location) → SpellsUrl b v → ¬ IsNeither b
-url_not_neither b v h n = n.no_mark (h.parts.scheme, h.spelled.authority ++ h.parts.path, h.spelled.joined)
+spelled_neither : (b : List ℕ) → IsNeither b → (v : Location) → Spells b v → SpellsScp b v ⊎ SpellsLocal b v
+spelled_neither b n v (url h) = absurd (url_not_neither h n)
+spelled_neither b n v (file_url h) = absurd (file_not_neither h n)
+spelled_neither b n v (remote_helper h) = absurd (n.no_helper (h.name, h.address, h.parts))
+spelled_neither b n v (scp_form h) = inl h
+spelled_neither b n v (local_path h) = inr h
 
-file_not_neither : (b : List ℕ) (v : Location) → SpellsFile b v → ¬ IsNeither b
-file_not_neither b v h n = n.no_mark (codes "file", h.host ++ h.path, h.joined)
-
--- a text with a shape of the scp form is spelled in it alone
+-- with a shape of the scp form it is spelled in it alone
 pub spelled_as_scp : (b : List ℕ) → IsNeither b → IsScpShaped b → (v : Location) → Spells b v → SpellsScp b v
-spelled_as_scp b n s v (url h) = absurd (url_not_neither b v h n)
-spelled_as_scp b n s v (file_url h) = absurd (file_not_neither b v h n)
-spelled_as_scp b n s v (remote_helper h) = absurd (n.no_helper (h.name, h.address, h.parts))
-spelled_as_scp b n s v (scp_form h) = h
-spelled_as_scp b n s v (local_path h) = absurd (h.no_scp s)
+spelled_as_scp b n s v k = elim (spelled_neither b n v k) [ inl h ↦ h | inr h ↦ absurd (h.no_scp s) ]
+
+-- and without one as a local path
+pub spelled_as_local : (b : List ℕ) → IsNeither b → ¬ IsScpShaped b → (v : Location) → Spells b v → SpellsLocal b v
+spelled_as_local b n none v k = elim (spelled_neither b n v k) [ inl h ↦ absurd (none (scp_shaped h)) | inr h ↦ h ]
 
 -- the same of the shape `user@[address]:path`
 pub spelled_as_addressed : (b user address path : List ℕ) → AddressedShape b user address path → (v : Location) → Spells b v → SpellsScp b v

@@ -14,11 +14,13 @@ use Rattle.gix_url.specs.Hosts.Mode.{bare}
 use Rattle.gix_url.specs.Schemes.{is_web_scheme, protocol_of, mode_of}
 use Rattle.gix_url.specs.Authority.{unless_empty, user_beside, Credentials, Authority}
 use Rattle.gix_url.specs.Grammar.{helper_protocol, SpellsHelper, UrlParts, SpellsParts, Peels, HostFor, path_for, retained, MeansByProtocol, MeansAs, SpellsUrl, SpellsFile, ScpFront, AddressedShape, ScpUser, Unbrackets, ScpHost, scp_location, SpellsScpBefore, SpellsScpAddressed, SpellsScp, Spells}
+use Rattle.gix_url.proofs.SchemeLemmas.{means_cases}
 use Rattle.gix_url.proofs.CutLemmas.{heads, tails, class_cut_unique, path_cut_unique, cut_unique, last_cut_unique, last_unique, scheme_text_free, helper_name_free, free-append, free_parts, free_head_tail, free_or_cut, not_free}
 use Rattle.gix_url.proofs.AddressLemmas.{address_free, address_utf8, address-lowercase}
 use Rattle.gix_url.proofs.EscapeLemmas.{decode_kept, lacks_escaped_percents, escaped_percents_kept}
-use Rattle.gix_url.proofs.FormLemmas.{scheme_cut_unique, address_cut, addressed_joined, addressed_front_free, address_front_free, address_back_free, url_no_file, url_no_helper, url_not_neither, file_no_helper, file_not_neither, helper_not_neither, scp_neither, scp_no_local}
+use Rattle.gix_url.proofs.FormLemmas.{scheme_cut_unique, address_cut, addressed_joined, addressed_front_free, address_front_free, address_back_free, scp_neither, scp_shaped}
 use Rattle.gix_url.proofs.HostLemmas.{names_unique}
+use Rattle.gix_url.proofs.ShapeLemmas.{bracketed_joined, same_front, shape_of_file, shape_of_url, spelled_as_file, spelled_as_url, spelled_as_helper, spelled_as_scp, spelled_as_local}
 
 -- ---- remote helpers
 
@@ -115,7 +117,7 @@ host_for_unique (helper name) named host other h k = h ∙ sym k
 host_for_unique (helper_url name) named host other h k = h ∙ sym k
 
 -- what the parts of a URL mean with this host
-abbrev meant_with : Protocol → UrlParts → Option (List ℕ) → Location
+abbrev pub meant_with : Protocol → UrlParts → Option (List ℕ) → Location
 meant_with protocol parts host = record {
   scheme = protocol;
   user = parts.user;
@@ -134,14 +136,13 @@ by_protocol_unique protocol parts v w h k =
 
 -- the parts of a URL mean one location
 pub means_unique : (protocol : Protocol) (b : List ℕ) (parts : UrlParts) (v w : Location) → MeansAs protocol b parts v → MeansAs protocol b parts w → v ≡ w
-means_unique ext b parts v w h k = h ∙ sym k
-means_unique file b parts v w h k = by_protocol_unique file parts v w h k
-means_unique git b parts v w h k = by_protocol_unique git parts v w h k
-means_unique ssh b parts v w h k = by_protocol_unique ssh parts v w h k
-means_unique http b parts v w h k = by_protocol_unique http parts v w h k
-means_unique https b parts v w h k = by_protocol_unique https parts v w h k
-means_unique (helper name) b parts v w h k = by_protocol_unique (helper name) parts v w h k
-means_unique (helper_url name) b parts v w h k = by_protocol_unique (helper_url name) parts v w h k
+means_unique protocol b parts v w h k =
+    elim (means_cases protocol b parts v h) [
+      | inl m ↦
+          elim (means_cases protocol b parts w k) [ inl n ↦ m.1 ∙ sym n.1 | inr n ↦ absurd (n.0 m.0) ]
+      | inr m ↦
+          elim (means_cases protocol b parts w k) [ inl n ↦ absurd (m.0 n.0) | inr n ↦ by_protocol_unique protocol parts v w m.1 n.1 ]
+    ]
 
 -- a URL's bytes spell one location in its form
 pub url_unique : (b : List ℕ) (v w : Location) → SpellsUrl b v → SpellsUrl b w → v ≡ w
@@ -163,29 +164,6 @@ file_unique b v w h k =
     h.value ∙ ap (λ x. file_location x h.path) pieces.0 ∙ ap (λ x. file_location k.host x) pieces.1 ∙ sym k.value
 
 -- ---- the scp form
-
--- a front free of colons doesn't begin with brackets around a text
-plain_apart : (b front path inside after : List ℕ) → (begins_with left_bracket front ≡ false) ⊎ FreeOf right_bracket b → b ≡ front ++ colon ∷ path → b ≡ left_bracket ∷ (inside ++ right_bracket ∷ after) → ⊥
-plain_apart b front path inside after (inl blank) e f = begins_apart (inside ++ right_bracket ∷ after) front path colon blank (sym f ∙ e) refl
-plain_apart b front path inside after (inr free) e f = not_free right_bracket (left_bracket ∷ inside) after (subst (λ s. FreeOf right_bracket s) f free)
-
--- a text whose front has brackets at its own front
-bracket_joined : (b front path inside after : List ℕ) → b ≡ front ++ colon ∷ path → front ≡ left_bracket ∷ (inside ++ right_bracket ∷ after) → b ≡ left_bracket ∷ (inside ++ right_bracket ∷ (after ++ colon ∷ path))
-bracket_joined b front path inside after e f =
-    e ∙ ap (λ s. s ++ colon ∷ path) f ∙ ap (λ s. left_bracket ∷ s) (append_assoc inside (right_bracket ∷ after) (colon ∷ path))
-
--- the text determines the front and the path of the scp form
-fronts_unique : (b front other path second : List ℕ) → ScpFront b front → ScpFront b other → b ≡ front ++ colon ∷ path → b ≡ other ++ colon ∷ second → (front ≡ other) × (path ≡ second)
-fronts_unique b front other path second (ScpFront.plain f blank) (ScpFront.plain g also) e k = cut_unique colon front other path second f g (sym e ∙ k)
-fronts_unique b front other path second (ScpFront.plain f blank) (ScpFront.bracketed x y g n j) e k =
-    absurd (plain_apart b front path x (y ++ colon ∷ second) blank e (bracket_joined b other second x y k j))
-fronts_unique b front other path second (ScpFront.bracketed x y f m i) (ScpFront.plain g blank) e k =
-    absurd (plain_apart b other second x (y ++ colon ∷ path) blank k (bracket_joined b front path x y e i))
-fronts_unique b front other path second (ScpFront.bracketed x y f m i) (ScpFront.bracketed z q g n j) e k =
-    let whole = tails (sym (bracket_joined b front path x y e i) ∙ bracket_joined b other second z q k j) in
-    let outer = cut_unique right_bracket x z (y ++ colon ∷ path) (q ++ colon ∷ second) f g whole in
-    let inner = cut_unique colon y q path second m n outer.1 in
-    (i ∙ ap (λ s. left_bracket ∷ (s ++ right_bracket ∷ y)) outer.0 ∙ ap (λ s. left_bracket ∷ (z ++ right_bracket ∷ s)) inner.0 ∙ sym j, inner.1)
 
 -- a front holds one user and one host free of `@`
 pub scp_user_unique : (front : List ℕ) (user other : Option (List ℕ)) (host second : List ℕ) → FreeOf at_sign host → FreeOf at_sign second → ScpUser front user host → ScpUser front other second → (user ≡ other) × (host ≡ second)
@@ -218,7 +196,7 @@ scp_same user other host second path last e f g = λ i. scp_location (e i) (f i)
 -- the scp form's bytes spell one location in it, where the shape `user@[address]:path` isn't used
 pub scp_before_unique : (b : List ℕ) (v w : Location) → SpellsScpBefore b v → SpellsScpBefore b w → v ≡ w
 scp_before_unique b v w h k =
-    let whole = fronts_unique b h.front k.front h.path k.path h.shape.shape k.shape.shape h.shape.joined k.shape.joined in
+    let whole = same_front b h.front h.path k.front k.path h.shape.joined k.shape.joined h.shape.shape k.shape.shape in
     let pieces = scp_user_unique k.front h.user k.user h.host k.host h.hosted.no_at k.hosted.no_at (subst (λ f. ScpUser f h.user h.host) whole.0 h.split) k.split in
     h.value ∙ scp_same h.user k.user h.meant k.meant h.path k.path pieces.0 (scp_host_unique h.host k.host h.meant k.meant pieces.1 h.hosted k.hosted) whole.1 ∙ sym k.value
 
@@ -282,7 +260,7 @@ lowercase_kept : (a : List ℕ) → IsIpv6Text a → percent_decode (lowercase a
 lowercase_kept a h = decode_kept (lowercase a) (address_free percent_sign (lowercase a) refl (address-lowercase a h))
 
 -- an address in brackets names itself in lower case
-bracketed_address_named : (a : List ℕ) → IsIpv6Text a → Names bare (left_bracket ∷ (a ++ right_bracket ∷ [])) (Some (left_bracket ∷ (lowercase a ++ right_bracket ∷ []))) None
+pub bracketed_address_named : (a : List ℕ) → IsIpv6Text a → Names bare (left_bracket ∷ (a ++ right_bracket ∷ [])) (Some (left_bracket ∷ (lowercase a ++ right_bracket ∷ []))) None
 bracketed_address_named a h =
     Names.bracketed a (lowercase a) (address_free right_bracket a refl h) (Bracketed.literal (lowercase a) (Literal.address h refl) (sym (lowercase_kept a h)) (address_utf8 (lowercase a) (address-lowercase a h))) refl refl refl
 
@@ -323,7 +301,7 @@ pub front_of_addressed : (b user address path x y front second : List ℕ) → A
 front_of_addressed b user address path x y front second h f e j (ScpFront.plain g blank) =
     inl (cut_unique colon front (user ++ at_sign ∷ (left_bracket ∷ x)) second (y ++ right_bracket ∷ (colon ∷ path)) g (addressed_front_free user x h.no_colon f) (sym j ∙ h.joined ∙ addressed_joined user address path x y e)).0
 front_of_addressed b user address path x y front second h f e j (ScpFront.bracketed inside after i n k) =
-    let whole = sym (bracket_joined b front second inside after j k) ∙ h.joined in
+    let whole = sym (bracketed_joined b front second inside after j k) ∙ h.joined in
     elim (free_or_cut right_bracket user) [
       | inl u ↦ inr (closed_front user address path inside after front second u (address_free right_bracket address refl h.addressed) i n k whole)
       | inr (s, t, u, cut) ↦
@@ -357,28 +335,8 @@ scp_unique b v w (inr h) (inr k) = scp_addressed_unique b v w h k
 
 -- bytes spell one location at most
 pub spells_unique : (b : List ℕ) (v w : Location) → Spells b v → Spells b w → v ≡ w
-spells_unique b v w (Spells.url h) (Spells.url k) = url_unique b v w h k
-spells_unique b v w (Spells.url h) (Spells.file_url k) = absurd (url_no_file h k)
-spells_unique b v w (Spells.url h) (Spells.remote_helper k) = absurd (url_no_helper h k)
-spells_unique b v w (Spells.url h) (Spells.scp_form k) = absurd (url_not_neither h (scp_neither k))
-spells_unique b v w (Spells.url h) (Spells.local_path k) = absurd (url_not_neither h k.neither)
-spells_unique b v w (Spells.file_url h) (Spells.url k) = absurd (url_no_file k h)
-spells_unique b v w (Spells.file_url h) (Spells.file_url k) = file_unique b v w h k
-spells_unique b v w (Spells.file_url h) (Spells.remote_helper k) = absurd (file_no_helper h k)
-spells_unique b v w (Spells.file_url h) (Spells.scp_form k) = absurd (file_not_neither h (scp_neither k))
-spells_unique b v w (Spells.file_url h) (Spells.local_path k) = absurd (file_not_neither h k.neither)
-spells_unique b v w (Spells.remote_helper h) (Spells.url k) = absurd (url_no_helper k h)
-spells_unique b v w (Spells.remote_helper h) (Spells.file_url k) = absurd (file_no_helper k h)
-spells_unique b v w (Spells.remote_helper h) (Spells.remote_helper k) = helper_unique b v w h k
-spells_unique b v w (Spells.remote_helper h) (Spells.scp_form k) = absurd (helper_not_neither h (scp_neither k))
-spells_unique b v w (Spells.remote_helper h) (Spells.local_path k) = absurd (helper_not_neither h k.neither)
-spells_unique b v w (Spells.scp_form h) (Spells.url k) = absurd (url_not_neither k (scp_neither h))
-spells_unique b v w (Spells.scp_form h) (Spells.file_url k) = absurd (file_not_neither k (scp_neither h))
-spells_unique b v w (Spells.scp_form h) (Spells.remote_helper k) = absurd (helper_not_neither k (scp_neither h))
-spells_unique b v w (Spells.scp_form h) (Spells.scp_form k) = scp_unique b v w h k
-spells_unique b v w (Spells.scp_form h) (Spells.local_path k) = absurd (scp_no_local h k)
-spells_unique b v w (Spells.local_path h) (Spells.url k) = absurd (url_not_neither k h.neither)
-spells_unique b v w (Spells.local_path h) (Spells.file_url k) = absurd (file_not_neither k h.neither)
-spells_unique b v w (Spells.local_path h) (Spells.remote_helper k) = absurd (helper_not_neither k h.neither)
-spells_unique b v w (Spells.local_path h) (Spells.scp_form k) = absurd (scp_no_local k h)
-spells_unique b v w (Spells.local_path h) (Spells.local_path k) = h.value ∙ sym k.value
+spells_unique b v w (Spells.url h) k = url_unique b v w h (spelled_as_url b h.parts.scheme (h.spelled.authority ++ h.parts.path) (shape_of_url h) w k)
+spells_unique b v w (Spells.file_url h) k = file_unique b v w h (spelled_as_file b (h.host ++ h.path) (shape_of_file h) w k)
+spells_unique b v w (Spells.remote_helper h) k = helper_unique b v w h (spelled_as_helper b (h.name, h.address, h.parts) w k)
+spells_unique b v w (Spells.scp_form h) k = scp_unique b v w h (spelled_as_scp b (scp_neither h) (scp_shaped h) w k)
+spells_unique b v w (Spells.local_path h) k = h.value ∙ sym (spelled_as_local b h.neither h.no_scp w k).value

@@ -48,7 +48,7 @@ no_text_refutes text user password (HasNoText.password u w free joined bad) h =
     bad (credentials_cut text u w user password free joined h).1
 
 -- a text that is not empty is itself, unless it is empty
-some_kept : (text : List ℕ) → ¬ (text ≡ []) → unless_empty text ≡ Some text
+pub some_kept : (text : List ℕ) → ¬ (text ≡ []) → unless_empty text ≡ Some text
 some_kept [] some = absurd (some refl)
 some_kept (b ∷ bs) some = refl
 

@@ -2,7 +2,7 @@
 use Rattle.std.proofs.Common.{◌≡◌, ℕ, ◌<◌, true, inl, inr, List, [], ◌∷◌, ◌++◌, length, Option, Some, None, refl, sym, ap, subst, ◌∙◌, arith, codes, append_assoc, lit<, ◌==◌, eq-eqb}
 use Rattle.std.specs.Prelude.{IfSome, IsUtf8, MatchOption}
 use Rattle.std.specs.Borrow.{Bor}
-use Rattle.std.proofs.lemmas.Bool.{both_ways, false≢true, eqb-true}
+use Rattle.std.proofs.lemmas.Bool.{both_ways, false≢true}
 use Rattle.std.proofs.lemmas.List.{nil_from_length, append-nil}
 use Rattle.percent_encoding.specs.Percent.{percent_decode}
 use Rattle.percent_encoding.proofs.PercentLemmas.{percent_decode-nil}
@@ -23,6 +23,7 @@ use Rattle.gix_url.proofs.CutLemmas.{tails, last_unique, mark_cut_unique, path_c
 use Rattle.gix_url.proofs.EscapeLemmas.{decode_byte, decode_empty, utf8_parts}
 use Rattle.gix_url.proofs.HostLemmas.{names_utf8}
 use Rattle.gix_url.proofs.UrlLemmas.{scheme_no_mark}
+use Rattle.gix_url.proofs.SchemeLemmas.{means_cases}
 
 -- ---- paths
 
@@ -115,10 +116,6 @@ scheme_utf8 {b} {parts} h =
 
 -- ---- meanings
 
--- a text whose length is tested to be 0 is empty
-pub nil_tested : (t : List ℕ) → true ≡ (length t == 0) → t ≡ []
-nil_tested t e = nil_from_length t (eqb-true (length t) 0 (sym e))
-
 -- a protocol that needs a path is that of the scheme
 pub needs_path : {p q : Protocol} → true ≡ requires_path p → p ≡ q → requires_path q ≡ true
 needs_path h e = ap requires_path (sym e) ∙ sym h
@@ -134,14 +131,8 @@ pieces_unique {b} {p} {q} h k =
 
 -- a location whose protocol needs a path has one in its URL
 means_pathed : (p : Protocol) (b : List ℕ) (parts : UrlParts) (v : Location) → requires_path p ≡ true → MeansAs p b parts v → 0 < length parts.path
-means_pathed ssh b parts v need h = h.pathed refl
-means_pathed git b parts v need h = h.pathed refl
-means_pathed http b parts v need h = absurd (false≢true need)
-means_pathed https b parts v need h = absurd (false≢true need)
-means_pathed file b parts v need h = absurd (false≢true need)
-means_pathed ext b parts v need h = absurd (false≢true need)
-means_pathed (helper name) b parts v need h = absurd (false≢true need)
-means_pathed (helper_url name) b parts v need h = absurd (false≢true need)
+means_pathed p b parts v need h =
+    elim (means_cases p b parts v h) [ inl m ↦ absurd (false≢true (sym (ap requires_path m.0) ∙ need)) | inr m ↦ m.1.pathed need ]
 
 -- a URL without a path stands for no location where its protocol needs one
 pub no_path_refutes : {b : List ℕ} {parts : UrlParts} → SpellsParts b parts → requires_path (protocol_of parts.scheme) ≡ true → parts.path ≡ [] → (v : Location) → ¬ SpellsUrl b v

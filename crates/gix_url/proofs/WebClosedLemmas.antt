@@ -1,24 +1,23 @@
 -- Locations of HTTP: what is read is settled, but for two corners.
-use Rattle.std.proofs.Common.{◌≡◌, ◌≢◌, ℕ, ◌<◌, Bool, true, false, ◌==◌, ◌||◌, ◌⊎◌, inl, inr, List, [], ◌∷◌, ◌++◌, length, Option, Some, None, Result, Ok, IsSome, IsUtf8, refl, sym, ap, subst, ◌∙◌, arith, append_assoc, codes, bytes_eq, if◌then◌else◌, lit<}
+use Rattle.std.proofs.Common.{◌≡◌, ◌≢◌, ℕ, ◌<◌, Bool, true, false, ◌==◌, ◌⊎◌, inl, inr, List, [], ◌∷◌, ◌++◌, length, Option, Some, None, Ok, IsSome, IsUtf8, refl, sym, ap, subst, ◌∙◌, arith, append_assoc, codes, lit<}
 use Rattle.std.specs.Prelude.{IfSome}
 use Rattle.std.specs.List.{list_all}
 use Rattle.std.specs.Char.{to_ascii_lowercase, is_digit}
-use Rattle.std.proofs.lemmas.Bool.{cond-true, cond-false, and_parts, and_from, or_left, both_ways, false≢true}
+use Rattle.std.proofs.lemmas.Option.{same_Some}
+use Rattle.std.proofs.lemmas.Bool.{or_right, cond-true, cond-false, or_left, both_ways, false≢true}
 use Rattle.std.proofs.lemmas.Bool.Decides.{nat_tests}
 use Rattle.std.proofs.lemmas.List.{append_cancel_left, length-map, append-nil}
-use Rattle.std.proofs.lemmas.Slice.Eq.{bytes_eq-Decides}
-use Rattle.percent_encoding.specs.Percent.{percent_encode, percent_decode}
+use Rattle.percent_encoding.specs.Percent.{percent_decode}
 use Rattle.percent_encoding.proofs.PercentLemmas.{percent_decode-nil}
-use Rattle.gix_url.specs.declared.escape.TheConstants.{PATH}
 use Rattle.gix_url.specs.Value.{Protocol, Location, fields}
-use Rattle.gix_url.specs.Value.Protocol.{file, git, ssh, http, https, ext, helper, helper_url}
+use Rattle.gix_url.specs.Value.Protocol.{file, git, ssh, http, https, ext, helper_url}
 use Rattle.gix_url.specs.Bytes.{percent_sign, slash, colon, at_sign, left_bracket, FreeOf, begins_by, begins_with, lowercase, LacksWhiteSpace}
 use Rattle.gix_url.specs.Cuts.{is_path_start, StartsPath}
-use Rattle.gix_url.specs.Escapes.{is_sound, has_percent, is_path_escaped}
+use Rattle.gix_url.specs.Escapes.{is_sound, has_percent}
 use Rattle.gix_url.specs.Hosts.{Mode, is_dns_byte, is_http_host_byte, normal_host, HostText, Names}
 use Rattle.gix_url.specs.Hosts.Mode.{strict, bare}
 use Rattle.gix_url.specs.Hosts.Names.{nothing, bracketed, bracketed_colon, bracketed_port, unbracketed, plain, plain_colon, plain_port, colons}
-use Rattle.gix_url.specs.Schemes.{is_ssh_scheme, is_web_scheme, protocol_of, protocol_text, mode_of}
+use Rattle.gix_url.specs.Schemes.{is_web_scheme, protocol_of, protocol_text, mode_of}
 use Rattle.gix_url.specs.Authority.{unless_empty, user_beside, Credentials, Authority}
 use Rattle.gix_url.specs.Authority.Credentials.{user_alone, with_password}
 use Rattle.gix_url.specs.Authority.Authority.{host_alone, with_user}
@@ -27,69 +26,61 @@ use Rattle.gix_url.specs.Text.{user_information, host_part, port_part, root_part
 use Rattle.gix_url.specs.Settled.{first_byte, IsFairSpelling, HasFittingText, IsWebName, IsWebHost, IsSettledWeb}
 use Rattle.gix_url.specs.Settled.IsWebHost.{literal, literal_colon, named, named_colon}
 use Rattle.gix_url.specs.SettledParts.{IsWeb, IsHosted}
-use Rattle.gix_url.proofs.CutLemmas.{free-append, free_begins, free_of_all, free_parts}
+use Rattle.gix_url.proofs.CutLemmas.{free-append, free_begins, free_of_all, free_parts, free_head_tail}
 use Rattle.gix_url.proofs.EscapeLemmas.{sound_tail, sound_parts, sound_around, sound_free, decode_byte, decode_kept, encode_byte_kept, encode_sound, utf8_byte, utf8_seam, utf8_encode, white_space_parts}
 use Rattle.gix_url.proofs.EscapeSets.{path_holds, white_space_path}
-use Rattle.gix_url.proofs.NormalLemmas.{normal_again, literal_again}
+use Rattle.gix_url.proofs.NormalLemmas.{normal_again, literal_again, all_lowercase, dns_lowercase}
+use Rattle.gix_url.proofs.SchemeLemmas.{protocol_cases}
+use Rattle.gix_url.proofs.WrittenPathLemmas.{start_ascii, matched, written_fair}
 use Rattle.gix_url.proofs.RowNameLemmas.{none_is_some, some_is_none}
-use Rattle.gix_url.proofs.SettledLemmas.{written_web}
-
--- some are the same that have the same
-some_same : {A : Type 0} (x y : A) → Some x ≡ Some y → x ≡ y
-some_same x y e = cc
+use Rattle.gix_url.proofs.SettledLemmas.{one_text, written_web}
 
 -- ---- hosts
-
--- a byte of a domain name stays one in lower case
-dns_byte_lowercase : (b : ℕ) → is_dns_byte b ≡ true → is_dns_byte (to_ascii_lowercase b) ≡ true
-dns_byte_lowercase b h = grind (arith, nat_tests)
-
--- a text of such bytes stays one in lower case
-dns_lowercase : (bs : List ℕ) → list_all is_dns_byte bs ≡ true → list_all is_dns_byte (lowercase bs) ≡ true
-dns_lowercase [] h = refl
-dns_lowercase (b ∷ bs) h =
-    let parts = and_parts (is_dns_byte b) (list_all is_dns_byte bs) h in
-    and_from _ _ (dns_byte_lowercase b parts.0) (dns_lowercase bs parts.1)
 
 -- a byte of a host of HTTP stays one in lower case
 http_byte_lowercase : (b : ℕ) → is_http_host_byte b ≡ true → is_http_host_byte (to_ascii_lowercase b) ≡ true
 http_byte_lowercase b h = grind (arith, nat_tests)
 
--- a text of such bytes stays one in lower case
-pub http_lowercase : (bs : List ℕ) → list_all is_http_host_byte bs ≡ true → list_all is_http_host_byte (lowercase bs) ≡ true
-http_lowercase [] h = refl
-http_lowercase (b ∷ bs) h =
-    let parts = and_parts (is_http_host_byte b) (list_all is_http_host_byte bs) h in
-    and_from _ _ (http_byte_lowercase b parts.0) (http_lowercase bs parts.1)
+-- the normal form of a host of HTTP is one, by whether the host looks like a domain name
+normal_bytes : (text : List ℕ) (is_domain : Bool) → list_all is_dns_byte text ≡ is_domain → list_all is_http_host_byte text ≡ true → list_all is_http_host_byte (normal_host text) ≡ true
+normal_bytes text true domain bytes = ap (list_all is_http_host_byte) (cond-true _ _ _ domain) ∙ all_lowercase is_http_host_byte http_byte_lowercase text bytes
+normal_bytes text false other bytes = ap (list_all is_http_host_byte) (cond-false _ _ _ other) ∙ bytes
 
--- the normal form of a sound host of HTTP is one, by whether the host looks like a domain name
-normal_facts : (text : List ℕ) (is_domain : Bool) → list_all is_dns_byte text ≡ is_domain → 0 < length text → is_sound text ≡ true → list_all is_http_host_byte text ≡ true → (0 < length (normal_host text)) × (list_all is_http_host_byte (normal_host text) ≡ true) × (is_sound (normal_host text) ≡ true)
-normal_facts text true domain some sound bytes =
-    let lower : normal_host text ≡ lowercase text = cond-true _ _ _ domain in (
-      subst (λ t. 0 < length t) (sym lower) (subst (λ n. 0 < n) (sym (length-map text to_ascii_lowercase)) some),
-      ap (list_all is_http_host_byte) lower ∙ http_lowercase text bytes,
-      ap is_sound lower ∙ sound_free (lowercase text) (free_of_all is_dns_byte percent_sign (lowercase text) (dns_lowercase text domain) refl),
-    )
-normal_facts text false other some sound bytes =
-    let same : normal_host text ≡ text = cond-false _ _ _ other in (
-      subst (λ t. 0 < length t) (sym same) some,
-      ap (list_all is_http_host_byte) same ∙ bytes,
-      ap is_sound same ∙ sound,
-    )
+-- what a text stands for in HTTP is made of such bytes
+pub meant_bytes : (text name : List ℕ) → HostText strict text name → list_all is_http_host_byte name ≡ true
+meant_bytes text name meant = ap (list_all is_http_host_byte) meant.1 ∙ normal_bytes text (list_all is_dns_byte text) refl meant.0
+
+-- the normal form of a sound text is sound, and as long
+normal_facts : (text : List ℕ) (is_domain : Bool) → list_all is_dns_byte text ≡ is_domain → 0 < length text → is_sound text ≡ true → (0 < length (normal_host text)) × (is_sound (normal_host text) ≡ true)
+normal_facts text true domain some sound =
+    let lower : normal_host text ≡ lowercase text = cond-true _ _ _ domain in
+    (subst (λ t. 0 < length t) (sym lower) (subst (λ n. 0 < n) (sym (length-map text to_ascii_lowercase)) some), ap is_sound lower ∙ sound_free (lowercase text) (free_of_all is_dns_byte percent_sign (lowercase text) (dns_lowercase text domain) refl))
+normal_facts text false other some sound =
+    let same : normal_host text ≡ text = cond-false _ _ _ other in
+    (subst (λ t. 0 < length t) (sym same) some, ap is_sound same ∙ sound)
 
 -- what a sound text stands for in HTTP is a name that stays as it is
 web_name_of : (text name : List ℕ) → 0 < length text → is_sound text ≡ true → HostText strict text name → IsWebName name
 web_name_of text name some sound meant =
-    let facts = normal_facts text (list_all is_dns_byte text) refl some sound meant.0 in
-    subst IsWebName (sym meant.1) record { nonempty = facts.0; bytes = facts.1; sound = facts.2; normal = normal_again text }
+    let facts = normal_facts text (list_all is_dns_byte text) refl some sound in
+    let is : name ≡ normal_host text = meant.1 in
+    record { nonempty = subst (λ t. 0 < length t) (sym is) facts.0; bytes = meant_bytes text name meant; sound = ap is_sound is ∙ facts.1; normal = ap normal_host is ∙ normal_again text ∙ sym is }
 
 -- a name of HTTP with a colon behind it has no bracket at its front
 no_bracket_before_colon : (name : List ℕ) → IsWebName name → begins_with left_bracket (name ++ colon ∷ []) ≡ false
 no_bracket_before_colon name h =
     free_begins left_bracket (name ++ colon ∷ []) (free-append left_bracket name (colon ∷ []) (free_of_all is_http_host_byte left_bracket name h.bytes refl) refl)
 
--- such a name holds no `%` where the host begins with a bracket or holds none
-name_before_colon : (host name : List ℕ) → IsWebName name → host ≡ name ++ colon ∷ [] → (begins_with left_bracket host ≡ true) ⊎ (has_percent host ≡ false) → has_percent name ≡ false
+-- the host begins with a bracket or holds no `%`
+abbrev pub StaysBare : List ℕ → Type 0
+StaysBare host = (begins_with left_bracket host ≡ true) ⊎ (has_percent host ≡ false)
+
+-- so does a host with a colon at its end
+abbrev pub IsApart : List ℕ → Type 0
+IsApart host = (front : List ℕ) → host ≡ front ++ colon ∷ [] → StaysBare host
+
+-- such a name holds no `%` there
+name_before_colon : (host name : List ℕ) → IsWebName name → host ≡ name ++ colon ∷ [] → StaysBare host → has_percent name ≡ false
 name_before_colon host name h e (inl bracket) = absurd (both_ways _ (no_bracket_before_colon name h) (ap (begins_with left_bracket) (sym e) ∙ bracket))
 name_before_colon host name h e (inr free) = (free_parts percent_sign name (colon ∷ []) (subst (λ t. FreeOf percent_sign t) e free)).0
 
@@ -99,71 +90,46 @@ none_not_zero port none zero = some_is_none 0 (sym zero ∙ none)
 
 -- a port that is not zero
 port_not_zero : (port : Option ℕ) (number : ℕ) → port ≡ Some number → 0 < number → port ≢ Some 0
-port_not_zero port number is some zero = omega (arith, some, some_same number 0 (sym is ∙ zero))
+port_not_zero port number is some zero = omega (arith, some, same_Some number 0 (sym is ∙ zero))
 
 -- the modes are different
 pub strict_not_bare : ¬ (strict ≡ bare)
 strict_not_bare e = cc
 
 -- a host and a port that a sound piece names in HTTP are settled, but for a name with `%` and a colon behind it
-pub web_host_closed : (piece host : List ℕ) (port : Option ℕ) → is_sound piece ≡ true → Names strict piece (Some host) port → ((front : List ℕ) → host ≡ front ++ colon ∷ [] → (begins_with left_bracket host ≡ true) ⊎ (has_percent host ≡ false)) → IsWebHost port host × (port ≢ Some 0)
+pub web_host_closed : (piece host : List ℕ) (port : Option ℕ) → is_sound piece ≡ true → Names strict piece (Some host) port → IsApart host → IsWebHost port host × (port ≢ Some 0)
 web_host_closed piece host port sound (nothing e named_as at) apart = some_is_none host named_as
 web_host_closed piece host port sound (bracketed x inner free spelled e named_as at) apart =
-    (literal inner (literal_again x inner spelled) (some_same _ _ named_as), none_not_zero port at)
+    (literal inner (literal_again x inner spelled) (same_Some _ _ named_as), none_not_zero port at)
 web_host_closed piece host port sound (bracketed_colon x inner free spelled e named_as at) apart =
-    (literal_colon inner (literal_again x inner spelled) at (some_same _ _ named_as), none_not_zero port at)
+    (literal_colon inner (literal_again x inner spelled) at (same_Some _ _ named_as), none_not_zero port at)
 web_host_closed piece host port sound (bracketed_port x inner digits number free spelled numbered e named_as at) apart =
-    (literal inner (literal_again x inner spelled) (some_same _ _ named_as), port_not_zero port number at numbered.allowed)
+    (literal inner (literal_again x inner spelled) (same_Some _ _ named_as), port_not_zero port number at numbered.allowed)
 web_host_closed piece host port sound (unbracketed reads named_as at) apart = absurd (strict_not_bare reads.0)
 web_host_closed piece host port sound (plain name is_plain meant named_as at) apart =
-    (named (subst IsWebName (some_same _ _ (sym named_as)) (web_name_of piece name is_plain.nonempty sound meant)), none_not_zero port at)
+    (named (subst IsWebName (same_Some _ _ (sym named_as)) (web_name_of piece name is_plain.nonempty sound meant)), none_not_zero port at)
 web_host_closed piece host port sound (plain_colon text name is_plain meant e named_as at) apart =
-    let whole : host ≡ name ++ colon ∷ [] = some_same _ _ named_as in
+    let whole : host ≡ name ++ colon ∷ [] = same_Some _ _ named_as in
     let before = sound_parts text [] colon refl (subst (λ t. is_sound t ≡ true) e sound) in
     let is_name = web_name_of text name is_plain.nonempty before.0 meant in
     (named_colon name is_name (name_before_colon host name is_name whole (apart name whole)) at whole, none_not_zero port at)
 web_host_closed piece host port sound (plain_port text name digits number is_plain meant numbered e named_as at) apart =
     let before = sound_parts text digits colon refl (subst (λ t. is_sound t ≡ true) e sound) in
-    (named (subst IsWebName (some_same _ _ (sym named_as)) (web_name_of text name is_plain.nonempty before.0 meant)), port_not_zero port number at numbered.allowed)
+    (named (subst IsWebName (same_Some _ _ (sym named_as)) (web_name_of text name is_plain.nonempty before.0 meant)), port_not_zero port number at numbered.allowed)
 web_host_closed piece host port sound (colons name not_strict other begins many meant named_as at) apart = absurd (not_strict refl)
 
 -- ---- what a URL of HTTP means
 
 -- the protocol is one of HTTP
-abbrev pub is_web_protocol : Protocol → Bool
+abbrev is_web_protocol : Protocol → Bool
 is_web_protocol http = true
 is_web_protocol https = true
-is_web_protocol file = false
-is_web_protocol git = false
-is_web_protocol ssh = false
-is_web_protocol ext = false
-is_web_protocol (helper name) = false
-is_web_protocol (helper_url name) = false
+is_web_protocol _ = false
 
--- only the two schemes of HTTP have such a protocol, by what the scheme is tested for
-web_scheme_by : (ssh_named file_named git_named http_named https_named ext_named : Bool) (s : List ℕ) → is_web_protocol (if ssh_named then ssh else (if file_named then file else (if git_named then git else (if http_named then http else (if https_named then https else (if ext_named then ext else helper_url s)))))) ≡ true → (http_named || https_named) ≡ true
-web_scheme_by true a b c d e s h = absurd (false≢true h)
-web_scheme_by false true b c d e s h = absurd (false≢true h)
-web_scheme_by false false true c d e s h = absurd (false≢true h)
-web_scheme_by false false false true d e s h = refl
-web_scheme_by false false false false true e s h = refl
-web_scheme_by false false false false false true s h = absurd (false≢true h)
-web_scheme_by false false false false false false s h = absurd (false≢true h)
-
--- such a scheme is one of HTTP
-pub web_scheme_of : (s : List ℕ) → is_web_protocol (protocol_of s) ≡ true → is_web_scheme s ≡ true
-web_scheme_of s h = web_scheme_by (is_ssh_scheme s) (bytes_eq s (codes "file")) (bytes_eq s (codes "git")) (bytes_eq s (codes "http")) (bytes_eq s (codes "https")) (bytes_eq s (codes "ext")) s h
-
--- a location has the protocol of its URL's scheme
-pub means_scheme : (protocol : Protocol) (b : List ℕ) (parts : UrlParts) (v : Location) → MeansAs protocol b parts v → v.scheme ≡ protocol
-means_scheme ext b parts v h = ap (λ l. l.scheme) h
-means_scheme file b parts v h = ap (λ l. l.scheme) h.value
-means_scheme git b parts v h = ap (λ l. l.scheme) h.value
-means_scheme ssh b parts v h = ap (λ l. l.scheme) h.value
-means_scheme http b parts v h = ap (λ l. l.scheme) h.value
-means_scheme https b parts v h = ap (λ l. l.scheme) h.value
-means_scheme (helper name) b parts v h = ap (λ l. l.scheme) h.value
-means_scheme (helper_url name) b parts v h = ap (λ l. l.scheme) h.value
+-- a location with another one is none of HTTP
+pub not_web : {A : Type 0} (protocol : Protocol) (v : Location) → is_web_protocol protocol ≡ false → v.scheme ≡ protocol → IsWeb v → A
+not_web protocol v other e (inl web) = absurd (both_ways _ other (ap is_web_protocol (sym e ∙ web)))
+not_web protocol v other e (inr web) = absurd (both_ways _ other (ap is_web_protocol (sym e ∙ web)))
 
 -- what the parts of a URL of HTTP mean
 abbrev pub web_meant : Protocol → UrlParts → Location
@@ -178,21 +144,18 @@ web_meant protocol parts = record {
   spelling = retained parts.path;
 }
 
--- the parts of a URL of HTTP mean that
-pub web_value : (protocol : Protocol) (b : List ℕ) (parts : UrlParts) (v : Location) → is_web_protocol protocol ≡ true → MeansAs protocol b parts v → v ≡ web_meant protocol parts
-web_value http b parts v web h = h.value ∙ ap (λ host. record (web_meant http parts) { host = host }) h.hosted
-web_value https b parts v web h = h.value ∙ ap (λ host. record (web_meant https parts) { host = host }) h.hosted
-web_value file b parts v web h = absurd (false≢true web)
-web_value git b parts v web h = absurd (false≢true web)
-web_value ssh b parts v web h = absurd (false≢true web)
-web_value ext b parts v web h = absurd (false≢true web)
-web_value (helper name) b parts v web h = absurd (false≢true web)
-web_value (helper_url name) b parts v web h = absurd (false≢true web)
-
--- a location of HTTP has such a protocol
-pub web_protocol : (v : Location) → IsWeb v → is_web_protocol v.scheme ≡ true
-web_protocol v (inl e) = ap is_web_protocol e
-web_protocol v (inr e) = ap is_web_protocol e
+-- a URL that is read as a location of HTTP has such a scheme, and its parts mean that
+pub web_read : (b : List ℕ) (v : Location) → (h : SpellsUrl b v) → IsWeb v → (is_web_scheme h.parts.scheme ≡ true) × (v ≡ web_meant (protocol_of h.parts.scheme) h.parts)
+web_read b v h web =
+    let parts = h.parts in
+    protocol_cases (λ p. MeansAs p b parts v → (is_web_scheme parts.scheme ≡ true) × (v ≡ web_meant p parts)) parts.scheme
+    (λ e m. not_web ssh v refl (ap (λ l. l.scheme) m.value) web)
+    (λ e m. not_web file v refl (ap (λ l. l.scheme) m.value) web)
+    (λ m. not_web git v refl (ap (λ l. l.scheme) m.value) web)
+    (λ e m. (or_left _ _ e, m.value ∙ ap (λ host. record (web_meant http parts) { host = host }) m.hosted))
+    (λ e m. (or_right _ _ e, m.value ∙ ap (λ host. record (web_meant https parts) { host = host }) m.hosted))
+    (λ m. not_web ext v refl (ap (λ l. l.scheme) m) web)
+    (λ m. not_web (helper_url parts.scheme) v refl (ap (λ l. l.scheme) m.value) web) h.means
 
 -- ---- credentials
 
@@ -203,7 +166,7 @@ AreCredentials user password = IfSome password (λ p. (0 < length p) × IsSome u
 -- an empty text is none
 not_some_empty : {A : Type 0} (t : List ℕ) → unless_empty t ≡ Some [] → A
 not_some_empty [] e = none_is_some [] e
-not_some_empty (b ∷ bs) e = absurd (omega (arith, ap length (some_same (b ∷ bs) [] e)))
+not_some_empty (b ∷ bs) e = absurd (omega (arith, ap length (same_Some (b ∷ bs) [] e)))
 
 -- a user without a password
 user_without : (t : List ℕ) → AreCredentials (unless_empty t) None
@@ -241,17 +204,13 @@ authority_names mode text user password host port sound (with_user information p
 start_no_digit : (c : ℕ) → is_path_start true c ≡ true → is_digit c 16 ≡ false
 start_no_digit c h = grind (arith, nat_tests)
 
--- it is no `%`
+-- and no `%`
 start_no_percent : (c : ℕ) → is_path_start true c ≡ true → (c == 37) ≡ false
 start_no_percent c h = grind (arith, nat_tests)
 
--- and it is ASCII
-start_ascii : (c : ℕ) → is_path_start true c ≡ true → c < 128
-start_ascii c h = grind (arith, nat_tests)
-
 -- what is retained of a path, by whether it holds a `%`, is the path
 pub retained_by : (path s : List ℕ) (escaped : Bool) → has_percent path ≡ escaped → retained path ≡ Some s → (path ≡ s) × (has_percent path ≡ true)
-retained_by path s true holds e = (some_same path s (sym (cond-true _ _ _ holds) ∙ e), holds)
+retained_by path s true holds e = (same_Some path s (sym (cond-true _ _ _ holds) ∙ e), holds)
 retained_by path s false lacks e = none_is_some s (sym (cond-false _ _ _ lacks) ∙ e)
 
 -- a path of a URL of HTTP, behind a sound front, and what it means
@@ -301,11 +260,10 @@ path_closed front (c ∷ rest) (inr start) text sound space meant = some_path fr
 
 -- ---- locations
 
--- the authority behind a scheme and `://` is sound where the whole is
-authority_sound : (scheme authority : List ℕ) → is_sound (scheme ++ (codes "://" ++ authority)) ≡ true → is_sound authority ≡ true
-authority_sound scheme authority sound =
-    let behind = (sound_around scheme (slash ∷ (slash ∷ authority)) colon refl sound).1 in
-    sound_tail slash authority (sound_tail slash (slash ∷ authority) behind)
+-- what stands at the end of a sound text is sound
+pub sound_behind : (xs ys : List ℕ) → is_sound (xs ++ ys) ≡ true → is_sound ys ≡ true
+sound_behind [] ys sound = sound
+sound_behind (x ∷ xs) ys sound = sound_behind xs ys (sound_tail x (xs ++ ys) sound)
 
 -- what is there
 some_there : {A : Type 0} (o : Option A) → IsSome o → (x : A) × (o ≡ Some x)
@@ -313,7 +271,7 @@ some_there None some = absurd (false≢true some)
 some_there (Some x) some = (x, refl)
 
 -- the front of a URL and its path, joined
-parts_joined : {b : List ℕ} {parts : UrlParts} → (h : SpellsParts b parts) → b ≡ (parts.scheme ++ (codes "://" ++ h.authority)) ++ parts.path
+pub parts_joined : {b : List ℕ} {parts : UrlParts} → (h : SpellsParts b parts) → b ≡ (parts.scheme ++ (codes "://" ++ h.authority)) ++ parts.path
 parts_joined {b} {parts} h = h.joined ∙ sym (append_assoc parts.scheme (codes "://" ++ h.authority) parts.path)
 
 -- the path of a URL of HTTP
@@ -323,7 +281,7 @@ url_path_closed {b} {parts} web h =
     path_closed (parts.scheme ++ (codes "://" ++ h.authority)) parts.path (subst (λ w. StartsPath w parts.path) web h.path_starts) (subst IsUtf8 joined h.text) (subst (λ t. is_sound t ≡ true) joined h.sound) (subst LacksWhiteSpace joined h.no_white_space) h.path_text
 
 -- what the parts of a URL of HTTP mean is settled
-parts_closed : {b : List ℕ} {parts : UrlParts} → (protocol : Protocol) → is_web_scheme parts.scheme ≡ true → SpellsParts b parts → ((host front : List ℕ) → parts.host ≡ Some host → host ≡ front ++ colon ∷ [] → (begins_with left_bracket host ≡ true) ⊎ (has_percent host ≡ false)) → HasFittingText (web_meant protocol parts) → IsSettledWeb (web_meant protocol parts)
+parts_closed : {b : List ℕ} {parts : UrlParts} → (protocol : Protocol) → is_web_scheme parts.scheme ≡ true → SpellsParts b parts → ((host : List ℕ) → parts.host ≡ Some host → IsApart host) → HasFittingText (web_meant protocol parts) → IsSettledWeb (web_meant protocol parts)
 parts_closed {b} {parts} protocol web h apart fits =
     let mode : mode_of parts.scheme ≡ strict = cond-true _ _ _ web in
     let hosted : IsSome parts.host = h.hosted (or_left _ _ web) in
@@ -331,8 +289,8 @@ parts_closed {b} {parts} protocol web h apart fits =
     let way = url_path_closed web h in
     let named : Authority strict h.authority parts.user parts.password parts.host parts.port = subst (λ m. Authority m h.authority parts.user parts.password parts.host parts.port) mode h.named in
     let credentials = authority_closed strict h.authority parts.user parts.password parts.host parts.port named in
-    let names = authority_names strict h.authority parts.user parts.password parts.host parts.port (authority_sound parts.scheme h.authority way.front_sound) named in
-    let host = web_host_closed names.0 some.0 parts.port names.1 (subst (λ o. Names strict names.0 o parts.port) some.1 names.2) (λ front e. apart some.0 front some.1 e) in record {
+    let names = authority_names strict h.authority parts.user parts.password parts.host parts.port (sound_behind (codes "://") h.authority (sound_behind parts.scheme (codes "://" ++ h.authority) way.front_sound)) named in
+    let host = web_host_closed names.0 some.0 parts.port names.1 (subst (λ o. Names strict names.0 o parts.port) some.1 names.2) (apart some.0 some.1) in record {
       common = record {
         unflagged = refl;
         password = credentials.0;
@@ -349,84 +307,17 @@ parts_closed {b} {parts} protocol web h apart fits =
     }
 
 -- a location of HTTP that is read is settled where its text is short enough, but for a host with `%` and a colon behind it
-pub web_closed : (b : List ℕ) (v : Location) → SpellsUrl b v → IsWeb v → ((h front : List ℕ) → v.host ≡ Some h → h ≡ front ++ colon ∷ [] → (begins_with left_bracket h ≡ true) ⊎ (has_percent h ≡ false)) → HasFittingText v → IsSettledWeb v
-web_closed b v spelled web apart fits =
-    let parts = spelled.parts in
-    let protocol = protocol_of parts.scheme in
-    let is_web : is_web_protocol protocol ≡ true = ap is_web_protocol (sym (means_scheme protocol b parts v spelled.means)) ∙ web_protocol v web in
-    let value : v ≡ web_meant protocol parts = web_value protocol b parts v is_web spelled.means in
+pub web_closed : (b : List ℕ) (v : Location) → SpellsUrl b v → IsWeb v → ((h : List ℕ) → v.host ≡ Some h → IsApart h) → HasFittingText v → IsSettledWeb v
+web_closed b v h web apart fits =
+    let (is_web, value) = web_read b v h web in
     subst (λ l. IsSettledWeb l) (sym value)
-    (parts_closed protocol (web_scheme_of parts.scheme is_web) spelled.spelled (λ h front e. apart h front (ap (λ l. l.host) value ∙ e)) (subst (λ l. HasFittingText l) value fits))
+    (parts_closed (protocol_of h.parts.scheme) is_web h.spelled (λ host e. apart host (ap (λ l. l.host) value ∙ e)) (subst (λ l. HasFittingText l) value fits))
 
 -- ---- the same text
 
 -- the location with another spelling
-abbrev spelled_as : Location → Option (List ℕ) → Location
+abbrev pub spelled_as : Location → Option (List ℕ) → Location
 spelled_as v spelling = record v { spelling = spelling }
-
--- a matching spelling is what is written
-match_written : (spelling : Option (List ℕ)) (s path other : List ℕ) → spelling ≡ Some s → percent_decode s ≡ path → matching_or spelling path other ≡ s
-match_written spelling s path other e matches =
-    ap (λ o. matching_or o path other) e ∙ cond-true _ _ _ ((bytes_eq-Decides (percent_decode s) path).1 matches)
-
--- what is written is what stands in for a spelling, or a matching spelling
-data WritesAs (spelling : Option (List ℕ)) (path other shown : List ℕ) : Type 0 where
-  in_place : shown ≡ other → WritesAs spelling path other shown
-  as_spelled : (s : List ℕ) → spelling ≡ Some s → percent_decode s ≡ path → shown ≡ s → WritesAs spelling path other shown
-
--- a spelling that is there is one or the other, by whether it matches
-writes_by : (s path other : List ℕ) (matches : Bool) → bytes_eq (percent_decode s) path ≡ matches → WritesAs (Some s) path other (matching_or (Some s) path other)
-writes_by s path other true e = as_spelled s refl ((bytes_eq-Decides (percent_decode s) path).0 e) (cond-true _ _ _ e)
-writes_by s path other false e = in_place (cond-false _ _ _ e)
-
--- a written path is one or the other
-writes_as : (spelling : Option (List ℕ)) (path other : List ℕ) → WritesAs spelling path other (matching_or spelling path other)
-writes_as None path other = in_place refl
-writes_as (Some s) path other = writes_by s path other (bytes_eq (percent_decode s) path) refl
-
--- a start of a path is written as it is
-start_kept : (c : ℕ) → is_path_start true c ≡ true → is_path_escaped c ≡ false
-start_kept c h = grind (arith, nat_tests)
-
--- a path is written with its first byte
-path_front : (path : List ℕ) → begins_by (is_path_start true) path ≡ true → first_byte (percent_encode PATH path) ≡ first_byte path
-path_front [] starts = absurd (false≢true starts)
-path_front (c ∷ rest) starts =
-    let ascii = start_ascii c starts in
-    ap first_byte (encode_byte_kept PATH c rest ascii (path_holds c ascii ∙ start_kept c starts))
-
--- a written path that matches and isn't the path holds an escape
-escaped_by : (s path : List ℕ) (escaped : Bool) → has_percent s ≡ escaped → percent_decode s ≡ path → ¬ (s ≡ path) → has_percent s ≡ true
-escaped_by s path true holds matches other = holds
-escaped_by s path false lacks matches other = absurd (other (sym (decode_kept s lacks) ∙ matches))
-
--- such a written path is a fair spelling
-encoded_fair : (path : List ℕ) → begins_by (is_path_start true) path ≡ true → percent_decode (percent_encode PATH path) ≡ path → ¬ (percent_encode PATH path ≡ path) → IsFairSpelling (percent_encode PATH path) path
-encoded_fair path starts matches other = record {
-  text = utf8_encode PATH path;
-  sound = encode_sound PATH path refl;
-  escaped = escaped_by (percent_encode PATH path) path (has_percent (percent_encode PATH path)) refl matches other;
-  no_white_space = white_space_path path;
-  front = path_front path starts;
-}
-
--- a spelling that matches and is written as a fair one or as no spelling is fair, unless it is the path
-spelling_fair : (spelling : Option (List ℕ)) (s path shown : List ℕ) → begins_by (is_path_start true) path ≡ true → percent_decode s ≡ path → ¬ (s ≡ path) → s ≡ shown → ((t : List ℕ) → spelling ≡ Some t → percent_decode t ≡ path → IsFairSpelling t path) → WritesAs spelling path (percent_encode PATH path) shown → IsFairSpelling s path
-spelling_fair spelling s path shown starts matches other same fair (in_place e) =
-    let is : percent_encode PATH path ≡ s = sym (same ∙ e) in
-    subst (λ t. IsFairSpelling t path) is
-    (encoded_fair path starts (ap percent_decode is ∙ matches) (λ k. other (sym is ∙ k)))
-spelling_fair spelling s path shown starts matches other same fair (as_spelled t e decodes is) =
-    subst (λ x. IsFairSpelling x path) (sym (same ∙ is)) (fair t e decodes)
-
--- the path of HTTP is written escaped
-plain_web : (v : Location) → IsWeb v → plain_path v.scheme v.path ≡ percent_encode PATH v.path
-plain_web v (inl e) = ap (λ p. plain_path p v.path) e
-plain_web v (inr e) = ap (λ p. plain_path p v.path) e
-
--- a text that is there is one
-okay_same : {E : Type 0} (r : Result (List ℕ) E) (x y : List ℕ) → r ≡ Ok x → r ≡ Ok y → x ≡ y
-okay_same r x y h k = let both : Ok x ≡ Ok y = sym h ∙ k in cc
 
 -- locations of HTTP that differ in their spellings and are written alike have paths that are written alike
 same_paths : (v : Location) (spelling : Option (List ℕ)) → IsWeb v → v.flag ≡ false → IsHosted v → text (spelled_as v spelling) ≡ text v → matching_or spelling v.path (plain_path v.scheme v.path) ≡ matching_or v.spelling v.path (plain_path v.scheme v.path)
@@ -434,7 +325,7 @@ same_paths v spelling web unflagged hosted same =
     let w = spelled_as v spelling in
     let mine : text v ≡ Ok (canonical_text v) = (written_web v web).canonical unflagged hosted in
     let other : text w ≡ Ok (canonical_text w) = (written_web w web).canonical unflagged record { user_hosted = hosted.user_hosted; port_hosted = hosted.port_hosted } in
-    let whole : canonical_text w ≡ canonical_text v = okay_same (text w) _ _ other (same ∙ mine) in
+    let whole : canonical_text w ≡ canonical_text v = one_text other (same ∙ mine) in
     let behind = append_cancel_left (protocol_text v.scheme) _ _ whole in
     let authority = append_cancel_left (codes "://") _ _ behind in
     let host = append_cancel_left (user_information v.user v.password) _ _ authority in
@@ -447,8 +338,7 @@ exact_as : (v : Location) (spelling : Option (List ℕ)) → IsWeb v → ¬ (v.s
 exact_as v spelling web other same h =
     let c = h.common in
     let hosted : IsHosted v = record { user_hosted = c.user_hosted; port_hosted = c.port_hosted } in
-    let paths = same_paths v spelling web c.unflagged hosted same in
-    let shown = writes_as spelling v.path (plain_path v.scheme v.path) in record {
+    let paths = same_paths v spelling web c.unflagged hosted same in record {
       common = record {
         unflagged = c.unflagged;
         password = c.password;
@@ -458,10 +348,9 @@ exact_as v spelling web other same h =
         fits = (c.fits.0, sym same ∙ c.fits.1, c.fits.2);
         path_text = c.path_text;
         spelling = λ s e matches.
-            spelling_fair spelling s v.path _ h.path matches (λ k. other (e ∙ ap (λ t. Some t) k))
-            (sym (match_written v.spelling s v.path (plain_path v.scheme v.path) e matches) ∙ sym paths)
-            c.spelling
-            (subst (λ plain. WritesAs spelling v.path plain (matching_or spelling v.path (plain_path v.scheme v.path))) (plain_web v web) shown);
+            let plain = plain_path v.scheme v.path in
+            let written : matching_or v.spelling v.path plain ≡ s = ap (λ o. matching_or o v.path plain) e ∙ matched s v.path plain matches in
+            written_fair (spelled_as v spelling) web h.path record { path_text = c.path_text; spelling = c.spelling } s (paths ∙ written) (λ k. other (e ∙ ap (λ t. Some t) k));
       };
       host = h.host;
       port = h.port;

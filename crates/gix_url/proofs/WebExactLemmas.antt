@@ -1,17 +1,17 @@
 -- Locations of HTTP: nothing outside the settled class comes back.
-use Rattle.std.proofs.Common.{◌≡◌, ℕ, ◌<◌, Bool, true, false, not, ◌==◌, ◌||◌, ◌⊎◌, inl, inr, List, [], ◌∷◌, ◌++◌, length, Option, Some, None, Ok, IsSome, refl, sym, ap, subst, ◌∙◌, arith, append_assoc, bytes_eq, codes, if◌then◌else◌}
+use Rattle.std.proofs.Common.{◌≡◌, ℕ, ◌<◌, Bool, true, false, not, ◌==◌, ◌||◌, ◌⊎◌, inl, inr, List, [], ◌∷◌, ◌++◌, length, Option, Some, None, Ok, IsSome, refl, sym, ap, subst, ◌∙◌, arith, append_assoc, codes}
 use Rattle.std.specs.Prelude.{IfSome, IsUtf8, is_some}
 use Rattle.std.specs.List.{list_all}
-use Rattle.std.proofs.lemmas.Bool.{cond-true, cond-false, and_from, or_right, both_ways, cases_Bool}
+use Rattle.std.proofs.lemmas.Bool.{cond-true, and_from, or_right, both_ways}
 use Rattle.std.proofs.lemmas.Bool.Decides.{nat_tests}
 use Rattle.std.proofs.lemmas.List.{append-nil}
 use Rattle.std.proofs.lemmas.Option.{IfSome_then, same_Some}
 use Rattle.gix_url.specs.Value.{Protocol, Location, fields}
-use Rattle.gix_url.specs.Value.Protocol.{ext, helper}
+use Rattle.gix_url.specs.Value.Protocol.{file, ssh, ext, helper}
 use Rattle.gix_url.specs.Bytes.{at_sign, colon, left_bracket, right_bracket, Lacks, FreeOf, begins_with}
 use Rattle.gix_url.specs.Cuts.{is_path_start, StartsPath}
 use Rattle.gix_url.specs.Escapes.{has_percent, escaped_percents}
-use Rattle.gix_url.specs.Hosts.{is_dns_byte, is_http_host_byte, normal_host, HostText, Names}
+use Rattle.gix_url.specs.Hosts.{is_http_host_byte, Names}
 use Rattle.gix_url.specs.Hosts.Mode.{strict}
 use Rattle.gix_url.specs.Hosts.Names.{nothing, bracketed, bracketed_colon, bracketed_port, unbracketed, plain, plain_colon, plain_port, colons}
 use Rattle.gix_url.specs.Schemes.{is_web_scheme, protocol_of, protocol_text, mode_of}
@@ -24,14 +24,16 @@ use Rattle.gix_url.specs.SettledParts.{IsWeb}
 use Rattle.gix_url.specs.WrittenPieces.{WritesInformation}
 use Rattle.gix_url.proofs.CutLemmas.{begins-append, lacks-append, lacks-cons, lacks_of_all, free_of_all, free_of_lacked, held_free, lacks_weaker, mark_cut_unique, not_free, path_cut_unique, scheme_text_free}
 use Rattle.gix_url.proofs.EscapeLemmas.{lacks_escaped_percents}
+use Rattle.gix_url.proofs.SchemeLemmas.{helper_cases}
 use Rattle.gix_url.proofs.RowNameLemmas.{some_is_none}
 use Rattle.gix_url.proofs.UrlLemmas.{authority_alone, authority_cut, scheme_no_mark}
 use Rattle.gix_url.proofs.UrlLocationLemmas.{texts}
-use Rattle.gix_url.proofs.SettledLemmas.{written_web}
+use Rattle.gix_url.proofs.SettledLemmas.{one_text, written_web}
 use Rattle.gix_url.proofs.WrittenUserLemmas.{information_written}
 use Rattle.gix_url.proofs.WrittenUrlLemmas.{authority_text, canonical_cut}
 use Rattle.gix_url.proofs.WrittenPathLemmas.{web_path_written}
-use Rattle.gix_url.proofs.WebClosedLemmas.{http_lowercase, strict_not_bare, is_web_protocol, web_scheme_of, means_scheme, web_meant, web_value, web_protocol, AreCredentials, authority_closed, url_path_closed, web_closed, web_exact_spelling}
+use Rattle.gix_url.proofs.WebClosedLemmas.{meant_bytes, strict_not_bare, not_web, web_meant, web_read, AreCredentials, authority_closed, url_path_closed, web_closed, web_exact_spelling}
+use Rattle.gix_url.proofs.WrittenScpLemmas.{holds_colon}
 
 -- ---- hosts with a colon at their end
 
@@ -42,15 +44,6 @@ ends_host b = b == at_sign || is_path_start true b
 -- a byte of a host of HTTP is no such byte
 host_byte_inside : (b : ℕ) → is_http_host_byte b ≡ true → ends_host b ≡ false
 host_byte_inside b h = grind (arith, nat_tests)
-
--- the normal form of a host of HTTP is one, by whether the host looks like a domain name
-normal_bytes : (text : List ℕ) (is_domain : Bool) → list_all is_dns_byte text ≡ is_domain → list_all is_http_host_byte text ≡ true → list_all is_http_host_byte (normal_host text) ≡ true
-normal_bytes text true domain bytes = ap (list_all is_http_host_byte) (cond-true _ _ _ domain) ∙ http_lowercase text bytes
-normal_bytes text false other bytes = ap (list_all is_http_host_byte) (cond-false _ _ _ other) ∙ bytes
-
--- what a text stands for in HTTP is made of such bytes
-meant_bytes : (text named : List ℕ) → HostText strict text named → list_all is_http_host_byte named ≡ true
-meant_bytes text named meant = ap (list_all is_http_host_byte) meant.1 ∙ normal_bytes text (list_all is_dns_byte text) refl meant.0
 
 -- a host of such bytes has no colon at its end
 no_colon_behind : {A : Type 0} (host front named : List ℕ) → list_all is_http_host_byte named ≡ true → host ≡ named → host ≡ front ++ colon ∷ [] → A
@@ -117,18 +110,10 @@ brackets_no_at host lacks = free_of_lacked ends_host at_sign (in_brackets host) 
 brackets_before_path : (host : List ℕ) → Lacks ends_host host → Lacks (is_path_start true) (in_brackets host)
 brackets_before_path host lacks = lacks_weaker (is_path_start true) ends_host (λ b e. or_right (b == at_sign) _ e) (in_brackets host) (brackets_lack host lacks)
 
--- a text with a colon at its end holds one
-colon_there : (host front : List ℕ) → host ≡ front ++ colon ∷ [] → has_colon host ≡ true
-colon_there host front ends =
-    elim (cases_Bool (has_colon host)) [
-      | inl there ↦ there
-      | inr free ↦ absurd (not_free colon front [] (subst (λ t. FreeOf colon t) ends free))
-    ]
-
 -- a host with a colon at its end and an escape in it, and without a bracket at its front, is written in brackets
 brackets_needed : (port : Option ℕ) (host front : List ℕ) → host ≡ front ++ colon ∷ [] → begins_with left_bracket host ≡ false → has_percent host ≡ true → needs_brackets port host ≡ true
 brackets_needed port host front ends no_bracket escaped =
-    and_from (wants_brackets host) _ (and_from (has_colon host) _ (colon_there host front ends) (ap not no_bracket)) (or_right (is_some port) _ escaped)
+    and_from (wants_brackets host) _ (and_from (has_colon host) _ (ap has_colon ends ∙ holds_colon front []) (ap not no_bracket)) (or_right (is_some port) _ escaped)
 
 -- ---- user information in front of them
 
@@ -188,8 +173,7 @@ path_shown {t} {parts} protocol web is_web h =
 -- what is read has its canonical text
 canonical_shown : (t : List ℕ) (protocol : Protocol) (parts : UrlParts) → IsWeb (web_meant protocol parts) → IsSome parts.host → text (web_meant protocol parts) ≡ Ok t → canonical_text (web_meant protocol parts) ≡ t
 canonical_shown t protocol parts web hosted written =
-    let canonical = (written_web (web_meant protocol parts) web).canonical refl record { user_hosted = λ given. hosted; port_hosted = λ given. hosted } in
-    let both : Ok (canonical_text (web_meant protocol parts)) ≡ Ok t = sym canonical ∙ written in cc
+    one_text ((written_web (web_meant protocol parts) web).canonical refl record { user_hosted = λ given. hosted; port_hosted = λ given. hosted }) written
 
 -- a host with an escape and a colon at its end, and without a bracket at its front, isn't written as it was read
 no_corner_parts : {t : List ℕ} {parts : UrlParts} → (protocol : Protocol) → IsWeb (web_meant protocol parts) → is_web_scheme parts.scheme ≡ true → SpellsParts t parts → text (web_meant protocol parts) ≡ Ok t → (host front : List ℕ) → parts.host ≡ Some host → host ≡ front ++ colon ∷ [] → begins_with left_bracket host ≡ false → has_percent host ≡ true → ⊥
@@ -209,30 +193,19 @@ no_corner_parts {t} {parts} protocol web is_web h written host front hosted ends
 -- neither is that of a location that is read
 no_corner : (t : List ℕ) (w : Location) → SpellsUrl t w → IsWeb w → text w ≡ Ok t → (host front : List ℕ) → w.host ≡ Some host → host ≡ front ++ colon ∷ [] → begins_with left_bracket host ≡ false → has_percent host ≡ true → ⊥
 no_corner t w url web written host front hosted ends no_bracket escaped =
-    let protocol = protocol_of url.parts.scheme in
-    let is_web : is_web_protocol protocol ≡ true = ap is_web_protocol (sym (means_scheme protocol t url.parts w url.means)) ∙ web_protocol w web in
-    let value : w ≡ web_meant protocol url.parts = web_value protocol t url.parts w is_web url.means in
-    no_corner_parts protocol (subst (λ l. IsWeb l) value web) (web_scheme_of url.parts.scheme is_web) url.spelled (subst (λ l. text l ≡ Ok t) value written) host front (sym (ap (λ l. l.host) value) ∙ hosted) ends no_bracket escaped
+    let (is_web, value) = web_read t w url web in
+    no_corner_parts (protocol_of url.parts.scheme) (subst (λ l. IsWeb l) value web) is_web url.spelled (subst (λ l. text l ≡ Ok t) value written) host front (sym (ap (λ l. l.host) value) ∙ hosted) ends no_bracket escaped
 
 -- ---- nothing else comes back
 
--- the protocol of a remote helper is none of HTTP, by whether its name is `ext`
-helper_no_web : (name : List ℕ) (is_ext : Bool) → is_web_protocol (if is_ext then ext else helper name) ≡ false
-helper_no_web name true = refl
-helper_no_web name false = refl
-
--- a scheme that is none of HTTP
-not_web : {A : Type 0} (p q : Protocol) → p ≡ q → is_web_protocol q ≡ false → is_web_protocol p ≡ true → A
-not_web p q e other web = absurd (both_ways _ other (sym (ap is_web_protocol e) ∙ web))
-
 -- a location of HTTP is spelled by a URL
-pub spelled_by_url : (t : List ℕ) (w : Location) → is_web_protocol w.scheme ≡ true → Spells t w → SpellsUrl t w
+pub spelled_by_url : (t : List ℕ) (w : Location) → IsWeb w → Spells t w → SpellsUrl t w
 spelled_by_url t w web (Spells.url h) = h
-spelled_by_url t w web (Spells.file_url h) = not_web _ _ (ap (λ l. l.scheme) h.value) refl web
-spelled_by_url t w web (Spells.remote_helper h) = not_web _ _ (ap (λ l. l.scheme) h.value) (helper_no_web h.name (bytes_eq h.name (codes "ext"))) web
-spelled_by_url t w web (Spells.scp_form (inl h)) = not_web _ _ (ap (λ l. l.scheme) h.value) refl web
-spelled_by_url t w web (Spells.scp_form (inr h)) = not_web _ _ (ap (λ l. l.scheme) h.value) refl web
-spelled_by_url t w web (Spells.local_path h) = not_web _ _ (ap (λ l. l.scheme) h.value) refl web
+spelled_by_url t w web (Spells.file_url h) = not_web file w refl (ap (λ l. l.scheme) h.value) web
+spelled_by_url t w web (Spells.remote_helper h) = helper_cases (λ p. w.scheme ≡ p → SpellsUrl t w) h.name (λ same e. not_web ext w refl e web) (λ other e. not_web (helper h.name) w refl e web) (ap (λ l. l.scheme) h.value)
+spelled_by_url t w web (Spells.scp_form (inl h)) = not_web ssh w refl (ap (λ l. l.scheme) h.value) web
+spelled_by_url t w web (Spells.scp_form (inr h)) = not_web ssh w refl (ap (λ l. l.scheme) h.value) web
+spelled_by_url t w web (Spells.local_path h) = not_web file w refl (ap (λ l. l.scheme) h.value) web
 
 -- one of two tests passes, where they don't fail together
 either_by : (bracket escaped : Bool) → (bracket ≡ false → escaped ≡ true → ⊥) → (bracket ≡ true) ⊎ (escaped ≡ false)
@@ -254,7 +227,7 @@ fits_read {t} {parts} h = record {
 reread_settled : (t : List ℕ) (w : Location) → SpellsUrl t w → IsWeb w → text w ≡ Ok t → IsSettledWeb w
 reread_settled t w url web written =
     web_closed t w url web
-    (λ h front hosted ends. either_by _ _ (λ no_bracket escaped. no_corner t w url web written h front hosted ends no_bracket escaped))
+    (λ h hosted front ends. either_by _ _ (λ no_bracket escaped. no_corner t w url web written h front hosted ends no_bracket escaped))
     (t, written, fits_read url.spelled)
 
 -- locations with the same scheme are of HTTP alike
@@ -266,4 +239,4 @@ web_alike v w e (inr h) = inr (e ∙ h)
 pub web_exact : (v w : Location) (t : List ℕ) → IsWeb v → (¬ (v.spelling ≡ Some v.path)) → text v ≡ Ok t → Spells t w → fields w ≡ fields v → text w ≡ Ok t → IsSettledWeb v
 web_exact v w t web apart written spelled same again =
     let reread : IsWeb w = web_alike v w (ap (λ l. l.scheme) same) web in
-    web_exact_spelling v w web apart same (again ∙ sym written) (reread_settled t w (spelled_by_url t w (web_protocol w reread) spelled) reread again)
+    web_exact_spelling v w web apart same (again ∙ sym written) (reread_settled t w (spelled_by_url t w reread spelled) reread again)

@@ -1,5 +1,5 @@
 -- What is read has a text, and isn't taken for a stored location of the legacy form.
-use Rattle.std.proofs.Common.{◌≡◌, ℕ, ◌<◌, ◌≤◌, Bool, true, false, ◌==◌, ◌&&◌, inl, inr, ◌⊎◌, ⊎_elim, List, [], ◌∷◌, ◌++◌, length, Option, Some, None, Ok, IsSome, refl, sym, ap, subst, ◌∙◌, arith, codes, bytes_eq, append_assoc, if◌then◌else◌}
+use Rattle.std.proofs.Common.{◌≡◌, ℕ, ◌<◌, ◌≤◌, Bool, true, false, ◌==◌, ◌&&◌, inl, inr, ◌⊎◌, ⊎_elim, List, [], ◌∷◌, ◌++◌, length, Option, Some, None, Ok, IsSome, refl, sym, ap, subst, ◌∙◌, arith, codes, bytes_eq}
 use Rattle.std.specs.Option.{is_some}
 use Rattle.std.proofs.lemmas.Bool.{cond-true, cond-false, cases_Bool, and_parts, or_cases, both_ways, false≢true}
 use Rattle.std.proofs.lemmas.Slice.Eq.{bytes_eq-Decides}
@@ -22,10 +22,12 @@ use Rattle.gix_url.specs.Records.{migrated_by, migrated}
 use Rattle.gix_url.proofs.EscapeLemmas.{sound_head, sound_tail, decode_byte, decode_escape}
 use Rattle.gix_url.proofs.CutLemmas.{begins_cut}
 use Rattle.gix_url.proofs.UrlLemmas.{none_not_some}
+use Rattle.gix_url.proofs.SchemeLemmas.{protocol_cases, means_cases}
+use Rattle.gix_url.proofs.UniqueLemmas.{meant_with}
 use Rattle.gix_url.proofs.KeptLemmas.{helper_unchanged, local_unchanged}
 use Rattle.gix_url.proofs.SettledLemmas.{host_given, not_relative, secure_choice}
 use Rattle.gix_url.proofs.RowNameLemmas.{none_is_some}
-use Rattle.gix_url.proofs.WebClosedLemmas.{retained_by}
+use Rattle.gix_url.proofs.WebClosedLemmas.{retained_by, sound_behind, parts_joined}
 use Rattle.gix_url.proofs.WrittenScpLemmas.{scp_written}
 
 -- ---- a text
@@ -47,54 +49,10 @@ user_hosted mode authority user password host port (with_user information piece 
 parts_hosted : (b : List ℕ) (parts : UrlParts) → SpellsParts b parts → IsSome parts.user → IsSome parts.host
 parts_hosted b parts h given = user_hosted (mode_of parts.scheme) h.authority parts.user parts.password parts.host parts.port h.named given
 
--- what the parts of a URL mean, with this host
-abbrev meant : Protocol → UrlParts → Option (List ℕ) → Location
-meant protocol parts host = record {
-  scheme = protocol;
-  user = parts.user;
-  password = parts.password;
-  host = host;
-  flag = false;
-  port = parts.port;
-  path = path_for protocol (percent_decode parts.path);
-  spelling = retained parts.path;
-}
-
--- the protocol is neither Secure Shell nor that of a remote helper with a name
-abbrev is_plain : Protocol → Bool
-is_plain ssh = false
-is_plain (helper name) = false
-is_plain file = true
-is_plain git = true
-is_plain http = true
-is_plain https = true
-is_plain ext = true
-is_plain (helper_url name) = true
-
--- what the other schemes stand for is such a protocol, by what a scheme is tested for
-plain_by : (file_named git_named http_named https_named ext_named : Bool) (s : List ℕ) → is_plain (if file_named then file else (if git_named then git else (if http_named then http else (if https_named then https else (if ext_named then ext else helper_url s))))) ≡ true
-plain_by true a b c d s = refl
-plain_by false true b c d s = refl
-plain_by false false true c d s = refl
-plain_by false false false true d s = refl
-plain_by false false false false true s = refl
-plain_by false false false false false s = refl
-
--- the protocol of a scheme that isn't of Secure Shell is such a one
-plain_scheme : (s : List ℕ) → is_ssh_scheme s ≡ false → is_plain (protocol_of s) ≡ true
-plain_scheme s other =
-    ap is_plain (cond-false _ _ _ other) ∙ plain_by (bytes_eq s (codes "file")) (bytes_eq s (codes "git")) (bytes_eq s (codes "http")) (bytes_eq s (codes "https")) (bytes_eq s (codes "ext")) s
-
--- what such a URL means has a text
-plain_there : (protocol : Protocol) (b : List ℕ) (parts : UrlParts) (v : Location) → is_plain protocol ≡ true → SpellsParts b parts → MeansAs protocol b parts v → HasText v
-plain_there ext b parts v plain spelled h = (_, ap (λ l. text l) h)
-plain_there file b parts v plain spelled h = subst HasText (sym h.value) (canonical_there (meant file parts h.host) refl (λ given. ap is_some h.hosted ∙ parts_hosted b parts spelled given))
-plain_there git b parts v plain spelled h = subst HasText (sym h.value) (canonical_there (meant git parts h.host) refl (λ given. ap is_some h.hosted ∙ parts_hosted b parts spelled given))
-plain_there http b parts v plain spelled h = subst HasText (sym h.value) (canonical_there (meant http parts h.host) refl (λ given. ap is_some h.hosted ∙ parts_hosted b parts spelled given))
-plain_there https b parts v plain spelled h = subst HasText (sym h.value) (canonical_there (meant https parts h.host) refl (λ given. ap is_some h.hosted ∙ parts_hosted b parts spelled given))
-plain_there (helper_url name) b parts v plain spelled h = subst HasText (sym h.value) (canonical_there (meant (helper_url name) parts h.host) refl (λ given. ap is_some h.hosted ∙ parts_hosted b parts spelled given))
-plain_there ssh b parts v plain spelled h = absurd (false≢true plain)
-plain_there (helper name) b parts v plain spelled h = absurd (false≢true plain)
+-- what a URL means whose location has the host that the URL names has a text, where it is written as a URL
+named_there : (protocol : Protocol) (parts : UrlParts) (v : Location) → (h : MeansByProtocol protocol parts v) → h.host ≡ parts.host → (IsSome parts.user → IsSome parts.host) → choice (meant_with protocol parts h.host) ≡ with_host (meant_with protocol parts h.host) canonical_form → HasText v
+named_there protocol parts v h same hosted chosen =
+    subst HasText (sym h.value) (canonical_there (meant_with protocol parts h.host) chosen (λ given. ap is_some same ∙ hosted given))
 
 -- ---- Secure Shell
 
@@ -139,16 +97,25 @@ secure_there : (b : List ℕ) (parts : UrlParts) (v : Location) → is_ssh_schem
 secure_there b parts v is_ssh spelled h =
     let starts = subst (λ web. StartsPath web parts.path) (ssh_not_web parts.scheme is_ssh) spelled.path_starts in
     let begins = path_begins parts.path (begins_rooted parts.path (h.pathed refl) starts) in
-    let value = meant ssh parts h.host in
+    let value = meant_with ssh parts h.host in
     let chosen = secure_choice value (not_relative value.path begins) refl in
     subst HasText (sym h.value) (canonical_there value chosen (λ given. peeled_there parts.host h.host h.hosted (parts_hosted b parts spelled given)))
 
 -- ---- all forms
 
--- a URL is of Secure Shell, or not
-url_there_by : (is_ssh : Bool) (b : List ℕ) (v : Location) (h : SpellsUrl b v) → is_ssh_scheme h.parts.scheme ≡ is_ssh → HasText v
-url_there_by true b v h same = secure_there b h.parts v same h.spelled (subst (λ p. MeansAs p b h.parts v) (cond-true _ _ _ same) h.means)
-url_there_by false b v h other = plain_there (protocol_of h.parts.scheme) b h.parts v (plain_scheme h.parts.scheme other) h.spelled h.means
+-- a URL, by the protocol of its scheme
+url_there : (b : List ℕ) (v : Location) → SpellsUrl b v → HasText v
+url_there b v h =
+    let parts = h.parts in
+    let hosted : IsSome parts.user → IsSome parts.host = parts_hosted b parts h.spelled in
+    protocol_cases (λ p. MeansAs p b parts v → HasText v) parts.scheme
+    (λ is_ssh m. secure_there b parts v is_ssh h.spelled m)
+    (λ e m. named_there file parts v m m.hosted hosted refl)
+    (λ m. named_there git parts v m m.hosted hosted refl)
+    (λ e m. named_there http parts v m m.hosted hosted refl)
+    (λ e m. named_there https parts v m m.hosted hosted refl)
+    (λ m. (_, ap (λ l. text l) m))
+    (λ m. named_there (helper_url parts.scheme) parts v m m.hosted hosted refl) h.means
 
 -- a file URL has no user
 file_there : (host : Option (List ℕ)) (path : List ℕ) → HasText (record (path_alone file false path) { host = host })
@@ -161,7 +128,7 @@ scp_there b v (inr h) = (_, ap (λ l. text l) h.value ∙ scp_written (Some h.us
 
 -- what is spelled has a text
 pub has_a_text : (b : List ℕ) (v : Location) → Spells b v → HasText v
-has_a_text b v (Spells.url h) = url_there_by (is_ssh_scheme h.parts.scheme) b v h refl
+has_a_text b v (Spells.url h) = url_there b v h
 has_a_text b v (Spells.file_url h) = subst HasText (sym h.value) (file_there (unless_empty h.host) h.path)
 has_a_text b v (Spells.remote_helper h) = (b, (helper_unchanged b v h).1)
 has_a_text b v (Spells.scp_form h) = scp_there b v h
@@ -192,11 +159,6 @@ decoding_shorter (b ∷ bs) sound held = ⊎_elim
     let rest = decoding_shorter bs (sound_tail b bs sound) tail in
     omega (arith, ap length (decode_byte b bs other), rest))
     (cases_Bool (b == 37))
-
--- what stands at the end of a sound text is sound
-sound_behind : (xs ys : List ℕ) → is_sound (xs ++ ys) ≡ true → is_sound ys ≡ true
-sound_behind [] ys sound = sound
-sound_behind (x ∷ xs) ys sound = sound_behind xs ys (sound_tail x (xs ++ ys) sound)
 
 -- a path below a home folder isn't longer than it was
 from_home_short : (path : List ℕ) → length (from_home path) ≤ length path
@@ -242,9 +204,7 @@ retained_other protocol path sound e =
 -- the path of a URL is sound
 path_sound : (b : List ℕ) (parts : UrlParts) → SpellsParts b parts → is_sound parts.path ≡ true
 path_sound b parts h =
-    let front = parts.scheme ++ (codes "://" ++ h.authority) in
-    let joined = h.joined ∙ sym (append_assoc parts.scheme (codes "://" ++ h.authority) parts.path) in
-    sound_behind front parts.path (subst (λ t. is_sound t ≡ true) joined h.sound)
+    sound_behind (parts.scheme ++ (codes "://" ++ h.authority)) parts.path (subst (λ t. is_sound t ≡ true) (parts_joined h) h.sound)
 
 -- the spelling isn't the path in what the parts of a URL mean
 meant_other : (protocol : Protocol) (b : List ℕ) (parts : UrlParts) (v : Location) → SpellsParts b parts → MeansByProtocol protocol parts v → ¬ (v.spelling ≡ Some v.path)
@@ -257,14 +217,11 @@ unspelled_other v none e = none_is_some v.path (sym none ∙ e)
 
 -- a URL
 url_other : (protocol : Protocol) (b : List ℕ) (parts : UrlParts) (v : Location) → SpellsParts b parts → MeansAs protocol b parts v → ¬ (v.spelling ≡ Some v.path)
-url_other ext b parts v spelled h = unspelled_other v (ap (λ l. l.spelling) h)
-url_other file b parts v spelled h = meant_other file b parts v spelled h
-url_other git b parts v spelled h = meant_other git b parts v spelled h
-url_other ssh b parts v spelled h = meant_other ssh b parts v spelled h
-url_other http b parts v spelled h = meant_other http b parts v spelled h
-url_other https b parts v spelled h = meant_other https b parts v spelled h
-url_other (helper name) b parts v spelled h = meant_other (helper name) b parts v spelled h
-url_other (helper_url name) b parts v spelled h = meant_other (helper_url name) b parts v spelled h
+url_other protocol b parts v spelled h =
+    elim (means_cases protocol b parts v h) [
+      | inl m ↦ unspelled_other v (ap (λ l. l.spelling) m.1)
+      | inr m ↦ meant_other protocol b parts v spelled m.1
+    ]
 
 -- the scp form has no spelling
 scp_unspelled : (b : List ℕ) (v : Location) → SpellsScp b v → v.spelling ≡ None

@@ -1,8 +1,9 @@
 -- The written path of a settled URL means the same path, and is written the same again.
 use Rattle.std.proofs.Common.{◌≡◌, ℕ, ◌<◌, Bool, true, false, not, ◌⊎◌, inl, inr, List, [], ◌∷◌, ◌++◌, length, bytes_eq, Option, Some, None, IsUtf8, if◌then◌else◌, refl, sym, ap, subst, ◌∙◌, arith}
 use Rattle.std.specs.Option.{is_some}
-use Rattle.std.proofs.lemmas.Bool.{cond-true, cond-false, both_ways, false≢true, and_left, and_right, and_from, not_from_true}
+use Rattle.std.proofs.lemmas.Bool.{cases_Bool, cond-true, cond-false, both_ways, false≢true, and_left, and_right, and_from, not_from_true}
 use Rattle.std.proofs.lemmas.Bool.Decides.{nat_tests}
+use Rattle.std.proofs.lemmas.Option.{none-some, same_Some}
 use Rattle.std.proofs.lemmas.Slice.Eq.{bytes_eq-Decides}
 use Rattle.percent_encoding.specs.Percent.{percent_decode, percent_encode}
 use Rattle.gix_url.specs.declared.escape.TheConstants.{PATH}
@@ -36,13 +37,19 @@ Matches spelling path = (s : List ℕ) × (spelling ≡ Some s) × (percent_deco
 abbrev IsFair : Option (List ℕ) → List ℕ → Type 0
 IsFair spelling path = (s : List ℕ) → spelling ≡ Some s → percent_decode s ≡ path → IsFairSpelling s path
 
--- equal values that are there are one text
-same_some : (x y : List ℕ) → Some x ≡ Some y → x ≡ y
-same_some x y e = cc
+-- a spelling that stands for the path is what is written
+pub matched : (s path plain : List ℕ) → percent_decode s ≡ path → matching_or (Some s) path plain ≡ s
+matched s path plain same = cond-true _ _ _ ((bytes_eq-Decides (percent_decode s) path).1 same)
 
--- a value is not both missing and there
-none_or_some : {A : Type 0} (x : List ℕ) → None ≡ Some x → A
-none_or_some x e = absurd (false≢true (ap is_some e))
+-- where none does, the plain path is written
+unmatched_by : (b : Bool) (s path plain : List ℕ) → bytes_eq (percent_decode s) path ≡ b → ¬ Matches (Some s) path → (if b then s else plain) ≡ plain
+unmatched_by true s path plain test none = absurd (none (s, refl, (bytes_eq-Decides (percent_decode s) path).0 test))
+unmatched_by false s path plain test none = refl
+
+-- the same for a spelling that may be missing
+pub unmatched : (spelling : Option (List ℕ)) (path plain : List ℕ) → ¬ Matches spelling path → matching_or spelling path plain ≡ plain
+unmatched None path plain none = refl
+unmatched (Some s) path plain none = unmatched_by (bytes_eq (percent_decode s) path) s path plain refl none
 
 -- a fair spelling is a writing of the path
 fair_writing : (s path plain : List ℕ) → IsFairSpelling s path → percent_decode s ≡ path → IsWriting path plain s
@@ -60,12 +67,12 @@ matching_writing_by true s path plain test fair other =
     fair_writing s path plain (fair s refl same) same
 matching_writing_by false s path plain test fair other =
     other (λ (x, is, same).
-    let equal : percent_decode s ≡ path = ap percent_decode (same_some s x is) ∙ same in
+    let equal : percent_decode s ≡ path = ap percent_decode (same_Some s x is) ∙ same in
     both_ways _ test ((bytes_eq-Decides (percent_decode s) path).1 equal))
 
 -- a matching spelling or what stands in for it is a writing of the path
 matching_writing : (spelling : Option (List ℕ)) (path plain : List ℕ) → IsFair spelling path → (¬ Matches spelling path → IsWriting path plain plain) → IsWriting path plain (matching_or spelling path plain)
-matching_writing None path plain fair other = other (λ (s, is, same). none_or_some s is)
+matching_writing None path plain fair other = other (λ (s, is, same). none-some s is)
 matching_writing (Some s) path plain fair other = matching_writing_by (bytes_eq (percent_decode s) path) s path plain refl fair other
 
 -- ---- read again
@@ -82,12 +89,12 @@ writing_fair path plain t w holds = record {
 
 -- the spelling that a writing is read with is fair
 retained_fair_by : (b : Bool) (path plain t : List ℕ) → has_percent t ≡ b → IsWriting path plain t → IsFair (if b then Some t else None) path
-retained_fair_by true path plain t holds w = λ s is same. subst (λ x. IsFairSpelling x path) (same_some t s is) (writing_fair path plain t w holds)
-retained_fair_by false path plain t lacks w = λ s is same. none_or_some s is
+retained_fair_by true path plain t holds w = λ s is same. subst (λ x. IsFairSpelling x path) (same_Some t s is) (writing_fair path plain t w holds)
+retained_fair_by false path plain t lacks w = λ s is same. absurd (none-some s is)
 
 -- and the path is written with it the same again
 retained_again_by : (b : Bool) (path plain t : List ℕ) → has_percent t ≡ b → IsWriting path plain t → matching_or (if b then Some t else None) path plain ≡ t
-retained_again_by true path plain t holds w = cond-true _ _ _ ((bytes_eq-Decides (percent_decode t) path).1 w.decoded)
+retained_again_by true path plain t holds w = matched t path plain w.decoded
 retained_again_by false path plain t lacks w = sym (w.unescaped lacks)
 
 -- the retained spelling of a writing is fair
@@ -168,7 +175,7 @@ root_kept test [] begins = absurd (false≢true begins)
 root_kept test (b ∷ path) begins = refl
 
 -- a path of HTTP starts with an ASCII byte
-start_ascii : (b : ℕ) → is_path_start true b ≡ true → b < 128
+pub start_ascii : (b : ℕ) → is_path_start true b ≡ true → b < 128
 start_ascii b start = grind (arith, nat_tests)
 
 -- and with one that isn't escaped
@@ -191,6 +198,20 @@ web_writing path begins text = record {
   unescaped = λ none. refl;
 }
 
+-- so the plain path of a location of HTTP is one
+plain_writing : (v : Location) → IsWeb v → begins_by (is_path_start true) v.path ≡ true → IsUtf8 v.path → IsWriting v.path (plain_path v.scheme v.path) (plain_path v.scheme v.path)
+plain_writing v web begins text = subst (λ p. IsWriting v.path p p) (sym ((web_paths v web).plain v.path)) (web_writing v.path begins text)
+
+-- a spelling is fair that is what is written of the path of a settled location of HTTP, and isn't the path
+pub written_fair : (v : Location) → IsWeb v → begins_by (is_path_start true) v.path ≡ true → HasUrlPath v → (s : List ℕ) → matching_or v.spelling v.path (plain_path v.scheme v.path) ≡ s → ¬ (s ≡ v.path) → IsFairSpelling s v.path
+written_fair v web begins url s same other =
+    let plain = plain_path v.scheme v.path in
+    let w : IsWriting v.path plain s = subst (IsWriting v.path plain) same (matching_writing v.spelling v.path plain url.spelling (λ none. plain_writing v web begins url.path_text)) in
+    elim (cases_Bool (has_percent s)) [
+      | inl holds ↦ writing_fair v.path plain s w holds
+      | inr lacks ↦ absurd (other (sym (decode_kept s lacks) ∙ w.decoded))
+    ]
+
 -- the written path of a settled location of HTTP means its path, and is written the same again
 pub web_path_written : (v : Location) → IsWeb v → begins_by (is_path_start true) v.path ≡ true → HasUrlPath v → WritesPath true v
 web_path_written v web begins url =
@@ -201,7 +222,7 @@ web_path_written v web begins url =
       text = url.path_text;
       meant = facts.meant v.path ∙ root_kept (is_path_start true) v.path begins;
       present = λ needed. absurd (both_ways _ facts.required needed);
-      writing = λ none. subst (λ p. IsWriting v.path p p) (sym (facts.plain v.path)) (web_writing v.path begins url.path_text);
+      writing = λ none. plain_writing v web begins url.path_text;
     } url.spelling
 
 -- ---- raw paths
@@ -284,7 +305,7 @@ homes v (inl e) = subst HasHomes (sym e) record { roots = refl; plain = λ path.
 homes v (inr e) = subst HasHomes (sym e) record { roots = refl; plain = λ path. refl; meant = λ path. refl }
 
 -- a path that isn't written below a home folder stays
-homeless_kept : (path : List ℕ) → begins_at_home path ≡ false → from_home path ≡ path
+pub homeless_kept : (path : List ℕ) → begins_at_home path ≡ false → from_home path ≡ path
 homeless_kept [] other = refl
 homeless_kept (a ∷ []) other = refl
 homeless_kept (a ∷ b ∷ rest) other = cond-false _ _ _ other
@@ -315,16 +336,6 @@ home_unrooted (b ∷ path) begins = grind (arith, nat_tests)
 home_meant : (path : List ℕ) → begins_with tilde path ≡ true → from_home (slash ∷ path) ≡ path
 home_meant [] begins = absurd (false≢true begins)
 home_meant (b ∷ path) begins = cond-true _ _ _ begins
-
--- where no spelling matches the plain path is written
-unmatched_by : (b : Bool) (s path plain : List ℕ) → bytes_eq (percent_decode s) path ≡ b → ¬ Matches (Some s) path → (if b then s else plain) ≡ plain
-unmatched_by true s path plain test none = absurd (none (s, refl, (bytes_eq-Decides (percent_decode s) path).0 test))
-unmatched_by false s path plain test none = refl
-
--- the same for a spelling that may be missing
-unmatched : (spelling : Option (List ℕ)) (path plain : List ℕ) → ¬ Matches spelling path → matching_or spelling path plain ≡ plain
-unmatched None path plain none = refl
-unmatched (Some s) path plain none = unmatched_by (bytes_eq (percent_decode s) path) s path plain refl none
 
 -- a raw path behind a `/`
 home_piece : (path : List ℕ) → IsUtf8 path → (has_percent path ≡ false) × LacksWhiteSpace path → IsEscapedPiece (slash ∷ path)
@@ -372,7 +383,7 @@ home_written v facts h =
       meant = ap (path_for v.scheme) meant ∙ facts.meant (slash ∷ v.path) ∙ home_meant v.path h.home;
       present = λ needed. subst (λ t. 0 < length t) (sym whole) (omega arith);
       again = ap (λ o. root_part v ++ matching_or o v.path (plain_path v.scheme v.path)) none ∙ home_unspelled v facts h ∙ sym whole;
-      fair = λ s is same. none_or_some s (sym none ∙ is);
+      fair = λ s is same. absurd (none-some s (sym none ∙ is));
     }
 
 -- by where the path stands
@@ -383,7 +394,7 @@ transport_by v facts (inl rooted) url raw =
 transport_by v facts (inr home) url raw =
     let all = raw home.1 in
     let h : IsRawHome v = record { home = home.0; none = home.1; text = url.path_text; raw = all } in
-    (home_written v facts h, inr (home.0, λ (s, is, same). none_or_some s (sym (home_none v facts h) ∙ is)), λ none. all)
+    (home_written v facts h, inr (home.0, λ (s, is, same). none-some s (sym (home_none v facts h) ∙ is)), λ none. all)
 
 -- the written path of a settled URL of Secure Shell or of Git's own protocol means its path, and is written the same again
 pub transport_path_written : (v : Location) → (v.scheme ≡ ssh) ⊎ (v.scheme ≡ git) → IsTransportPath v → HasUrlPath v → IsRawPath v → WritesPath false v × IsTransportPath (as_read v) × IsRawPath (as_read v)

@@ -11,10 +11,10 @@ use Rattle.gix_url.specs.Value.{Location, fields, path_alone}
 use Rattle.gix_url.specs.Value.Protocol.{ssh}
 use Rattle.gix_url.specs.Bytes.{percent_sign, slash, colon, at_sign, left_bracket, backslash, right_bracket, FreeOf, begins_with, Holds, LacksWhiteSpace, is_helper_name}
 use Rattle.gix_url.specs.Escapes.{escaped_percents}
-use Rattle.gix_url.specs.Addresses.{IsIpv6Text, Literal}
-use Rattle.gix_url.specs.Hosts.{Bracketed, Names, normal_host}
+use Rattle.gix_url.specs.Addresses.{IsIpv6Text}
+use Rattle.gix_url.specs.Hosts.{Names, normal_host}
 use Rattle.gix_url.specs.Hosts.Mode.{bare}
-use Rattle.gix_url.specs.Grammar.{HasHelperForm, IsNeither, ScpFront, ScpShape, AddressedShape, ScpUser, ScpHost, IsBracketed, Unbrackets, SpellsScp, SpellsScpBefore, Spells, from_home, scp_location}
+use Rattle.gix_url.specs.Grammar.{HasHelperForm, IsNeither, ScpFront, ScpShape, AddressedShape, ScpUser, ScpHost, IsBracketed, Unbrackets, SpellsScp, SpellsScpBefore, Spells, scp_location}
 use Rattle.gix_url.specs.Text.{text, is_relative, raw_user, raw_host, has_colon, wants_brackets}
 use Rattle.gix_url.specs.Settled.{IsValue, IsScpName, IsScpUser, IsNormalAddress, IsSettledScp, IsSettled, LooksLikeHelper, begins_at_home, begins_with_slashes}
 use Rattle.gix_url.specs.SettledParts.{IsScpPath}
@@ -22,8 +22,11 @@ use Rattle.gix_url.specs.Laws.{ComesBack}
 use Rattle.gix_url.proofs.CutLemmas.{heads, tails, different_bytes, not_free, free-append, free_begins, free-cons, free_head_tail, helper_name_free}
 use Rattle.gix_url.proofs.AddressLemmas.{is_address_byte, address_byte_ascii, address_bytes, address_free, address_utf8}
 use Rattle.gix_url.proofs.EscapeLemmas.{decode_kept, decode_escaped_percents, lacks_escaped_percents, escaped_percents_kept, utf8-append, utf8_byte, utf8_joined, white_space-append, white_space_ascii, white_space_byte}
-use Rattle.gix_url.proofs.FormLemmas.{address_cut, addressed_joined, addressed_front_free}
+use Rattle.gix_url.proofs.FormLemmas.{address_cut, addressed_joined, addressed_front_free, begins_before_at}
 use Rattle.gix_url.proofs.ShapeLemmas.{helper_front}
+use Rattle.gix_url.proofs.UniqueLemmas.{bracketed_address_named}
+use Rattle.gix_url.proofs.SettledLemmas.{settled_scp, value_of}
+use Rattle.gix_url.proofs.WrittenPathLemmas.{homeless_kept}
 
 -- ---- values
 
@@ -33,26 +36,12 @@ scp_value user host path spelling = record (path_alone ssh true path) { user = u
 
 -- a settled location in the scp form is such a value
 scp_value_of : (v : Location) (h : List ℕ) → v.scheme ≡ ssh → IsSettledScp v → v.host ≡ Some h → v ≡ scp_value v.user h v.path v.spelling
-scp_value_of v h scheme s host = λ i. record {
-  scheme = scheme i;
-  user = v.user;
-  password = s.no_password i;
-  host = host i;
-  flag = s.flagged i;
-  port = s.no_port i;
-  path = v.path;
-  spelling = v.spelling;
-}
+scp_value_of v h scheme s host =
+    value_of v ssh true scheme s.flagged s.no_password s.no_port ∙ ap (λ o. record (path_alone ssh true v.path) { user = v.user; host = o; spelling = v.spelling }) host
 
--- a path that doesn't begin at a home folder stays
-from_home_kept : (path : List ℕ) → begins_at_home path ≡ false → from_home path ≡ path
-from_home_kept [] h = refl
-from_home_kept (a ∷ []) h = refl
-from_home_kept (a ∷ b ∷ rest) h = cond-false _ _ _ h
-
--- so the location that is read is the value without a spelling
+-- the location that is read is the value without a spelling
 scp_value_read : (user : Option (List ℕ)) (host path : List ℕ) → begins_at_home path ≡ false → scp_value user host path None ≡ scp_location user host path
-scp_value_read user host path h = ap (λ p. scp_value user host p None) (sym (from_home_kept path h))
+scp_value_read user host path h = ap (λ p. scp_value user host p None) (sym (homeless_kept path h))
 
 -- ---- texts
 
@@ -119,11 +108,6 @@ name_front_no_colon (Some user) h u n = free-append colon user (at_sign ∷ h) u
 name_front_no_slash : (user : Option (List ℕ)) (h : List ℕ) → IfSome user IsScpUser → IsScpName h → FreeOf slash (name_front user h)
 name_front_no_slash None h u n = n.no_slash
 name_front_no_slash (Some user) h u n = free-append slash user (at_sign ∷ h) u.no_slash (free-cons slash at_sign h refl n.no_slash)
-
--- a text in front of an `@` that begins with no bracket
-begins_before_at : (user rest : List ℕ) → begins_with left_bracket user ≡ false → begins_with left_bracket (user ++ at_sign ∷ rest) ≡ false
-begins_before_at [] rest h = refl
-begins_before_at (c ∷ user) rest h = h
 
 -- the front begins with no bracket either
 name_front_no_bracket : (user : Option (List ℕ)) (h : List ℕ) → IfSome user IsScpUser → IsScpName h → begins_with left_bracket (name_front user h) ≡ false
@@ -223,15 +207,15 @@ abbrev in_brackets : List ℕ → List ℕ
 in_brackets h = left_bracket ∷ (h ++ right_bracket ∷ [])
 
 -- a text with a colon in it holds one
-colon_held : (x y : List ℕ) → has_colon (x ++ colon ∷ y) ≡ true
-colon_held [] y = refl
-colon_held (b ∷ x) y = or_right (b == colon) (has_colon (x ++ colon ∷ y)) (colon_held x y)
+pub holds_colon : (x y : List ℕ) → has_colon (x ++ colon ∷ y) ≡ true
+holds_colon [] y = refl
+holds_colon (b ∷ x) y = or_right (b == colon) (has_colon (x ++ colon ∷ y)) (holds_colon x y)
 
 -- an address wants brackets
 address_raw : (h : List ℕ) → IsNormalAddress h → raw_host (Some h) ≡ in_brackets h
 address_raw h a =
     let (x, y, free, e) = address_cut h a.address in
-    let held : has_colon h ≡ true = ap has_colon e ∙ colon_held x y in
+    let held : has_colon h ≡ true = ap has_colon e ∙ holds_colon x y in
     let plain : begins_with left_bracket h ≡ false = free_begins left_bracket h (address_free left_bracket h refl a.address) in
     let wants : wants_brackets h ≡ true = and_from (has_colon h) (not (begins_with left_bracket h)) held (ap not plain) in
     cond-true _ _ _ wants
@@ -243,8 +227,7 @@ in_brackets_free c h other left right a =
 
 -- a lowercase address in brackets names itself
 address_named : (h : List ℕ) → IsNormalAddress h → Names bare (in_brackets h) (Some (in_brackets h)) None
-address_named h a =
-    Names.bracketed h h (address_free right_bracket h refl a.address) (Bracketed.literal h (Literal.address a.address (sym a.lower)) (sym (decode_kept h (address_free percent_sign h refl a.address))) (address_utf8 h a.address)) refl refl refl
+address_named h a = subst (λ n. Names bare (in_brackets h) (Some (in_brackets n)) None) a.lower (bracketed_address_named h a.address)
 
 -- an address in brackets is UTF-8
 in_brackets_utf8 : (h : List ℕ) → IsNormalAddress h → IsUtf8 (in_brackets h)
@@ -383,24 +366,14 @@ scp_spelled user h path named host u (inr a) p other =
 
 -- ---- settled locations come back
 
--- the location without its spelling is settled
-scp_read_settled : (v : Location) (h : List ℕ) → IsSettledScp v → IsScpName h ⊎ IsNormalAddress h → ¬ LooksLikeHelper v h → IsSettledScp (scp_value v.user h v.path None)
-scp_read_settled v h s kind other = record {
-  flagged = refl;
-  no_password = refl;
-  no_port = refl;
-  path_text = s.path_text;
-  nonempty = s.nonempty;
-  not_home = s.not_home;
-  not_slashes = s.not_slashes;
-  no_mark = s.no_mark;
-  user = s.user;
-  host = (h, refl, kind, other);
-}
-
 -- the path of a settled location
 scp_path : (v : Location) → IsSettledScp v → IsScpPath v.path
-scp_path v s = record { path_text = s.path_text; nonempty = s.nonempty; not_home = s.not_home; not_slashes = s.not_slashes; no_mark = s.no_mark }
+scp_path v s = ((settled_scp v).1 s).1.0
+
+-- the location without its spelling is settled
+scp_read_settled : (v : Location) (h : List ℕ) → IsSettledScp v → IsScpName h ⊎ IsNormalAddress h → ¬ LooksLikeHelper v h → IsSettledScp (scp_value v.user h v.path None)
+scp_read_settled v h s kind other =
+    (settled_scp (scp_value v.user h v.path None)).0 (record { flagged = refl; no_password = refl; no_port = refl }, (scp_path v s, (s.user, (h, refl, kind, other))))
 
 -- a settled location in the scp form comes back without its spelling
 pub scp_again : (v : Location) → v.scheme ≡ ssh → IsValue v → IsSettledScp v → (back : ComesBack v) × IsSettled back.reread

@@ -1,6 +1,7 @@
 -- The scheme decides: `ext` keeps the text, a missing path is told, and any other URL stands for its parts.
 use Rattle.std.proofs.lemmas.Bool.{false≢true}
-use Rattle.gix_url.proofs.UrlLocationLemmas.{texts, scheme_utf8, needs_path, nil_tested, no_path_refutes, path_missed, spelled_url}
+use Rattle.gix_url.proofs.ShapeLemmas.{nil_tested}
+use Rattle.gix_url.proofs.UrlLocationLemmas.{texts, scheme_utf8, needs_path, no_path_refutes, path_missed, spelled_url}
 use Rattle.gix_url.proofs.url_location.located.Goals as goal
 
 pub from_bytes-requires : goal.from_bytes-requires

@@ -3,18 +3,18 @@ use Rattle.std.proofs.Common.{refl, subst, option_map, string_bytes}
 use Rattle.gix_url.specs.Grammar.{ScpShape, SpellsScpBefore}
 use Rattle.gix_url.specs.Flaws.MissesPath.{in_scp}
 use Rattle.gix_url.proofs.HostLemmas.{some_tested}
-use Rattle.gix_url.proofs.ShapeLemmas.{none_but}
-use Rattle.gix_url.proofs.ScpLemmas.{empty_tested, scp_no_path, scp_refused, scp_host_utf8, scp_user_utf8, colons_inside_front, colons_inside_host}
+use Rattle.gix_url.proofs.ShapeLemmas.{none_but, nil_tested}
+use Rattle.gix_url.proofs.ScpLemmas.{scp_no_path, scp_refused, scp_host_utf8, scp_user_utf8, colons_inside_front, colons_inside_host}
 use Rattle.gix_url.proofs.parse.scp.read_scp.Goals as goal
 
 pub missing_path-requires : goal.missing_path-requires
 missing_path-requires c =
-    in_scp c.args.front.now (subst (λ p. ScpShape c.args.input.now c.args.front.now p) (empty_tested c.args.path.now c.if-is_empty.ensures) c.requires.shape)
+    in_scp c.args.front.now (subst (λ p. ScpShape c.args.input.now c.args.front.now p) (nil_tested c.args.path.now c.if-is_empty.ensures) c.requires.shape)
 
 pub returns-then-is_empty-clause-refused : goal.returns-then-is_empty-clause-refused
 returns-then-is_empty-clause-refused c =
     none_but (SpellsScpBefore c.args.input.now)
-    (scp_no_path c.args.input.now c.args.front.now (subst (λ p. ScpShape c.args.input.now c.args.front.now p) (empty_tested c.args.path.now c.if-is_empty.ensures) c.requires.shape))
+    (scp_no_path c.args.input.now c.args.front.now (subst (λ p. ScpShape c.args.input.now c.args.front.now p) (nil_tested c.args.path.now c.if-is_empty.ensures) c.requires.shape))
     c.missing_path.result
 
 pub read_scp_host-requires-clause-text : goal.read_scp_host-requires-clause-text
