@@ -1,6 +1,6 @@
 -- Settled locations come back, of every kind.
-use Rattle.std.proofs.Common.{◌≡◌, ℕ, true, false, inl, inr, List, Option, Some, None, Ok, refl, sym, ap, subst, ◌∙◌}
-use Rattle.std.proofs.lemmas.Bool.{both_ways, or_parts, or_from, cond-false}
+use Rattle.std.proofs.Common.{◌≡◌, ℕ, true, false, inl, inr, List, Option, Some, None, refl, sym, ap, subst, ◌∙◌}
+use Rattle.std.proofs.lemmas.Bool.{or_parts, or_from, cond-false}
 use Rattle.std.specs.Prelude.{codes, bytes_eq, ◌||◌, IsSome, IfSome, IsUtf8}
 use Rattle.gix_url.specs.Schemes.{is_ssh_scheme, is_web_scheme, is_known_scheme, protocol_of, mode_of, requires_host}
 use Rattle.gix_url.specs.Bytes.{is_scheme_text}
@@ -16,7 +16,6 @@ use Rattle.gix_url.specs.WrittenPieces.{as_read, WritesPath, IsAuthorityPiece}
 use Rattle.gix_url.proofs.SettledLemmas.{one_text, written_web, written_git, written_secure, written_other}
 use Rattle.gix_url.proofs.WrittenUrlLemmas.{IsUrlProtocol, authority_with_host, authority_without_host, readable_spelled, url_readable, url_again, authority_text}
 use Rattle.gix_url.proofs.WrittenPathLemmas.{web_path_written, transport_path_written, other_path_written}
-use Rattle.gix_url.proofs.HostLemmas.{bare_not_strict, loose_not_strict}
 use Rattle.gix_url.proofs.WrittenWebHostLemmas.{web_host_written}
 use Rattle.gix_url.proofs.WrittenHostLemmas.{bracketed_host_written, bare_host_written}
 use Rattle.gix_url.proofs.WrittenScpLemmas.{scp_again}

@@ -1,7 +1,7 @@
 -- What is read is settled but for corners, and of these kinds what comes back is settled.
 use Rattle.std.proofs.Common.{◌≡◌, ℕ, Bool, true, false, ◌⊎◌, inl, inr, List, [], ◌∷◌, ◌++◌, Option, Some, None, Ok, refl, sym, ap, subst, ◌∙◌, ◌≤◌, arith, length, length-append, take, codes, bytes_eq}
 use Rattle.std.specs.Prelude.{is_some, IsSome}
-use Rattle.std.proofs.lemmas.Bool.{both_ways, false≢true, leb-true, or_left, eqb-true, eq-eqb, cases_Bool}
+use Rattle.std.proofs.lemmas.Bool.{both_ways, false≢true, leb-true, or_left, cases_Bool}
 use Rattle.std.proofs.lemmas.List.{take_at}
 use Rattle.std.proofs.lemmas.Option.{none-some, same_Some}
 use Rattle.std.proofs.lemmas.Slice.Eq.{bytes_eq-Decides}
@@ -16,7 +16,6 @@ use Rattle.gix_url.specs.Text.{has_colon, canonical_text, text}
 use Rattle.gix_url.specs.Settled.{IsSettledFile, IsSettledWeb, HasFittingText, IsSettledBy, IsSettled}
 use Rattle.gix_url.specs.SettledParts.{IsWeb}
 use Rattle.gix_url.specs.Laws.{keeps_bytes, ComesBack, is_closed, IsCorner, Closed, Exact}
-use Rattle.gix_url.proofs.CutLemmas.{tails, last_unique}
 use Rattle.gix_url.proofs.KeptLemmas.{kept_closed, kept_exact}
 use Rattle.gix_url.proofs.FileLemmas.{StaysOpen, file_closed, file_exact}
 use Rattle.gix_url.proofs.WebClosedLemmas.{StaysBare, IsApart, web_read, web_closed}

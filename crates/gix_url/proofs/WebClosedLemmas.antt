@@ -26,9 +26,8 @@ use Rattle.gix_url.specs.Text.{user_information, host_part, port_part, root_part
 use Rattle.gix_url.specs.Settled.{first_byte, IsFairSpelling, HasFittingText, IsWebName, IsWebHost, IsSettledWeb}
 use Rattle.gix_url.specs.Settled.IsWebHost.{literal, literal_colon, named, named_colon}
 use Rattle.gix_url.specs.SettledParts.{IsWeb, IsHosted}
-use Rattle.gix_url.proofs.CutLemmas.{free-append, free_begins, free_of_all, free_parts, free_head_tail}
-use Rattle.gix_url.proofs.EscapeLemmas.{sound_tail, sound_parts, sound_around, sound_free, decode_byte, decode_kept, encode_byte_kept, encode_sound, utf8_byte, utf8_seam, utf8_encode, white_space_parts}
-use Rattle.gix_url.proofs.EscapeSets.{path_holds, white_space_path}
+use Rattle.gix_url.proofs.CutLemmas.{free-append, free_begins, free_of_all, free_parts}
+use Rattle.gix_url.proofs.EscapeLemmas.{sound_tail, sound_parts, sound_around, sound_free, decode_byte, utf8_byte, utf8_seam, white_space_parts}
 use Rattle.gix_url.proofs.NormalLemmas.{normal_again, literal_again, all_lowercase, dns_lowercase}
 use Rattle.gix_url.proofs.SchemeLemmas.{protocol_cases}
 use Rattle.gix_url.proofs.WrittenPathLemmas.{start_ascii, matched, written_fair}

@@ -21,7 +21,7 @@ use Rattle.gix_url.specs.SettledParts.{IsScpPath}
 use Rattle.gix_url.specs.Laws.{ComesBack}
 use Rattle.gix_url.proofs.CutLemmas.{heads, tails, different_bytes, not_free, free-append, free_begins, free-cons, free_head_tail, helper_name_free}
 use Rattle.gix_url.proofs.AddressLemmas.{is_address_byte, address_byte_ascii, address_bytes, address_free, address_utf8}
-use Rattle.gix_url.proofs.EscapeLemmas.{decode_kept, decode_escaped_percents, lacks_escaped_percents, escaped_percents_kept, utf8-append, utf8_byte, utf8_joined, white_space-append, white_space_ascii, white_space_byte}
+use Rattle.gix_url.proofs.EscapeLemmas.{decode_escaped_percents, lacks_escaped_percents, escaped_percents_kept, utf8-append, utf8_byte, utf8_joined, white_space-append, white_space_ascii, white_space_byte}
 use Rattle.gix_url.proofs.FormLemmas.{address_cut, addressed_joined, addressed_front_free, begins_before_at}
 use Rattle.gix_url.proofs.ShapeLemmas.{helper_front}
 use Rattle.gix_url.proofs.UniqueLemmas.{bracketed_address_named}
