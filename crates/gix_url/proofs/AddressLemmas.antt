@@ -1,5 +1,5 @@
 -- IPv6 texts: their bytes, their colons, and their form in lower case.
-use Rattle.std.proofs.Common.{◌≡◌, ℕ, ◌<◌, ◌≤◌, ◌==◌, ◌||◌, Bool, true, false, List, [], ◌∷◌, ◌++◌, length, map, refl, ap, ◌∙◌, inl, inr, arith, length-append}
+use Rattle.std.proofs.Common.{◌≡◌, ℕ, ◌<◌, ◌≤◌, ◌==◌, ◌||◌, Bool, true, false, List, [], ◌∷◌, ◌++◌, length, map, refl, ap, ◌∙◌, inl, inr, arith}
 use Rattle.std.proofs.lemmas.Bool.{and_parts, and_from}
 use Rattle.std.proofs.lemmas.Bool.Decides.{nat_tests}
 use Rattle.std.proofs.lemmas.Fmt.{decimal_is_IsNumeral}
@@ -118,12 +118,6 @@ full_two_colons (t ∷ u ∷ v ∷ us) n enough h = (t, u, joined_by colon (v �
 pub address_two_colons : (t : List ℕ) → IsIpv6Text t → TwoColons t
 address_two_colons t (inl full) = rw full.joined (full_two_colons full.items 8 (omega arith) full.eight)
 address_two_colons t (inr short) = (joined_by colon short.front, [], joined_by colon short.back, short.joined)
-
--- an IPv6 text isn't empty
-pub address_nonempty : (t : List ℕ) → IsIpv6Text t → 0 < length t
-address_nonempty t h =
-    let (x, y, z, is) = address_two_colons t h in
-    omega (arith, ap length is, length-append x (colon ∷ (y ++ colon ∷ z)))
 
 -- lower case is taken byte by byte
 byte_lowercase_twice : (b : ℕ) → to_ascii_lowercase (to_ascii_lowercase b) ≡ to_ascii_lowercase b

@@ -5,7 +5,7 @@ use mathlib.Core.Logic.{inl, inr, ⊎_elim}
 use Rattle.std.specs.Char.{digit_value, is_ascii_digit}
 use Rattle.std.specs.List.{list_all}
 use Rattle.std.specs.Str.Parse.{AllDigits, digits_value}
-use Rattle.std.proofs.lemmas.Bool.{both_ways, and_parts, and_from, or_cases, or_left, or_right, eqb-true, eq-eqb, ltb-true, lt-ltb, leb-true, le-leb, not-true, cases_eq, cases_Bool, ne_eqb, not_from_false}
+use Rattle.std.proofs.lemmas.Bool.{and_parts, and_from, or_cases, or_left, or_right, eqb-true, eq-eqb, ltb-true, lt-ltb, leb-true, le-leb, not-true, cases_eq, ne_eqb, not_from_false}
 use Rattle.std.proofs.lemmas.Bool.Decides.{nat_tests, same_from_decides}
 use Rattle.std.proofs.lemmas.Str.Parse.{IsNumeralModel, numerals_by_value, tells_digits}
 use Rattle.std.proofs.lemmas.Fmt.{decimal-digits_value, digits_decimal, digits_value-decimal, decimal_nonempty, first_decimal, decimal_digit}
@@ -294,10 +294,6 @@ pub ipv6_text_to : (t : List ℕ) → IsIpv6Text t → is_ipv6_text t ≡ true
 unfolding is_ipv6_text
 ipv6_text_to t (inl h) = or_left _ _ (full_to t h)
 ipv6_text_to t (inr h) = or_right _ _ (short_to t h)
-
--- a text is an IPv6 text or not
-pub ipv6_decided : (t : List ℕ) → IsIpv6Text t ⊎ (IsIpv6Text t → ⊥)
-ipv6_decided t = ⊎_elim (λ e. inl (ipv6_text_from t e)) (λ e. inr (λ h. both_ways _ e (ipv6_text_to t h))) (cases_Bool (is_ipv6_text t))
 
 -- an answer that says whether the text is an IPv6 text is the test
 pub answers_address : (b : Bool) (t : List ℕ) → (IsTrue b ↔ IsIpv6Text t) → b ≡ is_ipv6_text t

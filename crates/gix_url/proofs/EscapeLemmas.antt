@@ -1,20 +1,19 @@
 -- Escaped texts: where they are sound, how they decode in parts, and how they are UTF-8 in parts.
-use Rattle.std.proofs.Common.{◌≡◌, ◌∙◌, ◌↔◌, ◌<◌, ◌≤◌, ◌+◌, ℕ, zero, suc, Bool, true, false, not, ◌&&◌, ◌||◌, ◌==◌, List, [], ◌∷◌, ◌++◌, Option, Some, None, length, take, drop, ◌*◌, ◌/◌, ◌%◌, nat_lt, cond, All, Fits, w8, IsAscii, get_or, arith, refl, sym, ap, subst, ⊎_elim}
-use Rattle.std.specs.Char.{is_digit, digit_value, is_whitespace, is_ascii_whitespace, encode_utf8}
+use Rattle.std.proofs.Common.{◌≡◌, ◌∙◌, ◌↔◌, ◌<◌, ◌≤◌, ◌+◌, ℕ, zero, suc, Bool, true, false, not, ◌&&◌, ◌||◌, ◌==◌, List, [], ◌∷◌, ◌++◌, Option, Some, None, length, take, drop, ◌*◌, ◌/◌, ◌%◌, nat_lt, cond, All, IsAscii, get_or, arith, refl, sym, ap, subst, ⊎_elim}
+use Rattle.std.specs.Char.{is_digit, digit_value, is_whitespace, encode_utf8}
 use Rattle.std.specs.Option.{MatchOption, is_some}
 use Rattle.std.specs.Str.{IsUtf8, encode_utf8_all, chars}
-use Rattle.std.proofs.Math.Bool.{or-false}
-use Rattle.std.proofs.lemmas.Bool.{cond-false, cond_both, ltb-false, cases_lt, cases_Bool, and_parts, and_from, and_left, and_right, or_parts, or_from, false_from_ne_true, true_from_ne_false, or_cases, or_left, or_right, not-true, both_ways, eqb-true, eqb-false, ne_eqb, ltb-true, true≢false, false≢true}
+use Rattle.std.proofs.lemmas.Bool.{cond-false, cond_both, ltb-false, cases_Bool, and_parts, and_from, or_parts, or_from, false_from_ne_true, or_cases, or_left, or_right, not-true, both_ways, eqb-true, eqb-false, ltb-true, true≢false, false≢true}
 use Rattle.std.proofs.lemmas.Bool.Decides.{nat_tests}
 use Rattle.std.proofs.lemmas.List.{append_cancel_left, drop-drop, length-take, length-drop, length-append, nil_from_length, take_at, drop_at, get_or_at}
-use Rattle.std.proofs.lemmas.Str.{IsUtf8-append, IsUtf8-past_char, IsUtf8-encode, IsUtf8-take, IsUtf8-drop, IsUtf8-from_ascii, IsCharBoundary-from_take, IsCharBoundary-at_seam, IsCharBoundary-before_ascii, chars-append, chars-IsAscii, encodes-chars, chars_from_encodes, encode_ascii}
+use Rattle.std.proofs.lemmas.Str.{IsUtf8-append, IsUtf8-past_char, IsUtf8-encode, IsUtf8-take, IsUtf8-drop, IsUtf8-from_ascii, IsCharBoundary-from_take, IsCharBoundary-before_ascii, chars-append, chars-IsAscii}
 use lib.Utf8.{scalar, scalars, scalar_cases}
 use Rattle.bstr.specs.Utf8.{Decoded, decoded}
 use Rattle.bstr.proofs.lemmas.PieceLemmas.{decoded_by-cut, piece-bounds}
 use Rattle.bstr.proofs.lemmas.SoundLemmas.{SpellsChar-decoded}
 use Rattle.bstr.proofs.lemmas.EncodeLemmas.{decoded-encode}
 use Rattle.std.proofs.lemmas.Str.Ascii.{IsAscii-from_all}
-use Rattle.std.proofs.lemmas.List.Elements.{All-cons, All-nil, All-append, All-weaker, All-from_get_or}
+use Rattle.std.proofs.lemmas.List.Elements.{All-cons, All-nil, All-append, All-weaker}
 use Rattle.std.specs.List.{list_any, list_all}
 use Rattle.std.specs.Fmt.{digit_glyph}
 use Rattle.std.proofs.lemmas.List.Folds.{list_any_none, list_any-append}
@@ -25,7 +24,7 @@ use Rattle.percent_encoding.specs.Percent.{percent_decode, percent_encode, perce
 use Rattle.percent_encoding.proofs.PercentLemmas.{IsEscapeByte, All-percent_encode, All-percent_encode_byte, percent_encode_nonempty, IsAscii-percent_encode, percent_encode-nil, percent_encode-append, percent_encode_escaped, percent_encode_kept, round_trip, percent_decode-nil, percent_decode_not_percent, percent_decode_escape, length-percent_decode}
 use Rattle.gix_url.specs.Bytes.{percent_sign, Lacks, FreeOf, LacksWhiteSpace}
 use Rattle.gix_url.specs.Escapes.{is_sound, begins_with_digits, escaped_percents}
-use Rattle.gix_url.proofs.CutLemmas.{heads, lacks_weaker}
+use Rattle.gix_url.proofs.CutLemmas.{heads}
 
 -- ---- walks over a decoding
 
@@ -229,33 +228,6 @@ decodes_in_parts (b ∷ high ∷ low ∷ rest) ys sound =
     (λ other. byte_in_parts b (high ∷ low ∷ rest) ys other (decodes_in_parts (high ∷ low ∷ rest) ys tail))
     (cases_Bool (b == 37))
 
-no_digits_before : (ys : List ℕ) (c : ℕ) → is_digit c 16 ≡ false → begins_with_digits (c ∷ ys) ≡ false
-no_digits_before [] c other = refl
-no_digits_before (y ∷ ys) c other = and_left _ _ other
-
--- any text is decoded apart from what follows it, where that begins with no hexadecimal digit
-pub decodes_before : (xs ys : List ℕ) (c : ℕ) → is_digit c 16 ≡ false → percent_decode (xs ++ c ∷ ys) ≡ percent_decode xs ++ percent_decode (c ∷ ys)
-decodes_before [] ys c other = sym (ap (λ front. front ++ percent_decode (c ∷ ys)) percent_decode-nil)
-decodes_before (b ∷ []) ys c other =
-    kept_in_parts b [] (c ∷ ys) (decode_broken b (c ∷ ys) (no_digits_before ys c other)) (decode_broken b [] refl) (decodes_before [] ys c other)
-decodes_before (b ∷ d ∷ []) ys c other =
-    kept_in_parts b (d ∷ []) (c ∷ ys) (decode_broken b (d ∷ c ∷ ys) (and_right _ _ other)) (decode_broken b (d ∷ []) refl) (decodes_before (d ∷ []) ys c other)
-decodes_before (b ∷ high ∷ low ∷ rest) ys c other =
-    let next = decodes_before (high ∷ low ∷ rest) ys c other in
-    ⊎_elim
-    (λ digits.
-    let both = and_parts _ _ digits in
-    ⊎_elim
-    (λ percent. escape_in_parts b high low rest (c ∷ ys) percent both.0 both.1 (decodes_before rest ys c other))
-    (λ plain. byte_in_parts b (high ∷ low ∷ rest) (c ∷ ys) plain next)
-    (cases_Bool (b == 37)))
-    (λ broken. kept_in_parts b (high ∷ low ∷ rest) (c ∷ ys) (decode_broken b (high ∷ low ∷ (rest ++ c ∷ ys)) broken) (decode_broken b (high ∷ low ∷ rest) broken) next)
-    (cases_Bool (begins_with_digits (high ∷ low ∷ rest)))
-
--- the same around a byte that is neither a hexadecimal digit nor `%`, which stays
-pub decodes_around : (xs ys : List ℕ) (c : ℕ) → is_digit c 16 ≡ false → (c == 37) ≡ false → percent_decode (xs ++ c ∷ ys) ≡ percent_decode xs ++ c ∷ percent_decode ys
-decodes_around xs ys c other plain = decodes_before xs ys c other ∙ ap (λ rest. percent_decode xs ++ rest) (decode_byte c ys plain)
-
 -- ---- encoding
 
 -- a byte of an escape: `%` or an upper-case hexadecimal digit
@@ -360,14 +332,6 @@ decode_escaped_percents (b ∷ bs) =
     (λ other. rw other (decode_byte b (escaped_percents bs) other ∙ rest))
     (cases_Bool (b == 37))
 
--- a text with its `%` as escapes is sound
-pub sound_escaped_percents : (t : List ℕ) → is_sound (escaped_percents t) ≡ true
-sound_escaped_percents [] = refl
-sound_escaped_percents (b ∷ bs) = ⊎_elim
-    (λ percent. rw percent (sound_escaped_percents bs))
-    (λ other. rw other (sound_kept b (escaped_percents bs) other ∙ sound_escaped_percents bs))
-    (cases_Bool (b == 37))
-
 -- a text with its `%` as escapes lacks what the text lacks, but for `%`, `2` and `5`
 pub lacks_escaped_percents : (test : ℕ → Bool) (t : List ℕ) → test 37 ≡ false → test 50 ≡ false → test 53 ≡ false → Lacks test t → Lacks test (escaped_percents t)
 lacks_escaped_percents test [] sign two five lacks = refl
@@ -394,19 +358,6 @@ escaped_percents-append (x ∷ xs) ys =
     let rest = escaped_percents-append xs ys in
     ⊎_elim (λ percent. rw percent (ap (λ t. 37 ∷ 50 ∷ 53 ∷ t) rest)) (λ other. rw other (ap (λ t. x ∷ t) rest)) (cases_Bool (x == 37))
 
--- the text lacks what its writing lacks, but for `%`
-pub lacks_from_escaped_percents : (test : ℕ → Bool) (t : List ℕ) → test 37 ≡ false → Lacks test (escaped_percents t) → Lacks test t
-lacks_from_escaped_percents test [] sign lacks = refl
-lacks_from_escaped_percents test (b ∷ bs) sign lacks = ⊎_elim
-    (λ percent.
-    let digits : Lacks test (50 ∷ 53 ∷ escaped_percents bs) = (or_parts (test 37) _ (rw percent at lacks)).1 in
-    let rest : Lacks test (escaped_percents bs) = (or_parts (test 53) _ (or_parts (test 50) _ digits).1).1 in
-    or_from _ _ (ap test (eqb-true b 37 percent) ∙ sign) (lacks_from_escaped_percents test bs sign rest))
-    (λ other.
-    let parts = or_parts (test b) _ (rw other at lacks) in
-    or_from _ _ parts.0 (lacks_from_escaped_percents test bs sign parts.1))
-    (cases_Bool (b == 37))
-
 -- ---- UTF-8 and white space in parts
 
 -- UTF-8 texts joined are UTF-8
@@ -419,12 +370,6 @@ utf8_behind xs ys whole front =
     let within : length xs ≤ length (xs ++ ys) = omega (arith, length-append xs ys) in
     let at = IsCharBoundary-from_take (xs ++ ys) (length xs) whole within (subst IsUtf8 (sym (take_at xs ys (length xs) refl)) front) in
     subst IsUtf8 (drop_at xs ys (length xs) refl) (IsUtf8-drop (xs ++ ys) (length xs) whole at)
-
--- what stands before a UTF-8 rest of a UTF-8 text is UTF-8
-pub utf8_before : (xs ys : List ℕ) → IsUtf8 (xs ++ ys) → IsUtf8 ys → IsUtf8 xs
-utf8_before xs ys whole rest =
-    let at = IsCharBoundary-at_seam (xs ++ ys) xs ys refl rest in
-    subst IsUtf8 (take_at xs ys (length xs) refl) (IsUtf8-take (xs ++ ys) (length xs) whole at)
 
 -- bytes of a class are ASCII where the class is
 pub ascii_class : (test : ℕ → Bool) → ((b : ℕ) → test b ≡ true → b < 128) → (bs : List ℕ) → list_all test bs ≡ true → IsAscii bs
@@ -464,16 +409,6 @@ utf8_parts xs ys c whole ascii =
 pub utf8_joined : (xs ys : List ℕ) (c : ℕ) → IsUtf8 xs → c < 128 → IsUtf8 ys → IsUtf8 (xs ++ c ∷ ys)
 utf8_joined xs ys c front ascii rest = IsUtf8-append xs (c ∷ ys) front (IsUtf8-append (c ∷ []) ys (utf8_byte c ascii) rest)
 
--- a decoding that is UTF-8 is so on both sides of an ASCII byte that no escape has
-pub utf8_decoded_parts : (xs ys : List ℕ) (c : ℕ) → is_digit c 16 ≡ false → (c == 37) ≡ false → c < 128 → IsUtf8 (percent_decode (xs ++ c ∷ ys)) → IsUtf8 (percent_decode xs) × IsUtf8 (percent_decode ys)
-utf8_decoded_parts xs ys c other plain ascii whole =
-    utf8_parts (percent_decode xs) (percent_decode ys) c (subst IsUtf8 (decodes_around xs ys c other plain) whole) ascii
-
--- decodings that are UTF-8 are so joined by such a byte
-pub utf8_decoded_joined : (xs ys : List ℕ) (c : ℕ) → is_digit c 16 ≡ false → (c == 37) ≡ false → c < 128 → IsUtf8 (percent_decode xs) → IsUtf8 (percent_decode ys) → IsUtf8 (percent_decode (xs ++ c ∷ ys))
-utf8_decoded_joined xs ys c other plain ascii front rest =
-    subst IsUtf8 (sym (decodes_around xs ys c other plain)) (utf8_joined (percent_decode xs) (percent_decode ys) c front ascii rest)
-
 -- two parts lack white space where their whole does
 pub white_space_parts : (xs ys : List ℕ) → IsUtf8 xs → LacksWhiteSpace (xs ++ ys) → LacksWhiteSpace xs × LacksWhiteSpace ys
 white_space_parts xs ys front lacks =
@@ -493,10 +428,6 @@ pub white_space_byte : (c : ℕ) → c < 128 → is_whitespace c ≡ false → L
 white_space_byte c ascii other = white_space_ascii (c ∷ []) (ascii_byte c ascii) (or_from _ _ other refl)
 
 -- ---- bytes and characters
-
--- no byte past ASCII passes the test
-abbrev pub IsAsciiTest : (ℕ → Bool) → Type 0
-IsAsciiTest test = (b : ℕ) → 128 ≤ b → test b ≡ false
 
 -- the bytes of a character: itself where it is ASCII, and else bytes past ASCII
 All-encode : (P : ℕ → Type 0) (c : ℕ) → (c < 128 → P c) → (128 ≤ c → (b : ℕ) → 128 ≤ b → (c < 1114112 → b < 256) → P b) → All P (encode_utf8 c)
@@ -522,72 +453,6 @@ All-encode P c own past =
     let last_three = All-cons P (128 + (c / 4096) % 64) ((128 + (c / 64) % 64) ∷ (128 + c % 64) ∷ []) (next (c / 4096)) last_two in
     All-cons P (240 + c / 262144) ((128 + (c / 4096) % 64) ∷ (128 + (c / 64) % 64) ∷ (128 + c % 64) ∷ []) (high (240 + c / 262144) (omega arith) (λ bound. omega arith)) last_three)))
 
-any_encode : (test : ℕ → Bool) → IsAsciiTest test → (c : ℕ) → list_any test (encode_utf8 c) ≡ test c
-any_encode test ascii c = ⊎_elim
-    (λ low. ap (list_any test) (encode_ascii c low) ∙ or-false (test c))
-    (λ high.
-    let none = All-encode (λ b. test b ≡ false) c (λ low. absurd (omega arith)) (λ _ b past _. ascii b past) in
-    list_any_none test (encode_utf8 c) none ∙ sym (ascii c high))
-    (cases_lt c 128)
-
-any_encodes : (test : ℕ → Bool) → IsAsciiTest test → (cs : List ℕ) → list_any test (encode_utf8_all cs) ≡ list_any test cs
-any_encodes test ascii [] = refl
-any_encodes test ascii (c ∷ cs) =
-    let first = any_encode test ascii c in
-    let rest = any_encodes test ascii cs in
-    rw (list_any-append test (encode_utf8 c) (encode_utf8_all cs), first, rest) refl
-
--- a test of ASCII bytes says of the characters of a text what it says of its bytes
-pub any_chars : (test : ℕ → Bool) (t : List ℕ) → IsAsciiTest test → IsUtf8 t → list_any test (chars t) ≡ list_any test t
-any_chars test t ascii utf8 = sym (any_encodes test ascii (chars t)) ∙ ap (list_any test) (encodes-chars t utf8)
-
--- a text without white space lacks each ASCII test of white space
-pub lacks_narrower_white_space : (test : ℕ → Bool) (t : List ℕ) → IsAsciiTest test → ((b : ℕ) → is_whitespace b ≡ false → test b ≡ false) → IsUtf8 t → LacksWhiteSpace t → Lacks test t
-lacks_narrower_white_space test t ascii less utf8 lacks =
-    sym (any_chars test t ascii utf8) ∙ lacks_weaker test is_whitespace (λ b passes. true_from_ne_false (is_whitespace b) (λ none. both_ways (test b) (less b none) passes)) (chars t) lacks
-
--- a text without white space lacks that of ASCII
-pub lacks_ascii_white_space : (t : List ℕ) → IsUtf8 t → LacksWhiteSpace t → Lacks is_ascii_whitespace t
-lacks_ascii_white_space t =
-    lacks_narrower_white_space is_ascii_whitespace t (λ b high. grind (arith, nat_tests)) (λ b other. grind (arith, nat_tests))
-
-escaped_encode : (c : ℕ) (cs : List ℕ) → escaped_percents (encode_utf8_all cs) ≡ encode_utf8_all (escaped_percents cs) → escaped_percents (encode_utf8_all (c ∷ cs)) ≡ encode_utf8_all (escaped_percents (c ∷ cs))
-escaped_encode c cs rest = ⊎_elim
-    (λ percent.
-    let sign : c ≡ 37 = eqb-true c 37 percent in
-    let bytes : encode_utf8 c ≡ 37 ∷ [] = encode_ascii c (omega arith) ∙ ap (λ b. b ∷ []) sign in
-    rw (percent, bytes, encode_ascii 37 (omega arith), encode_ascii 50 (omega arith), encode_ascii 53 (omega arith)) (ap (λ t. 37 ∷ 50 ∷ 53 ∷ t) rest))
-    (λ other.
-    let none : FreeOf percent_sign (encode_utf8 c) = any_encode (λ b. b == 37) (λ b high. ne_eqb b 37 (λ e. omega arith)) c ∙ other in
-    rw other (escaped_percents-append (encode_utf8 c) (encode_utf8_all cs) ∙ ap (λ t. t ++ escaped_percents (encode_utf8_all cs)) (escaped_percents_kept (encode_utf8 c) none) ∙ ap (λ t. encode_utf8 c ++ t) rest))
-    (cases_Bool (c == 37))
-
-escaped_encodes : (cs : List ℕ) → escaped_percents (encode_utf8_all cs) ≡ encode_utf8_all (escaped_percents cs)
-escaped_encodes [] = refl
-escaped_encodes (c ∷ cs) = escaped_encode c cs (escaped_encodes cs)
-
-scalars_escaped : (cs : List ℕ) → scalars cs ≡ true → scalars (escaped_percents cs) ≡ true
-scalars_escaped [] all = refl
-scalars_escaped (c ∷ cs) all =
-    let parts = and_parts (scalar c) (scalars cs) all in
-    let rest = scalars_escaped cs parts.1 in
-    ⊎_elim (λ percent. rw percent rest) (λ other. rw other (and_from _ _ parts.0 rest)) (cases_Bool (c == 37))
-
--- a UTF-8 text with its `%` as escapes is UTF-8
-pub utf8_escaped_percents : (t : List ℕ) → IsUtf8 t → IsUtf8 (escaped_percents t)
-utf8_escaped_percents t utf8 =
-    (escaped_percents utf8.0, (scalars_escaped utf8.0 utf8.1.0, sym (escaped_encodes utf8.0) ∙ ap escaped_percents utf8.1.1))
-
--- its characters are those of the text with each `%` as an escape
-pub chars_escaped_percents : (t : List ℕ) → IsUtf8 t → chars (escaped_percents t) ≡ escaped_percents (chars t)
-chars_escaped_percents t utf8 =
-    sym (chars_from_encodes (escaped_percents (chars t)) (escaped_percents t) (utf8_escaped_percents t utf8) (sym (escaped_encodes (chars t)) ∙ ap escaped_percents (encodes-chars t utf8)))
-
--- it lacks white space where the text does
-pub white_space_escaped_percents : (t : List ℕ) → IsUtf8 t → LacksWhiteSpace t → LacksWhiteSpace (escaped_percents t)
-white_space_escaped_percents t utf8 lacks =
-    ap (list_any is_whitespace) (chars_escaped_percents t utf8) ∙ lacks_escaped_percents is_whitespace (chars t) refl refl refl lacks
-
 small_encode : (c : ℕ) → scalar c ≡ true → All (λ b. b < 256) (encode_utf8 c)
 small_encode c is =
     let bound : c < 1114112 = ⊎_elim (λ low. omega arith) (λ high. high.1) (scalar_cases c is) in
@@ -598,10 +463,6 @@ small_encodes [] all = All-nil (λ b. b < 256)
 small_encodes (c ∷ cs) all =
     let parts = and_parts (scalar c) (scalars cs) all in
     All-append (λ b. b < 256) (encode_utf8 c) (encode_utf8_all cs) (small_encode c parts.0) (small_encodes cs parts.1)
-
--- a text whose numbers fit a byte is made of bytes
-pub bytes_from_fits : (t : List ℕ) → ((i : ℕ) → Fits w8 (get_or t i 0)) → All (λ b. b < 256) t
-bytes_from_fits t fits = All-from_get_or (λ b. b < 256) t 0 (λ i within. omega (arith, fits i))
 
 -- a UTF-8 text is made of bytes
 pub bytes_from_utf8 : (t : List ℕ) → IsUtf8 t → All (λ b. b < 256) t

@@ -29,11 +29,6 @@ abbrev stage_past_all : Bool → Stage → List ℕ → Stage
 stage_past_all web stage [] = stage
 stage_past_all web stage (b ∷ bs) = stage_past_all web (stage_past web stage b) bs
 
--- the walk is on the web where it began there
-walk_web : (walk : Walk) (bs : List ℕ) → (walk_past_all walk bs).web ≡ walk.web
-walk_web walk [] = refl
-walk_web walk (b ∷ bs) = walk_web (walk_past walk b) bs
-
 -- white space is left out of a text
 white_left_out : (b : ℕ) (bs : List ℕ) → is_ascii_whitespace b ≡ true → without_white_space (b ∷ bs) ≡ without_white_space bs
 white_left_out b bs white = rw white refl

@@ -58,9 +58,6 @@ pub record Done (whole rest out : List ℕ) (good : Bool) : Type 0 where
   pub joined : whole ≡ ended lines ++ rest
   pub answered : AnswersEach lines out good
 
-pub done_none : (whole : List ℕ) → Done whole whole [] true
-done_none whole = record { lines = []; each = All-nil (FreeOf newline); joined = refl; answered = (refl, refl) }
-
 pub done_more : (whole rest out line behind answer : List ℕ) (good first : Bool) → Done whole rest out good → FreeOf newline line → rest ≡ line ++ newline ∷ behind → IsAnswer line answer first → Done whole behind (out ++ answer) (good && first)
 done_more whole rest out line behind answer good first done free cut one = record {
   lines = done.lines ++ line ∷ [];
