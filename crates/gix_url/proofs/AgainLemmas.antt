@@ -14,7 +14,7 @@ use Rattle.gix_url.specs.SettledParts.{IsWeb, HasUrlPath}
 use Rattle.gix_url.specs.Laws.{ComesBack, TextDecides}
 use Rattle.gix_url.specs.WrittenPieces.{as_read, WritesPath, IsAuthorityPiece}
 use Rattle.gix_url.proofs.SettledLemmas.{one_text, written_web, written_git, written_secure, written_other}
-use Rattle.gix_url.proofs.WrittenUrlLemmas.{IsUrlProtocol, authority_with_host, authority_without_host, readable_spelled, url_readable, url_again, authority_text}
+use Rattle.gix_url.proofs.WrittenUrlLemmas.{IsUrlProtocol, IsReadable, authority_with_host, authority_without_host, readable_spelled, url_readable, url_again, authority_text}
 use Rattle.gix_url.proofs.WrittenPathLemmas.{web_path_written, transport_path_written, other_path_written}
 use Rattle.gix_url.proofs.WrittenWebHostLemmas.{web_host_written}
 use Rattle.gix_url.proofs.WrittenHostLemmas.{bracketed_host_written, bare_host_written}
@@ -36,27 +36,35 @@ http_protocol = record { scheme_text = refl; not_file = refl; protocol = refl; n
 https_protocol : IsUrlProtocol https
 https_protocol = record { scheme_text = refl; not_file = refl; protocol = refl; not_ext = λ e. cc }
 
--- a settled location of HTTP comes back
-web_again : (v : Location) → IsWeb v → IsValue v → IsSettledWeb v → (back : ComesBack v) × IsSettled back.reread
-web_again v (inl e) is h =
+-- what a reader finds in the text of a settled location of HTTP
+web_readable : (v : Location) → IsWeb v → IsValue v → IsSettledWeb v → (host : List ℕ) × IsReadable v (Some host)
+web_readable v (inl e) is h =
     let (host, there, web) = h.host in
     let writes = web_host_written v host (inl e) web h.port is.port in
-    url_again v http (Some host) e http_protocol h.common (authority_with_host strict v host host h.common is there writes) (λ need. refl) there (web_path_written v (inl e) h.path (path_of v h.common)) (written_web v (inl e)) (written_web (as_read v) (inl e)) (λ c. record { common = c; host = (host, there, web); port = h.port; path = h.path })
-web_again v (inr e) is h =
+    (host, url_readable v http (Some host) e http_protocol h.common (authority_with_host strict v host host h.common is there writes) (λ need. refl) there (web_path_written v (inl e) h.path (path_of v h.common)) (written_web v (inl e)))
+web_readable v (inr e) is h =
     let (host, there, web) = h.host in
     let writes = web_host_written v host (inr e) web h.port is.port in
-    url_again v https (Some host) e https_protocol h.common (authority_with_host strict v host host h.common is there writes) (λ need. refl) there (web_path_written v (inr e) h.path (path_of v h.common)) (written_web v (inr e)) (written_web (as_read v) (inr e)) (λ c. record { common = c; host = (host, there, web); port = h.port; path = h.path })
+    (host, url_readable v https (Some host) e https_protocol h.common (authority_with_host strict v host host h.common is there writes) (λ need. refl) there (web_path_written v (inr e) h.path (path_of v h.common)) (written_web v (inr e)))
 
 -- its text is read as the location with the spelling that was written
 pub web_spelled : (v : Location) → IsWeb v → IsValue v → IsSettledWeb v → Spells (canonical_text v) (as_read v)
-web_spelled v (inl e) is h =
-    let (host, there, web) = h.host in
-    let writes = web_host_written v host (inl e) web h.port is.port in
-    readable_spelled v (Some host) (url_readable v http (Some host) e http_protocol h.common (authority_with_host strict v host host h.common is there writes) (λ need. refl) there (web_path_written v (inl e) h.path (path_of v h.common)) (written_web v (inl e)))
-web_spelled v (inr e) is h =
-    let (host, there, web) = h.host in
-    let writes = web_host_written v host (inr e) web h.port is.port in
-    readable_spelled v (Some host) (url_readable v https (Some host) e https_protocol h.common (authority_with_host strict v host host h.common is there writes) (λ need. refl) there (web_path_written v (inr e) h.path (path_of v h.common)) (written_web v (inr e)))
+web_spelled v web is h =
+    let (host, readable) = web_readable v web is h in
+    readable_spelled v (Some host) readable
+
+-- what is read has the host, the port and the path of the location
+web_as_read : (v : Location) → IsSettledWeb v → IsSettledUrl (as_read v) → IsSettledWeb (as_read v)
+web_as_read v h common = record { common = common; host = h.host; port = h.port; path = h.path }
+
+-- a settled location of HTTP comes back
+web_again : (v : Location) → IsWeb v → IsValue v → IsSettledWeb v → (back : ComesBack v) × IsSettled back.reread
+web_again v (inl e) is h =
+    let (host, readable) = web_readable v (inl e) is h in
+    url_again v http (Some host) e h.common readable (written_web v (inl e)) (written_web (as_read v) (inl e)) (web_as_read v h)
+web_again v (inr e) is h =
+    let (host, readable) = web_readable v (inr e) is h in
+    url_again v https (Some host) e h.common readable (written_web v (inr e)) (written_web (as_read v) (inr e)) (web_as_read v h)
 
 -- ---- Secure Shell
 
@@ -69,7 +77,8 @@ secure_again v e is h =
     let (host, there, unbracketed) = h.host in
     let (named, writes, peels) = bare_host_written v host e unbracketed (subst (λ o. IfSome o IsUtf8) there is.host) is.port in
     let (path, homed, raw) = transport_path_written v (inl e) h.path (path_of v h.common) h.raw in
-    url_again v ssh (Some named) e ssh_protocol h.common (authority_with_host bare v host named h.common is there writes) (λ need. refl) (host, peels, there) path (written_secure v e h.path) (written_secure (as_read v) e homed) (λ c. inr record { common = c; host = (host, there, unbracketed); path = homed; raw = raw })
+    let readable = url_readable v ssh (Some named) e ssh_protocol h.common (authority_with_host bare v host named h.common is there writes) (λ need. refl) (host, peels, there) path (written_secure v e h.path) in
+    url_again v ssh (Some named) e h.common readable (written_secure v e h.path) (written_secure (as_read v) e homed) (λ c. inr record { common = c; host = (host, there, unbracketed); path = homed; raw = raw })
 
 -- ---- Git's own protocol
 
@@ -82,7 +91,8 @@ git_again v e is h =
     let (host, there, bracketed) = h.host in
     let writes = bracketed_host_written bare v host (λ e. cc) (ap keeps_host e) bracketed (subst (λ o. IfSome o IsUtf8) there is.host) is.port in
     let (path, homed, raw) = transport_path_written v (inr e) h.path (path_of v h.common) h.raw in
-    url_again v git (Some host) e git_protocol h.common (authority_with_host bare v host host h.common is there writes) (λ need. refl) there path (written_git v e) (written_git (as_read v) e) (λ c. record { common = c; host = (host, there, bracketed); path = homed; raw = raw })
+    let readable = url_readable v git (Some host) e git_protocol h.common (authority_with_host bare v host host h.common is there writes) (λ need. refl) there path (written_git v e) in
+    url_again v git (Some host) e h.common readable (written_git v e) (written_git (as_read v) e) (λ c. record { common = c; host = (host, there, bracketed); path = homed; raw = raw })
 
 -- ---- other schemes
 
@@ -133,14 +143,16 @@ other_by name v None e there is h =
     let (path, raw) = other_path_written v name e h.path (path_of v h.common) h.raw in
     let authority = authority_without_host (mode_of name) v h.common there in
     let required : requires_host name ≡ true → IsSome {T = List ℕ} None = λ need. subst IsSome there (h.hosted (sym (other_hosted name other) ∙ need)) in
-    url_again v (helper_url name) None e (helper_url_protocol name h.scheme_text other) h.common authority required there (subst (λ web. WritesPath web v) (sym other.not_web) path) (written_other v name e h.scheme_text) (written_other (as_read v) name e h.scheme_text) (λ c. record { common = c; scheme_text = h.scheme_text; unknown = h.unknown; host = h.host; hosted = h.hosted; path = h.path; raw = raw })
+    let readable = url_readable v (helper_url name) None e (helper_url_protocol name h.scheme_text other) h.common authority required there (subst (λ web. WritesPath web v) (sym other.not_web) path) (written_other v name e h.scheme_text) in
+    url_again v (helper_url name) None e h.common readable (written_other v name e h.scheme_text) (written_other (as_read v) name e h.scheme_text) (λ c. record { common = c; scheme_text = h.scheme_text; unknown = h.unknown; host = h.host; hosted = h.hosted; path = h.path; raw = raw })
 other_by name v (Some host) e there is h =
     let other = other_scheme name h.unknown in
     let bracketed = subst (λ o. IfSome o IsBracketedHost) there h.host in
     let writes = bracketed_host_written loose v host (λ e. cc) (ap keeps_host e) bracketed (subst (λ o. IfSome o IsUtf8) there is.host) is.port in
     let (path, raw) = other_path_written v name e h.path (path_of v h.common) h.raw in
     let authority = subst (λ mode. Authority mode (authority_text v) v.user v.password (Some host) v.port × IsAuthorityPiece (authority_text v)) (sym (other_mode name other)) (authority_with_host loose v host host h.common is there writes) in
-    url_again v (helper_url name) (Some host) e (helper_url_protocol name h.scheme_text other) h.common authority (λ need. refl) there (subst (λ web. WritesPath web v) (sym other.not_web) path) (written_other v name e h.scheme_text) (written_other (as_read v) name e h.scheme_text) (λ c. record { common = c; scheme_text = h.scheme_text; unknown = h.unknown; host = h.host; hosted = h.hosted; path = h.path; raw = raw })
+    let readable = url_readable v (helper_url name) (Some host) e (helper_url_protocol name h.scheme_text other) h.common authority (λ need. refl) there (subst (λ web. WritesPath web v) (sym other.not_web) path) (written_other v name e h.scheme_text) in
+    url_again v (helper_url name) (Some host) e h.common readable (written_other v name e h.scheme_text) (written_other (as_read v) name e h.scheme_text) (λ c. record { common = c; scheme_text = h.scheme_text; unknown = h.unknown; host = h.host; hosted = h.hosted; path = h.path; raw = raw })
 
 -- ---- all kinds
 

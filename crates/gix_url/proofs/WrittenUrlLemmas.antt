@@ -212,12 +212,10 @@ url_readable v p named e known h authority required hosted path written =
       fits = subst FitsText same short;
     }
 
--- and comes back
-pub url_again : (v : Location) (p : Protocol) (named : Option (List ℕ)) → v.scheme ≡ p → IsUrlProtocol p → IsSettledUrl v → Authority (mode_of (protocol_text p)) (authority_text v) v.user v.password named v.port × IsAuthorityPiece (authority_text v) → (requires_host (protocol_text p) ≡ true → IsSome named) → HostFor p named v.host → WritesPath (is_web_scheme (protocol_text p)) v → IsWrittenAsUrl v → IsWrittenAsUrl (as_read v) → (IsSettledUrl (as_read v) → IsSettledBy p (as_read v)) → (back : ComesBack v) × IsSettled back.reread
-url_again v p named e known h authority required hosted path written rewritten settled =
-    let is_hosted : IsHosted v = record { user_hosted = h.user_hosted; port_hosted = h.port_hosted } in
-    let first : text v ≡ Ok (canonical_text v) = written.canonical h.unflagged is_hosted in
-    let readable : IsReadable v named = url_readable v p named e known h authority required hosted path written in
+-- a readable settled URL comes back
+pub url_again : (v : Location) (p : Protocol) (named : Option (List ℕ)) → v.scheme ≡ p → IsSettledUrl v → IsReadable v named → IsWrittenAsUrl v → IsWrittenAsUrl (as_read v) → (IsSettledUrl (as_read v) → IsSettledBy p (as_read v)) → (back : ComesBack v) × IsSettled back.reread
+url_again v p named e h readable written rewritten settled =
+    let first : text v ≡ Ok (canonical_text v) = written.canonical h.unflagged (record { user_hosted = h.user_hosted; port_hosted = h.port_hosted }) in
     let second : text (as_read v) ≡ Ok (canonical_text v) = rewritten.canonical h.unflagged (record { user_hosted = h.user_hosted; port_hosted = h.port_hosted }) ∙ ap Ok (text_as_read v named readable) in
-    let again = settled (url_as_read v h readable.fits second path.fair) in
+    let again = settled (url_as_read v h readable.fits second readable.path.fair) in
     readable_again v named readable first second (subst (λ q. IsSettledBy q (as_read v)) (sym e) again)
