@@ -1,6 +1,8 @@
 //! The example of the library's documentation, and what a user proves by the contracts alone.
 
-ghost use Rattle.std.specs.Prelude.{◌≡◌, IfErr, IfOk, IfSome};
+ghost use Rattle.std.specs.Prelude.{◌≡◌, IfErr, IfOk, IfSome, IsSome};
+ghost use Rattle.gix_url.specs.Settled.{IsSettled};
+ghost use Rattle.gix_url.specs.Text as spec;
 ghost use Rattle.gix_url.specs.Value.{fields};
 ghost use Rattle.gix_url.specs.declared.error.Error.TheVariants as error;
 
@@ -18,10 +20,12 @@ fn host_of(alloc: Global, text: &str) -> Result<Option<String>, Error> {
     Ok(url.host)
 }
 
-/// What the text of a location is read as, if the location is settled: its public fields are those of the location,
-/// and nothing but memory can be wanting.
+/// What the text of a location is read as, if the location is settled: its public fields and its text are those of
+/// the location, and nothing but memory can be wanting.
 fn read_back(alloc: Global, url: &Url) -> Result<Option<Url>, Error>
+    ensures found { IfOk result (λ back. IsSettled url.now → IsSome back) }
     ensures same { IfOk result (λ back. IfSome back (λ w. fields w ≡ fields url.now)) }
+    ensures same_text { IfOk result (λ back. IfSome back (λ w. spec.text w ≡ spec.text url.now)) }
     ensures refused { IfErr result (λ e. e ≡ error.Memory) }
 {
     if !url.is_settled() {

@@ -21,6 +21,11 @@ same_fields : Unique → (v w : Location) (s t : List ℕ) → ComesBack v → t
 same_fields unique v w s t back written read spelled =
     ap (λ l. fields l) (unique s w back.reread spelled (back_spelled v s t back written read)) ∙ back.same_fields
 
+-- and its text
+same_text : Unique → (v w : Location) (s t : List ℕ) → ComesBack v → text v ≡ Ok t → s ≡ t → Spells s w → text w ≡ text v
+same_text unique v w s t back written read spelled =
+    ap (λ l. text l) (unique s w back.reread spelled (back_spelled v s t back written read)) ∙ back.same_text ∙ sym back.has_text
+
 -- and it is refused for want of memory alone
 memory_alone : (s : List ℕ) (w : Location) → Spells s w → (e : Error) → Refuses s e → e ≡ error.Memory
 memory_alone s w spelled error.Memory h = refl
@@ -40,3 +45,8 @@ pub returns-clause-same : goal.returns-clause-same
 returns-clause-same c =
     let (back, again) = c.law_separation.ensures.settled_again c.args.url.now c.law_value.ensures.value (c.if-not-is_settled.ensures.0 refl) in
     same_fields c.law_separation.ensures.unique c.args.url.now c.in-Ok-from_bytes.back _ _ back c.in-Ok.ensures.text c.as_bstr.ensures c.in-Ok-from_bytes.ensures.found
+
+pub returns-clause-same_text : goal.returns-clause-same_text
+returns-clause-same_text c =
+    let (back, again) = c.law_separation.ensures.settled_again c.args.url.now c.law_value.ensures.value (c.if-not-is_settled.ensures.0 refl) in
+    same_text c.law_separation.ensures.unique c.args.url.now c.in-Ok-from_bytes.back _ _ back c.in-Ok.ensures.text c.as_bstr.ensures c.in-Ok-from_bytes.ensures.found
