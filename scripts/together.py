@@ -1,0 +1,105 @@
+"""Must-fail edits that one check can try together: each changes the body of another function.
+
+A function is proved from its own body and the contracts of what it calls, so an edit of one body leaves the goals of all
+other functions as they are, and the check says of each function by itself what is not proved. An edit counts as refused
+here only where the check names a goal of the very function that it changes. Every other is left to be tried alone: one
+that changes a contract, a constant or a definition, one that doesn't read, and one that the check has nothing to say of.
+"""
+import re
+
+FUNCTION = re.compile(r"( *)(?:pub(?:\([a-z]+\))? )?(?:const )?(?:extern \"C\" )?fn \w")
+PAIR = re.compile(r"(?m)^file: (?P<file>\S+)|^old: (?P<old>.*)\nnew: ?(?P<new>.*)")
+OPEN_GOAL = re.compile(r"note: (?:\./)?(src/\S+):(\d+):\d+: it is not proved")
+
+
+def bodies(text):
+    """The first and the last line of each function and the first line of its body, by the layout of `rt fmt`."""
+    lines, found = text.split("\n"), []
+    for start, line in enumerate(lines):
+        head = FUNCTION.match(line)
+        if head:
+            end = next((at for at in range(start, len(lines)) if lines[at] == head[1] + "}"), None)
+            inside = range(start, end or start)
+            # The body opens on a line of its own behind clauses, and else at the end of the signature.
+            opens = next((at for at in inside if lines[at] == head[1] + "{"), None) or next((at for at in inside if lines[at].endswith(" {")), None)
+            if opens is not None:
+                found.append((start + 1, end + 1, opens + 2))
+    return found
+
+
+def pairs_of(edit):
+    """What an edit replaces: files, old and new texts."""
+    with open(edit, encoding="utf-8") as it:
+        text, file, found = it.read(), None, []
+    for part in PAIR.finditer(text):
+        file = part["file"] or file
+        if part["old"] is not None:
+            found.append((file, part["old"], part["new"]))
+    return found
+
+
+def place_of(kit, crate, edit):
+    """The one function that an edit changes, by its file and its lines, or none where it changes anything else."""
+    texts, why = kit.read_edit(edit, crate.folder)
+    if why or len(texts) != 1:
+        return None
+    places = set()
+    for file, old, _ in pairs_of(edit):
+        with open(f"{crate.folder}/{file}", encoding="utf-8") as it:
+            text = it.read()
+        line = text.count("\n", 0, text.find(old)) + 1 if old in text else 0
+        # The innermost function around the line, if the line is one of its body.
+        around = [it for it in bodies(text) if it[0] <= line <= it[1]]
+        places.add((file, *max(around)) if around and max(around)[2] <= line else None)
+    return places.pop() if len(places) == 1 else None
+
+
+def groups_of(kit, crate, edits, lanes):
+    """The edits in groups to be tried together, at least one a lane, and those that go alone."""
+    placed = [(it, place_of(kit, crate, it)) for it in edits]
+    by_place = {}
+    for edit, place in placed:
+        if place:
+            by_place.setdefault(place, []).append((edit, place))
+    number = max([lanes, *map(len, by_place.values())])
+    groups = [[] for _ in range(number)]
+    # A function's edits stand next to each other in this order, and so come into different groups.
+    for at, it in enumerate(it for found in by_place.values() for it in found):
+        groups[at % number].append(it)
+    return [it for it in groups if it] + [[it] for it in placed if not it[1]]
+
+
+def joined(crate, group):
+    """The texts of the files with the edits of the group made, and which were made: one that no longer fits is left out."""
+    texts, made = {}, []
+    for edit, place in group:
+        changed = dict(texts)
+        for file, old, new in pairs_of(edit):
+            if file not in changed:
+                with open(f"{crate.folder}/{file}", encoding="utf-8") as it:
+                    changed[file] = it.read()
+            if changed[file].count(old) != 1:
+                break
+            changed[file] = changed[file].replace(old, new)
+        else:
+            texts = changed
+            made.append((edit, place))
+    return texts, made
+
+
+def refusals(kit, crate, group, flags, kept):
+    """What the check of all edits of the group says against each: edits of which it says nothing are not among them."""
+    texts, made = joined(crate, group)
+    ran = kit.checked(crate, texts, flags, kept)
+    if ran.returncode != 1 or kit.rtlib.STALE.search(ran.stdout):
+        return {}
+    lines = ran.stdout.rstrip("\n").split("\n")
+    if not lines[-1].startswith("logic=not-proved") or any(kit.unread(it, texts) for it in lines):
+        return {}
+    open_goals = [(it[1], int(it[2]), it.string) for it in map(OPEN_GOAL.match, lines) if it]
+    told = {}
+    for edit, (file, first, last, _) in made:
+        said = next((line for where, at, line in open_goals if where == file and first <= at <= last), None)
+        if said:
+            told[edit] = said
+    return told
