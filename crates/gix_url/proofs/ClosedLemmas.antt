@@ -49,11 +49,11 @@ file_closed_by b v (Some host) there e h =
 -- ---- HTTP
 
 -- a text ends in a byte, or doesn't
-abbrev EndsOrNot : ℕ → List ℕ → Type 0
+abbrev pub EndsOrNot : ℕ → List ℕ → Type 0
 EndsOrNot c t = ((front : List ℕ) × (t ≡ front ++ c ∷ [])) ⊎ ((front : List ℕ) → ¬ (t ≡ front ++ c ∷ []))
 
 -- by whether the byte behind all but one byte of the text makes it up
-ends_or_not : (c : ℕ) (t : List ℕ) → EndsOrNot c t
+pub ends_or_not : (c : ℕ) (t : List ℕ) → EndsOrNot c t
 ends_or_not c [] = inr (λ front e. absurd (omega (arith, ap length e, length-append front (c ∷ []))))
 ends_or_not c (b ∷ t) =
     let before = take (length t) (b ∷ t) in

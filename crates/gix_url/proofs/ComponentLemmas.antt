@@ -38,7 +38,7 @@ IsBytes text = All (λ b. b < 256) text
 -- ---- spaces
 
 -- a text without `+` has nothing that stands for a space
-spaces_free : (x : List ℕ) → FreeOf plus_sign x → with_spaces x ≡ x
+pub spaces_free : (x : List ℕ) → FreeOf plus_sign x → with_spaces x ≡ x
 spaces_free [] free = refl
 spaces_free (b ∷ x) free =
     let parts = or_parts (b == plus_sign) (list_any (λ c. c == plus_sign) x) free in
@@ -432,12 +432,12 @@ parts_rewritten f v w components h = (parts_back f v w components h, parts_writt
 -- ---- the spelling that is read
 
 -- the spelling stands for the path where it matches it
-matched : (spelling : Option (List ℕ)) (path other : List ℕ) → matches spelling path ≡ true → (s : List ℕ) × (spelling ≡ Some s) × (percent_decode s ≡ path) × (matching_or spelling path other ≡ s)
+pub matched : (spelling : Option (List ℕ)) (path other : List ℕ) → matches spelling path ≡ true → (s : List ℕ) × (spelling ≡ Some s) × (percent_decode s ≡ path) × (matching_or spelling path other ≡ s)
 matched None path other h = absurd (false≢true h)
 matched (Some s) path other h = (s, refl, (bytes_eq-Decides (percent_decode s) path).0 h, cond-true _ _ _ h)
 
 -- and something else is taken where it doesn't
-unmatched : (spelling : Option (List ℕ)) (path other : List ℕ) → matches spelling path ≡ false → matching_or spelling path other ≡ other
+pub unmatched : (spelling : Option (List ℕ)) (path other : List ℕ) → matches spelling path ≡ false → matching_or spelling path other ≡ other
 unmatched None path other h = refl
 unmatched (Some s) path other h = cond-false _ _ _ h
 
@@ -499,7 +499,7 @@ settled_web v (inl e) h = subst (λ p. IsSettledBy p v) e h
 settled_web v (inr e) h = subst (λ p. IsSettledBy p v) e h
 
 -- and its components are those of a location of HTTP
-web_parts : (v : Location) (components : Components) → IsWeb v → PartsOf v components ↔ WebParts v components
+pub web_parts : (v : Location) (components : Components) → IsWeb v → PartsOf v components ↔ WebParts v components
 web_parts v components (inl e) = (λ h. subst (λ p. PartsBy p v components) e h, λ h. subst (λ p. PartsBy p v components) (sym e) h)
 web_parts v components (inr e) = (λ h. subst (λ p. PartsBy p v components) e h, λ h. subst (λ p. PartsBy p v components) (sym e) h)
 

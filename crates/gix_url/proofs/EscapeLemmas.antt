@@ -131,7 +131,8 @@ digits-append [] ys digits = absurd (false≢true digits)
 digits-append (x ∷ []) ys digits = absurd (false≢true digits)
 digits-append (x ∷ y ∷ xs) ys digits = digits
 
-digits_before : (xs ys : List ℕ) (c : ℕ) → is_digit c 16 ≡ false → begins_with_digits (xs ++ c ∷ ys) ≡ true → begins_with_digits xs ≡ true
+-- two digits before a byte that is none are digits without it
+pub digits_before : (xs ys : List ℕ) (c : ℕ) → is_digit c 16 ≡ false → begins_with_digits (xs ++ c ∷ ys) ≡ true → begins_with_digits xs ≡ true
 digits_before [] [] c other digits = absurd (false≢true digits)
 digits_before [] (y ∷ ys) c other digits = absurd (both_ways _ other (and_parts _ _ digits).0)
 digits_before (x ∷ []) ys c other digits = absurd (both_ways _ other (and_parts _ _ digits).1)
@@ -246,7 +247,8 @@ encode-append set xs ys = percent_encode-append set xs ys
 pub IsAscii-encode : (set : AsciiSet) (t : List ℕ) → IsAscii (percent_encode set t)
 IsAscii-encode set t = IsAscii-percent_encode set t
 
-glyph_is_digit : (d : ℕ) → d < 16 → is_digit (digit_glyph true d) 16 ≡ true
+-- a digit of an escape is a hexadecimal digit
+pub glyph_is_digit : (d : ℕ) → d < 16 → is_digit (digit_glyph true d) 16 ≡ true
 glyph_is_digit d small = grind (arith, nat_tests)
 
 escape_sound : (b : ℕ) (rest : List ℕ) → is_sound rest ≡ true → is_sound (percent_encode_byte b ++ rest) ≡ true

@@ -137,7 +137,7 @@ refused_answer read line old new e r same none flaw told =
     refusal_told line old new (error.NotUtf8 kind input) (Ok good) none flaw told = (_, refused (error.NotUtf8 kind input) tt none flaw refl told.1, told.2)
     refusal_told line old new (error.TooLong shown total) (Ok good) none flaw told = (_, refused (error.TooLong shown total) tt none flaw refl told.1, told.2)
     refusal_told line old new (error.BadUrl kind named input) (Ok good) none flaw told = (_, refused (error.BadUrl kind named input) tt none flaw refl told.1, told.2)
-    refusal_told line old new (error.Unwritable named) (Ok good) none flaw told = (_, refused (error.Unwritable named) tt none flaw refl told.1, told.2)
+    refusal_told line old new _ (Ok good) none flaw told = absurd told.0
 
 -- where a text was written there is one, and it was appended
 pub text_appended : {W : Type 0} (contents : W → Option (List ℕ)) (old new : W) (r : Result (List ℕ) WriteFault) → Written contents old new r (Ok tt) → (t : List ℕ) × (r ≡ Ok t) × Appends (contents old) (contents new) t

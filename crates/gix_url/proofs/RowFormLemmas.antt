@@ -21,6 +21,7 @@ use Rattle.gix_url.specs.Rows.{no_text, UrlRows, FormRows, NoFormRows}
 use Rattle.gix_url.proofs.CutLemmas.{tails, cut_unique, not_free, free_parts, free_head_tail, free_or_cut, helper_name_free}
 use Rattle.gix_url.proofs.AddressTestLemmas.{ipv6_text_from}
 use Rattle.gix_url.proofs.AddressLemmas.{address_free}
+use Rattle.gix_url.proofs.ShapeLemmas.{no_helper_free, addressed_free, addressed_cut}
 use Rattle.gix_url.proofs.RowNameLemmas.{plain_row, not_literal_free}
 
 -- ---- what a text doesn't hold
@@ -58,17 +59,10 @@ no_helper_at bs front rest e free other (name, address, parts) =
     let same = cut_unique colon front name rest (colon ∷ address) free (helper_name_free name colon parts.named refl) (sym e ∙ parts.joined) in
     both_ways _ other (and_from _ _ (ap is_helper_name same.0 ∙ parts.named) (ap (begins_with colon) same.1))
 
--- nor has one without a colon
-pub no_helper_free : (bs : List ℕ) → FreeOf colon bs → ¬ HasHelperForm bs
-no_helper_free bs free (name, address, parts) = not_free colon name (colon ∷ address) (subst (λ t. FreeOf colon t) parts.joined free)
-
 -- a text without a colon has no shape of the scp form
 pub no_scp_free : (bs : List ℕ) → FreeOf colon bs → ¬ IsScpShaped bs
 no_scp_free bs free (inl (front, path, s)) = not_free colon front path (subst (λ t. FreeOf colon t) s.joined free)
-no_scp_free bs free (inr (user, address, path, s)) =
-    let behind = (free_parts colon user (at_sign ∷ left_bracket ∷ (address ++ right_bracket ∷ colon ∷ path)) (subst (λ t. FreeOf colon t) s.joined free)).1 in
-    let inside = (free_parts colon (at_sign ∷ left_bracket ∷ address) (right_bracket ∷ colon ∷ path) behind).1 in
-    not_free colon (right_bracket ∷ []) path inside
+no_scp_free bs free (inr (user, address, path, s)) = addressed_free bs free (user, address, path, addressed_cut bs user address path s)
 
 -- nor has one whose first colon stands behind a slash
 pub no_scp_behind_slash : (bs front rest : List ℕ) → bs ≡ front ++ colon ∷ rest → FreeOf colon front → begins_with left_bracket bs ≡ false → FreeOf at_sign bs → ¬ FreeOf slash front → ¬ IsScpShaped bs
@@ -214,7 +208,7 @@ shape_row front path free apart lacks other none =
     record { joined = refl; neither = neither_at (front ++ colon ∷ path) front path refl free other none; no_slash = lacks; shape = ScpFront.plain free (inl apart) }
 
 -- a text that doesn't begin with a bracket isn't in brackets
-not_bracketed : (t : List ℕ) → begins_with left_bracket t ≡ false → ¬ IsBracketed t
+pub not_bracketed : (t : List ℕ) → begins_with left_bracket t ≡ false → ¬ IsBracketed t
 not_bracketed t apart (inner, e) = both_ways _ apart (ap (begins_with left_bracket) e)
 
 -- a local path behind a dot

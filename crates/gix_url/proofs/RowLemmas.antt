@@ -2,9 +2,8 @@
 use Rattle.std.proofs.Common.{refl}
 use Rattle.std.specs.Fmt.{digits}
 use Rattle.percent_encoding.proofs.OnLiterals.{percent_encoding_on_literals}
-use Rattle.bstr.proofs.Computing.{computing}
 use Rattle.gix_url.specs.AddressTest.{is_ipv6_text}
-use Rattle.gix_url.specs.Rows.{EscapeRows, HostRows, SchemeRows, PathRows, OtherTextRows, UrlTextRows, UserTextRows, FaultRows, RecordRows, PieceRows, ParentRows, ExpandedRows}
+use Rattle.gix_url.specs.Rows.{EscapeRows, HostRows, SchemeRows, PathRows, OtherTextRows, UrlTextRows, UserTextRows, FaultRows, RecordRows}
 
 -- what is written with each set, and what is read
 pub escape_rows : EscapeRows
@@ -46,16 +45,3 @@ fault_rows = (refl, refl, refl, refl, refl, refl, refl)
 pub record_rows : RecordRows
 unfolding percent_encoding_on_literals
 record_rows = (refl, refl, refl, refl, refl, refl, refl, refl, refl)
-
--- the pieces of a text, and what is left without its first component
-pub piece_rows : PieceRows
-piece_rows = (refl, refl, refl, refl, refl, refl, refl, refl)
-
--- joined paths and parents
-pub parent_rows : ParentRows
-parent_rows = (refl, refl, refl, refl, refl, refl, refl, refl, refl, refl, refl, refl, refl)
-
--- paths below home folders
-pub expanded_rows : ExpandedRows
-unfolding computing
-expanded_rows = (refl, refl, refl, refl, refl, refl, refl)

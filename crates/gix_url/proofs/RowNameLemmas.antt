@@ -43,7 +43,7 @@ pub plain_row : (t : List ℕ) → nat_lt 0 (length t) ≡ true → FreeOf colon
 plain_row t some free front = record { nonempty = ltb-true _ _ some; no_colon = free; no_bracket = front }
 
 -- a port, by tests
-number_row : (mode : Mode) (t : List ℕ) (port : ℕ) → nat_lt 0 (length t) ≡ true → list_all is_ascii_digit t ≡ true → port ≡ digits_value 10 t → nat_le port 65535 ≡ true → AllowsPort mode port → Number mode t port
+pub number_row : (mode : Mode) (t : List ℕ) (port : ℕ) → nat_lt 0 (length t) ≡ true → list_all is_ascii_digit t ≡ true → port ≡ digits_value 10 t → nat_le port 65535 ≡ true → AllowsPort mode port → Number mode t port
 number_row mode t port some each value within allowed = record { digits = (ltb-true _ _ some, each); value = value; within = leb-true _ _ within; allowed = allowed }
 
 -- a text that is no address, cut at its first `%`, is no literal where no zone stands behind it

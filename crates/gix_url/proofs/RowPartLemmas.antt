@@ -1,34 +1,13 @@
--- Rows on home folders and on the parts of a path: the pieces are given.
+-- Rows on the parts of a path: the pieces are given.
 use Rattle.std.proofs.Common.{◌≡◌, ℕ, zero, suc, true, not, ◌==◌, List, [], ◌∷◌, Some, None, codes, refl, arith, All}
 use Rattle.std.specs.List.{list_any, list_all}
 use Rattle.std.proofs.lemmas.Bool.{and_parts, not-true}
 use Rattle.percent_encoding.proofs.OnLiterals.{percent_encoding_on_literals}
-use Rattle.bstr.proofs.Computing.{computing}
 use Rattle.gix_url.specs.Value.{Location}
 use Rattle.gix_url.specs.Bytes.{FreeOf}
 use Rattle.gix_url.specs.Addresses.{joined_by}
 use Rattle.gix_url.specs.Components.{ampersand, CutsPath, SplitsField, PairsOf, QueryOf}
-use Rattle.gix_url.specs.Homes.{SplitsHome}
-use Rattle.gix_url.specs.Homes.HomeUser.{current, named}
-use Rattle.gix_url.specs.Rows.{on_web, SplitRows, SpelledPartRows, RawPartRows}
-
--- ---- homes
-
--- whose home folder a path means
-pub split_rows : SplitRows
-unfolding computing
-split_rows = (
-  SplitsHome.below_home [] (codes "repopath") refl refl refl refl,
-  SplitsHome.below_home (codes "user") (codes "repopath") refl refl refl refl,
-  SplitsHome.home_alone [] refl refl refl refl,
-  SplitsHome.home_alone (codes "u") refl refl refl refl,
-  SplitsHome.below_home (codes "u") (255 ∷ []) refl refl refl refl,
-  SplitsHome.no_home refl refl refl,
-  SplitsHome.no_home refl refl refl,
-  record { user = Some (named (codes "user")); rest = codes "/repopath"; split = SplitsHome.below_home (codes "user") (codes "repopath") refl refl refl refl; written = refl },
-  record { user = Some current; rest = codes "/"; split = SplitsHome.home_alone [] refl refl refl refl; written = refl },
-  record { user = None; rest = codes "/r"; split = SplitsHome.no_home refl refl refl; written = refl },
-)
+use Rattle.gix_url.specs.Rows.{on_web, SpelledPartRows, RawPartRows}
 
 -- ---- components
 

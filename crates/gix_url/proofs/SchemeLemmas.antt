@@ -1,9 +1,12 @@
 -- Schemes and their protocols: what the protocol of a scheme can be, and what a URL means by it.
-use Rattle.std.proofs.Common.{◌≡◌, ℕ, Bool, true, false, ◌⊎◌, inl, inr, List, refl, sym, ap, ◌∙◌, codes, bytes_eq, if◌then◌else◌}
+use Rattle.std.proofs.Common.{◌≡◌, ℕ, Bool, true, false, ◌⊎◌, inl, inr, List, refl, sym, ap, subst, ◌∙◌, codes, bytes_eq, if◌then◌else◌}
+use Rattle.std.proofs.lemmas.Bool.{false≢true, or_cases}
+use Rattle.std.proofs.lemmas.Slice.Eq.{bytes_eq-Decides}
 use Rattle.gix_url.specs.Value.{Protocol, Location, path_alone}
 use Rattle.gix_url.specs.Value.Protocol.{file, git, ssh, http, https, ext, helper, helper_url}
-use Rattle.gix_url.specs.Schemes.{is_ssh_scheme, protocol_of}
-use Rattle.gix_url.specs.Grammar.{helper_protocol, UrlParts, MeansByProtocol, MeansAs}
+use Rattle.gix_url.specs.Bytes.{colon, FreeOf}
+use Rattle.gix_url.specs.Schemes.{is_ssh_scheme, is_web_scheme, protocol_of}
+use Rattle.gix_url.specs.Grammar.{helper_protocol, requires_path, UrlParts, MeansByProtocol, MeansAs}
 
 -- what holds of both choices holds of the chosen one
 chosen : (P : Protocol → Type 0) (b : Bool) (p q : Protocol) → (b ≡ true → P p) → (b ≡ false → P q) → P (if b then p else q)
@@ -19,6 +22,37 @@ protocol_cases P s of_ssh of_file of_git of_http of_https of_ext other =
 -- the same of those of a remote helper
 pub helper_cases : (P : Protocol → Type 0) (name : List ℕ) → (bytes_eq name (codes "ext") ≡ true → P ext) → (bytes_eq name (codes "ext") ≡ false → P (helper name)) → P (helper_protocol name)
 helper_cases P name of_ext other = chosen P (bytes_eq name (codes "ext")) _ _ of_ext other
+
+-- the name of a transport of Git's own: it holds no `:`, and is neither `file` nor one of HTTP
+pub record IsTransport (scheme : List ℕ) : Type 0 where
+  pub no_colon : FreeOf colon scheme
+  pub not_file : bytes_eq scheme (codes "file") ≡ false
+  pub not_web : is_web_scheme scheme ≡ false
+
+-- a scheme that is one of these names is one of them
+same_transport : (s name : List ℕ) → bytes_eq s name ≡ true → IsTransport name → IsTransport s
+same_transport s name e h = subst IsTransport (sym ((bytes_eq-Decides s name).0 e)) h
+
+-- Secure Shell is one by each of its names
+ssh_transport : (s : List ℕ) → is_ssh_scheme s ≡ true → IsTransport s
+ssh_transport s h = elim (or_cases (bytes_eq s (codes "ssh")) _ h) [
+  | inl e ↦ same_transport s (codes "ssh") e (record { no_colon = refl; not_file = refl; not_web = refl })
+  | inr more ↦
+      elim (or_cases (bytes_eq s (codes "ssh+git")) _ more) [
+        | inl e ↦ same_transport s (codes "ssh+git") e (record { no_colon = refl; not_file = refl; not_web = refl })
+        | inr e ↦ same_transport s (codes "git+ssh") e (record { no_colon = refl; not_file = refl; not_web = refl })
+      ]
+]
+
+-- a scheme whose URLs need a path is one
+pub transport : (s : List ℕ) → requires_path (protocol_of s) ≡ true → IsTransport s
+transport s =
+    chosen (λ p. requires_path p ≡ true → IsTransport s) (is_ssh_scheme s) _ _ (λ e need. ssh_transport s e)
+    (λ other. chosen (λ p. requires_path p ≡ true → IsTransport s) (bytes_eq s (codes "file")) _ _ (λ e need. absurd (false≢true need))
+    (λ other. chosen (λ p. requires_path p ≡ true → IsTransport s) (bytes_eq s (codes "git")) _ _ (λ e need. same_transport s (codes "git") e (record { no_colon = refl; not_file = refl; not_web = refl }))
+    (λ other. chosen (λ p. requires_path p ≡ true → IsTransport s) (bytes_eq s (codes "http")) _ _ (λ e need. absurd (false≢true need))
+    (λ other. chosen (λ p. requires_path p ≡ true → IsTransport s) (bytes_eq s (codes "https")) _ _ (λ e need. absurd (false≢true need))
+    (λ other. chosen (λ p. requires_path p ≡ true → IsTransport s) (bytes_eq s (codes "ext")) _ _ (λ e need. absurd (false≢true need)) (λ other need. absurd (false≢true need)))))))
 
 -- a URL keeps its text as the path where its protocol is `ext`, and else its parts decide
 pub means_cases : (protocol : Protocol) (b : List ℕ) (parts : UrlParts) (v : Location) → MeansAs protocol b parts v → ((protocol ≡ ext) × (v ≡ path_alone ext true b)) ⊎ ((¬ (protocol ≡ ext)) × MeansByProtocol protocol parts v)

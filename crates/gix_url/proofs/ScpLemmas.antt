@@ -129,7 +129,7 @@ scp_host_found host piece meant at back white e h = record {
 }
 
 -- nothing is written as nothing alone
-nothing_escaped : (host : List ℕ) → escaped_percents host ≡ [] → host ≡ []
+pub nothing_escaped : (host : List ℕ) → escaped_percents host ≡ [] → host ≡ []
 nothing_escaped [] e = refl
 nothing_escaped (b ∷ host) e =
     elim (cases_Bool (b == percent_sign)) [

@@ -36,6 +36,10 @@ pub no_helper_alone : (b name rest : List ℕ) → FreeOf colon name → b ≡ n
 no_helper_alone b name rest free e other (n, a, h) =
     false≢true (sym other ∙ ap (begins_with colon) (sym (helper_front b name rest n a h free e).1))
 
+-- no helper without a `:`
+pub no_helper_free : (b : List ℕ) → FreeOf colon b → ¬ HasHelperForm b
+no_helper_free b free (name, address, h) = not_free colon name (colon ∷ address) (subst (λ t. FreeOf colon t) h.joined free)
+
 -- no helper without a name before the first `:`
 pub no_helper_unnamed : (b name rest : List ℕ) → FreeOf colon name → b ≡ name ++ colon ∷ rest → is_helper_name name ≡ false → ¬ HasHelperForm b
 no_helper_unnamed b name rest free e other (n, a, h) =
@@ -98,6 +102,12 @@ pub no_scp_uncut : (b : List ℕ) → ¬ HasFrontCut b → ¬ HasScpCut b
 no_scp_uncut b none (f, p, k) = none (f, p, k.around)
 
 -- ---- `user@[address]:path`
+
+-- no such text without a `:`
+pub addressed_free : (b : List ℕ) → FreeOf colon b → ¬ HasAddressedCut b
+addressed_free b free (u, a, p, h) =
+    let behind = (free_parts colon u (at_sign ∷ (left_bracket ∷ (a ++ right_bracket ∷ (colon ∷ p)))) (subst (λ t. FreeOf colon t) h.joined free)).1 in
+    not_free colon (right_bracket ∷ []) p (free_parts colon (at_sign ∷ (left_bracket ∷ a)) (right_bracket ∷ (colon ∷ p)) behind).1
 
 -- the first colon of such a text stands in the address
 pub addressed_front : (b front rest u a p : List ℕ) → AddressedCut b u a p → FreeOf colon front → b ≡ front ++ colon ∷ rest → (x : List ℕ) × FreeOf at_sign x × (front ≡ u ++ at_sign ∷ (left_bracket ∷ x))
@@ -185,12 +195,7 @@ local_shape b some neither none uncut = record {
 -- where nothing fits, nothing fits unless memory ran out
 pub none_but : (fits : Location → Type 0) → ((v : Location) → ¬ fits v) → (e : Error) → NoneBut fits e
 none_but fits none error.Memory = tt
-none_but fits none error.EmptyLocal = none
-none_but fits none (error.MissingPath kind input) = none
-none_but fits none (error.NotUtf8 kind input) = none
-none_but fits none (error.TooLong shown total) = none
-none_but fits none (error.BadUrl kind fault input) = none
-none_but fits none (error.Unwritable fault) = none
+none_but fits none _ = none
 
 -- a text whose length is tested to be 0 is empty
 pub nil_tested : (t : List ℕ) → true ≡ (length t == 0) → t ≡ []
@@ -353,12 +358,7 @@ spelled_as_plain b front path s v h =
 -- what is refused of a wider form is refused of a narrower one
 pub none_weaker : (fits more : Location → Type 0) → ((v : Location) → more v → fits v) → (e : Error) → NoneBut fits e → NoneBut more e
 none_weaker fits more within error.Memory h = tt
-none_weaker fits more within error.EmptyLocal h = λ v k. h v (within v k)
-none_weaker fits more within (error.MissingPath kind input) h = λ v k. h v (within v k)
-none_weaker fits more within (error.NotUtf8 kind input) h = λ v k. h v (within v k)
-none_weaker fits more within (error.TooLong shown total) h = λ v k. h v (within v k)
-none_weaker fits more within (error.BadUrl kind fault input) h = λ v k. h v (within v k)
-none_weaker fits more within (error.Unwritable fault) h = λ v k. h v (within v k)
+none_weaker fits more within _ h = λ v k. h v (within v k)
 
 -- a URL that is too long, or no text, is none
 pub unfit_url : (b front rest : List ℕ) → OtherShape b front rest → ¬ Fits front rest → (v : Location) → ¬ SpellsUrl b v

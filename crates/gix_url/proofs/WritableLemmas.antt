@@ -1,5 +1,5 @@
 -- What is read has a text, and isn't taken for a stored location of the legacy form.
-use Rattle.std.proofs.Common.{◌≡◌, ℕ, ◌<◌, ◌≤◌, Bool, true, false, ◌==◌, ◌&&◌, inl, inr, ◌⊎◌, ⊎_elim, List, [], ◌∷◌, ◌++◌, length, Option, Some, None, Ok, IsSome, refl, sym, ap, subst, ◌∙◌, arith, codes, bytes_eq}
+use Rattle.std.proofs.Common.{◌≡◌, ℕ, ◌<◌, ◌≤◌, true, false, ◌==◌, ◌&&◌, inl, inr, ◌⊎◌, ⊎_elim, List, [], ◌∷◌, ◌++◌, length, Option, Some, None, Ok, IsSome, refl, sym, ap, subst, ◌∙◌, arith, codes}
 use Rattle.std.specs.Option.{is_some}
 use Rattle.std.proofs.lemmas.Bool.{cond-true, cond-false, cases_Bool, and_parts, or_cases, both_ways, false≢true}
 use Rattle.std.proofs.lemmas.Slice.Eq.{bytes_eq-Decides}
@@ -18,7 +18,6 @@ use Rattle.gix_url.specs.Grammar.{HostFor, UrlParts, SpellsParts, MeansByProtoco
 use Rattle.gix_url.specs.Text.{choice, with_host, in_form, text, canonical_text}
 use Rattle.gix_url.specs.Text.Form.{canonical_form}
 use Rattle.gix_url.specs.Laws.{Writable}
-use Rattle.gix_url.specs.Records.{migrated_by, migrated}
 use Rattle.gix_url.proofs.EscapeLemmas.{sound_head, sound_tail, decode_byte, decode_escape}
 use Rattle.gix_url.proofs.CutLemmas.{begins_cut}
 use Rattle.gix_url.proofs.UrlLemmas.{none_not_some}
@@ -27,6 +26,7 @@ use Rattle.gix_url.proofs.UniqueLemmas.{meant_with}
 use Rattle.gix_url.proofs.KeptLemmas.{helper_unchanged, local_unchanged}
 use Rattle.gix_url.proofs.SettledLemmas.{host_given, not_relative, secure_choice}
 use Rattle.gix_url.proofs.RowNameLemmas.{none_is_some}
+use Rattle.gix_url.proofs.RecordLemmas.{unmigrated}
 use Rattle.gix_url.proofs.WebClosedLemmas.{retained_by, sound_behind, parts_joined}
 use Rattle.gix_url.proofs.WrittenScpLemmas.{scp_written}
 
@@ -235,22 +235,6 @@ spelling_other b v (Spells.file_url h) = unspelled_other v (ap (λ l. l.spelling
 spelling_other b v (Spells.remote_helper h) = unspelled_other v (ap (λ l. l.spelling) h.value)
 spelling_other b v (Spells.scp_form h) = unspelled_other v (scp_unspelled b v h)
 spelling_other b v (Spells.local_path h) = unspelled_other v (ap (λ l. l.spelling) h.value)
-
--- ---- stored locations
-
--- a spelling that is there isn't the path where the two differ
-unmigrated_by : (same : Bool) (s : List ℕ) (v : Location) → bytes_eq s v.path ≡ same → ¬ (s ≡ v.path) → migrated_by (Some s) v ≡ v
-unmigrated_by true s v e other = absurd (other ((bytes_eq-Decides s v.path).0 e))
-unmigrated_by false s v e other = cond-false _ _ _ e
-
--- a location whose spelling, if it has one, isn't the path, stands for itself when it was stored
-unmigrated_as : (spelling : Option (List ℕ)) (v : Location) → ¬ (spelling ≡ Some v.path) → migrated_by spelling v ≡ v
-unmigrated_as None v other = refl
-unmigrated_as (Some s) v other = unmigrated_by (bytes_eq s v.path) s v refl (λ e. other (ap (λ t. Some t) e))
-
--- a location whose spelling isn't its path stands for itself when it was stored
-pub unmigrated : (v : Location) → ¬ (v.spelling ≡ Some v.path) → migrated v ≡ v
-unmigrated v other = unmigrated_as v.spelling v other
 
 -- what is spelled has a text, and stands for itself when it was stored
 pub writable : Writable

@@ -42,25 +42,23 @@ fault_name fault.BadPort = codes "BadPort"
 fault_name fault.BadCharacter = codes "BadCharacter"
 fault_name fault.HostRequired = codes "HostRequired"
 
--- the word for an error that a text is refused with
+-- the word for an error that a text is refused with; others have none
 abbrev pub refusal : Error → List ℕ
-refusal error.Memory = codes "Memory"
 refusal error.EmptyLocal = codes "EmptyLocal"
 refusal (error.MissingPath kind input) = codes "MissingPath"
 refusal (error.NotUtf8 kind input) = codes "NotUtf8"
 refusal (error.TooLong shown total) = codes "TooLong"
 refusal (error.BadUrl kind named input) = codes "BadUrl " ++ fault_name named
-refusal (error.Unwritable named) = codes "Unwritable"
+refusal _ = []
 
--- the error is a refusal, and no want of memory
+-- the error is a refusal of a text, and no want of memory
 abbrev pub IsRefusal : Error → Type 0
-IsRefusal error.Memory = ⊥
 IsRefusal error.EmptyLocal = Unit {0}
 IsRefusal (error.MissingPath kind input) = Unit {0}
 IsRefusal (error.NotUtf8 kind input) = Unit {0}
 IsRefusal (error.TooLong shown total) = Unit {0}
 IsRefusal (error.BadUrl kind named input) = Unit {0}
-IsRefusal (error.Unwritable named) = Unit {0}
+IsRefusal _ = ⊥
 
 -- a word and what it is said of, on a line
 abbrev pub told : List ℕ → List ℕ → List ℕ

@@ -25,7 +25,9 @@ IsNoPort mode text = (0 < length text) × ((port : ℕ) → ¬ Number mode text 
 
 -- something stands in a port's place that is no port
 pub data HasBadPort (mode : Mode) (piece : List ℕ) : Type 0 where
+  -- behind a host outside brackets
   plain : (text digits : List ℕ) → IsPlainHost text → FreeOf colon digits → piece ≡ text ++ colon ∷ digits → IsNoPort mode digits → HasBadPort mode piece
+  -- behind brackets
   bracketed : (x digits : List ℕ) → FreeOf right_bracket x → piece ≡ left_bracket ∷ (x ++ right_bracket ∷ (colon ∷ digits)) → IsNoPort mode digits → HasBadPort mode piece
 
 -- nothing follows, or a colon and what is free of colons
@@ -75,8 +77,11 @@ pub data PieceOf (authority piece : List ℕ) : Type 0 where
 
 -- a part of user information that decodes to no text
 pub data HasBadUser (authority : List ℕ) : Type 0 where
+  -- user information without a colon is the user
   user : (u piece : List ℕ) → FreeOf at_sign piece → FreeOf colon u → authority ≡ u ++ at_sign ∷ piece → ¬ IsUtf8 (percent_decode u) → HasBadUser authority
+  -- what stands before its first colon is
   user_before_password : (u w piece : List ℕ) → FreeOf at_sign piece → FreeOf colon u → authority ≡ (u ++ colon ∷ w) ++ at_sign ∷ piece → ¬ IsUtf8 (percent_decode u) → HasBadUser authority
+  -- what stands behind that colon is the password
   password : (u w piece : List ℕ) → FreeOf at_sign piece → FreeOf colon u → authority ≡ (u ++ colon ∷ w) ++ at_sign ∷ piece → ¬ IsUtf8 (percent_decode w) → HasBadUser authority
 
 -- what is wrong with an authority, for a scheme that needs a host or doesn't
@@ -129,9 +134,12 @@ pub data UrlFlaw (b : List ℕ) : UrlFault → Type 0 where
 
 -- what is wrong with the host of the scp form
 pub data ScpHostFlaw (host : List ℕ) : UrlFault → Type 0 where
+  -- there is none
   empty : host ≡ [] → ScpHostFlaw host fault.HostRequired
+  -- it holds a byte or a character that no host does
   holds_backslash : ¬ FreeOf backslash host → ScpHostFlaw host fault.BadCharacter
   white_space : IsUtf8 host → ¬ LacksWhiteSpace host → ScpHostFlaw host fault.BadCharacter
+  -- it names none where each `%` is read as its own escape
   bad_name : (named : UrlFault) → NameFlaw bare (escaped_percents host) named → ScpHostFlaw host named
 
 -- what is wrong with the scp form, where it isn't `user@[address]:path`
@@ -150,9 +158,13 @@ pub record ScpFlaw (b : List ℕ) (named : UrlFault) : Type 0 where
 
 -- a path is missing
 pub data MissesPath (b : List ℕ) : UrlKind → Type 0 where
+  -- no `/` stands behind the mark of a file URL
   in_file : (host : List ℕ) → FreeOf slash host → b ≡ codes "file://" ++ host → MissesPath b kind.Url
+  -- nor behind that of a URL of Git's own transports
   in_url : (scheme authority : List ℕ) → requires_path (protocol_of scheme) ≡ true → FreeOf slash authority → b ≡ scheme ++ (codes "://" ++ authority) → MissesPath b kind.Url
+  -- nothing stands behind the colon of the scp form
   in_scp : (front : List ℕ) → ScpShape b front [] → MissesPath b kind.Scp
+  -- nor behind an address between brackets
   behind_address : (user address : List ℕ) → AddressedShape b user address [] → MissesPath b kind.Scp
 
 -- the bytes have the shape of this kind
@@ -184,4 +196,4 @@ Flaw b (error.MissingPath kind input) = MissesPath b kind × (bstring_bytes inpu
 Flaw b (error.NotUtf8 kind input) = ¬ IsUtf8 b × HasShape b kind × (bstring_bytes input ≡ b)
 Flaw b (error.TooLong shown total) = IsTooLong b (bstring_bytes shown) total
 Flaw b (error.BadUrl kind fault input) = KindFlaw b kind fault × (bstring_bytes input ≡ b)
-Flaw b (error.Unwritable fault) = ⊥
+Flaw b _ = ⊥

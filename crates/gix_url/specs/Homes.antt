@@ -1,11 +1,9 @@
--- Home folders and paths as text: whose home folder a path means, and what it is there.
-use Rattle.std.specs.Prelude.{◌≡◌, ℕ, Bool, true, false, not, ◌==◌, List, [], ◌∷◌, ◌++◌, filter, Option, Some, None, option_map, encode_utf8_all, if◌then◌else◌}
-use Rattle.std.specs.List.{list_any, slice_split}
+-- Home folders: whose folder a path means, and which folder that is.
+use Rattle.std.specs.Prelude.{◌≡◌, ℕ, false, List, [], ◌∷◌, ◌++◌, Option, Some, None, encode_utf8_all}
 use Rattle.bstr.specs.Utf8.{lossy_chars}
-use Rattle.gix_url.specs.Bytes.{dot, slash, tilde, FreeOf, begins_with}
-use Rattle.gix_url.specs.Addresses.{joined_by}
-use Rattle.gix_url.specs.Grammar.{or_root}
+use Rattle.gix_url.specs.Bytes.{slash, tilde, FreeOf}
 use Rattle.gix_url.specs.Settled.{begins_at_home}
+use Rattle.gix_url.specs.Paths.{Joins, LiesBelow, IsParent}
 
 -- ---- whose home folder
 
@@ -47,89 +45,23 @@ pub record ForShell (path result : List ℕ) : Type 0 where
   pub split : SplitsHome path user rest
   pub written : result ≡ shell_text user rest
 
--- ---- paths as text
+-- ---- which folder
 
--- what stands between the slashes of a text; a text that begins with `/` has an empty first one
-abbrev pub segments : List ℕ → List (List ℕ)
-segments text = slice_split (λ b. b == slash) text
+-- the home folder of a user, if it is known, by that of the current user
+pub data HomeFolder (home : Option (List ℕ)) (user : HomeUser) (folder : Option (List ℕ)) : Type 0 where
+  -- the current user's own
+  own : user ≡ current → folder ≡ home → HomeFolder home user folder
+  -- another's lies beside it, in its parent
+  beside : (name own parent other : List ℕ) → user ≡ named name → home ≡ Some own → IsParent own (Some parent)
+      → Joins parent (shown name) other → folder ≡ Some other → HomeFolder home user folder
+  -- a folder without a parent has none beside it
+  topmost : (name own : List ℕ) → user ≡ named name → home ≡ Some own → IsParent own None → folder ≡ None → HomeFolder home user folder
+  -- and none is known beside none
+  unknown : (name : List ℕ) → user ≡ named name → home ≡ None → folder ≡ None → HomeFolder home user folder
 
--- a segment counts where it is neither empty nor `.`
-abbrev pub counts : List ℕ → Bool
-counts [] = false
-counts (b ∷ []) = not (b == dot)
-counts (b ∷ c ∷ bs) = true
-
--- the segments that count; of a text that doesn't begin with `/` the first one counts, also as `.`
-abbrev pub pieces_of : List (List ℕ) → List (List ℕ)
-pieces_of [] = []
-pieces_of ([] ∷ behind) = filter counts behind
-pieces_of ((b ∷ bs) ∷ behind) = (b ∷ bs) ∷ filter counts behind
-
-abbrev pub pieces : List ℕ → List (List ℕ)
-pieces text = pieces_of (segments text)
-
--- a list without its first item
-abbrev pub but_first : List (List ℕ) → List (List ℕ)
-but_first [] = []
-but_first (piece ∷ others) = others
-
--- the components of a text are the root, if it begins with `/`, and the pieces
-abbrev pub without_first_component : List ℕ → List ℕ
-without_first_component text = joined_by slash (if begins_with slash text then pieces text else but_first (pieces text))
-
--- the text ends in `/`
-abbrev pub ends_in_slash : List ℕ → Bool
-ends_in_slash [] = false
-ends_in_slash (b ∷ []) = b == slash
-ends_in_slash (b ∷ c ∷ bs) = ends_in_slash (c ∷ bs)
-
--- the `/` between a folder and what is in it, where the folder doesn't bring one
-abbrev pub seam : List ℕ → List ℕ
-seam [] = []
-seam (b ∷ bs) = if ends_in_slash (b ∷ bs) then [] else slash ∷ []
-
--- a path joined to a folder: a path that begins with `/` stands alone
-abbrev pub joined : List ℕ → List ℕ → List ℕ
-joined folder path = if begins_with slash path then path else folder ++ (seam folder ++ path)
-
--- the segments up to the last one that counts
-abbrev pub up_to_last : List (List ℕ) → List (List ℕ)
-up_to_last [] = []
-up_to_last (segment ∷ behind) = if list_any counts (segment ∷ behind) then segment ∷ up_to_last behind else []
-
--- the segments before the last one that counts
-abbrev pub before_last : List (List ℕ) → List (List ℕ)
-before_last [] = []
-before_last (segment ∷ behind) = if list_any counts behind then segment ∷ before_last behind else []
-
--- nothing lies above the root; above a lone piece lies the empty text
-abbrev pub above_first : List ℕ → Option (List ℕ)
-above_first [] = None
-above_first (b ∷ bs) = Some []
-
--- the parent by segments: all that stands in front of the last piece and behind which another ends; it is the root where no such
--- piece stands behind the first `/`
-abbrev pub parent_of : List (List ℕ) → Option (List ℕ)
-parent_of [] = None
-parent_of (first ∷ behind) = if list_any counts behind then Some (or_root (joined_by slash (first ∷ up_to_last (before_last behind)))) else above_first first
-
--- the parent of a text
-abbrev pub parent : List ℕ → Option (List ℕ)
-parent text = parent_of (segments text)
-
--- ---- expansion
-
--- a path, below the home folder that is answered for its user, or as it is without one; none where none is answered
-abbrev pub expanded_by : (HomeUser → Option (List ℕ)) → Option HomeUser → List ℕ → Option (List ℕ)
-expanded_by home_of None path = Some path
-expanded_by home_of (Some user) path = option_map (λ home. joined home (without_first_component path)) (home_of user)
-
--- the home folder of a user, by the one of the current user: others live beside it
-abbrev pub home_beside : Option (List ℕ) → HomeUser → Option (List ℕ)
-home_beside None user = None
-home_beside (Some home) current = Some home
-home_beside (Some home) (named name) = option_map (λ folder. joined folder (shown name)) (parent home)
-
--- a path, below the home folder of its user
-abbrev pub expanded : Option (List ℕ) → Option HomeUser → List ℕ → Option (List ℕ)
-expanded home user path = expanded_by (home_beside home) user path
+-- a path as it is without a user, or below the home folder of its user; none where none is known
+pub data Expands (home : Option (List ℕ)) (user : Option HomeUser) (path : List ℕ) (result : Option (List ℕ)) : Type 0 where
+  userless : user ≡ None → result ≡ Some path → Expands home user path result
+  at_home : (who : HomeUser) (folder whole : List ℕ) → user ≡ Some who → HomeFolder home who (Some folder)
+      → LiesBelow folder path whole → result ≡ Some whole → Expands home user path result
+  homeless : (who : HomeUser) → user ≡ Some who → HomeFolder home who None → result ≡ None → Expands home user path result

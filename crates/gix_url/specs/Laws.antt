@@ -1,5 +1,9 @@
 -- The laws of the library, over the definitions alone: one definition for each.
-use Rattle.std.specs.Prelude.{◌≡◌, ℕ, ◌<◌, Bool, true, false, ◌⊎◌, ◌↔◌, List, [], ◌∷◌, ◌++◌, length, Some, Ok}
+use Rattle.std.specs.Prelude.{◌≡◌, ℕ, ◌<◌, Bool, true, false, ◌⊎◌, ◌↔◌, IsTrue, List, [], ◌∷◌, ◌++◌, length, Some, Ok}
+use Rattle.std.specs.Ordering.{ordering_then}
+use Rattle.std.specs.Hash.{HashWrites}
+use Rattle.std.specs.declared.cmp.Ordering.{Ordering}
+use Rattle.std.specs.declared.cmp.Ordering.TheVariants.{Equal}
 use Rattle.gix_url.specs.Value.{Protocol, Location, fields, path_alone}
 use Rattle.gix_url.specs.Value.Protocol.{file, git, ssh, http, https, ext, helper, helper_url}
 use Rattle.gix_url.specs.Bytes.{colon, left_bracket, begins_with}
@@ -10,6 +14,7 @@ use Rattle.gix_url.specs.Settled.{IsValue, HasFittingText, IsSettled}
 use Rattle.gix_url.specs.SettledParts.{IsWeb}
 use Rattle.gix_url.specs.Components.{Components, PartsOf}
 use Rattle.gix_url.specs.Records.{migrated}
+use Rattle.gix_url.specs.Order.{text_cmp, location_cmp, fed_protocol, fed_location}
 
 -- ---- separation
 
@@ -66,6 +71,10 @@ pub data IsCorner (v : Location) : Type 0 where
 -- what is spelled is settled, or stands in a corner
 abbrev pub Closed : Type 0
 Closed = (b : List ℕ) (v : Location) → Spells b v → is_closed v.scheme ≡ true → IsSettled v ⊎ IsCorner v
+
+-- no location in a corner is settled
+abbrev pub Apart : Type 0
+Apart = (v : Location) → IsCorner v → ¬ IsSettled v
 
 -- what comes back is settled, and nothing else: of values whose spelling isn't their path
 abbrev pub Exact : Type 0
@@ -126,3 +135,29 @@ pub data SpellsBefore (b : List ℕ) (v : Location) : Type 0 where
 -- what the earlier grammar spelled is spelled; bytes without the shape spell nothing else
 abbrev pub KeepsEarlier : Type 0
 KeepsEarlier = (b : List ℕ) (v : Location) → (SpellsBefore b v → Spells b v) × (¬ IsAddressed b → Spells b v → SpellsBefore b v)
+
+-- ---- equality, order and hash
+
+-- what is equal is one value
+abbrev pub EqualIsSame : {K : Type 0} → (K → K → Bool) → Type 0
+EqualIsSame {K} equal = (x y : K) → IsTrue (equal x y) ↔ (x ≡ y)
+
+-- the order leaves two values open exactly where they are equal
+abbrev pub TiedIsEqual : {K : Type 0} → (K → K → Bool) → (K → K → Ordering) → Type 0
+TiedIsEqual {K} equal order = (x y : K) → (order x y ≡ Equal) ↔ IsTrue (equal x y)
+
+-- what is equal is fed to a hasher alike
+abbrev pub FedAlike : {K : Type 0} → (K → K → Bool) → (K → HashWrites) → Type 0
+FedAlike {K} equal fed = (x y : K) → IsTrue (equal x y) → fed x ≡ fed y
+
+-- what is fed to a hasher alike is one location
+abbrev pub LocationsFedApart : Type 0
+LocationsFedApart = (v w : Location) → IsValue v → IsValue w → fed_location v ≡ fed_location w → v ≡ w
+
+-- what is fed to a hasher alike is one protocol
+abbrev pub ProtocolsFedApart : Type 0
+ProtocolsFedApart = (p q : Protocol) → fed_protocol p ≡ fed_protocol q → p ≡ q
+
+-- the public fields decide the order, and the spelling only where they are equal
+abbrev pub SpellingLast : Type 0
+SpellingLast = (v w : Location) → location_cmp v w ≡ ordering_then (location_cmp (fields v) (fields w)) (text_cmp v.spelling w.spelling)

@@ -1,27 +1,60 @@
 -- What a call answers: words for results that name the errors of the code.
-use Rattle.std.specs.Prelude.{◌≡◌, ℕ, List, Option, Result, Ok, Err}
+use Rattle.std.specs.Prelude.{◌≡◌, ℕ, List, [], Option, Result, Ok, Err, IfOk, IfErr}
 use Rattle.std.specs.Io.KnownBytes.{Appends}
+use Rattle.bstr.specs.declared.bstring.BString.{BString}
+use Rattle.bstr.specs.Owned.{bstring_bytes}
 use Rattle.gix_url.specs.declared.error.Error.{Error}
 use Rattle.gix_url.specs.declared.error.Error.TheVariants as error
 use Rattle.gix_url.specs.declared.error.WriteFault.{WriteFault}
 use Rattle.gix_url.specs.declared.error.WriteError.{WriteError}
 use Rattle.gix_url.specs.declared.error.WriteError.TheVariants.{Fault, Io}
-use Rattle.gix_url.specs.Value.{Location}
+use Rattle.gix_url.specs.Value.{Location, fields}
 use Rattle.gix_url.specs.Grammar.{Spells}
+use Rattle.gix_url.specs.Text.{text}
+use Rattle.gix_url.specs.Settled.{IsSettled}
+use Rattle.gix_url.specs.Flaws.{Flaw}
 
 -- no value fits, unless memory ran out
 abbrev pub NoneBut : (Location → Type 0) → Error → Type 0
 NoneBut fits error.Memory = Unit {0}
-NoneBut fits error.EmptyLocal = (v : Location) → ¬ fits v
-NoneBut fits (error.MissingPath kind input) = (v : Location) → ¬ fits v
-NoneBut fits (error.NotUtf8 kind input) = (v : Location) → ¬ fits v
-NoneBut fits (error.TooLong shown total) = (v : Location) → ¬ fits v
-NoneBut fits (error.BadUrl kind fault input) = (v : Location) → ¬ fits v
-NoneBut fits (error.Unwritable fault) = (v : Location) → ¬ fits v
+NoneBut fits _ = (v : Location) → ¬ fits v
 
 -- the bytes spell no location, unless memory ran out
 abbrev pub Refuses : List ℕ → Error → Type 0
 Refuses b e = NoneBut (Spells b) e
+
+-- what reading the bytes answers
+pub record Reads (b : List ℕ) (result : Result Location Error) : Type 0 where
+  -- a location that they spell
+  pub found : IfOk result (Spells b)
+  -- or an error, and then they spell none, unless memory ran out
+  pub refused : IfErr result (Refuses b)
+  -- the flaw that the error names stands in them
+  pub flaw : IfErr result (Flaw b)
+  -- the empty text is refused as such
+  pub empty : b ≡ [] → result ≡ Err error.EmptyLocal
+
+-- the location has the public fields and the text of the other, and is settled
+pub record IsAgain (v again : Location) : Type 0 where
+  pub same_fields : fields again ≡ fields v
+  pub same_text : text again ≡ text v
+  pub settled : IsSettled again
+
+-- the bytes spell the location again
+pub record SpellsAgain (v : Location) (b : List ℕ) : Type 0 where
+  pub back : Location
+  pub spelled : Spells b back
+  pub again : IsAgain v back
+
+-- what writing a settled location into memory answers: its text, or want of memory
+abbrev pub WritesAgain : Location → Result BString Error → Type 0
+WritesAgain v (Ok s) = SpellsAgain v (bstring_bytes s)
+WritesAgain v (Err e) = e ≡ error.Memory
+
+-- what reading a settled location's text answers: the location again, or want of memory
+abbrev pub ReadsAgain : Location → Result Location Error → Type 0
+ReadsAgain v (Ok again) = IsAgain v again
+ReadsAgain v (Err e) = e ≡ error.Memory
 
 -- what a call left that wrote a text to a writer: on `Ok` the text is appended; where there is none the fault is
 -- told and the writer is as it was
@@ -39,9 +72,5 @@ IsIo (Io e) = Unit {0}
 -- the error of a text that was asked for: memory ran out, or it is the fault of a location without text
 abbrev pub IsUnwritten : Result (List ℕ) WriteFault → Error → Type 0
 IsUnwritten r error.Memory = Unit {0}
-IsUnwritten r error.EmptyLocal = ⊥
-IsUnwritten r (error.MissingPath kind input) = ⊥
-IsUnwritten r (error.NotUtf8 kind input) = ⊥
-IsUnwritten r (error.TooLong shown total) = ⊥
-IsUnwritten r (error.BadUrl kind fault input) = ⊥
 IsUnwritten r (error.Unwritable fault) = r ≡ Err fault
+IsUnwritten r _ = ⊥

@@ -1,22 +1,42 @@
--- Stored locations: those of the legacy form have the spelling of the path in place of the path.
-use Rattle.std.specs.Prelude.{◌≡◌, ℕ, ◌<◌, ◌&&◌, ◌==◌, List, [], ◌∷◌, ◌++◌, bytes_eq, All, Option, Some, None, if◌then◌else◌}
+-- Stored locations. A record of the legacy form has the spelling of the path in place of the path as well, and is
+-- migrated: its path is decoded, and spelled anew.
+use Rattle.std.specs.Prelude.{◌≡◌, ℕ, ◌+◌, ◌<◌, ◌≤◌, Bool, true, false, ◌&&◌, ◌||◌, ◌==◌, nat_lt, ◌↔◌, List, [], ◌∷◌, ◌++◌, bytes_eq, length, All, Option, Some, None, if◌then◌else◌}
 use Rattle.std.specs.Char.{is_digit}
-use Rattle.percent_encoding.specs.Percent.{percent_encode, percent_decode}
-use Rattle.gix_url.specs.declared.escape.TheConstants.{PATH}
+use Rattle.percent_encoding.specs.Percent.{percent_encode_byte, percent_decode}
 use Rattle.gix_url.specs.Value.{Location}
 use Rattle.gix_url.specs.Bytes.{percent_sign}
+use Rattle.gix_url.specs.Escapes.{begins_with_digits, is_path_escaped}
 
--- the text with everything but its escapes escaped as in a path
+-- ---- the new spelling of a legacy path
+
+-- a byte as it is written in a path: itself, or an escape where a path isn't written with it or it is past ASCII
+abbrev pub written_in_path : ℕ → List ℕ
+written_in_path b = if is_path_escaped b || nat_lt 127 b then percent_encode_byte b else b ∷ []
+
+-- the byte is a `%`, and two hexadecimal digits stand behind it
+abbrev pub begins_escape : ℕ → List ℕ → Bool
+begins_escape b behind = b == percent_sign && begins_with_digits behind
+
+-- the path is escapes and other bytes, and the spelling has the same escapes, and those bytes as they are written in a path
+pub data Respells : List ℕ → List ℕ → Type 0 where
+  nothing : Respells [] []
+  escape : (high low : ℕ) (path spelling : List ℕ) → is_digit high 16 ≡ true → is_digit low 16 ≡ true → Respells path spelling
+      → Respells (percent_sign ∷ high ∷ low ∷ path) (percent_sign ∷ high ∷ low ∷ spelling)
+  other : (b : ℕ) (path spelling : List ℕ) → begins_escape b path ≡ false → Respells path spelling
+      → Respells (b ∷ path) (written_in_path b ++ spelling)
+
+-- the path with each `%` that begins an escape as it is, and every other byte as it is written in a path
 abbrev pub respelled : List ℕ → List ℕ
 respelled [] = []
-respelled (b ∷ []) = percent_encode PATH (b ∷ [])
-respelled (b ∷ c ∷ []) = percent_encode PATH (b ∷ c ∷ [])
-respelled (b ∷ high ∷ low ∷ rest) =
-    if b == percent_sign && (is_digit high 16 && is_digit low 16)
-    then b ∷ high ∷ low ∷ respelled rest
-    else percent_encode PATH (b ∷ []) ++ respelled (high ∷ low ∷ rest)
+respelled (b ∷ path) = (if begins_escape b path then b ∷ [] else written_in_path b) ++ respelled path
 
--- the location with its path taken for an escaped one
+-- ---- migration
+
+-- the record is of the legacy form: its spelling is its path
+abbrev pub IsLegacy : Location → Type 0
+IsLegacy v = v.spelling ≡ Some v.path
+
+-- the location with its path taken for a spelled one
 abbrev pub from_legacy : Location → Location
 from_legacy v = record v { path = percent_decode v.path; spelling = Some (respelled v.path) }
 
@@ -29,6 +49,30 @@ migrated_by (Some spelling) v = if bytes_eq spelling v.path then from_legacy v e
 abbrev pub migrated : Location → Location
 migrated v = migrated_by v.spelling v
 
+-- ---- the walk over a path
+
+-- the front of the new spelling of a path, with the path that the rest of it spells
+pub record SpellsFront (path front behind : List ℕ) : Type 0 where
+  pub spelled : respelled path ≡ front ++ respelled behind
+  pub shorter : length behind + 1 ≡ length path
+  pub short : length front ≤ 3
+
+-- ---- laws
+
+-- a path has one new spelling
+abbrev pub RespelledOnce : Type 0
+RespelledOnce = (path spelling : List ℕ) → Respells path spelling ↔ (spelling ≡ respelled path)
+
 -- a path in its new spelling stands for the same bytes
 abbrev pub KeepsMeaning : Type 0
-KeepsMeaning = (path : List ℕ) → All (λ b. b < 256) path → percent_decode (respelled path) ≡ percent_decode path
+KeepsMeaning = (path spelling : List ℕ) → All (λ b. b < 256) path → Respells path spelling → percent_decode spelling ≡ percent_decode path
+
+-- a record of the legacy form stands for the location with its path decoded and its new spelling, and any other for itself
+abbrev pub Migrates : Type 0
+Migrates = (v : Location)
+    → ((spelling : List ℕ) → IsLegacy v → Respells v.path spelling → migrated v ≡ record v { path = percent_decode v.path; spelling = Some spelling })
+    × (¬ IsLegacy v → migrated v ≡ v)
+
+-- a location that was migrated stands for itself when it is stored
+abbrev pub MigratedOnce : Type 0
+MigratedOnce = (v : Location) → All (λ b. b < 256) v.path → migrated (migrated v) ≡ migrated v

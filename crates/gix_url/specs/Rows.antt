@@ -19,7 +19,8 @@ use Rattle.gix_url.specs.Text.{text}
 use Rattle.gix_url.specs.Settled.{IsWebHost, IsSettled}
 use Rattle.gix_url.specs.Flaws.{HasBadPort, HasBadHost, AuthorityFlaw, UrlFlaw, ScpFlaw, MissesPath}
 use Rattle.gix_url.specs.Components.{PartsOf}
-use Rattle.gix_url.specs.Homes.{SplitsHome, ForShell, pieces, without_first_component, joined, parent, expanded}
+use Rattle.gix_url.specs.Paths.{HasPieces, WithoutFirst, Joins, IsParent}
+use Rattle.gix_url.specs.Homes.{SplitsHome, ForShell, Expands}
 use Rattle.gix_url.specs.Homes.HomeUser.{current, named}
 use Rattle.gix_url.specs.Records.{migrated}
 
@@ -159,45 +160,45 @@ RecordRows =
 
 -- ---- homes
 
--- the pieces of a text, and what is left without its first component
+-- the first segment of a text and the pieces behind it, and what is left without its first component
 abbrev pub PieceRows : Type 0
 PieceRows =
-    (pieces (codes "/a//./b") ≡ codes "a" ∷ codes "b" ∷ [])
-    × (pieces (codes "./a/.") ≡ codes "." ∷ codes "a" ∷ [])
-    × (pieces (codes "/./..") ≡ codes ".." ∷ [])
-    × (without_first_component (codes "/a//./b") ≡ codes "a/b")
-    × (without_first_component (codes "a/b") ≡ codes "b")
-    × (without_first_component (codes "./b") ≡ codes "b")
-    × (without_first_component (codes "/") ≡ [])
-    × (without_first_component [] ≡ [])
+    HasPieces (codes "/a//./b") [] (codes "a" ∷ codes "b" ∷ [])
+    × HasPieces (codes "./a/.") (codes ".") (codes "a" ∷ [])
+    × HasPieces (codes "/./..") [] (codes ".." ∷ [])
+    × WithoutFirst (codes "/a//./b") (codes "a/b")
+    × WithoutFirst (codes "a/b") (codes "b")
+    × WithoutFirst (codes "./b") (codes "b")
+    × WithoutFirst (codes "/") []
+    × WithoutFirst [] []
 
 -- joined paths and parents
 abbrev pub ParentRows : Type 0
 ParentRows =
-    (joined (codes "/h") (codes "a") ≡ codes "/h/a")
-    × (joined (codes "/h/") (codes "a") ≡ codes "/h/a")
-    × (joined (codes "/h") (codes "/a") ≡ codes "/a")
-    × (joined [] (codes "a") ≡ codes "a")
-    × (joined (codes "/h") [] ≡ codes "/h/")
-    × (parent (codes "/home/al/") ≡ Some (codes "/home"))
-    × (parent (codes "/home//./al/.") ≡ Some (codes "/home"))
-    × (parent (codes "/a") ≡ Some (codes "/"))
-    × (parent (codes "a") ≡ Some [])
-    × (parent (codes "././x") ≡ Some (codes "."))
-    × (parent (codes "a//b/c") ≡ Some (codes "a//b"))
-    × (parent (codes "/") ≡ None)
-    × (parent [] ≡ None)
+    Joins (codes "/h") (codes "a") (codes "/h/a")
+    × Joins (codes "/h/") (codes "a") (codes "/h/a")
+    × Joins (codes "/h") (codes "/a") (codes "/a")
+    × Joins [] (codes "a") (codes "a")
+    × Joins (codes "/h") [] (codes "/h/")
+    × IsParent (codes "/home/al/") (Some (codes "/home"))
+    × IsParent (codes "/home//./al/.") (Some (codes "/home"))
+    × IsParent (codes "/a") (Some (codes "/"))
+    × IsParent (codes "a") (Some [])
+    × IsParent (codes "././x") (Some (codes "."))
+    × IsParent (codes "a//b/c") (Some (codes "a//b"))
+    × IsParent (codes "/") None
+    × IsParent [] None
 
 -- paths below home folders
 abbrev pub ExpandedRows : Type 0
 ExpandedRows =
-    (expanded (Some (codes "/home/al")) (Some (named (codes "bob"))) (codes "/r") ≡ Some (codes "/home/bob/r"))
-    × (expanded (Some (codes "/home/al")) (Some current) (codes "/") ≡ Some (codes "/home/al/"))
-    × (expanded (Some (codes "/")) (Some (named (codes "bob"))) (codes "/r") ≡ None)
-    × (expanded (Some (codes "/h")) (Some current) (codes "/a//./b") ≡ Some (codes "/h/a/b"))
-    × (expanded (Some (codes "/h")) (Some current) (codes "a/b") ≡ Some (codes "/h/b"))
-    × (expanded None (Some current) (codes "/a") ≡ None)
-    × (expanded None None (codes "/x//y") ≡ Some (codes "/x//y"))
+    Expands (Some (codes "/home/al")) (Some (named (codes "bob"))) (codes "/r") (Some (codes "/home/bob/r"))
+    × Expands (Some (codes "/home/al")) (Some current) (codes "/") (Some (codes "/home/al/"))
+    × Expands (Some (codes "/")) (Some (named (codes "bob"))) (codes "/r") None
+    × Expands (Some (codes "/h")) (Some current) (codes "/a//./b") (Some (codes "/h/a/b"))
+    × Expands (Some (codes "/h")) (Some current) (codes "a/b") (Some (codes "/h/b"))
+    × Expands None (Some current) (codes "/a") None
+    × Expands None None (codes "/x//y") (Some (codes "/x//y"))
 
 -- whose home folder a path means
 abbrev pub SplitRows : Type 0

@@ -2,11 +2,12 @@
 //!
 //! It has no code and uses nothing: the contract of its function is the law.
 
-ghost use Rattle.std.specs.Prelude.{ℕ, List, ◌↔◌, IsTrue};
-ghost use Rattle.gix_url.specs.Addresses.{IsIpv6Text};
-ghost use Rattle.gix_url.specs.AddressTest.{is_ipv6_text};
+ghost use Rattle.gix_url.specs.Safeguards.{DecidesAddresses};
 
-/// The test for IPv6 texts passes exactly these texts.
-pub(crate) fn law_address_test()
-    ensures { (t : List ℕ) → IsTrue (is_ipv6_text t) ↔ IsIpv6Text t }
+/// The test that the text of a location asks of its host is passed by the IPv6 texts, and by nothing else.
+///
+/// The text has to compute, so it asks a test on bytes; what an IPv6 text is, is a relation on groups. Users who know of
+/// a host that it is an address, or that it is none, know by this law how it is written.
+pub fn law_address_test()
+    ensures decides { DecidesAddresses }
 {}

@@ -5,6 +5,7 @@
 
 ghost use Rattle.std.specs.Prelude.{◌≡◌};
 
+use crate::expand_path::ForUser;
 use bstr::BString;
 use std::alloc::AllocError;
 use std::io;
@@ -48,7 +49,10 @@ pub enum WriteFault {
 }
 
 /// Why a text or a value was refused.
-#[derive(Debug, Drop, Error)]
+///
+/// `Display` says it in words, `Debug` by its fields. Neither shows bytes of what was refused, which may hold a password:
+/// `Debug` shows their length. Who wants the bytes finds them in the fields.
+#[derive(Drop, Error)]
 pub enum Error {
     /// Memory was refused.
     #[error("out of memory")]
@@ -57,7 +61,7 @@ pub enum Error {
     #[error("the location is empty")]
     EmptyLocal,
     /// A path is wanted and there is none.
-    #[error("the location has no path")]
+    #[error("the {kind} has no path")]
     MissingPath {
         /// The form that the text was taken for.
         kind: UrlKind,
@@ -65,7 +69,7 @@ pub enum Error {
         input: BString,
     },
     /// The text is not UTF-8.
-    #[error("the location is not UTF-8")]
+    #[error("the {kind} is not UTF-8")]
     NotUtf8 {
         /// The form that the text was taken for.
         kind: UrlKind,
@@ -73,7 +77,7 @@ pub enum Error {
         input: BString,
     },
     /// The scheme or the authority is too long.
-    #[error("the location is too long: {total} bytes")]
+    #[error("the scheme or the authority of the URL is longer than 1024 bytes, in a text of {total} bytes")]
     TooLong {
         /// The front of the text: the scheme, `://` and the 1,024 bytes behind it, or the whole where it is shorter.
         shown: BString,
@@ -81,7 +85,7 @@ pub enum Error {
         total: usize,
     },
     /// The text is no URL, or the host of the scp form is none.
-    #[error("the location is no URL")]
+    #[error("the {kind} has {fault}")]
     BadUrl {
         /// The form that the text was taken for.
         kind: UrlKind,
@@ -90,9 +94,24 @@ pub enum Error {
         /// The text.
         input: BString,
     },
+    /// The name of a remote helper is no such name.
+    #[error("the remote helper has no valid name")]
+    HelperName {
+        /// The name.
+        name: BString,
+    },
     /// The location has no text.
-    #[error("the location can't be written")]
+    #[error("the location can't be written: {0}")]
     Unwritable(WriteFault),
+    /// No home folder is known for the user.
+    #[error("no home folder is known for the user")]
+    NoHome(ForUser),
+    /// A path that has to be text isn't UTF-8.
+    #[error("the path isn't UTF-8")]
+    PathNotUtf8,
+    /// The path could not be resolved.
+    #[error("the path can't be resolved")]
+    Unresolved,
 }
 
 impl From<AllocError> for Error {
@@ -109,9 +128,9 @@ impl From<AllocError> for Error {
 #[derive(Debug, Drop, Error)]
 pub enum WriteError {
     /// The location has no text. Nothing was written.
-    #[error("the location can't be written")]
+    #[error("the location can't be written: {0}")]
     Fault(WriteFault),
     /// The writer failed. Nothing is said of how much it took.
-    #[error("the writer failed")]
+    #[error("the writer failed: {0}")]
     Io(io::Error),
 }

@@ -10,7 +10,7 @@ ghost use Rattle.std.specs.List.{list_any};
 ghost use Rattle.percent_encoding.specs.Percent as percent;
 ghost use Rattle.percent_encoding.specs.Iter.{decoded_bytes};
 ghost use Rattle.gix_url.specs.Escapes as spec;
-ghost use Rattle.gix_url.specs.Escapes.{HoldsExactly};
+ghost use Rattle.gix_url.specs.Safeguards.{PasswordSet, PathSet, UserSet};
 ghost use Rattle.gix_url.specs.Bytes.{LacksWhiteSpace};
 
 use bstr::{ByteSlice, decode_utf8};
@@ -46,11 +46,17 @@ pub const PASSWORD: AsciiSet = ascii_set!(
 /// The bytes that a user is not written with: those of the password, and `:`.
 pub const USER: AsciiSet = ascii_set!(PASSWORD.add(b':'));
 
-/// Each set holds exactly the ASCII bytes that its definition names.
-fn law_sets()
-    ensures path { HoldsExactly PATH spec.is_path_escaped }
-    ensures password { HoldsExactly PASSWORD spec.is_password_escaped }
-    ensures user { HoldsExactly USER spec.is_user_escaped }
+/// Each set of escaped bytes holds exactly the ASCII bytes that are documented; bytes past ASCII are always escaped.
+///
+/// - `path`: in a path of HTTP, the controls, the space, `"`, `%`, `<`, `>`, `` ` ``, `{` and `}`.
+/// - `password`: in a password, those and `#`, `/`, `?`, `@`, `[`, `\`, `]`, `^` and `|`.
+/// - `user`: in a user, those and `:`.
+///
+/// Users who compare written texts know by this law which bytes of a part stand in them as they are.
+pub fn law_sets()
+    ensures path { PathSet }
+    ensures password { PasswordSet }
+    ensures user { UserSet }
 {}
 
 /// Whether every `%` of the text has two hexadecimal digits behind it.
@@ -68,7 +74,7 @@ pub(crate) fn is_sound(text: &[u8]) -> bool
 }
 
 /// Whether the text begins with two hexadecimal digits.
-fn begins_with_digits(text: &[u8]) -> bool
+pub(crate) fn begins_with_digits(text: &[u8]) -> bool
     ensures { result ≡ spec.begins_with_digits text.now }
 {
     match text {
@@ -200,115 +206,4 @@ pub(crate) fn decoded_text(alloc: Global, text: &[u8]) -> Result<String, AllocEr
         unreachable!()
     };
     Ok(text)
-}
-
-#[cfg(test)]
-mod tests {
-    use super::*;
-    use percent_encoding::percent_encode;
-    use std::test::Fail;
-
-    #[test]
-    fn writes_escapes(rt: HostRuntime) -> Result<(), Fail> {
-        let cases = [
-            ("a@b:c", USER, "a%40b%3Ac"),
-            ("a@b:c", PASSWORD, "a%40b:c"),
-            ("/a b%?#", PATH, "/a%20b%25?#"),
-            ("ö", PATH, "%C3%B6"),
-            ("ö", PASSWORD, "%C3%B6"),
-            ("ö", USER, "%C3%B6"),
-        ];
-        for (text, set, written) in cases {
-            let escaped = percent_encode(text.as_bytes(), set).to_string(rt.alloc())?;
-            assert_eq!(rt; escaped.as_str(), written);
-        }
-        Ok(())
-    }
-
-    #[test]
-    fn reads_escapes(rt: HostRuntime) -> Result<(), Fail> {
-        let cases = [
-            ("%2f%2F%2", "//%2"),
-            ("", ""),
-            ("%", "%"),
-            ("%zz%4g", "%zz%4g"),
-            ("%%41", "%A"),
-            ("%2541", "%41"),
-            ("/my%20repo", "/my repo"),
-            ("%C3%B6ö", "öö"),
-        ];
-        for (spelling, path) in cases {
-            let (spelling, path) = (spelling.as_bytes(), path.as_bytes());
-            let bytes = decoded(rt.alloc(), spelling)?;
-            assert_eq!(rt; bytes.as_slice(), path);
-            assert!(rt; decodes_to(spelling, path));
-            assert!(rt; decodes_to_utf8(spelling));
-            if decodes_to_utf8(spelling) {
-                let text = decoded_text(rt.alloc(), spelling)?;
-                assert_eq!(rt; text.as_bytes(), path);
-            }
-        }
-        for (spelling, path) in [
-            ("a", ""),
-            ("", "a"),
-            ("%41b", "A"),
-            ("%41", "Ab"),
-            ("%2F", "%2F"),
-        ] {
-            assert!(rt;
-                !decodes_to(spelling.as_bytes(), path.as_bytes()),
-                "{spelling}"
-            );
-        }
-        Ok(())
-    }
-
-    #[test]
-    fn finds_text_that_is_not_utf8(rt: HostRuntime) {
-        for text in [
-            "%F0%9F%92%96",
-            "abc%C3%B6",
-            "%E2%82%AC%",
-            "%C",
-            "%C3%B6%E2%82%AC",
-        ] {
-            assert!(rt; decodes_to_utf8(text.as_bytes()), "{text}");
-        }
-        for text in [
-            "%FF",
-            "%C3",
-            "%C3b",
-            "%C3ö",
-            "%E2%82",
-            "abcd%F0%9F%92",
-            "%ED%A0%80",
-            "%C0%80",
-        ] {
-            assert!(rt; !decodes_to_utf8(text.as_bytes()), "{text}");
-        }
-        assert!(rt; decodes_to_utf8(b"\xC3%B6"));
-        assert!(rt; !decodes_to_utf8(b"\xFF"));
-    }
-
-    #[test]
-    fn finds_broken_escapes(rt: HostRuntime) {
-        for text in ["", "a", "%41", "%25%aF", "a%00b"] {
-            assert!(rt; is_sound(text.as_bytes()), "{text}");
-        }
-        for text in ["%", "%4", "a%2", "%4g", "%g4", "%%41", "%41%"] {
-            assert!(rt; !is_sound(text.as_bytes()), "{text}");
-            assert!(rt; has_percent(text.as_bytes()), "{text}");
-        }
-        assert!(rt; !has_percent(b"a25"));
-    }
-
-    #[test]
-    fn finds_white_space(rt: HostRuntime) {
-        for text in ["", "a", "ö\u{200b}"] {
-            assert!(rt; lacks_white_space(text), "{text}");
-        }
-        for text in ["a b", "\n", "\u{a0}", "a\u{2028}", "\u{3000}b"] {
-            assert!(rt; !lacks_white_space(text), "{text}");
-        }
-    }
 }

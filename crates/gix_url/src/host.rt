@@ -23,7 +23,7 @@ use percent_encoding::percent_decode;
 use std::alloc::{AllocError, Global};
 
 /// How strictly a host is read.
-#[derive(Clone, Copy, Debug, PartialEq, Eq)]
+#[derive(Clone, Copy, PartialEq, Eq)]
 pub(crate) enum Mode {
     /// As HTTP has it: escapes stay, and brackets hold an IPv6 literal.
     Strict,
@@ -34,7 +34,7 @@ pub(crate) enum Mode {
 }
 
 /// The text of a host as it stands in the input, with what has to be done to it.
-#[derive(Clone, Copy, Debug)]
+#[derive(Clone, Copy)]
 pub(crate) enum HostPiece<'a> {
     /// An IPv6 text without brackets, perhaps with a colon behind it: it is lowercased.
     Address(&'a [u8]),
@@ -51,7 +51,7 @@ pub(crate) enum HostPiece<'a> {
 }
 
 /// A host, and what follows it.
-#[derive(Clone, Copy, Debug)]
+#[derive(Clone, Copy)]
 pub(crate) struct NamedHost<'a> {
     /// The host.
     pub(crate) piece: HostPiece<'a>,
@@ -556,149 +556,4 @@ fn append_within(out: &mut Vec<u8>, bytes: &[u8])
     let appended = out.extend_from_slice(bytes);
     prove!(appended.is_ok());
     let _ = appended;
-}
-
-#[cfg(test)]
-mod tests {
-    use super::*;
-    use std::test::Fail;
-
-    /// Whether the piece names this host and this port.
-    fn names(
-        alloc: Global,
-        mode: Mode,
-        piece: &str,
-        host: &str,
-        port: Option<u16>,
-    ) -> Result<bool, AllocError> {
-        match read_host(mode, piece.as_bytes()) {
-            Ok(Some(named)) => {
-                let text = named.build(alloc)?;
-                Ok(text.as_str() == host && named.port == port)
-            }
-            _ => Ok(false),
-        }
-    }
-
-    /// Whether the piece is refused with this fault.
-    fn refuses(mode: Mode, piece: &str, fault: UrlFault) -> bool {
-        match read_host(mode, piece.as_bytes()) {
-            Ok(_) => false,
-            Err(found) => found == fault,
-        }
-    }
-
-    #[test]
-    fn nothing(rt: HostRuntime) {
-        for mode in [Mode::Strict, Mode::Bare, Mode::Loose] {
-            assert!(rt; matches!(read_host(mode, b""), Ok(None)));
-        }
-    }
-
-    #[test]
-    fn hosts_of_the_web(rt: HostRuntime) -> Result<(), Fail> {
-        let cases = [
-            ("example.com", "example.com", None),
-            ("example.com:8080", "example.com", Some(8080)),
-            ("H:", "h:", None),
-            ("h:00080", "h", Some(80)),
-            ("h:65535", "h", Some(65535)),
-            ("H%41:", "H%41:", None),
-            ("A!b", "A!b", None),
-            ("[::1]", "[::1]", None),
-            ("[::1]:8080", "[::1]", Some(8080)),
-            ("[FE80::1%25Eth0]:", "[fe80::1%25Eth0]:", None),
-            ("[FE80::1%25a%25b]", "[fe80::1%25a%25b]", None),
-        ];
-        for (piece, host, port) in cases {
-            assert!(rt;
-                names(rt.alloc(), Mode::Strict, piece, host, port)?,
-                "{piece}"
-            );
-        }
-        Ok(())
-    }
-
-    #[test]
-    fn pieces_that_the_web_refuses(rt: HostRuntime) {
-        for piece in [
-            "example.com:65536",
-            "example.com:abc",
-            "h:0",
-            "h:65616",
-            "bücher:x",
-            "[::1]:x",
-            "[::1]:00",
-        ] {
-            assert!(rt; refuses(Mode::Strict, piece, UrlFault::BadPort), "{piece}");
-        }
-        for piece in [
-            "foo:bar:baz",
-            "[not-ip]",
-            "[fe80::1%25]",
-            "[fe80::1%25eth!0]",
-            "[fe80::1%eth0]",
-            "bücher.example",
-            "bücher:0",
-            "::1",
-            ":80",
-            "[::1",
-            "[::1]x",
-            "[x]:y",
-        ] {
-            assert!(rt;
-                refuses(Mode::Strict, piece, UrlFault::BadCharacter),
-                "{piece}"
-            );
-        }
-    }
-
-    #[test]
-    fn hosts_of_git(rt: HostRuntime) -> Result<(), Fail> {
-        let cases = [
-            ("::1", "::1", None),
-            ("FE80::1", "fe80::1", None),
-            ("FE80::1:", "fe80::1:", None),
-            ("h:0", "h", Some(0)),
-            ("H:", "h:", None),
-            ("a%3A", "a:", None),
-            (":80", ":80", None),
-            (":", ":", None),
-            ("%5Bx", "[x", None),
-            ("[::1]:22", "[::1]", Some(22)),
-            ("[]", "[]", None),
-            ("[fe80::A%25%C3%B6]", "[fe80::a%ö]", None),
-            ("[host%41]", "[hostA]", None),
-        ];
-        for (piece, host, port) in cases {
-            assert!(rt;
-                names(rt.alloc(), Mode::Bare, piece, host, port)?,
-                "{piece}"
-            );
-        }
-        Ok(())
-    }
-
-    #[test]
-    fn other_hosts(rt: HostRuntime) -> Result<(), Fail> {
-        let cases = [
-            ("a:b:c", "a:b:c", None),
-            ("FE80::1", "FE80::1", None),
-            ("B%C3%BCcher", "Bücher", None),
-            ("%48", "h", None),
-            ("%48:1", "h", Some(1)),
-        ];
-        for (piece, host, port) in cases {
-            assert!(rt;
-                names(rt.alloc(), Mode::Loose, piece, host, port)?,
-                "{piece}"
-            );
-        }
-        assert!(rt; refuses(Mode::Loose, "[%FF]", UrlFault::BadCharacter));
-        assert!(rt; refuses(Mode::Loose, "%FF", UrlFault::BadCharacter));
-        assert!(rt; refuses(Mode::Loose, ":%FF", UrlFault::BadCharacter));
-        assert!(rt; refuses(Mode::Loose, "%FF:x", UrlFault::BadPort));
-        assert!(rt; refuses(Mode::Loose, "%FF:99999", UrlFault::BadCharacter));
-        Ok(())
-    }
 }

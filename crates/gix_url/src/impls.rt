@@ -3,10 +3,10 @@
 //! It uses `writer`. Its contract: what is shown is the text with another password in place of the location's own,
 //! so that two locations that differ in nothing but their passwords look alike. It takes no memory.
 
-ghost use Rattle.std.specs.Prelude.{◌≡◌, ℕ, List, Some, None, IsErr, option_map, string_bytes};
+ghost use Rattle.std.specs.Prelude.{◌≡◌, None, IsErr, option_map, string_bytes};
 ghost use Rattle.std.specs.Fmt.{DisplaysOnOk};
-ghost use Rattle.gix_url.specs.Value.{Location};
 ghost use Rattle.gix_url.specs.Display.{display, hidden};
+ghost use Rattle.gix_url.specs.Safeguards.{HidesPassword};
 
 use crate::location::Url;
 use crate::writer;
@@ -32,7 +32,7 @@ impl fmt::Display for Url {
 }
 
 /// What is shown in place of a password.
-fn hidden_password(password: &Option<String>) -> Option<&str>
+pub(crate) fn hidden_password(password: &Option<String>) -> Option<&str>
     ensures { option_map (λ p. p.now) result ≡ hidden (option_map string_bytes password.now) }
 {
     match password {
@@ -41,7 +41,8 @@ fn hidden_password(password: &Option<String>) -> Option<&str>
     }
 }
 
-/// Locations that differ in nothing but their passwords look alike.
-pub(crate) fn law_hidden_password()
-    ensures { (v : Location) (p q : List ℕ) → display (record v { password = Some p }) ≡ display (record v { password = Some q }) }
+/// Locations that differ in nothing but what their passwords are look alike, so nobody learns a password from what is
+/// shown.
+pub fn law_hidden_password()
+    ensures hidden { HidesPassword }
 {}

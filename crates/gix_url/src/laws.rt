@@ -1,11 +1,22 @@
 //! Laws of the library, over the definitions of its contracts alone.
 //!
 //! The functions have no code and answer nothing: the contract of each is its laws. (`law_value` looks at the fields of
-//! a location, and changes nothing.) Users rely on them together with the contracts of `parse`, of the writer and of
-//! the settled test, which name the same definitions.
+//! a location, and changes nothing.) Those that are named here from other modules stand beside what they are laws of.
+//! Users rely on them together with the contracts of `parse`, of the writer and of the settled test, which name the same
+//! definitions.
 
-ghost use Rattle.gix_url.specs.Laws.{Closed, Exact, ExactByFields, KeepsEarlier, SameComponents, SettledAgain, TextDecides, Unchanged, Unique, Writable};
+ghost use Rattle.std.specs.Cmp.{IsTotalOrder};
+ghost use Rattle.gix_url.specs.ComponentLaws.{EqualComponents, OneComponents};
+ghost use Rattle.gix_url.specs.Laws.{Apart, Closed, EqualIsSame, Exact, ExactByFields, FedAlike, KeepsEarlier, LocationsFedApart, ProtocolsFedApart, SameComponents, SettledAgain, SpellingLast, TextDecides, TiedIsEqual, Unchanged, Unique, Writable};
+ghost use Rattle.gix_url.specs.Order.{fed_location, fed_protocol, location_cmp, location_eq, protocol_cmp, protocol_eq};
+ghost use Rattle.gix_url.specs.Records.{KeepsMeaning, MigratedOnce, Migrates, RespelledOnce};
+ghost use Rattle.gix_url.specs.Refusals.{Decided, Exclusive, Flawless};
 
+pub use crate::address_law::law_address_test;
+pub use crate::argument::law_arguments;
+pub use crate::escape::law_sets;
+pub use crate::home_law::{law_homes, law_user_order};
+pub use crate::impls::law_hidden_password;
 pub use crate::value_law::law_value;
 
 /// Texts tell locations apart.
@@ -27,11 +38,28 @@ pub fn law_separation()
     ensures before { KeepsEarlier }
 {}
 
+/// Records of the legacy form, whose spelling is their path, stand for the same bytes after migration.
+///
+/// - `respelled`: each path has one new spelling, in which its escapes stay and every other byte is written as in a
+///   path.
+/// - `keeps_meaning`: a path and its new spelling decode to the same bytes, so the new spelling belongs to the decoded
+///   path. Who migrates old records loses nothing by it.
+/// - `migrates`: a record of the legacy form stands for the location with its path decoded, and with that new
+///   spelling; every other record stands for the location with its own parts.
+/// - `once`: what was migrated comes back as it is when it is stored and restored again.
+pub fn law_stored()
+    ensures respelled { RespelledOnce }
+    ensures keeps_meaning { KeepsMeaning }
+    ensures migrates { Migrates }
+    ensures once { MigratedOnce }
+{}
+
 /// What is read is settled, and the settled class is exact: of local files, HTTP, `ext` and remote helpers.
 ///
 /// - `closed`: a location of these kinds is settled if any bytes spell it, but for three corners: a host of a file URL
 ///   with `:` and `%`, a host of HTTP with `%` and a `:` at its end (both only where it doesn't begin with `[`), and a
 ///   location of HTTP whose text is too long to be read again. Who only reads meets no other unsettled one.
+/// - `apart`: no location in a corner is settled, so what is read is one or the other.
 /// - `exact`: such a location is settled exactly where its text is read as its public fields and written the same
 ///   again, if its spelling isn't its path. So the class leaves nothing out.
 /// - `unchanged`: what bytes spell as a remote helper or a local path is settled, and its text is those bytes. Tools
@@ -42,8 +70,74 @@ pub fn law_separation()
 ///   taken for one of the legacy form. Who stores what was read gets it back.
 pub fn law_closed()
     ensures closed { Closed }
+    ensures apart { Apart }
     ensures exact { Exact }
     ensures unchanged { Unchanged }
     ensures exact_by_fields { ExactByFields }
     ensures writable { Writable }
+{}
+
+/// Equality, order and hash of locations agree.
+///
+/// - `same`: two locations are equal exactly where they are one value, the retained spelling included. So what holds
+///   of one holds of the other: matchers and caches need no more than `==`.
+/// - `tied`: the order answers `Equal` exactly of equal locations. So a sorted list and a `BTreeMap` keep any two apart
+///   that `==` does.
+/// - `total`: the order is total. Of two locations one comes first or they are equal, whatever is between them.
+/// - `hashed`: equal locations feed a hasher the same. So a `HashMap` finds what `==` does.
+/// - `hashed_apart`: and no others do. No part is left out, so a good hasher tells any two locations apart. (Each `Url`
+///   is such a value: `law_value`.)
+/// - `spelling_last`: the public fields decide the order, and the retained spelling only where they are all equal. Who
+///   wants to compare the public fields alone finds them side by side in a sorted list.
+///
+/// Equality is no test for one repository: it knows nothing of default ports, of letter case in paths or of how two
+/// texts of one location differ.
+pub fn law_order()
+    ensures same { EqualIsSame location_eq }
+    ensures tied { TiedIsEqual location_eq location_cmp }
+    ensures total { IsTotalOrder location_cmp }
+    ensures hashed { FedAlike location_eq fed_location }
+    ensures hashed_apart { LocationsFedApart }
+    ensures spelling_last { SpellingLast }
+{}
+
+/// Equality, order and hash of schemes agree, as those of locations do. A scheme counts as the protocol that it stands
+/// for.
+///
+/// - `same`: two schemes are equal exactly where they stand for one protocol.
+/// - `tied`: the order answers `Equal` exactly of equal schemes.
+/// - `total`: the order is total.
+/// - `hashed`: equal schemes feed a hasher the same.
+/// - `hashed_apart`: and no others do.
+pub fn law_scheme_order()
+    ensures same { EqualIsSame protocol_eq }
+    ensures tied { TiedIsEqual protocol_eq protocol_cmp }
+    ensures total { IsTotalOrder protocol_cmp }
+    ensures hashed { FedAlike protocol_eq fed_protocol }
+    ensures hashed_apart { ProtocolsFedApart }
+{}
+
+/// A refusal is final: what its error names leaves nothing to read.
+///
+/// - `exclusive`: bytes in which the flaw of an error stands spell no location, whichever error it is but want of memory.
+///   So no reader that keeps to these definitions takes what [`parse`](crate::parse::parse) refuses.
+/// - `flawless`: no flaw stands in bytes that spell a location, whether or not there is an error that holds a copy of
+///   them.
+/// - `decided`: bytes spell a location, or one of these flaws stands in them. There is no third case, and by `flawless`
+///   none is both: what a text lacks to be read, an error can name.
+pub fn law_refusals()
+    ensures exclusive { Exclusive }
+    ensures flawless { Flawless }
+    ensures decided { Decided }
+{}
+
+/// What the path of a location is made of is determined, and equality tells it apart.
+///
+/// - `one`: each location has a path, a query and a fragment by the definition, and no two values of them. So what
+///   `path_query_fragment` answers is said by the location alone.
+/// - `equal`: components that compare equal are one value, and one value compares equal to itself. Who finds two
+///   locations with equal components knows that no byte of path, query or fragment differs.
+pub fn law_components()
+    ensures one { OneComponents }
+    ensures equal { EqualComponents }
 {}

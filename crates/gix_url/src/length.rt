@@ -15,7 +15,7 @@ use crate::scheme::is_web_scheme;
 pub(crate) const LIMIT: u16 = 1024;
 
 /// What a walk has come to, white space aside.
-#[derive(Clone, Copy, Debug, PartialEq, Eq)]
+#[derive(Clone, Copy, PartialEq, Eq)]
 enum Stage {
     /// Slashes and backslashes, which are skipped.
     Slashes,
@@ -26,7 +26,7 @@ enum Stage {
 }
 
 /// A walk over what follows the `://` of a URL.
-#[derive(Clone, Copy, Debug, PartialEq, Eq)]
+#[derive(Clone, Copy, PartialEq, Eq)]
 pub(crate) struct Walk {
     web: bool,
     stage: Stage,
@@ -84,7 +84,7 @@ impl Walk {
 }
 
 /// A walk over the whole text of a URL, which leaves out the scheme and the `://` behind it.
-#[derive(Clone, Copy, Debug, PartialEq, Eq)]
+#[derive(Clone, Copy, PartialEq, Eq)]
 pub(crate) struct TextWalk {
     left: usize,
     walk: Walk,
@@ -167,76 +167,4 @@ pub(crate) fn fits(scheme: &[u8], rest: &[u8]) -> bool
     ensures { IsTrue result ↔ Fits scheme.now rest.now }
 {
     scheme.len() <= usize::from(LIMIT) && Walk::behind(scheme).past(rest).is_short()
-}
-
-#[cfg(test)]
-mod tests {
-    use super::*;
-    use std::alloc::{AllocError, Global};
-    use std::test::Fail;
-
-    /// What `front` and many times `byte` and `back` are joined.
-    fn around(
-        alloc: Global,
-        front: &[u8],
-        byte: u8,
-        count: usize,
-        back: &[u8],
-    ) -> Result<Vec<u8>, AllocError> {
-        let mut text = Vec::new(alloc);
-        text.extend_from_slice(front)?;
-        for _turn in 0..count {
-            text.push(byte)?;
-        }
-        text.extend_from_slice(back)?;
-        Ok(text)
-    }
-
-    #[test]
-    fn measures_up_to_the_limit(rt: HostRuntime) -> Result<(), Fail> {
-        let cases = [
-            ("http", "", b'a', 1024, "/", true),
-            ("http", "", b'a', 1025, "/", false),
-            ("x", "/", b'a', 1023, "", true),
-            ("x", "/", b'a', 1024, "", false),
-            ("http", "", b'/', 2000, "", false),
-            ("http", "", b'/', 2000, "a/", true),
-            ("http", "", b'\\', 2000, "a/", true),
-            ("http", "a", b' ', 1100, "a/", true),
-            ("http", "a", b' ', 1024, "", false),
-            ("ssh", "h?", b'a', 1100, "/p", false),
-            ("http", "h?", b'a', 1100, "", true),
-            ("http", "h#", b'a', 1100, "", true),
-            ("http", "", 0xc3, 2402, "@h/", false),
-            ("http", "h/", b'a', 70000, "", true),
-            ("http", "", b'a', 70000, "", false),
-        ];
-        for (scheme, front, byte, count, back, short) in cases {
-            let rest = around(rt.alloc(), front.as_bytes(), byte, count, back.as_bytes())?;
-            assert_eq!(rt; fits(scheme.as_bytes(), rest.as_slice()), short);
-        }
-        Ok(())
-    }
-
-    #[test]
-    fn measures_schemes(rt: HostRuntime) -> Result<(), Fail> {
-        let scheme = around(rt.alloc(), b"", b'a', 1024, b"")?;
-        assert!(rt; fits(scheme.as_slice(), b"h/p"));
-        let scheme = around(rt.alloc(), b"", b'a', 1025, b"")?;
-        assert!(rt; !fits(scheme.as_slice(), b"h/p"));
-        Ok(())
-    }
-
-    #[test]
-    fn walks_in_pieces(rt: HostRuntime) -> Result<(), Fail> {
-        let many = around(rt.alloc(), b"", b'a', 1024, b"")?;
-        let walk = Walk::behind(b"http")
-            .past(b"/")
-            .past(b"")
-            .past(many.as_slice());
-        assert!(rt; !walk.is_short());
-        assert!(rt; walk.past(b"/").is_short());
-        assert!(rt; !walk.past(b"b/").is_short());
-        Ok(())
-    }
 }

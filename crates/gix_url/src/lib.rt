@@ -1,7 +1,8 @@
 //! Git locations: remote helpers, URLs, the scp form and local paths, read, written and told apart.
 //!
 //! [`parse::parse`] reads bytes and [`Url::from_text`] text; [`Url::write_to`] and [`Url::to_bstring`] write a
-//! location, and [`Url::is_settled`] tells whether it comes back the same.
+//! location, and [`Url::is_settled`] tells whether it comes back the same. [`Url::user_as_argument`] and its like tell
+//! which parts a command may get.
 //!
 //! ```
 //! /// The host that a text names, if the location can be written and read again.
@@ -16,9 +17,16 @@
 #![tactic(auto)]
 
 mod address_law;
+mod argument;
 mod bytes;
+mod canonical;
+mod components;
+mod copy;
 mod error;
 mod escape;
+pub mod expand_path;
+mod from_parts;
+mod home_law;
 mod host;
 mod impls;
 pub mod ipv6;
@@ -26,16 +34,24 @@ pub mod laws;
 mod length;
 pub mod lines;
 mod location;
+mod logs;
+mod order;
 pub mod parse;
+mod parts;
+mod reread;
 mod rows;
 mod scheme;
 mod settled;
 mod simple_url;
+pub mod stored;
 pub mod testing;
 mod url_location;
 mod value_law;
+mod words;
 mod writer;
 
+pub use argument::ArgumentSafety;
+pub use components::{PathComponents, QueryText};
 pub use error::{Error, UrlFault, WriteError, WriteFault};
 pub use location::Url;
 pub use scheme::Scheme;

@@ -25,10 +25,10 @@ pub enum RunError {
     #[error("out of memory")]
     Memory,
     /// The input can't be read to its end. Nothing was written.
-    #[error("cannot read")]
+    #[error("cannot read: {0}")]
     Read(io::Error),
     /// The answer can't be written. Nothing is said of how much of it went out.
-    #[error("cannot write")]
+    #[error("cannot write: {0}")]
     Write(io::Error),
 }
 
@@ -165,7 +165,7 @@ fn refuse(error: &Error, out: &mut Vec<u8>) -> Result<bool, RunError>
     Ok(false)
 }
 
-/// The name of an error that a line is refused with: none for want of memory.
+/// The name of an error that a line is refused with: none for want of memory, and for what no text is refused with.
 fn refusal_name(error: &Error) -> Option<&'static str>
     ensures { NamesRefusal error.now result }
 {
@@ -176,7 +176,11 @@ fn refusal_name(error: &Error) -> Option<&'static str>
         Error::NotUtf8 { .. } => Some("NotUtf8"),
         Error::TooLong { .. } => Some("TooLong"),
         Error::BadUrl { fault, .. } => Some(bad_url_name(*fault)),
-        Error::Unwritable(_) => Some("Unwritable"),
+        Error::HelperName { .. }
+        | Error::Unwritable(_)
+        | Error::NoHome(_)
+        | Error::PathNotUtf8
+        | Error::Unresolved => None,
     }
 }
 

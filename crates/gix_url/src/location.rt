@@ -7,23 +7,29 @@ use std::marker::Model;
 /// A Git location: a URL, a location in the scp form, a local path or the address of a remote helper.
 ///
 /// Contracts see all eight parts of it as one value, the retained spelling of its path among them.
-#[derive(Debug, Drop)]
+///
+/// The fields may be changed by hand. A location may have no text then, or one that is read as something else:
+/// [`Url::is_settled`] tells. `Debug` and `Display` show `redacted` in place of a password.
+#[derive(Drop)]
 pub struct Url {
     /// What the location is reached by.
     pub scheme: Scheme,
-    /// The user, decoded.
+    /// The user, decoded. It may be empty, and may begin with `-`: hand it to a command by
+    /// [`Url::user_as_argument`]. A user without a host has no text.
     pub user: Option<String>,
-    /// The password, decoded.
+    /// The password, decoded. It is not written without a user.
     pub password: Option<String>,
-    /// The host.
+    /// The host. It may be empty, and may begin with `-`: hand it to a command by [`Url::host_as_argument`]. An IPv6
+    /// text of Secure Shell is without its brackets, one of other schemes with them.
     pub host: Option<String>,
-    /// Whether the location is written in the form that is no URL, where it has one.
+    /// Whether the location is written in the form that is no URL, where it has one: as `host:path`, or as a path.
     pub serialize_alternative_form: bool,
-    /// The port.
+    /// The port. It may be 0, which only HTTP's locations are refused with when they are read.
     pub port: Option<u16>,
-    /// The path, decoded. It may be any bytes.
+    /// The path, decoded. It may be any bytes. The path of an HTTP location holds its query and its fragment too, where
+    /// a decoded `?` or `#` looks like one that separates them.
     pub path: BString,
-    /// The escaped spelling of the path, where the text had one.
+    /// The escaped spelling of the path, where the text had one. It counts while it still stands for the path.
     pub(crate) spelling: Option<BString>,
 }
 

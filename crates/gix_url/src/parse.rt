@@ -7,7 +7,7 @@ ghost use Rattle.std.specs.Prelude.{◌≡◌, [], Err, IfErr, IfOk};
 ghost use Rattle.bstr.specs.BStr.{bstr_bytes};
 ghost use Rattle.gix_url.specs.Flaws.{Flaw};
 ghost use Rattle.gix_url.specs.Grammar.{Spells};
-ghost use Rattle.gix_url.specs.Readings.{Refuses};
+ghost use Rattle.gix_url.specs.Readings.{Reads, Refuses};
 
 pub(crate) mod classify;
 mod copies;
@@ -31,10 +31,7 @@ use url::read_url;
 /// Where they spell no location, the error names a flaw that stands in them. The empty text is refused without
 /// memory.
 pub fn parse(alloc: Global, input: BStr<'_>) -> Result<Url, Error>
-    ensures found { IfOk result (λ v. Spells (bstr_bytes input.entry) v) }
-    ensures refused { IfErr result (λ e. Refuses (bstr_bytes input.entry) e) }
-    ensures flaw { IfErr result (λ e. Flaw (bstr_bytes input.entry) e) }
-    ensures empty { bstr_bytes input.entry ≡ [] → result ≡ Err Error.EmptyLocal }
+    ensures { Reads (bstr_bytes input.entry) result }
 {
     read(alloc, input.as_bytes())
 }
@@ -42,20 +39,14 @@ pub fn parse(alloc: Global, input: BStr<'_>) -> Result<Url, Error>
 impl Url {
     /// The one location that the bytes spell: [`parse`].
     pub fn from_bytes(alloc: Global, input: BStr<'_>) -> Result<Url, Error>
-        ensures found { IfOk result (λ v. Spells (bstr_bytes input.entry) v) }
-        ensures refused { IfErr result (λ e. Refuses (bstr_bytes input.entry) e) }
-        ensures flaw { IfErr result (λ e. Flaw (bstr_bytes input.entry) e) }
-        ensures empty { bstr_bytes input.entry ≡ [] → result ≡ Err Error.EmptyLocal }
+        ensures { Reads (bstr_bytes input.entry) result }
     {
         parse(alloc, input)
     }
 
     /// The one location that the text spells: [`parse`] of its bytes.
     pub fn from_text(alloc: Global, text: &str) -> Result<Url, Error>
-        ensures found { IfOk result (λ v. Spells text.now v) }
-        ensures refused { IfErr result (λ e. Refuses text.now e) }
-        ensures flaw { IfErr result (λ e. Flaw text.now e) }
-        ensures empty { text.now ≡ [] → result ≡ Err Error.EmptyLocal }
+        ensures { Reads text.now result }
     {
         read(alloc, text.as_bytes())
     }

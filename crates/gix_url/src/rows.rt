@@ -2,7 +2,7 @@
 //!
 //! It has no code and uses nothing: the contract of each function is a group of rows.
 
-ghost use Rattle.gix_url.specs.Records.{KeepsMeaning};
+ghost use Rattle.gix_url.specs.RefusalRows.{CornerRows, FlawlessRows, NoCornerRows, NoNameFlawRows, NoPartFlawRows, NoUrlFlawRow};
 ghost use Rattle.gix_url.specs.Rows.{AuthorityRows, EscapeRows, ExpandedRows, FaultRows, FlawRows, FormRows, HostRows, LengthRows, LiteralAgain, LiteralRows, NameFlawRows, NameRows, NoAuthorityRows, NoFormRows, NoNameRows, NormalAgain, OtherTextRows, ParentRows, PathRows, PieceRows, RawPartRows, RecordRows, SchemeRows, SettledRows, SpelledPartRows, SplitRows, UnsettledOtherRows, UnsettledUrlRows, UnsettledWebRows, UrlRows, UrlTextRows, UserTextRows, WebHostRows};
 
 /// Escapes, written and read.
@@ -28,11 +28,6 @@ fn law_texts()
 /// Stored locations.
 fn law_records()
     ensures { RecordRows }
-{}
-
-/// A legacy path in its new spelling stands for the same bytes.
-fn law_respelled()
-    ensures { KeepsMeaning }
 {}
 
 /// Paths as text and home folders.
@@ -86,6 +81,14 @@ fn law_flaws()
     ensures whole { FlawRows }
 {}
 
+/// Texts with which nothing is wrong.
+fn law_flawless()
+    ensures names { NoNameFlawRows }
+    ensures parts { NoPartFlawRows }
+    ensures whole { FlawlessRows }
+    ensures port { NoUrlFlawRow }
+{}
+
 /// The settled class.
 fn law_class()
     ensures settled { SettledRows }
@@ -93,4 +96,10 @@ fn law_class()
     ensures web { UnsettledWebRows }
     ensures urls { UnsettledUrlRows }
     ensures others { UnsettledOtherRows }
+{}
+
+/// Corners of what is read.
+fn law_corners()
+    ensures inside { CornerRows }
+    ensures outside { NoCornerRows }
 {}

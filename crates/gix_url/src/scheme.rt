@@ -8,11 +8,12 @@ ghost use Rattle.gix_url.specs.Schemes.{protocol_of, protocol_text, default_port
 ghost use Rattle.gix_url.specs.Views.{protocol};
 
 use crate::error::Error;
+use serde::{Deserialize, Serialize};
 use std::alloc::Global;
 use std::fmt;
 
 /// What a location is reached by.
-#[derive(Debug, Drop)]
+#[derive(Debug, Drop, Serialize, Deserialize)]
 pub enum Scheme {
     /// A path of the local file system, or a `file` URL.
     File,

@@ -21,7 +21,7 @@ use crate::host::{Mode, NamedHost, read_host};
 use crate::scheme::{is_named, is_ssh_scheme, is_web_scheme};
 
 /// The parts of a URL, as slices of its text: nothing is decoded, nothing is copied.
-#[derive(Clone, Copy, Debug)]
+#[derive(Clone, Copy)]
 pub(crate) struct ParsedUrl<'a> {
     /// The scheme.
     pub(crate) scheme: &'a [u8],
@@ -36,7 +36,7 @@ pub(crate) struct ParsedUrl<'a> {
 }
 
 /// What an authority holds, as slices of it.
-#[derive(Clone, Copy, Debug)]
+#[derive(Clone, Copy)]
 struct AuthorityParts<'a> {
     /// The user and the password.
     credentials: CredentialParts<'a>,
@@ -45,7 +45,7 @@ struct AuthorityParts<'a> {
 }
 
 /// What user information holds, as slices of it.
-#[derive(Clone, Copy, Debug)]
+#[derive(Clone, Copy)]
 struct CredentialParts<'a> {
     /// The user, if there is one, with its escapes.
     user: Option<&'a [u8]>,

@@ -4,22 +4,24 @@
 //! form, `layout` lists the pieces, `piece` says what a piece is written as, and `walks` put the pieces into a
 //! writer or into memory. The contract of each public call is the text of the definitions.
 
-ghost use Rattle.std.specs.Prelude.{◌≡◌, Ok, Err, IfOk, IfErr, option_map};
+ghost use Rattle.std.specs.Prelude.{◌≡◌, [], Ok, Err, IsOk, IfOk, IfErr, option_map};
 ghost use Rattle.bstr.specs.BStr.{bstr_bytes};
 ghost use Rattle.bstr.specs.Owned.{bstring_bytes};
 ghost use Rattle.gix_url.specs.declared.error.WriteFault.{WriteFault};
 ghost use Rattle.gix_url.specs.Text.{text};
 ghost use Rattle.gix_url.specs.Pieces.{pieced, text_length, original_path_of};
-ghost use Rattle.gix_url.specs.Readings.{Written, IsUnwritten};
+ghost use Rattle.gix_url.specs.Readings.{Written, IsUnwritten, WritesAgain};
+ghost use Rattle.gix_url.specs.Settled.{IsSettled};
 
 mod form;
 mod layout;
 pub(crate) mod piece;
 mod show;
-mod walks;
+pub(crate) mod walks;
 
 use crate::error::{Error, WriteError, WriteFault};
 use crate::location::Url;
+use crate::value_law::law_value;
 use crate::writer::piece::Pieces;
 use bstr::{BStr, BString};
 use itoa::Buffer;
@@ -59,15 +61,20 @@ impl Url {
 
     /// The text of the location. Memory is asked for once, for the whole text, and not at all where there is none.
     ///
+    /// The text of a settled location spells a location with the same public fields and the same text.
+    ///
     /// # Errors
     ///
     /// [`Error::Unwritable`] exactly where the location has no text. [`Error::Memory`] where memory is refused, or
-    /// where the text is longer than any memory.
+    /// where the text is longer than any memory; for a settled location no other.
     pub fn to_bstring(&self, alloc: Global) -> Result<BString, Error>
         ensures text { IfOk result (λ s. text self.now ≡ Ok (bstring_bytes s)) }
         ensures fault { (f : WriteFault) → text self.now ≡ Err f → result ≡ Err (Error.Unwritable f) }
         ensures refused { IfErr result (λ e. IsUnwritten (text self.now) e) }
+        ensures empty { text self.now ≡ Ok [] → IsOk result }
+        ensures settled { IsSettled self.now → WritesAgain self.now result }
     {
+        law_value(self);
         let mut digits = Buffer::new();
         match self.own_pieces(&mut digits) {
             Ok(pieces) => walks::collect(alloc, pieces),

@@ -12,7 +12,7 @@ use crate::bytes::{after, cut, cut_at_mark, is_free_of, is_helper_name, last_cut
 use crate::ipv6::is_address;
 
 /// The form of a text, with its pieces.
-#[derive(Clone, Copy, Debug)]
+#[derive(Clone, Copy)]
 pub(crate) enum Shape<'a> {
     /// No text at all.
     Empty,

@@ -24,7 +24,7 @@ use crate::scheme::Scheme;
 use std::alloc::{AllocError, Global};
 
 /// Why a host of the scp form was refused.
-#[derive(Clone, Copy, Debug)]
+#[derive(Clone, Copy)]
 enum HostRefusal {
     /// Memory was refused.
     Memory,

@@ -3,7 +3,7 @@
 //! It uses the pieces of this module's sibling. Its contract: what is put is the text of the pieces, in full; a
 //! walk into a writer fails by the writer alone, and a walk into memory that is there can't fail.
 
-ghost use Rattle.std.specs.Prelude.{◌≡◌, ◌+◌, ◌≤◌, ◌++◌, length, vec_len, vec_capacity, OnOk, IfOk, IfErr};
+ghost use Rattle.std.specs.Prelude.{◌≡◌, ◌+◌, ◌≤◌, [], ◌++◌, length, vec_len, vec_capacity, OnOk, IsOk, IfOk, IfErr};
 ghost use Rattle.std.specs.Io.KnownBytes.{Appends};
 ghost use Rattle.bstr.specs.Owned.{bstring_bytes};
 ghost use Rattle.gix_url.specs.Pieces.{piece_text, pieces_text};
@@ -52,6 +52,7 @@ fn put<W: Write>(out: &mut W, bytes: &[u8]) -> Result<(), WriteError>
 pub(crate) fn collect(alloc: Global, pieces: Pieces<'_>) -> Result<BString, Error>
     ensures text { IfOk result (λ s. bstring_bytes s ≡ pieces_text pieces.entry) }
     ensures memory { IfErr result (λ e. e ≡ Error.Memory) }
+    ensures empty { pieces_text pieces.entry ≡ [] → IsOk result }
 {
     let Ok(len) = usize::try_from(pieces.len()) else {
         return Err(Error::Memory);
@@ -85,7 +86,7 @@ fn append_piece(out: &mut Vec<u8>, piece: Piece<'_>)
 }
 
 /// Appends the bytes, for which there is room.
-fn append_within(out: &mut Vec<u8>, bytes: &[u8])
+pub(crate) fn append_within(out: &mut Vec<u8>, bytes: &[u8])
     requires { vec_len out.old + length bytes.now ≤ vec_capacity out.old }
     ensures items { out.new.items ≡ out.old.items ++ bytes.now }
     ensures len { vec_len out.new ≡ vec_len out.old + length bytes.now }

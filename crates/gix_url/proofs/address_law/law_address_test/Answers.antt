@@ -3,4 +3,4 @@ use Rattle.gix_url.proofs.AddressTestLemmas.{ipv6_text_from, ipv6_text_to}
 use Rattle.gix_url.proofs.address_law.law_address_test.Goals as goal
 
 pub returns : goal.returns
-returns c t = (ipv6_text_from t, ipv6_text_to t)
+returns c = record { decides = λ t. (ipv6_text_from t, ipv6_text_to t) }

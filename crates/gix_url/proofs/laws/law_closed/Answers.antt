@@ -2,6 +2,7 @@
 use Rattle.std.proofs.Common.{inl, inr}
 use Rattle.gix_url.specs.Laws.{Unchanged}
 use Rattle.gix_url.proofs.ClosedLemmas.{closed, exact}
+use Rattle.gix_url.proofs.CornerLemmas.{apart}
 use Rattle.gix_url.proofs.KeptLemmas.{helper_unchanged, local_unchanged, kept_exact}
 use Rattle.gix_url.proofs.WritableLemmas.{writable}
 use Rattle.gix_url.proofs.laws.law_closed.Goals as goal
@@ -14,6 +15,7 @@ unchanged b v (inr h) = local_unchanged b v h
 pub returns : goal.returns
 returns c = record {
   closed = closed;
+  apart = apart;
   exact = exact;
   unchanged = unchanged;
   exact_by_fields = kept_exact;

@@ -1,6 +1,5 @@
 -- The rows are lemmas.
-use Rattle.gix_url.proofs.RowLemmas.{piece_rows, parent_rows, expanded_rows}
-use Rattle.gix_url.proofs.RowPartLemmas.{split_rows}
+use Rattle.gix_url.proofs.RowHomeLemmas.{piece_rows, parent_rows, expanded_rows, split_rows}
 use Rattle.gix_url.proofs.rows.law_homes.Goals as goal
 
 pub returns : goal.returns

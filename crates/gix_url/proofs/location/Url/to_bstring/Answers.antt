@@ -1,7 +1,9 @@
--- A text and a fault exclude each other, and a fault is told as it is.
+-- A text and a fault exclude each other, and a fault is told as it is; a settled location has a text, which spells it
+-- again.
 use Rattle.std.proofs.Common.{ap, sym, ◌∙◌, Err}
 use Rattle.gix_url.specs.declared.error.Error.TheVariants.{Unwritable}
 use Rattle.gix_url.proofs.PieceLemmas.{same_fault}
+use Rattle.gix_url.proofs.RereadLemmas.{written_again, settled_has_text}
 use Rattle.gix_url.proofs.location.Url.to_bstring.Goals as goal
 
 pub returns-in-Ok-clause-fault : goal.returns-in-Ok-clause-fault
@@ -12,3 +14,9 @@ returns-in-Err-clause-fault c = λ f none. ap (λ g. Err (Unwritable g)) (same_f
 
 pub returns-in-Err-clause-refused : goal.returns-in-Err-clause-refused
 returns-in-Err-clause-refused c = sym c.in-Err.ensures
+
+pub returns-in-Ok-clause-settled : goal.returns-in-Ok-clause-settled
+returns-in-Ok-clause-settled c = written_again c.args.self.now _ c.collect.result c.law_value.ensures.value c.in-Ok.ensures c.collect.ensures.text c.collect.ensures.memory
+
+pub returns-in-Err-clause-settled : goal.returns-in-Err-clause-settled
+returns-in-Err-clause-settled c = λ h. absurd (settled_has_text c.args.self.now c.in-Err.fault c.law_value.ensures.value h c.in-Err.ensures)

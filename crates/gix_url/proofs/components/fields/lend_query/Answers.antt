@@ -1,0 +1,27 @@
+-- The names and values of the next field stand before those of the rest.
+use Rattle.std.proofs.Common.{◌≡◌, ◌∙◌, ◌+◌, ◌≤◌, ◌++◌, List, arith, ap, subst, sym}
+use Rattle.gix_url.specs.Components.{ampersand}
+use Rattle.gix_url.specs.ComponentPieces.{LendsFields, AddsPair}
+use Rattle.gix_url.proofs.LentLemmas.{adds_field, adds_last, field_count_cut, field_count_last}
+use Rattle.gix_url.proofs.components.fields.lend_query.Goals as goal
+
+pub loop-field-preserved : goal.loop-field-preserved
+loop-field-preserved c =
+    let around = c.in-Some.ensures in
+    let rest = c.loop-field.rest in
+    let escaped = around.front_escaped ∙ c.loop-field.invariant.escaped in
+    let adds = subst (λ b. AddsPair b c.in-Some.field.text.now c.loop-field.pairs.items c.push_field.new.pairs.items) escaped c.in_ok-push_field.ensures.pairs in
+    let count = field_count_cut rest.text.now c.in-Some.field.text.now c.in-Some.behind.text.now around.free around.joined in record {
+      escaped = around.behind_escaped ∙ c.loop-field.invariant.escaped;
+      lent = λ more lends.
+          let all = adds_field c.args.query.escaped rest.text.now c.in-Some.field.text.now c.in-Some.behind.text.now c.loop-field.pairs.items c.push_field.new.pairs.items more around.free around.joined adds lends in
+          subst (LendsFields c.args.query.escaped c.args.query.text.now) (sym all.behind) (c.loop-field.invariant.lent all.whole all.lent);
+      room = omega (arith, count, c.in_ok-push_field.ensures.len);
+    }
+
+pub returns : goal.returns
+returns c =
+    let rest = c.loop-field.rest in
+    let adds = subst (λ b. AddsPair b rest.text.now c.loop-field.pairs.items c.push_field-2.new.pairs.items) c.loop-field.invariant.escaped c.in_ok-push_field-2.ensures.pairs in
+    let all = adds_last c.args.query.escaped rest.text.now c.loop-field.pairs.items c.push_field-2.new.pairs.items c.in_default.ensures adds in
+    subst (LendsFields c.args.query.escaped c.args.query.text.now) (sym all.behind) (c.loop-field.invariant.lent all.whole all.lent)

@@ -1,0 +1,15 @@
+-- What the rest stands for, behind the names and values so far, is what the whole stands for, and there is room for it.
+use Rattle.std.proofs.Common.{◌≡◌, ◌++◌, ◌+◌, ◌≤◌, List, length, vec_len, vec_capacity}
+use Rattle.gix_url.specs.declared.components.QueryText.{QueryText}
+use Rattle.gix_url.specs.ComponentPieces.{LendsFields, field_count}
+use Rattle.gix_url.proofs.components.fields.lend_query.Given as goal
+
+abbrev pub invariant-loop-field : goal.invariant-loop-field
+invariant-loop-field l = record {
+  escaped : l.rest.escaped ≡ l.fn.query.escaped;
+  lent : (more : List (QueryText × QueryText)) → LendsFields l.fn.query.escaped l.rest.text.now more → LendsFields l.fn.query.escaped l.fn.query.text.now (l.pairs.items ++ more);
+  room : vec_len l.pairs + field_count l.rest.text.now ≤ vec_capacity l.pairs;
+}
+
+abbrev pub decreases-loop-field : goal.decreases-loop-field
+decreases-loop-field l = length l.rest.text.now

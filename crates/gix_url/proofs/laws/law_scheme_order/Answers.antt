@@ -1,0 +1,15 @@
+-- Each law is a lemma.
+use Rattle.gix_url.specs.Order.{protocol_cmp, protocol_eq}
+use Rattle.gix_url.specs.OrderLaws.{protocol_decides, protocol_ties, protocol_total, protocols_alike}
+use Rattle.gix_url.proofs.HashLemmas.{protocols_apart}
+use Rattle.gix_url.proofs.OrderLemmas.{tied_is_equal}
+use Rattle.gix_url.proofs.laws.law_scheme_order.Goals as goal
+
+pub returns : goal.returns
+returns c = record {
+  same = protocol_decides;
+  tied = tied_is_equal protocol_eq protocol_cmp protocol_ties;
+  total = protocol_total;
+  hashed = protocols_alike;
+  hashed_apart = protocols_apart;
+}

@@ -1,0 +1,108 @@
+-- What the rooms that hand out components tell of each other's answers: which piece each was cut out as.
+use Rattle.std.specs.Prelude.{◌≡◌, ℕ, Bool, true, false, ◌==◌, List, [], ◌∷◌, ◌++◌, Option, Some, None, MatchOption, option_map, length, filter}
+use Rattle.std.specs.List.{slice_split}
+use Rattle.bstr.specs.BStr.{bstr_bytes}
+use Rattle.bstr.specs.Owned.{bstring_bytes}
+use Rattle.gix_url.specs.declared.components.PathComponents.{PathComponents}
+use Rattle.gix_url.specs.declared.components.QueryText.{QueryText}
+use Rattle.gix_url.specs.declared.components.QueryText.TheVariants.{Borrowed, Owned}
+use Rattle.gix_url.specs.declared.components.cuts.Spelled.{Spelled}
+use Rattle.gix_url.specs.Bytes.{plus_sign, FreeOf}
+use Rattle.gix_url.specs.Value.{Location}
+use Rattle.gix_url.specs.Grammar.{or_root}
+use Rattle.gix_url.specs.Components.{ampersand, CutsPath, CutsFields, SplitsField, original_path, matches, with_spaces}
+use Rattle.gix_url.specs.Meanings.{meant_by}
+
+-- the original path of a location, and what it stands for
+abbrev pub SpellsPath : Location → Spelled → Type 0
+SpellsPath v whole = (whole.text.now ≡ original_path v) × (whole.meant.now ≡ v.path) × (whole.escaped ≡ matches v.spelling v.path)
+
+-- the parts of a text around the first c, escaped as the text is
+pub record CutsAround (c : ℕ) (whole front behind : Spelled) : Type 0 where
+  pub free : FreeOf c front.text.now
+  pub joined : whole.text.now ≡ front.text.now ++ c ∷ behind.text.now
+  pub front_escaped : front.escaped ≡ whole.escaped
+  pub behind_escaped : behind.escaped ≡ whole.escaped
+
+-- the parts around the first c, or none where the text is free of it
+abbrev pub CutsSpelled : ℕ → Spelled → Option (Spelled × Spelled) → Type 0
+CutsSpelled c whole parts = MatchOption parts (FreeOf c whole.text.now) (λ p. CutsAround c whole p.0 p.1)
+
+-- the part before the first c, and the part behind it where there is one
+abbrev pub CutsOff : ℕ → Spelled → Spelled → Option Spelled → Type 0
+CutsOff c whole front None = FreeOf c whole.text.now × (front.text.now ≡ whole.text.now) × (front.escaped ≡ whole.escaped)
+CutsOff c whole front (Some behind) = CutsAround c whole front behind
+
+-- ---- the query
+
+-- a name or a value is what its piece stands for, lent where no raw `+` stands in it
+abbrev pub LendsTerm : Bool → List ℕ → QueryText → Type 0
+LendsTerm escaped piece (Borrowed text) = FreeOf plus_sign piece × (bstr_bytes text ≡ meant_by escaped piece)
+LendsTerm escaped piece (Owned text) = (¬ FreeOf plus_sign piece) × (bstring_bytes text ≡ meant_by escaped (with_spaces piece))
+
+-- a name and its value are what the two parts of a field stand for
+pub record LendsPair (escaped : Bool) (field : List ℕ) (pair : QueryText × QueryText) : Type 0 where
+  pub name : List ℕ
+  pub value : List ℕ
+  pub split : SplitsField field name value
+  pub name_lent : LendsTerm escaped name pair.0
+  pub value_lent : LendsTerm escaped value pair.1
+
+-- these names and values are what the fields stand for, in order; empty fields stand for none
+abbrev pub LendsPairs : Bool → List (List ℕ) → List (QueryText × QueryText) → Type 0
+LendsPairs escaped [] pairs = pairs ≡ []
+LendsPairs escaped ([] ∷ fields) pairs = LendsPairs escaped fields pairs
+LendsPairs escaped ((b ∷ bs) ∷ fields) pairs =
+    (pair : QueryText × QueryText) × (others : List (QueryText × QueryText))
+    × LendsPair escaped (b ∷ bs) pair × LendsPairs escaped fields others × (pairs ≡ pair ∷ others)
+
+-- these names and values are what the fields of a text stand for, of which there is at least one
+pub record LendsFields (escaped : Bool) (text : List ℕ) (pairs : List (QueryText × QueryText)) : Type 0 where
+  pub field : List ℕ
+  pub fields : List (List ℕ)
+  pub cut : CutsFields text (field ∷ fields)
+  pub lent : LendsPairs escaped (field ∷ fields) pairs
+
+-- the field is not empty
+abbrev pub is_field : List ℕ → Bool
+is_field [] = false
+is_field (b ∷ bs) = true
+
+-- the field counts for one, unless it is empty
+abbrev pub one_field : List ℕ → ℕ
+one_field [] = 0
+one_field (b ∷ bs) = 1
+
+-- how many of the fields of a text are not empty
+abbrev pub field_count : List ℕ → ℕ
+field_count text = length (filter is_field (slice_split (λ b. b == ampersand) text))
+
+-- the name and the value of a field stand behind those that were there, unless it is empty
+abbrev pub AddsPair : Bool → List ℕ → List (QueryText × QueryText) → List (QueryText × QueryText) → Type 0
+AddsPair escaped [] old new = new ≡ old
+AddsPair escaped (b ∷ bs) old new = (pair : QueryText × QueryText) × LendsPair escaped (b ∷ bs) pair × (new ≡ old ++ pair ∷ [])
+
+-- ---- the whole
+
+-- a query stands for these names and values, if there is one
+abbrev pub LendsQuery : Bool → Option (List ℕ) → Option (List (QueryText × QueryText)) → Type 0
+LendsQuery escaped None pairs = pairs ≡ None
+LendsQuery escaped (Some query) None = ⊥
+LendsQuery escaped (Some query) (Some pairs) = LendsFields escaped query pairs
+
+-- the components of a text of HTTP
+pub record LendsParts (escaped : Bool) (text : List ℕ) (parts : PathComponents) : Type 0 where
+  pub front : List ℕ
+  pub query : Option (List ℕ)
+  pub fragment : Option (List ℕ)
+  pub cut : CutsPath text front query fragment
+  pub path_meant : bstr_bytes parts.path ≡ or_root (meant_by escaped front)
+  pub query_lent : LendsQuery escaped query (option_map (λ pairs. pairs.items) parts.query)
+  pub fragment_meant : option_map bstr_bytes parts.fragment ≡ option_map (meant_by escaped) fragment
+
+-- a text has a query
+pub record HasQuery (text : List ℕ) : Type 0 where
+  pub front : List ℕ
+  pub query : List ℕ
+  pub fragment : Option (List ℕ)
+  pub cut : CutsPath text front (Some query) fragment

@@ -1,0 +1,61 @@
+-- What contracts see of the components that the code hands out: their bytes, and what of them is lent.
+use Rattle.std.specs.Prelude.{◌≡◌, ℕ, Bool, true, false, List, [], ◌∷◌, map, Option, Some, None, option_map}
+use Rattle.bstr.specs.BStr.{bstr_bytes}
+use Rattle.bstr.specs.Owned.{bstring_bytes}
+use Rattle.gix_url.specs.declared.components.PathComponents.{PathComponents}
+use Rattle.gix_url.specs.declared.components.QueryText.{QueryText}
+use Rattle.gix_url.specs.declared.components.QueryText.TheVariants.{Borrowed, Owned}
+use Rattle.gix_url.specs.Bytes.{plus_sign, FreeOf, Holds}
+use Rattle.gix_url.specs.Value.{Location}
+use Rattle.gix_url.specs.Components.{Components, CutsPath, CutsFields, SplitsField, original_path}
+
+-- the bytes of a name or a value
+abbrev pub text_bytes : QueryText → List ℕ
+text_bytes (Borrowed text) = bstr_bytes text
+text_bytes (Owned text) = bstring_bytes text
+
+-- the name or the value is lent
+abbrev pub is_borrowed : QueryText → Bool
+is_borrowed (Borrowed text) = true
+is_borrowed (Owned text) = false
+
+-- the bytes of a name and of its value
+abbrev pub pair_bytes : QueryText × QueryText → List ℕ × List ℕ
+pair_bytes pair = (text_bytes pair.0, text_bytes pair.1)
+
+-- the components that were handed out
+abbrev pub components : PathComponents → Components
+components parts = record {
+  path = bstr_bytes parts.path;
+  query = option_map (λ pairs. map pair_bytes pairs.items) parts.query;
+  fragment = option_map bstr_bytes parts.fragment;
+}
+
+-- a name or a value of the query: a text of its own exactly where a raw `+` stands in the piece that it was cut out as,
+-- and else lent, so that its bytes stand in the path
+abbrev pub LentTerm : Location → List ℕ → QueryText → Type 0
+LentTerm v piece (Borrowed text) = FreeOf plus_sign piece × Holds (bstr_bytes text) v.path
+LentTerm v piece (Owned text) = ¬ FreeOf plus_sign piece
+
+-- the names and values of these fields, in order; empty fields have none
+abbrev pub LentPairs : Location → List (List ℕ) → List (QueryText × QueryText) → Type 0
+LentPairs v [] pairs = pairs ≡ []
+LentPairs v ([] ∷ fields) pairs = LentPairs v fields pairs
+LentPairs v ((b ∷ bs) ∷ fields) pairs =
+    (name : List ℕ) × (value : List ℕ) × (pair : QueryText × QueryText) × (others : List (QueryText × QueryText))
+    × SplitsField (b ∷ bs) name value × LentTerm v name pair.0 × LentTerm v value pair.1 × LentPairs v fields others × (pairs ≡ pair ∷ others)
+
+-- the names and values of the query of a location's original path
+pub record LentFields (v : Location) (pairs : List (QueryText × QueryText)) : Type 0 where
+  pub front : List ℕ
+  pub query : List ℕ
+  pub fragment : Option (List ℕ)
+  pub fields : List (List ℕ)
+  pub cut : CutsPath (original_path v) front (Some query) fragment
+  pub split : CutsFields query fields
+  pub lent : LentPairs v fields pairs
+
+-- those that were handed out, if any were
+abbrev pub LentQuery : Location → Option (List (QueryText × QueryText)) → Type 0
+LentQuery v None = Unit {0}
+LentQuery v (Some pairs) = LentFields v pairs

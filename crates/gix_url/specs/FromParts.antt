@@ -1,0 +1,77 @@
+-- A location made of its parts: what is read of their text, with the path that was given where it is kept.
+use Rattle.std.specs.Prelude.{◌≡◌, ℕ, Bool, List, [], ◌∷◌, Option, Some, None, Result, Ok, Err, if◌then◌else◌}
+use Rattle.bstr.specs.declared.bstring.BString.{BString}
+use Rattle.bstr.specs.Owned.{bstring_bytes}
+use Rattle.gix_url.specs.declared.error.Error.{Error}
+use Rattle.gix_url.specs.declared.error.Error.TheVariants as error
+use Rattle.gix_url.specs.declared.error.WriteFault.{WriteFault}
+use Rattle.gix_url.specs.Value.{Protocol, Location}
+use Rattle.gix_url.specs.Value.Protocol.{file, git, ssh, http, https, ext, helper, helper_url}
+use Rattle.gix_url.specs.Bytes.{is_helper_name}
+use Rattle.gix_url.specs.Text.{text}
+use Rattle.gix_url.specs.Settled.{IsSettled}
+use Rattle.gix_url.specs.Readings.{Reads, ReadsAgain}
+
+-- the location with these parts, and no spelling
+abbrev pub of_parts : Protocol → Option (List ℕ) → Option (List ℕ) → Option (List ℕ) → Option ℕ → List ℕ → Bool → Location
+of_parts named user password host port path flag = record {
+  scheme = named;
+  user = user;
+  password = password;
+  host = host;
+  flag = flag;
+  port = port;
+  path = path;
+  spelling = None;
+}
+
+-- the name of a remote helper, if no helper can have it
+abbrev pub invalid_name : Protocol → Option (List ℕ)
+invalid_name (helper name) = if is_helper_name name then None else Some name
+invalid_name file = None
+invalid_name git = None
+invalid_name ssh = None
+invalid_name http = None
+invalid_name https = None
+invalid_name ext = None
+invalid_name (helper_url name) = None
+
+-- the error holds the name
+abbrev pub TellsName : List ℕ → Error → Type 0
+TellsName name e = (told : BString) × (e ≡ error.HelperName told) × (bstring_bytes told ≡ name)
+
+-- the path that was given, or the other where it is empty
+abbrev pub given_or : List ℕ → List ℕ → List ℕ
+given_or [] other = other
+given_or (b ∷ bs) other = b ∷ bs
+
+-- what was read, with the path that was given and no spelling of it
+abbrev pub with_given : List ℕ → Location → Location
+with_given path read = record read { path = given_or path read.path; spelling = None }
+
+-- what was read of the text of parts with this protocol and this path: HTTP keeps the path
+abbrev pub keeping : Protocol → List ℕ → Location → Location
+keeping http path read = with_given path read
+keeping https path read = with_given path read
+keeping file path read = read
+keeping git path read = read
+keeping ssh path read = read
+keeping ext path read = read
+keeping (helper name) path read = read
+keeping (helper_url name) path read = read
+
+-- what reading the text of parts answers, with their path where it is kept
+abbrev pub ReadsKept : Location → List ℕ → Result Location Error → Type 0
+ReadsKept given b (Ok v) = (read : Location) × Reads b (Ok read) × (v ≡ keeping given.scheme given.path read)
+ReadsKept given b (Err e) = Reads b (Err e)
+
+-- what making a location of parts answers
+pub record MadeOf (given : Location) (result : Result Location Error) : Type 0 where
+  -- a name that no remote helper can have is refused, and told
+  pub helper_name : (name : List ℕ) → invalid_name given.scheme ≡ Some name → (e : Error) × (result ≡ Err e) × TellsName name e
+  -- else a fault of their text
+  pub fault : invalid_name given.scheme ≡ None → (f : WriteFault) → text given ≡ Err f → result ≡ Err (error.Unwritable f)
+  -- else their text is read
+  pub read : (t : List ℕ) → text given ≡ Ok t → ReadsKept given t result
+  -- settled parts come back as they are
+  pub settled : IsSettled given → ReadsAgain given result

@@ -1,0 +1,64 @@
+-- Equality, order and hash of users of home folders: the current user comes first, others by the bytes of their names.
+use Rattle.std.specs.Prelude.{◌≡◌, Bool, true, List, ℕ, Option, Some, None}
+use mathlib.Core.Path.{refl, sym, ap, ◌∙◌}
+use Rattle.std.specs.Bool.{Decides}
+use Rattle.std.specs.declared.cmp.Ordering.{Ordering}
+use Rattle.std.specs.Ordering.{eq_by_cmp, on}
+use Rattle.std.specs.Cmp.{IsEquivalence, IsPartialOrder, IsTotalOrder, decided, on_total, po}
+use Rattle.std.specs.Hash.{HashWrites}
+use Rattle.gix_url.specs.Homes.{HomeUser}
+use Rattle.gix_url.specs.Homes.HomeUser.{current, named}
+use Rattle.gix_url.specs.Order.{text_eq, text_cmp, fed_text}
+use Rattle.gix_url.specs.OrderLaws.{text_decides, text_total, text_ties}
+
+-- the name that a user brings with it
+abbrev pub user_name : HomeUser → Option (List ℕ)
+user_name current = None
+user_name (named name) = Some name
+
+-- users are equal where their names are, or where both have none
+abbrev pub user_eq : HomeUser → HomeUser → Bool
+user_eq u v = text_eq (user_name u) (user_name v)
+
+-- users are ordered by their names, none before all others
+abbrev pub user_cmp : HomeUser → HomeUser → Ordering
+user_cmp = on user_name text_cmp
+
+-- of a user a hasher is fed the name
+abbrev pub fed_user : HomeUser → HashWrites
+fed_user u = fed_text (user_name u)
+
+-- ---- laws
+
+-- the user of that name
+user_at : Option (List ℕ) → HomeUser
+user_at None = current
+user_at (Some name) = named name
+
+user_itself : (u : HomeUser) → user_at (user_name u) ≡ u
+unfolding user_at
+user_itself current = refl
+user_itself (named name) = refl
+
+-- what is equal is one user
+pub user_decides : (u v : HomeUser) → Decides (user_eq u v) (u ≡ v)
+user_decides u v =
+    (λ e. sym (user_itself u) ∙ (ap user_at ((text_decides (user_name u) (user_name v)).0 e) ∙ user_itself v), λ e. (text_decides (user_name u) (user_name v)).1 (ap user_name e))
+
+pub user_equiv : IsEquivalence user_eq
+user_equiv = decided user_eq user_decides
+
+-- the order is total
+pub user_total : IsTotalOrder user_cmp
+user_total = on_total user_name text_total
+
+-- what is equal is what the order doesn't tell apart
+pub user_ties : (u v : HomeUser) → user_eq u v ≡ eq_by_cmp user_cmp u v
+user_ties u v = text_ties (user_name u) (user_name v)
+
+pub user_po : IsPartialOrder user_eq (λ u v. Some (user_cmp u v))
+user_po = po user_total user_ties
+
+-- what is equal feeds a hasher alike
+pub users_alike : (u v : HomeUser) → user_eq u v ≡ true → fed_user u ≡ fed_user v
+users_alike u v e = ap fed_user ((user_decides u v).0 e)

@@ -1,0 +1,19 @@
+-- The location whose parts a stored record has.
+use Rattle.std.specs.Prelude.{string_bytes, option_map}
+use Rattle.std.specs.Vec.{vec_items}
+use Rattle.gix_url.specs.declared.stored.StoredUrl.{StoredUrl}
+use Rattle.gix_url.specs.Value.{Location}
+use Rattle.gix_url.specs.Views.{protocol}
+
+-- the eight parts of a record, as plain values
+abbrev pub recorded : StoredUrl → Location
+recorded s = record {
+  scheme = protocol s.scheme;
+  user = option_map string_bytes s.user;
+  password = option_map string_bytes s.password;
+  host = option_map string_bytes s.host;
+  flag = s.serialize_alternative_form;
+  port = s.port;
+  path = vec_items s.path;
+  spelling = option_map vec_items s.path_with_percent_escapes;
+}

@@ -1,0 +1,109 @@
+//! Canonical paths: a local location with its path resolved.
+//!
+//! It uses `location`, `copy` and `error`. What resolves a path is handed in as a closure. Its contract: the path of a
+//! local location becomes what the closure answers, and nothing else changes; after a refusal nothing did.
+
+ghost use Rattle.std.specs.Prelude.{◌≡◌, ◌⊎◌, Err, IsUtf8, MatchOption, MatchResult, None, Ok, Some, string_bytes};
+ghost use Rattle.std.specs.Fn.{FnOnceReturnsAt, FnOnceTakesAt};
+ghost use Rattle.std.specs.Bool.{MatchBool};
+ghost use Rattle.gix_url.specs.Value.Protocol.{file};
+ghost use Rattle.gix_url.specs.Views.{protocol};
+
+use crate::error::Error;
+use crate::location::Url;
+use crate::scheme::Scheme;
+use bstr::{BString, ByteSlice};
+use std::alloc::Global;
+
+impl Url {
+    /// Puts what `resolve` answers for the path in its place, if the location is a local one.
+    ///
+    /// `resolve` is called once, with the path, where the scheme is `File` and the path is text. Its answer becomes the
+    /// path as it is, without a copy. A location of any other scheme stays as it is, and `resolve` is not called. This
+    /// takes no memory but what `resolve` takes.
+    ///
+    /// # Errors
+    ///
+    /// [`Error::PathNotUtf8`], where the path of a local location is no text; that is tested first.
+    /// [`Error::Unresolved`], where `resolve` answers none. The location is unchanged after either.
+    ///
+    /// ```
+    /// /// Gives a local location the path that the file system has for it.
+    /// fn resolve<R: Files + AllocGlobal>(rt: &R, url: &mut Url) -> Result<(), Error> {
+    ///     url.canonicalize(|path| fs::canonicalize(rt, path).ok().map(|path| path.into_string()))
+    /// }
+    /// ```
+    pub fn canonicalize<F: FnOnce(&str) -> Option<String> + Drop>(
+        &mut self,
+        resolve: F,
+    ) -> Result<(), Error>
+        requires { self.old.scheme ≡ file → IsUtf8 self.old.path → FnOnceTakesAt F.FnOnce resolve self.old.path }
+        ensures elsewhere { ¬ (self.old.scheme ≡ file) → (result ≡ Ok tt) × (self.new ≡ self.old) }
+        ensures no_text { self.old.scheme ≡ file → ¬ IsUtf8 self.old.path
+            → (result ≡ Err Error.PathNotUtf8) × (self.new ≡ self.old) }
+        ensures resolved { self.old.scheme ≡ file → IsUtf8 self.old.path → (answer : _)
+            × FnOnceReturnsAt F.FnOnce resolve self.old.path answer
+            × MatchOption answer ((result ≡ Err Error.Unresolved) × (self.new ≡ self.old))
+            (λ text. (result ≡ Ok tt) × (self.new ≡ record self.old { path = string_bytes text })) }
+    {
+        if !is_file(&self.scheme) {
+            return Ok(());
+        }
+        let Ok(path) = self.path.as_bytes().to_str() else {
+            return Err(Error::PathNotUtf8);
+        };
+        match resolve(path) {
+            Some(resolved) => {
+                self.path = BString::from(resolved);
+                Ok(())
+            }
+            None => Err(Error::Unresolved),
+        }
+    }
+
+    /// A copy of the location with what `resolve` answers for the path in its place, if the location is a local one:
+    /// [`Url::clone`], and then [`Url::canonicalize`] of the copy.
+    ///
+    /// # Errors
+    ///
+    /// [`Error::Memory`], where the location can't be copied; then `resolve` is not called. [`Error::PathNotUtf8`] and
+    /// [`Error::Unresolved`] come where `canonicalize` answers them.
+    ///
+    /// ```
+    /// /// The same location by the path that the file system has for it.
+    /// fn real<R: Files + AllocGlobal>(rt: &R, url: &Url) -> Result<Url, Error> {
+    ///     let alloc = rt.alloc();
+    ///     url.canonicalized(alloc, |path| fs::canonicalize(rt, path).ok().map(|path| path.into_string()))
+    /// }
+    /// ```
+    pub fn canonicalized<F: FnOnce(&str) -> Option<String> + Drop>(
+        &self,
+        alloc: Global,
+        resolve: F,
+    ) -> Result<Url, Error>
+        requires { self.now.scheme ≡ file → IsUtf8 self.now.path → FnOnceTakesAt F.FnOnce resolve self.now.path }
+        ensures elsewhere { ¬ (self.now.scheme ≡ file)
+            → MatchResult result (λ v. v ≡ self.now) (λ e. e ≡ Error.Memory) }
+        ensures no_text { self.now.scheme ≡ file → ¬ IsUtf8 self.now.path
+            → MatchResult result (λ v. ⊥) (λ e. (e ≡ Error.Memory) ⊎ (e ≡ Error.PathNotUtf8)) }
+        ensures resolved { self.now.scheme ≡ file → IsUtf8 self.now.path → MatchResult result
+            (λ v. (text : _) × FnOnceReturnsAt F.FnOnce resolve self.now.path (Some text)
+            × (v ≡ record self.now { path = string_bytes text }))
+            (λ e. (e ≡ Error.Memory)
+            ⊎ ((e ≡ Error.Unresolved) × FnOnceReturnsAt F.FnOnce resolve self.now.path None)) }
+    {
+        let mut copy = self.clone(alloc)?;
+        copy.canonicalize(resolve)?;
+        Ok(copy)
+    }
+}
+
+/// Whether the scheme is that of local locations.
+fn is_file(scheme: &Scheme) -> bool
+    ensures { MatchBool result (protocol scheme.now ≡ file) (¬ (protocol scheme.now ≡ file)) }
+{
+    match scheme {
+        Scheme::File => true,
+        _ => false,
+    }
+}

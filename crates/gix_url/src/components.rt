@@ -1,0 +1,157 @@
+//! What the path of a location is made of: on the web a path, a query and a fragment, lent without copying.
+//!
+//! It may use `location`, `scheme`, the spelling that `writer` finds to match, and the rooms below: `cuts` cuts a
+//! text together with what it stands for, `measure` counts that, `fields` goes over the fields of a query, and
+//! `lend` hands out their names and values. Its contract: the answer is what the definitions cut out of the path,
+//! for every location. Pieces are cut first and stand for bytes after, whatever is escaped in them. Memory is asked
+//! for once for the list of a query's names and values, where there is one to hold, and once for each of them that
+//! has a raw `+`.
+
+ghost use Rattle.std.specs.Prelude.{◌≡◌, ◌⊎◌, [], ◌∷◌, None, IfErr, IfOk, IfSome, IsErr, IsOk, option_map};
+ghost use Rattle.bstr.specs.BStr.{bstr_bytes};
+ghost use Rattle.gix_url.specs.Bytes.{Holds, slash};
+ghost use Rattle.gix_url.specs.ComponentPieces.{HasQuery, LendsParts, SpellsPath};
+ghost use Rattle.gix_url.specs.ComponentViews.{LentQuery, components};
+ghost use Rattle.gix_url.specs.Components.{Components, PartsOf};
+ghost use Rattle.gix_url.specs.Grammar as grammar;
+
+mod cuts;
+mod fields;
+mod lend;
+mod measure;
+mod same;
+
+use crate::error::Error;
+use crate::location::Url;
+use crate::scheme::Scheme;
+use bstr::{BStr, BString};
+use cuts::Spelled;
+use fields::lend_query;
+use std::alloc::{AllocError, Global};
+
+/// The path of a location with the query and the fragment that stand in it, as they are meant: escapes stand for
+/// their bytes, where the location's spelling has them.
+#[derive(Debug, Drop)]
+pub struct PathComponents<'a> {
+    /// The path before the query and the fragment.
+    pub path: BStr<'a>,
+    /// The names and values of the query, in order, if there is a query. A field without `=` has an empty value.
+    pub query: Option<Vec<(QueryText<'a>, QueryText<'a>)>>,
+    /// The fragment, if there is one.
+    pub fragment: Option<BStr<'a>>,
+}
+
+/// A name or a value of a query.
+#[derive(Debug, Drop)]
+pub enum QueryText<'a> {
+    /// A part of the location's path, as it stands there.
+    Borrowed(BStr<'a>),
+    /// A text of its own: a raw `+` stood in it, which means a space.
+    Owned(BString),
+}
+
+impl Url {
+    /// The path, the query and the fragment of a location of HTTP, whose marks are those of RFC 3986. Any other
+    /// location has its path alone.
+    ///
+    /// The [original path](Url::original_path) is cut first: the query begins behind the first `?` before any `#`,
+    /// the fragment behind the first `#`; the query has its fields between `&`, and a field its value behind its
+    /// first `=`. Empty fields are left out. What an escape stands for comes after, so `%26` parts nothing; and where
+    /// the original path is no spelling, as in a path that a program assigned, an escape stands for itself. A raw `+`
+    /// in a name or a value is a space, as in forms of HTML. An empty path is `/`.
+    ///
+    /// Nothing is checked beyond that: a name may come twice, `..` may stand in the path, and any byte may stand
+    /// anywhere.
+    ///
+    /// The parts are lent from the location. Memory is asked for once for the list of names and values, where there
+    /// is one, and once for each name or value with a raw `+`.
+    ///
+    /// # Errors
+    ///
+    /// [`Error::Memory`] where memory is refused. Where there is no query, none is asked for.
+    ///
+    /// ```
+    /// /// Whether the query asks for the service of this name.
+    /// fn asks_for(alloc: Global, url: &Url, service: &[u8]) -> Result<bool, Error> {
+    ///     let parts = url.path_query_fragment(alloc)?;
+    ///     let Some(query) = &parts.query else {
+    ///         return Ok(false);
+    ///     };
+    ///     for (name, value) in query {
+    ///         if name.as_bstr().as_bytes() == b"service" && value.as_bstr().as_bytes() == service {
+    ///             return Ok(true);
+    ///         }
+    ///     }
+    ///     Ok(false)
+    /// }
+    /// ```
+    pub fn path_query_fragment(&self, alloc: Global) -> Result<PathComponents<'_>, Error>
+        ensures parts { IfOk result (λ c. PartsOf self.now (components c)) }
+        ensures path { IfOk result (λ c. Holds (bstr_bytes c.path) self.now.path ⊎ (bstr_bytes c.path ≡ slash ∷ [])) }
+        ensures query { IfOk result (λ c. LentQuery self.now (option_map (λ q. q.items) c.query)) }
+        ensures fragment { IfOk result (λ c. IfSome c.fragment (λ f. Holds (bstr_bytes f) self.now.path)) }
+        ensures memory { IfErr result (λ e. e ≡ Error.Memory) }
+        ensures no_query { (c : Components) → PartsOf self.now c → c.query ≡ None → IsOk result }
+    {
+        match &self.scheme {
+            Scheme::Http | Scheme::Https => web_components(alloc, self.spelled_path()),
+            Scheme::File
+            | Scheme::Git
+            | Scheme::Ssh
+            | Scheme::Ext
+            | Scheme::Helper(_)
+            | Scheme::HelperUrl(_) => Ok(PathComponents {
+                path: self.path.as_bstr(),
+                query: None,
+                fragment: None,
+            }),
+        }
+    }
+
+    /// The path as it is spelled, together with what it stands for.
+    fn spelled_path(&self) -> Spelled<'_>
+        ensures { SpellsPath self.now result }
+    {
+        let path = self.path.as_bytes();
+        match self.matching_spelling() {
+            Some(spelling) => Spelled::spelling(spelling, path),
+            None => Spelled::raw(path),
+        }
+    }
+}
+
+/// The path, the query and the fragment of a path of HTTP.
+fn web_components<'a>(alloc: Global, whole: Spelled<'a>) -> Result<PathComponents<'a>, Error>
+    ensures lent { IfOk result (λ c. LendsParts whole.entry.escaped whole.entry.text.now c) }
+    ensures memory { IfErr result (λ e. e ≡ Error.Memory) }
+    ensures query { IsErr result → HasQuery whole.entry.text.now }
+{
+    let (front, fragment) = whole.cut_off(b'#');
+    let (path, query) = front.cut_off(b'?');
+    let query = match query {
+        None => None,
+        Some(query) => Some(lend_query(alloc, query)?),
+    };
+    Ok(PathComponents {
+        path: BStr::new(or_root(path.meant)),
+        query,
+        fragment: meant_option(fragment),
+    })
+}
+
+/// The path, or `/` where it is empty.
+fn or_root(path: &[u8]) -> &[u8]
+    ensures { result.now ≡ grammar.or_root path.now }
+{
+    if path.is_empty() { b"/" } else { path }
+}
+
+/// What the piece stands for, if there is one.
+fn meant_option(piece: Option<Spelled<'_>>) -> Option<BStr<'_>>
+    ensures { option_map bstr_bytes result ≡ option_map (λ p. p.meant.now) piece.entry }
+{
+    match piece {
+        None => None,
+        Some(piece) => Some(BStr::new(piece.meant)),
+    }
+}

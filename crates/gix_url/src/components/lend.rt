@@ -1,0 +1,55 @@
+//! Names and values of a query: lent as they stand in the path, or made where a raw `+` means a space.
+//!
+//! It uses `cuts` and the tests of `bytes`. Its contract: a name or a value is what its piece stands for, with each
+//! raw `+` a space, and memory is asked for only where there is one, and then once.
+
+ghost use Rattle.std.specs.Prelude.{◌≡◌, IfOk};
+ghost use Rattle.gix_url.specs.Bytes.{FreeOf, plus_sign};
+ghost use Rattle.gix_url.specs.ComponentPieces.{LendsPair, LendsTerm};
+ghost use Rattle.gix_url.specs.Components.{with_spaces};
+ghost use Rattle.gix_url.specs.Meanings.{meant_by};
+
+use super::QueryText;
+use super::cuts::Spelled;
+use crate::bytes::is_free_of;
+use crate::writer::walks::append_within;
+use bstr::{BStr, BString};
+use std::alloc::{AllocError, Global};
+
+/// The name and the value of a field: what stands before and behind its first `=`.
+pub(super) fn lend_pair<'a>(
+    alloc: Global,
+    field: Spelled<'a>,
+) -> Result<(QueryText<'a>, QueryText<'a>), AllocError>
+    ensures { IfOk result (λ pair. LendsPair field.entry.escaped field.entry.text.now pair) }
+{
+    match field.cut(b'=') {
+        Some((name, value)) => Ok((lend_term(alloc, name)?, lend_term(alloc, value)?)),
+        None => Ok((lend_term(alloc, field)?, lend_term(alloc, field.nothing())?)),
+    }
+}
+
+/// The name or the value that the piece stands for.
+fn lend_term<'a>(alloc: Global, piece: Spelled<'a>) -> Result<QueryText<'a>, AllocError>
+    ensures { IfOk result (λ text. LendsTerm piece.entry.escaped piece.entry.text.now text) }
+{
+    if is_free_of(piece.text, b'+') {
+        return Ok(QueryText::Borrowed(BStr::new(piece.meant)));
+    }
+    Ok(QueryText::Owned(BString::new(spaced(alloc, piece)?)))
+}
+
+/// What the piece stands for with each raw `+` a space.
+fn spaced(alloc: Global, piece: Spelled<'_>) -> Result<Vec<u8>, AllocError>
+    ensures { IfOk result (λ bytes. bytes.items ≡ meant_by piece.entry.escaped (with_spaces piece.entry.text.now)) }
+{
+    let mut bytes = Vec::with_capacity(alloc, piece.meant.len())?;
+    let mut rest = piece;
+    while let Some((front, behind)) = rest.cut(b'+') {
+        append_within(&mut bytes, front.meant);
+        append_within(&mut bytes, b" ");
+        rest = behind;
+    }
+    append_within(&mut bytes, rest.meant);
+    Ok(bytes)
+}

@@ -1,0 +1,112 @@
+//! Copies of locations, of schemes, and of the parts that own memory.
+//!
+//! It uses `scheme` and `location`. Its contract: a copy is an equal value that shares nothing with the original, and
+//! only memory can be wanting. Each copy of a part asks for memory once, and not at all where there are no bytes.
+
+ghost use Rattle.std.specs.Prelude.{◌≡◌, IfErr, IfOk, option_map, string_bytes};
+ghost use Rattle.bstr.specs.Owned.{bstring_bytes};
+ghost use Rattle.gix_url.specs.Views.{protocol};
+
+use crate::error::Error;
+use crate::location::Url;
+use crate::scheme::Scheme;
+use bstr::BString;
+use std::alloc::{AllocError, Global};
+
+impl Scheme {
+    /// A copy of the scheme. It asks for memory once for a name that isn't empty, and not at all for a scheme with a
+    /// name of its own.
+    ///
+    /// The copy is equal to the scheme, and neither notices what becomes of the other.
+    ///
+    /// # Errors
+    ///
+    /// [`Error::Memory`] where memory is refused.
+    ///
+    /// ```
+    /// fn twice(alloc: Global, scheme: Scheme) -> Result<(Scheme, Scheme), Error> {
+    ///     let copy = scheme.clone(alloc)?;
+    ///     Ok((scheme, copy))
+    /// }
+    /// ```
+    pub fn clone(&self, alloc: Global) -> Result<Scheme, Error>
+        ensures equal { IfOk result (λ copy. protocol copy ≡ protocol self.now) }
+        ensures memory { IfErr result (λ e. e ≡ Error.Memory) }
+    {
+        match self {
+            Scheme::File => Ok(Scheme::File),
+            Scheme::Git => Ok(Scheme::Git),
+            Scheme::Ssh => Ok(Scheme::Ssh),
+            Scheme::Http => Ok(Scheme::Http),
+            Scheme::Https => Ok(Scheme::Https),
+            Scheme::Ext => Ok(Scheme::Ext),
+            Scheme::Helper(name) => Ok(Scheme::Helper(String::from_str(alloc, name)?)),
+            Scheme::HelperUrl(name) => Ok(Scheme::HelperUrl(String::from_str(alloc, name)?)),
+        }
+    }
+}
+
+impl Url {
+    /// A copy of the location, the retained spelling of its path included. It asks for memory once for each text in it
+    /// that isn't empty: a name that the scheme holds, the user, the password, the host, the path and the spelling.
+    ///
+    /// The copy is equal to the location, and neither notices what becomes of the other. It holds the password, too.
+    ///
+    /// # Errors
+    ///
+    /// [`Error::Memory`] where memory is refused.
+    ///
+    /// ```
+    /// /// The same location on another host.
+    /// fn mirror(alloc: Global, url: &Url, host: String) -> Result<Url, Error> {
+    ///     let mut copy = url.clone(alloc)?;
+    ///     copy.host = Some(host);
+    ///     Ok(copy)
+    /// }
+    /// ```
+    pub fn clone(&self, alloc: Global) -> Result<Url, Error>
+        ensures equal { IfOk result (λ copy. copy ≡ self.now) }
+        ensures memory { IfErr result (λ e. e ≡ Error.Memory) }
+    {
+        Ok(Url {
+            scheme: self.scheme.clone(alloc)?,
+            user: copy_text(alloc, &self.user)?,
+            password: copy_text(alloc, &self.password)?,
+            host: copy_text(alloc, &self.host)?,
+            serialize_alternative_form: self.serialize_alternative_form,
+            port: self.port,
+            path: copy_bytes(alloc, &self.path)?,
+            spelling: copy_spelling(alloc, &self.spelling)?,
+        })
+    }
+}
+
+/// A copy of a text that may be missing.
+pub(crate) fn copy_text(alloc: Global, text: &Option<String>) -> Result<Option<String>, AllocError>
+    ensures { IfOk result (λ copy. option_map string_bytes copy ≡ option_map string_bytes text.now) }
+{
+    match text {
+        None => Ok(None),
+        Some(text) => Ok(Some(String::from_str(alloc, text)?)),
+    }
+}
+
+/// A copy of bytes.
+pub(crate) fn copy_bytes(alloc: Global, bytes: &BString) -> Result<BString, AllocError>
+    ensures { IfOk result (λ copy. bstring_bytes copy ≡ bstring_bytes bytes.now) }
+{
+    BString::from_slice(alloc, bytes.as_bytes())
+}
+
+/// A copy of a spelling that may be missing.
+pub(crate) fn copy_spelling(
+    alloc: Global,
+    spelling: &Option<BString>,
+) -> Result<Option<BString>, AllocError>
+    ensures { IfOk result (λ copy. option_map bstring_bytes copy ≡ option_map bstring_bytes spelling.now) }
+{
+    match spelling {
+        None => Ok(None),
+        Some(bytes) => Ok(Some(copy_bytes(alloc, bytes)?)),
+    }
+}

@@ -1,0 +1,269 @@
+//! Home folders: whose folder a path means, and where the path lies then.
+//!
+//! It uses `error`. What the world knows of home folders is handed in: by a closure or as a text. Its contracts are the
+//! definitions of home folders and of paths as text; besides them only memory can be wanting.
+
+ghost use Rattle.std.specs.Prelude.{◌≡◌, Err, IfErr, IfOk, IfSome, IsUtf8, None, Ok, Some, false, option_map, string_bytes};
+ghost use Rattle.std.specs.Fn.{FnOnceReturnsAt};
+ghost use Rattle.std.specs.Option.{option_copied};
+ghost use Rattle.bstr.specs.BStr.{bstr_bytes};
+ghost use Rattle.bstr.specs.Owned.{bstring_bytes};
+ghost use Rattle.gix_url.specs.Settled.{begins_at_home};
+ghost use Rattle.gix_url.specs.Homes.{ForShell, HomeFolder, SplitsHome};
+ghost use Rattle.gix_url.specs.Homes.HomeUser.{named};
+ghost use Rattle.gix_url.specs.HomeOrder.{user_name};
+ghost use Rattle.gix_url.specs.HomeReadings.{Expansion, user_of};
+
+mod order;
+mod paths;
+mod split;
+
+use crate::error::Error;
+use bstr::{BStr, BString, ByteSlice};
+use paths::{parent, push_below, push_path};
+use split::{cut_home, path_below, user_named};
+use std::alloc::{AllocError, Global};
+
+/// The user in whose home folder a path begins.
+///
+/// The current user comes before all others in order, and others by the bytes of their names.
+#[derive(Debug, Drop)]
+pub enum ForUser {
+    /// The current user.
+    Current,
+    /// The user of this name.
+    Name(BString),
+}
+
+impl ForUser {
+    /// An equal user. It asks for memory once for a name that isn't empty, and not at all for the current user.
+    ///
+    /// # Errors
+    ///
+    /// [`Error::Memory`], where the name can't be copied.
+    pub fn clone(&self, alloc: Global) -> Result<ForUser, Error>
+        ensures equal { IfOk result (λ copy. user_of copy ≡ user_of self.now) }
+        ensures memory { IfErr result (λ e. e ≡ Error.Memory) }
+    {
+        match self {
+            ForUser::Current => Ok(ForUser::Current),
+            ForUser::Name(name) => Ok(ForUser::Name(BString::from_slice(alloc, name.as_bytes())?)),
+        }
+    }
+}
+
+impl From<ForUser> for Option<BString> {
+    ghost from_gives = { λ user name. option_map bstring_bytes name ≡ user_name (user_of user) };
+
+    /// The name of the user; the current one has none.
+    fn from(user: ForUser) -> Option<BString> {
+        match user {
+            ForUser::Current => None,
+            ForUser::Name(name) => Some(name),
+        }
+    }
+}
+
+/// The user in whose home folder a path begins, if it begins with `/~`, and the path below that folder.
+///
+/// `/~` and `/~/rest` mean the current user, `/~name` and `/~name/rest` the user of that name. What is left is `/` and
+/// the rest, in which U+FFFD stands for what is no UTF-8. Any other path has no user, and comes back unchanged.
+///
+/// # Errors
+///
+/// [`Error::Memory`], where the name or the path can't be copied.
+///
+/// ```
+/// /// Whether a path begins in the home folder of the current user.
+/// fn is_own(alloc: Global, path: BStr<'_>) -> Result<bool, Error> {
+///     let (user, _) = expand_path::parse(alloc, path)?;
+///     Ok(user == Some(ForUser::Current))
+/// }
+/// ```
+pub fn parse(alloc: Global, path: BStr<'_>) -> Result<(Option<ForUser>, BString), Error>
+    ensures split { IfOk result (λ p. SplitsHome (bstr_bytes path.entry) (option_map user_of p.0) (bstring_bytes p.1)) }
+    ensures memory { IfErr result (λ e. e ≡ Error.Memory) }
+{
+    match cut_home(path.as_bytes()) {
+        Some((name, below)) => {
+            let user = user_named(alloc, name)?;
+            Ok((Some(user), path_below(alloc, below)?))
+        }
+        None => Ok((None, BString::from_slice(alloc, path.as_bytes())?)),
+    }
+}
+
+/// The path as a shell takes it: `~name/rest` in place of `/~name/rest`.
+///
+/// A path that doesn't begin with `/~` is handed back as it is, and takes no memory.
+///
+/// Nothing is quoted: a shell has still to be kept from reading more than a path into it.
+///
+/// # Errors
+///
+/// [`Error::Memory`], where the path of a user can't be written.
+///
+/// ```
+/// /// The path of a location, to be handed to a shell on its host.
+/// fn remote_path(alloc: Global, url: Url) -> Result<BString, Error> {
+///     for_shell(alloc, url.path)
+/// }
+/// ```
+pub fn for_shell(alloc: Global, path: BString) -> Result<BString, Error>
+    ensures written { IfOk result (λ text. ForShell (bstring_bytes path) (bstring_bytes text)) }
+    ensures memory { IfErr result (λ e. e ≡ Error.Memory) }
+    ensures unchanged { begins_at_home (bstring_bytes path) ≡ false → result ≡ Ok path }
+{
+    match shell_path(alloc, path.as_bytes())? {
+        Some(text) => Ok(text),
+        None => Ok(path),
+    }
+}
+
+/// The path as a shell takes it, if it begins in a home folder.
+fn shell_path(alloc: Global, path: &[u8]) -> Result<Option<BString>, AllocError>
+    ensures written { IfOk result (λ text. IfSome text (λ t. ForShell path.now (bstring_bytes t))) }
+    ensures homeless { begins_at_home path.now ≡ false → result ≡ Ok None }
+    ensures homely { result ≡ Ok None → begins_at_home path.now ≡ false }
+{
+    let Some((name, below)) = cut_home(path) else {
+        return Ok(None);
+    };
+    let rest = path_below(alloc, below)?;
+    let mut text = Vec::from_slice(alloc, b"~")?;
+    text.extend_from_slice(name)?;
+    text.extend_from_slice(rest.as_bytes())?;
+    Ok(Some(BString::new(text)))
+}
+
+/// The path, below the home folder that `home` answers for its user.
+///
+/// Without a user it is the path itself, and `home` is not called. With a user `home` is called once, with that user;
+/// the path without its first component (the `/`, or the first segment) is joined to what it answers, without empty
+/// segments and `.`.
+///
+/// # Errors
+///
+/// [`Error::PathNotUtf8`], where the path is no text; that is tested first, and takes no memory. [`Error::NoHome`], with
+/// the user, where `home` answers none. [`Error::Memory`], where the path can't be appended or the user can't be copied.
+///
+/// ```
+/// /// The path, where all users have their home folders in `/home`.
+/// fn in_home(alloc: Global, user: Option<&ForUser>, path: BStr<'_>) -> Result<String, Error> {
+///     expand_path::with(alloc, user, path, |user| match user {
+///         ForUser::Current => None,
+///         ForUser::Name(name) => format!(in alloc; "/home/{name}").ok(),
+///     })
+/// }
+/// ```
+pub fn with<F: FnOnce(&ForUser) -> Option<String> + Drop>(
+    alloc: Global,
+    user: Option<&ForUser>,
+    path: BStr<'_>,
+    home: F,
+) -> Result<String, Error>
+    requires { IsUtf8 (bstr_bytes path) → IfSome user (λ u. F.pre home u) }
+    ensures no_text { ¬ IsUtf8 (bstr_bytes path.entry) → result ≡ Err Error.PathNotUtf8 }
+    ensures userless { user.entry ≡ None → IfOk result (λ s. string_bytes s ≡ bstr_bytes path.entry) }
+    ensures refused { IsUtf8 (bstr_bytes path.entry) → user.entry ≡ None → IfErr result (λ e. e ≡ Error.Memory) }
+    ensures at_home { IsUtf8 (bstr_bytes path.entry) → IfSome user.entry (λ u. (answer : _)
+        × FnOnceReturnsAt F.FnOnce home u.now answer
+        × Expansion (λ folder. option_map string_bytes answer ≡ folder) (user_of u.now) (bstr_bytes path.entry) result) }
+{
+    let Ok(text) = path.as_bytes().to_str() else {
+        return Err(Error::PathNotUtf8);
+    };
+    match user {
+        None => Ok(String::from_str(alloc, text)?),
+        Some(user) => entered(alloc, home(user), user, text),
+    }
+}
+
+/// The path, below the home folder of its user, by that of the current user: others have theirs beside it.
+///
+/// Without a user it is the path itself. The path of the current user lies below `home`; that of another user below the
+/// folder of that name in the parent of `home`, with U+FFFD for what is no UTF-8 in the name. The path without its
+/// first component (the `/`, or the first segment) is joined to that folder, without empty segments and `.`.
+///
+/// # Errors
+///
+/// [`Error::PathNotUtf8`], where the path is no text; that is tested first, and takes no memory. [`Error::NoHome`], with
+/// the user, where there is no `home`, or where another user's folder is wanted and `home` has no parent.
+/// [`Error::Memory`], where the answer or the user can't be copied.
+///
+/// ```
+/// /// A path below the home folder of its user, by the home folder that the environment names.
+/// fn expand(rt: &(impl Env + AllocGlobal), path: BStr<'_>) -> Result<String, Error> {
+///     let (user, rest) = expand_path::parse(rt.alloc(), path)?;
+///     let home = env::home_dir(rt).ok().flatten();
+///     let home = home.as_ref().map(|home| home.as_path().as_str());
+///     expand_path::expand_path(rt.alloc(), user.as_ref(), rest.as_bstr(), home)
+/// }
+/// ```
+pub fn expand_path(
+    alloc: Global,
+    user: Option<&ForUser>,
+    path: BStr<'_>,
+    home: Option<&str>,
+) -> Result<String, Error>
+    ensures no_text { ¬ IsUtf8 (bstr_bytes path.entry) → result ≡ Err Error.PathNotUtf8 }
+    ensures userless { user.entry ≡ None → IfOk result (λ s. string_bytes s ≡ bstr_bytes path.entry) }
+    ensures refused { IsUtf8 (bstr_bytes path.entry) → user.entry ≡ None → IfErr result (λ e. e ≡ Error.Memory) }
+    ensures at_home { IsUtf8 (bstr_bytes path.entry) → IfSome user.entry (λ u.
+        Expansion (HomeFolder (option_copied home.entry) (user_of u.now)) (user_of u.now) (bstr_bytes path.entry) result) }
+{
+    let Ok(text) = path.as_bytes().to_str() else {
+        return Err(Error::PathNotUtf8);
+    };
+    match user {
+        None => Ok(String::from_str(alloc, text)?),
+        Some(user) => {
+            let folder = home_folder(alloc, user, home)?;
+            entered(alloc, folder, user, text)
+        }
+    }
+}
+
+/// The path below a home folder, which is changed in place, or the error that there is none for the user.
+fn entered(alloc: Global, home: Option<String>, user: &ForUser, path: &str) -> Result<String, Error>
+    ensures { Expansion (λ folder. option_map string_bytes home ≡ folder) (user_of user.now) path.now result }
+{
+    match home {
+        Some(mut folder) => {
+            push_below(&mut folder, path)?;
+            Ok(folder)
+        }
+        None => Err(Error::NoHome(user.clone(alloc)?)),
+    }
+}
+
+/// The home folder of a user, by that of the current user.
+fn home_folder(
+    alloc: Global,
+    user: &ForUser,
+    home: Option<&str>,
+) -> Result<Option<String>, AllocError>
+    ensures { IfOk result (λ r. HomeFolder (option_copied home.entry) (user_of user.now) (option_map string_bytes r)) }
+{
+    let Some(home) = home else {
+        return Ok(None);
+    };
+    match user {
+        ForUser::Current => Ok(Some(String::from_str(alloc, home)?)),
+        ForUser::Name(name) => folder_beside(alloc, home, name.as_bytes()),
+    }
+}
+
+/// The folder of this name beside another.
+fn folder_beside(alloc: Global, home: &str, name: &[u8]) -> Result<Option<String>, AllocError>
+    ensures { IfOk result (λ r. HomeFolder (Some home.now) (named name.now) (option_map string_bytes r)) }
+{
+    let Some(parent) = parent(home) else {
+        return Ok(None);
+    };
+    let mut shown = String::new(alloc);
+    name.to_str_lossy_into(&mut shown)?;
+    let mut folder = String::from_str(alloc, parent)?;
+    push_path(&mut folder, shown.as_str())?;
+    Ok(Some(folder))
+}

@@ -1,0 +1,44 @@
+//! The home split: whose home folder a path begins in, and what lies below it.
+//!
+//! It uses `bytes`. Its contract: the name and the rest, as they stand in the path.
+
+ghost use Rattle.std.specs.Prelude.{◌≡◌, ◌∷◌, Some, IfOk};
+ghost use Rattle.bstr.specs.Owned.{bstring_bytes};
+ghost use Rattle.gix_url.specs.Bytes.{slash};
+ghost use Rattle.gix_url.specs.HomeReadings.{CutsHome, user_of};
+ghost use Rattle.gix_url.specs.Homes.{home_user, shown};
+
+use super::ForUser;
+use crate::bytes::{after, cut};
+use bstr::{BString, ByteSlice};
+use std::alloc::{AllocError, Global};
+
+/// The name of the user in whose home folder the path begins, which is empty for the current one, and what lies below.
+pub(super) fn cut_home(path: &[u8]) -> Option<(&[u8], &[u8])>
+    ensures { CutsHome path.now result }
+{
+    let behind = after(after(path, b'/')?, b'~')?;
+    match cut(behind, b'/') {
+        Some((name, below)) => Some((name, below)),
+        None => Some((behind, b"")),
+    }
+}
+
+/// The user of this name; none named is the current one.
+pub(super) fn user_named(alloc: Global, name: &[u8]) -> Result<ForUser, AllocError>
+    ensures { IfOk result (λ user. user_of user ≡ home_user name.now) }
+{
+    if name.is_empty() {
+        return Ok(ForUser::Current);
+    }
+    Ok(ForUser::Name(BString::from_slice(alloc, name)?))
+}
+
+/// The path behind the home folder: a `/`, and what lies below it as text.
+pub(super) fn path_below(alloc: Global, below: &[u8]) -> Result<BString, AllocError>
+    ensures { IfOk result (λ path. bstring_bytes path ≡ slash ∷ shown below.now) }
+{
+    let mut path = String::from_str(alloc, "/")?;
+    below.to_str_lossy_into(&mut path)?;
+    Ok(BString::from(path))
+}

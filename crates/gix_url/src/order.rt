@@ -1,0 +1,263 @@
+//! Equality, order and hash of schemes and of locations, by their bytes.
+//!
+//! It uses `scheme` and `location`. Its contract: the parts count in declared order, the retained spelling last, so
+//! that equality, order and hash agree, and what is equal is one value. It takes no memory.
+
+ghost use Rattle.std.specs.Prelude.{◌≡◌, Some, fold, option_map, refl, string_bytes};
+ghost use Rattle.std.specs.Cmp.{on_equiv, on_per, on_po, on_total, partial_equiv_from_equiv};
+ghost use Rattle.gix_url.specs.Order.{fed_bytes, fed_location, fed_protocol, fed_text, held_name, location_cmp, location_eq, protocol_cmp, protocol_eq, rank, text_cmp, text_eq};
+ghost use Rattle.gix_url.specs.Views.{protocol};
+ghost use Rattle.gix_url.specs.OrderLaws.{location_equiv, location_po, location_ties, location_total, locations_alike, protocol_equiv, protocol_po, protocol_ties, protocol_total, protocols_alike};
+
+use crate::location::Url;
+use crate::scheme::Scheme;
+use std::cmp::Ordering;
+use std::hash::{Hash, Hasher};
+
+impl PartialEq for Scheme {
+    ghost eq = { λ s t. protocol_eq (protocol s) (protocol t) };
+
+    ghost laws = { on_per protocol (partial_equiv_from_equiv protocol_equiv) };
+
+    /// Whether both schemes are of one kind with one name. It takes no memory.
+    ///
+    /// Equal schemes are written alike, but schemes that are written alike can differ: the remote helper `x` isn't the
+    /// scheme `x` of a URL.
+    fn eq(&self, other: &Scheme) -> bool {
+        rank(self) == rank(other) && texts_equal(held_name(self), held_name(other))
+    }
+}
+
+impl Eq for Scheme {
+    ghost laws = { on_equiv protocol protocol_equiv };
+}
+
+impl PartialOrd for Scheme {
+    ghost partial_cmp = { λ s t. Some (protocol_cmp (protocol s) (protocol t)) };
+
+    ghost laws = { on_po protocol protocol_po };
+
+    fn partial_cmp(&self, other: &Scheme) -> Option<Ordering> {
+        Some(self.cmp(other))
+    }
+}
+
+impl Ord for Scheme {
+    ghost cmp = { λ s t. protocol_cmp (protocol s) (protocol t) };
+
+    ghost total = { on_total protocol protocol_total };
+
+    ghost matches_partial_cmp = { λ s t. refl };
+
+    ghost matches_eq = { λ s t. protocol_ties (protocol s) (protocol t) };
+
+    /// The order of two schemes: as their kinds are declared, and then by the bytes of their names. It takes no memory.
+    fn cmp(&self, other: &Scheme) -> Ordering {
+        rank(self)
+            .cmp(&rank(other))
+            .then_with(|| compare_texts(held_name(self), held_name(other)))
+    }
+}
+
+impl Hash for Scheme {
+    ghost hash_input = { λ s. fed_protocol (protocol s) };
+
+    ghost respects_eq = { λ s t. protocols_alike (protocol s) (protocol t) };
+
+    /// Feeds the hasher the kind of the scheme, and its name. It takes no memory.
+    fn hash<H: Hasher>(&self, state: &mut H) {
+        state.write_u8(rank(self));
+        feed_text(held_name(self), state);
+    }
+}
+
+impl PartialEq for Url {
+    ghost eq = { location_eq };
+
+    ghost laws = { partial_equiv_from_equiv location_equiv };
+
+    /// Whether all parts are equal, texts by their bytes, the retained spelling of the path among them. It takes no
+    /// memory.
+    ///
+    /// Equal locations are one value (`law_order`). Locations that name one place can differ: by a default port, or by
+    /// an escape that the path was written with.
+    ///
+    /// ```
+    /// /// Whether a remote is among those that are known.
+    /// fn is_known(known: &[Url], remote: &Url) -> bool {
+    ///     known.iter().any(|url| url == remote)
+    /// }
+    /// ```
+    fn eq(&self, other: &Url) -> bool {
+        self.scheme == other.scheme
+            && texts_equal(text_bytes(&self.user), text_bytes(&other.user))
+            && texts_equal(text_bytes(&self.password), text_bytes(&other.password))
+            && texts_equal(text_bytes(&self.host), text_bytes(&other.host))
+            && self.serialize_alternative_form == other.serialize_alternative_form
+            && self.port == other.port
+            && self.path.as_bytes() == other.path.as_bytes()
+            && texts_equal(spelling(self), spelling(other))
+    }
+}
+
+impl Eq for Url {
+    ghost laws = { location_equiv };
+}
+
+impl PartialOrd for Url {
+    ghost partial_cmp = { λ v w. Some (location_cmp v w) };
+
+    ghost laws = { location_po };
+
+    fn partial_cmp(&self, other: &Url) -> Option<Ordering> {
+        Some(self.cmp(other))
+    }
+}
+
+impl Ord for Url {
+    ghost cmp = { location_cmp };
+
+    ghost total = { location_total };
+
+    ghost matches_partial_cmp = { λ v w. refl };
+
+    ghost matches_eq = { location_ties };
+
+    /// The order of two locations: by the first part that differs, in the order of the fields, the retained spelling
+    /// last. A part that is missing comes first, and `false` before `true`. It takes no memory.
+    ///
+    /// ```
+    /// /// Puts remotes into order.
+    /// fn sort(remotes: &mut Vec<Url>) -> Result<(), AllocError> {
+    ///     remotes.sort()
+    /// }
+    /// ```
+    fn cmp(&self, other: &Url) -> Ordering {
+        self.scheme
+            .cmp(&other.scheme)
+            .then_with(|| compare_texts(text_bytes(&self.user), text_bytes(&other.user)))
+            .then_with(|| compare_texts(text_bytes(&self.password), text_bytes(&other.password)))
+            .then_with(|| compare_texts(text_bytes(&self.host), text_bytes(&other.host)))
+            .then_with(|| self
+                .serialize_alternative_form
+                .cmp(&other.serialize_alternative_form))
+            .then_with(|| self.port.cmp(&other.port))
+            .then_with(|| self.path.as_bytes().cmp(other.path.as_bytes()))
+            .then_with(|| compare_texts(spelling(self), spelling(other)))
+    }
+}
+
+impl Hash for Url {
+    ghost hash_input = { fed_location };
+
+    ghost respects_eq = { locations_alike };
+
+    /// Feeds the hasher all parts, in the order of the fields, the retained spelling last. It takes no memory.
+    fn hash<H: Hasher>(&self, state: &mut H) {
+        self.scheme.hash(state);
+        feed_text(text_bytes(&self.user), state);
+        feed_text(text_bytes(&self.password), state);
+        feed_text(text_bytes(&self.host), state);
+        self.serialize_alternative_form.hash(state);
+        self.port.hash(state);
+        feed_bytes(self.path.as_bytes(), state);
+        feed_text(spelling(self), state);
+    }
+}
+
+/// The bytes of a text that may be missing.
+fn text_bytes(text: &Option<String>) -> Option<&[u8]>
+    ensures { option_map (λ t. t.now) result ≡ option_map string_bytes text.now }
+{
+    match text {
+        None => None,
+        Some(text) => Some(text.as_bytes()),
+    }
+}
+
+/// The bytes of the retained spelling, if there is one.
+fn spelling(url: &Url) -> Option<&[u8]>
+    ensures { option_map (λ s. s.now) result ≡ url.now.spelling }
+{
+    match &url.spelling {
+        None => None,
+        Some(spelling) => Some(spelling.as_bytes()),
+    }
+}
+
+/// Where the scheme stands among the kinds of them, as they are declared.
+fn rank(scheme: &Scheme) -> u8
+    ensures { result ≡ rank (protocol scheme.now) }
+{
+    match scheme {
+        Scheme::File => 0,
+        Scheme::Git => 1,
+        Scheme::Ssh => 2,
+        Scheme::Http => 3,
+        Scheme::Https => 4,
+        Scheme::Ext => 5,
+        Scheme::Helper(_) => 6,
+        Scheme::HelperUrl(_) => 7,
+    }
+}
+
+/// The name that the scheme brings with it, if its kind alone doesn't say which it is.
+fn held_name(scheme: &Scheme) -> Option<&[u8]>
+    ensures { option_map (λ name. name.now) result ≡ held_name (protocol scheme.now) }
+{
+    match scheme {
+        Scheme::Helper(name) | Scheme::HelperUrl(name) => Some(name.as_bytes()),
+        Scheme::File | Scheme::Git | Scheme::Ssh => None,
+        Scheme::Http | Scheme::Https | Scheme::Ext => None,
+    }
+}
+
+/// Whether both texts are missing, or both are there with the same bytes.
+pub(crate) fn texts_equal(a: Option<&[u8]>, b: Option<&[u8]>) -> bool
+    ensures { result ≡ text_eq (option_map (λ t. t.now) a.entry) (option_map (λ t. t.now) b.entry) }
+{
+    match a {
+        None => b.is_none(),
+        Some(a) => match b {
+            None => false,
+            Some(b) => a == b,
+        },
+    }
+}
+
+/// The order of two texts: one that is missing comes first.
+pub(crate) fn compare_texts(a: Option<&[u8]>, b: Option<&[u8]>) -> Ordering
+    ensures { result ≡ text_cmp (option_map (λ t. t.now) a.entry) (option_map (λ t. t.now) b.entry) }
+{
+    match a {
+        None => match b {
+            None => Ordering::Equal,
+            Some(_) => Ordering::Less,
+        },
+        Some(a) => match b {
+            None => Ordering::Greater,
+            Some(b) => a.cmp(b),
+        },
+    }
+}
+
+/// Feeds a text that may be missing.
+pub(crate) fn feed_text<H: Hasher>(text: Option<&[u8]>, state: &mut H)
+    ensures { state.new ≡ fold H.write state.old (fed_text (option_map (λ t. t.now) text.entry)) }
+{
+    match text {
+        None => state.write_u8(0),
+        Some(text) => {
+            state.write_u8(1);
+            feed_bytes(text, state);
+        }
+    }
+}
+
+/// Feeds the length of the bytes, and then the bytes at once.
+fn feed_bytes<H: Hasher>(bytes: &[u8], state: &mut H)
+    ensures { state.new ≡ fold H.write state.old (fed_bytes bytes.now) }
+{
+    state.write_usize(bytes.len());
+    state.write(bytes);
+}

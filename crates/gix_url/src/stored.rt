@@ -1,0 +1,232 @@
+//! Stored locations: a record of every part of a location for `serde`, in the format of the Rust crate `gix-url`.
+//!
+//! It uses `location`, `scheme`, `escape` and `copy`. Its contract: a record has every part of the location that it was
+//! made of, and a location is made of a record as the definitions say, which migrate the older form of records. Whoever
+//! stores what was read gets it back.
+
+ghost use Rattle.std.specs.Prelude.{◌≡◌, ◌↔◌, [], IfErr, IfOk, IsOk, IsTrue, MatchOption, length};
+ghost use Rattle.gix_url.specs.Records.{IsLegacy, SpellsFront, begins_escape, from_legacy, migrated, respelled};
+ghost use Rattle.gix_url.specs.Stored.{recorded};
+
+use crate::error::Error;
+use crate::escape::{PATH, begins_with_digits, decoded};
+use crate::impls::hidden_password;
+use crate::location::Url;
+use crate::scheme::Scheme;
+use crate::writer::walks::append_within;
+use bstr::BString;
+use percent_encoding::percent_encode_byte;
+use serde::{Deserialize, Serialize};
+use std::alloc::{AllocError, Global};
+use std::fmt;
+
+/// Every part of a location, to be stored and restored with `serde`.
+///
+/// The format is that of the Rust crate `gix-url` with its feature `serde`: the parts by the names below, in this
+/// order, and bytes as lists of numbers. As JSON:
+///
+/// ```json
+/// {"scheme":"Https","user":null,"password":null,"host":"h","serialize_alternative_form":false,"port":null,
+///  "path":[47,97,47,98],"path_with_percent_escapes":[47,97,37,50,70,98]}
+/// ```
+///
+/// A scheme is `"File"`, `"Git"`, `"Ssh"`, `"Http"`, `"Https"`, `"Ext"`, `{"Helper":"name"}` or
+/// `{"HelperUrl":"name"}`. A part that a location may lack is `null` then, and a record may leave it out. A part of
+/// another name is passed over. A record that lacks the scheme, the form or the path, that has a part twice, or one of
+/// another type, is refused by the reader of the format, which names the part or its place: no part of such a record is
+/// seen.
+///
+/// The password is stored as it is, in the clear. `Debug` shows `redacted` in its place. All fields are public, and are
+/// not checked: a record may be made by hand.
+#[derive(Drop, Serialize, Deserialize)]
+pub struct StoredUrl {
+    /// What the location is reached by.
+    pub scheme: Scheme,
+    /// The user, decoded.
+    pub user: Option<String>,
+    /// The password, decoded.
+    pub password: Option<String>,
+    /// The host.
+    pub host: Option<String>,
+    /// Whether the location is written in the form that is no URL, where it has one.
+    pub serialize_alternative_form: bool,
+    /// The port.
+    pub port: Option<u16>,
+    /// The path, decoded. It may be any bytes. In the older form of records it is the spelling.
+    pub path: Vec<u8>,
+    /// The escaped spelling of the path, where the text had one. Records that were stored before there were spellings
+    /// lack it.
+    #[serde(default)]
+    pub path_with_percent_escapes: Option<Vec<u8>>,
+}
+
+impl fmt::Debug for StoredUrl {
+    /// Shows all parts, with `redacted` in place of a password.
+    fn fmt<W: fmt::Write>(&self, f: &mut fmt::Formatter<W>) -> fmt::Result {
+        f.debug_struct("StoredUrl")
+            .field("scheme", &self.scheme)
+            .field("user", &self.user)
+            .field("password", &hidden_password(&self.password))
+            .field("host", &self.host)
+            .field(
+                "serialize_alternative_form",
+                &self.serialize_alternative_form,
+            )
+            .field("port", &self.port)
+            .field("path", &self.path)
+            .field("path_with_percent_escapes", &self.path_with_percent_escapes)
+            .finish()
+    }
+}
+
+impl Url {
+    /// A record of the location, with all of its parts, the retained spelling of its path among them.
+    ///
+    /// Each part is copied once: memory is asked for once for each text and each list of bytes that isn't empty, and for
+    /// nothing else. The password is copied as well, so keep the record as secret as the location.
+    ///
+    /// ```
+    /// fn json_of(alloc: Global, url: &Url) -> Option<String> {
+    ///     let stored = url.to_stored(alloc).ok()?;
+    ///     serde_json::to_string(alloc, &stored).ok()
+    /// }
+    /// ```
+    ///
+    /// # Errors
+    ///
+    /// [`Error::Memory`] where memory is refused.
+    pub fn to_stored(&self, alloc: Global) -> Result<StoredUrl, Error>
+        ensures stored { IfOk result (λ stored. recorded stored ≡ self.now) }
+        ensures memory { IfErr result (λ e. e ≡ Error.Memory) }
+    {
+        let copy = self.clone(alloc)?;
+        Ok(StoredUrl {
+            scheme: copy.scheme,
+            user: copy.user,
+            password: copy.password,
+            host: copy.host,
+            serialize_alternative_form: copy.serialize_alternative_form,
+            port: copy.port,
+            path: copy.path.into_vec(),
+            path_with_percent_escapes: copy.spelling.map(BString::into_vec),
+        })
+    }
+
+    /// The location of a record. What is given is moved into it, as it is: nothing is checked, so a record that was
+    /// edited may give a location without a text.
+    ///
+    /// A record whose spelling is its path, byte for byte, is one of the older form, in which the path was kept as it was
+    /// spelled. Its path is decoded. Its new spelling is the old path with its escapes as they are (`%` and two hexadecimal
+    /// digits, RFC 3986 section 2.1) and every other byte as it is written in a path, so that both stand for the same
+    /// bytes: `laws::law_stored`. No location that was read from a text is taken for such a record: what
+    /// [`Url::to_stored`] stored of it comes back as it was.
+    ///
+    /// Memory is asked for twice for a record of the older form, once for each of the two, and never for another.
+    ///
+    /// ```
+    /// fn url_of(alloc: Global, json: &str) -> Option<Url> {
+    ///     let stored = serde_json::from_str(alloc, json).ok()?;
+    ///     Url::from_stored(alloc, stored).ok()
+    /// }
+    /// ```
+    ///
+    /// # Errors
+    ///
+    /// [`Error::Memory`] where memory is refused for a record of the older form.
+    pub fn from_stored(alloc: Global, stored: StoredUrl) -> Result<Url, Error>
+        ensures restored { IfOk result (λ url. url ≡ migrated (recorded stored)) }
+        ensures current { ¬ IsLegacy (recorded stored) → IsOk result }
+        ensures memory { IfErr result (λ e. e ≡ Error.Memory) }
+    {
+        let url = Url {
+            scheme: stored.scheme,
+            user: stored.user,
+            password: stored.password,
+            host: stored.host,
+            serialize_alternative_form: stored.serialize_alternative_form,
+            port: stored.port,
+            path: BString::new(stored.path),
+            spelling: stored.path_with_percent_escapes.map(BString::new),
+        };
+        if url.is_legacy() {
+            url.migrated(alloc)
+        } else {
+            Ok(url)
+        }
+    }
+
+    /// Whether the spelling is the path.
+    fn is_legacy(&self) -> bool
+        ensures { IsTrue result ↔ IsLegacy self.now }
+    {
+        match &self.spelling {
+            None => false,
+            Some(spelling) => spelling.as_bytes() == self.path.as_bytes(),
+        }
+    }
+
+    /// The location with its path taken for a spelled one: decoded, and spelled anew.
+    fn migrated(self, alloc: Global) -> Result<Url, Error>
+        ensures migrated { IfOk result (λ url. url ≡ from_legacy self) }
+        ensures memory { IfErr result (λ e. e ≡ Error.Memory) }
+    {
+        let spelling = respelled(alloc, self.path.as_bytes())?;
+        let path = decoded(alloc, self.path.as_bytes())?;
+        Ok(Url {
+            path: BString::new(path),
+            spelling: Some(BString::new(spelling)),
+            ..self
+        })
+    }
+}
+
+/// The new spelling of a path: its escapes as they are, and every other byte as it is written in a path. Memory is
+/// asked for once, and a length that no memory has counts as refused.
+fn respelled(alloc: Global, path: &[u8]) -> Result<Vec<u8>, AllocError>
+    ensures { IfOk result (λ spelling. spelling.items ≡ respelled path.now) }
+{
+    let Ok(len) = usize::try_from(respelled_len(path)) else {
+        return Err(AllocError);
+    };
+    let mut spelling = Vec::with_capacity(alloc, len)?;
+    let mut rest = path;
+    while let Some((front, behind)) = spelled_front(rest) {
+        append_within(&mut spelling, front);
+        rest = behind;
+    }
+    Ok(spelling)
+}
+
+/// The length of the new spelling of a path.
+fn respelled_len(path: &[u8]) -> u128
+    ensures { result ≡ length (respelled path.now) }
+{
+    let mut total = 0;
+    let mut rest = path;
+    while let Some((front, behind)) = spelled_front(rest) {
+        total += front.len() as u128;
+        rest = behind;
+    }
+    total
+}
+
+/// What the new spelling of a path has for its first byte, and the path behind that byte.
+fn spelled_front(path: &[u8]) -> Option<(&[u8], &[u8])>
+    ensures { MatchOption result (path.now ≡ []) (λ p. SpellsFront path.now p.0.now p.1.now) }
+{
+    let (first, behind) = path.split_first()?;
+    if begins_escape(*first, behind) {
+        return Some(path.split_at(1));
+    }
+    if PATH.should_percent_encode(*first) {
+        return Some((percent_encode_byte(*first).as_bytes(), behind));
+    }
+    Some(path.split_at(1))
+}
+
+/// Whether the byte is a `%` with two hexadecimal digits behind it.
+fn begins_escape(byte: u8, behind: &[u8]) -> bool
+    ensures { result ≡ begins_escape byte behind.now }
+{
+    byte == b'%' && begins_with_digits(behind)
+}

@@ -1,0 +1,55 @@
+//! The words of forms and faults, as the errors say them to people.
+//!
+//! It uses `error` alone and takes no memory. Its contract: the words are those of the definitions, so they depend on
+//! nothing but the form or the fault.
+
+ghost use Rattle.std.specs.Prelude.{Some};
+ghost use Rattle.gix_url.specs.Words.{kind_words, url_fault_words, write_fault_words};
+
+use crate::error::{UrlFault, UrlKind, WriteFault};
+use std::fmt;
+
+impl fmt::Display for UrlKind {
+    ghost output = { λ kind. Some (kind_words kind) };
+
+    /// `URL`, `scp form` or `local path`.
+    fn fmt<W: fmt::Write>(&self, f: &mut fmt::Formatter<W>) -> fmt::Result {
+        match self {
+            UrlKind::Url => f.write_str("URL"),
+            UrlKind::Scp => f.write_str("scp form"),
+            UrlKind::Local => f.write_str("local path"),
+        }
+    }
+}
+
+impl fmt::Display for UrlFault {
+    ghost output = { λ fault. Some (url_fault_words fault) };
+
+    /// What the URL has, or lacks: the words continue `the URL has`.
+    fn fmt<W: fmt::Write>(&self, f: &mut fmt::Formatter<W>) -> fmt::Result {
+        match self {
+            UrlFault::NoScheme => f.write_str("no valid scheme"),
+            UrlFault::BadPort => f.write_str("an invalid port"),
+            UrlFault::BadCharacter => f.write_str("a character or an escape that is not allowed"),
+            UrlFault::HostRequired => f.write_str("no host where one is required"),
+        }
+    }
+}
+
+impl fmt::Display for WriteFault {
+    ghost output = { λ fault. Some (write_fault_words fault) };
+
+    /// Which parts of the location don't go together.
+    fn fmt<W: fmt::Write>(&self, f: &mut fmt::Formatter<W>) -> fmt::Result {
+        match self {
+            WriteFault::HelperName => f.write_str("the remote helper has no valid name"),
+            WriteFault::HelperParts => {
+                f.write_str("a remote helper comes with a user, a password, a host or a port")
+            }
+            WriteFault::RelativeSsh => f.write_str(
+                "a relative path of Secure Shell comes without a host, or with a password or a port",
+            ),
+            WriteFault::UserWithoutHost => f.write_str("a user comes without a host"),
+        }
+    }
+}
