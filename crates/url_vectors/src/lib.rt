@@ -6,9 +6,11 @@
 #![tactic(auto)]
 
 #[cfg(test)]
-mod example;
+mod leaves;
 #[cfg(test)]
 mod long;
+#[cfg(test)]
+mod making;
 #[cfg(test)]
 mod names;
 #[cfg(test)]
@@ -16,10 +18,12 @@ mod reading;
 #[cfg(test)]
 mod refusing;
 #[cfg(test)]
+mod rereading;
+#[cfg(test)]
+mod rows;
+#[cfg(test)]
 mod runs;
 #[cfg(test)]
 mod streams;
-#[cfg(test)]
-mod told;
 #[cfg(test)]
 mod values;

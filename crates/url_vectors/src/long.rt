@@ -1,10 +1,11 @@
 //! Texts near the limits of length.
 
-use crate::told::refuses;
+use crate::rows::refuses;
 use gix_url::Url;
 use std::alloc::Global;
 use std::process::Abort;
 use std::test::Fail;
+use told::unchecked;
 
 /// The texts one behind another, each as often as it says.
 fn joined(alloc: Global, pieces: &[(&str, usize)]) -> Result<String, Fail> {
@@ -60,6 +61,25 @@ fn just_short_enough(rt: HostRuntime) -> Result<(), Fail> {
         2410,
         false,
     )?;
+    Ok(())
+}
+
+/// Whether a location of HTTP with this host is settled, which depends on the length of its text.
+fn is_settled_with(alloc: Global, host: &str, path: &str) -> Result<bool, Fail> {
+    let (host, path) = (Some(host), path.as_bytes());
+    let url = unchecked(alloc, "Http", None, None, host, None, path, false)?;
+    Ok(url.is_settled())
+}
+
+#[test]
+fn the_written_text_is_measured(rt: HostRuntime) -> Result<(), Fail> {
+    let alloc = rt.alloc();
+    let longest = joined(alloc, &[("a", 1024)])?;
+    let longer = joined(alloc, &[("a", 1025)])?;
+    for path in ["/", "/b", "?b"] {
+        assert!(rt; is_settled_with(alloc, longest.as_str(), path)?);
+        assert!(rt; !is_settled_with(alloc, longer.as_str(), path)?);
+    }
     Ok(())
 }
 

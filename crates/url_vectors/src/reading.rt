@@ -4,7 +4,7 @@
 //! `scripts/oracle.py`, a second reading in another language, and stand beside the rows of the crate that this
 //! library is a port of.
 
-use crate::told::reads;
+use crate::rows::reads;
 use std::alloc::Global;
 use std::process::Abort;
 use std::test::Fail;

@@ -3,7 +3,7 @@
 //! A row is a text and the error that it is refused with: its name, then the fault and the form where it has
 //! them. The expected column was computed by `scripts/oracle.py`, a second reading in another language.
 
-use crate::told::refuses;
+use crate::rows::refuses;
 use std::alloc::Global;
 use std::process::Abort;
 use std::test::Fail;

@@ -1,6 +1,5 @@
 //! Values that no text is read as: the edges of the settled class, faults of writing, and every byte in every part.
 
-use crate::told::{told_front, told_text, unchecked};
 use bstr::BString;
 use gix_url::Url;
 use gix_url::parse::parse;
@@ -8,9 +7,10 @@ use std::alloc::Global;
 use std::fmt::Write;
 use std::process::Abort;
 use std::test::Fail;
+use told::{told_front, told_text, unchecked};
 
 /// Scheme, user, password, host, port, path and flag of a location.
-type Parts = (
+pub type Parts = (
     &'static str,
     Option<&'static str>,
     Option<&'static str>,
@@ -21,7 +21,7 @@ type Parts = (
 );
 
 /// Locations of these parts, and how they are written. Nearly all are just outside the settled class.
-static EDGES: [(Parts, &str); 38] = [
+pub static EDGES: [(Parts, &str); 38] = [
     (
         ("Https", Some("u"), Some(""), Some("h"), None, "/p", false),
         "unsettled https://u:@h/p",
@@ -184,7 +184,7 @@ fn edges_of_the_settled_class(rt: HostRuntime) -> Result<(), Fail> {
             path.as_bytes(),
             flag,
         )?;
-        assert_eq!(rt; told_text(&rt, alloc, &url)?.as_str(), written);
+        assert_eq!(rt; told_text(alloc, &url)?.as_str(), written);
     }
     Ok(())
 }
@@ -292,13 +292,13 @@ fn a_spelling_counts_while_it_stands_for_the_path(rt: HostRuntime) -> Result<(),
     url.path = BString::from_slice(alloc, b"/other repo")?;
     assert_eq!(rt; url.original_path().as_bytes(), b"/other repo".as_slice());
     assert_eq!(rt;
-        told_text(&rt, alloc, &url)?.as_str(),
+        told_text(alloc, &url)?.as_str(),
         "settled https://host/other%20repo"
     );
     url.path = BString::from_slice(alloc, b"/my repo")?;
     assert_eq!(rt; url.original_path().as_bytes(), b"/my%20repo".as_slice());
     assert_eq!(rt;
-        told_text(&rt, alloc, &url)?.as_str(),
+        told_text(alloc, &url)?.as_str(),
         "settled https://host/my%20repo"
     );
     Ok(())

@@ -1,56 +1,16 @@
-//! How locations and refusals are told in tables, and the checks of a row.
+//! Locations and errors, told in one line, and locations made of what is told: for tables of tests.
+#![tactic(auto)]
 
-use bstr::{BStr, BString};
-use gix_url::parse::{UrlKind, parse};
+use bstr::BString;
+use gix_url::parse::UrlKind;
 use gix_url::testing::TestUrlExtension;
 use gix_url::{Error, Scheme, Url, UrlFault, WriteFault};
 use std::alloc::Global;
 use std::fmt::Write;
-use std::process::Abort;
 use std::test::Fail;
 
-/// Checks what a text is read as, part by part, and how that is written.
-pub fn reads(
-    rt: &impl Abort,
-    alloc: Global,
-    text: &str,
-    parts: &str,
-    written: &str,
-) -> Result<(), Fail> {
-    let outcome = Url::from_text(alloc, text);
-    assert!(rt; outcome.is_ok(), "{text} is refused");
-    let url = outcome?;
-    assert_eq!(rt; told_parts(alloc, &url)?.as_str(), parts, "parts of {text}");
-    assert_eq!(rt;
-        told_text(rt, alloc, &url)?.as_str(),
-        written,
-        "text of {text}"
-    );
-    Ok(())
-}
-
-/// Checks that bytes are refused with this error, which keeps them.
-pub fn refuses(rt: &impl Abort, alloc: Global, bytes: &[u8], told: &str) -> Result<(), Fail> {
-    let shown = BStr::new(bytes);
-    match parse(alloc, shown) {
-        Ok(_) => assert!(rt; false, "{shown} is read"),
-        Err(error) => {
-            assert_eq!(rt;
-                told_error(alloc, &error)?.as_str(),
-                told,
-                "the error for {shown}"
-            );
-            assert!(rt;
-                keeps(&error, bytes),
-                "the error for {shown} keeps other bytes"
-            );
-        }
-    }
-    Ok(())
-}
-
 /// The parts of a location that are there: its scheme, user, password, host, port, flag, spelling and path.
-fn told_parts(alloc: Global, url: &Url) -> Result<String, Fail> {
+pub fn told_parts(alloc: Global, url: &Url) -> Result<String, Fail> {
     let mut out = told_front(alloc, url)?;
     let spelled = url.original_path();
     if spelled.as_bytes() != url.path.as_bytes() {
@@ -101,37 +61,48 @@ fn variant(scheme: &Scheme) -> &'static str {
     }
 }
 
-/// Whether a location is settled, and its text; or why it has none. The calls that write have to agree.
-pub fn told_text(rt: &impl Abort, alloc: Global, url: &Url) -> Result<String, Fail> {
+/// Whether a location is settled, and its text; or why it has none. Where the calls that write disagree, that is told.
+pub fn told_text(alloc: Global, url: &Url) -> Result<String, Fail> {
     let mut out = String::new(alloc);
     let mut bytes = Vec::new(alloc);
     let outcome = url.write_to(&mut bytes);
-    match url.to_bstring(alloc) {
+    let agree = match url.to_bstring(alloc) {
         Ok(text) => {
-            out.push_str(if url.is_settled() {
+            let class = if url.is_settled() {
                 "settled"
             } else {
                 "unsettled"
-            })?;
-            write!(out, " {text}")?;
-            assert!(rt; outcome.is_ok(), "{text} is not written");
-            assert_eq!(rt; bytes.as_slice(), text.as_bytes(), "what is written");
-            assert_eq!(rt;
-                url.text_len(),
-                Ok(text.len() as u128),
-                "the length of {text}"
-            );
+            };
+            write!(out, "{class} {text}")?;
+            let length = url.text_len() == Ok(text.len() as u128);
+            length && outcome.is_ok() && bytes.as_slice() == text.as_bytes()
         }
         Err(Error::Unwritable(fault)) => {
             write!(out, "unwritable {}", fault_name(fault))?;
-            assert!(rt; outcome.is_err(), "what has no text is written");
-            assert!(rt; bytes.is_empty(), "a fault comes before any byte");
-            assert_eq!(rt; url.text_len(), Err(fault), "what has no text has a length");
-            assert!(rt; !url.is_settled(), "what has no text is settled");
+            let length = url.text_len() == Err(fault);
+            length && outcome.is_err() && bytes.is_empty() && !url.is_settled()
         }
-        Err(_other) => out.push_str("another error")?,
+        Err(_other) => {
+            out.push_str("another error")?;
+            true
+        }
+    };
+    if !agree {
+        out.push_str(", and the calls that write disagree")?;
     }
     Ok(out)
+}
+
+/// An answer: the parts of a location, whether it is settled, and its text; or an error.
+pub fn told_answer(alloc: Global, answer: Result<Url, Error>) -> Result<String, Fail> {
+    match answer {
+        Err(error) => told_error(alloc, &error),
+        Ok(url) => {
+            let mut out = told_parts(alloc, &url)?;
+            write!(out, ", {}", told_text(alloc, &url)?)?;
+            Ok(out)
+        }
+    }
 }
 
 /// The name of a fault of writing.
@@ -144,8 +115,8 @@ fn fault_name(fault: WriteFault) -> &'static str {
     }
 }
 
-/// An error's name, then its fault and the form where it has them.
-fn told_error(alloc: Global, error: &Error) -> Result<String, Fail> {
+/// An error's name, then its fault and the form, or the name that it tells, where it has them.
+pub fn told_error(alloc: Global, error: &Error) -> Result<String, Fail> {
     let mut out = String::new(alloc);
     match error {
         Error::EmptyLocal => out.push_str("EmptyLocal")?,
@@ -160,6 +131,8 @@ fn told_error(alloc: Global, error: &Error) -> Result<String, Fail> {
                 kind_name(*kind)
             )?
         }
+        Error::HelperName { name } => write!(out, "HelperName {name}")?,
+        Error::Unwritable(fault) => write!(out, "Unwritable {}", fault_name(*fault))?,
         _ => out.push_str("another error")?,
     }
     Ok(out)
@@ -185,7 +158,7 @@ fn url_fault_name(fault: UrlFault) -> &'static str {
 }
 
 /// Whether the error keeps the bytes that were refused, or their front where it shows no more.
-fn keeps(error: &Error, bytes: &[u8]) -> bool {
+pub fn keeps(error: &Error, bytes: &[u8]) -> bool {
     match error {
         Error::MissingPath { input, .. }
         | Error::NotUtf8 { input, .. }
@@ -208,6 +181,30 @@ pub fn unchecked(
     flag: bool,
 ) -> Result<Url, Fail> {
     Ok(<Url as TestUrlExtension>::from_parts_unchecked(
+        named(alloc, scheme)?,
+        copied(alloc, user)?,
+        copied(alloc, password)?,
+        copied(alloc, host)?,
+        port,
+        BString::from_slice(alloc, path)?,
+        flag,
+    ))
+}
+
+/// What is made of these parts, told as in [`unchecked`].
+#[allow(clippy::too_many_arguments)]
+pub fn made(
+    alloc: Global,
+    scheme: &str,
+    user: Option<&str>,
+    password: Option<&str>,
+    host: Option<&str>,
+    port: Option<u16>,
+    path: &[u8],
+    flag: bool,
+) -> Result<Result<Url, Error>, Fail> {
+    Ok(Url::from_parts(
+        alloc,
         named(alloc, scheme)?,
         copied(alloc, user)?,
         copied(alloc, password)?,

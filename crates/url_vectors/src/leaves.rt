@@ -1,0 +1,242 @@
+//! Hosts, ports and escapes, each in the place of a text where it is read or written.
+
+use gix_url::{Error, Url, UrlFault};
+use std::alloc::Global;
+use std::process::Abort;
+use std::test::Fail;
+use told::unchecked;
+
+/// A text to be read or refused: what stands before and behind a host and a port.
+struct Place(&'static str, &'static str);
+
+/// HTTP, whose hosts are read strictly.
+const WEB: Place = Place("http://", "/p");
+/// Git's own protocol.
+const GIT: Place = Place("git://", "/p");
+/// Any other scheme.
+const OTHER: Place = Place("x://", "/p");
+
+impl Place {
+    /// The text with this host and port.
+    fn text(&self, alloc: Global, piece: &str) -> Result<String, Fail> {
+        let mut text = String::new(alloc);
+        text.push_str(self.0)?;
+        text.push_str(piece)?;
+        text.push_str(self.1)?;
+        Ok(text)
+    }
+
+    /// Checks that each piece names its host and its port.
+    fn names(
+        &self,
+        rt: &impl Abort,
+        alloc: Global,
+        rows: &[(&str, &str, Option<u16>)],
+    ) -> Result<(), Fail> {
+        for &(piece, host, port) in rows {
+            let url = Url::from_text(alloc, self.text(alloc, piece)?.as_str())?;
+            assert_eq!(rt; url.host.as_deref(), Some(host), "the host of {piece}");
+            assert_eq!(rt; url.port, port, "the port of {piece}");
+        }
+        Ok(())
+    }
+
+    /// Checks that each piece is refused with this fault.
+    fn refuses(
+        &self,
+        rt: &impl Abort,
+        alloc: Global,
+        fault: UrlFault,
+        pieces: &[&str],
+    ) -> Result<(), Fail> {
+        for piece in pieces {
+            match Url::from_text(alloc, self.text(alloc, piece)?.as_str()) {
+                Err(Error::BadUrl { fault: found, .. }) => {
+                    assert_eq!(rt; found, fault, "the fault of {piece}");
+                }
+                _ => assert!(rt; false, "{piece} is not refused so"),
+            }
+        }
+        Ok(())
+    }
+}
+
+#[test]
+fn hosts_of_the_web(rt: HostRuntime) -> Result<(), Fail> {
+    WEB.names(
+        &rt,
+        rt.alloc(),
+        &[
+            ("example.com", "example.com", None),
+            ("example.com:8080", "example.com", Some(8080)),
+            ("H:", "h:", None),
+            ("h:00080", "h", Some(80)),
+            ("h:65535", "h", Some(65535)),
+            ("H%41:", "H%41:", None),
+            ("A!b", "A!b", None),
+            ("[::1]", "[::1]", None),
+            ("[::1]:8080", "[::1]", Some(8080)),
+            ("[FE80::1%25Eth0]:", "[fe80::1%25Eth0]:", None),
+            ("[FE80::1%25a%25b]", "[fe80::1%25a%25b]", None),
+        ],
+    )
+}
+
+#[test]
+fn hosts_that_the_web_refuses(rt: HostRuntime) -> Result<(), Fail> {
+    WEB.refuses(
+        &rt,
+        rt.alloc(),
+        UrlFault::BadPort,
+        &[
+            "example.com:65536",
+            "example.com:abc",
+            "h:0",
+            "h:65616",
+            "bücher:x",
+            "[::1]:x",
+            "[::1]:00",
+        ],
+    )?;
+    WEB.refuses(
+        &rt,
+        rt.alloc(),
+        UrlFault::BadCharacter,
+        &[
+            "foo:bar:baz",
+            "[not-ip]",
+            "[fe80::1%25]",
+            "[fe80::1%25eth!0]",
+            "[fe80::1%eth0]",
+            "bücher.example",
+            "bücher:0",
+            "::1",
+            ":80",
+            "[::1",
+            "[::1]x",
+            "[x]:y",
+        ],
+    )?;
+    WEB.refuses(&rt, rt.alloc(), UrlFault::HostRequired, &[""])
+}
+
+#[test]
+fn hosts_of_git(rt: HostRuntime) -> Result<(), Fail> {
+    GIT.names(
+        &rt,
+        rt.alloc(),
+        &[
+            ("::1", "::1", None),
+            ("FE80::1", "fe80::1", None),
+            ("FE80::1:", "fe80::1:", None),
+            ("h:0", "h", Some(0)),
+            ("H:", "h:", None),
+            ("a%3A", "a:", None),
+            (":80", ":80", None),
+            (":", ":", None),
+            ("%5Bx", "[x", None),
+            ("[::1]:22", "[::1]", Some(22)),
+            ("[]", "[]", None),
+            ("[fe80::A%25%C3%B6]", "[fe80::a%ö]", None),
+            ("[host%41]", "[hostA]", None),
+        ],
+    )
+}
+
+#[test]
+fn hosts_of_other_schemes(rt: HostRuntime) -> Result<(), Fail> {
+    OTHER.names(
+        &rt,
+        rt.alloc(),
+        &[
+            ("a:b:c", "a:b:c", None),
+            ("FE80::1", "FE80::1", None),
+            ("B%C3%BCcher", "Bücher", None),
+            ("%48", "h", None),
+            ("%48:1", "h", Some(1)),
+        ],
+    )?;
+    let empty = Url::from_text(rt.alloc(), "x:///p")?;
+    assert!(rt; empty.host.is_none());
+    OTHER.refuses(
+        &rt,
+        rt.alloc(),
+        UrlFault::BadCharacter,
+        &["[%FF]", "%FF", ":%FF", "%FF:99999"],
+    )?;
+    OTHER.refuses(&rt, rt.alloc(), UrlFault::BadPort, &["%FF:x"])
+}
+
+#[test]
+fn escapes_that_are_written(rt: HostRuntime) -> Result<(), Fail> {
+    let alloc = rt.alloc();
+    for (user, password, path, written) in [
+        ("a@b:c", "a@b:c", "/", "https://a%40b%3Ac:a%40b:c@h/"),
+        ("ö", "ö", "/ö", "https://%C3%B6:%C3%B6@h/%C3%B6"),
+        ("u", "p", "/a b%?#", "https://u:p@h/a%20b%25?#"),
+    ] {
+        let url = unchecked(
+            alloc,
+            "Https",
+            Some(user),
+            Some(password),
+            Some("h"),
+            None,
+            path.as_bytes(),
+            false,
+        )?;
+        assert_eq!(rt; url.to_bstring(alloc)?.as_bytes(), written.as_bytes());
+    }
+    Ok(())
+}
+
+#[test]
+fn escapes_that_are_read(rt: HostRuntime) -> Result<(), Fail> {
+    let alloc = rt.alloc();
+    for (text, path) in [
+        ("http://h/%2f%2F", "///"),
+        ("http://h/%2541", "/%41"),
+        ("http://h/my%20repo", "/my repo"),
+        ("http://h/%C3%B6ö", "/öö"),
+        ("http://h/%F0%9F%92%96", "/💖"),
+        ("http://h/a%00b", "/a\0b"),
+    ] {
+        let url = Url::from_text(alloc, text)?;
+        assert_eq!(rt; url.path.as_bytes(), path.as_bytes(), "the path of {text}");
+    }
+    Ok(())
+}
+
+#[test]
+fn escapes_that_are_refused(rt: HostRuntime) -> Result<(), Fail> {
+    Place("http://h/", "").refuses(
+        &rt,
+        rt.alloc(),
+        UrlFault::BadCharacter,
+        &[
+            // `%` without two digits
+            "%",
+            "%4",
+            "a%2",
+            "%4g",
+            "%g4",
+            "%%41",
+            "%41%",
+            // what decodes to no UTF-8
+            "%FF",
+            "%C3",
+            "%C3b",
+            "%C3ö",
+            "%E2%82",
+            "abcd%F0%9F%92",
+            "%ED%A0%80",
+            "%C0%80",
+            // white space
+            "a b",
+            "\n",
+            "\u{a0}",
+            "a\u{2028}",
+            "\u{3000}b",
+        ],
+    )
+}

@@ -1,0 +1,7 @@
+//! What users of `gix_url` prove by its contracts alone, and the examples of its documents.
+#![tactic(auto)]
+
+#[cfg(test)]
+mod calling;
+#[cfg(test)]
+mod stored;
