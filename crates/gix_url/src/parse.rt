@@ -27,9 +27,23 @@ use url::read_url;
 
 /// The one location that the bytes spell.
 ///
-/// They are a remote helper's address (`name::address`), a URL, the scp form (`user@host:path`) or a local path.
-/// Where they spell no location, the error names a flaw that stands in them. The empty text is refused without
-/// memory.
+/// They are a remote helper's address (`name::address`, see gitremote-helpers), a URL (RFC 3986), the scp form
+/// (`user@host:path`) or a local path, as in git-clone's section on URLs. Memory is asked for once for each part that
+/// the location owns.
+///
+/// # Errors
+///
+/// Where the bytes spell no location, the error names a flaw that stands in them, and holds them, or their front:
+/// [`Error::TooLong`], [`Error::BadUrl`], [`Error::NotUtf8`], [`Error::MissingPath`] or, for the empty text and without
+/// memory, [`Error::EmptyLocal`]. [`Error::Memory`] where memory is refused.
+///
+/// ```
+/// /// Whether the bytes name a place that is reached by Secure Shell.
+/// fn is_secure_shell(alloc: Global, bytes: &[u8]) -> Result<bool, Error> {
+///     let url = parse(alloc, BStr::new(bytes))?;
+///     Ok(matches!(url.scheme, Scheme::Ssh))
+/// }
+/// ```
 pub fn parse(alloc: Global, input: BStr<'_>) -> Result<Url, Error>
     ensures { Reads (bstr_bytes input.entry) result }
 {
@@ -37,7 +51,18 @@ pub fn parse(alloc: Global, input: BStr<'_>) -> Result<Url, Error>
 }
 
 impl Url {
-    /// The one location that the bytes spell: [`parse`].
+    /// The one location that the bytes spell: [`parse`], which says what it asks for and when.
+    ///
+    /// # Errors
+    ///
+    /// Those of [`parse`].
+    ///
+    /// ```
+    /// /// The path that bytes name, decoded.
+    /// fn path_of(alloc: Global, bytes: &[u8]) -> Result<BString, Error> {
+    ///     Ok(Url::from_bytes(alloc, BStr::new(bytes))?.path)
+    /// }
+    /// ```
     pub fn from_bytes(alloc: Global, input: BStr<'_>) -> Result<Url, Error>
         ensures { Reads (bstr_bytes input.entry) result }
     {
@@ -45,6 +70,17 @@ impl Url {
     }
 
     /// The one location that the text spells: [`parse`] of its bytes.
+    ///
+    /// # Errors
+    ///
+    /// Those of [`parse`].
+    ///
+    /// ```
+    /// /// The user that a remote names, if it names one.
+    /// fn user_of(alloc: Global, remote: &str) -> Result<Option<String>, Error> {
+    ///     Ok(Url::from_text(alloc, remote)?.user)
+    /// }
+    /// ```
     pub fn from_text(alloc: Global, text: &str) -> Result<Url, Error>
         ensures { Reads text.now result }
     {

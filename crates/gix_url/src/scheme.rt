@@ -35,7 +35,20 @@ pub enum Scheme {
 
 impl Scheme {
     /// The scheme with this text, to the letter: one with a name of its own, or any other by its text. It takes
-    /// no memory for a name of its own.
+    /// no memory for a name of its own, and else asks once.
+    ///
+    /// Nothing is checked: any text is a scheme's here, also one that no URL has. `SSH` is not Secure Shell.
+    ///
+    /// # Errors
+    ///
+    /// [`Error::Memory`] where memory is refused, and no other.
+    ///
+    /// ```
+    /// /// The port that a scheme of this name stands for.
+    /// fn port_of(alloc: Global, name: &str) -> Result<Option<u16>, Error> {
+    ///     Ok(Scheme::from_text(alloc, name)?.default_port())
+    /// }
+    /// ```
     pub fn from_text(alloc: Global, text: &str) -> Result<Scheme, Error>
         ensures found { IfOk result (λ scheme. protocol scheme ≡ protocol_of text.now) }
         ensures memory { IfErr result (λ e. e ≡ Error.Memory) }
@@ -59,7 +72,14 @@ impl Scheme {
         Scheme::from_text(alloc, text)
     }
 
-    /// The text that the scheme is written with. It takes no memory.
+    /// The text that the scheme is written with, as in `https`; of a remote helper its name. It takes no memory.
+    ///
+    /// ```
+    /// /// Whether both locations are reached by the same means.
+    /// fn are_reached_alike(one: &Url, other: &Url) -> bool {
+    ///     one.scheme.as_str() == other.scheme.as_str()
+    /// }
+    /// ```
     pub fn as_str(&self) -> &str
         ensures { result.now ≡ protocol_text (protocol self.now) }
     {
@@ -75,7 +95,15 @@ impl Scheme {
         }
     }
 
-    /// The port that the scheme stands for where a location names none: 80, 443, 22 or 9418.
+    /// The port that the scheme stands for where a location names none: 80, 443, 22 or 9418, as registered for HTTP,
+    /// HTTPS, Secure Shell and Git. Local files and remote helpers have none.
+    ///
+    /// ```
+    /// /// Whether the port of the location needn't be written.
+    /// fn is_port_spare(url: &Url) -> bool {
+    ///     url.port == url.scheme.default_port()
+    /// }
+    /// ```
     pub fn default_port(&self) -> Option<u16>
         ensures { result ≡ default_port_of (protocol self.now) }
     {

@@ -4,4 +4,6 @@
 #[cfg(test)]
 mod calling;
 #[cfg(test)]
+mod components;
+#[cfg(test)]
 mod stored;

@@ -19,6 +19,13 @@ use std::alloc::{AllocError, Global};
 
 impl<'a> QueryText<'a> {
     /// The bytes of the name or the value. It takes no memory.
+    ///
+    /// ```
+    /// /// How long the name is, in bytes, once a `+` in it is a space.
+    /// fn length_of(name: &QueryText<'_>) -> usize {
+    ///     name.as_bstr().len()
+    /// }
+    /// ```
     pub fn as_bstr(&self) -> BStr<'_>
         ensures { bstr_bytes result ≡ text_bytes self.now }
     {
@@ -33,6 +40,13 @@ impl<'a> QueryText<'a> {
     /// # Errors
     ///
     /// [`Error::Memory`] where memory is refused for a copy. What is lent takes none.
+    ///
+    /// ```
+    /// /// A field once more, to be kept while the list of all fields goes.
+    /// fn kept<'a>(alloc: Global, field: &(QueryText<'a>, QueryText<'a>)) -> Result<(QueryText<'a>, QueryText<'a>), Error> {
+    ///     Ok((field.0.clone(alloc)?, field.1.clone(alloc)?))
+    /// }
+    /// ```
     pub fn clone(&self, alloc: Global) -> Result<QueryText<'a>, Error>
         ensures equal { IfOk result (λ copy. text_bytes copy ≡ text_bytes self.now) }
         ensures alike { IfOk result (λ copy. is_borrowed copy ≡ is_borrowed self.now) }
@@ -56,6 +70,15 @@ impl<'a> PathComponents<'a> {
     ///
     /// [`Error::Memory`] where memory is refused for the list of the query, or for a name or a value that is not lent.
     /// Components without a query take none.
+    ///
+    /// ```
+    /// /// The components without their fragment, beside those with it.
+    /// fn without_fragment<'a>(alloc: Global, parts: &PathComponents<'a>) -> Result<PathComponents<'a>, Error> {
+    ///     let mut copy = parts.clone(alloc)?;
+    ///     copy.fragment = None;
+    ///     Ok(copy)
+    /// }
+    /// ```
     pub fn clone(&self, alloc: Global) -> Result<PathComponents<'a>, Error>
         ensures equal { IfOk result (λ copy. components copy ≡ components self.now) }
         ensures memory { IfErr result (λ e. e ≡ Error.Memory) }

@@ -1,0 +1,61 @@
+//! What a user proves of paths, queries and fragments by the contracts alone: a settled location of HTTP keeps them.
+
+ghost use Rattle.std.specs.Prelude.{◌≡◌, IfErr, IfOk, true};
+ghost use Rattle.gix_url.specs.Components.{Components, PartsOf};
+ghost use Rattle.gix_url.specs.Settled.{IsSettled};
+ghost use Rattle.gix_url.specs.SettledParts.{IsWeb};
+ghost use Rattle.gix_url.specs.declared.error.Error.TheVariants as error;
+
+use gix_url::laws::{law_components, law_separation, law_value};
+use gix_url::{Error, Url};
+use std::alloc::Global;
+use std::test::Fail;
+
+/// Whether the paths of two locations are made of the same.
+fn are_made_alike(alloc: Global, one: &Url, other: &Url) -> Result<bool, Error>
+    ensures alike { IfOk result (λ alike. (c : Components) → PartsOf one.now c → PartsOf other.now c → alike ≡ true) }
+    ensures memory { IfErr result (λ e. e ≡ error.Memory) }
+{
+    law_components();
+    let parts = one.path_query_fragment(alloc)?;
+    let others = other.path_query_fragment(alloc)?;
+    Ok(parts == others)
+}
+
+/// Whether the path of a location is made of the same once its text was read again: for a settled location of HTTP it
+/// is, and nothing but memory can be wanting.
+fn keeps_components(alloc: Global, url: &Url) -> Result<bool, Error>
+    ensures kept { IfOk result (λ kept. IsWeb url.now → IsSettled url.now → kept ≡ true) }
+    ensures memory { IsSettled url.now → IfErr result (λ e. e ≡ error.Memory) }
+{
+    law_value(url);
+    law_separation();
+    law_components();
+    let back = url.reread(alloc)?;
+    are_made_alike(alloc, url, &back)
+}
+
+/// Settled locations of HTTP.
+static TEXTS: [&str; 8] = [
+    "http://h/",
+    "https://u:p@h:8443/a%20b?c#d",
+    "http://h/repo%23one?x=a%26b#fragment%23one",
+    "http://h/?a+b=%2B&&c&=d#x+y",
+    "http://h/a<b?c d",
+    "http://h/%3Fa?b",
+    "https://[::1]/?a=1&a=2",
+    "http://h/?#",
+];
+
+#[test]
+fn components_come_back(rt: HostRuntime) -> Result<(), Fail> {
+    let alloc = rt.alloc();
+    for text in TEXTS {
+        let url = Url::from_text(alloc, text)?;
+        assert!(rt;
+            url.is_settled() && keeps_components(alloc, &url)?,
+            "{text}"
+        );
+    }
+    Ok(())
+}
