@@ -1,10 +1,10 @@
 //! Components of locations with a spelling that no text is read as: it holds escapes that are broken. Records bring such
 //! spellings.
 
+use crate::components::is_made_of;
 use gix_url::stored::StoredUrl;
-use gix_url::{Error, PathComponents, QueryText, Scheme, Url, UrlFault};
+use gix_url::{Error, Scheme, Url, UrlFault};
 use std::alloc::Global;
-use std::process::Abort;
 use std::test::Fail;
 
 /// A location with this path and this spelling of it.
@@ -22,21 +22,6 @@ fn spelled(alloc: Global, path: &[u8], spelling: &[u8]) -> Result<Url, Fail> {
     Ok(Url::from_stored(alloc, record)?)
 }
 
-/// Checks that the only pair has this name and this value, and that the name is lent or not.
-fn has_pair(rt: &impl Abort, parts: &PathComponents<'_>, name: &[u8], value: &[u8], lent: bool) {
-    match &parts.query {
-        None => assert!(rt; false, "there is a query"),
-        Some(pairs) => match pairs.as_slice() {
-            [pair] => {
-                assert_eq!(rt; pair.0.as_bstr().as_bytes(), name);
-                assert_eq!(rt; pair.1.as_bstr().as_bytes(), value);
-                assert_eq!(rt; matches!(&pair.0, QueryText::Borrowed(_)), lent);
-            }
-            _ => assert!(rt; false, "there is one pair"),
-        },
-    }
-}
-
 /// Whether a character was refused.
 fn is_refused(read: Result<Url, Error>) -> bool {
     match read {
@@ -46,36 +31,28 @@ fn is_refused(read: Result<Url, Error>) -> bool {
     }
 }
 
+/// Paths, their spellings, and what they are made of, told as in `components`: an escaped mark behind a broken escape
+/// parts nothing, a broken escape ends at a mark, and a space mends no escape.
+static BROKEN: [(&str, &str, &str); 3] = [
+    ("/a%2?b", "/a%2%3Fb", "/a%2?b"),
+    ("/A%?%4=1", "/%41%?%4=1", "/A% ? <%4>=<1>"),
+    ("/?%2+A", "/?%2+%41", "/ ? {%2 A}=<>"),
+];
+
 #[test]
-fn an_escaped_mark_behind_a_broken_escape_parts_nothing(rt: HostRuntime) -> Result<(), Fail> {
+fn broken_escapes_are_bytes(rt: HostRuntime) -> Result<(), Fail> {
+    for &(path, spelling, want) in BROKEN.as_slice() {
+        let url = spelled(rt.alloc(), path.as_bytes(), spelling.as_bytes())?;
+        is_made_of(&rt, rt.alloc(), &url, want)?;
+    }
+    Ok(())
+}
+
+#[test]
+fn a_broken_spelling_is_written_and_refused(rt: HostRuntime) -> Result<(), Fail> {
     let url = spelled(rt.alloc(), b"/a%2?b", b"/a%2%3Fb")?;
-    let parts = url.path_query_fragment(rt.alloc())?;
-    assert_eq!(rt; parts.path.as_bytes(), b"/a%2?b".as_slice());
-    assert!(rt; parts.query.is_none());
-    assert!(rt; parts.fragment.is_none());
-    assert_eq!(rt;
-        url.to_bstring(rt.alloc())?.as_bytes(),
-        b"https://h/a%2%3Fb".as_slice()
-    );
-    assert!(rt; !url.is_settled());
-    assert!(rt; is_refused(url.reread(rt.alloc())));
-    Ok(())
-}
-
-#[test]
-fn broken_escapes_end_at_marks(rt: HostRuntime) -> Result<(), Fail> {
-    let url = spelled(rt.alloc(), b"/A%?%4=1", b"/%41%?%4=1")?;
-    let parts = url.path_query_fragment(rt.alloc())?;
-    assert_eq!(rt; parts.path.as_bytes(), b"/A%".as_slice());
-    has_pair(&rt, &parts, b"%4", b"1", true);
-    Ok(())
-}
-
-#[test]
-fn a_space_mends_no_escape(rt: HostRuntime) -> Result<(), Fail> {
-    let url = spelled(rt.alloc(), b"/?%2+A", b"/?%2+%41")?;
-    let parts = url.path_query_fragment(rt.alloc())?;
-    assert_eq!(rt; parts.path.as_bytes(), b"/".as_slice());
-    has_pair(&rt, &parts, b"%2 A", b"", false);
+    let text = url.to_bstring(rt.alloc())?;
+    assert_eq!(rt; text.as_bytes(), b"https://h/a%2%3Fb".as_slice());
+    assert!(rt; !url.is_settled() && is_refused(url.reread(rt.alloc())));
     Ok(())
 }

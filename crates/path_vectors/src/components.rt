@@ -76,7 +76,12 @@ fn told(alloc: Global, parts: &PathComponents<'_>) -> Result<Vec<u8>, Fail> {
 }
 
 /// Checks what the path of the location is made of.
-fn is_made_of(rt: &impl Abort, alloc: Global, url: &Url, want: &str) -> Result<(), Fail> {
+pub(crate) fn is_made_of(
+    rt: &impl Abort,
+    alloc: Global,
+    url: &Url,
+    want: &str,
+) -> Result<(), Fail> {
     let parts = url.path_query_fragment(alloc)?;
     let told = told(alloc, &parts)?;
     assert_eq!(rt; told.as_slice(), want.as_bytes(), "{want}");
