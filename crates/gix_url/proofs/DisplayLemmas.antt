@@ -1,8 +1,9 @@
 -- What is shown of a text whose front is UTF-8.
-use Rattle.std.proofs.Common.{◌≡◌, ℕ, List, ◌++◌, IsUtf8, encode_utf8_all, refl, sym, ap, ◌∙◌}
+use Rattle.std.proofs.Common.{◌≡◌, ℕ, List, ◌++◌, Result, IsUtf8, encode_utf8_all, sym, ap, subst, ◌∙◌}
+use Rattle.std.specs.declared.fmt.Error.{Error}
 use Rattle.std.specs.declared.fmt.Formatter.{Formatter}
-use Rattle.std.specs.Fmt.{HasWritten}
-use Rattle.std.proofs.lemmas.Grind.{put_two}
+use Rattle.std.specs.Fmt.{HasWrittenStyled, IsDefaultSpec, IsFlush, WritesOnOk, WritesStyledOnOk}
+use Rattle.std.proofs.Output.{has_written_styled_append, has_written_styled_of_eq}
 use Rattle.std.proofs.lemmas.Str.{encodes-append}
 use Rattle.bstr.specs.Utf8.{lossy_chars}
 use Rattle.bstr.proofs.lemmas.LossyLemmas.{lossy_chars-front}
@@ -15,6 +16,17 @@ lossy_front front rest h =
     ap (λ x. lossy_text (x ++ rest)) (sym h.1.1)
     ∙ (ap encode_utf8_all (lossy_chars-front cs rest h.1.0) ∙ (encodes-append cs (lossy_chars rest) ∙ ap (λ x. x ++ lossy_text rest) h.1.1))
 
--- two texts that were written, one behind the other
-pub written_on : {W : Type 0} (took : W → List ℕ → W → Type 0) (f g h : Formatter W) (a b : List ℕ) → HasWritten took f a g → HasWritten took g b h → HasWritten took f (a ++ b) h
-written_on took f g h a b first second = put_two took f g h a b (a ++ b) first second refl
+module _ {W : Type 0} (took : W → List ℕ → W → Type 0) where
+  -- two texts that were shown, one behind the other
+  pub shown_on : (f g h : Formatter W) (a b all : List ℕ) → HasWrittenStyled took f a g → HasWrittenStyled took g b h → a ++ b ≡ all → HasWrittenStyled took f all h
+  shown_on f g h a b all first second whole = has_written_styled_of_eq took f (a ++ b) all h whole (has_written_styled_append took f a g b h first second)
+
+  -- the same where the second succeeds only behind the first
+  pub shown_behind : (f g h : Formatter W) (r : Result (Unit {0}) Error) (a b all : List ℕ) → (IsFlush f → HasWrittenStyled took f a g) → WritesStyledOnOk took g r b h → a ++ b ≡ all → WritesStyledOnOk took f r all h
+  shown_behind f g h r a b all first second whole = λ flush ok. let before = first flush in shown_on f g h a b all before (second before.flush ok) whole
+
+  -- what is shown whatever options a formatter has is shown without any
+  pub shown_plain : (f g : Formatter W) (bs : List ℕ) (r : Result (Unit {0}) Error) → WritesStyledOnOk took f r bs g → WritesOnOk took f r bs g
+  shown_plain f g bs r shown = λ plain ok.
+      let written = shown plain.flush ok in
+      record { wrote = written.wrote; plain = record { bare = subst IsDefaultSpec (sym written.spec) plain.bare; flush = written.flush } }

@@ -3,8 +3,9 @@
 //! It uses `scheme` and `location`. Its contract: a copy is an equal value that shares nothing with the original, and
 //! only memory can be wanting. Each copy of a part asks for memory once, and not at all where there are no bytes.
 
-ghost use Rattle.std.specs.Prelude.{◌≡◌, IfErr, IfOk, option_map, string_bytes};
+ghost use Rattle.std.specs.Prelude.{◌≡◌, None, IfErr, IfOk, IsOk, option_map, string_bytes};
 ghost use Rattle.bstr.specs.Owned.{bstring_bytes};
+ghost use Rattle.gix_url.specs.Order.{held_name};
 ghost use Rattle.gix_url.specs.Views.{protocol};
 
 use crate::error::Error;
@@ -21,7 +22,7 @@ impl Scheme {
     ///
     /// # Errors
     ///
-    /// [`Error::Memory`] where memory is refused.
+    /// [`Error::Memory`] where memory is refused, and never for a scheme with a name of its own.
     ///
     /// ```
     /// fn twice(alloc: Global, scheme: Scheme) -> Result<(Scheme, Scheme), Error> {
@@ -32,6 +33,7 @@ impl Scheme {
     pub fn clone(&self, alloc: Global) -> Result<Scheme, Error>
         ensures equal { IfOk result (λ copy. protocol copy ≡ protocol self.now) }
         ensures memory { IfErr result (λ e. e ≡ Error.Memory) }
+        ensures known { held_name (protocol self.now) ≡ None → IsOk result }
     {
         match self {
             Scheme::File => Ok(Scheme::File),

@@ -1,10 +1,12 @@
 //! Showing a location to people: its text, with the password hidden.
 //!
 //! It uses `writer`. Its contract: what is shown is the text with another password in place of the location's own,
-//! so that two locations that differ in nothing but their passwords look alike. It takes no memory.
+//! whatever width, precision and flags are asked for, so that two locations that differ in nothing but their passwords
+//! look alike; where there is no text nothing is shown. It takes no memory. What a formatter was handed before it failed
+//! is shown by tests to be a front of that.
 
 ghost use Rattle.std.specs.Prelude.{◌≡◌, None, IsErr, option_map, string_bytes};
-ghost use Rattle.std.specs.Fmt.{DisplaysOnOk};
+ghost use Rattle.std.specs.Fmt.{DisplaysOnOk, DisplaysStyledOnOk};
 ghost use Rattle.gix_url.specs.Display.{display, hidden};
 ghost use Rattle.gix_url.specs.Safeguards.{HidesPassword};
 
@@ -16,11 +18,16 @@ use std::fmt;
 impl fmt::Display for Url {
     ghost output = { display };
 
+    ghost styled_output = { λ url _. display url };
+
     /// Shows the text of the location with `redacted` in place of a password, and U+FFFD in place of what is no
-    /// UTF-8. It fails where there is no such text, and where the formatter fails.
+    /// UTF-8. Width, precision and flags change nothing. It fails where there is no such text, and then shows nothing;
+    /// and where the formatter fails.
     fn fmt<W: fmt::Write>(&self, f: &mut fmt::Formatter<W>) -> fmt::Result
         ensures writes { DisplaysOnOk W.write_str_gives f.old result (display self.now) f.new }
+        ensures styled { DisplaysStyledOnOk W.write_str_gives f.old result (display self.now) f.new }
         ensures fault { display self.now ≡ None → IsErr result }
+        ensures untouched { display self.now ≡ None → f.new ≡ f.old }
     {
         let mut digits = Buffer::new();
         let password = hidden_password(&self.password);

@@ -3,7 +3,7 @@
 //! It uses `parse`, the settled test and the writer. Its contract: all of the input is answered, line by line, as
 //! the definitions have it; nothing is written before the whole answer stands.
 
-ghost use Rattle.std.specs.Prelude.{◌≡◌, ℕ, ◌++◌, List, codes, IfOk, IfSome, OnOk};
+ghost use Rattle.std.specs.Prelude.{◌≡◌, ℕ, ◌≤◌, ◌^◌, ◌++◌, List, None, codes, length, IfOk, IfSome, OnOk};
 ghost use Rattle.std.specs.Io.KnownBytes.{IsAtEnd};
 ghost use Rattle.gix_url.specs.Answers.{Answers, AppendsAnswer, NamesRefusal, Ran, Tells, TellsRefusal, fault_name, fault_text, status_of, told};
 ghost use Rattle.gix_url.specs.Schemes.{protocol_text};
@@ -97,16 +97,28 @@ fn read_all<R: Read>(alloc: Global, input: &mut R) -> Result<Vec<u8>, RunError>
     ensures bytes { IfOk result (λ all. IfSome (R.remaining input.old) (λ b. all.items ≡ b)) }
     ensures end { OnOk result (IsAtEnd (R.remaining input.new)) }
 {
+    match read_to_end(alloc, input)? {
+        Some(all) => Ok(all),
+        None => Err(RunError::Read(io::Error::from(ErrorKind::Other))),
+    }
+}
+
+/// All bytes of a reader, or none where it hasn't ended after the most reads, each of which gave a byte at least.
+fn read_to_end<R: Read>(alloc: Global, input: &mut R) -> Result<Option<Vec<u8>>, RunError>
+    ensures bytes { IfOk result (λ found. IfSome found (λ all. IfSome (R.remaining input.old) (λ b. all.items ≡ b))) }
+    ensures end { IfOk result (λ found. IfSome found (λ _. IsAtEnd (R.remaining input.new))) }
+    ensures given_up { IfOk result (λ found. found ≡ None → IfSome (R.remaining input.old) (λ b. 2 ^ 40 ≤ length b)) }
+{
     let mut all = Vec::new(alloc);
     let mut buffer = [0u8; 4096];
     for _turn in 0..MOST_READS {
         match input.read(&mut buffer) {
             Err(fault) => return Err(RunError::Read(fault)),
-            Ok(0) => return Ok(all),
+            Ok(0) => return Ok(Some(all)),
             Ok(count) => all.extend_from_slice(&buffer[..count])?,
         }
     }
-    Err(RunError::Read(io::Error::from(ErrorKind::Other)))
+    Ok(None)
 }
 
 /// The answers to all lines of a text, and whether each line is settled.
