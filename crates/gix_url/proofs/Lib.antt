@@ -13,6 +13,7 @@ pub mod UrlLocationLemmas
 pub mod ShapeLemmas
 pub mod RecordLemmas
 pub mod NormalLemmas
+pub mod RowByteLemmas
 pub mod RowLemmas
 pub mod RowNameLemmas
 pub mod RowPartLemmas

@@ -8,7 +8,7 @@ use Rattle.gix_url.specs.Bytes.{lowercase}
 use Rattle.gix_url.specs.Addresses.{IsIpv6Text}
 use Rattle.gix_url.specs.Addresses.Literal.{address, zoned}
 use Rattle.gix_url.specs.Hosts.{is_dns_byte, normal_host}
-use Rattle.gix_url.specs.Rows.{NormalAgain, LiteralAgain}
+use Rattle.gix_url.specs.NameRows.{NormalAgain, LiteralAgain}
 use Rattle.gix_url.proofs.AddressLemmas.{lowercase_twice, address-lowercase}
 
 -- a class of bytes that stay in it in lower case holds of a text in lower case

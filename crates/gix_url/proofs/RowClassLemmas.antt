@@ -13,7 +13,8 @@ use Rattle.gix_url.specs.Bytes.{colon, left_bracket, begins_with, is_helper_name
 use Rattle.gix_url.specs.Escapes.{has_percent}
 use Rattle.gix_url.specs.AddressTest.{is_ipv6_text}
 use Rattle.gix_url.specs.Settled.{HasMatch, HasFittingText, IsSettledUrl, IsWebName, IsWebHost, IsNormalAddress, IsBracketedHost, IsScpName, IsSettled}
-use Rattle.gix_url.specs.Rows.{no_text, at_host, in_scp, SettledRows, WebHostRows, UnsettledWebRows, UnsettledUrlRows, UnsettledOtherRows}
+use Rattle.gix_url.specs.ClassRows.{SettledRows, WebHostRows, UnsettledWebRows, UnsettledUrlRows, UnsettledOtherRows}
+use Rattle.gix_url.specs.Examples.{no_text, at_host, in_scp}
 use Rattle.gix_url.proofs.CutLemmas.{different_bytes, last_unique}
 use Rattle.std.proofs.lemmas.Option.{same_Some}
 use Rattle.gix_url.proofs.AddressTestLemmas.{ipv6_text_from, ipv6_text_to}

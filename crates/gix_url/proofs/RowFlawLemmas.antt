@@ -10,7 +10,7 @@ use Rattle.gix_url.specs.Bytes.{colon, right_bracket, begins_with}
 use Rattle.gix_url.specs.AddressTest.{is_ipv6_text}
 use Rattle.gix_url.specs.Grammar.{ScpFront, AddressedShape, ScpUser}
 use Rattle.gix_url.specs.Flaws.{HasBadPort, BracketsAround, HasBadHost, AuthorityFlaw, UrlFlaw, ScpHostFlaw, MissesPath}
-use Rattle.gix_url.specs.Rows.{NameFlawRows, FlawRows}
+use Rattle.gix_url.specs.FormRows.{NameFlawRows, FlawRows}
 use Rattle.gix_url.specs.declared.error.UrlFault.TheVariants as fault
 use Rattle.gix_url.proofs.CutLemmas.{tails, cut_unique}
 use Rattle.gix_url.proofs.AddressTestLemmas.{ipv6_text_from}

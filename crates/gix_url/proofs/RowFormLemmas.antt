@@ -17,7 +17,8 @@ use Rattle.gix_url.specs.Hosts.Mode.{strict, bare, loose}
 use Rattle.gix_url.specs.Schemes.{is_web_scheme}
 use Rattle.gix_url.specs.Authority.{Authority, without_white_space, is_any_slash, IsWithinLimit, Fits}
 use Rattle.gix_url.specs.Grammar.{HasHelperForm, Peels, ScpFront, IsNeither, ScpShape, IsScpShaped, IsBracketed, ScpUser, Unbrackets, SpellsFile, SpellsScp, SpellsScpAddressed, SpellsLocal}
-use Rattle.gix_url.specs.Rows.{no_text, UrlRows, FormRows, NoFormRows}
+use Rattle.gix_url.specs.FormRows.{UrlRows, FormRows, NoFormRows}
+use Rattle.gix_url.specs.Examples.{no_text}
 use Rattle.gix_url.proofs.CutLemmas.{tails, cut_unique, not_free, free_parts, free_head_tail, free_or_cut, helper_name_free}
 use Rattle.gix_url.proofs.AddressTestLemmas.{ipv6_text_from}
 use Rattle.gix_url.proofs.AddressLemmas.{address_free}

@@ -5,7 +5,7 @@ use Rattle.gix_url.specs.Bytes.{FreeOf}
 use Rattle.gix_url.specs.Paths.{IsPiece, IsIdle, HasPieces, WithoutFirst, Opens, Joins, LiesBelow, EndsInPiece, IsParent}
 use Rattle.gix_url.specs.Homes.{SplitsHome, HomeFolder, Expands}
 use Rattle.gix_url.specs.Homes.HomeUser.{current, named}
-use Rattle.gix_url.specs.Rows.{PieceRows, ParentRows, ExpandedRows, SplitRows}
+use Rattle.gix_url.specs.HomeRows.{PieceRows, ParentRows, ExpandedRows, SplitRows}
 use Rattle.gix_url.proofs.PathLemmas.{idle_none}
 
 -- ---- pieces

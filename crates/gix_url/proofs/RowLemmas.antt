@@ -3,7 +3,7 @@ use Rattle.std.proofs.Common.{refl}
 use Rattle.std.specs.Fmt.{digits}
 use Rattle.percent_encoding.proofs.OnLiterals.{percent_encoding_on_literals}
 use Rattle.gix_url.specs.AddressTest.{is_ipv6_text}
-use Rattle.gix_url.specs.Rows.{EscapeRows, HostRows, SchemeRows, PathRows, OtherTextRows, UrlTextRows, UserTextRows, FaultRows, RecordRows}
+use Rattle.gix_url.specs.TextRows.{EscapeRows, HostRows, SchemeRows, PathRows, OtherTextRows, UrlTextRows, UserTextRows, FaultRows, RecordRows}
 
 -- what is written with each set, and what is read
 pub escape_rows : EscapeRows

@@ -6,7 +6,8 @@ use Rattle.gix_url.specs.Bytes.{Lacks, begins_by}
 use Rattle.gix_url.specs.Cuts.{is_path_start, StartsPath}
 use Rattle.gix_url.specs.Schemes.{is_web_scheme}
 use Rattle.gix_url.specs.Authority.{without_white_space, is_any_slash, IsWithinLimit, Fits}
-use Rattle.gix_url.specs.Rows.{letters, LengthRows}
+use Rattle.gix_url.specs.NameRows.{LengthRows}
+use Rattle.gix_url.specs.Examples.{letters}
 use Rattle.gix_url.proofs.CutLemmas.{tails, path_cut_unique}
 use Rattle.gix_url.proofs.RowFormLemmas.{fits_row}
 

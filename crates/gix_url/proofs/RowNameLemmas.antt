@@ -16,7 +16,7 @@ use Rattle.gix_url.specs.Hosts.{Mode, IsLiteral, Bracketed, AllowsPort, Number, 
 use Rattle.gix_url.specs.Hosts.Mode.{strict, bare}
 use Rattle.gix_url.specs.Authority.{unless_empty, Credentials, Authority}
 use Rattle.gix_url.specs.Flaws.{BracketsAround, HasBadPort, HasBadHost}
-use Rattle.gix_url.specs.Rows.{LiteralRows, NameRows, NoNameRows, AuthorityRows, NoAuthorityRows}
+use Rattle.gix_url.specs.NameRows.{LiteralRows, NameRows, NoNameRows, AuthorityRows, NoAuthorityRows}
 use Rattle.gix_url.proofs.CutLemmas.{tails, different_bytes, last_unique, cut_unique, last_cut_unique, not_free}
 use Rattle.gix_url.proofs.AddressTestLemmas.{ipv6_text_from, ipv6_text_to}
 use Rattle.gix_url.proofs.AddressLemmas.{address_free}

@@ -7,7 +7,8 @@ use Rattle.gix_url.specs.Value.{Location}
 use Rattle.gix_url.specs.Bytes.{FreeOf}
 use Rattle.gix_url.specs.Addresses.{joined_by}
 use Rattle.gix_url.specs.Components.{ampersand, CutsPath, SplitsField, PairsOf, QueryOf}
-use Rattle.gix_url.specs.Rows.{on_web, SpelledPartRows, RawPartRows}
+use Rattle.gix_url.specs.HomeRows.{SpelledPartRows, RawPartRows}
+use Rattle.gix_url.specs.Examples.{on_web}
 
 -- ---- components
 

@@ -41,7 +41,13 @@ pub mod Readings
 pub mod FromParts
 pub mod HomeReadings
 pub mod Answers
-pub mod Rows
+pub mod Examples
+pub mod ByteRows
+pub mod TextRows
+pub mod NameRows
+pub mod FormRows
+pub mod ClassRows
+pub mod HomeRows
 pub mod Safeguards
 pub mod Laws
 pub mod Refusals

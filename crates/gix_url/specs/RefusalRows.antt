@@ -7,7 +7,7 @@ use Rattle.gix_url.specs.Value.Protocol.{file, git, ssh, http, https, helper}
 use Rattle.gix_url.specs.Hosts.Mode.{strict, bare, loose}
 use Rattle.gix_url.specs.Flaws.{HasBadPort, HasBadHost, HasBadUser, NameFlaw, AuthorityFlaw, UrlFlaw, ScpHostFlaw}
 use Rattle.gix_url.specs.Laws.{IsCorner}
-use Rattle.gix_url.specs.Rows.{no_text, at_host}
+use Rattle.gix_url.specs.Examples.{no_text, at_host}
 use Rattle.gix_url.specs.Refusals.{HasFlaw}
 
 -- ---- flaws

@@ -2,8 +2,22 @@
 //!
 //! It has no code and uses nothing: the contract of each function is a group of rows.
 
+ghost use Rattle.gix_url.specs.ByteRows.{EscapeSetRows, EscapedByteRows, HostByteRows, NameByteRows, WhiteSpaceRows};
+ghost use Rattle.gix_url.specs.ClassRows.{SettledRows, UnsettledOtherRows, UnsettledUrlRows, UnsettledWebRows, WebHostRows};
+ghost use Rattle.gix_url.specs.FormRows.{FlawRows, FormRows, NameFlawRows, NoFormRows, UrlRows};
+ghost use Rattle.gix_url.specs.HomeRows.{ExpandedRows, ParentRows, PieceRows, RawPartRows, SpelledPartRows, SplitRows};
+ghost use Rattle.gix_url.specs.NameRows.{AuthorityRows, LengthRows, LiteralAgain, LiteralRows, NameRows, NoAuthorityRows, NoNameRows, NormalAgain};
 ghost use Rattle.gix_url.specs.RefusalRows.{CornerRows, FlawlessRows, NoCornerRows, NoNameFlawRows, NoPartFlawRows, NoUrlFlawRow};
-ghost use Rattle.gix_url.specs.Rows.{AuthorityRows, EscapeRows, ExpandedRows, FaultRows, FlawRows, FormRows, HostRows, LengthRows, LiteralAgain, LiteralRows, NameFlawRows, NameRows, NoAuthorityRows, NoFormRows, NoNameRows, NormalAgain, OtherTextRows, ParentRows, PathRows, PieceRows, RawPartRows, RecordRows, SchemeRows, SettledRows, SpelledPartRows, SplitRows, UnsettledOtherRows, UnsettledUrlRows, UnsettledWebRows, UrlRows, UrlTextRows, UserTextRows, WebHostRows};
+ghost use Rattle.gix_url.specs.TextRows.{EscapeRows, FaultRows, HostRows, OtherTextRows, PathRows, RecordRows, SchemeRows, UrlTextRows, UserTextRows};
+
+/// Classes of bytes, with all their members.
+fn law_bytes()
+    ensures names { NameByteRows }
+    ensures hosts { HostByteRows }
+    ensures white_space { WhiteSpaceRows }
+    ensures documented { EscapedByteRows }
+    ensures sets { EscapeSetRows }
+{}
 
 /// Escapes, written and read.
 fn law_escapes()

@@ -1,0 +1,25 @@
+-- Rows on classes of bytes: each is computed at all 256 bytes.
+use Rattle.std.proofs.Common.{refl}
+use Rattle.percent_encoding.proofs.OnLiterals.{percent_encoding_on_literals}
+use Rattle.gix_url.specs.ByteRows.{NameByteRows, HostByteRows, WhiteSpaceRows, EscapedByteRows, EscapeSetRows}
+
+-- what names are made of
+pub name_byte_rows : NameByteRows
+name_byte_rows = (refl, refl, refl, refl, refl, refl, refl, refl, refl)
+
+-- what hosts and zones are made of, and marks
+pub host_byte_rows : HostByteRows
+host_byte_rows = (refl, refl, refl, refl, refl, refl, refl, refl)
+
+-- white space
+pub white_space_rows : WhiteSpaceRows
+white_space_rows = (refl, refl, refl, refl, refl)
+
+-- the documented sets
+pub escaped_byte_rows : EscapedByteRows
+escaped_byte_rows = (refl, refl, refl)
+
+-- the code's sets
+pub escape_set_rows : EscapeSetRows
+unfolding percent_encoding_on_literals
+escape_set_rows = (refl, refl, refl)

@@ -1,0 +1,76 @@
+-- Rows: each class of bytes, and each set of escaped ones, over all 256 bytes, with its members written out in order.
+use Rattle.std.specs.Prelude.{◌≡◌, ℕ, Bool, true, false, nat_lt, List, [], ◌∷◌, ◌++◌, filter, length, codes}
+use Rattle.std.specs.List.{range_with_len}
+use Rattle.std.specs.Char.{is_ascii_alphabetic, is_ascii_alphanumeric, is_ascii_digit, is_ascii_hexdigit, is_ascii_whitespace, is_digit, is_whitespace}
+use Rattle.percent_encoding.specs.declared.ascii_set.AsciiSet.{AsciiSet}
+use Rattle.percent_encoding.specs.Percent.{percent_encode}
+use Rattle.gix_url.specs.declared.escape.TheConstants.{PATH, PASSWORD, USER}
+use Rattle.gix_url.specs.Bytes.{lowercase, is_scheme_mark, is_name_byte, is_scheme_text, is_helper_name}
+use Rattle.gix_url.specs.Cuts.{is_path_start}
+use Rattle.gix_url.specs.Escapes.{is_path_escaped, is_password_escaped, is_user_escaped}
+use Rattle.gix_url.specs.Addresses.{is_zone_byte}
+use Rattle.gix_url.specs.Hosts.{is_dns_byte, is_http_host_byte}
+use Rattle.gix_url.specs.Authority.{is_any_slash}
+use Rattle.gix_url.specs.Arguments.{is_option_like}
+
+-- the bytes that pass the test, in order
+abbrev pub members : (ℕ → Bool) → List ℕ
+members test = filter test (range_with_len 0 256)
+
+-- the bytes that the set escapes, in order
+abbrev pub escaped_members : AsciiSet → List ℕ
+escaped_members set = members (λ b. nat_lt 1 (length (percent_encode set (b ∷ []))))
+
+-- ---- names
+
+-- letters and digits, and what the names of schemes and of remote helpers are made of
+abbrev pub NameByteRows : Type 0
+NameByteRows =
+    (members is_ascii_digit ≡ codes "0123456789")
+    × (members is_ascii_alphabetic ≡ codes "ABCDEFGHIJKLMNOPQRSTUVWXYZabcdefghijklmnopqrstuvwxyz")
+    × (members is_ascii_alphanumeric ≡ codes "0123456789ABCDEFGHIJKLMNOPQRSTUVWXYZabcdefghijklmnopqrstuvwxyz")
+    × (members is_ascii_hexdigit ≡ codes "0123456789ABCDEFabcdef")
+    × (members (λ b. is_digit b 16) ≡ codes "0123456789ABCDEFabcdef")
+    × (members is_scheme_mark ≡ codes "+-.")
+    × (members is_name_byte ≡ codes "+-.0123456789ABCDEFGHIJKLMNOPQRSTUVWXYZabcdefghijklmnopqrstuvwxyz")
+    × (members (λ b. is_scheme_text (b ∷ [])) ≡ codes "ABCDEFGHIJKLMNOPQRSTUVWXYZabcdefghijklmnopqrstuvwxyz")
+    × (members (λ b. is_helper_name (b ∷ [])) ≡ codes "0123456789ABCDEFGHIJKLMNOPQRSTUVWXYZabcdefghijklmnopqrstuvwxyz")
+
+-- ---- hosts, zones and marks
+
+-- what hosts and zones are made of, where a path starts, and what the length test skips
+abbrev pub HostByteRows : Type 0
+HostByteRows =
+    (members is_dns_byte ≡ codes "*-.0123456789ABCDEFGHIJKLMNOPQRSTUVWXYZ_abcdefghijklmnopqrstuvwxyz")
+    × (members is_http_host_byte ≡ codes "!$%&'()*+,-.0123456789;=ABCDEFGHIJKLMNOPQRSTUVWXYZ_abcdefghijklmnopqrstuvwxyz~")
+    × (members is_zone_byte ≡ codes "%-.0123456789ABCDEFGHIJKLMNOPQRSTUVWXYZ_abcdefghijklmnopqrstuvwxyz~")
+    × (members (is_path_start false) ≡ codes "/")
+    × (members (is_path_start true) ≡ codes "#/?")
+    × (members is_any_slash ≡ codes "/\\")
+    × (members (λ b. is_option_like (b ∷ [])) ≡ codes "-")
+    × (lowercase (range_with_len 0 256) ≡ range_with_len 0 65 ++ (codes "abcdefghijklmnopqrstuvwxyz" ++ range_with_len 91 165))
+
+-- white space of ASCII, and Unicode's White_Space with its neighbours
+abbrev pub WhiteSpaceRows : Type 0
+WhiteSpaceRows =
+    (members is_ascii_whitespace ≡ 9 ∷ 10 ∷ 12 ∷ 13 ∷ 32 ∷ [])
+    × (members is_whitespace ≡ 9 ∷ 10 ∷ 11 ∷ 12 ∷ 13 ∷ 32 ∷ 133 ∷ 160 ∷ [])
+    × (filter is_whitespace (range_with_len 5750 20) ≡ 5760 ∷ [])
+    × (filter is_whitespace (range_with_len 8180 120) ≡ range_with_len 8192 11 ++ (8232 ∷ 8233 ∷ 8239 ∷ 8287 ∷ []))
+    × (filter is_whitespace (range_with_len 12280 20) ≡ 12288 ∷ [])
+
+-- ---- escapes
+
+-- the ASCII bytes that a path, a password and a user aren't written with
+abbrev pub EscapedByteRows : Type 0
+EscapedByteRows =
+    (members is_path_escaped ≡ range_with_len 0 32 ++ (codes " \"%<>`{}" ++ 127 ∷ []))
+    × (members is_password_escaped ≡ range_with_len 0 32 ++ (codes " \"#%/<>?@[\\]^`{|}" ++ 127 ∷ []))
+    × (members is_user_escaped ≡ range_with_len 0 32 ++ (codes " \"#%/:<>?@[\\]^`{|}" ++ 127 ∷ []))
+
+-- the bytes that the code's sets escape: those, and every byte past ASCII
+abbrev pub EscapeSetRows : Type 0
+EscapeSetRows =
+    (escaped_members PATH ≡ range_with_len 0 32 ++ (codes " \"%<>`{}" ++ 127 ∷ range_with_len 128 128))
+    × (escaped_members PASSWORD ≡ range_with_len 0 32 ++ (codes " \"#%/<>?@[\\]^`{|}" ++ 127 ∷ range_with_len 128 128))
+    × (escaped_members USER ≡ range_with_len 0 32 ++ (codes " \"#%/:<>?@[\\]^`{|}" ++ 127 ∷ range_with_len 128 128))
