@@ -1,15 +1,13 @@
 -- Texts cut around a byte or a mark: what the pieces lack, that the text determines them, and what classes of bytes lack.
-use Rattle.std.proofs.Common.{◌≡◌, ℕ, zero, suc, ◌+◌, ◌<◌, ◌≤◌, Bool, true, false, not, Option, ◌==◌, ◌||◌, ◌⊎◌, inl, inr, List, [], ◌∷◌, ◌++◌, length, take, drop, get_or, refl, sym, ap, subst, ◌∙◌, arith, append_assoc, add-one, eqb, Some, None}
-use Rattle.std.specs.List.{list_any, list_all, position, position_or_len}
+use Rattle.std.proofs.Common.{◌≡◌, ℕ, zero, suc, ◌+◌, ◌<◌, ◌≤◌, Bool, true, false, Option, ◌==◌, ◌||◌, ◌⊎◌, inl, inr, List, [], ◌∷◌, ◌++◌, length, take, drop, get_or, refl, sym, ap, subst, ◌∙◌, arith, append_assoc, add-one, eqb, Some, None}
+use Rattle.std.specs.List.{list_any, list_all, position_or_len}
 use Rattle.std.specs.Char.{is_ascii_digit, is_ascii_uppercase, is_ascii_lowercase, is_ascii_alphabetic, is_ascii_alphanumeric}
-use Rattle.std.specs.Option.{unwrap_or}
-use Rattle.std.proofs.lemmas.Bool.Decides.{nat_tests}
-use Rattle.std.proofs.lemmas.List.Sums.{prefix_len-le-length, fails_before_first, passes_at_first}
+use Rattle.std.proofs.lemmas.List.Sums.{fails_before_first, passes_at_first}
 use Rattle.std.proofs.lemmas.Bool.{both_ways, false≢true, cases_Bool, cases_lt, and_from, or_left, eqb-true, eq-eqb, and_parts, or_parts, or_from, false_from_ne_true}
 use Rattle.std.proofs.lemmas.Grind.{same_number_lists}
 use Rattle.std.proofs.lemmas.List.{at_drop_more, drop_all, take-append-drop, drop-drop, get_or-take, get_or-drop, get_or-append-add, get_or_append_left, length-take-le, length-take, length-drop, length-append, same_from_push}
 use Rattle.bstr.specs.Find.{OccursAt}
-use Rattle.memchr.specs.Find.{IsFirstByte, IsLastByte, FindsNeedle, is_byte}
+use Rattle.memchr.specs.Find.{IsFirstByte, IsLastByte, FindsNeedle, is_byte, is_byte3}
 use Rattle.gix_url.specs.Bytes.{colon, Lacks, FreeOf, Holds, begins_by, begins_with, is_name_byte, is_scheme_mark, is_scheme_text, is_helper_name}
 use Rattle.gix_url.specs.Cuts.{url_mark, is_path_start, StartsPath}
 
@@ -219,17 +217,35 @@ no_mark_found bs h = none_held bs url_mark (λ j l. h j (omega arith) l)
 
 -- ---- cuts before a path
 
--- the place of the first byte that passes, or the length
-first_or_length : (test : ℕ → Bool) (xs : List ℕ) → unwrap_or (position test xs) (length xs) ≡ position_or_len test xs
-first_or_length test xs = grind (arith, nat_tests, prefix_len-le-length)
+-- a first place by one test is the first by another that answers alike
+first_alike : (test other : ℕ → Bool) (bs : List ℕ) (found : Option ℕ) → ((b : ℕ) → test b ≡ other b) → IsFirstByte test bs found → IsFirstByte other bs found
+first_alike test other bs None alike h = λ k low high passes. h k low high (alike (get_or bs k 0) ∙ passes)
+first_alike test other bs (Some n) alike h =
+    (record { low = h.0.low; high = h.0.high; before = λ k low high passes. h.0.before k low high (alike (get_or bs k 0) ∙ passes) }, sym (alike (get_or bs n 0)) ∙ h.1)
 
--- the same, by the steps in which it is found
-pub first_place : (test : ℕ → Bool) (xs : List ℕ) (found : Option ℕ) (at : ℕ) → found ≡ position test xs → at ≡ unwrap_or found (length xs) → at ≡ position_or_len test xs
-first_place test xs found at e h = h ∙ ap (λ o. unwrap_or o (length xs)) e ∙ first_or_length test xs
+or_nothing : (is : Bool) → is ≡ (is || false)
+or_nothing true = refl
+or_nothing false = refl
 
--- that place is in the text or at its end
-pub first_place_fits : (test : ℕ → Bool) (xs : List ℕ) → position_or_len test xs ≤ length xs
-first_place_fits test xs = prefix_len-le-length (λ b. not (test b)) xs
+or_again : (x y z : Bool) → ((x || y) || z) ≡ (x || (y || z))
+or_again true y z = refl
+or_again false y z = refl
+
+starts_on_the_web : (web : Bool) → web ≡ true → (b : ℕ) → is_byte3 47 63 35 b ≡ is_path_start web b
+starts_on_the_web true is b = or_again (b == 47) (b == 63) (b == 35)
+starts_on_the_web false is b = absurd (false≢true is)
+
+starts_elsewhere : (web : Bool) → web ≡ false → (b : ℕ) → is_byte 47 b ≡ is_path_start web b
+starts_elsewhere true is b = absurd (false≢true (sym is))
+starts_elsewhere false is b = or_nothing (b == 47)
+
+-- the first `/`, `?` or `#` is where a path may first start on the web
+pub web_start : (web : Bool) (bs : List ℕ) (found : Option ℕ) → web ≡ true → IsFirstByte (is_byte3 47 63 35) bs found → IsFirstByte (is_path_start web) bs found
+web_start web bs found is h = first_alike (is_byte3 47 63 35) (is_path_start web) bs found (starts_on_the_web web is) h
+
+-- and elsewhere it is the first `/`
+pub other_start : (web : Bool) (bs : List ℕ) (found : Option ℕ) → web ≡ false → IsFirstByte (is_byte 47) bs found → IsFirstByte (is_path_start web) bs found
+other_start web bs found is h = first_alike (is_byte 47) (is_path_start web) bs found (starts_elsewhere web is) h
 
 -- nothing before the first byte that passes does
 lacks_before_first : (test : ℕ → Bool) (xs : List ℕ) → Lacks test (take (position_or_len test xs) xs)
@@ -248,6 +264,16 @@ begins_at_first test xs =
 -- the front up to that place, and the rest
 pub cut_at_first : (test : ℕ → Bool) (xs : List ℕ) → (xs ≡ take (position_or_len test xs) xs ++ drop (position_or_len test xs) xs) × Lacks test (take (position_or_len test xs) xs) × ((drop (position_or_len test xs) xs ≡ []) ⊎ (begins_by test (drop (position_or_len test xs) xs) ≡ true))
 cut_at_first test xs = (sym (take-append-drop (position_or_len test xs) xs), lacks_before_first test xs, begins_at_first test xs)
+
+-- the same by a first place that was found
+pub cut_at_place : (test : ℕ → Bool) (xs : List ℕ) (n : ℕ) → IsFirstByte test xs (Some n) → (xs ≡ take n xs ++ drop n xs) × Lacks test (take n xs) × ((drop n xs ≡ []) ⊎ (begins_by test (drop n xs) ≡ true))
+cut_at_place test xs n h =
+    (sym (take-append-drop n xs), lacks_before test xs n (λ k l. h.0.before k (omega arith) l), inr (begins_at test xs n h.0.high ∙ h.1))
+
+-- where none was found, the whole is the front
+pub cut_at_end : (test : ℕ → Bool) (xs : List ℕ) (n : ℕ) → n ≡ length xs → IsFirstByte test xs None → (xs ≡ take n xs ++ drop n xs) × Lacks test (take n xs) × ((drop n xs ≡ []) ⊎ (begins_by test (drop n xs) ≡ true))
+cut_at_end test xs n all h =
+    (sym (take-append-drop n xs), lacks_before test xs n (λ k l. h k (omega arith) (omega arith)), inl (drop_all n xs (omega arith)))
 
 -- ---- the text determines the pieces
 

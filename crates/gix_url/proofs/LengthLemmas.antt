@@ -1,9 +1,10 @@
 -- The length test as a walk over the bytes: white space doesn't count, slashes are skipped, and the front counts.
-use Rattle.std.proofs.Common.{◌↔◌, ◌-◌, codes, zero, suc, length-append, ◌≡◌, ℕ, ◌+◌, ◌≤◌, min, Bool, true, false, inl, inr, List, [], ◌∷◌, ◌++◌, length, take, drop, refl, sym, ap, subst, ◌∙◌, arith}
+use Rattle.std.proofs.Common.{◌↔◌, ◌-◌, codes, zero, suc, length-append, ◌≡◌, ℕ, ◌+◌, ◌≤◌, min, Bool, true, false, not, inl, inr, List, [], ◌∷◌, ◌++◌, length, take, drop, refl, sym, ap, subst, ◌∙◌, arith}
 use Rattle.std.specs.List.{list_all, position_or_len}
 use Rattle.std.specs.Char.{is_ascii_whitespace}
 use Rattle.std.proofs.Math.Seq.{drop-append-add}
 use Rattle.std.proofs.lemmas.Bool.{cases_Bool, and_from, and_parts, leb-true, le-leb}
+use Rattle.std.proofs.lemmas.List.Filters.{length-filter_both}
 use Rattle.gix_url.specs.declared.length.Stage.{Stage}
 use Rattle.gix_url.specs.declared.length.Stage.TheVariants.{Slashes, Front, Behind}
 use Rattle.gix_url.specs.declared.length.Walk.{Walk}
@@ -194,6 +195,36 @@ fits_from_walk scheme rest known short =
       before_path = parts.before_path;
       path = parts.path;
       short = limit_by_walk web parts.front parts.back rest parts.before_path parts.path parts.reached (rw skipped at counted);
+    }
+
+-- the limit by the lengths of the front and of the whole
+limit_by_length : (front back whole : List ℕ) → length front ≤ 1024 → length whole ≤ 1024 → IsWithinLimit front back whole
+limit_by_length front [] whole short all = all
+limit_by_length front (b ∷ back) whole short all = short
+
+-- a text is no shorter than what is left of it without white space
+without_shorter : (text : List ℕ) → length (without_white_space text) ≤ length text
+without_shorter text =
+    let both = length-filter_both (λ b. not (is_ascii_whitespace b)) (λ b. not (not (is_ascii_whitespace b))) (λ b. refl) text in
+    omega (arith, both)
+
+-- a scheme and what follows it are short enough where neither is longer than the limit
+pub fits_from_lengths : (scheme rest : List ℕ) → length scheme ≤ 1024 → length rest ≤ 1024 → Fits scheme rest
+fits_from_lengths scheme rest known short =
+    let parts = parts_of_text (is_web_scheme scheme) (without_white_space rest) in
+    let lengths = ap length parts.joined ∙ length-append parts.slashes (parts.front ++ parts.back) in
+    let within : length parts.front ≤ 1024 = omega (arith, lengths, length-append parts.front parts.back, without_shorter rest, short) in
+    record {
+      slashes = parts.slashes;
+      front = parts.front;
+      back = parts.back;
+      scheme_length = known;
+      joined = parts.joined;
+      skipped = parts.skipped;
+      reached = parts.reached;
+      before_path = parts.before_path;
+      path = parts.path;
+      short = limit_by_length parts.front parts.back rest within short;
     }
 
 -- and the walk is short where they are

@@ -2,7 +2,7 @@
 -- directions: an escape is `%` and two hexadecimal digits of either case and stands for one byte, every
 -- other byte stands for itself; written escapes have upper-case digits, and every byte past ASCII is one.
 use Rattle.std.specs.Prelude.{◌≡◌, ℕ, ◌<◌, Bool, true, false, not, ◌&&◌, ◌||◌, ◌==◌, nat_lt, List, [], ◌∷◌, if◌then◌else◌}
-use Rattle.std.specs.List.{list_any}
+use Rattle.std.specs.List.{list_any, list_all}
 use Rattle.std.specs.Char.{is_digit}
 use Rattle.percent_encoding.specs.declared.ascii_set.AsciiSet.{AsciiSet}
 use Rattle.percent_encoding.specs.AsciiSet.{contains}
@@ -25,6 +25,14 @@ begins_with_digits (high ∷ low ∷ rest) = is_digit high 16 && is_digit low 16
 -- `%` stands somewhere in the text
 abbrev pub has_percent : List ℕ → Bool
 has_percent bs = list_any (λ b. b == percent_sign) bs
+
+-- a printable byte of ASCII but for `%`
+abbrev pub is_plain_byte : ℕ → Bool
+is_plain_byte b = nat_lt 32 b && (nat_lt b 127 && not (b == percent_sign))
+
+-- each byte is one
+abbrev pub is_plain : List ℕ → Bool
+is_plain bs = list_all is_plain_byte bs
 
 -- a byte that a path of an HTTP location is not written with: a control, a space, `"`, `%`, `<`, `>`, `` ` ``, `{` or `}`
 abbrev pub is_path_escaped : ℕ → Bool

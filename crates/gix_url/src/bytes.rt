@@ -1,15 +1,17 @@
 //! Cuts of a text around a byte or a mark, and tests of its bytes.
 //!
-//! It stands on the searches of `bstr`, asks for no memory and uses nothing else of this crate. What a cut
+//! It stands on the searches of `bstr` and `memchr`, asks for no memory and uses nothing else of this crate. What a cut
 //! answers is told as a concatenation: the pieces joined are the text, and one of them is free of what was
 //! searched for, so that no caller sees an index.
 
 ghost use Rattle.std.specs.Prelude.{◌≡◌, ◌↔◌, ◌++◌, IsTrue};
-ghost use Rattle.std.specs.List.{list_all, position};
+ghost use Rattle.std.specs.List.{list_all};
+ghost use Rattle.memchr.specs.Find.{IsFirstByte};
 ghost use Rattle.gix_url.specs.Bytes.{FreeOf, IsLowercase, Lacks, begins_with, is_helper_name, is_name_byte, is_scheme_text};
 ghost use Rattle.gix_url.specs.Cuts.{CutsAt, CutsAtLast, CutsAtMark, StartsPath, StripsFirst, StripsLast, is_path_start};
 
 use bstr::ByteSlice;
+use memchr::memchr3;
 
 /// What stands before and behind the first `c`.
 pub(crate) fn cut(bytes: &[u8], c: u8) -> Option<(&[u8], &[u8])>
@@ -64,9 +66,13 @@ pub(crate) fn is_path_start(byte: u8, web: bool) -> bool
 
 /// Where a path may first start.
 fn path_start(bytes: &[u8], web: bool) -> Option<usize>
-    ensures { result ≡ position (is_path_start web) bytes.now }
+    ensures { IsFirstByte (is_path_start web) bytes.now result }
 {
-    bytes.iter().position(|byte| is_path_start(*byte, web))
+    if web {
+        memchr3(b'/', b'?', b'#', bytes)
+    } else {
+        bytes.find_byte(b'/')
+    }
 }
 
 /// The front up to where a path may first start, and the rest.
@@ -75,8 +81,10 @@ pub(crate) fn cut_before_path(bytes: &[u8], web: bool) -> (&[u8], &[u8])
     ensures front { Lacks (is_path_start web) result.0.now }
     ensures rest { StartsPath web result.1.now }
 {
-    let at = path_start(bytes, web).unwrap_or(bytes.len());
-    bytes.split_at(at)
+    match path_start(bytes, web) {
+        Some(at) => bytes.split_at(at),
+        None => bytes.split_at(bytes.len()),
+    }
 }
 
 /// Whether no byte is `c`.

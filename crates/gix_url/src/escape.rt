@@ -1,8 +1,8 @@
 //! Percent-encoding: the sets of bytes that are escaped, tests of escaped texts, and decoding.
 //!
-//! It uses the crates `percent_encoding` and `bstr`, and nothing else of this crate. Each test is exactly
-//! the definition in `specs/Escapes.antt` or `specs/Bytes.antt` that it is named after, and asks for no
-//! memory. `decoded` and `decoded_text` ask once, and not at all where the text is empty.
+//! It uses the crates `percent_encoding` and `bstr`, and `text`. Each test is exactly the definition in
+//! `specs/Escapes.antt` or `specs/Bytes.antt` that it is named after, and asks for no memory. `decoded` and
+//! `decoded_text` ask once, and not at all where the text is empty. A text without `%` is copied as it is.
 
 ghost use Rattle.std.specs.Prelude.{◌≡◌, ℕ, List, ◌+◌, ◌≤◌, ◌↔◌, IsTrue, IfOk, IsUtf8, length, take, drop, chars, string_bytes};
 ghost use Rattle.std.specs.Char.{is_digit, is_whitespace};
@@ -13,6 +13,7 @@ ghost use Rattle.gix_url.specs.Escapes as spec;
 ghost use Rattle.gix_url.specs.Safeguards.{PasswordSet, PathSet, UserSet};
 ghost use Rattle.gix_url.specs.Bytes.{LacksWhiteSpace};
 
+use crate::text::{into_text, is_plain};
 use bstr::{ByteSlice, decode_utf8};
 use percent_encoding::{AsciiSet, CONTROLS, PercentDecode, ascii_set, percent_decode};
 use std::alloc::{AllocError, Global};
@@ -94,13 +95,16 @@ fn is_hexadecimal(byte: u8) -> bool
 pub(crate) fn has_percent(text: &[u8]) -> bool
     ensures { result ≡ spec.has_percent text.now }
 {
-    text.iter().any(|byte| *byte == b'%')
+    text.contains(&b'%')
 }
 
 /// Whether the text decodes to UTF-8.
 pub(crate) fn decodes_to_utf8(text: &[u8]) -> bool
     ensures { IsTrue result ↔ IsUtf8 (percent.percent_decode text.now) }
 {
+    if is_plain(text) {
+        return true;
+    }
     if has_percent(text) {
         decoding_is_utf8(percent_decode(text))
     } else {
@@ -188,6 +192,9 @@ fn has_white_space(text: &str) -> bool
 pub(crate) fn decoded(alloc: Global, text: &[u8]) -> Result<Vec<u8>, AllocError>
     ensures { IfOk result (λ v. v.items ≡ percent.percent_decode text.now) }
 {
+    if !has_percent(text) {
+        return Vec::from_slice(alloc, text);
+    }
     let mut bytes = Vec::with_capacity(alloc, text.len())?;
     // The room is there, as a decoding is no longer than its text.
     let appended = percent_decode(text).append_to(&mut bytes);
@@ -202,8 +209,5 @@ pub(crate) fn decoded_text(alloc: Global, text: &[u8]) -> Result<String, AllocEr
     ensures { IfOk result (λ s. string_bytes s ≡ percent.percent_decode text.now) }
 {
     let bytes = decoded(alloc, text)?;
-    let Ok(text) = String::from_utf8(bytes) else {
-        unreachable!()
-    };
-    Ok(text)
+    Ok(into_text(bytes))
 }

@@ -1,6 +1,6 @@
 //! The piece of an authority behind the user information: a host and a port.
 //!
-//! It may use `bytes`, `escape` and `ipv6`. Its contract: a host and a port are read exactly where the
+//! It may use `bytes`, `text`, `escape` and `ipv6`. Its contract: a host and a port are read exactly where the
 //! definitions name them, as slices of the piece, and each refusal has its flaw. It takes no memory but for the
 //! text of a host, when that is built.
 
@@ -17,8 +17,9 @@ ghost use Rattle.percent_encoding.specs.Percent as percent;
 
 use crate::bytes::{after, before, cut, is_free_of, starts_with_byte};
 use crate::error::UrlFault;
-use crate::escape::{decodes_to_utf8, is_sound};
+use crate::escape::{decodes_to_utf8, has_percent, is_sound};
 use crate::ipv6::is_address;
+use crate::text::{as_text, into_text};
 use percent_encoding::percent_decode;
 use std::alloc::{AllocError, Global};
 
@@ -206,10 +207,7 @@ fn read_port(mode: Mode, digits: &[u8]) -> Option<u16>
     if !are_digits(digits) {
         return None;
     }
-    let Ok(digits) = str::from_utf8(digits) else {
-        return None;
-    };
-    let Ok(port) = digits.parse::<u16>() else {
+    let Ok(port) = as_text(digits).parse::<u16>() else {
         return None;
     };
     if allows_port(mode, port) {
@@ -292,7 +290,12 @@ fn read_text(mode: Mode, text: &[u8]) -> Option<HostPiece<'_>>
 pub(crate) fn are_http_host_bytes(text: &[u8]) -> bool
     ensures { result ≡ list_all spec.is_http_host_byte text.now }
 {
-    text.iter().all(|byte| is_http_host_byte(*byte))
+    // A loop without an early exit is compiled to look at many bytes at once.
+    let mut all = true;
+    for byte in text {
+        all &= is_http_host_byte(*byte);
+    }
+    all
 }
 
 /// Whether the byte is a letter, a digit or one of `-._~!$&'()*+,;=%`.
@@ -405,10 +408,7 @@ impl NamedHost<'_> {
         if self.keeps_colon {
             append_within(&mut text, b":");
         }
-        let Ok(text) = String::from_utf8(text) else {
-            unreachable!()
-        };
-        Ok(text)
+        Ok(into_text(text))
     }
 }
 
@@ -505,7 +505,12 @@ fn normalize(host: &mut [u8])
 pub(crate) fn looks_like_domain(host: &[u8]) -> bool
     ensures { result ≡ list_all spec.is_dns_byte host.now }
 {
-    host.iter().all(|byte| is_dns_byte(*byte))
+    // A loop without an early exit is compiled to look at many bytes at once.
+    let mut all = true;
+    for byte in host {
+        all &= is_dns_byte(*byte);
+    }
+    all
 }
 
 /// Whether the byte is a letter, a digit, `-`, `.`, `_` or `*`.
@@ -541,6 +546,10 @@ fn append_decoded(out: &mut Vec<u8>, text: &[u8])
     ensures capacity { vec_capacity out.old ≤ vec_capacity out.new }
     ensures len { vec_len out.new ≤ vec_len out.old + length text.now }
 {
+    if !has_percent(text) {
+        append_within(out, text);
+        return;
+    }
     for byte in percent_decode(text) {
         append_within(out, &[byte]);
     }

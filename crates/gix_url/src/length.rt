@@ -2,7 +2,8 @@
 //!
 //! It uses the tests of `bytes` and `scheme`, and asks for no memory. A [`Walk`] takes what follows the `://` of a URL in
 //! any number of pieces, so that a text can be measured that stands nowhere as a whole. Its contract: a walk past
-//! pieces is a walk past the pieces joined, and it is short exactly where the definition of the length test says.
+//! pieces is a walk past the pieces joined, and it is short exactly where the definition of the length test says. A
+//! text that isn't longer than the limit is short without a walk.
 
 ghost use Rattle.std.specs.Prelude.{◌≡◌, ◌↔◌, IsTrue};
 ghost use Rattle.gix_url.specs.Authority.{Fits, is_any_slash};
@@ -166,5 +167,10 @@ fn is_any_slash(byte: u8) -> bool
 pub(crate) fn fits(scheme: &[u8], rest: &[u8]) -> bool
     ensures { IsTrue result ↔ Fits scheme.now rest.now }
 {
-    scheme.len() <= usize::from(LIMIT) && Walk::behind(scheme).past(rest).is_short()
+    let limit = usize::from(LIMIT);
+    if scheme.len() > limit {
+        return false;
+    }
+    // What counts is never longer than the whole, so a short rest needs no walk.
+    rest.len() <= limit || Walk::behind(scheme).past(rest).is_short()
 }

@@ -45,6 +45,7 @@ mod settled;
 mod simple_url;
 pub mod stored;
 pub mod testing;
+mod text;
 mod url_location;
 mod value_law;
 mod words;

@@ -1,6 +1,6 @@
 //! Schemes: the protocols that have a name of their own, and the others by name.
 //!
-//! It uses nothing of this crate. Its contract: names and default ports are those of the definitions, and a
+//! It uses `text` alone. Its contract: names and default ports are those of the definitions, and a
 //! scheme's text stands for its protocol to the letter.
 
 ghost use Rattle.std.specs.Prelude.{◌≡◌, IfErr, IfOk, IsOk, IsUtf8, MatchOption, bytes_eq, false, true};
@@ -8,6 +8,7 @@ ghost use Rattle.gix_url.specs.Schemes.{protocol_of, protocol_text, default_port
 ghost use Rattle.gix_url.specs.Views.{protocol};
 
 use crate::error::Error;
+use crate::text::as_text;
 use serde::{Deserialize, Serialize};
 use std::alloc::Global;
 use std::fmt;
@@ -66,10 +67,7 @@ impl Scheme {
         ensures found { IfOk result (λ scheme. protocol scheme ≡ protocol_of text.now) }
         ensures memory { IfErr result (λ e. e ≡ Error.Memory) }
     {
-        let Ok(text) = str::from_utf8(text) else {
-            unreachable!()
-        };
-        Scheme::from_text(alloc, text)
+        Scheme::from_text(alloc, as_text(text))
     }
 
     /// The text that the scheme is written with, as in `https`; of a remote helper its name. It takes no memory.

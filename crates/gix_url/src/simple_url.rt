@@ -3,15 +3,17 @@
 //! It may use `bytes`, `escape` and `host`. Its contract: the parts are read exactly where the definitions
 //! spell a URL with them, and each refusal has its flaw. It takes no memory and copies nothing.
 
-ghost use Rattle.std.specs.Prelude.{◌≡◌, Bool, IfErr, IfOk, MatchOption, true};
+ghost use Rattle.std.specs.Prelude.{◌≡◌, ◌↔◌, Bool, IfErr, IfOk, IsTrue, IsUtf8, MatchOption, true};
 ghost use Rattle.percent_encoding.specs.Percent.{percent_decode};
 ghost use Rattle.gix_url.specs.Authority as authority;
 ghost use Rattle.gix_url.specs.Authority.{Fits};
+ghost use Rattle.gix_url.specs.Escapes as escape;
+ghost use Rattle.gix_url.specs.Escapes.{is_plain};
 ghost use Rattle.gix_url.specs.Flaws.{AuthorityFlaw, OtherShape, UrlFlaw};
 ghost use Rattle.gix_url.specs.Grammar.{SpellsParts, UrlParts};
 ghost use Rattle.gix_url.specs.HostPieces.{strictness};
 ghost use Rattle.gix_url.specs.Schemes as schemes;
-ghost use Rattle.gix_url.specs.Bytes.{FreeOf, at_sign, colon};
+ghost use Rattle.gix_url.specs.Bytes.{FreeOf, LacksWhiteSpace, at_sign, colon};
 ghost use Rattle.gix_url.specs.UrlPieces.{CutsRest, HasNoText, HoldsCredentials, HoldsParts, IsNoAuthority, decoded_option, parts_of};
 
 use crate::bytes::{cut, cut_before_path, is_free_of, is_scheme_text, last_cut};
@@ -53,22 +55,25 @@ struct CredentialParts<'a> {
     password: Option<&'a [u8]>,
 }
 
-/// Reads the URL with this scheme and this rest behind `://`. It is no file URL, and no remote helper.
+/// Reads the URL with this scheme and this rest behind `://`. It is no file URL, and no remote helper. What is known
+/// to be plain isn't looked at again.
 pub(crate) fn read_url<'a>(
     text: &'a str,
+    plain: bool,
     scheme: &'a [u8],
     rest: &'a [u8],
 ) -> Result<ParsedUrl<'a>, UrlFault>
+    requires plain { plain ≡ true → is_plain text.now ≡ true }
     requires shape { OtherShape text.now scheme.now rest.now }
     requires fits { Fits scheme.now rest.now }
     ensures read { IfOk result (λ url. SpellsParts text.now (parts_of url)) }
     ensures refused { IfErr result (λ fault. (parts : UrlParts) → ¬ SpellsParts text.now parts) }
     ensures flaw { IfErr result (λ fault. UrlFlaw text.now fault) }
 {
-    if !lacks_white_space(text) {
+    if !has_no_white_space(plain, text) {
         return Err(UrlFault::BadCharacter);
     }
-    if !is_sound(text.as_bytes()) {
+    if !has_sound_escapes(plain, text) {
         return Err(UrlFault::BadCharacter);
     }
     if !is_scheme_text(scheme) {
@@ -78,7 +83,7 @@ pub(crate) fn read_url<'a>(
     if !is_free_of(authority, b'\\') {
         return Err(UrlFault::BadCharacter);
     }
-    if !decodes_to_utf8(path) {
+    if !means_text(plain, path) {
         return Err(UrlFault::BadCharacter);
     }
     let parts = read_authority(mode_of(scheme), requires_host(scheme), authority)?;
@@ -89,6 +94,30 @@ pub(crate) fn read_url<'a>(
         host: parts.host,
         path,
     })
+}
+
+/// Whether no character of the text is white space, as in a plain one.
+fn has_no_white_space(plain: bool, text: &str) -> bool
+    requires { plain ≡ true → is_plain text.now ≡ true }
+    ensures { IsTrue result ↔ LacksWhiteSpace text.now }
+{
+    plain || lacks_white_space(text)
+}
+
+/// Whether every `%` of the text has two hexadecimal digits behind it, as a plain one has none.
+fn has_sound_escapes(plain: bool, text: &str) -> bool
+    requires { plain ≡ true → is_plain text.now ≡ true }
+    ensures { result ≡ escape.is_sound text.now }
+{
+    plain || is_sound(text.as_bytes())
+}
+
+/// Whether the piece decodes to UTF-8, as a plain one does.
+fn means_text(plain: bool, piece: &[u8]) -> bool
+    requires { plain ≡ true → is_plain piece.now ≡ true }
+    ensures { IsTrue result ↔ IsUtf8 (percent_decode piece.now) }
+{
+    plain || decodes_to_utf8(piece)
 }
 
 /// The authority and the path of a URL with this scheme.

@@ -9,6 +9,7 @@ ghost use Rattle.bstr.specs.Owned.{bstring_bytes};
 ghost use Rattle.percent_encoding.specs.Percent.{percent_decode};
 ghost use Rattle.gix_url.specs.Authority.{Fits};
 ghost use Rattle.gix_url.specs.Bytes.{begins_with, left_bracket};
+ghost use Rattle.gix_url.specs.Escapes.{is_plain};
 ghost use Rattle.gix_url.specs.Flaws.{Flaw, MissesPath, OtherShape, UrlFlaw};
 ghost use Rattle.gix_url.specs.Grammar as grammar;
 ghost use Rattle.gix_url.specs.Grammar.{HostFor, MeansByProtocol, Peels, SpellsParts, SpellsUrl, path_for};
@@ -27,23 +28,27 @@ use crate::host::NamedHost;
 use crate::location::Url;
 use crate::scheme::Scheme;
 use crate::simple_url::{ParsedUrl, read_url};
+use crate::text::into_text;
 use bstr::BString;
 use std::alloc::{AllocError, Global};
 
 /// The location of the URL with this scheme and this rest behind `://`. It is no file URL, and no remote helper.
+/// What is known to be plain isn't looked at again.
 pub(crate) fn url_location(
     alloc: Global,
     text: &str,
+    plain: bool,
     scheme: &[u8],
     rest: &[u8],
 ) -> Result<Url, Error>
+    requires plain { plain ≡ true → is_plain text.now ≡ true }
     requires shape { OtherShape text.now scheme.now rest.now }
     requires fits { Fits scheme.now rest.now }
     ensures found { IfOk result (λ v. SpellsUrl text.now v) }
     ensures refused { IfErr result (λ e. NoneBut (SpellsUrl text.now) e) }
     ensures flaw { IfErr result (λ e. Flaw text.now e) }
 {
-    match read_url(text, scheme, rest) {
+    match read_url(text, plain, scheme, rest) {
         Ok(url) => located(alloc, text, url),
         Err(fault) => Err(bad_url(alloc, text, fault)),
     }
@@ -190,10 +195,7 @@ fn host_for(scheme: &Scheme, host: Option<String>) -> Option<String>
 fn peeled(host: String) -> String
     ensures { Peels (string_bytes host) (string_bytes result) }
 {
-    let Ok(text) = String::from_utf8(peeled_bytes(host.into_bytes())) else {
-        unreachable!()
-    };
-    text
+    into_text(peeled_bytes(host.into_bytes()))
 }
 
 /// The same of its bytes, in place.

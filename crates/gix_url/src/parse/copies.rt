@@ -1,23 +1,17 @@
 //! Copies of pieces of a text, and the errors that keep the text.
 //!
-//! It uses nothing of this crate but its errors. Each copy asks for memory once, and not at all where it is empty.
-//! An error that can't keep the text, for want of memory, is `Memory`.
+//! It uses nothing of this crate but its errors and `text`. Each copy asks for memory once, and not at all where it
+//! is empty. An error that can't keep the text, for want of memory, is `Memory`.
 
-ghost use Rattle.std.specs.Prelude.{◌≡◌, ◌+◌, ◌<◌, ◌↔◌, IfOk, IsTrue, IsUtf8, length, option_map, string_bytes, take};
+ghost use Rattle.std.specs.Prelude.{◌≡◌, ◌+◌, ◌<◌, IfOk, IsUtf8, length, option_map, string_bytes, take};
 ghost use Rattle.bstr.specs.Owned.{bstring_bytes};
 ghost use Rattle.gix_url.specs.Authority.{Fits, unless_empty};
 ghost use Rattle.gix_url.specs.Flaws.{Flaw, HasShape, KindFlaw, MissesPath, OtherShape};
 
 use crate::error::{Error, UrlFault, UrlKind};
+use crate::text::as_text;
 use bstr::BString;
 use std::alloc::{AllocError, Global};
-
-/// Whether the bytes are UTF-8.
-pub(super) fn is_text(bytes: &[u8]) -> bool
-    ensures { IsTrue result ↔ IsUtf8 bytes.now }
-{
-    str::from_utf8(bytes).is_ok()
-}
 
 /// The piece as bytes of its own.
 pub(super) fn copied(alloc: Global, piece: &[u8]) -> Result<BString, AllocError>
@@ -31,10 +25,7 @@ pub(super) fn copied_text(alloc: Global, piece: &[u8]) -> Result<String, AllocEr
     requires { IsUtf8 piece.now }
     ensures { IfOk result (λ copy. string_bytes copy ≡ piece.now) }
 {
-    let Ok(text) = str::from_utf8(piece) else {
-        unreachable!()
-    };
-    String::from_str(alloc, text)
+    String::from_str(alloc, as_text(piece))
 }
 
 /// The piece as a text of its own, or none where it is empty.

@@ -1,6 +1,6 @@
 //! Remote helpers, local paths and file URLs, from the pieces that the classifier cut.
 //!
-//! It may use `bytes` and `copies`. Its contract: each form is read exactly where the definitions spell it, and each
+//! It may use `bytes`, `text` and `copies`. Its contract: each form is read exactly where the definitions spell it, and each
 //! refusal has its flaw.
 
 ghost use Rattle.std.specs.Prelude.{◌≡◌, true, IfErr, IfOk, codes, option_map, string_bytes};
@@ -13,11 +13,12 @@ ghost use Rattle.gix_url.specs.Shapes.{LocalShape};
 ghost use Rattle.gix_url.specs.Value.{path_alone};
 ghost use Rattle.gix_url.specs.Views.{protocol};
 
-use super::copies::{copied, copied_text, copied_unless_empty, is_text, missing_path, not_utf8};
+use super::copies::{copied, copied_text, copied_unless_empty, missing_path, not_utf8};
 use crate::bytes::cut;
 use crate::error::{Error, UrlKind};
 use crate::location::Url;
 use crate::scheme::Scheme;
+use crate::text::is_text;
 use bstr::BString;
 use std::alloc::{AllocError, Global};
 

@@ -1,6 +1,6 @@
 //! URLs, from the pieces that the classifier cut: file URLs, and those whose scheme gives them a meaning.
 //!
-//! It may use `length`, `url_location`, `copies` and `forms`. Its contract: a location is read exactly where the
+//! It may use `length`, `text`, `url_location`, `copies` and `forms`. Its contract: a location is read exactly where the
 //! definitions spell one, and each refusal has its flaw.
 
 ghost use Rattle.std.specs.Prelude.{◌≡◌, IfErr, IfOk, bytes_eq, codes};
@@ -13,6 +13,7 @@ use super::forms::read_file;
 use crate::error::{Error, UrlKind};
 use crate::length::fits;
 use crate::location::Url;
+use crate::text::{as_text, is_plain};
 use crate::url_location::url_location;
 use std::alloc::Global;
 
@@ -52,8 +53,11 @@ fn read_other(alloc: Global, input: &[u8], scheme: &[u8], rest: &[u8]) -> Result
     if !fits(scheme, rest) {
         return Err(too_long(alloc, input, scheme, rest));
     }
+    if is_plain(input) {
+        return url_location(alloc, as_text(input), true, scheme, rest);
+    }
     match str::from_utf8(input) {
-        Ok(text) => url_location(alloc, text, scheme, rest),
+        Ok(text) => url_location(alloc, text, false, scheme, rest),
         Err(_) => Err(not_utf8(alloc, UrlKind::Url, input)),
     }
 }

@@ -4,11 +4,12 @@ ghost use Rattle.std.specs.Prelude.{◌↔◌, IsTrue, IfSome};
 ghost use Rattle.gix_url.specs.Settled.{IsFileHost, IsSettledFile, IsSettledHelper, IsSettledLocal};
 ghost use Rattle.gix_url.specs.Shapes.{LocalShape};
 
-use super::parts::{has_host_alone, has_match, is_flagged_path, is_text};
+use super::parts::{has_host_alone, has_match, is_flagged_path};
 use crate::bytes::{is_free_of, is_helper_name, starts_with_byte};
 use crate::escape::has_percent;
 use crate::location::Url;
 use crate::parse::classify::{Shape, classify};
+use crate::text::is_text;
 
 /// Whether the location is a settled remote helper of this name.
 pub(crate) fn is_settled_helper(url: &Url, name: &[u8]) -> bool

@@ -1,6 +1,6 @@
 //! Tests of one part of a location.
 
-ghost use Rattle.std.specs.Prelude.{◌≡◌, ◌↔◌, IsTrue, IsUtf8, codes};
+ghost use Rattle.std.specs.Prelude.{◌≡◌, ◌↔◌, IsTrue, codes};
 ghost use Rattle.gix_url.specs.Bytes.{Holds};
 ghost use Rattle.gix_url.specs.Hosts.{normal_host};
 ghost use Rattle.gix_url.specs.Settled.{HasHostAlone, HasMatch, IsNormalAddress, IsNormalName, IsOpenName, begins_at_home, begins_with_slashes};
@@ -34,13 +34,6 @@ pub(crate) fn has_match(url: &Url) -> bool
         None => false,
         Some(spelling) => decodes_to(spelling.as_bytes(), url.path.as_bytes()),
     }
-}
-
-/// Whether the bytes are text.
-pub(crate) fn is_text(bytes: &[u8]) -> bool
-    ensures { IsTrue result ↔ IsUtf8 bytes.now }
-{
-    str::from_utf8(bytes).is_ok()
 }
 
 /// Whether the text begins with `/~`.

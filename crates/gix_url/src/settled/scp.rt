@@ -5,11 +5,12 @@ ghost use Rattle.gix_url.specs.Settled.{IsScpName, IsScpUser, IsSettledScp, Look
 ghost use Rattle.gix_url.specs.SettledParts.{HasScpForm, HasScpFront, HasScpHost, HasScpParts, IsScpHost, IsScpPath};
 
 use super::parts::{
-    begins_at_home, begins_with_slashes, is_normal_address, is_normal_name, is_text, lacks_mark,
+    begins_at_home, begins_with_slashes, is_normal_address, is_normal_name, lacks_mark,
 };
 use crate::bytes::{is_free_of, is_helper_name, starts_with_byte};
 use crate::escape::lacks_white_space;
 use crate::location::Url;
+use crate::text::is_text;
 
 /// Whether the location is settled in the scp form.
 pub(crate) fn is_settled_scp(url: &Url) -> bool

@@ -9,11 +9,12 @@ ghost use Rattle.gix_url.specs.SettledParts.{HasBareHost, HasBracketedHost, HasC
 
 use super::host::{is_bare_host, is_bracketed_host, is_web_host};
 use super::measure::has_fitting_text;
-use super::parts::{begins_at_home, has_match, is_text};
+use super::parts::{begins_at_home, has_match};
 use crate::bytes::{is_scheme_text, starts_with_byte};
 use crate::escape::{decodes_to, has_percent, is_sound, lacks_white_space};
 use crate::location::Url;
 use crate::scheme::is_known_scheme;
+use crate::text::is_text;
 
 /// Whether the location is a settled one of HTTP.
 pub(crate) fn is_settled_web(url: &Url) -> bool

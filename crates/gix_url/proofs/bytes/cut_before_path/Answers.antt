@@ -1,22 +1,23 @@
--- The place where a path may first start, and the pieces around it.
-use Rattle.std.proofs.Common.{arith}
+-- The pieces around the place where a path may first start, or the whole where it may nowhere.
+use Rattle.std.proofs.Common.{refl}
 use Rattle.gix_url.specs.Cuts.{is_path_start}
-use Rattle.gix_url.proofs.CutLemmas.{first_place, first_place_fits, cut_at_first}
+use Rattle.gix_url.proofs.CutLemmas.{cut_at_place, cut_at_end}
 use Rattle.gix_url.proofs.bytes.cut_before_path.Goals as goal
 
-pub split_at-requires : goal.split_at-requires
-split_at-requires c =
-    let test = is_path_start c.args.web in
-    let at = first_place test c.args.bytes.now _ _ c.path_start.ensures c.unwrap_or-at.ensures in
-    omega (arith, first_place_fits test c.args.bytes.now)
-
-pub returns : goal.returns
-returns c =
-    let test = is_path_start c.args.web in
-    let at = first_place test c.args.bytes.now _ _ c.path_start.ensures c.unwrap_or-at.ensures in
-    let pieces = cut_at_first test c.args.bytes.now in
+pub returns-in-Some : goal.returns-in-Some
+returns-in-Some c =
+    let pieces = cut_at_place (is_path_start c.args.web) c.args.bytes.now c.in-Some.at c.in-Some.ensures in
     record {
-      joined = rw (c.split_at.ensures.front, c.split_at.ensures.back, at) pieces.0;
-      front = rw (c.split_at.ensures.front, at) pieces.1;
-      rest = rw (c.split_at.ensures.back, at) pieces.2;
+      joined = rw (c.split_at.ensures.front, c.split_at.ensures.back) pieces.0;
+      front = rw c.split_at.ensures.front pieces.1;
+      rest = rw c.split_at.ensures.back pieces.2;
+    }
+
+pub returns-in-None : goal.returns-in-None
+returns-in-None c =
+    let pieces = cut_at_end (is_path_start c.args.web) c.args.bytes.now _ refl c.in-None.ensures in
+    record {
+      joined = rw (c.split_at-in-None.ensures.front, c.split_at-in-None.ensures.back) pieces.0;
+      front = rw c.split_at-in-None.ensures.front pieces.1;
+      rest = rw c.split_at-in-None.ensures.back pieces.2;
     }

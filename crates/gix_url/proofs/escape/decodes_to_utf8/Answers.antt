@@ -1,8 +1,12 @@
--- A text with no `%` decodes to itself.
-use Rattle.std.proofs.Common.{◌∙◌, sym, subst}
+-- A plain text decodes to itself, and so does one with no `%`.
+use Rattle.std.proofs.Common.{◌∙◌, refl, sym, subst}
 use Rattle.std.specs.Str.{IsUtf8}
 use Rattle.gix_url.proofs.EscapeLemmas.{decode_kept}
+use Rattle.gix_url.proofs.PlainLemmas.{plain_means_utf8}
 use Rattle.gix_url.proofs.escape.decodes_to_utf8.Goals as goal
+
+pub returns-then-is_plain : goal.returns-then-is_plain
+returns-then-is_plain c = (λ _. plain_means_utf8 c.args.text.now (sym c.if-is_plain.ensures), λ _. refl)
 
 pub returns-else-has_percent : goal.returns-else-has_percent
 returns-else-has_percent c =

@@ -4,10 +4,10 @@ use Rattle.gix_url.proofs.HostLemmas.{digits_utf8, not_parsed}
 use Rattle.gix_url.specs.HostPieces.{strictness}
 use Rattle.gix_url.proofs.host.read_port.Goals as goal
 
-pub returns-in_default : goal.returns-in_default
-returns-in_default c = absurd (c.in_default.ensures.cases.0 (digits_utf8 c.args.digits.now (sym c.if-not-are_digits.ensures)))
+pub as_text-requires : goal.as_text-requires
+as_text-requires c = digits_utf8 c.args.digits.now (sym c.if-not-are_digits.ensures)
 
-pub returns-in_default-parse : goal.returns-in_default-parse
-returns-in_default-parse c =
-    let fails = rw c.in-Ok.ensures.cases.0 at c.in_default-parse.ensures.value.0 in
+pub returns-in_default : goal.returns-in_default
+returns-in_default c =
+    let fails = rw c.as_text.ensures at c.in_default.ensures.value.0 in
     not_parsed (strictness c.args.mode) c.args.digits.now (sym c.if-not-are_digits.ensures) fails
