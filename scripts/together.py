@@ -1,14 +1,25 @@
-"""Must-fail edits that one check can try together: each changes the body of another function.
+"""Must-fail edits that are tried without a check of the whole crate.
 
-A function is proved from its own body and the contracts of what it calls, so an edit of one body leaves the goals of all
-other functions as they are, and the check says of each function by itself what is not proved. An edit counts as refused
-here only where the check names a goal of the very function that it changes. Every other is left to be tried alone: one
-that changes a contract, a constant or a definition, one that doesn't read, and one that the check has nothing to say of.
+Many change the body of one function each, and one check can try them together. A function is proved from its own body and
+the contracts of what it calls, so an edit of one body leaves the goals of all other functions as they are, and the check
+says of each function by itself what is not proved. An edit counts as refused here only where the check names a goal of
+the very function that it changes.
+
+An edit of definitions is tried by a check of the laws alone: they have no code, and stand on the definitions and on
+lemmas. It counts as refused here only where the check says of a law that it is not proved, and of no lemma that it names
+what the edit took away.
+
+Every other is left to be tried alone: one that changes a contract or a constant, one that doesn't read, and one that
+these checks have nothing to say of.
 """
 import re
 
 FUNCTION = re.compile(r"( *)(?:pub(?:\([a-z]+\))? )?(?:const )?(?:extern \"C\" )?fn \w")
 PAIR = re.compile(r"(?m)^file: (?P<file>\S+)|^old: (?P<old>.*)\nnew: ?(?P<new>.*)")
+LAWS = ["--only", "laws"]
+OPEN_LAW = re.compile(r"fn \w+::laws::\w+: not proved")
+# A lemma that names what an edit took away, which says little of the law.
+GONE = re.compile(r"(?:\./)?proofs/.*(has no field|is not in scope|has no `)")
 OPEN_GOAL = re.compile(r"note: (?:\./)?(src/\S+):(\d+):\d+: it is not proved")
 
 
@@ -87,15 +98,18 @@ def joined(crate, group):
     return texts, made
 
 
+def told_by(kit, crate, texts, flags, kept, last):
+    """What a check with these texts says, line by line, if it read them, refused them and ended so."""
+    ran = kit.checked(crate, texts, flags, kept)
+    lines = ran.stdout.rstrip("\n").split("\n")
+    is_refused = ran.returncode == 1 and lines[-1].startswith(last) and not kit.rtlib.STALE.search(ran.stdout)
+    return lines if is_refused and not any(kit.unread(it, texts) for it in lines) else []
+
+
 def refusals(kit, crate, group, flags, kept):
     """What the check of all edits of the group says against each: edits of which it says nothing are not among them."""
     texts, made = joined(crate, group)
-    ran = kit.checked(crate, texts, flags, kept)
-    if ran.returncode != 1 or kit.rtlib.STALE.search(ran.stdout):
-        return {}
-    lines = ran.stdout.rstrip("\n").split("\n")
-    if not lines[-1].startswith("logic=not-proved") or any(kit.unread(it, texts) for it in lines):
-        return {}
+    lines = told_by(kit, crate, texts, flags, kept, "logic=not-proved")
     open_goals = [(it[1], int(it[2]), it.string) for it in map(OPEN_GOAL.match, lines) if it]
     told = {}
     for edit, (file, first, last, _) in made:
@@ -103,3 +117,17 @@ def refusals(kit, crate, group, flags, kept):
         if said:
             told[edit] = said
     return told
+
+
+def is_of_definitions(kit, crate, edit):
+    """Whether the edit changes definitions and nothing else."""
+    texts, why = kit.read_edit(edit, crate.folder)
+    return not why and all(it.startswith("specs/") for it in texts)
+
+
+def refusals_by_laws(kit, crate, edit, flags, kept):
+    """What the check of the laws says against an edit of definitions: the law that is not proved with it, if one isn't."""
+    texts, _ = kit.read_edit(edit, crate.folder)
+    lines = told_by(kit, crate, texts, [*flags, *LAWS], kept, "only=")
+    is_fair = not any(map(GONE.match, lines))
+    return {edit: it for it in lines if is_fair and OPEN_LAW.match(it)}

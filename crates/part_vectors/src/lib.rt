@@ -13,4 +13,6 @@ mod ordering;
 #[cfg(test)]
 mod parts;
 #[cfg(test)]
+mod showing;
+#[cfg(test)]
 mod words;

@@ -5,7 +5,9 @@ use gix_url::expand_path::ForUser;
 use gix_url::lines::RunError;
 use gix_url::parse::{UrlKind, parse};
 use gix_url::{Error, Url, UrlFault, WriteError, WriteFault};
+use std::alloc::Global;
 use std::io::{self, ErrorKind};
+use std::process::Abort;
 use std::test::Fail;
 use told::unchecked;
 
@@ -81,29 +83,102 @@ fn what_is_too_long(rt: HostRuntime) -> Result<(), Fail> {
     Ok(())
 }
 
+/// Checks the words of an error.
+fn says(rt: &impl Abort, alloc: Global, error: &Error, words: &str) -> Result<(), Fail> {
+    assert_eq!(rt; error.to_string(alloc)?.as_str(), words);
+    Ok(())
+}
+
+/// Forms in words.
+static KINDS: [(UrlKind, &str); 3] = [
+    (UrlKind::Url, "URL"),
+    (UrlKind::Scp, "scp form"),
+    (UrlKind::Local, "local path"),
+];
+
+/// Faults of URLs in words.
+static FAULTS: [(UrlFault, &str); 4] = [
+    (UrlFault::NoScheme, "no valid scheme"),
+    (UrlFault::BadPort, "an invalid port"),
+    (
+        UrlFault::BadCharacter,
+        "a character or an escape that is not allowed",
+    ),
+    (UrlFault::HostRequired, "no host where one is required"),
+];
+
+/// Texts that an error may keep, none of which changes its words.
+static KEPT: [&[u8]; 4] = [b"", b"http://u:secret@h/\xff", b"{input}", b"h:"];
+
 #[test]
-fn other_errors_in_words(rt: HostRuntime) -> Result<(), Fail> {
+fn no_text_changes_the_words_of_a_refusal(rt: HostRuntime) -> Result<(), Fail> {
     let alloc = rt.alloc();
-    let name = BString::from_slice(alloc, b"-u:secret")?;
-    let user = BString::from_slice(alloc, b"secret")?;
+    for &text in KEPT.as_slice() {
+        for &(kind, form) in KINDS.as_slice() {
+            let input = BString::from_slice(alloc, text)?;
+            let words = format!(in alloc; "the {form} has no path")?;
+            says(
+                &rt,
+                alloc,
+                &Error::MissingPath { kind, input },
+                words.as_str(),
+            )?;
+            let input = BString::from_slice(alloc, text)?;
+            let words = format!(in alloc; "the {form} is not UTF-8")?;
+            says(&rt, alloc, &Error::NotUtf8 { kind, input }, words.as_str())?;
+        }
+    }
+    Ok(())
+}
+
+#[test]
+fn no_text_changes_the_words_of_a_fault(rt: HostRuntime) -> Result<(), Fail> {
+    let alloc = rt.alloc();
+    for &text in KEPT.as_slice() {
+        for &(kind, form) in KINDS.as_slice() {
+            for &(fault, wrong) in FAULTS.as_slice() {
+                let input = BString::from_slice(alloc, text)?;
+                let error = Error::BadUrl { kind, fault, input };
+                let words = format!(in alloc; "the {form} has {wrong}")?;
+                says(&rt, alloc, &error, words.as_str())?;
+            }
+        }
+    }
+    Ok(())
+}
+
+#[test]
+fn no_text_changes_other_words(rt: HostRuntime) -> Result<(), Fail> {
+    let alloc = rt.alloc();
+    for &text in KEPT.as_slice() {
+        let shown = BString::from_slice(alloc, text)?;
+        let words =
+            "the scheme or the authority of the URL is longer than 1024 bytes, in a text of 2016 bytes";
+        says(&rt, alloc, &Error::TooLong { shown, total: 2016 }, words)?;
+        let name = BString::from_slice(alloc, text)?;
+        let words = "the remote helper has no valid name";
+        says(&rt, alloc, &Error::HelperName { name }, words)?;
+        let user = ForUser::Name(BString::from_slice(alloc, text)?);
+        let words = "no home folder is known for the user";
+        says(&rt, alloc, &Error::NoHome(user), words)?;
+    }
+    Ok(())
+}
+
+#[test]
+fn errors_without_a_text_in_words(rt: HostRuntime) -> Result<(), Fail> {
+    let alloc = rt.alloc();
     for (error, words) in [
         (Error::Memory, "out of memory"),
-        (
-            Error::HelperName { name },
-            "the remote helper has no valid name",
-        ),
+        (Error::EmptyLocal, "the location is empty"),
         (
             Error::NoHome(ForUser::Current),
-            "no home folder is known for the user",
-        ),
-        (
-            Error::NoHome(ForUser::Name(user)),
             "no home folder is known for the user",
         ),
         (Error::PathNotUtf8, "the path isn't UTF-8"),
         (Error::Unresolved, "the path can't be resolved"),
     ] {
-        assert_eq!(rt; error.to_string(alloc)?.as_str(), words);
+        says(&rt, alloc, &error, words)?;
     }
     Ok(())
 }
@@ -165,49 +240,37 @@ fn a_fault_of_a_location_in_words(rt: HostRuntime) -> Result<(), Fail> {
 #[test]
 fn forms_and_faults_in_words(rt: HostRuntime) -> Result<(), Fail> {
     let alloc = rt.alloc();
-    for (kind, words) in [
-        (UrlKind::Url, "URL"),
-        (UrlKind::Scp, "scp form"),
-        (UrlKind::Local, "local path"),
-    ] {
+    for &(kind, words) in KINDS.as_slice() {
         assert_eq!(rt; kind.to_string(alloc)?.as_str(), words);
     }
-    for (fault, words) in [
-        (UrlFault::NoScheme, "no valid scheme"),
-        (UrlFault::BadPort, "an invalid port"),
-        (
-            UrlFault::BadCharacter,
-            "a character or an escape that is not allowed",
-        ),
-        (UrlFault::HostRequired, "no host where one is required"),
-    ] {
+    for &(fault, words) in FAULTS.as_slice() {
         assert_eq!(rt; fault.to_string(alloc)?.as_str(), words);
     }
     Ok(())
 }
 
+/// What streams fail with.
+static CAUSES: [(ErrorKind, &str); 3] = [
+    (ErrorKind::BrokenPipe, "nobody reads"),
+    (ErrorKind::Other, "nobody reads"),
+    (ErrorKind::StorageFull, "no room is left"),
+];
+
 #[test]
 fn failing_ends_in_words(rt: HostRuntime) -> Result<(), Fail> {
     let alloc = rt.alloc();
-    let cause = io::Error::from(ErrorKind::BrokenPipe).to_string(alloc)?;
-    let told = WriteError::Io(io::Error::from(ErrorKind::BrokenPipe)).to_string(alloc)?;
-    assert_eq!(rt;
-        told.as_str(),
-        format!(in alloc; "the writer failed: {cause}")?.as_str()
-    );
-    assert_eq!(rt;
-        RunError::Memory.to_string(alloc)?.as_str(),
-        "out of memory"
-    );
-    let told = RunError::Read(io::Error::from(ErrorKind::BrokenPipe)).to_string(alloc)?;
-    assert_eq!(rt;
-        told.as_str(),
-        format!(in alloc; "cannot read: {cause}")?.as_str()
-    );
-    let told = RunError::Write(io::Error::from(ErrorKind::BrokenPipe)).to_string(alloc)?;
-    assert_eq!(rt;
-        told.as_str(),
-        format!(in alloc; "cannot write: {cause}")?.as_str()
-    );
+    for &(kind, cause) in CAUSES.as_slice() {
+        let told = WriteError::Io(io::Error::new(kind, cause)).to_string(alloc)?;
+        let words = format!(in alloc; "the writer failed: {cause}")?;
+        assert_eq!(rt; told.as_str(), words.as_str());
+        let told = RunError::Read(io::Error::new(kind, cause)).to_string(alloc)?;
+        let words = format!(in alloc; "cannot read: {cause}")?;
+        assert_eq!(rt; told.as_str(), words.as_str());
+        let told = RunError::Write(io::Error::new(kind, cause)).to_string(alloc)?;
+        let words = format!(in alloc; "cannot write: {cause}")?;
+        assert_eq!(rt; told.as_str(), words.as_str());
+    }
+    let told = RunError::Memory.to_string(alloc)?;
+    assert_eq!(rt; told.as_str(), "out of memory");
     Ok(())
 }

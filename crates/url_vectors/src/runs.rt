@@ -2,7 +2,7 @@
 
 use gix_url::lines::{RunError, fault_line, run, status};
 use std::alloc::Global;
-use std::io::{self, ErrorKind};
+use std::io::{self, ErrorKind, Read};
 use std::process::Abort;
 use std::test::Fail;
 
@@ -70,17 +70,59 @@ fn bytes_that_are_no_text(rt: HostRuntime) -> Result<(), Fail> {
     Ok(())
 }
 
-#[test]
-fn a_line_of_a_megabyte(rt: HostRuntime) -> Result<(), Fail> {
-    let alloc = rt.alloc();
-    let line = vec![in alloc; b'/'; 1 << 20]?;
-    let mut left = line.as_slice();
+/// Checks the answer to a local path of so many times `/`, which is settled.
+fn answers_slashes<R: Read>(
+    rt: &impl Abort,
+    alloc: Global,
+    input: &mut R,
+    count: usize,
+) -> Result<(), Fail> {
     let mut out = Vec::new(alloc);
-    assert_eq!(rt; run(alloc, &mut left, &mut out)?, true);
-    assert_eq!(rt; out.len(), (1 << 20) + 9);
-    assert!(rt; out.starts_with(b"settled\t/"));
-    assert!(rt; out.ends_with(b"/\n"));
+    assert_eq!(rt; run(alloc, input, &mut out)?, true);
+    let path = out
+        .as_slice()
+        .strip_prefix(b"settled\t")
+        .and_then(|line| line.strip_suffix(b"\n"));
+    let is_whole = path.is_some_and(|path| path.len() == count
+        && path.iter().all(|byte| *byte == b'/'));
+    assert!(rt; is_whole, "another answer to {count} slashes");
     Ok(())
+}
+
+#[test]
+fn lines_of_three_megabytes(rt: HostRuntime) -> Result<(), Fail> {
+    let alloc = rt.alloc();
+    let count = 3 << 20;
+    let mut text = vec![in alloc; b'/'; count]?;
+    answers_slashes(&rt, alloc, &mut text.as_slice(), count)?;
+    text.push(b'\n')?;
+    answers_slashes(&rt, alloc, &mut text.as_slice(), count)
+}
+
+/// A reader that hands out so many times `/`, a byte a call.
+#[derive(Drop)]
+struct Trickle {
+    left: usize,
+}
+
+impl Read for Trickle {
+    fn read(&mut self, buf: &mut [u8]) -> io::Result<usize> {
+        let Some(place) = buf.first_mut() else {
+            return Ok(0);
+        };
+        if self.left == 0 {
+            return Ok(0);
+        }
+        self.left -= 1;
+        *place = b'/';
+        Ok(1)
+    }
+}
+
+#[test]
+fn a_megabyte_a_byte_a_call(rt: HostRuntime) -> Result<(), Fail> {
+    let count = 1 << 20;
+    answers_slashes(&rt, rt.alloc(), &mut Trickle { left: count }, count)
 }
 
 #[test]

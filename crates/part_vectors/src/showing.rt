@@ -1,0 +1,183 @@
+//! What people are shown of a location: never its password, however they ask and wherever their formatter fails.
+
+use gix_url::Url;
+use std::alloc::Global;
+use std::fmt::{self, Write};
+use std::process::Abort;
+use std::test::Fail;
+use told::unchecked;
+
+/// A formatter that keeps what it is handed, and fails at the call behind so many.
+#[derive(Drop)]
+struct Keeper {
+    kept: String,
+    calls: usize,
+}
+
+impl Write for Keeper {
+    fn write_str(&mut self, text: &str) -> fmt::Result {
+        let kept = self.kept.push_str(text);
+        if kept.is_err() || self.calls == 0 {
+            return Err(fmt::Error);
+        }
+        self.calls -= 1;
+        Ok(())
+    }
+}
+
+/// A formatter that was handed nothing yet.
+fn empty_keeper(alloc: Global, calls: usize) -> Keeper {
+    Keeper {
+        kept: String::new(alloc),
+        calls,
+    }
+}
+
+/// Shows the location in one of the ways to ask for it.
+fn show(out: &mut Keeper, url: &Url, way: usize) -> fmt::Result {
+    match way {
+        0 => write!(out, "{url}"),
+        1 => write!(out, "{url:#}"),
+        2 => write!(out, "{url:>40}"),
+        3 => write!(out, "{url:.3}"),
+        4 => write!(out, "{url:+}"),
+        _ => write!(out, "{url:*^#60.7}"),
+    }
+}
+
+/// How many ways to ask there are.
+const WAYS: usize = 6;
+
+/// The location with this password.
+fn with_password(
+    alloc: Global,
+    scheme: &str,
+    user: Option<&str>,
+    host: Option<&str>,
+    path: &[u8],
+    flag: bool,
+    password: &str,
+) -> Result<Url, Fail> {
+    unchecked(alloc, scheme, user, Some(password), host, None, path, flag)
+}
+
+/// Schemes of every kind that has a text beside a password, the path, the flag, and what is shown for the user `u` and the
+/// host `h`.
+static SHOWN: [(&str, &[u8], bool, &str); 14] = [
+    ("File", b"/p", false, "file://u:redacted@h/p"),
+    ("File", b"/p", true, "file://u:redacted@h/p"),
+    ("File", b"/\xff", true, "file://u:redacted@h/\u{fffd}"),
+    ("Git", b"/p", false, "git://u:redacted@h/p"),
+    ("Git", b"/p", true, "git://u:redacted@h/p"),
+    ("Ssh", b"/p", false, "ssh://u:redacted@h/p"),
+    ("Ssh", b"~p", true, "ssh://u:redacted@h/~p"),
+    ("Http", b"/a b", false, "http://u:redacted@h/a%20b"),
+    ("Https", b"/p", false, "https://u:redacted@h/p"),
+    ("Https", b"/p?q#f", true, "https://u:redacted@h/p?q#f"),
+    ("HelperUrl ftp", b"/p", false, "ftp://u:redacted@h/p"),
+    ("HelperUrl ftps", b"/p", true, "ftps://u:redacted@h/p"),
+    ("HelperUrl x", b"/p", false, "x://u:redacted@h/p"),
+    ("HelperUrl x", b"", true, "x://u:redacted@h"),
+];
+
+/// Passwords: one that is no escape, one that is written as escapes, and none of any length.
+static PASSWORDS: [&str; 3] = ["secret", "se:cr@et \u{f6}", ""];
+
+/// Checks what is shown in every way to ask.
+fn shows(rt: &impl Abort, alloc: Global, url: &Url, shown: &str) -> Result<(), Fail> {
+    for way in 0..WAYS {
+        let mut out = empty_keeper(alloc, 1000);
+        assert!(rt; show(&mut out, url, way).is_ok(), "way {way} of {shown}");
+        assert_eq!(rt; out.kept.as_str(), shown, "way {way}");
+    }
+    Ok(())
+}
+
+#[test]
+fn no_password_is_shown(rt: HostRuntime) -> Result<(), Fail> {
+    let alloc = rt.alloc();
+    for &(scheme, path, flag, shown) in SHOWN.as_slice() {
+        for &password in PASSWORDS.as_slice() {
+            let (user, host) = (Some("u"), Some("h"));
+            let url = with_password(alloc, scheme, user, host, path, flag, password)?;
+            shows(&rt, alloc, &url, shown)?;
+        }
+    }
+    Ok(())
+}
+
+#[test]
+fn a_password_without_a_user_is_not_shown(rt: HostRuntime) -> Result<(), Fail> {
+    let alloc = rt.alloc();
+    for (scheme, shown) in [
+        ("File", "file://h/p"),
+        ("Git", "git://h/p"),
+        ("Ssh", "ssh://h/p"),
+        ("Http", "http://h/p"),
+        ("HelperUrl x", "x://h/p"),
+    ] {
+        let url = with_password(alloc, scheme, None, Some("h"), b"/p", false, "secret")?;
+        shows(&rt, alloc, &url, shown)?;
+    }
+    Ok(())
+}
+
+/// Shows the location to a formatter that fails at each call in turn: what it was handed is a front of what is shown.
+fn shows_a_front(rt: &impl Abort, alloc: Global, url: &Url, shown: &str) -> Result<(), Fail> {
+    for way in 0..WAYS {
+        let mut calls = 0;
+        while calls < 100 {
+            let mut out = empty_keeper(alloc, calls);
+            let outcome = show(&mut out, url, way);
+            let kept = out.kept.as_str();
+            assert!(rt; shown.starts_with(kept), "{kept} is no front of {shown}");
+            if outcome.is_ok() {
+                assert_eq!(rt; kept, shown, "way {way}");
+                break;
+            }
+            calls += 1;
+        }
+        assert!(rt; calls > 0 && calls < 100, "{calls} calls for {shown}");
+    }
+    Ok(())
+}
+
+#[test]
+fn a_formatter_that_fails_was_shown_no_password(rt: HostRuntime) -> Result<(), Fail> {
+    let alloc = rt.alloc();
+    for &(scheme, path, flag, shown) in SHOWN.as_slice() {
+        let (user, host) = (Some("u"), Some("h"));
+        let url = with_password(alloc, scheme, user, host, path, flag, "secret")?;
+        shows_a_front(&rt, alloc, &url, shown)?;
+    }
+    Ok(())
+}
+
+/// Schemes, users, hosts and paths that have no text beside a password.
+static TEXTLESS: [(&str, Option<&str>, Option<&str>, &[u8]); 9] = [
+    ("Ext", None, None, b"p"),
+    ("Helper a", None, None, b"p"),
+    ("Helper -", Some("u"), Some("h"), b"p"),
+    ("Ssh", Some("u"), Some("h"), b"p"),
+    ("Ssh", Some("u"), None, b"/p"),
+    ("File", Some("u"), None, b"/p"),
+    ("Git", Some("u"), None, b"/p"),
+    ("Https", Some("u"), None, b"/p"),
+    ("HelperUrl x", Some("u"), None, b"/p"),
+];
+
+#[test]
+fn nothing_is_shown_where_there_is_no_text(rt: HostRuntime) -> Result<(), Fail> {
+    let alloc = rt.alloc();
+    for &(scheme, user, host, path) in TEXTLESS.as_slice() {
+        for flag in [false, true] {
+            let url = with_password(alloc, scheme, user, host, path, flag, "secret")?;
+            for way in 0..WAYS {
+                let mut out = empty_keeper(alloc, 1000);
+                assert!(rt; show(&mut out, &url, way).is_err(), "{scheme} is shown");
+                assert_eq!(rt; out.kept.as_str(), "", "something of {scheme} is shown");
+            }
+        }
+    }
+    Ok(())
+}
