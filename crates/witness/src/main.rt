@@ -1,0 +1,82 @@
+//! What the library reads in each line of the standard input, a line of JSON each, for `scripts/git_witness`, which asks
+//! Git how it reads the same lines.
+//!
+//! Glue alone, by public calls of `gix_url`: the record of what was read, under `Same`, `Settled` or `Unsettled`, or the
+//! name of what is wrong, under `Refused`. Lines are bytes, and end with byte 10. Arguments are ignored.
+//! The stored run is the examples of `differences`, answered by `scripts/oracle.py`.
+#![tactic(auto)]
+
+#[cfg(test)]
+mod differences;
+
+use bstr::BStr;
+use gix_url::stored::StoredUrl;
+use gix_url::{Error, Url, UrlFault};
+use serde::Serialize;
+use std::alloc::{AllocError, Global};
+use std::io::{self, BufRead, BufReader};
+
+/// What a line is read as.
+#[derive(Drop, Serialize)]
+enum Reading {
+    /// The parts of a settled location whose text is the line.
+    Same(StoredUrl),
+    /// The parts of any other settled location.
+    Settled(StoredUrl),
+    /// The parts of any other location.
+    Unsettled(StoredUrl),
+    /// No location: the name of what is wrong.
+    Refused(String),
+}
+
+/// What the bytes are read as.
+fn read(alloc: Global, bytes: &[u8]) -> Result<Reading, Error> {
+    match Url::from_bytes(alloc, BStr::new(bytes)) {
+        Ok(url) => {
+            let parts = url.to_stored(alloc)?;
+            if !url.is_settled() {
+                return Ok(Reading::Unsettled(parts));
+            }
+            let text = url.to_bstring(alloc)?;
+            Ok(if text.as_bytes() == bytes {
+                Reading::Same(parts)
+            } else {
+                Reading::Settled(parts)
+            })
+        }
+        Err(Error::Memory) => Err(Error::Memory),
+        Err(error) => Ok(Reading::Refused(String::from_str(alloc, flaw(&error))?)),
+    }
+}
+
+/// The name of what is wrong with a text.
+fn flaw(error: &Error) -> &'static str {
+    match error {
+        Error::EmptyLocal => "EmptyLocal",
+        Error::MissingPath { .. } => "MissingPath",
+        Error::NotUtf8 { .. } => "NotUtf8",
+        Error::TooLong { .. } => "TooLong",
+        Error::BadUrl { fault, .. } => match fault {
+            UrlFault::NoScheme => "NoScheme",
+            UrlFault::BadPort => "BadPort",
+            UrlFault::BadCharacter => "BadCharacter",
+            UrlFault::HostRequired => "HostRequired",
+        },
+        _ => "another error",
+    }
+}
+
+/// The answer to a line.
+fn answer(alloc: Global, line: &[u8]) -> Result<String, AllocError> {
+    let reading = read(alloc, line).map_err(|_| AllocError)?;
+    serde_json::to_string(alloc, &reading).map_err(|_| AllocError)
+}
+
+fn main(rt: HostRuntime) -> io::Result<()> {
+    let alloc = rt.alloc();
+    for line in BufReader::new(alloc, rt.reader())?.split(alloc, b'\n') {
+        let answer = answer(alloc, line?.as_slice())?;
+        println!(rt; "{answer}")?;
+    }
+    Ok(())
+}
