@@ -1,4 +1,5 @@
-"""The toolchain's command `rt` as a module, for the scripts that time or judge what it checks."""
+"""What the scripts share: the toolchain's command `rt` as a module, copies of the tree, and what the gate built of it."""
+import hashlib
 import importlib.machinery
 import importlib.util
 import os
@@ -7,6 +8,8 @@ import subprocess
 import sys
 
 ROOT = os.path.dirname(os.path.dirname(os.path.realpath(__file__)))
+# What the gate built of the sources whose number stands beside it.
+BUILT = f"{ROOT}/out/built"
 
 
 def load_kit():
@@ -32,3 +35,41 @@ def copy_tree(to, keep=lambda name: True):
         if keep(name) and os.path.lexists(f"{ROOT}/{name}"):
             os.makedirs(os.path.dirname(f"{to}/{name}"), exist_ok=True)
             shutil.copy2(f"{ROOT}/{name}", f"{to}/{name}", follow_symlinks=False)
+
+
+def sources():
+    """A number for the sources of all crates, by their names and their bytes."""
+    number = hashlib.sha256()
+    for name in sorted(git("ls-files", "-z", "--cached", "--others", "--exclude-standard", "crates", "crates.txt")):
+        if os.path.isfile(f"{ROOT}/{name}"):
+            with open(f"{ROOT}/{name}", "rb") as it:
+                number.update(f"{name}\0{os.path.getsize(it.name)}\0".encode() + it.read())
+    return number.hexdigest()
+
+
+def keep_built(root, number):
+    """Keeps the programs and static libraries that were proved and built of these sources below another root."""
+    shutil.rmtree(BUILT, ignore_errors=True)
+    os.makedirs(BUILT)
+    for name in os.listdir(f"{root}/crates"):
+        for file in (name, f"lib{name}.a"):
+            if os.path.isfile(f"{root}/crates/{name}/out/{file}"):
+                shutil.copy2(f"{root}/crates/{name}/out/{file}", f"{BUILT}/{file}")
+    with open(f"{BUILT}/sources", "w", encoding="utf-8") as it:
+        it.write(number)
+
+
+def built(name, *words):
+    """The program or the static library of a crate: as the gate built it of these very sources, or proved and built now."""
+    file = f"lib{name}.a" if words == ("lib",) else name
+    try:
+        with open(f"{BUILT}/sources", encoding="utf-8") as it:
+            is_kept = it.read() == sources() and os.path.isfile(f"{BUILT}/{file}")
+    except OSError:
+        is_kept = False
+    if is_kept:
+        return f"{BUILT}/{file}"
+    ran = subprocess.run(["rt", *words], cwd=f"{ROOT}/crates/{name}", stdin=subprocess.DEVNULL, stdout=subprocess.PIPE, stderr=subprocess.STDOUT, text=True)
+    if ran.returncode:
+        sys.exit(f"{name} is not proved\n{ran.stdout}")
+    return f"{ROOT}/crates/{name}/out/{file}"
