@@ -93,8 +93,8 @@ def user_in_brackets(case):
 
 
 def bracket_behind_at(case):
-    is_local = case.protocol == "file" and case.rest is None
-    return ALL | without_path(case) if not is_local and b"@[" in case.cut else ()
+    is_local = case.protocol == "file" and case.rest is None and "protocol" not in case.differing
+    return ALL | {"protocol"} | without_path(case) if not is_local and b"@[" in case.cut else ()
 
 
 def slash_behind_bracket(case):
@@ -104,9 +104,13 @@ def slash_behind_bracket(case):
     return ALL | without_path(case) if is_url and re.search(rb"(\A|@)\[[^\]]*/", case.cut) else ()
 
 
+def user_behind_bracket(case):
+    return ALL if case.protocol in ("ssh", "git") and re.search(rb"(\A|@)\[[^\]]*\][^/]*@", case.cut) else ()
+
+
 def port_in_brackets(case):
     is_there = case.is_cut_otherwise and "port" in case.differing
-    return WHERE if is_there and re.search(rb"\[[^\]]*:[0-9]+\]", case.cut) else ()
+    return WHERE if is_there and re.search(rb"\[[^\]]*:[ \t]*[+-]?[0-9]+\]", case.cut) else ()
 
 
 def port_without_host(case):
@@ -189,6 +193,7 @@ CLASSES = {
     "user-in-brackets": user_in_brackets,
     "bracket-behind-at": bracket_behind_at,
     "slash-behind-bracket": slash_behind_bracket,
+    "user-behind-bracket": user_behind_bracket,
     "port-in-brackets": port_in_brackets,
     "port-without-host": port_without_host,
     "password": password,
@@ -219,7 +224,7 @@ def is_careful(case, is_same):
 
     `is_same` says that the text is settled and is what `to_bstring` writes.
     """
-    if not is_same or re.search(rb"[%\[\]]", case.text) or case.ours.protocol.startswith("helper "):
+    if not is_same or re.search(rb"[%\[\]\0]", case.text) or case.ours.protocol.startswith("helper "):
         return False
     _, user, password, host, _, path = case.ours
     is_known = password is None and not any((it or b"").startswith(b"-") for it in (user, host, path))

@@ -14,7 +14,7 @@ use std::test::Fail;
 type Example = (&'static str, &'static [u8], &'static str, &'static str);
 
 /// Texts by which Git means another machine or another user.
-static MACHINE: [Example; 30] = [
+static MACHINE: [Example; 33] = [
     (
         "escaped-delimiter",
         b"git://h%2Fx/p",
@@ -86,6 +86,24 @@ static MACHINE: [Example; 30] = [
         b"[h:22]/x:p",
         "ssh host=h port=22 path=p",
         "file path=[h:22]/x:p",
+    ),
+    (
+        "user-behind-bracket",
+        b"[x]@h:p",
+        "ssh host=x path=p",
+        "ssh user=[x] host=h path=p",
+    ),
+    (
+        "user-behind-bracket",
+        b"[x]u@h:p",
+        "ssh host=x path=p",
+        "ssh user=[x]u host=h path=p",
+    ),
+    (
+        "user-behind-bracket",
+        b"ssh://[x]u@h/p",
+        "ssh host=x path=/p",
+        "ssh user=[x]u host=h path=/p",
     ),
     (
         "port-in-brackets",
