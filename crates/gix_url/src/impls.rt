@@ -9,7 +9,7 @@ ghost use Rattle.gix_url.specs.Display.{display, hidden};
 ghost use Rattle.gix_url.specs.Safeguards.{HidesPassword};
 
 use crate::location::Url;
-use crate::writer;
+use crate::writer::show::Shown;
 use itoa::Buffer;
 use std::fmt;
 
@@ -25,7 +25,7 @@ impl fmt::Display for Url {
         let mut digits = Buffer::new();
         let password = hidden_password(&self.password);
         match self.pieces(password, &mut digits) {
-            Ok(pieces) => writer::show_pieces(f, pieces),
+            Ok(pieces) => pieces.put::<fmt::Formatter<W>, Shown>(f),
             Err(_) => Err(fmt::Error),
         }
     }
