@@ -1,8 +1,10 @@
 -- The length test as a walk over the bytes: white space doesn't count, slashes are skipped, and the front counts.
 use Rattle.std.proofs.Common.{◌↔◌, ◌-◌, codes, zero, suc, length-append, ◌≡◌, ℕ, ◌+◌, ◌≤◌, min, Bool, true, false, not, inl, inr, List, [], ◌∷◌, ◌++◌, length, take, drop, refl, sym, ap, subst, ◌∙◌, arith}
+use Rattle.std.specs.Prelude.{nat_le, if◌then◌else◌}
 use Rattle.std.specs.List.{list_all, position_or_len}
 use Rattle.std.specs.Char.{is_ascii_whitespace}
 use Rattle.std.proofs.Math.Seq.{drop-append-add}
+use Rattle.std.proofs.lemmas.List.{length-drop}
 use Rattle.std.proofs.lemmas.Bool.{cases_Bool, and_from, and_parts, leb-true, le-leb}
 use Rattle.std.proofs.lemmas.List.Filters.{length-filter_both}
 use Rattle.gix_url.specs.declared.length.Stage.{Stage}
@@ -253,15 +255,68 @@ text_walk-append text x y =
     let walks = ap (walk_past_all text.walk) (drop_joined text.left x y) ∙ walk-append text.walk (drop text.left x) (drop (text.left - length x) y) in
     λ i. record { left = lefts i; walk = walks i }
 
--- past one slice more, the rest leads where it led
-pub chunk_walked : (text new first : TextWalk) (rest chunk others whole : List ℕ) → text_walk_past text rest ≡ text_walk_past first whole → rest ≡ chunk ++ others → new ≡ text_walk_past text chunk → text_walk_past new others ≡ text_walk_past first whole
-chunk_walked text new first rest chunk others whole so_far handed walked =
-    ap (λ (w : TextWalk). text_walk_past w others) walked ∙ sym (text_walk-append text chunk others) ∙ ap (text_walk_past text) (sym handed) ∙ so_far
+-- nothing without a front is nothing
+drop_nothing : (n : ℕ) → drop {A = ℕ} n [] ≡ []
+drop_nothing zero = refl
+drop_nothing (suc n) = refl
 
--- past one piece more, the walk is past the pieces so far
-pub piece_walked : (text new first : TextWalk) (before piece whole : List ℕ) → text ≡ text_walk_past first before → whole ≡ before ++ piece → new ≡ text_walk_past text piece → new ≡ text_walk_past first whole
-piece_walked text new first before piece whole so_far more walked =
-    walked ∙ ap (λ (w : TextWalk). text_walk_past w piece) so_far ∙ sym (text_walk-append first before piece) ∙ ap (text_walk_past first) (sym more)
+-- and a walk past nothing stays where it is
+pub text_walk-nil : (text : TextWalk) → text_walk_past text [] ≡ text
+text_walk-nil text =
+    let left : text.left - 0 ≡ text.left = omega arith in
+    let walk = ap (walk_past_all text.walk) (drop_nothing text.left) in
+    λ i. record { left = left i; walk = walk i }
+
+-- ---- short texts
+
+-- what a stage has counted
+abbrev counted_in : Stage → ℕ
+counted_in Slashes = 0
+counted_in (Front count) = count
+counted_in (Behind count) = count
+
+-- a byte counts for one at most
+counted_start : (starts : Bool) (count : ℕ) → counted_in (if starts then Behind count else Front (one_more count)) ≤ count + 1
+counted_start true count = omega arith
+counted_start false count = omega arith
+
+counted_slash : (web slash : Bool) (b : ℕ) → counted_in (if slash then Slashes else stage_counted web 0 b) ≤ 0 + 1
+counted_slash web true b = omega arith
+counted_slash web false b = counted_start (is_path_start web b) 0
+
+counted_past : (web : Bool) (stage : Stage) (b : ℕ) → counted_in (stage_past web stage b) ≤ counted_in stage + 1
+counted_past web Slashes b = counted_slash web (is_any_slash b) b
+counted_past web (Front count) b = counted_start (is_path_start web b) count
+counted_past web (Behind count) b = omega arith
+
+counted_byte : (white : Bool) (stage next : Stage) → counted_in next ≤ counted_in stage + 1 → counted_in (if white then stage else next) ≤ counted_in stage + 1
+counted_byte true stage next h = omega arith
+counted_byte false stage next h = h
+
+-- a walk counts no more than the bytes that it went past
+counted_all : (walk : Walk) (bs : List ℕ) (n : ℕ) → counted_in walk.stage ≤ n → walk.whole ≤ n → (counted_in (walk_past_all walk bs).stage ≤ n + length bs) × ((walk_past_all walk bs).whole ≤ n + length bs)
+counted_all walk [] n stage whole = (omega (arith, stage), omega (arith, whole))
+counted_all walk (b ∷ bs) n stage whole =
+    let next = counted_byte (is_ascii_whitespace b) walk.stage (stage_past walk.web walk.stage b) (counted_past walk.web walk.stage b) in
+    let rest = counted_all (walk_past walk b) bs (n + 1) (omega (arith, stage, next)) (omega (arith, whole)) in
+    (omega (arith, rest.0), omega (arith, rest.1))
+
+-- so one that counts so little is short
+counted_short : (stage : Stage) (whole : ℕ) → counted_in stage ≤ 1024 → whole ≤ 1024 → nat_le (counted_at stage whole) 1024 ≡ true
+counted_short Slashes whole h k = le-leb whole 1024 k
+counted_short (Front count) whole h k = le-leb whole 1024 k
+counted_short (Behind count) whole h k = le-leb count 1024 h
+
+-- a text that is hardly longer than its scheme is short enough
+pub short_walk : (scheme t : List ℕ) → length t ≤ length scheme + 3 + 1024 → is_walk_short (text_walk_past (text_walk_for scheme) t).walk ≡ true
+short_walk scheme t short =
+    let behind = drop (length scheme + 3) t in
+    let walk = walk_past_all (walk_behind scheme) behind in
+    let few : length behind ≤ 1024 = omega (arith, short, length-drop (length scheme + 3) t) in
+    let counted = counted_all (walk_behind scheme) behind 0 (omega arith) (omega arith) in
+    counted_short walk.stage walk.whole (omega (arith, few, counted.0)) (omega (arith, few, counted.1))
+
+-- ---- whole texts
 
 -- what a walk over a whole text leaves out is the scheme and its mark
 walk_behind_mark : (scheme rest t : List ℕ) → t ≡ scheme ++ (codes "://" ++ rest) → (text_walk_past (text_walk_for scheme) t).walk ≡ walk_past_all (walk_behind scheme) rest

@@ -1,12 +1,10 @@
 -- Lines and their answers, one after another.
 use Rattle.std.proofs.Common.{◌≡◌, ℕ, Bool, true, false, List, [], ◌∷◌, ◌++◌, refl, sym, ap, subst, ◌∙◌, append_assoc, append-nil, All, length, arith, eqb-true}
-use Rattle.std.specs.Prelude.{◌&&◌, ◌==◌, Option, Result, Ok, Err, is_err}
+use Rattle.std.specs.Prelude.{◌&&◌, ◌==◌, Option, Result, Ok, Err, is_ok}
 use Rattle.std.proofs.lemmas.List.Elements.{All-append, All-cons, All-nil}
 use Rattle.gix_url.specs.declared.error.WriteFault.{WriteFault}
 use Rattle.gix_url.specs.Value.{Location}
 use Rattle.gix_url.specs.Bytes.{newline, FreeOf}
-use Rattle.gix_url.specs.Text.{text}
-use Rattle.gix_url.specs.Pieces.{text_length}
 use Rattle.gix_url.specs.declared.error.Error.{Error}
 use Rattle.gix_url.specs.declared.error.Error.TheVariants as error
 use Rattle.gix_url.specs.declared.lines.RunError.{RunError}
@@ -104,20 +102,14 @@ done_last whole (b ∷ bs) out new good first done free filled (answer, one, joi
       answers_push done.lines out good (b ∷ bs) answer first done.answered one,
     )
 
--- a text or a fault: which it is, by the test of a length
-pub has_text : (v : Location) (r : Result ℕ WriteFault) → r ≡ text_length (text v) → is_err r ≡ false → (t : List ℕ) × (text v ≡ Ok t)
-has_text v r e right = has_ok (text v) (ap is_err (sym e) ∙ right)
-  where
-    has_ok : (w : Result (List ℕ) WriteFault) → is_err (text_length w) ≡ false → (t : List ℕ) × (w ≡ Ok t)
-    has_ok (Ok t) h = (t, refl)
-    has_ok (Err f) h = absurd (cc)
+-- a text or a fault: which it is, by a test
+pub has_text : (w : Result (List ℕ) WriteFault) → is_ok w ≡ true → (t : List ℕ) × (w ≡ Ok t)
+has_text (Ok t) h = (t, refl)
+has_text (Err f) h = absurd (cc)
 
-pub has_fault : (v : Location) (r : Result ℕ WriteFault) → r ≡ text_length (text v) → is_err r ≡ true → (f : WriteFault) × (text v ≡ Err f)
-has_fault v r e wrong = has_err (text v) (ap is_err (sym e) ∙ wrong)
-  where
-    has_err : (w : Result (List ℕ) WriteFault) → is_err (text_length w) ≡ true → (f : WriteFault) × (w ≡ Err f)
-    has_err (Ok t) h = absurd (cc)
-    has_err (Err f) h = (f, refl)
+pub has_fault : (w : Result (List ℕ) WriteFault) → is_ok w ≡ false → (f : WriteFault) × (w ≡ Err f)
+has_fault (Ok t) h = absurd (cc)
+has_fault (Err f) h = (f, refl)
 
 -- what is told of a location is the answer to each line that spells it
 pub told_answer : (read line old new : List ℕ) (v : Location) (r : Result Bool RunError) → read ≡ line → Spells read v → Tells v old new r → AppendsAnswer line old new r

@@ -1,5 +1,5 @@
 -- Pieces of a text: what escapes and written percents make up, and how long they are.
-use Rattle.std.proofs.Common.{◌≡◌, ℕ, zero, suc, add-one, ◌+◌, ◌*◌, ◌<◌, Bool, cond, ◌==◌, Option, Some, None, Result, Ok, Err, List, [], ◌∷◌, ◌++◌, length, take, drop, get_or, inl, inr, refl, sym, ap, ◌∙◌, arith, append_assoc, append-nil, length-append}
+use Rattle.std.proofs.Common.{◌≡◌, ℕ, ◌+◌, ◌*◌, ◌<◌, Bool, cond, ◌==◌, Option, Some, None, Result, Ok, Err, List, [], ◌∷◌, ◌++◌, length, take, drop, get_or, inl, inr, refl, sym, ap, ◌∙◌, arith, append_assoc, length-append}
 use Rattle.std.specs.Borrow.{Bor}
 use Rattle.std.specs.List.{count_by, position_or_len}
 use Rattle.std.proofs.lemmas.Bool.{both_ways, cases_Bool, eqb-true, cond-true, cond-false}
@@ -9,17 +9,15 @@ use Rattle.percent_encoding.specs.declared.ascii_set.AsciiSet.{AsciiSet}
 use Rattle.percent_encoding.specs.AsciiSet.{should_percent_encode}
 use Rattle.percent_encoding.specs.Percent.{percent_encode, percent_encode_byte}
 use Rattle.percent_encoding.proofs.PercentLemmas.{percent_encode-nil, percent_encode_escaped, percent_encode_kept}
-use Rattle.std.specs.Result.{OnOk, IfErr}
-use Rattle.std.specs.Io.KnownBytes.{Appends}
+use Rattle.std.specs.Prelude.{OnOk, is_ok}
 use Rattle.gix_url.specs.declared.error.WriteFault.{WriteFault}
-use Rattle.gix_url.specs.declared.error.WriteError.{WriteError}
-use Rattle.gix_url.specs.declared.error.WriteError.TheVariants.{Fault, Io}
-use Rattle.gix_url.specs.Readings.{Written, IsIo}
+use Rattle.gix_url.specs.declared.writer.form.Form.{Form}
+use Rattle.gix_url.specs.Value.{Location}
+use Rattle.gix_url.specs.Text.{choice, in_form, text}
+use Rattle.gix_url.specs.Pieces.{form_chosen}
 use Rattle.gix_url.specs.Bytes.{percent_sign, FreeOf}
 use Rattle.gix_url.specs.Cuts.{CutsAt}
 use Rattle.gix_url.specs.Escapes.{escaped_percents}
-use Rattle.gix_url.specs.declared.writer.piece.Piece.{Piece}
-use Rattle.gix_url.specs.Pieces.{piece_text, texts_text}
 use Rattle.gix_url.proofs.CutLemmas.{lacks_before, lacks_after}
 use Rattle.gix_url.proofs.EscapeLemmas.{escaped_percents-append, escaped_percents_kept}
 
@@ -67,6 +65,20 @@ length_percents (b ∷ bs) =
           omega (arith, whole, none, rest)
     ]
 
+-- a text of which no byte has to be escaped is written as it is
+pub kept_text : (set : AsciiSet) (bs : List ℕ) → count_by (should_percent_encode set) bs ≡ 0 → percent_encode set bs ≡ bs
+kept_text set [] none = percent_encode-nil set
+kept_text set (b ∷ bs) none =
+    elim (cases_Bool (should_percent_encode set b)) [
+      | inl escaped ↦
+          let one = counted (should_percent_encode set) b bs 1 (cond-true {A = ℕ} (should_percent_encode set b) 1 0 escaped) in
+          absurd (omega (arith, one, none))
+      | inr kept ↦
+          let rest = counted (should_percent_encode set) b bs 0 (cond-false {A = ℕ} (should_percent_encode set b) 1 0 kept) in
+          let others : count_by (should_percent_encode set) bs ≡ 0 = omega (arith, rest, none) in
+          percent_encode_kept set b bs kept ∙ ap (λ x. b ∷ x) (kept_text set bs others)
+    ]
+
 -- ---- percents
 
 -- a text is written as what stands before the first `%`, its escape, and what is written behind it
@@ -88,37 +100,7 @@ split_cuts c bs (Some x) h small =
     let here : get_or bs at 0 ≡ c = eqb-true (get_or bs at 0) c (passes_at_first (λ b. b == c) bs 0 found.0) in
     rw (found.1, found.2) (front, split_at_first (λ b. b == c) bs 0 found.0 ∙ ap (λ b. take at bs ++ b ∷ drop (at + 1) bs) here)
 
--- ---- pieces in a row
-
--- the texts up to the next place are those up to this one, and the text of the piece that stands here
-pub texts_more : (ps : List Piece) (i : ℕ) (d : Piece) → piece_text d ≡ [] → texts_text (take (i + 1) ps) ≡ texts_text (take i ps) ++ piece_text (get_or ps i d)
-texts_more [] zero d h = sym h
-texts_more [] (suc i) d h = rw (add-one (suc i)) (sym h)
-texts_more (p ∷ ps) zero d h = append-nil (piece_text p)
-texts_more (p ∷ ps) (suc i) d h =
-    rw (add-one (suc i)) (ap (λ x. piece_text p ++ x) (rw (add-one i) at (texts_more ps i d h)) ∙ sym (append_assoc (piece_text p) (texts_text (take i ps)) (piece_text (get_or ps i d))))
-
--- and so are their lengths
-pub length_more : (ps : List Piece) (i : ℕ) (d : Piece) → piece_text d ≡ [] → length (texts_text (take (i + 1) ps)) ≡ length (texts_text (take i ps)) + length (piece_text (get_or ps i d))
-length_more ps i d h = ap length (texts_more ps i d h) ∙ length-append (texts_text (take i ps)) (piece_text (get_or ps i d))
-
--- the texts from a place on are that of the piece that stands there, and those behind it
-pub texts_left : (ps : List Piece) (i : ℕ) (d : Piece) → piece_text d ≡ [] → texts_text (drop i ps) ≡ piece_text (get_or ps i d) ++ texts_text (drop (i + 1) ps)
-texts_left [] zero d h = ap (λ x. x ++ []) (sym h)
-texts_left [] (suc i) d h = rw (add-one (suc i)) (ap (λ x. x ++ []) (sym h))
-texts_left (p ∷ ps) zero d h = refl
-texts_left (p ∷ ps) (suc i) d h = rw (add-one (suc i)) (rw (add-one i) at (texts_left ps i d h))
-
--- and so are their lengths
-pub length_left : (ps : List Piece) (i : ℕ) (d : Piece) → piece_text d ≡ [] → length (texts_text (drop i ps)) ≡ length (piece_text (get_or ps i d)) + length (texts_text (drop (i + 1) ps))
-length_left ps i d h = ap length (texts_left ps i d h) ∙ length-append (piece_text (get_or ps i d)) (texts_text (drop (i + 1) ps))
-
--- ---- texts that grow
-
--- what grew by two texts grew by both of them
-pub grown : (old mid new a p b : List ℕ) → mid ≡ old ++ a → new ≡ mid ++ p → b ≡ a ++ p → new ≡ old ++ b
-grown old mid new a p b first second whole =
-    second ∙ (ap (λ x. x ++ p) first ∙ (append_assoc old a p ∙ ap (λ x. old ++ x) (sym whole)))
+-- ---- texts that are put
 
 -- a text of which one slice more was handed out
 pub handed_on : (whole done rest chunk left : List ℕ) → whole ≡ done ++ rest → rest ≡ chunk ++ left → whole ≡ (done ++ chunk) ++ left
@@ -126,11 +108,15 @@ handed_on whole done rest chunk left first second = first ∙ (ap (λ x. done ++
 
 -- ---- results
 
--- what was written where there is a text
-pub written_ok : {W : Type 0} (contents : W → Option (List ℕ)) (old new : W) (t : List ℕ) (r : Result (Unit {0}) WriteError) → OnOk r (Appends (contents old) (contents new) t) → IfErr r IsIo → Written contents old new (Ok t) r
-written_ok contents old new t (Ok u) ok io = ok
-written_ok contents old new t (Err (Fault f)) ok io = io
-written_ok contents old new t (Err (Io e)) ok io = tt
+-- a location has a text exactly where a form can be chosen
+pub chosen_text : (v : Location) (r : Result Form WriteFault) → form_chosen r ≡ choice v → is_ok r ≡ is_ok (text v)
+chosen_text v (Ok form) e = ap (λ x. is_ok (in_form x v)) e
+chosen_text v (Err fault) e = ap (λ x. is_ok (in_form x v)) e
+
+-- what follows where a call succeeds
+pub on_ok : {T E P Q : Type 0} (r : Result T E) → (P → Q) → OnOk r P → OnOk r Q
+on_ok (Ok x) follows h = follows h
+on_ok (Err e) follows h = tt
 
 -- equal results tell the same fault
 pub same_fault : {A : Type 0} (r : Result A WriteFault) (f g : WriteFault) → Err f ≡ r → r ≡ Err g → f ≡ g

@@ -37,6 +37,7 @@ pub mod HostPieces
 pub mod UrlPieces
 pub mod Shapes
 pub mod ScpPieces
+pub mod Sinks
 pub mod Readings
 pub mod FromParts
 pub mod HomeReadings

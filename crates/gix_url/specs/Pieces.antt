@@ -1,53 +1,65 @@
 -- The pieces of a text, and what they make up.
-use Rattle.std.specs.Prelude.{ℕ, ◌+◌, ◌*◌, List, [], ◌∷◌, ◌++◌, length, Option, option_map, Result, Ok, Err}
+use Rattle.std.specs.Prelude.{ℕ, List, [], ◌∷◌, ◌++◌, length, Option, Some, None, option_map, Result, Ok, Err}
 use Rattle.std.specs.Borrow.{Bor}
 use Rattle.percent_encoding.specs.Percent.{percent_encode}
-use Rattle.percent_encoding.specs.Iter.{encoded_text, input_len}
+use Rattle.gix_url.specs.declared.escape.TheConstants.{PATH, PASSWORD, USER}
 use Rattle.gix_url.specs.declared.writer.piece.Piece.{Piece}
 use Rattle.gix_url.specs.declared.writer.piece.Piece.TheVariants as piece
+use Rattle.gix_url.specs.declared.writer.piece.SchemePieces.{SchemePieces}
+use Rattle.gix_url.specs.declared.writer.piece.SchemePieces.TheVariants as scheme
+use Rattle.gix_url.specs.declared.writer.piece.UserPieces.{UserPieces}
+use Rattle.gix_url.specs.declared.writer.piece.UserPieces.TheVariants as user
+use Rattle.gix_url.specs.declared.writer.piece.HostPieces.{HostPieces}
+use Rattle.gix_url.specs.declared.writer.piece.HostPieces.TheVariants as host
+use Rattle.gix_url.specs.declared.writer.piece.PathPieces.{PathPieces}
+use Rattle.gix_url.specs.declared.writer.piece.PathPieces.TheVariants as path
 use Rattle.gix_url.specs.declared.writer.piece.Pieces.{Pieces}
-use Rattle.gix_url.specs.declared.writer.piece.Chunks.{Chunks}
-use Rattle.gix_url.specs.declared.writer.piece.Chunks.TheVariants as chunk
 use Rattle.gix_url.specs.declared.writer.form.Form.{Form as Code}
 use Rattle.gix_url.specs.declared.writer.form.Form.TheVariants as code
-use Rattle.gix_url.specs.declared.writer.layout.Parts.{Parts}
-use Rattle.gix_url.specs.declared.writer.layout.UserPieces.{UserPieces}
-use Rattle.gix_url.specs.declared.writer.layout.HostPieces.{HostPieces}
-use Rattle.gix_url.specs.declared.writer.layout.PathPieces.{PathPieces}
 use Rattle.gix_url.specs.declared.error.WriteFault.{WriteFault}
+use Rattle.gix_url.specs.Bytes.{colon, at_sign, left_bracket, right_bracket}
 use Rattle.gix_url.specs.Escapes.{escaped_percents}
 use Rattle.gix_url.specs.Value.{Location}
 use Rattle.gix_url.specs.Text.{Form, matching_or}
 use Rattle.gix_url.specs.Text.Form.{helper_form, path_form, scp_form, canonical_form}
 
--- the text of a piece: raw, escaped by its set, or with each `%` escaped
+-- the text of a piece: raw, with the escapes of a user or of a password, or with each `%` escaped
 abbrev pub piece_text : Piece → List ℕ
 piece_text (piece.Raw text) = text.now
-piece_text (piece.Escaped text set) = percent_encode set text.now
+piece_text (piece.User text) = percent_encode USER text.now
+piece_text (piece.Password text) = percent_encode PASSWORD text.now
 piece_text (piece.Percents text) = escaped_percents text.now
 
--- the texts of pieces, joined
-abbrev pub texts_text : List Piece → List ℕ
-texts_text [] = []
-texts_text (p ∷ ps) = piece_text p ++ texts_text ps
+-- the scheme and its mark
+abbrev pub scheme_text : SchemePieces → List ℕ
+scheme_text scheme.None = []
+scheme_text (scheme.Marked name mark) = name.now ++ mark.now
 
--- the text of all pieces, with the bytes behind them
+-- the user information
+abbrev pub user_text : UserPieces → List ℕ
+user_text user.None = []
+user_text (user.User name) = piece_text name ++ at_sign ∷ []
+user_text (user.Both name password) = piece_text name ++ (colon ∷ (piece_text password ++ at_sign ∷ []))
+
+-- the host
+abbrev pub host_text : HostPieces → List ℕ
+host_text host.None = []
+host_text (host.Open name) = piece_text name
+host_text (host.Bracketed name) = left_bracket ∷ (piece_text name ++ right_bracket ∷ [])
+
+-- the port behind its colon
+abbrev pub port_text : Option (Bor (List ℕ)) → List ℕ
+port_text None = []
+port_text (Some digits) = colon ∷ digits.now
+
+-- the path behind its mark
+abbrev pub path_end_text : PathPieces → List ℕ
+path_end_text (path.Raw mark bytes) = mark.now ++ bytes.now
+path_end_text (path.Escaped mark bytes) = mark.now ++ percent_encode PATH bytes.now
+
+-- the text of all pieces
 abbrev pub pieces_text : Pieces → List ℕ
-pieces_text p = texts_text p.texts ++ p.tail.now
-
--- the text that is left to hand out
-abbrev pub chunks_text : Chunks → List ℕ
-chunks_text (chunk.Raw text) = text.now
-chunks_text (chunk.Escaped it) = encoded_text it
-chunks_text (chunk.Percents text) = escaped_percents text.now
-chunks_text (chunk.PercentsBehind text) = 37 ∷ 50 ∷ 53 ∷ escaped_percents text.now
-
--- at most how many slices are left to hand out
-abbrev pub chunks_left : Chunks → ℕ
-chunks_left (chunk.Raw text) = length text.now
-chunks_left (chunk.Escaped it) = input_len it
-chunks_left (chunk.Percents text) = 2 * length text.now + 1
-chunks_left (chunk.PercentsBehind text) = 2 * length text.now + 2
+pieces_text p = scheme_text p.scheme ++ (user_text p.user ++ (host_text p.host ++ (port_text p.port ++ path_end_text p.path)))
 
 -- ---- forms
 
@@ -82,21 +94,3 @@ text_length (Err fault) = Err fault
 -- the spelling of the path where it matches, and else the path
 abbrev pub original_path_of : Location → List ℕ
 original_path_of v = matching_or v.spelling v.path v.path
-
--- the user information that its pieces make up
-abbrev pub user_text : UserPieces → List ℕ
-user_text u = piece_text u.user ++ (u.colon.now ++ (piece_text u.password ++ u.at_sign.now))
-
--- the host that its pieces make up
-abbrev pub host_text : HostPieces → List ℕ
-host_text h = h.left.now ++ (piece_text h.host ++ h.right.now)
-
--- the path that its pieces make up
-abbrev pub path_end_text : PathPieces → List ℕ
-path_end_text p = p.mark.now ++ (piece_text p.escaped ++ p.raw.now)
-
--- the text that the parts make up
-abbrev pub parts_text : Parts → List ℕ
-parts_text p =
-    (p.scheme.0.now ++ p.scheme.1.now)
-    ++ (user_text p.user ++ (host_text p.host ++ ((p.port.0.now ++ p.port.1.now) ++ path_end_text p.path)))

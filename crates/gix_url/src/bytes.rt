@@ -1,10 +1,10 @@
-//! Cuts of a text around a byte or a mark, and tests of its bytes.
+//! Cuts of a text around a byte or a mark, tests of its bytes, and bytes put where there is room.
 //!
 //! It stands on the searches of `bstr` and `memchr`, asks for no memory and uses nothing else of this crate. What a cut
 //! answers is told as a concatenation: the pieces joined are the text, and one of them is free of what was
 //! searched for, so that no caller sees an index.
 
-ghost use Rattle.std.specs.Prelude.{◌≡◌, ◌↔◌, ◌++◌, IsTrue};
+ghost use Rattle.std.specs.Prelude.{◌≡◌, ◌↔◌, ◌+◌, ◌≤◌, ◌++◌, IsTrue, length, vec_capacity, vec_len};
 ghost use Rattle.std.specs.List.{list_all};
 ghost use Rattle.memchr.specs.Find.{IsFirstByte};
 ghost use Rattle.gix_url.specs.Bytes.{FreeOf, IsLowercase, Lacks, begins_with, is_helper_name, is_name_byte, is_scheme_text};
@@ -143,4 +143,16 @@ pub(crate) fn is_lowercase(bytes: &[u8]) -> bool
     ensures { IsTrue result ↔ IsLowercase bytes.now }
 {
     bytes.iter().all(|byte| byte.to_ascii_lowercase() == *byte)
+}
+
+/// Appends the bytes, for which there is room.
+pub(crate) fn append_within(out: &mut Vec<u8>, bytes: &[u8])
+    requires { vec_len out.old + length bytes.now ≤ vec_capacity out.old }
+    ensures items { out.new.items ≡ out.old.items ++ bytes.now }
+    ensures len { vec_len out.new ≡ vec_len out.old + length bytes.now }
+    ensures capacity { vec_capacity out.old ≤ vec_capacity out.new }
+{
+    let appended = out.extend_from_slice(bytes);
+    prove!(appended.is_ok());
+    let _ = appended;
 }

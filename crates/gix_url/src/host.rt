@@ -15,7 +15,7 @@ ghost use Rattle.gix_url.specs.Hosts.{HostText, IsAddressPiece, IsLiteral, IsMan
 ghost use Rattle.gix_url.specs.HostPieces.{EndsHost, Follows, IsEscapedZone, IsInner, ReadsName, host_of, host_text, in_brackets, is_bracketed, lowercase_address, meant, piece_text, port_of, settled, shown_literal, strictness, unescaped};
 ghost use Rattle.percent_encoding.specs.Percent as percent;
 
-use crate::bytes::{after, before, cut, is_free_of, starts_with_byte};
+use crate::bytes::{after, append_within, before, cut, is_free_of, starts_with_byte};
 use crate::error::UrlFault;
 use crate::escape::{decodes_to_utf8, has_percent, is_sound};
 use crate::ipv6::is_address;
@@ -553,16 +553,4 @@ fn append_decoded(out: &mut Vec<u8>, text: &[u8])
     for byte in percent_decode(text) {
         append_within(out, &[byte]);
     }
-}
-
-/// Writes bytes into a buffer that has room for them.
-fn append_within(out: &mut Vec<u8>, bytes: &[u8])
-    requires { vec_len out.old + length bytes.now ≤ vec_capacity out.old }
-    ensures items { out.new.items ≡ out.old.items ++ bytes.now }
-    ensures capacity { vec_capacity out.old ≤ vec_capacity out.new }
-    ensures len { vec_len out.new ≡ vec_len out.old + length bytes.now }
-{
-    let appended = out.extend_from_slice(bytes);
-    prove!(appended.is_ok());
-    let _ = appended;
 }

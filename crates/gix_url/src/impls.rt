@@ -11,7 +11,7 @@ ghost use Rattle.gix_url.specs.Display.{display, hidden};
 ghost use Rattle.gix_url.specs.Safeguards.{HidesPassword};
 
 use crate::location::Url;
-use crate::writer;
+use crate::writer::show::show_pieces;
 use itoa::Buffer;
 use std::fmt;
 
@@ -32,7 +32,7 @@ impl fmt::Display for Url {
         let mut digits = Buffer::new();
         let password = hidden_password(&self.password);
         match self.pieces(password, &mut digits) {
-            Ok(pieces) => writer::show_pieces(f, pieces),
+            Ok(pieces) => show_pieces(f, &pieces),
             Err(_) => Err(fmt::Error),
         }
     }

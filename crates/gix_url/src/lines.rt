@@ -154,15 +154,15 @@ fn answer(alloc: Global, line: &[u8], out: &mut Vec<u8>) -> Result<bool, RunErro
 fn tell(url: &Url, out: &mut Vec<u8>) -> Result<bool, RunError>
     ensures { Tells url.now out.old.items out.new.items result }
 {
-    if url.text_len().is_err() {
-        put_scheme(out, "unwritable", url)?;
-        return Ok(false);
-    }
     if url.is_settled() {
         put_text(out, url)?;
         return Ok(true);
     }
-    put_scheme(out, "unsettled", url)?;
+    if url.has_text() {
+        put_scheme(out, "unsettled", url)?;
+        return Ok(false);
+    }
+    put_scheme(out, "unwritable", url)?;
     Ok(false)
 }
 

@@ -8,12 +8,12 @@ ghost use Rattle.std.specs.Prelude.{◌≡◌, ◌↔◌, [], IfErr, IfOk, IsOk,
 ghost use Rattle.gix_url.specs.Records.{IsLegacy, SpellsFront, begins_escape, from_legacy, migrated, respelled};
 ghost use Rattle.gix_url.specs.Stored.{recorded};
 
+use crate::bytes::append_within;
 use crate::error::Error;
 use crate::escape::{PATH, begins_with_digits, decoded};
 use crate::impls::hidden_password;
 use crate::location::Url;
 use crate::scheme::Scheme;
-use crate::writer::walks::append_within;
 use bstr::BString;
 use percent_encoding::percent_encode_byte;
 use serde::{Deserialize, Serialize};

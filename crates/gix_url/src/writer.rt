@@ -1,31 +1,31 @@
 //! Writing: the text of a location, its length, and the spelling of its path.
 //!
-//! The text is a list of pieces, slices of the location with the way that each is written. `form` chooses the
-//! form, `layout` lists the pieces, `piece` says what a piece is written as, and `walks` put the pieces into a
-//! writer or into memory. The contract of each public call is the text of the definitions.
+//! The text is laid out once, as pieces: slices of the location with the way that each is written. `form` chooses
+//! the form, `layout` the pieces, `piece` adds up their lengths and puts them into a sink, and `sink` and `show` are
+//! the sinks. The contract of each public call is the text of the definitions.
 
-ghost use Rattle.std.specs.Prelude.{◌≡◌, [], Ok, Err, IsOk, IfOk, IfErr, option_map};
+ghost use Rattle.std.specs.Prelude.{◌≡◌, [], Ok, Err, IsOk, IfOk, IfErr, is_ok, option_map};
 ghost use Rattle.bstr.specs.BStr.{bstr_bytes};
 ghost use Rattle.bstr.specs.Owned.{bstring_bytes};
 ghost use Rattle.gix_url.specs.declared.error.WriteFault.{WriteFault};
 ghost use Rattle.gix_url.specs.Text.{text};
-ghost use Rattle.gix_url.specs.Pieces.{pieced, text_length, original_path_of};
+ghost use Rattle.gix_url.specs.Pieces.{pieced, pieces_text, text_length, original_path_of};
 ghost use Rattle.gix_url.specs.Readings.{Written, IsUnwritten, WritesAgain};
 ghost use Rattle.gix_url.specs.Settled.{IsSettled};
 
 mod form;
 mod layout;
 pub(crate) mod piece;
-mod show;
-pub(crate) mod walks;
+pub(crate) mod show;
+pub(crate) mod sink;
 
 use crate::error::{Error, WriteError, WriteFault};
 use crate::location::Url;
 use crate::value_law::law_value;
 use crate::writer::piece::Pieces;
+use crate::writer::sink::{Output, Room};
 use bstr::{BStr, BString};
 use itoa::Buffer;
-pub(crate) use show::show_pieces;
 use std::alloc::Global;
 use std::io::Write;
 
@@ -41,7 +41,10 @@ impl Url {
     {
         let mut digits = Buffer::new();
         match self.own_pieces(&mut digits) {
-            Ok(pieces) => walks::write_pieces(out, pieces),
+            Ok(pieces) => match pieces.put::<W, Output>(out) {
+                Ok(()) => Ok(()),
+                Err(error) => Err(WriteError::Io(error)),
+            },
             Err(fault) => Err(WriteError::Fault(fault)),
         }
     }
@@ -77,7 +80,7 @@ impl Url {
         law_value(self);
         let mut digits = Buffer::new();
         match self.own_pieces(&mut digits) {
-            Ok(pieces) => walks::collect(alloc, pieces),
+            Ok(pieces) => collect(alloc, &pieces),
             Err(fault) => Err(Error::Unwritable(fault)),
         }
     }
@@ -91,6 +94,13 @@ impl Url {
             Some(spelling) => BStr::new(spelling),
             None => self.path.as_bstr(),
         }
+    }
+
+    /// Whether the location has a text. Its form alone decides, so nothing is laid out.
+    pub(crate) fn has_text(&self) -> bool
+        ensures { result ≡ is_ok (text self.now) }
+    {
+        self.form(self.own_password()).is_ok()
     }
 
     /// The pieces of the text, or why there is none. The digits of the port stand in the buffer.
@@ -110,4 +120,18 @@ impl Url {
             Some(password) => Some(password.as_str()),
         }
     }
+}
+
+/// The text of the pieces. Memory is asked for once, and a length that no memory has counts as refused.
+fn collect(alloc: Global, pieces: &Pieces<'_>) -> Result<BString, Error>
+    ensures text { IfOk result (λ s. bstring_bytes s ≡ pieces_text pieces.now) }
+    ensures memory { IfErr result (λ e. e ≡ Error.Memory) }
+    ensures empty { pieces_text pieces.now ≡ [] → IsOk result }
+{
+    let Ok(len) = usize::try_from(pieces.len()) else {
+        return Err(Error::Memory);
+    };
+    let mut text = Vec::with_capacity(alloc, len)?;
+    let Ok(()) = pieces.put::<Vec<u8>, Room>(&mut text);
+    Ok(BString::new(text))
 }

@@ -11,8 +11,7 @@ ghost use Rattle.gix_url.specs.Meanings.{meant_by};
 
 use super::QueryText;
 use super::cuts::Spelled;
-use crate::bytes::is_free_of;
-use crate::writer::walks::append_within;
+use crate::bytes::{append_within, is_free_of};
 use bstr::{BStr, BString};
 use std::alloc::{AllocError, Global};
 

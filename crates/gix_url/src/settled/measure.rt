@@ -1,18 +1,21 @@
-//! The length test of a text that stands nowhere as a whole: a walk over its pieces.
+//! The length test of a text that stands nowhere as a whole: a walk past its pieces.
 
 ghost use Rattle.std.specs.Prelude.{◌≡◌, ◌↔◌, IsTrue, Ok};
 ghost use Rattle.gix_url.specs.Bytes.{FreeOf, colon};
-ghost use Rattle.gix_url.specs.Pieces.{piece_text, pieces_text, texts_text};
+ghost use Rattle.gix_url.specs.Pieces.{pieces_text};
 ghost use Rattle.gix_url.specs.Schemes.{protocol_text};
 ghost use Rattle.gix_url.specs.Settled.{HasFittingText};
 ghost use Rattle.gix_url.specs.Text.{canonical_text, text};
-ghost use Rattle.gix_url.specs.Walks.{text_walk_past};
+ghost use Rattle.gix_url.specs.Walks.{is_walk_short, text_walk_for, text_walk_past};
 ghost use Rattle.gix_url.specs.SettledParts.{IsPiecesShort};
+ghost use Rattle.gix_url.specs.Sinks.{WalksPast, walks_joined, walks_nothing};
 
 use crate::length::{LIMIT, TextWalk};
 use crate::location::Url;
-use crate::writer::piece::{Piece, Pieces};
+use crate::writer::piece::Pieces;
+use crate::writer::sink::Sink;
 use itoa::Buffer;
+use std::convert::Infallible;
 
 /// Whether the text of the location, which is that of a URL, is short enough.
 pub(crate) fn has_fitting_text(url: &Url) -> bool
@@ -22,43 +25,60 @@ pub(crate) fn has_fitting_text(url: &Url) -> bool
 {
     let mut digits = Buffer::new();
     match url.own_pieces(&mut digits) {
-        Ok(pieces) => are_short(url.scheme.as_str().as_bytes(), pieces),
+        Ok(pieces) => are_short(url.scheme.as_str().as_bytes(), &pieces),
         Err(_) => false,
     }
 }
 
 /// Whether a scheme and the pieces of a text with that scheme are short enough.
-fn are_short(scheme: &[u8], pieces: Pieces<'_>) -> bool
-    ensures { IsTrue result ↔ IsPiecesShort scheme.now (pieces_text pieces.entry) }
+fn are_short(scheme: &[u8], pieces: &Pieces<'_>) -> bool
+    ensures { IsTrue result ↔ IsPiecesShort scheme.now (pieces_text pieces.now) }
 {
-    scheme.len() <= usize::from(LIMIT) && past_pieces(TextWalk::over(scheme), pieces).is_short()
+    scheme.len() <= usize::from(LIMIT) && is_rest_short(scheme, pieces)
+}
+
+/// Whether what stands behind the scheme is short enough. Where it has no more bytes than the limit, none need be
+/// looked at.
+fn is_rest_short(scheme: &[u8], pieces: &Pieces<'_>) -> bool
+    ensures { result ≡ is_walk_short (text_walk_past (text_walk_for scheme.now) (pieces_text pieces.now)).walk }
+{
+    if pieces.len() <= scheme.len() as u128 + 3 + u128::from(LIMIT) {
+        return true;
+    }
+    past_pieces(TextWalk::over(scheme), pieces).is_short()
 }
 
 /// The walk past the pieces.
-fn past_pieces(walk: TextWalk, pieces: Pieces<'_>) -> TextWalk
-    ensures { result ≡ text_walk_past walk (pieces_text pieces.entry) }
-{
-    past_texts(walk, &pieces.texts).past(pieces.tail)
-}
-
-/// The walk past the pieces before the end.
-fn past_texts(walk: TextWalk, texts: &[Piece<'_>]) -> TextWalk
-    ensures { result ≡ text_walk_past walk (texts_text texts.now) }
+fn past_pieces(walk: TextWalk, pieces: &Pieces<'_>) -> TextWalk
+    ensures { result ≡ text_walk_past walk (pieces_text pieces.now) }
 {
     let mut walk = walk;
-    for piece in texts {
-        walk = past_piece(walk, *piece);
-    }
+    let Ok(()) = pieces.put::<TextWalk, Measure>(&mut walk);
     walk
 }
 
-/// The walk past the piece.
-fn past_piece(walk: TextWalk, piece: Piece<'_>) -> TextWalk
-    ensures { result ≡ text_walk_past walk (piece_text piece.entry) }
-{
-    let mut walk = walk;
-    for chunk in piece.chunks() {
-        walk = walk.past(chunk.as_bytes());
+/// The walk of the length test.
+struct Measure;
+
+impl Sink<TextWalk> for Measure {
+    type Fault = Infallible;
+
+    ghost takes = { WalksPast };
+
+    ghost ends = { WalksPast };
+
+    fn put(place: &mut TextWalk, slice: &str) -> Result<(), Infallible> {
+        Measure::put_end(place, slice.as_bytes())
     }
-    walk
+
+    fn put_end(place: &mut TextWalk, end: &[u8]) -> Result<(), Infallible> {
+        *place = place.past(end);
+        Ok(())
+    }
+
+    ghost takes_nothing = { walks_nothing };
+
+    ghost takes_joined = { walks_joined };
+
+    ghost ends_joined = { walks_joined };
 }

@@ -3,151 +3,20 @@
 //! It uses `bytes`, `escape` and `ipv6`, and the forms and pieces of this module's siblings. Its contract: the
 //! pieces of a location make up its text, and a fault is the location's own. It takes no memory.
 
-ghost use Rattle.std.specs.Prelude.{◌≡◌, ℕ, List, [], ◌∷◌, ◌++◌, option_map, unwrap_or, string_bytes};
-ghost use Rattle.percent_encoding.specs.Percent.{percent_encode};
-ghost use Rattle.gix_url.specs.Bytes.{left_bracket, right_bracket};
+ghost use Rattle.std.specs.Prelude.{◌≡◌, ℕ, List, ◌++◌, option_map, unwrap_or};
 ghost use Rattle.gix_url.specs.Views.{protocol};
 ghost use Rattle.gix_url.specs.AddressTest.{is_ipv6_text};
 ghost use Rattle.gix_url.specs.Text as spec;
 ghost use Rattle.gix_url.specs.Text.{text, helper_text, path_text, scp_text, canonical_text};
-ghost use Rattle.gix_url.specs.Pieces.{pieced, piece_text, pieces_text, parts_text, user_text, host_text, path_end_text, with_password};
+ghost use Rattle.gix_url.specs.Pieces.{pieced, piece_text, pieces_text, port_text, user_text, host_text, path_end_text, with_password};
 
 use crate::error::WriteFault;
-use crate::escape::{self, PASSWORD, PATH, USER};
 use crate::location::Url;
 use crate::scheme::Scheme;
 use crate::writer::form::Form;
-use crate::writer::piece::{Piece, Pieces};
-use crate::{bytes, ipv6};
+use crate::writer::piece::{HostPieces, PathPieces, Piece, Pieces, SchemePieces, UserPieces};
+use crate::{bytes, escape, ipv6};
 use itoa::Buffer;
-
-/// The pieces of a text by what they stand for. Those that a text does without are empty.
-#[derive(Clone, Copy)]
-struct Parts<'a> {
-    /// The scheme and what follows it.
-    scheme: (&'a str, &'a str),
-    /// The user information.
-    user: UserPieces<'a>,
-    /// The host.
-    host: HostPieces<'a>,
-    /// The port and its colon.
-    port: (&'a str, &'a str),
-    /// The path.
-    path: PathPieces<'a>,
-}
-
-/// A user and a password with the marks around them.
-#[derive(Clone, Copy)]
-struct UserPieces<'a> {
-    user: Piece<'a>,
-    colon: &'a str,
-    password: Piece<'a>,
-    at_sign: &'a str,
-}
-
-/// A host, perhaps between brackets.
-#[derive(Clone, Copy)]
-struct HostPieces<'a> {
-    left: &'a str,
-    host: Piece<'a>,
-    right: &'a str,
-}
-
-/// What stands before a path, and the path, which is escaped or any bytes.
-#[derive(Clone, Copy)]
-struct PathPieces<'a> {
-    mark: &'a str,
-    escaped: Piece<'a>,
-    raw: &'a [u8],
-}
-
-impl<'a> Parts<'a> {
-    /// The pieces in the order of the text.
-    fn in_order(self) -> Pieces<'a>
-        ensures { pieces_text result ≡ parts_text self.entry }
-    {
-        Pieces {
-            texts: [
-                Piece::Raw(self.scheme.0),
-                Piece::Raw(self.scheme.1),
-                self.user.user,
-                Piece::Raw(self.user.colon),
-                self.user.password,
-                Piece::Raw(self.user.at_sign),
-                Piece::Raw(self.host.left),
-                self.host.host,
-                Piece::Raw(self.host.right),
-                Piece::Raw(self.port.0),
-                Piece::Raw(self.port.1),
-                Piece::Raw(self.path.mark),
-                self.path.escaped,
-            ],
-            tail: self.path.raw,
-        }
-    }
-}
-
-impl<'a> UserPieces<'a> {
-    /// No user information.
-    fn none() -> UserPieces<'a>
-        ensures { user_text result ≡ [] }
-    {
-        UserPieces {
-            user: Piece::empty(),
-            colon: "",
-            password: Piece::empty(),
-            at_sign: "",
-        }
-    }
-}
-
-impl<'a> HostPieces<'a> {
-    /// The piece alone, without brackets.
-    fn open(host: Piece<'a>) -> HostPieces<'a>
-        ensures { host_text result ≡ piece_text host.entry }
-    {
-        HostPieces {
-            left: "",
-            host,
-            right: "",
-        }
-    }
-
-    /// The piece between brackets.
-    fn bracketed(host: Piece<'a>) -> HostPieces<'a>
-        ensures { host_text result ≡ left_bracket ∷ (piece_text host.entry ++ right_bracket ∷ []) }
-    {
-        HostPieces {
-            left: "[",
-            host,
-            right: "]",
-        }
-    }
-}
-
-impl<'a> PathPieces<'a> {
-    /// The path as it is, behind a mark.
-    fn raw(mark: &'a str, path: &'a [u8]) -> PathPieces<'a>
-        ensures { path_end_text result ≡ mark.now ++ path.now }
-    {
-        PathPieces {
-            mark,
-            escaped: Piece::empty(),
-            raw: path,
-        }
-    }
-
-    /// The path with the escapes of HTTP, behind a mark.
-    fn escaped(mark: &'a str, path: &'a [u8]) -> PathPieces<'a>
-        ensures { path_end_text result ≡ mark.now ++ percent_encode PATH path.now }
-    {
-        PathPieces {
-            mark,
-            escaped: Piece::Escaped(path, PATH),
-            raw: b"",
-        }
-    }
-}
 
 impl Url {
     /// The pieces of the text that the location has with this password in place of its own, or why it has none.
@@ -171,42 +40,39 @@ impl Url {
     fn helper_pieces(&self) -> Pieces<'_>
         ensures { pieces_text result ≡ helper_text self.now }
     {
-        let parts = Parts {
-            scheme: (self.scheme.as_str(), "::"),
-            user: UserPieces::none(),
-            host: HostPieces::open(Piece::empty()),
-            port: ("", ""),
-            path: PathPieces::raw("", self.path.as_bytes()),
-        };
-        parts.in_order()
+        Pieces {
+            scheme: SchemePieces::Marked(self.scheme.as_str(), "::"),
+            user: UserPieces::None,
+            host: HostPieces::None,
+            port: None,
+            path: PathPieces::Raw("", self.path.as_bytes()),
+        }
     }
 
     /// The pieces of the path form.
     fn path_pieces(&self) -> Pieces<'_>
         ensures { pieces_text result ≡ path_text self.now }
     {
-        let parts = Parts {
-            scheme: ("", ""),
+        Pieces {
+            scheme: SchemePieces::None,
             user: self.raw_user(),
             host: self.raw_host(),
-            port: ("", ""),
-            path: PathPieces::raw("", self.path.as_bytes()),
-        };
-        parts.in_order()
+            port: None,
+            path: PathPieces::Raw("", self.path.as_bytes()),
+        }
     }
 
     /// The pieces of the scp form.
     fn scp_pieces(&self) -> Pieces<'_>
         ensures { pieces_text result ≡ scp_text self.now }
     {
-        let parts = Parts {
-            scheme: ("", ""),
+        Pieces {
+            scheme: SchemePieces::None,
             user: self.raw_user(),
             host: self.raw_host(),
-            port: ("", ""),
-            path: PathPieces::raw(":", self.path.as_bytes()),
-        };
-        parts.in_order()
+            port: None,
+            path: PathPieces::Raw(":", self.path.as_bytes()),
+        }
     }
 
     /// The pieces of a URL.
@@ -217,14 +83,13 @@ impl Url {
     ) -> Pieces<'a>
         ensures { pieces_text result ≡ canonical_text (with_password self.now password.entry) }
     {
-        let parts = Parts {
-            scheme: (self.scheme.as_str(), "://"),
+        Pieces {
+            scheme: SchemePieces::Marked(self.scheme.as_str(), "://"),
             user: self.user_information(password),
             host: self.canonical_host(),
-            port: port_pieces(self.port, digits),
+            port: port_digits(self.port, digits),
             path: self.canonical_path(),
-        };
-        parts.in_order()
+        }
     }
 
     /// The user and `@`, as they are.
@@ -232,13 +97,8 @@ impl Url {
         ensures { user_text result ≡ spec.raw_user self.now.user }
     {
         match &self.user {
-            None => UserPieces::none(),
-            Some(user) => UserPieces {
-                user: Piece::Raw(user.as_str()),
-                colon: "",
-                password: Piece::empty(),
-                at_sign: "@",
-            },
+            None => UserPieces::None,
+            Some(user) => UserPieces::User(Piece::Raw(user.as_str())),
         }
     }
 
@@ -247,13 +107,13 @@ impl Url {
         ensures { host_text result ≡ spec.raw_host self.now.host }
     {
         match &self.host {
-            None => HostPieces::open(Piece::empty()),
+            None => HostPieces::None,
             Some(host) => {
                 let host = host.as_str();
                 if wants_brackets(host.as_bytes()) {
-                    HostPieces::bracketed(Piece::Raw(host))
+                    HostPieces::Bracketed(Piece::Raw(host))
                 } else {
-                    HostPieces::open(Piece::Raw(host))
+                    HostPieces::Open(Piece::Raw(host))
                 }
             }
         }
@@ -264,22 +124,12 @@ impl Url {
         ensures { user_text result ≡ spec.user_information self.now.user (option_map (λ p. p.now) password.entry) }
     {
         let Some(user) = &self.user else {
-            return UserPieces::none();
+            return UserPieces::None;
         };
-        let user = Piece::Escaped(user.as_bytes(), USER);
+        let user = Piece::user(user.as_str());
         match password {
-            None => UserPieces {
-                user,
-                colon: "",
-                password: Piece::empty(),
-                at_sign: "@",
-            },
-            Some(password) => UserPieces {
-                user,
-                colon: ":",
-                password: Piece::Escaped(password.as_bytes(), PASSWORD),
-                at_sign: "@",
-            },
+            None => UserPieces::User(user),
+            Some(password) => UserPieces::Both(user, Piece::password(password)),
         }
     }
 
@@ -288,13 +138,13 @@ impl Url {
         ensures { host_text result ≡ spec.host_part self.now self.now.host }
     {
         let Some(host) = &self.host else {
-            return HostPieces::open(Piece::empty());
+            return HostPieces::None;
         };
         let host = host.as_str();
         if needs_brackets(self.port, host.as_bytes()) {
-            HostPieces::bracketed(Piece::Percents(host))
+            HostPieces::Bracketed(Piece::Percents(host))
         } else {
-            HostPieces::open(open_host(&self.scheme, host))
+            HostPieces::Open(open_host(&self.scheme, host))
         }
     }
 
@@ -304,7 +154,7 @@ impl Url {
     {
         let mark = self.root();
         match self.matching_spelling() {
-            Some(spelling) => PathPieces::raw(mark, spelling),
+            Some(spelling) => PathPieces::Raw(mark, spelling),
             None => self.plain_path(mark),
         }
     }
@@ -320,7 +170,7 @@ impl Url {
             | Scheme::Ssh
             | Scheme::Ext
             | Scheme::Helper(_)
-            | Scheme::HelperUrl(_) => PathPieces::raw(mark, self.path.as_bytes()),
+            | Scheme::HelperUrl(_) => PathPieces::Raw(mark, self.path.as_bytes()),
         }
     }
 
@@ -362,13 +212,13 @@ impl Url {
     }
 }
 
-/// The port in decimal behind its colon.
-fn port_pieces<'a>(port: Option<u16>, digits: &'a mut Buffer) -> (&'a str, &'a str)
-    ensures { result.0.now ++ result.1.now ≡ spec.port_part port }
+/// The port in decimal.
+fn port_digits<'a>(port: Option<u16>, digits: &'a mut Buffer) -> Option<&'a str>
+    ensures { port_text result ≡ spec.port_part port }
 {
     match port {
-        None => ("", ""),
-        Some(port) => (":", digits.format(port)),
+        None => None,
+        Some(port) => Some(digits.format(port)),
     }
 }
 
@@ -380,9 +230,9 @@ fn open_host<'a>(scheme: &Scheme, host: &'a str) -> Piece<'a>
         Scheme::File | Scheme::Http | Scheme::Https => Piece::Raw(host),
         Scheme::Git | Scheme::Ssh | Scheme::Ext | Scheme::Helper(_) | Scheme::HelperUrl(_) => {
             if is_address(host.as_bytes()) {
-                Piece::Escaped(host.as_bytes(), PASSWORD)
+                Piece::password(host)
             } else {
-                Piece::Escaped(host.as_bytes(), USER)
+                Piece::user(host)
             }
         }
     }

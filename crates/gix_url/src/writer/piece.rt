@@ -1,70 +1,327 @@
-//! The pieces of a text: slices, each with the way that it is written.
+//! The pieces of a text: what a text is made of, in its order, each slice with the way that it is written.
 //!
-//! It uses the crate `percent_encoding` and nothing else of this crate. Its contract: the slices that a piece
-//! hands out make up its text, and a piece knows the length of that text. It takes no memory.
+//! It uses the crate `percent_encoding` and this module's sibling `sink`. The pieces are lent from the location. They
+//! are the one description of a text: `len` adds them up, and `put` puts them into any sink. It takes no memory.
 
-ghost use Rattle.std.specs.Prelude.{◌≡◌, ◌≤◌, ◌*◌, ◌^◌, ◌==◌, length, [], count_by};
+ghost use Rattle.std.specs.Prelude.{◌≡◌, ◌≤◌, ◌*◌, ◌^◌, ◌==◌, ◌++◌, IsTrue, OnOk, length, [], count_by};
 ghost use Rattle.percent_encoding.specs.AsciiSet.{should_percent_encode};
+ghost use Rattle.percent_encoding.specs.Percent.{percent_encode};
+ghost use Rattle.gix_url.specs.declared.escape.TheConstants.{PATH, PASSWORD, USER};
 ghost use Rattle.gix_url.specs.Bytes.{percent_sign};
-ghost use Rattle.gix_url.specs.Cuts.{CutsAt};
-ghost use Rattle.gix_url.specs.Pieces.{piece_text, chunks_text, chunks_left, pieces_text};
+ghost use Rattle.gix_url.specs.Pieces.{host_text, path_end_text, piece_text, pieces_text, port_text, scheme_text, user_text};
 
-use percent_encoding::{AsciiSet, PercentEncode, percent_encode};
-
-/// The most pieces that stand before the raw end of a text.
-pub(crate) const MOST_TEXTS: usize = 13;
+use crate::escape::{PASSWORD, PATH, USER};
+use crate::writer::sink::{Sink, put_escaped, put_percents};
+use percent_encoding::AsciiSet;
 
 /// A slice and the way that it is written. What is written is always UTF-8.
 #[derive(Clone, Copy)]
 pub(crate) enum Piece<'a> {
     /// The slice as it is.
     Raw(&'a str),
-    /// The slice with the bytes of the set, and those past ASCII, as escapes.
-    Escaped(&'a [u8], AsciiSet),
+    /// The slice with the escapes of a user.
+    User(&'a str),
+    /// The slice with the escapes of a password.
+    Password(&'a str),
     /// The slice with each `%` as its escape.
     Percents(&'a str),
 }
 
-/// A text as pieces in their order: what is surely UTF-8, and the bytes behind it, which may be any.
+/// A scheme or a helper's name, and the mark behind it.
+#[derive(Clone, Copy)]
+pub(crate) enum SchemePieces<'a> {
+    /// None.
+    None,
+    /// The name and its mark.
+    Marked(&'a str, &'a str),
+}
+
+/// A user, a password and the marks behind them.
+#[derive(Clone, Copy)]
+pub(crate) enum UserPieces<'a> {
+    /// None.
+    None,
+    /// A user and `@`.
+    User(Piece<'a>),
+    /// A user, `:`, a password and `@`.
+    Both(Piece<'a>, Piece<'a>),
+}
+
+/// A host, perhaps between brackets.
+#[derive(Clone, Copy)]
+pub(crate) enum HostPieces<'a> {
+    /// None.
+    None,
+    /// The host.
+    Open(Piece<'a>),
+    /// The host between `[` and `]`.
+    Bracketed(Piece<'a>),
+}
+
+/// The mark before a path, and the path: any bytes as they are, or with escapes.
+#[derive(Clone, Copy)]
+pub(crate) enum PathPieces<'a> {
+    /// The mark, and the path as it is.
+    Raw(&'a str, &'a [u8]),
+    /// The mark, and the path with the escapes of HTTP.
+    Escaped(&'a str, &'a [u8]),
+}
+
+/// A text, as its pieces in their order.
 #[derive(Clone, Copy)]
 pub(crate) struct Pieces<'a> {
-    /// The pieces before the end. Those that a text does without are empty.
-    pub(crate) texts: [Piece<'a>; MOST_TEXTS],
-    /// The end, as it is.
-    pub(crate) tail: &'a [u8],
+    /// The scheme.
+    pub(crate) scheme: SchemePieces<'a>,
+    /// The user information.
+    pub(crate) user: UserPieces<'a>,
+    /// The host.
+    pub(crate) host: HostPieces<'a>,
+    /// The digits of the port, which stand behind a colon.
+    pub(crate) port: Option<&'a str>,
+    /// The path.
+    pub(crate) path: PathPieces<'a>,
 }
 
 impl<'a> Piece<'a> {
-    /// A piece without text.
-    pub(crate) fn empty() -> Piece<'a>
-        ensures { piece_text result ≡ [] }
+    /// The slice with the escapes of a user, if it has to have any.
+    pub(crate) fn user(text: &'a str) -> Piece<'a>
+        ensures { piece_text result ≡ percent_encode USER text.now }
     {
-        Piece::Raw("")
+        if is_kept(text.as_bytes(), USER) {
+            Piece::Raw(text)
+        } else {
+            Piece::User(text)
+        }
     }
 
-    /// The text of the piece, in slices.
-    pub(crate) fn chunks(self) -> Chunks<'a>
-        ensures { chunks_text result ≡ piece_text self.entry }
+    /// The slice with the escapes of a password, if it has to have any.
+    pub(crate) fn password(text: &'a str) -> Piece<'a>
+        ensures { piece_text result ≡ percent_encode PASSWORD text.now }
     {
-        match self {
-            Piece::Raw(text) => Chunks::Raw(text),
-            Piece::Escaped(text, set) => Chunks::Escaped(percent_encode(text, set)),
-            Piece::Percents(text) => Chunks::Percents(text),
+        if is_kept(text.as_bytes(), PASSWORD) {
+            Piece::Raw(text)
+        } else {
+            Piece::Password(text)
         }
     }
 
     /// The length of the text of the piece.
-    pub(crate) fn len(self) -> u128
+    fn len(self) -> u128
         ensures exact { result ≡ length (piece_text self.entry) }
         ensures bound { result ≤ 3 * 2 ^ 64 }
     {
         match self {
             Piece::Raw(text) => text.len() as u128,
-            Piece::Escaped(text, set) => text.len() as u128 + 2 * count_escaped(text, set) as u128,
+            Piece::User(text) => escaped_len(text.as_bytes(), USER),
+            Piece::Password(text) => escaped_len(text.as_bytes(), PASSWORD),
             Piece::Percents(text) => text.len() as u128
                 + 2 * count_percents(text.as_bytes()) as u128,
         }
     }
+
+    /// Puts the text of the piece.
+    fn put<T, S: Sink<T>>(self, place: &mut T) -> Result<(), S::Fault>
+        ensures { OnOk result (S.takes place.old (piece_text self.entry) place.new) }
+    {
+        match self {
+            Piece::Raw(text) => S::put(place, text),
+            Piece::User(text) => put_escaped::<T, S>(place, text.as_bytes(), USER),
+            Piece::Password(text) => put_escaped::<T, S>(place, text.as_bytes(), PASSWORD),
+            Piece::Percents(text) => put_percents::<T, S>(place, text),
+        }
+    }
+}
+
+impl<'a> SchemePieces<'a> {
+    /// The length of the text.
+    fn len(self) -> u128
+        ensures exact { result ≡ length (scheme_text self.entry) }
+        ensures bound { result ≤ 2 * 2 ^ 64 }
+    {
+        match self {
+            SchemePieces::None => 0,
+            SchemePieces::Marked(name, mark) => name.len() as u128 + mark.len() as u128,
+        }
+    }
+
+    /// Puts the text.
+    fn put<T, S: Sink<T>>(self, place: &mut T) -> Result<(), S::Fault>
+        ensures { OnOk result (S.takes place.old (scheme_text self.entry) place.new) }
+    {
+        match self {
+            SchemePieces::None => Ok(()),
+            SchemePieces::Marked(name, mark) => {
+                S::put(place, name)?;
+                S::put(place, mark)
+            }
+        }
+    }
+}
+
+impl<'a> UserPieces<'a> {
+    /// The length of the text.
+    fn len(self) -> u128
+        ensures exact { result ≡ length (user_text self.entry) }
+        ensures bound { result ≤ 7 * 2 ^ 64 }
+    {
+        match self {
+            UserPieces::None => 0,
+            UserPieces::User(user) => user.len() + 1,
+            UserPieces::Both(user, password) => user.len() + password.len() + 2,
+        }
+    }
+
+    /// Puts the text.
+    fn put<T, S: Sink<T>>(self, place: &mut T) -> Result<(), S::Fault>
+        ensures { OnOk result (S.takes place.old (user_text self.entry) place.new) }
+    {
+        match self {
+            UserPieces::None => Ok(()),
+            UserPieces::User(user) => {
+                user.put::<T, S>(place)?;
+                S::put(place, "@")
+            }
+            UserPieces::Both(user, password) => {
+                user.put::<T, S>(place)?;
+                S::put(place, ":")?;
+                password.put::<T, S>(place)?;
+                S::put(place, "@")
+            }
+        }
+    }
+}
+
+impl<'a> HostPieces<'a> {
+    /// The length of the text.
+    fn len(self) -> u128
+        ensures exact { result ≡ length (host_text self.entry) }
+        ensures bound { result ≤ 4 * 2 ^ 64 }
+    {
+        match self {
+            HostPieces::None => 0,
+            HostPieces::Open(host) => host.len(),
+            HostPieces::Bracketed(host) => host.len() + 2,
+        }
+    }
+
+    /// Puts the text.
+    fn put<T, S: Sink<T>>(self, place: &mut T) -> Result<(), S::Fault>
+        ensures { OnOk result (S.takes place.old (host_text self.entry) place.new) }
+    {
+        match self {
+            HostPieces::None => Ok(()),
+            HostPieces::Open(host) => host.put::<T, S>(place),
+            HostPieces::Bracketed(host) => {
+                S::put(place, "[")?;
+                host.put::<T, S>(place)?;
+                S::put(place, "]")
+            }
+        }
+    }
+}
+
+impl<'a> PathPieces<'a> {
+    /// The path behind a mark, with the escapes of HTTP, if it has to have any.
+    pub(crate) fn escaped(mark: &'a str, path: &'a [u8]) -> PathPieces<'a>
+        ensures { path_end_text result ≡ mark.now ++ percent_encode PATH path.now }
+    {
+        if is_kept(path, PATH) {
+            PathPieces::Raw(mark, path)
+        } else {
+            PathPieces::Escaped(mark, path)
+        }
+    }
+
+    /// The length of the text.
+    fn len(self) -> u128
+        ensures exact { result ≡ length (path_end_text self.entry) }
+        ensures bound { result ≤ 4 * 2 ^ 64 }
+    {
+        match self {
+            PathPieces::Raw(mark, path) => mark.len() as u128 + path.len() as u128,
+            PathPieces::Escaped(mark, path) => mark.len() as u128 + escaped_len(path, PATH),
+        }
+    }
+
+    /// Puts the text, which is the end of its own.
+    fn put<T, S: Sink<T>>(self, place: &mut T) -> Result<(), S::Fault>
+        ensures { OnOk result (S.ends place.old (path_end_text self.entry) place.new) }
+    {
+        match self {
+            PathPieces::Raw(mark, path) => {
+                S::put(place, mark)?;
+                S::put_end(place, path)
+            }
+            PathPieces::Escaped(mark, path) => {
+                S::put(place, mark)?;
+                put_escaped::<T, S>(place, path, PATH)?;
+                S::put_end(place, b"")
+            }
+        }
+    }
+}
+
+impl<'a> Pieces<'a> {
+    /// The length of the whole text.
+    pub(crate) fn len(&self) -> u128
+        ensures { result ≡ length (pieces_text self.now) }
+    {
+        self.scheme.len()
+            + self.user.len()
+            + self.host.len()
+            + port_len(self.port)
+            + self.path.len()
+    }
+
+    /// Puts the whole text.
+    pub(crate) fn put<T, S: Sink<T>>(&self, place: &mut T) -> Result<(), S::Fault>
+        ensures { OnOk result (S.ends place.old (pieces_text self.now) place.new) }
+    {
+        self.scheme.put::<T, S>(place)?;
+        self.user.put::<T, S>(place)?;
+        self.host.put::<T, S>(place)?;
+        put_port::<T, S>(place, self.port)?;
+        self.path.put::<T, S>(place)
+    }
+}
+
+/// The length of a port and its colon.
+fn port_len(digits: Option<&str>) -> u128
+    ensures exact { result ≡ length (port_text digits.entry) }
+    ensures bound { result ≤ 2 * 2 ^ 64 }
+{
+    match digits {
+        None => 0,
+        Some(digits) => digits.len() as u128 + 1,
+    }
+}
+
+/// Puts a port behind its colon.
+fn put_port<T, S: Sink<T>>(place: &mut T, digits: Option<&str>) -> Result<(), S::Fault>
+    ensures { OnOk result (S.takes place.old (port_text digits.entry) place.new) }
+{
+    match digits {
+        None => Ok(()),
+        Some(digits) => {
+            S::put(place, ":")?;
+            S::put(place, digits)
+        }
+    }
+}
+
+/// Whether no byte of the text is written as an escape.
+fn is_kept(text: &[u8], set: AsciiSet) -> bool
+    ensures { IsTrue result → percent_encode set text.now ≡ text.now }
+{
+    count_escaped(text, set) == 0
+}
+
+/// The length of the text with the bytes of the set, and those past ASCII, as escapes.
+fn escaped_len(text: &[u8], set: AsciiSet) -> u128
+    ensures exact { result ≡ length (percent_encode set text.now) }
+    ensures bound { result ≤ 3 * 2 ^ 64 }
+{
+    text.len() as u128 + 2 * count_escaped(text, set) as u128
 }
 
 /// How many bytes of the text are written as escapes.
@@ -81,80 +338,4 @@ fn count_percents(text: &[u8]) -> usize
     ensures { result ≡ count_by (λ b. b == percent_sign) text.now }
 {
     text.iter().filter(|byte| **byte == b'%').count()
-}
-
-/// What is left of a piece, to be handed out in slices.
-#[derive(Clone, Copy)]
-pub(crate) enum Chunks<'a> {
-    /// A text as it is.
-    Raw(&'a str),
-    /// The escapes of a text.
-    Escaped(PercentEncode<'a>),
-    /// A text with each `%` as its escape.
-    Percents(&'a str),
-    /// The same behind one `%` more.
-    PercentsBehind(&'a str),
-}
-
-/// What stands before and behind the first `%`.
-fn cut_at_percent(text: &str) -> Option<(&str, &str)>
-    ensures { CutsAt percent_sign text.now result }
-{
-    text.split_once('%')
-}
-
-impl<'a> Iterator for Chunks<'a> {
-    ghost use Rattle.std.specs.Iterator.{at_most};
-    ghost use Rattle.percent_encoding.specs.Iter.{YieldsFront};
-
-    type Item = &'a str;
-
-    ghost next_gives = { YieldsFront chunks_text };
-
-    ghost remaining = { λ it. at_most (chunks_left it) };
-
-    fn next(&mut self) -> Option<&'a str> {
-        match self {
-            Chunks::Raw(text) => {
-                if text.is_empty() {
-                    return None;
-                }
-                let whole = *text;
-                *self = Chunks::Raw("");
-                Some(whole)
-            }
-            Chunks::Escaped(escapes) => escapes.next(),
-            Chunks::Percents(text) => {
-                let whole = *text;
-                match cut_at_percent(whole) {
-                    None => {
-                        *self = Chunks::Raw("");
-                        Some(whole)
-                    }
-                    Some((front, back)) => {
-                        *self = Chunks::PercentsBehind(back);
-                        Some(front)
-                    }
-                }
-            }
-            Chunks::PercentsBehind(text) => {
-                let back = *text;
-                *self = Chunks::Percents(back);
-                Some("%25")
-            }
-        }
-    }
-}
-
-impl<'a> Pieces<'a> {
-    /// The length of the whole text.
-    pub(crate) fn len(self) -> u128
-        ensures { result ≡ length (pieces_text self.entry) }
-    {
-        let mut total = self.tail.len() as u128;
-        for piece in self.texts {
-            total += piece.len();
-        }
-        total
-    }
 }

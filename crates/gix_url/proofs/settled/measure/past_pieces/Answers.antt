@@ -1,9 +1,10 @@
--- The pieces, and the end behind them.
-use Rattle.std.proofs.Common.{refl}
-use Rattle.gix_url.specs.Pieces.{texts_text, pieces_text}
-use Rattle.gix_url.proofs.LengthLemmas.{piece_walked}
+-- The walk past the whole text, with nothing behind it.
+use Rattle.std.proofs.Common.{[], ◌∙◌, sym, ap, append-nil}
+use Rattle.gix_url.specs.Pieces.{pieces_text}
+use Rattle.gix_url.specs.Walks.{text_walk_past}
+use Rattle.gix_url.proofs.LengthLemmas.{text_walk-nil}
 use Rattle.gix_url.proofs.settled.measure.past_pieces.Goals as goal
 
 pub returns : goal.returns
 returns c =
-    piece_walked c.past_texts.result c.past.result c.args.walk (texts_text c.args.pieces.texts) c.args.pieces.tail.now (pieces_text c.args.pieces) c.past_texts.ensures refl c.past.ensures
+    sym (text_walk-nil c.put.new.place) ∙ sym (c.in-Ok.ensures []) ∙ ap (text_walk_past c.args.walk) (append-nil (pieces_text c.args.pieces.now))

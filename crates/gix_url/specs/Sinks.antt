@@ -1,0 +1,66 @@
+-- What a place is after it took a text, for each sink, and that two texts taken are one: memory with room, a formatter,
+-- and the walk of the length test. What stands behind the text is any, so that texts join without counting.
+use Rattle.std.specs.Prelude.{◌≡◌, ℕ, ◌+◌, ◌≤◌, List, [], ◌++◌, length, refl}
+use Rattle.std.proofs.Common.{sym, ap, subst, ◌∙◌, append_assoc, append-nil}
+use Rattle.std.proofs.Output.{has_written_styled_append, has_written_styled_nil, has_written_styled_of_eq}
+use Rattle.std.specs.declared.fmt.Formatter.{Formatter}
+use Rattle.std.specs.Fmt.{HasWrittenStyled, IsFlush}
+use Rattle.gix_url.specs.declared.length.TextWalk.{TextWalk}
+use Rattle.gix_url.specs.Display.{lossy_text}
+use Rattle.gix_url.specs.Walks.{text_walk_past}
+
+-- ---- memory
+
+module _ {A : Type 0} (items : A → List ℕ) (len capacity : A → ℕ) where
+  -- memory with room for a text and for what comes behind it has the text appended, and still has that room
+  abbrev pub AppendsWithin : A → List ℕ → A → Type 0
+  AppendsWithin old text new =
+      (behind : List ℕ) → len old + length (text ++ behind) ≤ capacity old → (items new ≡ items old ++ text) × (len new + length behind ≤ capacity new)
+
+  pub appends_nothing : (a : A) → AppendsWithin a [] a
+  appends_nothing a behind room = (sym (append-nil (items a)), room)
+
+  pub appends_joined : (a b c : A) (x y : List ℕ) → AppendsWithin a x b → AppendsWithin b y c → AppendsWithin a (x ++ y) c
+  appends_joined a b c x y first second behind room =
+      let one = first (y ++ behind) (subst (λ z. len a + length z ≤ capacity a) (append_assoc x y behind) room) in
+      let two = second behind one.1 in
+      (two.0 ∙ ap (λ z. z ++ y) one.0 ∙ append_assoc (items a) x y, two.1)
+
+-- ---- a formatter
+
+module _ {W : Type 0} (took : W → List ℕ → W → Type 0) where
+  -- a formatter that indents nothing took a text that is shown as it is, whatever comes behind it, and whatever its options
+  abbrev pub ShowsText : Formatter W → List ℕ → Formatter W → Type 0
+  ShowsText old text new =
+      ((behind : List ℕ) → lossy_text (text ++ behind) ≡ text ++ lossy_text behind) × (IsFlush old → HasWrittenStyled took old text new)
+
+  -- it took the end of a text, which may be any bytes
+  abbrev pub ShowsEnd : Formatter W → List ℕ → Formatter W → Type 0
+  ShowsEnd old end new = IsFlush old → HasWrittenStyled took old (lossy_text end) new
+
+  pub shows_nothing : (a : Formatter W) → ShowsText a [] a
+  shows_nothing a = (λ behind. refl, λ flush. has_written_styled_nil took a flush)
+
+  pub shows_joined : (a b c : Formatter W) (x y : List ℕ) → ShowsText a x b → ShowsText b y c → ShowsText a (x ++ y) c
+  shows_joined a b c x y first second = (
+    λ behind.
+        ap lossy_text (append_assoc x y behind) ∙ first.0 (y ++ behind) ∙ ap (λ z. x ++ z) (second.0 behind) ∙ sym (append_assoc x y (lossy_text behind)),
+    λ flush. let before = first.1 flush in has_written_styled_append took a x b y c before (second.1 before.flush),
+  )
+
+  pub shows_to_end : (a b c : Formatter W) (x y : List ℕ) → ShowsText a x b → ShowsEnd b y c → ShowsEnd a (x ++ y) c
+  shows_to_end a b c x y first second flush =
+      let before = first.1 flush in
+      has_written_styled_of_eq took a (x ++ lossy_text y) (lossy_text (x ++ y)) c (sym (first.0 y)) (has_written_styled_append took a x b (lossy_text y) c before (second before.flush))
+
+-- ---- a walk
+
+-- a walk past a text leads where it leads with the text before it, whatever comes behind
+abbrev pub WalksPast : TextWalk → List ℕ → TextWalk → Type 0
+WalksPast old text new = (behind : List ℕ) → text_walk_past old (text ++ behind) ≡ text_walk_past new behind
+
+pub walks_nothing : (a : TextWalk) → WalksPast a [] a
+walks_nothing a behind = refl
+
+pub walks_joined : (a b c : TextWalk) (x y : List ℕ) → WalksPast a x b → WalksPast b y c → WalksPast a (x ++ y) c
+walks_joined a b c x y first second behind = ap (text_walk_past a) (append_assoc x y behind) ∙ first (y ++ behind) ∙ second behind
