@@ -1,10 +1,10 @@
 -- What a place is after it took a text, for each sink, and that two texts taken are one: memory with room, a formatter,
 -- and the walk of the length test. What stands behind the text is any, so that texts join without counting.
-use Rattle.std.specs.Prelude.{◌≡◌, ℕ, ◌+◌, ◌≤◌, List, [], ◌++◌, length, refl}
+use Rattle.std.specs.Prelude.{◌≡◌, ℕ, ◌+◌, ◌-◌, ◌^◌, ◌≤◌, false, List, [], ◌++◌, length, refl}
 use Rattle.std.proofs.Common.{sym, ap, subst, ◌∙◌, append_assoc, append-nil}
-use Rattle.std.proofs.Output.{has_written_styled_append, has_written_styled_nil, has_written_styled_of_eq}
+use Rattle.std.proofs.lemmas.Grind.{put_two}
 use Rattle.std.specs.declared.fmt.Formatter.{Formatter}
-use Rattle.std.specs.Fmt.{HasWrittenStyled, IsFlush}
+use Rattle.std.specs.Fmt.{HasWrittenStyled, IsFlush, IsPlainFormatter, WritesInCalls}
 use Rattle.gix_url.specs.declared.length.TextWalk.{TextWalk}
 use Rattle.gix_url.specs.Display.{lossy_text}
 use Rattle.gix_url.specs.Walks.{text_walk_past}
@@ -38,20 +38,35 @@ module _ {W : Type 0} (took : W → List ℕ → W → Type 0) where
   abbrev pub ShowsEnd : Formatter W → List ℕ → Formatter W → Type 0
   ShowsEnd old end new = IsFlush old → HasWrittenStyled took old (lossy_text end) new
 
+  -- the formatter without options
+  abbrev plain : Formatter W → Formatter W
+  plain f = record f { spec = record f.spec { width = 0; precision = 2 ^ 64 - 1; plus = false; alternate = false }; depth = 0 }
+
+  is_plain : (f : Formatter W) → IsPlainFormatter (plain f)
+  is_plain f = record { bare = record { width = refl; precision = refl; plus = refl; alternate = refl }; flush = refl }
+
+  -- two texts that were written, one behind the other
+  written_joined : (a b c : Formatter W) (x y : List ℕ) → WritesInCalls took a.writer x b.writer → WritesInCalls took b.writer y c.writer → WritesInCalls took a.writer (x ++ y) c.writer
+  written_joined a b c x y first second =
+      (put_two took (plain a) (plain b) (plain c) x y (x ++ y) (record { wrote = first; plain = is_plain b }) (record { wrote = second; plain = is_plain c }) refl).wrote
+
+  joined : (a b c : Formatter W) (x y : List ℕ) → HasWrittenStyled took a x b → HasWrittenStyled took b y c → HasWrittenStyled took a (x ++ y) c
+  joined a b c x y first second = record { wrote = written_joined a b c x y first.wrote second.wrote; spec = second.spec ∙ first.spec; flush = second.flush }
+
   pub shows_nothing : (a : Formatter W) → ShowsText a [] a
-  shows_nothing a = (λ behind. refl, λ flush. has_written_styled_nil took a flush)
+  shows_nothing a = (λ behind. refl, λ flush. record { wrote = record { parts = []; calls = refl; whole = refl }; spec = refl; flush = flush })
 
   pub shows_joined : (a b c : Formatter W) (x y : List ℕ) → ShowsText a x b → ShowsText b y c → ShowsText a (x ++ y) c
   shows_joined a b c x y first second = (
     λ behind.
         ap lossy_text (append_assoc x y behind) ∙ first.0 (y ++ behind) ∙ ap (λ z. x ++ z) (second.0 behind) ∙ sym (append_assoc x y (lossy_text behind)),
-    λ flush. let before = first.1 flush in has_written_styled_append took a x b y c before (second.1 before.flush),
+    λ flush. let before = first.1 flush in joined a b c x y before (second.1 before.flush),
   )
 
   pub shows_to_end : (a b c : Formatter W) (x y : List ℕ) → ShowsText a x b → ShowsEnd b y c → ShowsEnd a (x ++ y) c
   shows_to_end a b c x y first second flush =
       let before = first.1 flush in
-      has_written_styled_of_eq took a (x ++ lossy_text y) (lossy_text (x ++ y)) c (sym (first.0 y)) (has_written_styled_append took a x b (lossy_text y) c before (second before.flush))
+      subst (λ t. HasWrittenStyled took a t c) (sym (first.0 y)) (joined a b c x (lossy_text y) before (second before.flush))
 
 -- ---- a walk
 
