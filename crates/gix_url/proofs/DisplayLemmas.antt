@@ -6,7 +6,7 @@ use Rattle.std.proofs.lemmas.Grind.{put_two}
 use Rattle.std.proofs.lemmas.Str.{encodes-append}
 use Rattle.bstr.specs.Utf8.{lossy_chars}
 use Rattle.bstr.proofs.lemmas.LossyLemmas.{lossy_chars-front}
-use Rattle.gix_url.specs.Display.{lossy_text}
+use Rattle.gix_url.specs.Bytes.{lossy_text}
 
 -- a front that is UTF-8 is shown as it is
 pub lossy_front : (front rest : List ℕ) → IsUtf8 front → lossy_text (front ++ rest) ≡ front ++ lossy_text rest

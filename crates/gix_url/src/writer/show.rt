@@ -5,7 +5,7 @@
 
 ghost use Rattle.std.specs.Prelude.{◌≡◌, IsUtf8, OnOk};
 ghost use Rattle.std.specs.Fmt.{WritesOnOk};
-ghost use Rattle.gix_url.specs.Display.{lossy_text};
+ghost use Rattle.gix_url.specs.Bytes.{lossy_text};
 ghost use Rattle.gix_url.specs.Pieces.{piece_text, texts_text, pieces_text};
 
 use crate::writer::piece::{MOST_TEXTS, Piece, Pieces};

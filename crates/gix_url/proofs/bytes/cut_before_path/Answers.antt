@@ -1,6 +1,6 @@
 -- The place where a path may first start, and the pieces around it.
 use Rattle.std.proofs.Common.{arith}
-use Rattle.gix_url.specs.Cuts.{is_path_start}
+use Rattle.gix_url.specs.Bytes.{is_path_start}
 use Rattle.gix_url.proofs.CutLemmas.{first_place, first_place_fits, cut_at_first}
 use Rattle.gix_url.proofs.bytes.cut_before_path.Goals as goal
 

@@ -1,7 +1,7 @@
 -- The end behind what is UTF-8.
 use Rattle.std.proofs.Common.{◌++◌, ◌∙◌, ap, sym, refl, true}
 use Rattle.std.proofs.lemmas.Grind.{put_two}
-use Rattle.gix_url.specs.Display.{lossy_text}
+use Rattle.gix_url.specs.Bytes.{lossy_text}
 use Rattle.gix_url.specs.Pieces.{texts_text}
 use Rattle.gix_url.proofs.DisplayLemmas.{lossy_front}
 use Rattle.gix_url.proofs.writer.show.show_pieces.Goals as goal
