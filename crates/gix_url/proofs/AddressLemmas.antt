@@ -5,12 +5,12 @@ use Rattle.std.proofs.lemmas.Bool.Decides.{nat_tests}
 use Rattle.std.proofs.lemmas.Fmt.{decimal_is_IsNumeral}
 use Rattle.std.proofs.lemmas.List.{map-append, length-map}
 use Rattle.std.proofs.lemmas.List.Folds.{list_all-append}
-use Rattle.std.specs.List.{list_all}
+use Rattle.std.specs.List.{list_all, join_with_byte}
 use Rattle.std.specs.Char.{digit_value, is_ascii_hexdigit, to_ascii_lowercase}
 use Rattle.std.specs.Str.{IsUtf8}
 use Rattle.std.specs.Str.Parse.{AllDigits}
-use Rattle.gix_url.specs.Bytes.{colon, dot, FreeOf, lowercase}
-use Rattle.gix_url.specs.Addresses.{IsGroup, IsOctet, IsIpv4Text, joined_by, AreItems, IsIpv6Text}
+use Rattle.gix_url.specs.Bytes.{colon, dot, FreeOf, lowercase, is_hexadecimal}
+use Rattle.gix_url.specs.Addresses.{IsGroup, IsOctet, IsIpv4Text, AreItems, IsIpv6Text}
 use Rattle.gix_url.proofs.CutLemmas.{free_of_all}
 use Rattle.gix_url.proofs.EscapeLemmas.{utf8_class}
 
@@ -26,21 +26,26 @@ address_byte_ascii b h = grind (arith, nat_tests)
 bytes_joined : (s t : List ℕ) → list_all is_address_byte s ≡ true → list_all is_address_byte t ≡ true → list_all is_address_byte (s ++ t) ≡ true
 bytes_joined s t h k = list_all-append is_address_byte s t ∙ and_from _ _ h k
 
+-- a hexadecimal digit by its value is one by its class
+hexadecimal_class : (b : ℕ) → is_hexadecimal b ≡ true → is_ascii_hexdigit b ≡ true
+hexadecimal_class b h = grind (arith, nat_tests)
+
 -- hexadecimal digits are such bytes
-hexdigits_bytes : (g : List ℕ) → list_all is_ascii_hexdigit g ≡ true → list_all is_address_byte g ≡ true
+hexdigits_bytes : (g : List ℕ) → list_all is_hexadecimal g ≡ true → list_all is_address_byte g ≡ true
 hexdigits_bytes [] h = refl
 hexdigits_bytes (b ∷ g) h =
-    let (first, rest) = and_parts (is_ascii_hexdigit b) (list_all is_ascii_hexdigit g) h in
-    and_from _ _ (rw first) (hexdigits_bytes g rest)
+    let (first, rest) = and_parts (is_hexadecimal b) (list_all is_hexadecimal g) h in
+    let class = hexadecimal_class b first in
+    and_from _ _ (rw class) (hexdigits_bytes g rest)
 
 -- a decimal digit is a hexadecimal one, and has no letter case
-digit_class : (b : ℕ) → digit_value b < 10 → is_ascii_hexdigit b ≡ true
+digit_class : (b : ℕ) → digit_value b < 10 → is_hexadecimal b ≡ true
 digit_class b h = grind (arith, nat_tests)
 
 digit_lowercase : (b : ℕ) → digit_value b < 10 → to_ascii_lowercase b ≡ b
 digit_lowercase b h = grind (arith, nat_tests)
 
-digits_class : (ds : List ℕ) → AllDigits 10 ds → list_all is_ascii_hexdigit ds ≡ true
+digits_class : (ds : List ℕ) → AllDigits 10 ds → list_all is_hexadecimal ds ≡ true
 digits_class [] h = refl
 digits_class (b ∷ ds) h = and_from _ _ (digit_class b h.0) (digits_class ds h.1)
 
@@ -78,7 +83,7 @@ ipv4_lowercase t h =
     rw h.joined (simp (map-append, a_stays, b_stays, c_stays, d_stays))
 
 -- the bytes of items joined by `:`
-items_bytes : (ending : Bool) (items : List (List ℕ)) (n : ℕ) → AreItems ending items n → list_all is_address_byte (joined_by colon items) ≡ true
+items_bytes : (ending : Bool) (items : List (List ℕ)) (n : ℕ) → AreItems ending items n → list_all is_address_byte (join_with_byte colon items) ≡ true
 items_bytes ending [] n h = refl
 items_bytes ending (t ∷ []) n (inl (group, one)) = hexdigits_bytes t group.2
 items_bytes ending (t ∷ []) n (inr (ends, dotted, two)) = ipv4_bytes t dotted
@@ -90,7 +95,7 @@ pub address_bytes : (t : List ℕ) → IsIpv6Text t → list_all is_address_byte
 address_bytes t (inl full) = rw full.joined (items_bytes true full.items 8 full.eight)
 address_bytes t (inr short) =
     rw short.joined
-    (bytes_joined (joined_by colon short.front) _ (items_bytes false short.front _ short.front_items)
+    (bytes_joined (join_with_byte colon short.front) _ (items_bytes false short.front _ short.front_items)
     (items_bytes true short.back _ short.back_items))
 
 -- an IPv6 text holds no other byte
@@ -106,18 +111,18 @@ abbrev pub TwoColons : List ℕ → Type 0
 TwoColons t = (x : List ℕ) × (y : List ℕ) × (z : List ℕ) × (t ≡ x ++ colon ∷ (y ++ colon ∷ z))
 
 -- items that count for four are at least three
-full_two_colons : (items : List (List ℕ)) (n : ℕ) → 4 ≤ n → AreItems true items n → TwoColons (joined_by colon items)
+full_two_colons : (items : List (List ℕ)) (n : ℕ) → 4 ≤ n → AreItems true items n → TwoColons (join_with_byte colon items)
 full_two_colons [] n enough none = absurd (omega arith)
 full_two_colons (t ∷ []) n enough (inl (group, one)) = absurd (omega arith)
 full_two_colons (t ∷ []) n enough (inr (ends, dotted, two)) = absurd (omega arith)
 full_two_colons (t ∷ u ∷ []) n enough (group, m, inl (last, one), more) = absurd (omega arith)
 full_two_colons (t ∷ u ∷ []) n enough (group, m, inr (last, dotted, two), more) = absurd (omega arith)
-full_two_colons (t ∷ u ∷ v ∷ us) n enough h = (t, u, joined_by colon (v ∷ us), refl)
+full_two_colons (t ∷ u ∷ v ∷ us) n enough h = (t, u, join_with_byte colon (v ∷ us), refl)
 
 -- an IPv6 text holds two colons
 pub address_two_colons : (t : List ℕ) → IsIpv6Text t → TwoColons t
 address_two_colons t (inl full) = rw full.joined (full_two_colons full.items 8 (omega arith) full.eight)
-address_two_colons t (inr short) = (joined_by colon short.front, [], joined_by colon short.back, short.joined)
+address_two_colons t (inr short) = (join_with_byte colon short.front, [], join_with_byte colon short.back, short.joined)
 
 -- lower case is taken byte by byte
 byte_lowercase_twice : (b : ℕ) → to_ascii_lowercase (to_ascii_lowercase b) ≡ to_ascii_lowercase b
@@ -132,13 +137,13 @@ lowercase_twice (b ∷ bs) =
     cc
 
 -- a hexadecimal digit stays one
-hexdigit_lowercase : (b : ℕ) → is_ascii_hexdigit b ≡ true → is_ascii_hexdigit (to_ascii_lowercase b) ≡ true
+hexdigit_lowercase : (b : ℕ) → is_hexadecimal b ≡ true → is_hexadecimal (to_ascii_lowercase b) ≡ true
 hexdigit_lowercase b h = grind (arith, nat_tests)
 
-hexdigits_lowercase : (g : List ℕ) → list_all is_ascii_hexdigit g ≡ true → list_all is_ascii_hexdigit (lowercase g) ≡ true
+hexdigits_lowercase : (g : List ℕ) → list_all is_hexadecimal g ≡ true → list_all is_hexadecimal (lowercase g) ≡ true
 hexdigits_lowercase [] h = refl
 hexdigits_lowercase (b ∷ g) h =
-    let (first, rest) = and_parts (is_ascii_hexdigit b) (list_all is_ascii_hexdigit g) h in
+    let (first, rest) = and_parts (is_hexadecimal b) (list_all is_hexadecimal g) h in
     and_from _ _ (hexdigit_lowercase b first) (hexdigits_lowercase g rest)
 
 -- so does a group
@@ -155,11 +160,11 @@ items_lowercase ending (t ∷ []) n (inr (ends, dotted, two)) = inr (ends, rw (i
 items_lowercase ending (t ∷ u ∷ us) n (group, m, rest, more) = (group_lowercase t group, m, items_lowercase ending (u ∷ us) m rest, more)
 
 -- joined items in lower case are joined
-joined_lowercase : (items : List (List ℕ)) → lowercase (joined_by colon items) ≡ joined_by colon (map lowercase items)
+joined_lowercase : (items : List (List ℕ)) → lowercase (join_with_byte colon items) ≡ join_with_byte colon (map lowercase items)
 joined_lowercase [] = refl
 joined_lowercase (t ∷ []) = refl
 joined_lowercase (t ∷ u ∷ us) =
-    map-append to_ascii_lowercase t (colon ∷ joined_by colon (u ∷ us)) ∙ ap (λ x. lowercase t ++ colon ∷ x) (joined_lowercase (u ∷ us))
+    map-append to_ascii_lowercase t (colon ∷ join_with_byte colon (u ∷ us)) ∙ ap (λ x. lowercase t ++ colon ∷ x) (joined_lowercase (u ∷ us))
 
 -- an IPv6 text in lower case is one
 pub address-lowercase : (t : List ℕ) → IsIpv6Text t → IsIpv6Text (lowercase t)
@@ -177,7 +182,7 @@ address-lowercase t (inr short) = inr record {
   back_items = items_lowercase true short.back short.back_count short.back_items;
   short = short.short;
   joined =
-      ap lowercase short.joined ∙ map-append to_ascii_lowercase (joined_by colon short.front) (colon ∷ colon ∷ joined_by colon short.back)
-      ∙ ap (λ x. x ++ colon ∷ (colon ∷ lowercase (joined_by colon short.back))) (joined_lowercase short.front)
-      ∙ ap (λ x. joined_by colon (map lowercase short.front) ++ colon ∷ (colon ∷ x)) (joined_lowercase short.back);
+      ap lowercase short.joined ∙ map-append to_ascii_lowercase (join_with_byte colon short.front) (colon ∷ colon ∷ join_with_byte colon short.back)
+      ∙ ap (λ x. x ++ colon ∷ (colon ∷ lowercase (join_with_byte colon short.back))) (joined_lowercase short.front)
+      ∙ ap (λ x. join_with_byte colon (map lowercase short.front) ++ colon ∷ (colon ∷ x)) (joined_lowercase short.back);
 }

@@ -2,33 +2,33 @@
 use Rattle.std.proofs.Common.{◌≡◌, ℕ, ◌+◌, ◌<◌, Bool, true, false, List, [], ◌∷◌, ◌++◌, length, replicate, ◌-◌, decimal, Ok, Err, Result, IsTrue, ◌↔◌, refl, sym, ap, ◌∙◌, subst, inl, inr, append_assoc, append-nil, arith}
 use Rattle.std.proofs.lemmas.Bool.{and_parts, and_from, false≢true}
 use Rattle.std.proofs.lemmas.Bool.Decides.{nat_tests}
-use Rattle.std.specs.List.{list_all}
-use Rattle.std.specs.Char.{digit_value, is_ascii_hexdigit}
+use Rattle.std.specs.List.{list_all, join_with_byte}
+use Rattle.std.specs.Char.{digit_value}
 use Rattle.std.specs.Str.Parse.{AllDigits, digits_value}
 use Rattle.std.specs.Net.Addr.{segments_of}
 use Rattle.std.specs.Net.Grammar as std
 use Rattle.std.specs.Net.Text.{dotted_text}
 use Rattle.std.specs.Result.{is_ok}
 use Rattle.std.specs.declared.net.ipv6_addr.Ipv6Addr.{Ipv6Addr}
-use Rattle.gix_url.specs.Bytes.{colon, dot}
-use Rattle.gix_url.specs.Addresses.{IsGroup, IsIpv4Text, joined_by, AreItems, IsIpv6Text}
+use Rattle.gix_url.specs.Bytes.{colon, dot, is_hexadecimal}
+use Rattle.gix_url.specs.Addresses.{IsGroup, IsIpv4Text, AreItems, IsIpv6Text}
 
 -- a hexadecimal digit by its class is one by its value
-digit_by_value : (b : ℕ) → is_ascii_hexdigit b ≡ true → digit_value b < 16
+digit_by_value : (b : ℕ) → is_hexadecimal b ≡ true → digit_value b < 16
 digit_by_value b h = grind (arith, nat_tests)
 
 -- and the other way round
-digit_by_class : (b : ℕ) → digit_value b < 16 → is_ascii_hexdigit b ≡ true
+digit_by_class : (b : ℕ) → digit_value b < 16 → is_hexadecimal b ≡ true
 digit_by_class b h = grind (arith, nat_tests)
 
 -- the same of each byte of a text
-digits_by_value : (g : List ℕ) → list_all is_ascii_hexdigit g ≡ true → AllDigits 16 g
+digits_by_value : (g : List ℕ) → list_all is_hexadecimal g ≡ true → AllDigits 16 g
 digits_by_value [] h = tt
 digits_by_value (b ∷ g) h =
-    let (first, rest) = and_parts (is_ascii_hexdigit b) (list_all is_ascii_hexdigit g) h in
+    let (first, rest) = and_parts (is_hexadecimal b) (list_all is_hexadecimal g) h in
     (digit_by_value b first, digits_by_value g rest)
 
-digits_by_class : (g : List ℕ) → AllDigits 16 g → list_all is_ascii_hexdigit g ≡ true
+digits_by_class : (g : List ℕ) → AllDigits 16 g → list_all is_hexadecimal g ≡ true
 digits_by_class [] h = refl
 digits_by_class (b ∷ g) h = and_from _ _ (digit_by_class b h.0) (digits_by_class g h.1)
 
@@ -77,7 +77,7 @@ abbrev Written : Bool → List ℕ → List ℕ → ℕ → Type 0
 Written ending lead t n = (s : List ℕ) × (length s ≡ n) × std.IsGroupsAfter ending lead (lead ++ t) s
 
 -- items write segments
-items_written : (ending : Bool) (lead t : List ℕ) (us : List (List ℕ)) (n : ℕ) → AreItems ending (t ∷ us) n → Written ending lead (joined_by colon (t ∷ us)) n
+items_written : (ending : Bool) (lead t : List ℕ) (us : List (List ℕ)) (n : ℕ) → AreItems ending (t ∷ us) n → Written ending lead (join_with_byte colon (t ∷ us)) n
 items_written ending lead t [] n (inl (group, one)) =
     (digits_value 16 t ∷ [], omega arith, inl (t, [], sym (append-nil (lead ++ t)), group_written t group, refl))
 items_written ending lead t [] n (inr (ends, dotted, two)) =
@@ -85,14 +85,14 @@ items_written ending lead t [] n (inr (ends, dotted, two)) =
     (segments_of octets, sym two, inr (t, octets, ends, refl, dotted_written t dotted, refl))
 items_written ending lead t (u ∷ us) n (group, m, items, more) =
     let (s, counted, rest) = items_written ending (colon ∷ []) u us m items in
-    (digits_value 16 t ∷ s, omega arith, inl (t, colon ∷ joined_by colon (u ∷ us), sym (append_assoc lead t _), group_written t group, rest))
+    (digits_value 16 t ∷ s, omega arith, inl (t, colon ∷ join_with_byte colon (u ∷ us), sym (append_assoc lead t _), group_written t group, rest))
 
 -- items that a text after some lead consists of
 record Items (ending : Bool) (lead text : List ℕ) (n : ℕ) : Type 0 where
   first : List ℕ
   others : List (List ℕ)
   items : AreItems ending (first ∷ others) n
-  joined : text ≡ lead ++ joined_by colon (first ∷ others)
+  joined : text ≡ lead ++ join_with_byte colon (first ∷ others)
 
 -- what writes segments consists of items
 items_read : (ending : Bool) (lead text : List ℕ) (v : ℕ) (s : List ℕ) → std.IsGroupsAfter ending lead text (v ∷ s) → Items ending lead text (length s + 1)
@@ -121,11 +121,11 @@ items_read ending lead text v s (inr (last, octets, ends, split, dotted, segment
     }
 
 -- the same where there may be no item
-list_written : (ending : Bool) (items : List (List ℕ)) (n : ℕ) → AreItems ending items n → Written ending [] (joined_by colon items) n
+list_written : (ending : Bool) (items : List (List ℕ)) (n : ℕ) → AreItems ending items n → Written ending [] (join_with_byte colon items) n
 list_written ending [] n none = ([], sym none, refl)
 list_written ending (t ∷ us) n items = items_written ending [] t us n items
 
-list_read : (ending : Bool) (text s : List ℕ) → std.IsGroups ending text s → (items : List (List ℕ)) × AreItems ending items (length s) × (text ≡ joined_by colon items)
+list_read : (ending : Bool) (text s : List ℕ) → std.IsGroups ending text s → (items : List (List ℕ)) × AreItems ending items (length s) × (text ≡ join_with_byte colon items)
 list_read ending text [] none = ([], refl, none)
 list_read ending text (v ∷ s) groups =
     let read = items_read ending [] text v s groups in
@@ -142,11 +142,11 @@ address_written t (inr short) =
     let (tail, tail_count, tail_groups) = list_written true short.back short.back_count short.back_items in (
       head ++ replicate (8 - length head - length tail) 0 ++ tail,
       inr record {
-        head_text = joined_by colon short.front;
-        tail_text = joined_by colon short.back;
+        head_text = join_with_byte colon short.front;
+        tail_text = join_with_byte colon short.back;
         head = head;
         tail = tail;
-        spelled = short.joined ∙ sym (append_assoc (joined_by colon short.front) (colon ∷ colon ∷ []) (joined_by colon short.back));
+        spelled = short.joined ∙ sym (append_assoc (join_with_byte colon short.front) (colon ∷ colon ∷ []) (join_with_byte colon short.back));
         head_groups = head_groups;
         tail_groups = tail_groups;
         room = omega (arith, short.short);
@@ -170,7 +170,7 @@ address_read t s (inr h) =
       front_items = front_items;
       back_items = back_items;
       short = omega (arith, h.room);
-      joined = h.spelled ∙ append_assoc h.head_text (colon ∷ colon ∷ []) h.tail_text ∙ ap (λ x. x ++ colon ∷ (colon ∷ h.tail_text)) front_joined ∙ ap (λ x. joined_by colon front ++ colon ∷ (colon ∷ x)) back_joined;
+      joined = h.spelled ∙ append_assoc h.head_text (colon ∷ colon ∷ []) h.tail_text ∙ ap (λ x. x ++ colon ∷ (colon ∷ h.tail_text)) front_joined ∙ ap (λ x. join_with_byte colon front ++ colon ∷ (colon ∷ x)) back_joined;
     }
 
 -- std reads an address exactly where there is an IPv6 text

@@ -3,14 +3,14 @@ use Rattle.std.proofs.Common.{◌≡◌, ℕ, zero, suc, ◌-◌, ◌^◌, ◌<�
 use Rattle.std.specs.Prelude.{codes, not, ◌==◌, ◌⊎◌, ◌↔◌, IsTrue, decimal}
 use mathlib.Core.Logic.{inl, inr, ⊎_elim}
 use Rattle.std.specs.Char.{digit_value, is_ascii_digit}
-use Rattle.std.specs.List.{list_all}
+use Rattle.std.specs.List.{list_all, join_with_byte}
 use Rattle.std.specs.Str.Parse.{AllDigits, digits_value}
 use Rattle.std.proofs.lemmas.Bool.{and_parts, and_from, or_cases, or_left, or_right, eqb-true, eq-eqb, ltb-true, lt-ltb, leb-true, le-leb, not-true, cases_eq, ne_eqb, not_from_false}
 use Rattle.std.proofs.lemmas.Bool.Decides.{nat_tests, same_from_decides}
 use Rattle.std.proofs.lemmas.Str.Parse.{IsNumeralModel, numerals_by_value, tells_digits}
 use Rattle.std.proofs.lemmas.Fmt.{decimal-digits_value, digits_decimal, digits_value-decimal, decimal_nonempty, first_decimal, decimal_digit}
 use Rattle.gix_url.specs.Bytes.{dot, colon, begins_with}
-use Rattle.gix_url.specs.Addresses.{IsGroup, IsOctet, IsIpv4Text, AreItems, joined_by, IsFullAddress, IsShortAddress, IsIpv6Text}
+use Rattle.gix_url.specs.Addresses.{IsGroup, IsOctet, IsIpv4Text, AreItems, IsFullAddress, IsShortAddress, IsIpv6Text}
 use Rattle.gix_url.specs.AddressTest.{any_cut, follows_byte, any_up_to, is_group, is_octet, is_ipv4_text, are_items, is_full_address, is_short_address, is_ipv6_text}
 
 -- ---- the searches
@@ -181,7 +181,7 @@ ipv4_to t h = subst (λ x. is_ipv4_text x ≡ true) (sym h.joined) passes
 
 -- items that count for so many groups, joined by `:`
 abbrev Items : Bool → ℕ → List ℕ → Type 0
-Items ending n t = (items : List (List ℕ)) × AreItems ending items n × (t ≡ joined_by colon items)
+Items ending n t = (items : List (List ℕ)) × AreItems ending items n × (t ≡ join_with_byte colon items)
 
 -- a group in front of items
 items_more : (ending : Bool) (n : ℕ) (x y : List ℕ) → IsGroup x → Items ending (suc n) y → Items ending (suc (suc n)) (x ++ colon ∷ y)
@@ -214,7 +214,7 @@ items_count ending u [] n (inr h) = omega (arith, h.2)
 items_count ending u (v ∷ vs) n h = omega (arith, h.3)
 
 -- the test finds items
-items_to : (ending : Bool) (items : List (List ℕ)) (n : ℕ) → AreItems ending items n → are_items ending n (joined_by colon items) ≡ true
+items_to : (ending : Bool) (items : List (List ℕ)) (n : ℕ) → AreItems ending items n → are_items ending n (join_with_byte colon items) ≡ true
 items_to ending [] n h = subst (λ k. are_items ending k [] ≡ true) (sym h) refl
 items_to ending (t ∷ []) n (inl h) = subst (λ k. are_items ending k t ≡ true) (sym h.1) (group_to t h.0)
 items_to ending (t ∷ []) n (inr h) =
@@ -222,8 +222,8 @@ items_to ending (t ∷ []) n (inr h) =
 items_to ending (t ∷ u ∷ us) n (g, zero, are, count) = absurd (omega (arith, items_count ending u us zero are))
 items_to ending (t ∷ u ∷ us) n (g, suc m, are, count) =
     let two : n ≡ suc (suc m) = omega (arith, count) in
-    subst (λ k. are_items ending k (t ++ colon ∷ joined_by colon (u ∷ us)) ≡ true) (sym two)
-    (or_left _ _ (any_cut_to colon is_group (are_items ending (suc m)) t (joined_by colon (u ∷ us)) (group_to t g) (items_to ending (u ∷ us) (suc m) are)))
+    subst (λ k. are_items ending k (t ++ colon ∷ join_with_byte colon (u ∷ us)) ≡ true) (sym two)
+    (or_left _ _ (any_cut_to colon is_group (are_items ending (suc m)) t (join_with_byte colon (u ∷ us)) (group_to t g) (items_to ending (u ∷ us) (suc m) are)))
 
 -- ---- addresses
 
@@ -260,7 +260,7 @@ short_from t e =
       front_items = before.1;
       back_items = behind.1;
       short = omega (arith, count.1, more.1);
-      joined = short_joined t cut.front rest.0 cut.back (joined_by colon before.0) (joined_by colon behind.0) cut.joined rest.2 before.2 behind.2;
+      joined = short_joined t cut.front rest.0 cut.back (join_with_byte colon before.0) (join_with_byte colon behind.0) cut.joined rest.2 before.2 behind.2;
     }
 
 -- the same, back
@@ -268,10 +268,10 @@ short_to : (t : List ℕ) → IsShortAddress t → is_short_address t ≡ true
 short_to t h = subst (λ x. is_short_address x ≡ true) (sym h.joined) passes
   where
     front : List ℕ
-    front = joined_by colon h.front
+    front = join_with_byte colon h.front
 
     back : List ℕ
-    back = joined_by colon h.back
+    back = join_with_byte colon h.back
 
     behind : back_test h.front_count back ≡ true
     behind = any_up_to_to (λ n. are_items true n back) (7 - h.front_count) h.back_count (omega (arith, h.short)) (items_to true h.back h.back_count h.back_items)

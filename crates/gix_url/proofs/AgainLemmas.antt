@@ -9,10 +9,10 @@ use Rattle.gix_url.specs.Grammar.{Spells}
 use Rattle.gix_url.proofs.UniqueLemmas.{spells_unique}
 use Rattle.gix_url.specs.Value.Protocol.{file, git, ssh, http, https, ext, helper, helper_url}
 use Rattle.gix_url.specs.Hosts.Mode.{strict, bare, loose}
-use Rattle.gix_url.specs.Settled.{is_ftp, IsValue, IsSettledUrl, IsSettledWeb, IsSettledSecure, IsSettledGit, IsSettledHelperUrl, IsSettledBy, IsSettled, IsBracketedHost}
-use Rattle.gix_url.specs.SettledParts.{IsWeb, HasUrlPath}
+use Rattle.gix_url.specs.Settled.{is_ftp, IsValue, IsSettledUrl, IsSettledWeb, IsSettledSecure, IsSettledGit, IsSettledHelperUrl, IsSettledBy, IsSettled, IsBracketedHost, IsWeb}
+use Rattle.gix_url.specs.SettledParts.{HasUrlPath}
 use Rattle.gix_url.specs.Laws.{ComesBack, TextDecides}
-use Rattle.gix_url.specs.WrittenPieces.{as_read, WritesPath, IsAuthorityPiece}
+use Rattle.gix_url.proofs.WrittenPieces.{as_read, WritesPath, IsAuthorityPiece}
 use Rattle.gix_url.proofs.SettledLemmas.{one_text, written_web, written_git, written_secure, written_other}
 use Rattle.gix_url.proofs.WrittenUrlLemmas.{IsUrlProtocol, IsReadable, authority_with_host, authority_without_host, readable_spelled, url_readable, url_again, authority_text}
 use Rattle.gix_url.proofs.WrittenPathLemmas.{web_path_written, transport_path_written, other_path_written}

@@ -13,8 +13,7 @@ use Rattle.gix_url.specs.Schemes.{protocol_of, protocol_text}
 use Rattle.gix_url.specs.Walks.{is_walk_short, text_walk_past, text_walk_for}
 use Rattle.gix_url.specs.Grammar.{SpellsUrl, SpellsFile, Spells}
 use Rattle.gix_url.specs.Text.{has_colon, canonical_text, text}
-use Rattle.gix_url.specs.Settled.{IsSettledFile, IsSettledWeb, HasFittingText, IsSettledBy, IsSettled}
-use Rattle.gix_url.specs.SettledParts.{IsWeb}
+use Rattle.gix_url.specs.Settled.{IsSettledFile, IsSettledWeb, HasFittingText, IsSettledBy, IsSettled, IsWeb}
 use Rattle.gix_url.specs.Laws.{keeps_bytes, ComesBack, is_closed, IsCorner, Closed, Exact}
 use Rattle.gix_url.proofs.KeptLemmas.{kept_closed, kept_exact}
 use Rattle.gix_url.proofs.FileLemmas.{StaysOpen, file_closed, file_exact}

@@ -1,6 +1,6 @@
 -- What is read of a settled location of HTTP has the same components.
 use Rattle.std.proofs.Common.{◌≡◌, ℕ, ◌<◌, Bool, true, false, not, ◌&&◌, ◌==◌, ◌↔◌, inl, inr, List, [], ◌∷◌, ◌++◌, map, Option, Some, None, Ok, IsUtf8, IfSome, option_map, if◌then◌else◌, All, refl, sym, ap, subst, ◌∙◌, ⊎_elim, arith}
-use Rattle.std.specs.List.{list_any}
+use Rattle.std.specs.List.{list_any, join_with_byte}
 use Rattle.std.proofs.lemmas.Bool.{cond-true, cond-false, cases_Bool, both_ways, false≢true, or_parts, eqb-true, false_from_ne_true}
 use Rattle.std.proofs.lemmas.Bool.Decides.{nat_tests}
 use Rattle.std.proofs.lemmas.List.{map-append}
@@ -12,16 +12,15 @@ use Rattle.percent_encoding.specs.Percent.{percent_decode, percent_encode, perce
 use Rattle.percent_encoding.proofs.AsciiSetLemmas.{outside_from_kept, kept_from_outside}
 use Rattle.percent_encoding.proofs.PercentLemmas.{IsEscapeByte, All-percent_encode_byte, percent_encode_escaped, percent_encode_kept, percent_decode-nil, percent_decode-percent_encode_byte}
 use Rattle.gix_url.specs.declared.escape.TheConstants.{PATH}
-use Rattle.gix_url.specs.Bytes.{number_sign, percent_sign, plus_sign, slash, question_mark, FreeOf, begins_with}
-use Rattle.gix_url.specs.Escapes.{has_percent, is_path_escaped}
-use Rattle.gix_url.specs.Addresses.{joined_by}
+use Rattle.gix_url.specs.Bytes.{number_sign, percent_sign, plus_sign, slash, question_mark, FreeOf, begins_with, space, ampersand, equals_sign}
+use Rattle.gix_url.specs.Escapes.{has_percent, is_path_escaped, matches}
 use Rattle.gix_url.specs.Value.{Location}
-use Rattle.gix_url.specs.Grammar.{or_root, retained, Spells}
-use Rattle.gix_url.specs.Components.{Components, space, ampersand, equals_sign, original_path, stands_for, IsFront, CutsPath, CutsFields, SplitsField, with_spaces, matches, term_of, PairsOf, QueryOf, WebParts, PartsBy, PartsOf}
-use Rattle.gix_url.specs.Text.{roots_path, plain_path, matching_or, canonical_path, canonical_text, text}
-use Rattle.gix_url.specs.Settled.{IsSettledUrl, IsSettledWeb, IsSettledBy, IsSettled}
-use Rattle.gix_url.specs.SettledParts.{HasFairSpelling, IsWeb}
-use Rattle.gix_url.specs.WrittenPieces.{as_read}
+use Rattle.gix_url.specs.Grammar.{or_root, retained_spelling, Spells}
+use Rattle.gix_url.specs.Components.{Components, stands_for, IsFront, CutsPath, CutsFields, SplitsField, with_spaces, term_of, PairsOf, QueryOf, WebParts, PartsBy, PartsOf}
+use Rattle.gix_url.specs.Text.{roots_path, plain_path, matching_or, canonical_path, canonical_text, text, original_path}
+use Rattle.gix_url.specs.Settled.{IsSettledUrl, IsSettledWeb, IsSettledBy, IsSettled, IsWeb}
+use Rattle.gix_url.specs.SettledParts.{HasFairSpelling}
+use Rattle.gix_url.proofs.WrittenPieces.{as_read}
 use Rattle.gix_url.specs.Laws.{SameComponents}
 use Rattle.gix_url.proofs.CutLemmas.{cut_unique, free_or_cut, not_free}
 use Rattle.gix_url.proofs.EscapeLemmas.{is_escape_byte, bytes_from_utf8, decode_byte, decode_encode, decode_encode_utf8, encode_nil, encode_empty, encode-append, encode_byte_kept, encode_lacks_kept, lacks_from_encode}
@@ -120,11 +119,11 @@ bytes_cut t front query fragment small (CutsPath.with_both q f g free e j k) =
     (parts.0, subst (λ o. IfSome o IsBytes) (sym j) rest.0, subst (λ o. IfSome o IsBytes) (sym k) rest.1)
 
 -- the fields of a text are made of bytes where it is
-bytes_fields : (fields : List (List ℕ)) → IsBytes (joined_by ampersand fields) → All IsBytes fields
+bytes_fields : (fields : List (List ℕ)) → IsBytes (join_with_byte ampersand fields) → All IsBytes fields
 bytes_fields [] small = All-nil IsBytes
 bytes_fields (t ∷ []) small = All-cons IsBytes t [] small (All-nil IsBytes)
 bytes_fields (t ∷ u ∷ us) small =
-    let parts = bytes_around ampersand t (joined_by ampersand (u ∷ us)) small in
+    let parts = bytes_around ampersand t (join_with_byte ampersand (u ∷ us)) small in
     All-cons IsBytes t (u ∷ us) parts.0 (bytes_fields (u ∷ us) parts.1)
 
 -- name and value of a field are made of bytes where it is
@@ -282,30 +281,30 @@ each_written f fields way each =
     All-map (FreeOf ampersand) f fields (All-weaker (FreeOf ampersand) (λ t. FreeOf ampersand (f t)) (λ t free. way.free ampersand t ampersand_mark free) fields each)
 
 -- fields are written joined
-joined_written : (f : List ℕ → List ℕ) (fields : List (List ℕ)) → IsWay f → f (joined_by ampersand fields) ≡ joined_by ampersand (map f fields)
+joined_written : (f : List ℕ → List ℕ) (fields : List (List ℕ)) → IsWay f → f (join_with_byte ampersand fields) ≡ join_with_byte ampersand (map f fields)
 joined_written f [] way = way.nil
 joined_written f (t ∷ []) way = refl
 joined_written f (t ∷ u ∷ us) way =
-    way.around ampersand t (joined_by ampersand (u ∷ us)) ampersand_mark ∙ ap (λ z. f t ++ ampersand ∷ z) (joined_written f (u ∷ us) way)
+    way.around ampersand t (join_with_byte ampersand (u ∷ us)) ampersand_mark ∙ ap (λ z. f t ++ ampersand ∷ z) (joined_written f (u ∷ us) way)
 
 -- the fields of a text are written as those of what is written
 fields_written : (f : List ℕ → List ℕ) (t : List ℕ) (fields : List (List ℕ)) → IsWay f → CutsFields t fields → CutsFields (f t) (map f fields)
 fields_written f t fields way cut = record { each = each_written f fields way cut.each; joined = ap f cut.joined ∙ joined_written f fields way }
 
 -- one field more stands before others, where there are any
-joined_more : (f : List ℕ → List ℕ) (c : ℕ) (t : List ℕ) (fields : List (List ℕ)) (k : List ℕ) (ks : List (List ℕ)) → k ∷ ks ≡ map f fields → joined_by c (t ∷ fields) ≡ t ++ c ∷ joined_by c fields
+joined_more : (f : List ℕ → List ℕ) (c : ℕ) (t : List ℕ) (fields : List (List ℕ)) (k : List ℕ) (ks : List (List ℕ)) → k ∷ ks ≡ map f fields → join_with_byte c (t ∷ fields) ≡ t ++ c ∷ join_with_byte c fields
 joined_more f c t [] k ks e = let wrong : k ∷ ks ≡ [] = e in cc
 joined_more f c t (u ∷ us) k ks e = refl
 
 -- the fields of what is written are written of fields of the text
-fields_back : (f : List ℕ → List ℕ) (given : List (List ℕ)) (t : List ℕ) → IsWay f → All (FreeOf ampersand) given → f t ≡ joined_by ampersand given → (fields : List (List ℕ)) × CutsFields t fields × (given ≡ map f fields)
+fields_back : (f : List ℕ → List ℕ) (given : List (List ℕ)) (t : List ℕ) → IsWay f → All (FreeOf ampersand) given → f t ≡ join_with_byte ampersand given → (fields : List (List ℕ)) × CutsFields t fields × (given ≡ map f fields)
 fields_back f [] t way each e = ([], record { each = All-nil (FreeOf ampersand); joined = way.empty t e }, refl)
 fields_back f (g ∷ []) t way each e =
     let free : FreeOf ampersand g = All-head (FreeOf ampersand) g [] each in
     (t ∷ [], record { each = All-cons (FreeOf ampersand) t [] (way.freed ampersand t ampersand_mark (subst (λ z. FreeOf ampersand z) (sym e) free)) (All-nil (FreeOf ampersand)); joined = refl }, ap (λ z. z ∷ []) (sym e))
 fields_back f (g ∷ k ∷ ks) t way each e =
     let free : FreeOf ampersand g = All-head (FreeOf ampersand) g (k ∷ ks) each in
-    let (x, y, lone, cut, is_x, is_y) = cut_back f ampersand t g (joined_by ampersand (k ∷ ks)) way ampersand_mark free e in
+    let (x, y, lone, cut, is_x, is_y) = cut_back f ampersand t g (join_with_byte ampersand (k ∷ ks)) way ampersand_mark free e in
     let (fields, rest, same) = fields_back f (k ∷ ks) y way (All-tail (FreeOf ampersand) g (k ∷ ks) each) (sym is_y) in
     let whole = cut ∙ ap (λ z. x ++ ampersand ∷ z) rest.joined ∙ sym (joined_more f ampersand x fields k ks same) in
     (x ∷ fields, record { each = All-cons (FreeOf ampersand) x fields lone rest.each; joined = whole }, (λ i. is_x i ∷ same i))
@@ -447,10 +446,10 @@ web_path v (inl e) = ap (λ p. (if roots_path p && not (begins_with slash v.path
 web_path v (inr e) = ap (λ p. (if roots_path p && not (begins_with slash v.path) then slash ∷ [] else []) ++ matching_or v.spelling v.path (plain_path p v.path)) e
 
 -- where the spelling matches, it is read again
-spelled_again : (v : Location) → IsWeb v → HasFairSpelling v → matches v.spelling v.path ≡ true → retained (canonical_path v) ≡ v.spelling
+spelled_again : (v : Location) → IsWeb v → HasFairSpelling v → matches v.spelling v.path ≡ true → retained_spelling (canonical_path v) ≡ v.spelling
 spelled_again v web fair h =
     let (s, is, decoded, chosen) = matched v.spelling v.path (percent_encode PATH v.path) h in
-    ap retained (web_path v web ∙ chosen) ∙ cond-true _ _ _ (fair s is decoded).escaped ∙ sym is
+    ap retained_spelling (web_path v web ∙ chosen) ∙ cond-true _ _ _ (fair s is decoded).escaped ∙ sym is
 
 -- where no spelling matches and the encoding of the path is read as one, it is the encoding of the path
 encoded_rewritten : (v : Location) → IsUtf8 v.path → matches v.spelling v.path ≡ false → IsRewritten (λ x. percent_encode PATH x) v (spelled_as v (Some (percent_encode PATH v.path)))
@@ -488,7 +487,7 @@ parts_by : (v : Location) (b : Bool) (components : Components) → IsWeb v → I
 parts_by v true components web settled h =
     subst (λ o. WebParts (spelled_as v o) components ↔ WebParts v components) (sym (spelled_again v web settled.spelling h)) (λ parts. parts, λ parts. parts)
 parts_by v false components web settled h =
-    let read : retained (percent_encode PATH v.path) ≡ retained (canonical_path v) = ap retained (sym (web_path v web ∙ unmatched v.spelling v.path (percent_encode PATH v.path) h)) in
+    let read : retained_spelling (percent_encode PATH v.path) ≡ retained_spelling (canonical_path v) = ap retained_spelling (sym (web_path v web ∙ unmatched v.spelling v.path (percent_encode PATH v.path) h)) in
     subst (λ o. WebParts (spelled_as v o) components ↔ WebParts v components) read (retained_parts v (has_percent (percent_encode PATH v.path)) components refl settled.path_text h)
 
 -- ---- what is read of a settled location

@@ -7,8 +7,7 @@ use Rattle.gix_url.specs.Bytes.{colon, left_bracket, percent_sign, FreeOf, begin
 use Rattle.gix_url.specs.Escapes.{has_percent}
 use Rattle.gix_url.specs.Hosts.{is_http_host_byte}
 use Rattle.gix_url.specs.Text.{has_colon}
-use Rattle.gix_url.specs.Settled.{IsFileHost, IsSettledFile, IsSettledLocal, IsWebHost, IsSettledWeb, IsSettledBy, IsSettled}
-use Rattle.gix_url.specs.SettledParts.{IsWeb}
+use Rattle.gix_url.specs.Settled.{IsFileHost, IsSettledFile, IsSettledLocal, IsWebHost, IsSettledWeb, IsSettledBy, IsSettled, IsWeb}
 use Rattle.gix_url.specs.Laws.{IsCorner, Apart}
 use Rattle.gix_url.proofs.CutLemmas.{lacks-append, free_of_all, not_free}
 

@@ -9,7 +9,7 @@ use Rattle.std.proofs.Output.{has_written_styled_append, has_written_styled_of_e
 use Rattle.std.proofs.lemmas.Str.{encodes-append}
 use Rattle.bstr.specs.Utf8.{lossy_chars}
 use Rattle.bstr.proofs.lemmas.LossyLemmas.{lossy_chars-front}
-use Rattle.gix_url.specs.Display.{lossy_text}
+use Rattle.gix_url.specs.Bytes.{lossy_text}
 use Rattle.gix_url.specs.Sinks.{ShowsEnd, ShowsText}
 
 -- a front that is UTF-8 is shown as it is

@@ -117,7 +117,7 @@ plain_decided b front path h =
                   | inl (meant, hosted) ↦
                       inl (scp_location user meant path, Spells.scp_form (inl (record { front = front; path = path; user = user; host = host; meant = meant; shape = h.shape; text = text; pathed = some; split = split; hosted = hosted; value = refl })))
                   | inr (named, flaw) ↦
-                      inr (HasFlaw.bad_url kind.Scp named (record { not_addressed = λ u a p k. h.not_addressed (u, a, p, k); front = front; path = path; user = user; host = host; shape = h.shape; split = split; no_at = lone; flaw = flaw }))
+                      inr (HasFlaw.bad_url kind.Scp named (record { not_addressed = h.not_addressed; front = front; path = path; user = user; host = host; shape = h.shape; split = split; no_at = lone; flaw = flaw }))
                 ]
           ]
     ]
@@ -240,7 +240,7 @@ neither_decided b neither =
       | inr some ↦
           elim (addressed_or_not b) [
             | inl (user, address, path, h) ↦
-                addressed_decided b user address path (record { joined = h.joined; neither = neither; no_slash = h.no_slash; no_colon = h.no_colon; addressed = h.addressed })
+                addressed_decided b user address path (record { cut = h; neither = neither })
             | inr none ↦
                 elim (scp_or_not b) [
                   | inl (front, path, h) ↦ plain_decided b front path (plain_scp b front path neither none h)

@@ -5,8 +5,8 @@ use Rattle.gix_url.specs.Value.{Location}
 use Rattle.gix_url.specs.Bytes.{slash, colon, at_sign, left_bracket, right_bracket, FreeOf, begins_with}
 use Rattle.gix_url.specs.Cuts.{url_mark}
 use Rattle.gix_url.specs.Addresses.{IsIpv6Text}
-use Rattle.gix_url.specs.Grammar.{HasHelperForm, IsNeither, ScpFront, ScpShape, AddressedShape, IsScpShaped, SpellsUrl, SpellsFile, SpellsScp, SpellsLocal, Spells}
-use Rattle.gix_url.specs.Laws.{IsAddressed, SpellsLocalBefore, SpellsBefore}
+use Rattle.gix_url.specs.Grammar.{HasHelperForm, IsNeither, ScpFront, ScpShape, AddressedShape, IsScpShaped, SpellsUrl, SpellsFile, SpellsScp, SpellsLocal, Spells, IsAddressed}
+use Rattle.gix_url.specs.Laws.{SpellsLocalBefore, SpellsBefore}
 use Rattle.gix_url.proofs.CutLemmas.{tails, different_bytes, cut_unique, helper_name_free, scheme_text_free, free-append, free_parts, free_head_tail, free_or_cut, begins_cut, not_free}
 use Rattle.gix_url.proofs.AddressLemmas.{is_address_byte, address_free, address_two_colons}
 
@@ -92,9 +92,9 @@ begins_before_at (c ∷ user) rest h = h
 -- a front that ends within the address
 within_shape : (b user address path x y : List ℕ) → AddressedShape b user address path → FreeOf colon x → address ≡ x ++ colon ∷ y → ScpFront b (user ++ at_sign ∷ (left_bracket ∷ x)) → ScpShape b (user ++ at_sign ∷ (left_bracket ∷ x)) (y ++ right_bracket ∷ (colon ∷ path))
 within_shape b user address path x y h f e shape = record {
-  joined = h.joined ∙ addressed_joined user address path x y e;
+  joined = h.cut.joined ∙ addressed_joined user address path x y e;
   neither = h.neither;
-  no_slash = free-append slash user (at_sign ∷ (left_bracket ∷ x)) h.no_slash (address_front_free slash address x y refl h.addressed e);
+  no_slash = free-append slash user (at_sign ∷ (left_bracket ∷ x)) h.cut.no_slash (address_front_free slash address x y refl h.cut.addressed e);
   shape = shape;
 }
 
@@ -102,11 +102,11 @@ within_shape b user address path x y h f e shape = record {
 behind_shape : (b user address path : List ℕ) → AddressedShape b user address path → ScpFront b (user ++ at_sign ∷ (left_bracket ∷ (address ++ right_bracket ∷ []))) → ScpShape b (user ++ at_sign ∷ (left_bracket ∷ (address ++ right_bracket ∷ []))) path
 behind_shape b user address path h shape = record {
   joined =
-      h.joined
+      h.cut.joined
       ∙ ap (λ s. user ++ at_sign ∷ (left_bracket ∷ s)) (sym (append_assoc address (right_bracket ∷ []) (colon ∷ path)))
       ∙ sym (append_assoc user (at_sign ∷ (left_bracket ∷ (address ++ right_bracket ∷ []))) (colon ∷ path));
   neither = h.neither;
-  no_slash = free-append slash user (at_sign ∷ (left_bracket ∷ (address ++ right_bracket ∷ []))) h.no_slash (free-append slash address (right_bracket ∷ []) (address_free slash address refl h.addressed) refl);
+  no_slash = free-append slash user (at_sign ∷ (left_bracket ∷ (address ++ right_bracket ∷ []))) h.cut.no_slash (free-append slash address (right_bracket ∷ []) (address_free slash address refl h.cut.addressed) refl);
   shape = shape;
 }
 
@@ -130,19 +130,19 @@ WasScpShaped b = (front : List ℕ) × (path : List ℕ) × ScpShape b front pat
 bracket_user_shape : (b user address path x y r : List ℕ) → AddressedShape b user address path → FreeOf colon x → address ≡ x ++ colon ∷ y → user ≡ left_bracket ∷ r → WasScpShaped b
 bracket_user_shape b user address path x y r h f e begins = elim (free_or_cut right_bracket r) [
   | inl g ↦
-      (user ++ at_sign ∷ (left_bracket ∷ (address ++ right_bracket ∷ [])), path, behind_shape b user address path h (open_user_front b user address r begins g (address_free right_bracket address refl h.addressed)))
+      (user ++ at_sign ∷ (left_bracket ∷ (address ++ right_bracket ∷ [])), path, behind_shape b user address path h (open_user_front b user address r begins g (address_free right_bracket address refl h.cut.addressed)))
   | inr (s, t, g, cut) ↦
-      (user ++ at_sign ∷ (left_bracket ∷ x), y ++ right_bracket ∷ (colon ∷ path), within_shape b user address path x y h f e (closed_user_front b user x s t (begins ∙ ap (λ z. left_bracket ∷ z) cut) g h.no_colon f))
+      (user ++ at_sign ∷ (left_bracket ∷ x), y ++ right_bracket ∷ (colon ∷ path), within_shape b user address path x y h f e (closed_user_front b user x s t (begins ∙ ap (λ z. left_bracket ∷ z) cut) g h.cut.no_colon f))
 ]
 
 -- the shape has an earlier one
 pub addressed_scp : (b user address path : List ℕ) → AddressedShape b user address path → WasScpShaped b
 addressed_scp b user address path h =
-    let (x, y, f, e) = address_cut address h.addressed in
+    let (x, y, f, e) = address_cut address h.cut.addressed in
     elim (cases_Bool (begins_with left_bracket user)) [
       | inl bracket ↦ let (r, begins) = begins_cut left_bracket user bracket in bracket_user_shape b user address path x y r h f e begins
       | inr other ↦
-          (user ++ at_sign ∷ (left_bracket ∷ x), y ++ right_bracket ∷ (colon ∷ path), within_shape b user address path x y h f e (ScpFront.plain (addressed_front_free user x h.no_colon f) (inl (begins_before_at user (left_bracket ∷ x) other))))
+          (user ++ at_sign ∷ (left_bracket ∷ x), y ++ right_bracket ∷ (colon ∷ path), within_shape b user address path x y h f e (ScpFront.plain (addressed_front_free user x h.cut.no_colon f) (inl (begins_before_at user (left_bracket ∷ x) other))))
     ]
 
 -- what has no earlier scp shape has none

@@ -1,5 +1,6 @@
 -- Components that are handed out: they are those of the location, and what is lent stands in its path.
 use Rattle.std.proofs.Common.{◌≡◌, ◌∙◌, ℕ, Bool, true, false, ◌⊎◌, inl, inr, List, [], ◌∷◌, ◌++◌, map, length, Option, Some, None, option_map, IfSome, All, Result, Ok, Err, IsOk, IsErr, IfOk, refl, sym, ap, subst, append_assoc, arith, ⊎_elim}
+use Rattle.std.specs.List.{join_with_byte}
 use Rattle.std.specs.Option.{unwrap_or}
 use Rattle.std.proofs.lemmas.Bool.{cases_Bool}
 use Rattle.std.proofs.lemmas.List.{append-nil}
@@ -11,12 +12,12 @@ use Rattle.gix_url.specs.declared.components.PathComponents.{PathComponents}
 use Rattle.gix_url.specs.declared.components.QueryText.{QueryText}
 use Rattle.gix_url.specs.declared.components.QueryText.TheVariants.{Borrowed, Owned}
 use Rattle.gix_url.specs.declared.components.cuts.Spelled.{Spelled}
-use Rattle.gix_url.specs.Bytes.{slash, number_sign, question_mark, plus_sign, FreeOf, Holds}
-use Rattle.gix_url.specs.Addresses.{joined_by}
+use Rattle.gix_url.specs.Bytes.{slash, number_sign, question_mark, Holds, ampersand, equals_sign}
 use Rattle.gix_url.specs.Value.{Location}
 use Rattle.gix_url.specs.Grammar.{or_root}
-use Rattle.gix_url.specs.Text.{matching_or}
-use Rattle.gix_url.specs.Components.{Components, ampersand, equals_sign, original_path, matches, stands_for, term_of, CutsPath, CutsFields, SplitsField, PairsOf, QueryOf, WebParts}
+use Rattle.gix_url.specs.Text.{matching_or, original_path}
+use Rattle.gix_url.specs.Components.{Components, term_of, CutsPath, SplitsField, PairsOf, QueryOf, WebParts}
+use Rattle.gix_url.specs.Escapes.{matches}
 use Rattle.gix_url.specs.Meanings.{meant_by}
 use Rattle.gix_url.specs.ComponentViews.{text_bytes, pair_bytes, components, LentTerm, LentPairs, LentQuery}
 use Rattle.gix_url.specs.ComponentPieces.{LendsTerm, LendsPairs, LendsQuery, LendsParts, HasQuery, SpellsPath}
@@ -116,12 +117,12 @@ abbrev AreHeld : Bool → List ℕ → List (List ℕ) → Type 0
 AreHeld escaped path texts = All (λ t. Holds (meant_by escaped t) path) texts
 
 -- what the fields of a text stand for stands in what the text stands for
-held_fields : (escaped : Bool) (path : List ℕ) (fields : List (List ℕ)) → Holds (meant_by escaped (joined_by ampersand fields)) path → AreHeld escaped path fields
+held_fields : (escaped : Bool) (path : List ℕ) (fields : List (List ℕ)) → Holds (meant_by escaped (join_with_byte ampersand fields)) path → AreHeld escaped path fields
 held_fields escaped path [] held = All-nil (λ t. Holds (meant_by escaped t) path)
 held_fields escaped path (t ∷ []) held = All-cons (λ x. Holds (meant_by escaped x) path) t [] held (All-nil (λ x. Holds (meant_by escaped x) path))
 held_fields escaped path (t ∷ u ∷ us) held =
-    let whole = joined_by ampersand (t ∷ u ∷ us) in
-    let rest = joined_by ampersand (u ∷ us) in
+    let whole = join_with_byte ampersand (t ∷ u ∷ us) in
+    let rest = join_with_byte ampersand (u ∷ us) in
     let parts = held_around escaped whole t rest ampersand (record { digit = refl; percent = refl }) refl in
     All-cons (λ x. Holds (meant_by escaped x) path) t (u ∷ us) (held_within (meant_by escaped t) (meant_by escaped whole) path parts.0 held) (held_fields escaped path (u ∷ us) (held_within (meant_by escaped rest) (meant_by escaped whole) path parts.1 held))
 

@@ -5,10 +5,10 @@ use Rattle.std.specs.Option.{option_copied}
 use Rattle.bstr.proofs.Computing.{computing}
 use Rattle.gix_url.specs.declared.error.Error.{Error}
 use Rattle.gix_url.specs.declared.error.Error.TheVariants as error
-use Rattle.gix_url.specs.Bytes.{slash, tilde, FreeOf, begins_with}
+use Rattle.gix_url.specs.Bytes.{slash, tilde, FreeOf, begins_with, lossy_text}
 use Rattle.gix_url.specs.Settled.{begins_at_home}
 use Rattle.gix_url.specs.Paths.{IsParent}
-use Rattle.gix_url.specs.Homes.{HomeUser, home_user, shown, SplitsHome, shell_text, ForShell, HomeFolder}
+use Rattle.gix_url.specs.Homes.{HomeUser, home_user, SplitsHome, shell_text, ForShell, HomeFolder}
 use Rattle.gix_url.specs.Homes.HomeUser.{current, named}
 use Rattle.gix_url.specs.HomeReadings.{HomePath, Expansion}
 
@@ -28,14 +28,14 @@ no_tilde_no_home (b ∷ rest) h = h
 -- ---- splits
 
 -- nothing is shown as nothing
-shown_none : shown [] ≡ []
+lossy_none : lossy_text [] ≡ []
 unfolding computing
-shown_none = refl
+lossy_none = refl
 
 -- the split of a path with a user
 pub splits_at : (path name below : List ℕ) (user : HomeUser) (rest : List ℕ) → FreeOf slash name → HomePath path name below
-    → user ≡ home_user name → rest ≡ slash ∷ shown below → SplitsHome path (Some user) rest
-splits_at path name below user rest free (inl (e, none)) u r = SplitsHome.home_alone name free e (ap Some u) (r ∙ ap (λ t. slash ∷ t) (ap shown none ∙ shown_none))
+    → user ≡ home_user name → rest ≡ slash ∷ lossy_text below → SplitsHome path (Some user) rest
+splits_at path name below user rest free (inl (e, none)) u r = SplitsHome.home_alone name free e (ap Some u) (r ∙ ap (λ t. slash ∷ t) (ap lossy_text none ∙ lossy_none))
 splits_at path name below user rest free (inr e) u r = SplitsHome.below_home name below free e (ap Some u) r
 
 -- a user's path as a shell takes it
@@ -45,7 +45,7 @@ shell_named (b ∷ bs) rest = refl
 
 -- the reading of such a path for a shell
 pub shell_at : (path name below rest text : List ℕ) → FreeOf slash name → HomePath path name below
-    → rest ≡ slash ∷ shown below → text ≡ tilde ∷ (name ++ rest) → ForShell path text
+    → rest ≡ slash ∷ lossy_text below → text ≡ tilde ∷ (name ++ rest) → ForShell path text
 shell_at path name below rest text free cut r e = record {
   user = Some (home_user name);
   rest = rest;

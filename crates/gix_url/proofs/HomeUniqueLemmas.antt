@@ -1,10 +1,10 @@
 -- A path has one home split, one reading for a shell and one expansion, and a user has one home folder.
 use Rattle.std.proofs.Common.{◌≡◌, ℕ, Bool, true, false, ◌==◌, ◌⊎◌, inl, inr, List, [], ◌∷◌, ◌++◌, Option, Some, None, refl, sym, ap, subst, ◌∙◌}
 use Rattle.std.proofs.lemmas.Bool.{both_ways, cases_Bool, false≢true, eqb-true, and_parts}
-use Rattle.gix_url.specs.Bytes.{slash, tilde, FreeOf}
+use Rattle.gix_url.specs.Bytes.{slash, tilde, FreeOf, lossy_text}
 use Rattle.gix_url.specs.Settled.{begins_at_home}
 use Rattle.gix_url.specs.Paths.{Joins, LiesBelow, IsParent}
-use Rattle.gix_url.specs.Homes.{HomeUser, home_user, shown, SplitsHome, shell_text, ForShell, HomeFolder, Expands}
+use Rattle.gix_url.specs.Homes.{HomeUser, home_user, SplitsHome, shell_text, ForShell, HomeFolder, Expands}
 use Rattle.gix_url.specs.Homes.HomeUser.{current, named}
 use Rattle.gix_url.proofs.CutLemmas.{tails, free_or_cut, cut_unique, not_free}
 use Rattle.gix_url.proofs.PathUniqueLemmas.{parent_unique, some_parent, joins_unique, some_joined, below_unique, some_below}
@@ -36,7 +36,7 @@ split_parts path user other rest left (SplitsHome.home_alone name h e u r) (Spli
 split_parts path user other rest left (SplitsHome.below_home name below h e u r) (SplitsHome.home_alone shorter k f v s) = name_alone path shorter name below k f e
 split_parts path user other rest left (SplitsHome.below_home name below h e u r) (SplitsHome.below_home same under k f v s) =
     let cut = cut_unique slash name same below under h k (tails (tails (sym e ∙ f))) in
-    (u ∙ (ap (λ n. Some (home_user n)) cut.0 ∙ sym v), r ∙ (ap (λ t. slash ∷ shown t) cut.1 ∙ sym s))
+    (u ∙ (ap (λ n. Some (home_user n)) cut.0 ∙ sym v), r ∙ (ap (λ t. slash ∷ lossy_text t) cut.1 ∙ sym s))
 split_parts path user other rest left (SplitsHome.below_home name below h e u r) (SplitsHome.no_home k v s) = at_home path (name ++ slash ∷ below) k e
 split_parts path user other rest left (SplitsHome.no_home h u r) (SplitsHome.home_alone name k f v s) = at_home path name h f
 split_parts path user other rest left (SplitsHome.no_home h u r) (SplitsHome.below_home name below k f v s) = at_home path (name ++ slash ∷ below) h f
@@ -61,7 +61,7 @@ some_split path = elim (cases_Bool (begins_at_home path)) [
       let (rest, e) = home_cut path home in
       elim (free_or_cut slash rest) [
         | inl free ↦ ((Some (home_user rest), slash ∷ []), SplitsHome.home_alone rest free e refl refl)
-        | inr (name, below, free, f) ↦ ((Some (home_user name), slash ∷ shown below), SplitsHome.below_home name below free (e ∙ ap (λ t. slash ∷ (tilde ∷ t)) f) refl refl)
+        | inr (name, below, free, f) ↦ ((Some (home_user name), slash ∷ lossy_text below), SplitsHome.below_home name below free (e ∙ ap (λ t. slash ∷ (tilde ∷ t)) f) refl refl)
       ]
 ]
 
@@ -81,7 +81,7 @@ some_reading path =
 -- the folder of another user, by the home folder of the current one
 BesideFolder : List ℕ → List ℕ → Option (List ℕ) → Type 0
 BesideFolder own name folder =
-    ((parent : List ℕ) × (other : List ℕ) × IsParent own (Some parent) × Joins parent (shown name) other × (folder ≡ Some other))
+    ((parent : List ℕ) × (other : List ℕ) × IsParent own (Some parent) × Joins parent (lossy_text name) other × (folder ≡ Some other))
     ⊎ (IsParent own None × (folder ≡ None))
 
 -- names of one user
@@ -110,7 +110,7 @@ beside_some : (own name : List ℕ) (folder : Option (List ℕ)) → HomeFolder 
 unfolding BesideFolder
 beside_some own name folder (HomeFolder.own e f) = cc
 beside_some own name folder (HomeFolder.beside same home parent other e f p j g) =
-    inl (parent, other, subst (λ t. IsParent t (Some parent)) (sym (same_own refl refl f)) p, subst (λ t. Joins parent (shown t) other) (sym (same_name e)) j, g)
+    inl (parent, other, subst (λ t. IsParent t (Some parent)) (sym (same_own refl refl f)) p, subst (λ t. Joins parent (lossy_text t) other) (sym (same_name e)) j, g)
 beside_some own name folder (HomeFolder.topmost same home e f p g) = inr (subst (λ t. IsParent t None) (sym (same_own refl refl f)) p, g)
 beside_some own name folder (HomeFolder.unknown same e f g) = cc
 
@@ -118,7 +118,7 @@ beside_unique : (own name : List ℕ) (x y : Option (List ℕ)) → BesideFolder
 unfolding BesideFolder
 beside_unique own name x y (inl (parent, other, p, j, e)) (inl (above, folder, q, k, f)) =
     let same : parent ≡ above = same_own refl refl (parent_unique own (Some parent) (Some above) p q) in
-    e ∙ (ap Some (joins_unique above (shown name) other folder (subst (λ t. Joins t (shown name) other) same j) k) ∙ sym f)
+    e ∙ (ap Some (joins_unique above (lossy_text name) other folder (subst (λ t. Joins t (lossy_text name) other) same j) k) ∙ sym f)
 beside_unique own name x y (inl (parent, other, p, j, e)) (inr (q, f)) = let wrong = parent_unique own (Some parent) None p q in cc
 beside_unique own name x y (inr (p, e)) (inl (parent, other, q, j, f)) = let wrong = parent_unique own (Some parent) None q p in cc
 beside_unique own name x y (inr (p, e)) (inr (q, f)) = e ∙ sym f
@@ -132,7 +132,7 @@ folder_unique (Some own) (named name) x y h k = beside_unique own name x y (besi
 -- another user's folder lies in the parent, if there is one
 folder_in : (own name : List ℕ) (parent : Option (List ℕ)) → IsParent own parent → (folder : Option (List ℕ)) × HomeFolder (Some own) (named name) folder
 folder_in own name None p = (None, HomeFolder.topmost name own refl refl p refl)
-folder_in own name (Some parent) p = let (other, j) = some_joined parent (shown name) in (Some other, HomeFolder.beside name own parent other refl refl p j refl)
+folder_in own name (Some parent) p = let (other, j) = some_joined parent (lossy_text name) in (Some other, HomeFolder.beside name own parent other refl refl p j refl)
 
 pub some_folder : (home : Option (List ℕ)) (user : HomeUser) → (folder : Option (List ℕ)) × HomeFolder home user folder
 some_folder home current = (home, HomeFolder.own refl refl)

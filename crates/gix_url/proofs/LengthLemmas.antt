@@ -11,8 +11,7 @@ use Rattle.gix_url.specs.declared.length.Stage.{Stage}
 use Rattle.gix_url.specs.declared.length.Stage.TheVariants.{Slashes, Front, Behind}
 use Rattle.gix_url.specs.declared.length.Walk.{Walk}
 use Rattle.gix_url.specs.declared.length.TextWalk.{TextWalk}
-use Rattle.gix_url.specs.Bytes.{Lacks, FreeOf, colon, begins_by}
-use Rattle.gix_url.specs.Cuts.{is_path_start, StartsPath}
+use Rattle.gix_url.specs.Bytes.{Lacks, FreeOf, colon, begins_by, is_path_start, StartsPath}
 use Rattle.gix_url.specs.Schemes.{is_web_scheme}
 use Rattle.gix_url.specs.Authority.{is_any_slash, without_white_space, IsWithinLimit, Fits, FitsText}
 use Rattle.gix_url.specs.Walks.{one_more, stage_counted, stage_past, walk_past, walk_past_all, walk_behind, counted_at, is_walk_short, text_walk_past, text_walk_for}

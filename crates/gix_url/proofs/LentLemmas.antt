@@ -1,17 +1,16 @@
 -- Names and values that are lent: what was cut of a text stands for what the text stands for.
 use Rattle.std.proofs.Common.{◌≡◌, ◌∙◌, ◌≤◌, ◌+◌, ℕ, zero, suc, Bool, true, false, ◌==◌, List, [], ◌∷◌, ◌++◌, Option, Some, None, length, option_map, IfSome, All, filter, refl, sym, ap, subst, arith, append_assoc}
-use Rattle.std.specs.List.{slice_split}
+use Rattle.std.specs.List.{slice_split, join_with_byte}
 use Rattle.std.proofs.lemmas.List.{append-nil}
 use Rattle.std.proofs.lemmas.List.Elements.{All-nil, All-cons}
 use Rattle.std.proofs.lemmas.List.Splits.{slice_split_none, slice_split_at}
 use Rattle.gix_url.specs.declared.components.QueryText.{QueryText}
 use Rattle.gix_url.specs.declared.components.cuts.Spelled.{Spelled}
-use Rattle.gix_url.specs.Bytes.{number_sign, plus_sign, question_mark, FreeOf}
-use Rattle.gix_url.specs.Addresses.{joined_by}
-use Rattle.gix_url.specs.Components.{space, ampersand, CutsPath, CutsFields, with_spaces}
+use Rattle.gix_url.specs.Bytes.{number_sign, plus_sign, question_mark, FreeOf, space, ampersand}
+use Rattle.gix_url.specs.Components.{CutsPath, with_spaces}
 use Rattle.gix_url.specs.Meanings.{meant_by}
-use Rattle.gix_url.specs.ComponentPieces.{CutsAround, CutsOff, LendsPair, LendsPairs, LendsFields, AddsPair, HasQuery, LendsQuery, is_field, one_field, field_count}
-use Rattle.gix_url.proofs.CutLemmas.{free_head_tail, free_parts}
+use Rattle.gix_url.specs.ComponentPieces.{CutsAround, CutsOff, LendsFields, AddsPair, HasQuery, LendsQuery, is_field, one_field, field_count}
+use Rattle.gix_url.proofs.CutLemmas.{free_head_tail}
 use Rattle.gix_url.proofs.PartsLemmas.{CutsText, path_from_cuts}
 use Rattle.gix_url.proofs.MeaningLemmas.{Parts, meant_around, meant_around_plus, meant_spaces}
 

@@ -31,6 +31,7 @@ pub mod SettledLemmas
 pub mod PieceLemmas
 pub mod DisplayLemmas
 pub mod PieceTextLemmas
+pub mod WrittenPieces
 pub mod WrittenUserLemmas
 pub mod WrittenUrlLemmas
 pub mod WrittenPathLemmas

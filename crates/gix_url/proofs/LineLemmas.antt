@@ -12,7 +12,7 @@ use Rattle.gix_url.specs.Grammar.{Spells}
 use Rattle.gix_url.specs.Flaws.{Flaw}
 use Rattle.std.specs.Io.KnownBytes.{Appends}
 use Rattle.gix_url.specs.Readings.{Refuses, Written}
-use Rattle.gix_url.specs.Answers.{ended, IsAnswer, AnswersEach, Answers, AppendsAnswer, Tells, TellsRefusal}
+use Rattle.gix_url.specs.Answers.{ended_lines, IsAnswer, AnswersEach, Answers, AppendsAnswer, Tells, TellsRefusal}
 use Rattle.gix_url.specs.Answers.IsAnswer.{refused}
 
 -- "and" doesn't mind the order
@@ -42,25 +42,25 @@ answers_push (l ∷ ls) out good line answer first (a, m, f, o, is, others, join
     and_grouped false y z = refl
 
 -- a line and its end go from what is left to what is done
-pub ended_push : (done : List (List ℕ)) (line rest : List ℕ) → ended (done ++ line ∷ []) ++ rest ≡ ended done ++ (line ++ newline ∷ rest)
+pub ended_push : (done : List (List ℕ)) (line rest : List ℕ) → ended_lines (done ++ line ∷ []) ++ rest ≡ ended_lines done ++ (line ++ newline ∷ rest)
 ended_push [] line rest = append_assoc (line ++ newline ∷ []) [] rest ∙ append_assoc line (newline ∷ []) rest
 ended_push (l ∷ ls) line rest =
-    append_assoc (l ++ newline ∷ []) (ended (ls ++ line ∷ [])) rest
+    append_assoc (l ++ newline ∷ []) (ended_lines (ls ++ line ∷ [])) rest
     ∙ ap (λ t. (l ++ newline ∷ []) ++ t) (ended_push ls line rest)
-    ∙ sym (append_assoc (l ++ newline ∷ []) (ended ls) (line ++ newline ∷ rest))
+    ∙ sym (append_assoc (l ++ newline ∷ []) (ended_lines ls) (line ++ newline ∷ rest))
 
 -- what stands after some lines: the lines that are done, and their answers
 pub record Done (whole rest out : List ℕ) (good : Bool) : Type 0 where
   pub lines : List (List ℕ)
   pub each : All (FreeOf newline) lines
-  pub joined : whole ≡ ended lines ++ rest
+  pub joined : whole ≡ ended_lines lines ++ rest
   pub answered : AnswersEach lines out good
 
 pub done_more : (whole rest out line behind answer : List ℕ) (good first : Bool) → Done whole rest out good → FreeOf newline line → rest ≡ line ++ newline ∷ behind → IsAnswer line answer first → Done whole behind (out ++ answer) (good && first)
 done_more whole rest out line behind answer good first done free cut one = record {
   lines = done.lines ++ line ∷ [];
   each = All-append (FreeOf newline) done.lines (line ∷ []) done.each (All-cons (FreeOf newline) line [] free (All-nil (FreeOf newline)));
-  joined = done.joined ∙ ap (λ t. ended done.lines ++ t) cut ∙ sym (ended_push done.lines line behind);
+  joined = done.joined ∙ ap (λ t. ended_lines done.lines ++ t) cut ∙ sym (ended_push done.lines line behind);
   answered = answers_push done.lines out good line answer first done.answered one;
 }
 

@@ -5,9 +5,9 @@ use Rattle.std.proofs.lemmas.Bool.{cases_Bool, and_parts, false_from_ne_true, bo
 use Rattle.std.proofs.lemmas.List.{take_at, drop_at, length-append, map-append}
 use Rattle.percent_encoding.specs.Percent.{percent_decode}
 use Rattle.percent_encoding.proofs.PercentLemmas.{percent_decode-nil}
-use Rattle.gix_url.specs.Bytes.{plus_sign, FreeOf}
+use Rattle.gix_url.specs.Bytes.{plus_sign, FreeOf, space}
 use Rattle.gix_url.specs.Escapes.{begins_with_digits}
-use Rattle.gix_url.specs.Components.{space, with_spaces}
+use Rattle.gix_url.specs.Components.{with_spaces}
 use Rattle.gix_url.specs.Meanings.{meant_by}
 use Rattle.gix_url.proofs.ComponentLemmas.{spaces_free}
 use Rattle.gix_url.proofs.EscapeLemmas.{decode_byte, decode_broken, decode_escape, digits_before}

@@ -1,14 +1,15 @@
 -- Every location has components, and no two: a text determines its pieces, and each text has some.
 use Rattle.std.proofs.Common.{◌≡◌, ◌∙◌, ℕ, Bool, true, false, ◌==◌, ◌⊎◌, inl, inr, List, [], ◌∷◌, ◌++◌, Option, Some, None, option_map, All, refl, sym, ap, subst, append_assoc}
+use Rattle.std.specs.List.{join_with_byte}
 use Rattle.std.proofs.lemmas.List.{append-nil}
 use Rattle.std.proofs.lemmas.List.Elements.{All-nil, All-cons, All-head, All-tail}
 use Rattle.std.proofs.lemmas.Bool.{cases_Bool, eqb-true}
-use Rattle.gix_url.specs.Bytes.{number_sign, question_mark, FreeOf}
-use Rattle.gix_url.specs.Addresses.{joined_by}
+use Rattle.gix_url.specs.Bytes.{number_sign, question_mark, FreeOf, ampersand, equals_sign}
 use Rattle.gix_url.specs.Value.{Protocol, Location}
 use Rattle.gix_url.specs.Value.Protocol.{file, git, ssh, http, https, ext, helper, helper_url}
 use Rattle.gix_url.specs.Grammar.{or_root}
-use Rattle.gix_url.specs.Components.{Components, ampersand, equals_sign, original_path, stands_for, term_of, CutsPath, CutsFields, SplitsField, PairsOf, QueryOf, WebParts, PartsBy, PartsOf, whole_path}
+use Rattle.gix_url.specs.Components.{Components, stands_for, term_of, CutsPath, CutsFields, SplitsField, PairsOf, QueryOf, WebParts, PartsBy, whole_path}
+use Rattle.gix_url.specs.Text.{original_path}
 use Rattle.gix_url.specs.ComponentLaws.{OneComponents}
 use Rattle.gix_url.proofs.CutLemmas.{cut_unique, free_or_cut, not_free, free_parts, free_head_tail, free-cons, free-append}
 
@@ -95,17 +96,17 @@ some_fields v text [] pairs cut of = record { field = []; fields = []; cut = rec
 some_fields v text (field ∷ fields) pairs cut of = record { field = field; fields = fields; cut = cut; meant = of }
 
 -- the fields of a text are determined, where there is at least one
-fields_unique : (f g : List ℕ) (fs gs : List (List ℕ)) → All (FreeOf ampersand) (f ∷ fs) → All (FreeOf ampersand) (g ∷ gs) → joined_by ampersand (f ∷ fs) ≡ joined_by ampersand (g ∷ gs) → f ∷ fs ≡ g ∷ gs
+fields_unique : (f g : List ℕ) (fs gs : List (List ℕ)) → All (FreeOf ampersand) (f ∷ fs) → All (FreeOf ampersand) (g ∷ gs) → join_with_byte ampersand (f ∷ fs) ≡ join_with_byte ampersand (g ∷ gs) → f ∷ fs ≡ g ∷ gs
 fields_unique f g [] [] a b e = ap (λ t. t ∷ []) e
-fields_unique f g [] (h ∷ gs) a b e = absurd (not_free ampersand g (joined_by ampersand (h ∷ gs)) (subst (FreeOf ampersand) e (All-head (FreeOf ampersand) f [] a)))
-fields_unique f g (h ∷ fs) [] a b e = absurd (not_free ampersand f (joined_by ampersand (h ∷ fs)) (subst (FreeOf ampersand) (sym e) (All-head (FreeOf ampersand) g [] b)))
+fields_unique f g [] (h ∷ gs) a b e = absurd (not_free ampersand g (join_with_byte ampersand (h ∷ gs)) (subst (FreeOf ampersand) e (All-head (FreeOf ampersand) f [] a)))
+fields_unique f g (h ∷ fs) [] a b e = absurd (not_free ampersand f (join_with_byte ampersand (h ∷ fs)) (subst (FreeOf ampersand) (sym e) (All-head (FreeOf ampersand) g [] b)))
 fields_unique f g (h ∷ fs) (k ∷ gs) a b e =
-    let both = cut_unique ampersand f g (joined_by ampersand (h ∷ fs)) (joined_by ampersand (k ∷ gs)) (All-head (FreeOf ampersand) f (h ∷ fs) a) (All-head (FreeOf ampersand) g (k ∷ gs) b) e in
+    let both = cut_unique ampersand f g (join_with_byte ampersand (h ∷ fs)) (join_with_byte ampersand (k ∷ gs)) (All-head (FreeOf ampersand) f (h ∷ fs) a) (All-head (FreeOf ampersand) g (k ∷ gs) b) e in
     let rest = fields_unique h k fs gs (All-tail (FreeOf ampersand) f (h ∷ fs) a) (All-tail (FreeOf ampersand) g (k ∷ gs) b) both.1 in
     λ i. both.0 i ∷ rest i
 
 -- a byte before the first field
-longer : (b : ℕ) (field : List ℕ) (fields : List (List ℕ)) → b ∷ joined_by ampersand (field ∷ fields) ≡ joined_by ampersand ((b ∷ field) ∷ fields)
+longer : (b : ℕ) (field : List ℕ) (fields : List (List ℕ)) → b ∷ join_with_byte ampersand (field ∷ fields) ≡ join_with_byte ampersand ((b ∷ field) ∷ fields)
 longer b field [] = refl
 longer b field (f ∷ fields) = refl
 

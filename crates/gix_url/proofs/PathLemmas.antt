@@ -1,14 +1,13 @@
 -- Paths as text, as the code walks them: cuts at slashes, idle segments, and pieces one after another.
 use Rattle.std.proofs.Common.{◌≡◌, ℕ, zero, suc, ◌<◌, ◌≤◌, Bool, true, false, not, ◌==◌, ◌⊎◌, inl, inr, List, [], ◌∷◌, ◌++◌, length, take, drop, get_or, Option, Some, None, MatchOption, refl, sym, ap, subst, ◌∙◌, arith, append_assoc, append-nil, Bor}
-use Rattle.std.specs.List.{list_any, flat_map}
+use Rattle.std.specs.List.{list_any, flat_map, join_with_byte}
 use Rattle.std.specs.Str.{NoCharPasses}
 use Rattle.std.specs.Str.Pattern.{FindsChar, RFindsChar, HasCharAt, SplitsAroundMatch}
 use Rattle.std.proofs.lemmas.Bool.{eqb-true, false≢true, false_from_ne_true, or_from, or_parts}
 use Rattle.std.proofs.lemmas.List.{take-append-drop, length-append}
 use Rattle.std.proofs.lemmas.List.Concat.{flat_map-append}
 use Rattle.std.proofs.lemmas.Str.Pattern.{NoCharPasses-char, drop_at_char}
-use Rattle.gix_url.specs.Bytes.{slash, Lacks, FreeOf, begins_with}
-use Rattle.gix_url.specs.Addresses.{joined_by}
+use Rattle.gix_url.specs.Bytes.{slash, FreeOf, begins_with}
 use Rattle.gix_url.specs.Cuts.{CutsAt, CutsAtLast}
 use Rattle.gix_url.specs.Grammar.{or_root}
 use Rattle.gix_url.specs.Paths.{counts, IsPiece, IsIdle, HoldsPieces, WithoutFirst, LiesBelow, Opens, Joins, EndsInPiece, IsParent}
@@ -149,11 +148,11 @@ pieces_past (piece ∷ others) segment text h (gap, rest, idle, is, more, e) =
     (slash ∷ (segment ++ gap), rest, idle_more segment gap h idle, is, more, ap (λ t. slash ∷ (segment ++ t)) e ∙ sym (append_assoc (slash ∷ segment) gap (slash ∷ (piece ++ rest))))
 
 -- pieces joined, and one more
-joined_more : (done : List (List ℕ)) (piece : List ℕ) → joined_by slash done ++ (separator_of done ++ piece) ≡ joined_by slash (done ++ piece ∷ [])
+joined_more : (done : List (List ℕ)) (piece : List ℕ) → join_with_byte slash done ++ (separator_of done ++ piece) ≡ join_with_byte slash (done ++ piece ∷ [])
 joined_more [] piece = refl
 joined_more (x ∷ []) piece = refl
 joined_more (x ∷ y ∷ ys) piece =
-    append_assoc x (slash ∷ joined_by slash (y ∷ ys)) (slash ∷ piece) ∙ ap (λ t. x ++ slash ∷ t) (joined_more (y ∷ ys) piece)
+    append_assoc x (slash ∷ join_with_byte slash (y ∷ ys)) (slash ∷ piece) ∙ ap (λ t. x ++ slash ∷ t) (joined_more (y ∷ ys) piece)
 
 -- behind a piece comes a `/`
 separator_more : (done : List (List ℕ)) (piece : List ℕ) → separator_of (done ++ piece ∷ []) ≡ slash ∷ []
@@ -164,7 +163,7 @@ separator_more (x ∷ xs) piece = refl
 pub record Gathers (old out separator start left : List ℕ) : Type 0 where
   pub done : List (List ℕ)
   pub separated : separator ≡ separator_of done
-  pub written : out ≡ old ++ joined_by slash done
+  pub written : out ≡ old ++ join_with_byte slash done
   pub follow : (more : List (List ℕ)) → HoldsPieces more left → HoldsPieces (done ++ more) start
 
 -- at first none is read
@@ -185,7 +184,7 @@ pub gathers_more : (old out separator start left segment rest : List ℕ) → le
 gathers_more old out separator start left segment rest e h g = record {
   done = g.done ++ segment ∷ [];
   separated = sym (separator_more g.done segment);
-  written = rw (g.written, g.separated) (append_assoc old (joined_by slash g.done) (separator_of g.done ++ segment) ∙ ap (λ t. old ++ t) (joined_more g.done segment));
+  written = rw (g.written, g.separated) (append_assoc old (join_with_byte slash g.done) (separator_of g.done ++ segment) ∙ ap (λ t. old ++ t) (joined_more g.done segment));
   follow = λ more k. rw append_assoc (g.follow (segment ∷ more) (subst (HoldsPieces (segment ∷ more)) (sym e) ([], rest, idle_none, h, k, refl)));
 }
 
@@ -193,12 +192,12 @@ gathers_more old out separator start left segment rest e h g = record {
 pub gathers_all : (old out separator path first start : List ℕ) → FreeOf slash first → path ≡ first ++ start → Gathers old out separator start [] → (rest : List ℕ) × WithoutFirst path rest × (out ≡ old ++ rest)
 gathers_all old out separator path first start free e g =
     let each : HoldsPieces g.done start = subst (λ p. HoldsPieces p start) (append-nil g.done) (g.follow [] idle_none) in
-    (joined_by slash g.done, (first, g.done, record { behind = start; no_slash = free; each = each; whole = e }, refl), g.written)
+    (join_with_byte slash g.done, (first, g.done, record { behind = start; no_slash = free; each = each; whole = e }, refl), g.written)
 
 -- ---- a path below a folder
 
 -- pieces joined begin with no `/`
-joined_begins : (pieces : List (List ℕ)) (text : List ℕ) → HoldsPieces pieces text → begins_with slash (joined_by slash pieces) ≡ false
+joined_begins : (pieces : List (List ℕ)) (text : List ℕ) → HoldsPieces pieces text → begins_with slash (join_with_byte slash pieces) ≡ false
 joined_begins [] text h = refl
 joined_begins (piece ∷ []) text (gap, rest, idle, is, more, e) = free_begins slash piece is.0
 joined_begins ([] ∷ other ∷ others) text (gap, rest, idle, is, more, e) = absurd (false≢true is.1)

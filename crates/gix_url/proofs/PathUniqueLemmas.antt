@@ -1,14 +1,13 @@
 -- A text has one first segment and one list of pieces behind it, one parent, and one place below a folder.
 use Rattle.std.proofs.Common.{◌≡◌, ℕ, zero, suc, ◌<◌, Bool, true, false, not, ◌==◌, ◌⊎◌, inl, inr, List, [], ◌∷◌, ◌++◌, length, filter, if◌then◌else◌, Option, Some, None, refl, sym, ap, subst, ◌∙◌, arith, append_assoc, append-nil}
-use Rattle.std.specs.List.{list_any}
+use Rattle.std.specs.List.{list_any, join_with_byte}
 use Rattle.std.proofs.lemmas.Bool.{both_ways, cases_Bool, eqb-true, eq-eqb, false≢true, false_from_ne_true, not-false, or_from, or_parts, or_left}
 use Rattle.std.proofs.lemmas.List.Concat.{flat_map-append}
 use Rattle.gix_url.specs.Bytes.{dot, slash, FreeOf, begins_by, begins_with}
-use Rattle.gix_url.specs.Addresses.{joined_by}
 use Rattle.gix_url.specs.Grammar.{or_root}
 use Rattle.gix_url.specs.Paths.{counts, IsPiece, behind_slashes, IsIdle, HoldsPieces, HasPieces, WithoutFirst, Opens, Joins, LiesBelow, EndsInPiece, IsParent}
-use Rattle.gix_url.proofs.CutLemmas.{heads, tails, last_unique, class_cut_unique, free-cons, free-append}
-use Rattle.gix_url.proofs.PathLemmas.{any_in_parts, idle_none, last_byte, pieces_past}
+use Rattle.gix_url.proofs.CutLemmas.{tails, last_unique, class_cut_unique, free-cons}
+use Rattle.gix_url.proofs.PathLemmas.{idle_none, last_byte, pieces_past}
 
 -- ---- segments
 
@@ -125,12 +124,12 @@ pub some_rest : (text : List ℕ) → (rest : List ℕ) × WithoutFirst text res
 some_rest text =
     let (first, segments, h, hs, e) = segmented text in
     let pieces = filter counts segments in
-    (joined_by slash pieces, (first, pieces, record { behind = behind_slashes segments; no_slash = h; each = segments_hold segments hs; whole = e }, refl))
+    (join_with_byte slash pieces, (first, pieces, record { behind = behind_slashes segments; no_slash = h; each = segments_hold segments hs; whole = e }, refl))
 
 -- it is one text
 pub rest_unique : (text x y : List ℕ) → WithoutFirst text x → WithoutFirst text y → x ≡ y
 rest_unique text x y (first, pieces, h, e) (other, others, k, f) =
-    e ∙ (ap (joined_by slash) (has_pieces_unique text first other pieces others h k).1 ∙ sym f)
+    e ∙ (ap (join_with_byte slash) (has_pieces_unique text first other pieces others h k).1 ∙ sym f)
 
 -- ---- the last piece
 

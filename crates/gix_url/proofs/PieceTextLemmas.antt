@@ -10,12 +10,11 @@ use Rattle.percent_encoding.specs.declared.ascii_set.AsciiSet.{AsciiSet}
 use Rattle.percent_encoding.specs.AsciiSet.{contains}
 use Rattle.percent_encoding.specs.Percent.{percent_decode, percent_encode}
 use Rattle.gix_url.specs.declared.escape.TheConstants.{PASSWORD, USER}
-use Rattle.gix_url.specs.Bytes.{percent_sign, colon, at_sign, left_bracket, backslash, FreeOf, is_name_byte, is_scheme_text}
-use Rattle.gix_url.specs.Cuts.{is_path_start}
+use Rattle.gix_url.specs.Bytes.{percent_sign, colon, at_sign, left_bracket, backslash, FreeOf, is_name_byte, is_scheme_text, is_path_start}
 use Rattle.gix_url.specs.Escapes.{is_sound, is_password_escaped}
 use Rattle.gix_url.specs.Addresses.{IsIpv6Text}
 use Rattle.gix_url.specs.Text.{port_part}
-use Rattle.gix_url.specs.WrittenPieces.{IsEscapedPiece, IsAuthorityPiece}
+use Rattle.gix_url.proofs.WrittenPieces.{IsEscapedPiece, IsAuthorityPiece}
 use Rattle.gix_url.proofs.CutLemmas.{all_weaker, free-append, free_of_all, helper_name_bytes, lacks-append, lacks_of_all, scheme_helper_name}
 use Rattle.gix_url.proofs.EscapeLemmas.{ascii_class, decode_encode_utf8, encode_free, encode_lacks, encode_sound, sound-append, sound_free, utf8-append, utf8_encode, white_space-append, white_space_ascii, white_space_encode}
 use Rattle.gix_url.proofs.EscapeSets.{password_holds, user_holds}

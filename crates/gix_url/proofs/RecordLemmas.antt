@@ -14,7 +14,7 @@ use Rattle.gix_url.specs.Value.{Location}
 use Rattle.gix_url.specs.Bytes.{percent_sign}
 use Rattle.gix_url.specs.Escapes.{begins_with_digits, is_path_escaped}
 use Rattle.gix_url.specs.declared.escape.TheConstants.{PATH}
-use Rattle.gix_url.specs.Records.{written_in_path, begins_escape, Respells, respelled, SpellsFront, from_legacy, migrated_by, migrated, RespelledOnce, KeepsMeaning, Migrates, MigratedOnce}
+use Rattle.gix_url.specs.Records.{written_in_path, begins_escape, Respells, new_spelling, SpellsFront, from_legacy, migrated_by, migrated, RespelledOnce, KeepsMeaning, Migrates, MigratedOnce}
 use Rattle.gix_url.specs.Records.Respells.{nothing, escape, other}
 use Rattle.gix_url.proofs.EscapeSets.{path_holds}
 use Rattle.gix_url.proofs.EscapeLemmas.{decode_byte, decode_escape, decode_broken, decodes_in_parts, decode_encode, encode_sound, glyph_is_digit}
@@ -61,30 +61,30 @@ digit_begins_none d behind digit = let kept : (d == 37) ≡ false = grind (arith
 -- ---- the new spelling
 
 -- a byte that begins no escape is written as in a path
-respelled_other : (b : ℕ) (path : List ℕ) → begins_escape b path ≡ false → respelled (b ∷ path) ≡ written_in_path b ++ respelled path
-respelled_other b path none = ap (λ t. t ++ respelled path) (cond-false _ _ _ none)
+respelled_other : (b : ℕ) (path : List ℕ) → begins_escape b path ≡ false → new_spelling (b ∷ path) ≡ written_in_path b ++ new_spelling path
+respelled_other b path none = ap (λ t. t ++ new_spelling path) (cond-false _ _ _ none)
 
 -- a byte that begins an escape stays
-respelled_begin : (b : ℕ) (path : List ℕ) → begins_escape b path ≡ true → respelled (b ∷ path) ≡ b ∷ respelled path
-respelled_begin b path begins = ap (λ t. t ++ respelled path) (cond-true _ _ _ begins)
+respelled_begin : (b : ℕ) (path : List ℕ) → begins_escape b path ≡ true → new_spelling (b ∷ path) ≡ b ∷ new_spelling path
+respelled_begin b path begins = ap (λ t. t ++ new_spelling path) (cond-true _ _ _ begins)
 
 -- a digit stays
-respelled_digit : (d : ℕ) (path : List ℕ) → is_digit d 16 ≡ true → respelled (d ∷ path) ≡ d ∷ respelled path
-respelled_digit d path digit = respelled_other d path (digit_begins_none d path digit) ∙ ap (λ t. t ++ respelled path) (digit_written d digit)
+respelled_digit : (d : ℕ) (path : List ℕ) → is_digit d 16 ≡ true → new_spelling (d ∷ path) ≡ d ∷ new_spelling path
+respelled_digit d path digit = respelled_other d path (digit_begins_none d path digit) ∙ ap (λ t. t ++ new_spelling path) (digit_written d digit)
 
 -- so an escape stays
-respelled_escape : (high low : ℕ) (path : List ℕ) → is_digit high 16 ≡ true → is_digit low 16 ≡ true → respelled (percent_sign ∷ high ∷ low ∷ path) ≡ percent_sign ∷ high ∷ low ∷ respelled path
+respelled_escape : (high low : ℕ) (path : List ℕ) → is_digit high 16 ≡ true → is_digit low 16 ≡ true → new_spelling (percent_sign ∷ high ∷ low ∷ path) ≡ percent_sign ∷ high ∷ low ∷ new_spelling path
 respelled_escape high low path h l =
     respelled_begin percent_sign (high ∷ low ∷ path) (and_from _ _ h l)
     ∙ ap (λ t. percent_sign ∷ t) (respelled_digit high (low ∷ path) h ∙ ap (λ t. high ∷ t) (respelled_digit low path l))
 
 -- the front of a new spelling that has the byte as it is
-front_itself : (b : ℕ) (path behind front rest : List ℕ) → path ≡ b ∷ behind → front ≡ take 1 path → rest ≡ drop 1 path → respelled (b ∷ behind) ≡ b ∷ respelled behind → SpellsFront path front rest
+front_itself : (b : ℕ) (path behind front rest : List ℕ) → path ≡ b ∷ behind → front ≡ take 1 path → rest ≡ drop 1 path → new_spelling (b ∷ behind) ≡ b ∷ new_spelling behind → SpellsFront path front rest
 front_itself b path behind front rest whole first last spelled =
     let one : front ≡ b ∷ [] = first ∙ ap (λ t. take 1 t) whole in
     let others : rest ≡ behind = last ∙ ap (λ t. drop 1 t) whole in
     record {
-      spelled = ap respelled whole ∙ spelled ∙ sym (ap (λ t. t ++ respelled rest) one ∙ ap (λ t. b ∷ respelled t) others);
+      spelled = ap new_spelling whole ∙ spelled ∙ sym (ap (λ t. t ++ new_spelling rest) one ∙ ap (λ t. b ∷ new_spelling t) others);
       shorter = omega (arith, ap length whole, ap length others);
       short = omega (arith, ap length one);
     }
@@ -97,7 +97,7 @@ front_begins b path behind front rest whole first last begins = front_itself b p
 pub front_kept : (b : ℕ) (path behind front rest : List ℕ) → path ≡ b ∷ behind → front ≡ take 1 path → rest ≡ drop 1 path → begins_escape b behind ≡ false → should_percent_encode PATH b ≡ false → SpellsFront path front rest
 front_kept b path behind front rest whole first last none kept =
     let itself : written_in_path b ≡ b ∷ [] = cond-false _ _ _ (sym (escaped_alike b) ∙ kept) in
-    front_itself b path behind front rest whole first last (respelled_other b behind none ∙ ap (λ t. t ++ respelled behind) itself)
+    front_itself b path behind front rest whole first last (respelled_other b behind none ∙ ap (λ t. t ++ new_spelling behind) itself)
 
 three_bytes : (b : ℕ) → length (percent_encode_byte b) ≤ 3
 unfolding percent_encode_byte
@@ -108,22 +108,22 @@ pub front_escaped : (b : ℕ) (path behind front : List ℕ) → path ≡ b ∷ 
 front_escaped b path behind front whole digits none escaped =
     let written : written_in_path b ≡ front = cond-true _ _ _ (sym (escaped_alike b) ∙ escaped) ∙ sym digits in
     record {
-      spelled = ap respelled whole ∙ respelled_other b behind none ∙ ap (λ t. t ++ respelled behind) written;
+      spelled = ap new_spelling whole ∙ respelled_other b behind none ∙ ap (λ t. t ++ new_spelling behind) written;
       shorter = omega (arith, ap length whole);
       short = omega (arith, ap length digits, three_bytes b);
     }
 
 -- one byte more, and one escape more
-byte_more : (b : ℕ) (path : List ℕ) → begins_escape b path ≡ false → Respells path (respelled path) → Respells (b ∷ path) (respelled (b ∷ path))
-byte_more b path none rest = subst (Respells (b ∷ path)) (sym (respelled_other b path none)) (other b path (respelled path) none rest)
+byte_more : (b : ℕ) (path : List ℕ) → begins_escape b path ≡ false → Respells path (new_spelling path) → Respells (b ∷ path) (new_spelling (b ∷ path))
+byte_more b path none rest = subst (Respells (b ∷ path)) (sym (respelled_other b path none)) (other b path (new_spelling path) none rest)
 
-escape_more : (b high low : ℕ) (path : List ℕ) → begins_escape b (high ∷ low ∷ path) ≡ true → Respells path (respelled path) → Respells (b ∷ high ∷ low ∷ path) (respelled (b ∷ high ∷ low ∷ path))
+escape_more : (b high low : ℕ) (path : List ℕ) → begins_escape b (high ∷ low ∷ path) ≡ true → Respells path (new_spelling path) → Respells (b ∷ high ∷ low ∷ path) (new_spelling (b ∷ high ∷ low ∷ path))
 escape_more b high low path begins rest =
     let parts = and_parts _ _ begins in
     let digits = and_parts _ _ parts.1 in
     let is : percent_sign ≡ b = sym (eqb-true b 37 parts.0) in
-    let whole = subst (Respells (percent_sign ∷ high ∷ low ∷ path)) (sym (respelled_escape high low path digits.0 digits.1)) (escape high low path (respelled path) digits.0 digits.1 rest) in
-    subst (λ c. Respells (c ∷ high ∷ low ∷ path) (respelled (c ∷ high ∷ low ∷ path))) is whole
+    let whole = subst (Respells (percent_sign ∷ high ∷ low ∷ path)) (sym (respelled_escape high low path digits.0 digits.1)) (escape high low path (new_spelling path) digits.0 digits.1 rest) in
+    subst (λ c. Respells (c ∷ high ∷ low ∷ path) (new_spelling (c ∷ high ∷ low ∷ path))) is whole
 
 both_false : (sign digits : Bool) → digits ≡ false → (sign && digits) ≡ false
 both_false true digits none = none
@@ -133,7 +133,7 @@ no_digits : (b : ℕ) (behind : List ℕ) → begins_with_digits behind ≡ fals
 no_digits b behind none = both_false _ _ none
 
 -- each path has a new spelling
-pub respells : (path : List ℕ) → Respells path (respelled path)
+pub respells : (path : List ℕ) → Respells path (new_spelling path)
 respells [] = nothing
 respells (b ∷ []) = byte_more b [] (no_digits b [] refl) (respells [])
 respells (b ∷ c ∷ []) = byte_more b (c ∷ []) (no_digits b (c ∷ []) refl) (respells (c ∷ []))
@@ -143,7 +143,7 @@ respells (b ∷ high ∷ low ∷ path) = ⊎_elim
     (cases_Bool (begins_escape b (high ∷ low ∷ path)))
 
 -- and no other
-pub respelled_by : (path spelling : List ℕ) → Respells path spelling → spelling ≡ respelled path
+pub respelled_by : (path spelling : List ℕ) → Respells path spelling → spelling ≡ new_spelling path
 respelled_by path spelling nothing = refl
 respelled_by path spelling (escape high low rest written h l r) =
     ap (λ t. percent_sign ∷ high ∷ low ∷ t) (respelled_by rest written r) ∙ sym (respelled_escape high low rest h l)
@@ -167,30 +167,30 @@ keeps_meaning path spelling small (other b rest written none r) =
 -- ---- the new spelling of a new spelling
 
 -- an escape that is written stays, and so does a byte that a path is written with
-escape_stays : (b : ℕ) (spelling : List ℕ) → respelled spelling ≡ spelling → respelled (percent_encode_byte b ++ spelling) ≡ percent_encode_byte b ++ spelling
+escape_stays : (b : ℕ) (spelling : List ℕ) → new_spelling spelling ≡ spelling → new_spelling (percent_encode_byte b ++ spelling) ≡ percent_encode_byte b ++ spelling
 unfolding percent_encode_byte
 escape_stays b spelling rest =
     let high = digit_glyph true (b / 16 % 16) in
     let low = digit_glyph true (b % 16) in
     respelled_escape high low spelling (glyph_is_digit (b / 16 % 16) (omega arith)) (glyph_is_digit (b % 16) (omega arith)) ∙ ap (λ t. percent_sign ∷ high ∷ low ∷ t) rest
 
-kept_stays : (b : ℕ) (spelling : List ℕ) → (is_path_escaped b || nat_lt 127 b) ≡ false → respelled spelling ≡ spelling → respelled (b ∷ spelling) ≡ b ∷ spelling
+kept_stays : (b : ℕ) (spelling : List ℕ) → (is_path_escaped b || nat_lt 127 b) ≡ false → new_spelling spelling ≡ spelling → new_spelling (b ∷ spelling) ≡ b ∷ spelling
 kept_stays b spelling kept rest =
     let no_percent : (b == 37) ≡ false = grind (arith, nat_tests) in
     let none : begins_escape b spelling ≡ false = rw no_percent refl in
-    respelled_other b spelling none ∙ ap (λ t. t ++ respelled spelling) (cond-false _ _ _ kept) ∙ ap (λ t. b ∷ t) rest
+    respelled_other b spelling none ∙ ap (λ t. t ++ new_spelling spelling) (cond-false _ _ _ kept) ∙ ap (λ t. b ∷ t) rest
 
 -- so a byte as it is written stays, whatever follows
-written_stays : (b : ℕ) (spelling : List ℕ) → respelled spelling ≡ spelling → respelled (written_in_path b ++ spelling) ≡ written_in_path b ++ spelling
+written_stays : (b : ℕ) (spelling : List ℕ) → new_spelling spelling ≡ spelling → new_spelling (written_in_path b ++ spelling) ≡ written_in_path b ++ spelling
 written_stays b spelling rest =
-    let stays : List ℕ → Type 0 = λ t. respelled (t ++ spelling) ≡ t ++ spelling in
+    let stays : List ℕ → Type 0 = λ t. new_spelling (t ++ spelling) ≡ t ++ spelling in
     ⊎_elim
     (λ escaped. subst stays (sym (cond-true _ _ _ escaped)) (escape_stays b spelling rest))
     (λ kept. subst stays (sym (cond-false _ _ _ kept)) (kept_stays b spelling kept rest))
     (cases_Bool (is_path_escaped b || nat_lt 127 b))
 
 -- a new spelling stays
-spelling_stays : (path spelling : List ℕ) → Respells path spelling → respelled spelling ≡ spelling
+spelling_stays : (path spelling : List ℕ) → Respells path spelling → new_spelling spelling ≡ spelling
 spelling_stays path spelling nothing = refl
 spelling_stays path spelling (escape high low rest written h l r) =
     respelled_escape high low written h l ∙ ap (λ t. percent_sign ∷ high ∷ low ∷ t) (spelling_stays rest written r)
@@ -229,18 +229,18 @@ migrates v = (
 )
 
 -- a legacy location that was migrated, and looks legacy again, stays
-legacy_stays : (v : Location) → All (λ b. b < 256) v.path → respelled v.path ≡ percent_decode v.path → from_legacy (from_legacy v) ≡ from_legacy v
+legacy_stays : (v : Location) → All (λ b. b < 256) v.path → new_spelling v.path ≡ percent_decode v.path → from_legacy (from_legacy v) ≡ from_legacy v
 legacy_stays v small same =
-    let decoded = ap percent_decode (sym same) ∙ keeps_meaning v.path (respelled v.path) small (respells v.path) in
-    let spelled = ap respelled (sym same) ∙ spelling_stays v.path (respelled v.path) (respells v.path) in
+    let decoded = ap percent_decode (sym same) ∙ keeps_meaning v.path (new_spelling v.path) small (respells v.path) in
+    let spelled = ap new_spelling (sym same) ∙ spelling_stays v.path (new_spelling v.path) (respells v.path) in
     λ i. record v { path = decoded i; spelling = Some (spelled i) }
 
 -- a legacy location that was migrated stays, as its new spelling is its new path or isn't
 again_legacy : (v : Location) → All (λ b. b < 256) v.path → migrated (from_legacy v) ≡ from_legacy v
 again_legacy v small = ⊎_elim
-    (λ same. cond-true _ _ _ same ∙ legacy_stays v small ((bytes_eq-Decides (respelled v.path) (percent_decode v.path)).0 same))
+    (λ same. cond-true _ _ _ same ∙ legacy_stays v small ((bytes_eq-Decides (new_spelling v.path) (percent_decode v.path)).0 same))
     (λ differs. cond-false _ _ _ differs)
-    (cases_Bool (bytes_eq (respelled v.path) (percent_decode v.path)))
+    (cases_Bool (bytes_eq (new_spelling v.path) (percent_decode v.path)))
 
 -- what a record with this spelling stands for stays
 again : (spelling : Option (List ℕ)) (v : Location) → v.spelling ≡ spelling → All (λ b. b < 256) v.path → migrated (migrated v) ≡ migrated v

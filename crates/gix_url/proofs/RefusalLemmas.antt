@@ -11,8 +11,7 @@ use Rattle.gix_url.specs.declared.error.UrlFault.{UrlFault}
 use Rattle.gix_url.specs.declared.error.Error.{Error}
 use Rattle.gix_url.specs.declared.error.Error.TheVariants as error
 use Rattle.gix_url.specs.Value.{Location}
-use Rattle.gix_url.specs.Bytes.{slash, colon, at_sign, backslash, right_bracket, FreeOf}
-use Rattle.gix_url.specs.Cuts.{StartsPath}
+use Rattle.gix_url.specs.Bytes.{slash, colon, at_sign, backslash, right_bracket, FreeOf, StartsPath}
 use Rattle.gix_url.specs.Escapes.{escaped_percents}
 use Rattle.gix_url.specs.Hosts.{Mode, Names}
 use Rattle.gix_url.specs.Hosts.Mode.{bare}
@@ -96,7 +95,7 @@ scp_flaw_refutes : (b : List ℕ) (named : UrlFault) (v : Location) → ScpFlaw 
 scp_flaw_refutes b named v h k =
     elim (spelled_as_scp b h.shape.neither (inl (h.front, h.path, h.shape)) v k) [
       | inl s ↦ scp_no_host b h.front h.path h.user h.host h.shape h.split h.no_at (scp_host_flaw_refutes h.host named h.flaw) v s
-      | inr s ↦ h.not_addressed s.user s.address s.path s.shape
+      | inr s ↦ h.not_addressed (s.user, s.address, s.path, s.shape)
     ]
 
 -- ---- paths
@@ -122,11 +121,11 @@ url_misses_path b scheme authority v need free e k =
 -- a colon with nothing behind it is not that of an address with a path behind it
 scp_path_behind : (b front user address path : List ℕ) → ScpShape b front [] → AddressedShape b user address path → path ≡ []
 scp_path_behind b front user address path shape k =
-    let (x, y, free, e) = address_cut address k.addressed in
+    let (x, y, free, e) = address_cut address k.cut.addressed in
     elim (front_of_addressed b user address path x y front [] k free e shape.joined shape.shape) [
       | inl within ↦
           let whole : front ++ colon ∷ [] ≡ front ++ colon ∷ (y ++ right_bracket ∷ (colon ∷ path)) =
-          sym shape.joined ∙ k.joined ∙ addressed_joined user address path x y e ∙ ap (λ t. t ++ colon ∷ (y ++ right_bracket ∷ (colon ∷ path))) (sym within) in
+          sym shape.joined ∙ k.cut.joined ∙ addressed_joined user address path x y e ∙ ap (λ t. t ++ colon ∷ (y ++ right_bracket ∷ (colon ∷ path))) (sym within) in
           absurd (omega (arith, ap length (append_cancel_left front (colon ∷ []) (colon ∷ (y ++ right_bracket ∷ (colon ∷ path))) whole), length-append y (right_bracket ∷ (colon ∷ path))))
       | inr behind ↦ sym behind.1
     ]

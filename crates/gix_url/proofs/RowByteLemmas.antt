@@ -5,7 +5,7 @@ use Rattle.gix_url.specs.ByteRows.{NameByteRows, HostByteRows, WhiteSpaceRows, E
 
 -- what names are made of
 pub name_byte_rows : NameByteRows
-name_byte_rows = (refl, refl, refl, refl, refl, refl, refl, refl, refl)
+name_byte_rows = (refl, refl, refl, refl, refl, refl, refl, refl)
 
 -- what hosts and zones are made of, and marks
 pub host_byte_rows : HostByteRows
@@ -19,7 +19,7 @@ white_space_rows = (refl, refl, refl, refl, refl)
 pub escaped_byte_rows : EscapedByteRows
 escaped_byte_rows = (refl, refl, refl)
 
--- the code's sets
+-- what the sets escape
 pub escape_set_rows : EscapeSetRows
 unfolding percent_encoding_on_literals
 escape_set_rows = (refl, refl, refl)

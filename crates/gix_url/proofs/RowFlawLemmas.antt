@@ -8,7 +8,7 @@ use Rattle.percent_encoding.proofs.OnLiterals.{percent_encoding_on_literals}
 use Rattle.bstr.proofs.Computing.{computing}
 use Rattle.gix_url.specs.Bytes.{colon, right_bracket, begins_with}
 use Rattle.gix_url.specs.AddressTest.{is_ipv6_text}
-use Rattle.gix_url.specs.Grammar.{ScpFront, AddressedShape, ScpUser}
+use Rattle.gix_url.specs.Grammar.{ScpFront, IsAddressed, ScpUser}
 use Rattle.gix_url.specs.Flaws.{HasBadPort, BracketsAround, HasBadHost, AuthorityFlaw, UrlFlaw, ScpHostFlaw, MissesPath}
 use Rattle.gix_url.specs.FormRows.{NameFlawRows, FlawRows}
 use Rattle.gix_url.specs.declared.error.UrlFault.TheVariants as fault
@@ -49,8 +49,8 @@ name_flaw_rows = (
 )
 
 -- a text without `@[` isn't `user@[address]:path`
-not_addressed_row : (b : List ℕ) → holds (codes "@[") b ≡ false → (user address path : List ℕ) → ¬ AddressedShape b user address path
-not_addressed_row b h user address path k = not_held (codes "@[") b h (user, address ++ right_bracket ∷ (colon ∷ path), k.joined)
+not_addressed_row : (b : List ℕ) → holds (codes "@[") b ≡ false → ¬ IsAddressed b
+not_addressed_row b h (user, address, path, k) = not_held (codes "@[") b h (user, address ++ right_bracket ∷ (colon ∷ path), k.cut.joined)
 
 -- what is wrong with whole texts
 pub flaw_rows : FlawRows
@@ -109,11 +109,8 @@ flaw_rows = (
   },
   MissesPath.in_scp (codes "host") (shape_row (codes "host") [] refl refl refl refl refl),
   MissesPath.behind_address [] (codes "::") (record {
-    joined = refl;
+    cut = record { joined = refl; no_slash = refl; no_colon = refl; addressed = ipv6_text_from (codes "::") refl };
     neither = neither_at (codes "@[::]:") (codes "@[") (codes ":]:") refl refl refl refl;
-    no_slash = refl;
-    no_colon = refl;
-    addressed = ipv6_text_from (codes "::") refl;
   }),
   MissesPath.in_url (codes "ssh") (codes "h") refl refl refl,
   MissesPath.in_file (codes "host") refl refl,

@@ -8,8 +8,7 @@ use Rattle.std.specs.Str.{chars}
 use Rattle.percent_encoding.proofs.OnLiterals.{percent_encoding_on_literals}
 use Rattle.bstr.proofs.Computing.{computing}
 use Rattle.gix_url.specs.Value.{Location}
-use Rattle.gix_url.specs.Bytes.{percent_sign, slash, colon, at_sign, left_bracket, right_bracket, Lacks, FreeOf, Holds, begins_by, begins_with, is_helper_name}
-use Rattle.gix_url.specs.Cuts.{is_path_start, StartsPath}
+use Rattle.gix_url.specs.Bytes.{percent_sign, slash, colon, at_sign, left_bracket, right_bracket, Lacks, FreeOf, Holds, begins_by, begins_with, is_helper_name, is_path_start, StartsPath}
 use Rattle.gix_url.specs.AddressTest.{is_ipv6_text}
 use Rattle.gix_url.specs.Addresses.{Literal}
 use Rattle.gix_url.specs.Hosts.{Mode, Bracketed, Names}
@@ -22,7 +21,7 @@ use Rattle.gix_url.specs.Examples.{no_text}
 use Rattle.gix_url.proofs.CutLemmas.{tails, cut_unique, not_free, free_parts, free_head_tail, free_or_cut, helper_name_free}
 use Rattle.gix_url.proofs.AddressTestLemmas.{ipv6_text_from}
 use Rattle.gix_url.proofs.AddressLemmas.{address_free}
-use Rattle.gix_url.proofs.ShapeLemmas.{no_helper_free, addressed_free, addressed_cut}
+use Rattle.gix_url.proofs.ShapeLemmas.{no_helper_free, addressed_free}
 use Rattle.gix_url.proofs.RowNameLemmas.{plain_row, not_literal_free}
 
 -- ---- what a text doesn't hold
@@ -63,7 +62,7 @@ no_helper_at bs front rest e free other (name, address, parts) =
 -- a text without a colon has no shape of the scp form
 pub no_scp_free : (bs : List ℕ) → FreeOf colon bs → ¬ IsScpShaped bs
 no_scp_free bs free (inl (front, path, s)) = not_free colon front path (subst (λ t. FreeOf colon t) s.joined free)
-no_scp_free bs free (inr (user, address, path, s)) = addressed_free bs free (user, address, path, addressed_cut bs user address path s)
+no_scp_free bs free (inr (user, address, path, s)) = addressed_free bs free (user, address, path, s.cut)
 
 -- nor has one whose first colon stands behind a slash
 pub no_scp_behind_slash : (bs front rest : List ℕ) → bs ≡ front ++ colon ∷ rest → FreeOf colon front → begins_with left_bracket bs ≡ false → FreeOf at_sign bs → ¬ FreeOf slash front → ¬ IsScpShaped bs
@@ -72,7 +71,7 @@ no_scp_behind_slash bs front rest e free apart lacks slashed (inl (f, path, s)) 
       | ScpFront.plain none _ ↦ slashed (subst (λ t. FreeOf slash t) (sym (cut_unique colon front f rest path free none (sym e ∙ s.joined)).0) s.no_slash)
       | ScpFront.bracketed inside after _ _ is ↦ both_ways _ apart (ap (begins_with left_bracket) (s.joined ∙ ap (λ t. t ++ colon ∷ path) is))
     ]
-no_scp_behind_slash bs front rest e free apart lacks slashed (inr (user, address, path, s)) = not_free at_sign user _ (subst (λ t. FreeOf at_sign t) s.joined lacks)
+no_scp_behind_slash bs front rest e free apart lacks slashed (inr (user, address, path, s)) = not_free at_sign user _ (subst (λ t. FreeOf at_sign t) s.cut.joined lacks)
 
 -- ---- URLs
 
@@ -382,11 +381,8 @@ form_rows = (
     address = codes "::";
     path = codes "p";
     shape = record {
-      joined = refl;
+      cut = record { joined = refl; no_slash = refl; no_colon = refl; addressed = ipv6_text_from (codes "::") refl };
       neither = neither_at (codes "u@[::]:p") (codes "u@[") (codes ":]:p") refl refl refl refl;
-      no_slash = refl;
-      no_colon = refl;
-      addressed = ipv6_text_from (codes "::") refl;
     };
     text = IsUtf8-from_is_utf8 _ refl;
     pathed = ltb-true _ _ refl;
@@ -429,13 +425,13 @@ file_wants_path v s =
 zone_not_addressed : (v : Location) → ¬ SpellsScpAddressed (codes "u@[::1%eth0]:p") v
 zone_not_addressed v s =
     let rest = left_bracket ∷ (s.address ++ right_bracket ∷ (colon ∷ s.path)) in
-    let whole : codes "u@[::1%eth0]:p" ≡ s.user ++ at_sign ∷ rest = s.shape.joined in
+    let whole : codes "u@[::1%eth0]:p" ≡ s.user ++ at_sign ∷ rest = s.shape.cut.joined in
     let lacks : FreeOf at_sign (codes "[::1%eth0]:p") = refl in
-    let lone : FreeOf percent_sign s.address = address_free percent_sign s.address refl s.shape.addressed in
+    let lone : FreeOf percent_sign s.address = address_free percent_sign s.address refl s.shape.cut.addressed in
     elim (free_or_cut at_sign s.user) [
       | inl free ↦
           let behind = (cut_unique at_sign (codes "u") s.user (codes "[::1%eth0]:p") rest refl free whole).1 in
-          let inside = (cut_unique right_bracket (codes "::1%eth0") s.address (codes ":p") (colon ∷ s.path) refl (address_free right_bracket s.address refl s.shape.addressed) (tails behind)).0 in
+          let inside = (cut_unique right_bracket (codes "::1%eth0") s.address (codes ":p") (colon ∷ s.path) refl (address_free right_bracket s.address refl s.shape.cut.addressed) (tails behind)).0 in
           both_ways _ lone (ap (list_any (λ b. b == percent_sign)) (sym inside))
       | inr (x, y, free, e) ↦
           let behind = (cut_unique at_sign (codes "u") x (codes "[::1%eth0]:p") (y ++ at_sign ∷ rest) refl free (whole ∙ ap (λ t. t ++ at_sign ∷ rest) e ∙ append_assoc x (at_sign ∷ y) (at_sign ∷ rest))).1 in

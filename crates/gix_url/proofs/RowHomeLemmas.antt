@@ -1,8 +1,7 @@
 -- Rows on home folders and on paths as text: the pieces are given.
 use Rattle.std.proofs.Common.{◌≡◌, ℕ, List, [], ◌∷◌, Some, None, codes, refl, lit<}
 use Rattle.bstr.proofs.Computing.{computing}
-use Rattle.gix_url.specs.Bytes.{FreeOf}
-use Rattle.gix_url.specs.Paths.{IsPiece, IsIdle, HasPieces, WithoutFirst, Opens, Joins, LiesBelow, EndsInPiece, IsParent}
+use Rattle.gix_url.specs.Paths.{IsIdle, HasPieces, Opens, Joins, LiesBelow, EndsInPiece, IsParent}
 use Rattle.gix_url.specs.Homes.{SplitsHome, HomeFolder, Expands}
 use Rattle.gix_url.specs.Homes.HomeUser.{current, named}
 use Rattle.gix_url.specs.HomeRows.{PieceRows, ParentRows, ExpandedRows, SplitRows}

@@ -1,12 +1,11 @@
 -- Rows on the parts of a path: the pieces are given.
 use Rattle.std.proofs.Common.{◌≡◌, ℕ, zero, suc, true, not, ◌==◌, List, [], ◌∷◌, Some, None, codes, refl, arith, All}
-use Rattle.std.specs.List.{list_any, list_all}
+use Rattle.std.specs.List.{list_any, list_all, join_with_byte}
 use Rattle.std.proofs.lemmas.Bool.{and_parts, not-true}
 use Rattle.percent_encoding.proofs.OnLiterals.{percent_encoding_on_literals}
 use Rattle.gix_url.specs.Value.{Location}
-use Rattle.gix_url.specs.Bytes.{FreeOf}
-use Rattle.gix_url.specs.Addresses.{joined_by}
-use Rattle.gix_url.specs.Components.{ampersand, CutsPath, SplitsField, PairsOf, QueryOf}
+use Rattle.gix_url.specs.Bytes.{FreeOf, ampersand}
+use Rattle.gix_url.specs.Components.{CutsPath, SplitsField, PairsOf, QueryOf}
 use Rattle.gix_url.specs.HomeRows.{SpelledPartRows, RawPartRows}
 use Rattle.gix_url.specs.Examples.{on_web}
 
@@ -19,7 +18,7 @@ all_free c (t ∷ texts) e zero d l = not-true _ (and_parts _ _ e).0
 all_free c (t ∷ texts) e (suc k) d l = all_free c texts (and_parts _ _ e).1 k d (omega arith)
 
 -- a query, by its fields
-query_row : (v : Location) (fields : List (List ℕ)) (pairs : List (List ℕ × List ℕ)) → list_all (λ t. not (list_any (λ b. b == ampersand) t)) fields ≡ true → PairsOf v fields pairs → QueryOf v (Some (joined_by ampersand fields)) (Some pairs)
+query_row : (v : Location) (fields : List (List ℕ)) (pairs : List (List ℕ × List ℕ)) → list_all (λ t. not (list_any (λ b. b == ampersand) t)) fields ≡ true → PairsOf v fields pairs → QueryOf v (Some (join_with_byte ampersand fields)) (Some pairs)
 query_row v fields pairs free h = (fields, pairs, record { each = all_free ampersand fields free; joined = refl }, h, refl)
 
 -- cut first and decoded after, where a spelling matches

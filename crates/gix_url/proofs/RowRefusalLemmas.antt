@@ -18,13 +18,12 @@ use Rattle.gix_url.specs.Hosts.Mode.{strict, bare, loose}
 use Rattle.gix_url.specs.Authority.{Authority}
 use Rattle.gix_url.specs.Grammar.{SpellsUrl, ScpHost, Unbrackets, Spells}
 use Rattle.gix_url.specs.Text.{has_colon}
-use Rattle.gix_url.specs.Settled.{IsSettled}
-use Rattle.gix_url.specs.SettledParts.{IsWeb}
+use Rattle.gix_url.specs.Settled.{IsSettled, IsWeb}
 use Rattle.gix_url.specs.Examples.{no_text, at_host}
-use Rattle.gix_url.specs.RefusalRows.{NoNameFlawRows, NoPartFlawRows, FlawlessRows, NoUrlFlawRow, CornerRows, NoCornerRows}
 use Rattle.gix_url.specs.Flaws.{NameFlaw, AuthorityFlaw}
 use Rattle.gix_url.specs.Laws.{IsCorner}
 use Rattle.gix_url.specs.Refusals.{HasFlaw}
+use Rattle.gix_url.specs.RefusalRows.{NoNameFlawRows, NoPartFlawRows, FlawlessRows, NoUrlFlawRow, CornerRows, NoCornerRows}
 use Rattle.gix_url.proofs.CutLemmas.{last_unique}
 use Rattle.gix_url.proofs.HostLemmas.{flawed_unnamed}
 use Rattle.gix_url.proofs.RefusalLemmas.{bad_user_refutes, flawed_authority, scp_host_flaw_refutes, flawless}

@@ -178,10 +178,7 @@ scp_no_host b front path user host h split at none v k =
 pub scp_refused : (b front path : List ℕ) (user : Option (List ℕ)) (host : List ℕ) → PlainScp b front path → ScpUser front user host → FreeOf at_sign host → (r : HostRefusal) → RefusesHost host r → RefusesScp b r
 scp_refused b front path user host h split at refusal.Memory k = tt
 scp_refused b front path user host h split at (refusal.Fault named) k =
-    (scp_no_host b front path user host h.shape split at k.0, record { not_addressed = λ u a p. curried u a p; front = front; path = path; user = user; host = host; shape = h.shape; split = split; no_at = at; flaw = k.1 })
-  where
-    curried : (u a p : List ℕ) → ¬ AddressedShape b u a p
-    curried u a p k = h.not_addressed (u, a, p, k)
+    (scp_no_host b front path user host h.shape split at k.0, record { not_addressed = h.not_addressed; front = front; path = path; user = user; host = host; shape = h.shape; split = split; no_at = at; flaw = k.1 })
 
 -- the front of a text is text
 front_utf8 : (b front path : List ℕ) → ScpShape b front path → IsUtf8 b → IsUtf8 front
@@ -205,11 +202,11 @@ scp_user_utf8 b front path (Some named) host h text (with_user u e is) =
 -- where the path behind the address is empty, the earlier form spells nothing
 pub addressed_no_path_before : (b user address : List ℕ) → AddressedShape b user address [] → (v : Location) → ¬ SpellsScpBefore b v
 addressed_no_path_before b user address k v h =
-    let (x, y, f, e) = address_cut address k.addressed in
+    let (x, y, f, e) = address_cut address k.cut.addressed in
     elim (front_of_addressed b user address [] x y h.front h.path k f e h.shape.joined h.shape.shape) [
       | inl within ↦
-          let pieces = scp_user_unique h.front h.user (Some user) h.host (left_bracket ∷ x) h.hosted.no_at (address_front_free at_sign address x y refl k.addressed e) h.split (with_user user within refl) in
-          open_bracket_no_host h.host x h.meant pieces.1 (address_front_free right_bracket address x y refl k.addressed e) h.hosted
+          let pieces = scp_user_unique h.front h.user (Some user) h.host (left_bracket ∷ x) h.hosted.no_at (address_front_free at_sign address x y refl k.cut.addressed e) h.split (with_user user within refl) in
+          open_bracket_no_host h.host x h.meant pieces.1 (address_front_free right_bracket address x y refl k.cut.addressed e) h.hosted
       | inr (behind, none) ↦ absurd (omega (arith, ap length none, h.pathed))
     ]
 
@@ -223,6 +220,6 @@ addressed_no_path b user address k v (inr h) =
 -- the user before an address is UTF-8
 pub addressed_user_utf8 : (b user address path : List ℕ) → AddressedShape b user address path → IsUtf8 b → IsUtf8 user
 addressed_user_utf8 b user address path k text =
-    (utf8_parts user (left_bracket ∷ (address ++ right_bracket ∷ (colon ∷ path))) at_sign (subst IsUtf8 k.joined text) (omega arith)).0
+    (utf8_parts user (left_bracket ∷ (address ++ right_bracket ∷ (colon ∷ path))) at_sign (subst IsUtf8 k.cut.joined text) (omega arith)).0
 
 -- ---- tests and steps of the code

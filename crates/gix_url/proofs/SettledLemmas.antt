@@ -14,9 +14,9 @@ use Rattle.gix_url.specs.Addresses.Literal.{address, zoned}
 use Rattle.gix_url.specs.Hosts.{is_http_host_byte}
 use Rattle.gix_url.specs.HostPieces.{IsEscapedZone}
 use Rattle.gix_url.specs.Shapes.{LocalShape}
-use Rattle.gix_url.specs.Settled.{HasFittingText, IsNormalAddress, IsSettledGit, IsSettledHelperUrl, IsSettledLocal, IsSettledScp, IsSettledSecure, IsSettledUrl, IsSettledWeb, IsTransportPath, IsWebName, IsWebHost}
+use Rattle.gix_url.specs.Settled.{HasFittingText, IsNormalAddress, IsSettledGit, IsSettledHelperUrl, IsSettledLocal, IsSettledScp, IsSettledSecure, IsSettledUrl, IsSettledWeb, IsTransportPath, IsWebName, IsWebHost, IsWeb}
 use Rattle.gix_url.specs.Settled.IsWebHost.{literal, literal_colon, named, named_colon}
-use Rattle.gix_url.specs.SettledParts.{HasScpForm, HasScpParts, HasUrlForm, IsFlaggedPath, IsGitTarget, IsHosted, IsNormalLiteral, IsBracketedLiteral, IsClosedHost, IsOtherForm, IsPiecesShort, IsSecureTarget, IsSettledRaw, IsWeb, IsWebTarget, IsWrittenAsUrl}
+use Rattle.gix_url.specs.SettledParts.{HasScpForm, HasScpParts, HasUrlForm, IsFlaggedPath, IsGitTarget, IsHosted, IsNormalLiteral, IsBracketedLiteral, IsClosedHost, IsOtherForm, IsPiecesShort, IsSecureTarget, IsSettledRaw, IsWebTarget, IsWrittenAsUrl}
 use Rattle.gix_url.specs.Schemes.{protocol_text}
 use Rattle.gix_url.specs.Text.{Form, choice, choice_by, ssh_choice, with_host, is_relative, in_form, text, canonical_text, user_information, host_part, port_part, canonical_path}
 use Rattle.gix_url.specs.Text.Form.{canonical_form}

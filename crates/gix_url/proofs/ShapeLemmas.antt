@@ -12,14 +12,14 @@ use Rattle.gix_url.specs.Value.{Location, path_alone}
 use Rattle.gix_url.specs.Value.Protocol.{file}
 use Rattle.gix_url.specs.Bytes.{slash, colon, at_sign, left_bracket, right_bracket, FreeOf, begins_with, is_helper_name, is_name_byte}
 use Rattle.gix_url.specs.Addresses.{IsIpv6Text}
-use Rattle.gix_url.specs.Grammar.{HelperParts, HasHelperForm, IsNeither, ScpFront, AddressedShape, IsScpShaped, SpellsHelper, SpellsUrl, SpellsFile, SpellsScpBefore, SpellsScp, SpellsLocal, Spells}
+use Rattle.gix_url.specs.Grammar.{HelperCut, HasHelperForm, IsNeither, ScpFront, AddressedShape, IsScpShaped, SpellsHelper, SpellsUrl, SpellsFile, SpellsScpBefore, SpellsScp, SpellsLocal, Spells, AddressedCut}
 use Rattle.gix_url.specs.Grammar.Spells.{url, file_url, remote_helper, scp_form, local_path}
 use Rattle.gix_url.specs.Grammar.ScpFront.{plain, bracketed}
 use Rattle.gix_url.specs.Authority.{unless_empty, Fits}
 use Rattle.gix_url.specs.Flaws.{UrlShape, OtherShape, MissesPath}
 use Rattle.gix_url.specs.Flaws.MissesPath.{in_file}
 use Rattle.gix_url.specs.Readings.{NoneBut}
-use Rattle.gix_url.specs.Shapes.{FrontCut, HasFrontCut, ScpCut, HasScpCut, AddressedCut, AddressedFront, HasAddressedCut, PlainScp, LocalShape}
+use Rattle.gix_url.specs.Shapes.{FrontCut, HasFrontCut, ScpCut, HasScpCut, AddressedFront, HasAddressedCut, PlainScp, LocalShape}
 use Rattle.gix_url.proofs.CutLemmas.{heads, tails, different_bytes, begins_cut, not_free, free-cons, free_parts, cut_unique, last_cut_unique, mark_cut_unique, held_free, helper_name_bytes, helper_name_free, scheme_text_free}
 use Rattle.gix_url.proofs.AddressLemmas.{address_free}
 use Rattle.gix_url.proofs.EscapeLemmas.{utf8_behind, utf8_class, utf8_parts}
@@ -28,7 +28,7 @@ use Rattle.gix_url.proofs.FormLemmas.{address_cut, addressed_joined, addressed_f
 -- ---- remote helpers
 
 -- the name of a helper ends at the first `:`
-pub helper_front : (b name rest n a : List ℕ) → HelperParts b n a → FreeOf colon name → b ≡ name ++ colon ∷ rest → (n ≡ name) × (colon ∷ a ≡ rest)
+pub helper_front : (b name rest n a : List ℕ) → HelperCut b n a → FreeOf colon name → b ≡ name ++ colon ∷ rest → (n ≡ name) × (colon ∷ a ≡ rest)
 helper_front b name rest n a h free e = cut_unique colon n name (colon ∷ a) rest (helper_name_free n colon h.named refl) free (sym h.joined ∙ e)
 
 -- no helper without a second `:` behind the first
@@ -168,15 +168,11 @@ addressed_other b user behind address path s free e other (u, a, p, h) =
 
 -- ---- the answers
 
--- the pieces of `user@[address]:path`, without what else the text must be
-pub addressed_cut : (b u a p : List ℕ) → AddressedShape b u a p → AddressedCut b u a p
-addressed_cut b u a p s = record { joined = s.joined; no_slash = s.no_slash; no_colon = s.no_colon; addressed = s.addressed }
-
 -- the scp form, from its pieces
 pub plain_scp : (b front path : List ℕ) → IsNeither b → ¬ HasAddressedCut b → ScpCut b front path → PlainScp b front path
 plain_scp b front path neither none h = record {
   shape = record { joined = h.around.joined; neither = neither; no_slash = h.no_slash; shape = h.around.shape };
-  not_addressed = λ (u, a, p, s). none (u, a, p, addressed_cut b u a p s);
+  not_addressed = λ (u, a, p, s). none (u, a, p, s.cut);
 }
 
 -- a local path, from the pieces that aren't there
@@ -186,7 +182,7 @@ local_shape b some neither none uncut = record {
   neither = neither;
   no_scp = λ h. elim h [
     | inl (f, p, s) ↦ uncut (f, p, record { around = record { joined = s.joined; shape = s.shape }; no_slash = s.no_slash })
-    | inr (u, a, p, s) ↦ none (u, a, p, addressed_cut b u a p s)
+    | inr (u, a, p, s) ↦ none (u, a, p, s.cut)
   ];
 }
 
@@ -268,7 +264,7 @@ empty_unspelled v (url h) = joined_nonempty h.parts.scheme (codes "://" ++ (h.sp
 empty_unspelled v (file_url h) = joined_nonempty [] (codes "file://" ++ (h.host ++ h.path)) (omega arith) h.joined
 empty_unspelled v (remote_helper h) = joined_nonempty h.name (colon ∷ (colon ∷ h.address)) (omega arith) h.parts.joined
 empty_unspelled v (scp_form (inl h)) = joined_nonempty h.front (colon ∷ h.path) (omega arith) h.shape.joined
-empty_unspelled v (scp_form (inr h)) = joined_nonempty h.user (at_sign ∷ (left_bracket ∷ (h.address ++ right_bracket ∷ (colon ∷ h.path)))) (omega arith) h.shape.joined
+empty_unspelled v (scp_form (inr h)) = joined_nonempty h.user (at_sign ∷ (left_bracket ∷ (h.address ++ right_bracket ∷ (colon ∷ h.path)))) (omega arith) h.shape.cut.joined
 empty_unspelled v (local_path h) = absurd (omega (arith, h.nonempty))
 
 -- what has a mark isn't neither

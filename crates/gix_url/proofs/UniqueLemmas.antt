@@ -5,15 +5,14 @@ use Rattle.std.proofs.lemmas.Option.{same_Some}
 use Rattle.percent_encoding.specs.Percent.{percent_decode}
 use Rattle.gix_url.specs.Value.{Protocol, Location, path_alone}
 use Rattle.gix_url.specs.Value.Protocol.{file, git, ssh, http, https, ext, helper, helper_url}
-use Rattle.gix_url.specs.Bytes.{percent_sign, slash, colon, at_sign, left_bracket, right_bracket, Lacks, FreeOf, begins_with, lowercase}
-use Rattle.gix_url.specs.Cuts.{is_path_start, StartsPath}
+use Rattle.gix_url.specs.Bytes.{percent_sign, slash, colon, at_sign, left_bracket, right_bracket, Lacks, FreeOf, begins_with, lowercase, is_path_start, StartsPath}
 use Rattle.gix_url.specs.Escapes.{escaped_percents}
 use Rattle.gix_url.specs.Addresses.{IsIpv6Text, Literal}
 use Rattle.gix_url.specs.Hosts.{Mode, Bracketed, IsAddressPiece, IsPlainHost, Names}
 use Rattle.gix_url.specs.Hosts.Mode.{bare}
 use Rattle.gix_url.specs.Schemes.{is_web_scheme, protocol_of, mode_of}
 use Rattle.gix_url.specs.Authority.{unless_empty, user_beside, Credentials, Authority}
-use Rattle.gix_url.specs.Grammar.{helper_protocol, SpellsHelper, UrlParts, SpellsParts, Peels, HostFor, path_for, retained, MeansByProtocol, MeansAs, SpellsUrl, SpellsFile, ScpFront, AddressedShape, ScpUser, Unbrackets, ScpHost, scp_location, SpellsScpBefore, SpellsScpAddressed, SpellsScp, Spells}
+use Rattle.gix_url.specs.Grammar.{helper_protocol, SpellsHelper, UrlParts, SpellsParts, Peels, HostFor, path_for, retained_spelling, MeansByProtocol, MeansAs, SpellsUrl, SpellsFile, ScpFront, AddressedShape, ScpUser, Unbrackets, ScpHost, scp_location, SpellsScpBefore, SpellsScpAddressed, SpellsScp, Spells}
 use Rattle.gix_url.proofs.SchemeLemmas.{means_cases}
 use Rattle.gix_url.proofs.CutLemmas.{heads, tails, class_cut_unique, path_cut_unique, cut_unique, last_cut_unique, last_unique, scheme_text_free, helper_name_free, free-append, free_parts, free_head_tail, free_or_cut, not_free}
 use Rattle.gix_url.proofs.AddressLemmas.{address_free, address_utf8, address-lowercase}
@@ -126,7 +125,7 @@ meant_with protocol parts host = record {
   flag = false;
   port = parts.port;
   path = path_for protocol (percent_decode parts.path);
-  spelling = retained parts.path;
+  spelling = retained_spelling parts.path;
 }
 
 -- the parts of a URL mean one location by its protocol
@@ -205,12 +204,12 @@ scp_before_unique b v w h k =
 -- the text determines user, address and path of the shape
 pub addressed_unique : (b user other address second path last : List ℕ) → AddressedShape b user address path → AddressedShape b other second last → (user ≡ other) × (address ≡ second) × (path ≡ last)
 addressed_unique b user other address second path last h k =
-    let (x, y, f, e) = address_cut address h.addressed in
-    let (z, q, g, j) = address_cut second k.addressed in
-    let whole = sym (addressed_joined user address path x y e) ∙ sym h.joined ∙ k.joined ∙ addressed_joined other second last z q j in
-    let outer = cut_unique colon (user ++ at_sign ∷ (left_bracket ∷ x)) (other ++ at_sign ∷ (left_bracket ∷ z)) (y ++ right_bracket ∷ (colon ∷ path)) (q ++ right_bracket ∷ (colon ∷ last)) (addressed_front_free user x h.no_colon f) (addressed_front_free other z k.no_colon g) whole in
-    let fronts = last_cut_unique at_sign user other (left_bracket ∷ x) (left_bracket ∷ z) (address_front_free at_sign address x y refl h.addressed e) (address_front_free at_sign second z q refl k.addressed j) outer.0 in
-    let backs = cut_unique right_bracket y q (colon ∷ path) (colon ∷ last) (address_back_free right_bracket address x y refl h.addressed e) (address_back_free right_bracket second z q refl k.addressed j) outer.1 in
+    let (x, y, f, e) = address_cut address h.cut.addressed in
+    let (z, q, g, j) = address_cut second k.cut.addressed in
+    let whole = sym (addressed_joined user address path x y e) ∙ sym h.cut.joined ∙ k.cut.joined ∙ addressed_joined other second last z q j in
+    let outer = cut_unique colon (user ++ at_sign ∷ (left_bracket ∷ x)) (other ++ at_sign ∷ (left_bracket ∷ z)) (y ++ right_bracket ∷ (colon ∷ path)) (q ++ right_bracket ∷ (colon ∷ last)) (addressed_front_free user x h.cut.no_colon f) (addressed_front_free other z k.cut.no_colon g) whole in
+    let fronts = last_cut_unique at_sign user other (left_bracket ∷ x) (left_bracket ∷ z) (address_front_free at_sign address x y refl h.cut.addressed e) (address_front_free at_sign second z q refl k.cut.addressed j) outer.0 in
+    let backs = cut_unique right_bracket y q (colon ∷ path) (colon ∷ last) (address_back_free right_bracket address x y refl h.cut.addressed e) (address_back_free right_bracket second z q refl k.cut.addressed j) outer.1 in
     (fronts.0, e ∙ (λ i. tails fronts.1 i ++ colon ∷ backs.0 i) ∙ sym j, tails backs.1)
 
 -- the shape's bytes spell one location
@@ -299,28 +298,28 @@ inner_front user x y z rest inside after front second cut f u c i n e whole =
 -- the fronts of the scp form in a text with the shape
 pub front_of_addressed : (b user address path x y front second : List ℕ) → AddressedShape b user address path → FreeOf colon x → address ≡ x ++ colon ∷ y → b ≡ front ++ colon ∷ second → ScpFront b front → FrontOf user address path x front second
 front_of_addressed b user address path x y front second h f e j (ScpFront.plain g blank) =
-    inl (cut_unique colon front (user ++ at_sign ∷ (left_bracket ∷ x)) second (y ++ right_bracket ∷ (colon ∷ path)) g (addressed_front_free user x h.no_colon f) (sym j ∙ h.joined ∙ addressed_joined user address path x y e)).0
+    inl (cut_unique colon front (user ++ at_sign ∷ (left_bracket ∷ x)) second (y ++ right_bracket ∷ (colon ∷ path)) g (addressed_front_free user x h.cut.no_colon f) (sym j ∙ h.cut.joined ∙ addressed_joined user address path x y e)).0
 front_of_addressed b user address path x y front second h f e j (ScpFront.bracketed inside after i n k) =
-    let whole = sym (bracketed_joined b front second inside after j k) ∙ h.joined in
+    let whole = sym (bracketed_joined b front second inside after j k) ∙ h.cut.joined in
     elim (free_or_cut right_bracket user) [
-      | inl u ↦ inr (closed_front user address path inside after front second u (address_free right_bracket address refl h.addressed) i n k whole)
+      | inl u ↦ inr (closed_front user address path inside after front second u (address_free right_bracket address refl h.cut.addressed) i n k whole)
       | inr (s, t, u, cut) ↦
-          inl (inner_front user x s t (y ++ right_bracket ∷ (colon ∷ path)) inside after front second cut u h.no_colon f i n k (whole ∙ addressed_joined user address path x y e))
+          inl (inner_front user x s t (y ++ right_bracket ∷ (colon ∷ path)) inside after front second cut u h.cut.no_colon f i n k (whole ∙ addressed_joined user address path x y e))
     ]
 
 -- where both spell the bytes, they spell one location
 pub scp_forms_agree : (b : List ℕ) (v w : Location) → SpellsScpBefore b v → SpellsScpAddressed b w → v ≡ w
 scp_forms_agree b v w h k =
-    let (x, y, f, e) = address_cut k.address k.shape.addressed in
+    let (x, y, f, e) = address_cut k.address k.shape.cut.addressed in
     elim (front_of_addressed b k.user k.address k.path x y h.front h.path k.shape f e h.shape.joined h.shape.shape) [
       | inl within ↦
-          let pieces = scp_user_unique h.front h.user (Some k.user) h.host (left_bracket ∷ x) h.hosted.no_at (address_front_free at_sign k.address x y refl k.shape.addressed e) h.split (ScpUser.with_user k.user within refl) in
-          absurd (open_bracket_no_host h.host x h.meant pieces.1 (address_front_free right_bracket k.address x y refl k.shape.addressed e) h.hosted)
+          let pieces = scp_user_unique h.front h.user (Some k.user) h.host (left_bracket ∷ x) h.hosted.no_at (address_front_free at_sign k.address x y refl k.shape.cut.addressed e) h.split (ScpUser.with_user k.user within refl) in
+          absurd (open_bracket_no_host h.host x h.meant pieces.1 (address_front_free right_bracket k.address x y refl k.shape.cut.addressed e) h.hosted)
       | inr (behind, paths) ↦
-          let free : FreeOf at_sign (k.address ++ right_bracket ∷ []) = free-append at_sign k.address (right_bracket ∷ []) (address_free at_sign k.address refl k.shape.addressed) refl in
+          let free : FreeOf at_sign (k.address ++ right_bracket ∷ []) = free-append at_sign k.address (right_bracket ∷ []) (address_free at_sign k.address refl k.shape.cut.addressed) refl in
           let pieces = scp_user_unique h.front h.user (Some k.user) h.host (left_bracket ∷ (k.address ++ right_bracket ∷ [])) h.hosted.no_at free h.split (ScpUser.with_user k.user behind refl) in
           h.value
-          ∙ scp_same h.user (Some k.user) h.meant (lowercase k.address) h.path k.path pieces.0 (bracketed_address_host h.host k.address h.meant pieces.1 k.shape.addressed h.hosted) paths
+          ∙ scp_same h.user (Some k.user) h.meant (lowercase k.address) h.path k.path pieces.0 (bracketed_address_host h.host k.address h.meant pieces.1 k.shape.cut.addressed h.hosted) paths
           ∙ sym k.value
     ]
 

@@ -9,8 +9,7 @@ use Rattle.gix_url.specs.declared.error.UrlFault.{UrlFault}
 use Rattle.gix_url.specs.declared.error.UrlFault.TheVariants as fault
 use Rattle.gix_url.specs.Value.{Protocol, Location, path_alone}
 use Rattle.gix_url.specs.Value.Protocol.{file, git, ssh, http, https, ext, helper, helper_url}
-use Rattle.gix_url.specs.Bytes.{slash, colon, at_sign, left_bracket, backslash, right_bracket, FreeOf, LacksWhiteSpace, begins_with, is_scheme_text}
-use Rattle.gix_url.specs.Cuts.{is_path_start}
+use Rattle.gix_url.specs.Bytes.{slash, colon, at_sign, left_bracket, backslash, right_bracket, FreeOf, LacksWhiteSpace, begins_with, is_scheme_text, is_path_start}
 use Rattle.gix_url.specs.Escapes.{is_sound}
 use Rattle.gix_url.specs.Hosts.{Mode, Names}
 use Rattle.gix_url.specs.Schemes.{is_web_scheme, protocol_of, mode_of, requires_host}

@@ -5,8 +5,8 @@ use Rattle.std.proofs.lemmas.Bool.{both_ways, false≢true}
 use Rattle.std.proofs.lemmas.List.{nil_from_length}
 use Rattle.percent_encoding.specs.Percent.{percent_decode}
 use Rattle.gix_url.specs.declared.error.UrlFault.TheVariants as fault
-use Rattle.gix_url.specs.Bytes.{colon, at_sign, backslash, Lacks, FreeOf, Holds, LacksWhiteSpace, is_scheme_text}
-use Rattle.gix_url.specs.Cuts.{url_mark, is_path_start, StartsPath}
+use Rattle.gix_url.specs.Bytes.{colon, at_sign, backslash, Lacks, FreeOf, Holds, LacksWhiteSpace, is_scheme_text, is_path_start, StartsPath}
+use Rattle.gix_url.specs.Cuts.{url_mark}
 use Rattle.gix_url.specs.Escapes.{is_sound}
 use Rattle.gix_url.specs.Hosts.{Mode, Names}
 use Rattle.gix_url.specs.Schemes.{is_web_scheme, mode_of, requires_host}

@@ -9,8 +9,8 @@ use Rattle.percent_encoding.proofs.PercentLemmas.{percent_decode-nil}
 use Rattle.gix_url.specs.declared.error.UrlKind.TheVariants as kind
 use Rattle.gix_url.specs.Value.{Protocol, Location}
 use Rattle.gix_url.specs.Value.Protocol.{file, git, ssh, http, https, ext, helper, helper_url}
-use Rattle.gix_url.specs.Bytes.{colon, slash, left_bracket, right_bracket, Lacks}
-use Rattle.gix_url.specs.Cuts.{is_path_start, StartsPath, StripsLast}
+use Rattle.gix_url.specs.Bytes.{colon, slash, left_bracket, right_bracket, Lacks, is_path_start, StartsPath}
+use Rattle.gix_url.specs.Cuts.{StripsLast}
 use Rattle.gix_url.specs.Schemes.{is_web_scheme, protocol_of, mode_of}
 use Rattle.gix_url.specs.Hosts.{Mode, Names}
 use Rattle.gix_url.specs.Authority.{unless_empty, user_beside, Credentials, Authority}

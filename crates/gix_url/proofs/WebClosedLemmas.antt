@@ -11,8 +11,7 @@ use Rattle.percent_encoding.specs.Percent.{percent_decode}
 use Rattle.percent_encoding.proofs.PercentLemmas.{percent_decode-nil}
 use Rattle.gix_url.specs.Value.{Protocol, Location, fields}
 use Rattle.gix_url.specs.Value.Protocol.{file, git, ssh, http, https, ext, helper_url}
-use Rattle.gix_url.specs.Bytes.{percent_sign, slash, colon, at_sign, left_bracket, FreeOf, begins_by, begins_with, lowercase, LacksWhiteSpace}
-use Rattle.gix_url.specs.Cuts.{is_path_start, StartsPath}
+use Rattle.gix_url.specs.Bytes.{percent_sign, slash, colon, at_sign, left_bracket, FreeOf, begins_by, begins_with, lowercase, LacksWhiteSpace, is_path_start, StartsPath}
 use Rattle.gix_url.specs.Escapes.{is_sound, has_percent}
 use Rattle.gix_url.specs.Hosts.{Mode, is_dns_byte, is_http_host_byte, normal_host, HostText, Names}
 use Rattle.gix_url.specs.Hosts.Mode.{strict, bare}
@@ -21,11 +20,11 @@ use Rattle.gix_url.specs.Schemes.{is_web_scheme, protocol_of, protocol_text, mod
 use Rattle.gix_url.specs.Authority.{unless_empty, user_beside, Credentials, Authority}
 use Rattle.gix_url.specs.Authority.Credentials.{user_alone, with_password}
 use Rattle.gix_url.specs.Authority.Authority.{host_alone, with_user}
-use Rattle.gix_url.specs.Grammar.{UrlParts, SpellsParts, or_root, retained, MeansAs, SpellsUrl}
+use Rattle.gix_url.specs.Grammar.{UrlParts, SpellsParts, or_root, retained_spelling, MeansAs, SpellsUrl}
 use Rattle.gix_url.specs.Text.{user_information, host_part, port_part, root_part, plain_path, matching_or, canonical_text, text}
-use Rattle.gix_url.specs.Settled.{first_byte, IsFairSpelling, HasFittingText, IsWebName, IsWebHost, IsSettledWeb}
+use Rattle.gix_url.specs.Settled.{first_byte, IsFairSpelling, HasFittingText, IsWebName, IsWebHost, IsSettledWeb, IsWeb}
 use Rattle.gix_url.specs.Settled.IsWebHost.{literal, literal_colon, named, named_colon}
-use Rattle.gix_url.specs.SettledParts.{IsWeb, IsHosted}
+use Rattle.gix_url.specs.SettledParts.{IsHosted}
 use Rattle.gix_url.proofs.CutLemmas.{free-append, free_begins, free_of_all, free_parts}
 use Rattle.gix_url.proofs.EscapeLemmas.{sound_tail, sound_parts, sound_around, sound_free, decode_byte, utf8_byte, utf8_seam, white_space_parts}
 use Rattle.gix_url.proofs.NormalLemmas.{normal_again, literal_again, all_lowercase, dns_lowercase}
@@ -140,7 +139,7 @@ web_meant protocol parts = record {
   flag = false;
   port = parts.port;
   path = or_root (percent_decode parts.path);
-  spelling = retained parts.path;
+  spelling = retained_spelling parts.path;
 }
 
 -- a URL that is read as a location of HTTP has such a scheme, and its parts mean that
@@ -208,7 +207,7 @@ start_no_percent : (c : ℕ) → is_path_start true c ≡ true → (c == 37) ≡
 start_no_percent c h = grind (arith, nat_tests)
 
 -- what is retained of a path, by whether it holds a `%`, is the path
-pub retained_by : (path s : List ℕ) (escaped : Bool) → has_percent path ≡ escaped → retained path ≡ Some s → (path ≡ s) × (has_percent path ≡ true)
+pub retained_by : (path s : List ℕ) (escaped : Bool) → has_percent path ≡ escaped → retained_spelling path ≡ Some s → (path ≡ s) × (has_percent path ≡ true)
 retained_by path s true holds e = (same_Some path s (sym (cond-true _ _ _ holds) ∙ e), holds)
 retained_by path s false lacks e = none_is_some s (sym (cond-false _ _ _ lacks) ∙ e)
 
@@ -217,7 +216,7 @@ pub record IsWebPath (front path : List ℕ) : Type 0 where
   pub front_sound : is_sound front ≡ true
   pub meant_text : IsUtf8 (or_root (percent_decode path))
   pub meant_starts : begins_by (is_path_start true) (or_root (percent_decode path)) ≡ true
-  pub fair : (s : List ℕ) → retained path ≡ Some s → IsFairSpelling s (or_root (percent_decode path))
+  pub fair : (s : List ℕ) → retained_spelling path ≡ Some s → IsFairSpelling s (or_root (percent_decode path))
 
 -- a path that is there
 some_path : (front rest : List ℕ) (c : ℕ) → is_path_start true c ≡ true → IsUtf8 (front ++ c ∷ rest) → is_sound (front ++ c ∷ rest) ≡ true → LacksWhiteSpace (front ++ c ∷ rest) → IsUtf8 (percent_decode (c ∷ rest)) → IsWebPath front (c ∷ rest)

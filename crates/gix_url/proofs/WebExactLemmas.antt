@@ -8,8 +8,7 @@ use Rattle.std.proofs.lemmas.List.{append-nil}
 use Rattle.std.proofs.lemmas.Option.{IfSome_then, same_Some}
 use Rattle.gix_url.specs.Value.{Protocol, Location, fields}
 use Rattle.gix_url.specs.Value.Protocol.{file, ssh, ext, helper}
-use Rattle.gix_url.specs.Bytes.{at_sign, colon, left_bracket, right_bracket, Lacks, FreeOf, begins_with}
-use Rattle.gix_url.specs.Cuts.{is_path_start, StartsPath}
+use Rattle.gix_url.specs.Bytes.{at_sign, colon, left_bracket, right_bracket, Lacks, FreeOf, begins_with, is_path_start, StartsPath}
 use Rattle.gix_url.specs.Escapes.{has_percent, escaped_percents}
 use Rattle.gix_url.specs.Hosts.{is_http_host_byte, Names}
 use Rattle.gix_url.specs.Hosts.Mode.{strict}
@@ -19,9 +18,8 @@ use Rattle.gix_url.specs.Authority.{Authority, FitsText}
 use Rattle.gix_url.specs.Authority.Authority.{host_alone, with_user}
 use Rattle.gix_url.specs.Grammar.{UrlParts, SpellsParts, SpellsUrl, Spells}
 use Rattle.gix_url.specs.Text.{has_colon, wants_brackets, needs_brackets, user_information, host_part, port_part, canonical_path, canonical_text, text}
-use Rattle.gix_url.specs.Settled.{IsSettledWeb}
-use Rattle.gix_url.specs.SettledParts.{IsWeb}
-use Rattle.gix_url.specs.WrittenPieces.{WritesInformation}
+use Rattle.gix_url.specs.Settled.{IsSettledWeb, IsWeb}
+use Rattle.gix_url.proofs.WrittenPieces.{WritesInformation}
 use Rattle.gix_url.proofs.CutLemmas.{begins-append, lacks-append, lacks-cons, lacks_of_all, free_of_all, free_of_lacked, held_free, lacks_weaker, mark_cut_unique, not_free, path_cut_unique, scheme_text_free}
 use Rattle.gix_url.proofs.EscapeLemmas.{lacks_escaped_percents}
 use Rattle.gix_url.proofs.SchemeLemmas.{helper_cases}

@@ -7,14 +7,13 @@ use Rattle.percent_encoding.specs.Percent.{percent_decode}
 use Rattle.percent_encoding.proofs.PercentLemmas.{length-percent_decode}
 use Rattle.gix_url.specs.Value.{Protocol, Location, path_alone}
 use Rattle.gix_url.specs.Value.Protocol.{file, git, ssh, http, https, ext, helper, helper_url}
-use Rattle.gix_url.specs.Bytes.{slash, tilde, begins_with, lowercase}
-use Rattle.gix_url.specs.Cuts.{StartsPath}
+use Rattle.gix_url.specs.Bytes.{slash, tilde, begins_with, lowercase, StartsPath}
 use Rattle.gix_url.specs.Escapes.{is_sound, has_percent, begins_with_digits}
 use Rattle.gix_url.specs.Hosts.{Mode}
 use Rattle.gix_url.specs.Schemes.{is_ssh_scheme, is_web_scheme, protocol_of, mode_of}
 use Rattle.gix_url.specs.Authority.{unless_empty, Authority}
 use Rattle.gix_url.specs.Authority.Authority.{host_alone, with_user}
-use Rattle.gix_url.specs.Grammar.{HostFor, UrlParts, SpellsParts, MeansByProtocol, MeansAs, SpellsUrl, SpellsScp, Spells, from_home, or_root, path_for, retained}
+use Rattle.gix_url.specs.Grammar.{HostFor, UrlParts, SpellsParts, MeansByProtocol, MeansAs, SpellsUrl, SpellsScp, Spells, from_home, or_root, path_for, retained_spelling}
 use Rattle.gix_url.specs.Text.{choice, with_host, in_form, text, canonical_text}
 use Rattle.gix_url.specs.Text.Form.{canonical_form}
 use Rattle.gix_url.specs.Laws.{Writable}
@@ -191,7 +190,7 @@ held_nonempty [] held = absurd (false≢true held)
 held_nonempty (b ∷ bs) held = omega arith
 
 -- what is retained of the spelling of a sound path isn't the path that it is read as
-retained_other : (protocol : Protocol) (path : List ℕ) → is_sound path ≡ true → ¬ (retained path ≡ Some (path_for protocol (percent_decode path)))
+retained_other : (protocol : Protocol) (path : List ℕ) → is_sound path ≡ true → ¬ (retained_spelling path ≡ Some (path_for protocol (percent_decode path)))
 retained_other protocol path sound e =
     let meaning = path_for protocol (percent_decode path) in
     let kept = retained_by path meaning (has_percent path) refl e in

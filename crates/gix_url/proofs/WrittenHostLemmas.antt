@@ -19,7 +19,7 @@ use Rattle.gix_url.specs.Hosts.Mode.{strict, bare, loose}
 use Rattle.gix_url.specs.Grammar.{Peels}
 use Rattle.gix_url.specs.Text.{has_colon, wants_brackets, keeps_host, open_host, needs_brackets, port_part}
 use Rattle.gix_url.specs.Settled.{IsNormalName, IsNormalAddress, IsBareHost, IsBracketedHost}
-use Rattle.gix_url.specs.WrittenPieces.{WritesHost}
+use Rattle.gix_url.proofs.WrittenPieces.{WritesHost}
 use Rattle.gix_url.proofs.CutLemmas.{free_begins, free_head_tail, free_or_cut, cut_unique, not_free}
 use Rattle.gix_url.proofs.EscapeLemmas.{decode_kept, encode_free, encode_byte_kept, escaped_percents_kept}
 use Rattle.gix_url.proofs.EscapeSets.{password_holds, user_holds}

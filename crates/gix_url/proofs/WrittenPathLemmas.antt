@@ -9,14 +9,13 @@ use Rattle.percent_encoding.specs.Percent.{percent_decode, percent_encode}
 use Rattle.gix_url.specs.declared.escape.TheConstants.{PATH}
 use Rattle.gix_url.specs.Value.{Protocol, Location}
 use Rattle.gix_url.specs.Value.Protocol.{ssh, git, helper_url}
-use Rattle.gix_url.specs.Bytes.{slash, tilde, begins_by, begins_with, LacksWhiteSpace}
-use Rattle.gix_url.specs.Cuts.{is_path_start, StartsPath}
+use Rattle.gix_url.specs.Bytes.{slash, tilde, begins_by, begins_with, LacksWhiteSpace, is_path_start, StartsPath}
 use Rattle.gix_url.specs.Escapes.{has_percent, is_path_escaped}
-use Rattle.gix_url.specs.Grammar.{path_for, or_root, from_home, retained, requires_path}
+use Rattle.gix_url.specs.Grammar.{path_for, or_root, from_home, retained_spelling, requires_path}
 use Rattle.gix_url.specs.Text.{canonical_path, root_part, plain_path, matching_or, roots_path}
-use Rattle.gix_url.specs.Settled.{HasMatch, IsFairSpelling, IsRawPath, IsTransportPath, first_byte, begins_at_home}
-use Rattle.gix_url.specs.SettledParts.{HasFairSpelling, HasUrlPath, IsRootedOrEmpty, IsWeb}
-use Rattle.gix_url.specs.WrittenPieces.{IsEscapedPiece, WritesPath, as_read}
+use Rattle.gix_url.specs.Settled.{HasMatch, IsFairSpelling, IsRawPath, IsTransportPath, first_byte, begins_at_home, IsWeb}
+use Rattle.gix_url.specs.SettledParts.{HasFairSpelling, HasUrlPath, IsRootedOrEmpty}
+use Rattle.gix_url.proofs.WrittenPieces.{IsEscapedPiece, WritesPath, as_read}
 use Rattle.gix_url.proofs.EscapeLemmas.{decode_kept, decode_encode_utf8, encode_byte_kept, encode_sound, sound_free, sound_kept, utf8-append, utf8_byte, utf8_encode, white_space-append, white_space_byte}
 use Rattle.gix_url.proofs.EscapeSets.{path_holds, white_space_path}
 
@@ -98,11 +97,11 @@ retained_again_by true path plain t holds w = matched t path plain w.decoded
 retained_again_by false path plain t lacks w = sym (w.unescaped lacks)
 
 -- the retained spelling of a writing is fair
-retained_fair : (path plain t : List ℕ) → IsWriting path plain t → IsFair (retained t) path
+retained_fair : (path plain t : List ℕ) → IsWriting path plain t → IsFair (retained_spelling t) path
 retained_fair path plain t w = retained_fair_by (has_percent t) path plain t refl w
 
 -- a writing is written again by its retained spelling
-retained_again : (path plain t : List ℕ) → IsWriting path plain t → matching_or (retained t) path plain ≡ t
+retained_again : (path plain t : List ℕ) → IsWriting path plain t → matching_or (retained_spelling t) path plain ≡ t
 retained_again path plain t w = retained_again_by (has_percent t) path plain t refl w
 
 -- ---- fronts
@@ -151,7 +150,7 @@ plainly_written web v p fair =
       decoded = subst IsUtf8 (sym w.decoded) p.text;
       meant = ap (path_for v.scheme) w.decoded ∙ p.meant;
       present = λ needed. some_alike t v.path w.front (p.present needed);
-      again = ap (λ r. r ++ matching_or (retained t) v.path plain) p.root ∙ retained_again v.path plain t w;
+      again = ap (λ r. r ++ matching_or (retained_spelling t) v.path plain) p.root ∙ retained_again v.path plain t w;
       fair = retained_fair v.path plain t w;
     }
 
@@ -244,7 +243,7 @@ raw_by false path t lacks w none =
     (sym (ap has_percent same) ∙ lacks, subst LacksWhiteSpace same w.escaped.no_white_space)
 
 -- the path is raw where the retained spelling of its writing doesn't match it
-raw_again : (path t : List ℕ) → IsWriting path path t → ¬ Matches (retained t) path → (has_percent path ≡ false) × LacksWhiteSpace path
+raw_again : (path t : List ℕ) → IsWriting path path t → ¬ Matches (retained_spelling t) path → (has_percent path ≡ false) × LacksWhiteSpace path
 raw_again path t w none = raw_by (has_percent t) path t refl w none
 
 -- what is needed of a path that is written raw, or as one of its spellings
@@ -366,8 +365,8 @@ home_whole v facts h =
     ap (λ p. root_part v ++ p) (unmatched v.spelling v.path (plain_path v.scheme v.path) h.none) ∙ home_unspelled v facts h
 
 -- no spelling is retained of it
-home_none : (v : Location) → HasHomes v.scheme → IsRawHome v → retained (canonical_path v) ≡ None
-home_none v facts h = ap retained (home_whole v facts h) ∙ cond-false _ _ _ h.raw.0
+home_none : (v : Location) → HasHomes v.scheme → IsRawHome v → retained_spelling (canonical_path v) ≡ None
+home_none v facts h = ap retained_spelling (home_whole v facts h) ∙ cond-false _ _ _ h.raw.0
 
 -- it means the path, and is written the same again
 home_written : (v : Location) → HasHomes v.scheme → IsRawHome v → WritesPath false v

@@ -331,11 +331,8 @@ addressed_no_mark user h path u a p =
 -- the shape of the text with a user
 addressed_shape : (user h path : List ℕ) → IsScpUser user → IsNormalAddress h → IsScpPath path → AddressedShape (addressed_text user h path) user h path
 addressed_shape user h path u a p = record {
-  joined = refl;
+  cut = record { joined = refl; no_slash = u.no_slash; no_colon = u.no_colon; addressed = a.address };
   neither = record { no_helper = addressed_no_helper user h path u a; no_mark = addressed_no_mark user h path u a p };
-  no_slash = u.no_slash;
-  no_colon = u.no_colon;
-  addressed = a.address;
 }
 
 -- that text spells the location

@@ -6,8 +6,7 @@ use Rattle.std.proofs.lemmas.Bool.Decides.{nat_tests}
 use Rattle.gix_url.proofs.CutLemmas.{scheme_text_free, lacks_weaker}
 use Rattle.gix_url.specs.Value.{Protocol, Location}
 use Rattle.gix_url.specs.Value.Protocol.{ext}
-use Rattle.gix_url.specs.Bytes.{colon, at_sign, is_scheme_text}
-use Rattle.gix_url.specs.Cuts.{is_path_start}
+use Rattle.gix_url.specs.Bytes.{colon, at_sign, is_scheme_text, is_path_start}
 use Rattle.gix_url.specs.Hosts.{Mode}
 use Rattle.gix_url.specs.Schemes.{is_web_scheme, protocol_of, protocol_text, mode_of, requires_host}
 use Rattle.gix_url.specs.Authority.{Authority, FitsText}
@@ -19,7 +18,7 @@ use Rattle.gix_url.specs.SettledParts.{HasFairSpelling, IsHosted, IsWrittenAsUrl
 use Rattle.std.proofs.lemmas.Option.{IfSome_then}
 use Rattle.gix_url.specs.Hosts.Names.{nothing}
 use Rattle.gix_url.specs.Laws.{ComesBack}
-use Rattle.gix_url.specs.WrittenPieces.{IsEscapedPiece, IsAuthorityPiece, WritesInformation, host_and_port, WritesHost, as_read, WritesPath}
+use Rattle.gix_url.proofs.WrittenPieces.{IsEscapedPiece, IsAuthorityPiece, WritesInformation, host_and_port, WritesHost, as_read, WritesPath}
 use Rattle.gix_url.proofs.WrittenUserLemmas.{information_written}
 use Rattle.gix_url.proofs.PieceTextLemmas.{joined_escaped, joined_pieces, escaped_piece, authority_piece, scheme_piece}
 use Rattle.gix_url.proofs.UrlLocationLemmas.{spelled_url}

@@ -7,7 +7,7 @@ use Rattle.gix_url.specs.declared.escape.TheConstants.{PASSWORD, USER}
 use Rattle.gix_url.specs.Bytes.{colon, at_sign}
 use Rattle.gix_url.specs.Authority.{unless_empty}
 use Rattle.gix_url.specs.Authority.Credentials.{user_alone, with_password}
-use Rattle.gix_url.specs.WrittenPieces.{WritesInformation}
+use Rattle.gix_url.proofs.WrittenPieces.{WritesInformation}
 use Rattle.gix_url.proofs.PieceTextLemmas.{joined_hosts, host_piece, user_piece, password_piece, user_no_colon, user_decoded, password_decoded}
 
 -- a text that is not empty stands for itself

@@ -12,10 +12,9 @@ use Rattle.gix_url.specs.Addresses.Literal.{address, zoned}
 use Rattle.gix_url.specs.Hosts.{Number, Names, IsPlainHost, HostText, is_http_host_byte}
 use Rattle.gix_url.specs.Hosts.Mode.{strict}
 use Rattle.gix_url.specs.Text.{has_colon, open_host, needs_brackets, wants_brackets, port_part}
-use Rattle.gix_url.specs.Settled.{IsWebName, IsWebHost}
+use Rattle.gix_url.specs.Settled.{IsWebName, IsWebHost, IsWeb}
 use Rattle.gix_url.specs.Settled.IsWebHost.{literal, literal_colon, named, named_colon}
-use Rattle.gix_url.specs.SettledParts.{IsWeb}
-use Rattle.gix_url.specs.WrittenPieces.{IsAuthorityPiece, WritesHost, host_and_port}
+use Rattle.gix_url.proofs.WrittenPieces.{IsAuthorityPiece, WritesHost, host_and_port}
 use Rattle.gix_url.proofs.CutLemmas.{all_weaker, free-append, free_begins, free_of_all}
 use Rattle.gix_url.proofs.AddressLemmas.{address_free}
 use Rattle.gix_url.proofs.HostLemmas.{number_written}

@@ -1,9 +1,9 @@
 -- A test for IPv6 texts that computes: the definition of `Addresses`, with each "some" as a search.
 use Rattle.std.specs.Prelude.{ℕ, zero, suc, ◌-◌, Bool, true, false, not, ◌&&◌, ◌||◌, ◌==◌, nat_lt, nat_le, List, [], ◌∷◌, length}
 use Rattle.std.specs.List.{list_all}
-use Rattle.std.specs.Char.{is_ascii_digit, is_ascii_hexdigit}
+use Rattle.std.specs.Char.{is_ascii_digit}
 use Rattle.std.specs.Str.Parse.{digits_value}
-use Rattle.gix_url.specs.Bytes.{dot, colon, begins_with}
+use Rattle.gix_url.specs.Bytes.{dot, digit_zero, colon, begins_with, is_hexadecimal}
 
 -- whether the text is some texts before and behind the byte that pass the two tests; the names let what isn't needed wait
 abbrev pub any_cut : ℕ → (List ℕ → Bool) → (List ℕ → Bool) → List ℕ → Bool
@@ -31,12 +31,12 @@ is_empty_text (b ∷ bs) = false
 
 -- whether the text is a group
 abbrev pub is_group : List ℕ → Bool
-is_group g = nat_lt 0 (length g) && (nat_le (length g) 4 && list_all is_ascii_hexdigit g)
+is_group g = nat_lt 0 (length g) && (nat_le (length g) 4 && list_all is_hexadecimal g)
 
 -- whether the text is a number from 0 to 255 in decimal, without leading zeros
 abbrev pub is_octet : List ℕ → Bool
 is_octet t =
-    nat_lt 0 (length t) && (list_all is_ascii_digit t && ((length t == 1 || not (begins_with 48 t)) && nat_le (digits_value 10 t) 255))
+    nat_lt 0 (length t) && (list_all is_ascii_digit t && ((length t == 1 || not (begins_with digit_zero t)) && nat_le (digits_value 10 t) 255))
 
 -- whether the text is an IPv4 text
 abbrev pub is_ipv4_text : List ℕ → Bool

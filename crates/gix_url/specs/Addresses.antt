@@ -1,14 +1,14 @@
 -- IPv6 texts, as RFC 4291 section 2.2 writes them, and the literals of RFC 6874.
 use Rattle.std.specs.Prelude.{◌≡◌, ℕ, ◌+◌, ◌<◌, ◌≤◌, Bool, true, false, ◌||◌, ◌==◌, ◌⊎◌, List, [], ◌∷◌, ◌++◌, length, decimal, codes, IsUtf8}
-use Rattle.std.specs.List.{list_all}
-use Rattle.std.specs.Char.{is_ascii_alphanumeric, is_ascii_hexdigit}
+use Rattle.std.specs.List.{list_all, join_with_byte}
+use Rattle.std.specs.Char.{is_ascii_alphanumeric}
 use Rattle.percent_encoding.specs.Percent.{percent_decode}
-use Rattle.gix_url.specs.Bytes.{percent_sign, hyphen, dot, colon, tilde, lowercase}
+use Rattle.gix_url.specs.Bytes.{percent_sign, hyphen, dot, colon, underscore, tilde, lowercase, is_hexadecimal}
 use Rattle.gix_url.specs.Escapes.{is_sound}
 
 -- a group: one to four hexadecimal digits
 abbrev pub IsGroup : List ℕ → Type 0
-IsGroup g = (0 < length g) × (length g ≤ 4) × (list_all is_ascii_hexdigit g ≡ true)
+IsGroup g = (0 < length g) × (length g ≤ 4) × (list_all is_hexadecimal g ≡ true)
 
 -- a number from 0 to 255 in decimal, without leading zeros
 abbrev pub IsOctet : List ℕ → Type 0
@@ -23,12 +23,6 @@ pub record IsIpv4Text (t : List ℕ) : Type 0 where
   pub octets : IsOctet first × IsOctet second × IsOctet third × IsOctet fourth
   pub joined : t ≡ first ++ dot ∷ (second ++ dot ∷ (third ++ dot ∷ fourth))
 
--- texts joined by a byte
-abbrev pub joined_by : ℕ → List (List ℕ) → List ℕ
-joined_by c [] = []
-joined_by c (t ∷ []) = t
-joined_by c (t ∷ u ∷ us) = t ++ c ∷ joined_by c (u ∷ us)
-
 -- the items count for this many groups: each is a group, but that the last may be an IPv4 text, which
 -- counts for two, where that is allowed
 abbrev pub AreItems : Bool → List (List ℕ) → ℕ → Type 0
@@ -40,7 +34,7 @@ AreItems ending (t ∷ u ∷ us) n = IsGroup t × (m : ℕ) × AreItems ending (
 pub record IsFullAddress (t : List ℕ) : Type 0 where
   pub items : List (List ℕ)
   pub eight : AreItems true items 8
-  pub joined : t ≡ joined_by colon items
+  pub joined : t ≡ join_with_byte colon items
 
 -- two lists of groups around one `::`, which stands for at least one group
 pub record IsShortAddress (t : List ℕ) : Type 0 where
@@ -51,7 +45,7 @@ pub record IsShortAddress (t : List ℕ) : Type 0 where
   pub front_items : AreItems false front front_count
   pub back_items : AreItems true back back_count
   pub short : front_count + back_count ≤ 7
-  pub joined : t ≡ joined_by colon front ++ colon ∷ (colon ∷ joined_by colon back)
+  pub joined : t ≡ join_with_byte colon front ++ colon ∷ (colon ∷ join_with_byte colon back)
 
 -- an IPv6 text
 abbrev pub IsIpv6Text : List ℕ → Type 0
@@ -59,7 +53,7 @@ IsIpv6Text t = IsFullAddress t ⊎ IsShortAddress t
 
 -- a byte of a zone: a letter, a digit, `-`, `.`, `_`, `~`, or the `%` of an escape
 abbrev pub is_zone_byte : ℕ → Bool
-is_zone_byte b = is_ascii_alphanumeric b || (b == hyphen || (b == dot || (b == 95 || (b == tilde || b == percent_sign))))
+is_zone_byte b = is_ascii_alphanumeric b || (b == hyphen || (b == dot || (b == underscore || (b == tilde || b == percent_sign))))
 
 -- a zone
 pub record IsZone (z : List ℕ) : Type 0 where

@@ -10,7 +10,7 @@ use Rattle.gix_url.specs.declared.error.Error.TheVariants as error
 use Rattle.gix_url.specs.declared.lines.RunError.{RunError}
 use Rattle.gix_url.specs.declared.lines.RunError.TheVariants as run
 use Rattle.gix_url.specs.Value.{Location}
-use Rattle.gix_url.specs.Bytes.{newline, FreeOf}
+use Rattle.gix_url.specs.Bytes.{tab, newline, FreeOf}
 use Rattle.gix_url.specs.Schemes.{protocol_text}
 use Rattle.gix_url.specs.Grammar.{Spells}
 use Rattle.gix_url.specs.Text.{text}
@@ -18,8 +18,8 @@ use Rattle.gix_url.specs.Settled.{IsSettled}
 use Rattle.gix_url.specs.Flaws.{Flaw}
 
 -- lines, each with the line end behind it
-abbrev pub ended : List (List ℕ) → List ℕ
-ended lines = flat_map (λ line. line ++ newline ∷ []) lines
+abbrev pub ended_lines : List (List ℕ) → List ℕ
+ended_lines lines = flat_map (λ line. line ++ newline ∷ []) lines
 
 -- a last line without a line end counts where it isn't empty
 abbrev pub last_line : List ℕ → List (List ℕ)
@@ -32,7 +32,7 @@ pub record SplitsLines (b : List ℕ) (lines : List (List ℕ)) : Type 0 where
   pub last : List ℕ
   pub each : All (FreeOf newline) full
   pub open_ended : FreeOf newline last
-  pub joined : b ≡ ended full ++ last
+  pub joined : b ≡ ended_lines full ++ last
   pub counted : lines ≡ full ++ last_line last
 
 -- the name of a fault
@@ -61,23 +61,23 @@ IsRefusal (error.BadUrl kind named input) = Unit {0}
 IsRefusal _ = ⊥
 
 -- a word and what it is said of, on a line
-abbrev pub told : List ℕ → List ℕ → List ℕ
-told word of_what = word ++ (9 ∷ (of_what ++ newline ∷ []))
+abbrev pub told_line : List ℕ → List ℕ → List ℕ
+told_line word of_what = word ++ (tab ∷ (of_what ++ newline ∷ []))
 
 -- the answer to a line, and whether the line is settled
 pub data IsAnswer (line answer : List ℕ) (good : Bool) : Type 0 where
   -- a settled location: its text
   settled : (v : Location) (t : List ℕ) → Spells line v → text v ≡ Ok t → IsSettled v
-      → answer ≡ told (codes "settled") t → good ≡ true → IsAnswer line answer good
+      → answer ≡ told_line (codes "settled") t → good ≡ true → IsAnswer line answer good
   -- another that has a text: its scheme
   unsettled : (v : Location) (t : List ℕ) → Spells line v → text v ≡ Ok t → ¬ IsSettled v
-      → answer ≡ told (codes "unsettled") (protocol_text v.scheme) → good ≡ false → IsAnswer line answer good
+      → answer ≡ told_line (codes "unsettled") (protocol_text v.scheme) → good ≡ false → IsAnswer line answer good
   -- a location without a text: its scheme
   unwritable : (v : Location) (f : WriteFault) → Spells line v → text v ≡ Err f
-      → answer ≡ told (codes "unwritable") (protocol_text v.scheme) → good ≡ false → IsAnswer line answer good
+      → answer ≡ told_line (codes "unwritable") (protocol_text v.scheme) → good ≡ false → IsAnswer line answer good
   -- a text that spells no location: an error whose flaw stands in it
   refused : (e : Error) → IsRefusal e → ((v : Location) → ¬ Spells line v) → Flaw line e
-      → answer ≡ told (codes "refused") (refusal e) → good ≡ false → IsAnswer line answer good
+      → answer ≡ told_line (codes "refused") (refusal e) → good ≡ false → IsAnswer line answer good
 
 -- the answers to lines, in order, and whether each line is settled
 abbrev pub AnswersEach : List (List ℕ) → List ℕ → Bool → Type 0
@@ -114,7 +114,7 @@ NamesRefusal e (Some name) = IsRefusal e × (name.now ≡ refusal e)
 
 -- the call appended the answer to a line that is refused with this error
 abbrev pub TellsRefusal : Error → List ℕ → List ℕ → Result Bool RunError → Type 0
-TellsRefusal e old new (Ok good) = IsRefusal e × (good ≡ false) × (new ≡ old ++ told (codes "refused") (refusal e))
+TellsRefusal e old new (Ok good) = IsRefusal e × (good ≡ false) × (new ≡ old ++ told_line (codes "refused") (refusal e))
 TellsRefusal e old new (Err fault) = Unit {0}
 
 -- what the program says of a fault

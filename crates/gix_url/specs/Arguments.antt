@@ -1,7 +1,5 @@
 -- What may be handed to a command as an argument: a part that can't be taken for one of the command's options.
 use Rattle.std.specs.Prelude.{◌≡◌, ℕ, Bool, false, not, ◌&&◌, ◌==◌, List, [], ◌∷◌, Option, Some, None, if◌then◌else◌}
-use Rattle.gix_url.specs.declared.argument.ArgumentSafety.{ArgumentSafety}
-use Rattle.gix_url.specs.declared.argument.ArgumentSafety.TheVariants.{Absent, Usable, Dangerous}
 use Rattle.gix_url.specs.Bytes.{hyphen, slash, begins_with}
 
 -- what a part is to a command line: there is none, it may be handed over, or it may be taken for an option
@@ -9,12 +7,6 @@ pub data Judgement : Type 0 where
   absent : Judgement
   usable : List ℕ → Judgement
   dangerous : List ℕ → Judgement
-
--- the judgement that an answer of the code stands for
-abbrev pub judgement : ArgumentSafety → Judgement
-judgement Absent = absent
-judgement (Usable text) = usable text.now
-judgement (Dangerous text) = dangerous text.now
 
 -- a text that begins with `-` may be taken for an option
 abbrev pub is_option_like : List ℕ → Bool

@@ -3,8 +3,7 @@ use Rattle.std.specs.Prelude.{◌≡◌, ℕ, ◌≤◌, Bool, true, false, not,
 use Rattle.std.specs.List.{list_all}
 use Rattle.std.specs.Char.{is_ascii_whitespace}
 use Rattle.percent_encoding.specs.Percent.{percent_decode}
-use Rattle.gix_url.specs.Bytes.{slash, colon, at_sign, backslash, Lacks, FreeOf, begins_by}
-use Rattle.gix_url.specs.Cuts.{is_path_start, StartsPath}
+use Rattle.gix_url.specs.Bytes.{slash, colon, at_sign, backslash, Lacks, FreeOf, begins_by, is_path_start, StartsPath}
 use Rattle.gix_url.specs.Hosts.{Mode, Names}
 use Rattle.gix_url.specs.Schemes.{is_web_scheme}
 

@@ -1,13 +1,11 @@
 -- Rows: each class of bytes, and each set of escaped ones, over all 256 bytes, with its members written out in order.
 use Rattle.std.specs.Prelude.{◌≡◌, ℕ, Bool, true, false, nat_lt, List, [], ◌∷◌, ◌++◌, filter, length, codes}
 use Rattle.std.specs.List.{range_with_len}
-use Rattle.std.specs.Char.{is_ascii_alphabetic, is_ascii_alphanumeric, is_ascii_digit, is_ascii_hexdigit, is_ascii_whitespace, is_digit, is_whitespace}
+use Rattle.std.specs.Char.{is_ascii_alphabetic, is_ascii_alphanumeric, is_ascii_digit, is_ascii_whitespace, is_whitespace}
 use Rattle.percent_encoding.specs.declared.ascii_set.AsciiSet.{AsciiSet}
 use Rattle.percent_encoding.specs.Percent.{percent_encode}
-use Rattle.gix_url.specs.declared.escape.TheConstants.{PATH, PASSWORD, USER}
-use Rattle.gix_url.specs.Bytes.{lowercase, is_scheme_mark, is_name_byte, is_scheme_text, is_helper_name}
-use Rattle.gix_url.specs.Cuts.{is_path_start}
-use Rattle.gix_url.specs.Escapes.{is_path_escaped, is_password_escaped, is_user_escaped}
+use Rattle.gix_url.specs.Bytes.{lowercase, is_hexadecimal, is_scheme_mark, is_name_byte, is_scheme_text, is_helper_name, is_path_start}
+use Rattle.gix_url.specs.Escapes.{path_set, password_set, user_set, is_path_escaped, is_password_escaped, is_user_escaped}
 use Rattle.gix_url.specs.Addresses.{is_zone_byte}
 use Rattle.gix_url.specs.Hosts.{is_dns_byte, is_http_host_byte}
 use Rattle.gix_url.specs.Authority.{is_any_slash}
@@ -29,8 +27,7 @@ NameByteRows =
     (members is_ascii_digit ≡ codes "0123456789")
     × (members is_ascii_alphabetic ≡ codes "ABCDEFGHIJKLMNOPQRSTUVWXYZabcdefghijklmnopqrstuvwxyz")
     × (members is_ascii_alphanumeric ≡ codes "0123456789ABCDEFGHIJKLMNOPQRSTUVWXYZabcdefghijklmnopqrstuvwxyz")
-    × (members is_ascii_hexdigit ≡ codes "0123456789ABCDEFabcdef")
-    × (members (λ b. is_digit b 16) ≡ codes "0123456789ABCDEFabcdef")
+    × (members is_hexadecimal ≡ codes "0123456789ABCDEFabcdef")
     × (members is_scheme_mark ≡ codes "+-.")
     × (members is_name_byte ≡ codes "+-.0123456789ABCDEFGHIJKLMNOPQRSTUVWXYZabcdefghijklmnopqrstuvwxyz")
     × (members (λ b. is_scheme_text (b ∷ [])) ≡ codes "ABCDEFGHIJKLMNOPQRSTUVWXYZabcdefghijklmnopqrstuvwxyz")
@@ -68,9 +65,9 @@ EscapedByteRows =
     × (members is_password_escaped ≡ range_with_len 0 32 ++ (codes " \"#%/<>?@[\\]^`{|}" ++ 127 ∷ []))
     × (members is_user_escaped ≡ range_with_len 0 32 ++ (codes " \"#%/:<>?@[\\]^`{|}" ++ 127 ∷ []))
 
--- the bytes that the code's sets escape: those, and every byte past ASCII
+-- the bytes that the sets escape: those, and every byte past ASCII
 abbrev pub EscapeSetRows : Type 0
 EscapeSetRows =
-    (escaped_members PATH ≡ range_with_len 0 32 ++ (codes " \"%<>`{}" ++ 127 ∷ range_with_len 128 128))
-    × (escaped_members PASSWORD ≡ range_with_len 0 32 ++ (codes " \"#%/<>?@[\\]^`{|}" ++ 127 ∷ range_with_len 128 128))
-    × (escaped_members USER ≡ range_with_len 0 32 ++ (codes " \"#%/:<>?@[\\]^`{|}" ++ 127 ∷ range_with_len 128 128))
+    (escaped_members path_set ≡ range_with_len 0 32 ++ (codes " \"%<>`{}" ++ 127 ∷ range_with_len 128 128))
+    × (escaped_members password_set ≡ range_with_len 0 32 ++ (codes " \"#%/<>?@[\\]^`{|}" ++ 127 ∷ range_with_len 128 128))
+    × (escaped_members user_set ≡ range_with_len 0 32 ++ (codes " \"#%/:<>?@[\\]^`{|}" ++ 127 ∷ range_with_len 128 128))

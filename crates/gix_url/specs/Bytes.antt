@@ -1,19 +1,48 @@
--- Bytes by name, classes of bytes, and what a text is free of.
-use Rattle.std.specs.Prelude.{◌≡◌, ℕ, Bool, false, ◌&&◌, ◌||◌, ◌==◌, List, [], ◌∷◌, ◌++◌, map, chars}
+-- Bytes by name, classes of bytes, what a text is free of, and where a path starts.
+use Rattle.std.specs.Prelude.{◌≡◌, ℕ, Bool, true, false, ◌&&◌, ◌||◌, ◌==◌, ◌⊎◌, List, [], ◌∷◌, ◌++◌, map, chars, encode_utf8_all}
 use Rattle.std.specs.List.{list_any, list_all}
-use Rattle.std.specs.Char.{to_ascii_lowercase, is_ascii_alphabetic, is_ascii_alphanumeric, is_whitespace}
+use Rattle.std.specs.Char.{to_ascii_lowercase, is_ascii_alphabetic, is_ascii_alphanumeric, is_digit, is_whitespace}
+use Rattle.bstr.specs.Utf8.{lossy_chars}
+
+-- `\t`
+abbrev pub tab : ℕ
+tab = 9
 
 -- `\n`
 abbrev pub newline : ℕ
 newline = 10
 
+-- ` `
+abbrev pub space : ℕ
+space = 32
+
+-- `!`
+abbrev pub exclamation_mark : ℕ
+exclamation_mark = 33
+
+-- `"`
+abbrev pub quotation_mark : ℕ
+quotation_mark = 34
+
 -- `#`
 abbrev pub number_sign : ℕ
 number_sign = 35
 
+-- `$`
+abbrev pub dollar_sign : ℕ
+dollar_sign = 36
+
 -- `%`
 abbrev pub percent_sign : ℕ
 percent_sign = 37
+
+-- `&`
+abbrev pub ampersand : ℕ
+ampersand = 38
+
+-- `*`
+abbrev pub asterisk : ℕ
+asterisk = 42
 
 -- `+`
 abbrev pub plus_sign : ℕ
@@ -31,9 +60,29 @@ dot = 46
 abbrev pub slash : ℕ
 slash = 47
 
+-- `0`
+abbrev pub digit_zero : ℕ
+digit_zero = 48
+
 -- `:`
 abbrev pub colon : ℕ
 colon = 58
+
+-- `;`
+abbrev pub semicolon : ℕ
+semicolon = 59
+
+-- `<`
+abbrev pub less_than_sign : ℕ
+less_than_sign = 60
+
+-- `=`
+abbrev pub equals_sign : ℕ
+equals_sign = 61
+
+-- `>`
+abbrev pub greater_than_sign : ℕ
+greater_than_sign = 62
 
 -- `?`
 abbrev pub question_mark : ℕ
@@ -55,9 +104,37 @@ backslash = 92
 abbrev pub right_bracket : ℕ
 right_bracket = 93
 
+-- `^`
+abbrev pub circumflex : ℕ
+circumflex = 94
+
+-- `_`
+abbrev pub underscore : ℕ
+underscore = 95
+
+-- `` ` ``
+abbrev pub grave_accent : ℕ
+grave_accent = 96
+
+-- `{`
+abbrev pub left_brace : ℕ
+left_brace = 123
+
+-- `|`
+abbrev pub vertical_bar : ℕ
+vertical_bar = 124
+
+-- `}`
+abbrev pub right_brace : ℕ
+right_brace = 125
+
 -- `~`
 abbrev pub tilde : ℕ
 tilde = 126
+
+-- the control past `~`
+abbrev pub delete : ℕ
+delete = 127
 
 -- the text holds no byte that passes the test
 abbrev pub Lacks : (ℕ → Bool) → List ℕ → Type 0
@@ -88,9 +165,20 @@ lowercase bs = map to_ascii_lowercase bs
 abbrev pub IsLowercase : List ℕ → Type 0
 IsLowercase bs = lowercase bs ≡ bs
 
--- no character of the text is white space, as Unicode has it
+-- no character of the text is white space, as Unicode has it. A text that isn't UTF-8 has no characters, so this says
+-- nothing of it: who asks it asks for UTF-8 too
 abbrev pub LacksWhiteSpace : List ℕ → Type 0
 LacksWhiteSpace bs = list_any is_whitespace (chars bs) ≡ false
+
+-- the bytes as UTF-8, with U+FFFD in place of what is none
+abbrev pub lossy_text : List ℕ → List ℕ
+lossy_text bs = encode_utf8_all (lossy_chars bs)
+
+-- ---- names
+
+-- a hexadecimal digit, of either case
+abbrev pub is_hexadecimal : ℕ → Bool
+is_hexadecimal b = is_digit b 16
 
 -- `+`, `-` or `.`
 abbrev pub is_scheme_mark : ℕ → Bool
@@ -109,3 +197,13 @@ is_scheme_text (b ∷ bs) = is_ascii_alphabetic b && list_all is_name_byte bs
 abbrev pub is_helper_name : List ℕ → Bool
 is_helper_name [] = false
 is_helper_name (b ∷ bs) = is_ascii_alphanumeric b && list_all is_name_byte bs
+
+-- ---- where a path starts
+
+-- a path may start at the byte: at a `/`, and on the web also at a `?` or a `#`
+abbrev pub is_path_start : Bool → ℕ → Bool
+is_path_start web b = b == slash || (web && (b == question_mark || b == number_sign))
+
+-- the text is empty or starts as a path may
+abbrev pub StartsPath : Bool → List ℕ → Type 0
+StartsPath web p = (p ≡ []) ⊎ (begins_by (is_path_start web) p ≡ true)

@@ -1,11 +1,12 @@
 -- Equality of components: part by part, names and values by their bytes. What is equal is one value.
-use Rattle.std.specs.Prelude.{◌≡◌, ℕ, Bool, true, false, ◌&&◌, List, [], ◌∷◌, Option, Some, None, is_none, unwrap_or, bytes_eq}
+use Rattle.std.specs.Prelude.{◌≡◌, ℕ, Bool, true, false, ◌&&◌, List, [], ◌∷◌, Option, bytes_eq}
 use mathlib.Core.Path.{refl, sym, ap}
 use mathlib.Core.Bool.{true≢false}
 use Rattle.std.specs.Bool.{Decides}
 use Rattle.std.specs.Option.{option_eq}
 use Rattle.std.specs.Cmp.{IsEquivalence, decided, first_so, second_so}
 use Rattle.std.specs.Cmp.Lexicographic.{pointwise, bytes_decides}
+use Rattle.gix_url.specs.OrderLaws.{both_pass, options_decide}
 use Rattle.gix_url.specs.Components.{Components}
 
 -- pairs of a name and a value are equal where both have the same bytes
@@ -25,10 +26,6 @@ abbrev pub components_eq : Components → Components → Bool
 components_eq c d = bytes_eq c.path d.path && (query_eq c.query d.query && fragment_eq c.fragment d.fragment)
 
 -- ---- what is equal is one value
-
--- two tests that pass, pass together
-both_pass : (s t : Bool) → s ≡ true → t ≡ true → (s && t) ≡ true
-both_pass s t p q = λ i. p i && q i
 
 pair_decides : (p q : List ℕ × List ℕ) → Decides (pair_eq p q) (p ≡ q)
 pair_decides p q = (
@@ -68,13 +65,6 @@ lists_decide E d (x ∷ xs) (y ∷ ys) =
           λ i. first i ∷ last i,
       λ e. both_pass (E x y) (pointwise E xs ys) ((d x y).1 (ap (first_or x) e)) (rest.1 (ap others e)),
     )
-
--- what may be missing is equal where both are missing or what is there is equal
-options_decide : {K : Type 0} (E : K → K → Bool) → ((x y : K) → Decides (E x y) (x ≡ y)) → (p q : Option K) → Decides (option_eq E p q) (p ≡ q)
-options_decide E d None None = (λ e. refl, λ e. refl)
-options_decide E d None (Some y) = (λ e. absurd (true≢false (sym e)), λ e. sym (ap is_none e))
-options_decide E d (Some x) None = (λ e. absurd (true≢false (sym e)), λ e. ap is_none e)
-options_decide E d (Some x) (Some y) = (λ e. ap Some ((d x y).0 e), λ e. (d x y).1 (ap (λ p. unwrap_or p x) e))
 
 query_decides : (p q : Option (List (List ℕ × List ℕ))) → Decides (query_eq p q) (p ≡ q)
 query_decides = options_decide (pointwise pair_eq) (lists_decide pair_eq pair_decides)

@@ -7,7 +7,8 @@ use Rattle.gix_url.specs.declared.components.QueryText.{QueryText}
 use Rattle.gix_url.specs.declared.components.QueryText.TheVariants.{Borrowed, Owned}
 use Rattle.gix_url.specs.Bytes.{plus_sign, FreeOf, Holds}
 use Rattle.gix_url.specs.Value.{Location}
-use Rattle.gix_url.specs.Components.{Components, CutsPath, CutsFields, SplitsField, original_path}
+use Rattle.gix_url.specs.Components.{Components, CutsPath, CutsFields, SplitsField}
+use Rattle.gix_url.specs.Text.{original_path}
 
 -- the bytes of a name or a value
 abbrev pub text_bytes : QueryText → List ℕ

@@ -1,39 +1,19 @@
 -- What the path of a location is made of: on the web a path, a query and a fragment.
-use Rattle.std.specs.Prelude.{◌≡◌, ℕ, Bool, false, ◌==◌, List, [], ◌∷◌, ◌++◌, map, bytes_eq, All, Option, Some, None, option_map, if◌then◌else◌}
+use Rattle.std.specs.Prelude.{◌≡◌, ℕ, ◌==◌, List, [], ◌∷◌, ◌++◌, map, All, Option, Some, None, option_map, if◌then◌else◌}
+use Rattle.std.specs.List.{join_with_byte}
 use Rattle.percent_encoding.specs.Percent.{percent_decode}
 use Rattle.gix_url.specs.Value.{Protocol, Location}
 use Rattle.gix_url.specs.Value.Protocol.{file, git, ssh, http, https, ext, helper, helper_url}
-use Rattle.gix_url.specs.Bytes.{number_sign, plus_sign, question_mark, FreeOf}
-use Rattle.gix_url.specs.Addresses.{joined_by}
+use Rattle.gix_url.specs.Bytes.{space, number_sign, ampersand, plus_sign, equals_sign, question_mark, FreeOf}
+use Rattle.gix_url.specs.Escapes.{matches}
 use Rattle.gix_url.specs.Grammar.{or_root}
-use Rattle.gix_url.specs.Text.{matching_or}
-
--- ` `
-abbrev pub space : ℕ
-space = 32
-
--- `&`
-abbrev pub ampersand : ℕ
-ampersand = 38
-
--- `=`
-abbrev pub equals_sign : ℕ
-equals_sign = 61
+use Rattle.gix_url.specs.Text.{original_path}
 
 -- a path, the names and values of a query, and a fragment, as they are meant
 pub record Components : Type 0 where
   pub path : List ℕ
   pub query : Option (List (List ℕ × List ℕ))
   pub fragment : Option (List ℕ)
-
--- the spelling of the path where it matches, and else the path
-abbrev pub original_path : Location → List ℕ
-original_path v = matching_or v.spelling v.path v.path
-
--- whether a retained spelling decodes to the path
-abbrev pub matches : Option (List ℕ) → List ℕ → Bool
-matches None path = false
-matches (Some spelling) path = bytes_eq (percent_decode spelling) path
 
 -- what a piece of the original path stands for: its decoding, where that is a spelling, and else itself
 abbrev pub stands_for : Location → List ℕ → List ℕ
@@ -58,7 +38,7 @@ pub data CutsPath (text front : List ℕ) (query fragment : Option (List ℕ)) :
 -- the text is fields free of `&`, joined by `&`
 pub record CutsFields (text : List ℕ) (fields : List (List ℕ)) : Type 0 where
   pub each : All (FreeOf ampersand) fields
-  pub joined : text ≡ joined_by ampersand fields
+  pub joined : text ≡ join_with_byte ampersand fields
 
 -- a field is a name, or a name, `=` and a value
 pub data SplitsField (field name value : List ℕ) : Type 0 where

@@ -1,7 +1,7 @@
 -- What the cuts of a text answer: the pieces joined are the text, and one of them is free of what was searched for.
-use Rattle.std.specs.Prelude.{◌≡◌, ℕ, Bool, true, false, ◌&&◌, ◌||◌, ◌==◌, ◌⊎◌, List, [], ◌∷◌, ◌++◌, Option, MatchOption, codes}
+use Rattle.std.specs.Prelude.{◌≡◌, ℕ, false, List, [], ◌∷◌, ◌++◌, Option, MatchOption, codes}
 use Rattle.std.specs.Borrow.{Bor}
-use Rattle.gix_url.specs.Bytes.{slash, question_mark, number_sign, FreeOf, Holds, begins_by, begins_with}
+use Rattle.gix_url.specs.Bytes.{FreeOf, Holds, begins_with}
 
 -- the mark behind the scheme of a URL
 abbrev pub url_mark : List ℕ
@@ -26,11 +26,3 @@ StripsFirst c b r = MatchOption r (begins_with c b ≡ false) (λ rest. b ≡ c 
 -- what stands before a last c, or none where the last byte is no c
 abbrev pub StripsLast : ℕ → List ℕ → Option (Bor (List ℕ)) → Type 0
 StripsLast c b r = MatchOption r ((front : List ℕ) → ¬ (b ≡ front ++ c ∷ [])) (λ front. b ≡ front.now ++ c ∷ [])
-
--- a path may start at the byte: at a `/`, and on the web also at a `?` or a `#`
-abbrev pub is_path_start : Bool → ℕ → Bool
-is_path_start web b = b == slash || (web && (b == question_mark || b == number_sign))
-
--- the text is empty or starts as a path may
-abbrev pub StartsPath : Bool → List ℕ → Type 0
-StartsPath web p = (p ≡ []) ⊎ (begins_by (is_path_start web) p ≡ true)

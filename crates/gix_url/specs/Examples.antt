@@ -2,6 +2,7 @@
 use Rattle.std.specs.Prelude.{ℕ, true, false, List, [], ◌∷◌, replicate, codes, Option, Some}
 use Rattle.gix_url.specs.Value.{Protocol, Location, path_alone}
 use Rattle.gix_url.specs.Value.Protocol.{ssh, https}
+use Rattle.gix_url.specs.Bytes.{slash}
 
 -- `ö` in UTF-8
 abbrev pub o_umlaut : List ℕ
@@ -9,7 +10,7 @@ o_umlaut = 195 ∷ 182 ∷ []
 
 -- the bytes of `/` and of no character
 abbrev pub no_text : List ℕ
-no_text = 47 ∷ 255 ∷ []
+no_text = slash ∷ 255 ∷ []
 
 -- the byte `a`, so often
 abbrev pub letters : ℕ → List ℕ

@@ -8,14 +8,13 @@ use Rattle.gix_url.specs.declared.error.UrlFault.{UrlFault}
 use Rattle.gix_url.specs.declared.error.UrlFault.TheVariants as fault
 use Rattle.gix_url.specs.declared.error.Error.{Error}
 use Rattle.gix_url.specs.declared.error.Error.TheVariants as error
-use Rattle.gix_url.specs.Bytes.{slash, colon, at_sign, left_bracket, backslash, right_bracket, Lacks, FreeOf, begins_with, Holds, LacksWhiteSpace, is_scheme_text}
-use Rattle.gix_url.specs.Cuts.{is_path_start, StartsPath}
+use Rattle.gix_url.specs.Bytes.{slash, colon, at_sign, left_bracket, backslash, right_bracket, Lacks, FreeOf, begins_with, Holds, LacksWhiteSpace, is_scheme_text, is_path_start, StartsPath}
 use Rattle.gix_url.specs.Escapes.{is_sound, escaped_percents}
 use Rattle.gix_url.specs.Hosts.{Mode, HostText, Inner, Number, ReadsAddress, IsManyColoned, IsPlainHost}
 use Rattle.gix_url.specs.Hosts.Mode.{strict, bare}
 use Rattle.gix_url.specs.Schemes.{is_web_scheme, protocol_of, mode_of, requires_host}
 use Rattle.gix_url.specs.Authority.{Fits}
-use Rattle.gix_url.specs.Grammar.{HasHelperForm, ScpShape, AddressedShape, IsScpShaped, ScpUser, requires_path}
+use Rattle.gix_url.specs.Grammar.{HasHelperForm, ScpShape, AddressedShape, IsAddressed, IsScpShaped, ScpUser, requires_path}
 
 -- ---- hosts and ports
 
@@ -144,7 +143,7 @@ pub data ScpHostFlaw (host : List ℕ) : UrlFault → Type 0 where
 
 -- what is wrong with the scp form, where it isn't `user@[address]:path`
 pub record ScpFlaw (b : List ℕ) (named : UrlFault) : Type 0 where
-  pub not_addressed : (user address path : List ℕ) → ¬ AddressedShape b user address path
+  pub not_addressed : ¬ IsAddressed b
   pub front : List ℕ
   pub path : List ℕ
   pub user : Option (List ℕ)

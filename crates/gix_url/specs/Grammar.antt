@@ -3,8 +3,7 @@ use Rattle.std.specs.Prelude.{◌≡◌, ℕ, ◌<◌, Bool, true, false, ◌&&�
 use Rattle.percent_encoding.specs.Percent.{percent_decode}
 use Rattle.gix_url.specs.Value.{Protocol, Location, path_alone}
 use Rattle.gix_url.specs.Value.Protocol.{file, git, ssh, http, https, ext, helper, helper_url}
-use Rattle.gix_url.specs.Bytes.{slash, colon, at_sign, left_bracket, backslash, right_bracket, tilde, Lacks, FreeOf, begins_with, Holds, lowercase, LacksWhiteSpace, is_scheme_text, is_helper_name}
-use Rattle.gix_url.specs.Cuts.{is_path_start, StartsPath}
+use Rattle.gix_url.specs.Bytes.{slash, colon, at_sign, left_bracket, backslash, right_bracket, tilde, Lacks, FreeOf, begins_with, Holds, lowercase, LacksWhiteSpace, is_scheme_text, is_helper_name, is_path_start, StartsPath}
 use Rattle.gix_url.specs.Escapes.{is_sound, has_percent, escaped_percents}
 use Rattle.gix_url.specs.Addresses.{IsIpv6Text}
 use Rattle.gix_url.specs.Hosts.{Names}
@@ -15,13 +14,13 @@ use Rattle.gix_url.specs.Authority.{unless_empty, Authority, Fits}
 -- ---- remote helpers (gitremote-helpers)
 
 -- the text is a helper's name, `::` and an address
-pub record HelperParts (b name address : List ℕ) : Type 0 where
+pub record HelperCut (b name address : List ℕ) : Type 0 where
   pub named : is_helper_name name ≡ true
   pub joined : b ≡ name ++ colon ∷ (colon ∷ address)
 
 -- the text has the form of a remote helper
 abbrev pub HasHelperForm : List ℕ → Type 0
-HasHelperForm b = (name : List ℕ) × (address : List ℕ) × HelperParts b name address
+HasHelperForm b = (name : List ℕ) × (address : List ℕ) × HelperCut b name address
 
 -- the protocol of a helper, by its name
 abbrev pub helper_protocol : List ℕ → Protocol
@@ -31,7 +30,7 @@ helper_protocol name = if bytes_eq name (codes "ext") then ext else helper name
 pub record SpellsHelper (b : List ℕ) (v : Location) : Type 0 where
   pub name : List ℕ
   pub address : List ℕ
-  pub parts : HelperParts b name address
+  pub parts : HelperCut b name address
   pub value : v ≡ path_alone (helper_protocol name) true address
 
 -- ---- URLs (RFC 3986)
@@ -122,8 +121,8 @@ requires_path (helper name) = false
 requires_path (helper_url name) = false
 
 -- the spelling of a path is retained where it holds an escape
-abbrev pub retained : List ℕ → Option (List ℕ)
-retained path = if has_percent path then Some path else None
+abbrev pub retained_spelling : List ℕ → Option (List ℕ)
+retained_spelling path = if has_percent path then Some path else None
 
 -- the location that the parts of a URL stand for, by its protocol
 pub record MeansByProtocol (protocol : Protocol) (parts : UrlParts) (v : Location) : Type 0 where
@@ -138,7 +137,7 @@ pub record MeansByProtocol (protocol : Protocol) (parts : UrlParts) (v : Locatio
     flag = false;
     port = parts.port;
     path = path_for protocol (percent_decode parts.path);
-    spelling = retained parts.path;
+    spelling = retained_spelling parts.path;
   }
 
 -- the location that a URL with these parts stands for: `ext` keeps its whole text as the path
@@ -188,17 +187,25 @@ pub record ScpShape (b front path : List ℕ) : Type 0 where
   pub no_slash : FreeOf slash front
   pub shape : ScpFront b front
 
--- the text has the shape `user@[address]:path`
-pub record AddressedShape (b user address path : List ℕ) : Type 0 where
+-- the text is `user@[address]:path`, with these pieces
+pub record AddressedCut (b user address path : List ℕ) : Type 0 where
   pub joined : b ≡ user ++ at_sign ∷ (left_bracket ∷ (address ++ right_bracket ∷ (colon ∷ path)))
-  pub neither : IsNeither b
   pub no_slash : FreeOf slash user
   pub no_colon : FreeOf colon user
   pub addressed : IsIpv6Text address
 
+-- the text has that shape: it is neither a remote helper nor a URL
+pub record AddressedShape (b user address path : List ℕ) : Type 0 where
+  pub cut : AddressedCut b user address path
+  pub neither : IsNeither b
+
+-- the text has the shape `user@[address]:path`
+abbrev pub IsAddressed : List ℕ → Type 0
+IsAddressed b = (user : List ℕ) × (address : List ℕ) × (path : List ℕ) × AddressedShape b user address path
+
 -- the text has a shape of the scp form
 abbrev pub IsScpShaped : List ℕ → Type 0
-IsScpShaped b = ((front : List ℕ) × (path : List ℕ) × ScpShape b front path) ⊎ ((user : List ℕ) × (address : List ℕ) × (path : List ℕ) × AddressedShape b user address path)
+IsScpShaped b = ((front : List ℕ) × (path : List ℕ) × ScpShape b front path) ⊎ IsAddressed b
 
 -- the front is a host, or a user, `@` and a host
 pub data ScpUser (front : List ℕ) (user : Option (List ℕ)) (host : List ℕ) : Type 0 where
@@ -210,7 +217,8 @@ pub data Unbrackets (host inner : List ℕ) : Type 0 where
   brackets : host ≡ left_bracket ∷ (inner ++ right_bracket ∷ []) → Unbrackets host inner
   same : ¬ IsBracketed host → inner ≡ host → Unbrackets host inner
 
--- a host in the scp form stands for another: an escape in it is no escape
+-- a host in the scp form stands for another: an escape in it is no escape. It is cut out of a text that is UTF-8, so white
+-- space means something of it
 pub record ScpHost (host meant : List ℕ) : Type 0 where
   pub named : List ℕ
   pub no_at : FreeOf at_sign host

@@ -1,7 +1,6 @@
 -- Home folders: whose folder a path means, and which folder that is.
-use Rattle.std.specs.Prelude.{◌≡◌, ℕ, false, List, [], ◌∷◌, ◌++◌, Option, Some, None, encode_utf8_all}
-use Rattle.bstr.specs.Utf8.{lossy_chars}
-use Rattle.gix_url.specs.Bytes.{slash, tilde, FreeOf}
+use Rattle.std.specs.Prelude.{◌≡◌, ℕ, false, List, [], ◌∷◌, ◌++◌, Option, Some, None}
+use Rattle.gix_url.specs.Bytes.{slash, tilde, FreeOf, lossy_text}
 use Rattle.gix_url.specs.Settled.{begins_at_home}
 use Rattle.gix_url.specs.Paths.{Joins, LiesBelow, IsParent}
 
@@ -17,10 +16,6 @@ abbrev pub home_user : List ℕ → HomeUser
 home_user [] = current
 home_user (b ∷ bs) = named (b ∷ bs)
 
--- the bytes as text: what is no UTF-8 is shown as U+FFFD
-abbrev pub shown : List ℕ → List ℕ
-shown bs = encode_utf8_all (lossy_chars bs)
-
 -- a path is `/~`, the name of a user and a rest, or has no user
 pub data SplitsHome (path : List ℕ) (user : Option HomeUser) (rest : List ℕ) : Type 0 where
   -- `/~name`
@@ -28,7 +23,7 @@ pub data SplitsHome (path : List ℕ) (user : Option HomeUser) (rest : List ℕ)
       → user ≡ Some (home_user name) → rest ≡ slash ∷ [] → SplitsHome path user rest
   -- `/~name/below`
   below_home : (name below : List ℕ) → FreeOf slash name → path ≡ slash ∷ (tilde ∷ (name ++ slash ∷ below))
-      → user ≡ Some (home_user name) → rest ≡ slash ∷ shown below → SplitsHome path user rest
+      → user ≡ Some (home_user name) → rest ≡ slash ∷ lossy_text below → SplitsHome path user rest
   -- any other path
   no_home : begins_at_home path ≡ false → user ≡ None → rest ≡ path → SplitsHome path user rest
 
@@ -53,7 +48,7 @@ pub data HomeFolder (home : Option (List ℕ)) (user : HomeUser) (folder : Optio
   own : user ≡ current → folder ≡ home → HomeFolder home user folder
   -- another's lies beside it, in its parent
   beside : (name own parent other : List ℕ) → user ≡ named name → home ≡ Some own → IsParent own (Some parent)
-      → Joins parent (shown name) other → folder ≡ Some other → HomeFolder home user folder
+      → Joins parent (lossy_text name) other → folder ≡ Some other → HomeFolder home user folder
   -- a folder without a parent has none beside it
   topmost : (name own : List ℕ) → user ≡ named name → home ≡ Some own → IsParent own None → folder ≡ None → HomeFolder home user folder
   -- and none is known beside none

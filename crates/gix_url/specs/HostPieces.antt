@@ -30,40 +30,40 @@ lowercase_address [] = []
 lowercase_address (b ∷ bs) = if b == percent_sign then b ∷ bs else to_ascii_lowercase b ∷ lowercase_address bs
 
 -- the host that a piece stands for
-abbrev pub meant : HostPiece → List ℕ
-meant (Address text) = lowercase text.now
-meant (Kept text) = normal_host text.now
-meant (Decoded text) = normal_host (percent_decode text.now)
-meant (Literal text) = in_brackets (lowercase_address text.now)
-meant (DecodedLiteral text) = in_brackets (lowercase_address (percent_decode text.now))
-meant (Bracketed text) = in_brackets (percent_decode text.now)
+abbrev pub meant_host : HostPiece → List ℕ
+meant_host (Address text) = lowercase text.now
+meant_host (Kept text) = normal_host text.now
+meant_host (Decoded text) = normal_host (percent_decode text.now)
+meant_host (Literal text) = in_brackets (lowercase_address text.now)
+meant_host (DecodedLiteral text) = in_brackets (lowercase_address (percent_decode text.now))
+meant_host (Bracketed text) = in_brackets (percent_decode text.now)
 
 -- the slice that a piece holds
-abbrev pub piece_text : HostPiece → List ℕ
-piece_text (Address text) = text.now
-piece_text (Kept text) = text.now
-piece_text (Decoded text) = text.now
-piece_text (Literal text) = text.now
-piece_text (DecodedLiteral text) = text.now
-piece_text (Bracketed text) = text.now
+abbrev pub slice_text : HostPiece → List ℕ
+slice_text (Address text) = text.now
+slice_text (Kept text) = text.now
+slice_text (Decoded text) = text.now
+slice_text (Literal text) = text.now
+slice_text (DecodedLiteral text) = text.now
+slice_text (Bracketed text) = text.now
 
 -- the same, decoded where it has to be
-abbrev pub unescaped : HostPiece → List ℕ
-unescaped (Address text) = text.now
-unescaped (Kept text) = text.now
-unescaped (Decoded text) = percent_decode text.now
-unescaped (Literal text) = text.now
-unescaped (DecodedLiteral text) = percent_decode text.now
-unescaped (Bracketed text) = percent_decode text.now
+abbrev pub unescaped_host : HostPiece → List ℕ
+unescaped_host (Address text) = text.now
+unescaped_host (Kept text) = text.now
+unescaped_host (Decoded text) = percent_decode text.now
+unescaped_host (Literal text) = text.now
+unescaped_host (DecodedLiteral text) = percent_decode text.now
+unescaped_host (Bracketed text) = percent_decode text.now
 
 -- the letters of a host in the case that they are shown in
-abbrev pub settled : HostPiece → List ℕ → List ℕ
-settled (Address text) host = lowercase host
-settled (Kept text) host = normal_host host
-settled (Decoded text) host = normal_host host
-settled (Literal text) host = lowercase_address host
-settled (DecodedLiteral text) host = lowercase_address host
-settled (Bracketed text) host = host
+abbrev pub normal_case : HostPiece → List ℕ → List ℕ
+normal_case (Address text) host = lowercase host
+normal_case (Kept text) host = normal_host host
+normal_case (Decoded text) host = normal_host host
+normal_case (Literal text) host = lowercase_address host
+normal_case (DecodedLiteral text) host = lowercase_address host
+normal_case (Bracketed text) host = host
 
 -- brackets stand around the host
 abbrev pub is_bracketed : HostPiece → Bool
@@ -75,12 +75,12 @@ is_bracketed (DecodedLiteral text) = true
 is_bracketed (Bracketed text) = true
 
 -- the host that was named, with the colon that stays with it
-abbrev pub host_text : NamedHost → List ℕ
-host_text named = if named.keeps_colon then meant named.piece ++ colon ∷ [] else meant named.piece
+abbrev pub named_text : NamedHost → List ℕ
+named_text named = if named.keeps_colon then meant_host named.piece ++ colon ∷ [] else meant_host named.piece
 
 -- the host and the port of what was read
 abbrev pub host_of : Option NamedHost → Option (List ℕ)
-host_of named = option_map host_text named
+host_of named = option_map named_text named
 
 abbrev pub port_of : Option NamedHost → Option ℕ
 port_of None = None
@@ -112,4 +112,4 @@ pub data Follows (mode : Mode) (base rest : List ℕ) (host : Option (List ℕ))
 
 -- what was read from a piece that isn't empty: the host and the port that it names, or a flaw of it
 abbrev pub ReadsName : Mode → List ℕ → Result NamedHost UrlFault → Type 0
-ReadsName mode piece result = MatchResult result (λ named. Names mode piece (Some (host_text named)) named.port) (λ fault. NameFlaw mode piece fault)
+ReadsName mode piece result = MatchResult result (λ named. Names mode piece (Some (named_text named)) named.port) (λ fault. NameFlaw mode piece fault)

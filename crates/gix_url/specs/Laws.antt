@@ -8,10 +8,9 @@ use Rattle.gix_url.specs.Value.{Protocol, Location, fields, path_alone}
 use Rattle.gix_url.specs.Value.Protocol.{file, git, ssh, http, https, ext, helper, helper_url}
 use Rattle.gix_url.specs.Bytes.{colon, left_bracket, begins_with}
 use Rattle.gix_url.specs.Escapes.{has_percent}
-use Rattle.gix_url.specs.Grammar.{IsNeither, ScpShape, AddressedShape, SpellsHelper, SpellsUrl, SpellsFile, SpellsScpBefore, SpellsLocal, Spells}
+use Rattle.gix_url.specs.Grammar.{IsNeither, ScpShape, IsAddressed, SpellsHelper, SpellsUrl, SpellsFile, SpellsScpBefore, SpellsLocal, Spells}
 use Rattle.gix_url.specs.Text.{has_colon, text}
-use Rattle.gix_url.specs.Settled.{IsValue, HasFittingText, IsSettled}
-use Rattle.gix_url.specs.SettledParts.{IsWeb}
+use Rattle.gix_url.specs.Settled.{IsValue, HasFittingText, IsSettled, IsWeb}
 use Rattle.gix_url.specs.Components.{Components, PartsOf}
 use Rattle.gix_url.specs.Records.{migrated}
 use Rattle.gix_url.specs.Order.{text_cmp, location_cmp, fed_protocol, fed_location}
@@ -112,10 +111,6 @@ abbrev pub Writable : Type 0
 Writable = (b : List ℕ) (v : Location) → Spells b v → ((t : List ℕ) × (text v ≡ Ok t)) × ¬ (v.spelling ≡ Some v.path) × (migrated v ≡ v)
 
 -- ---- the earlier grammar
-
--- the bytes have the shape `user@[address]:path`
-abbrev pub IsAddressed : List ℕ → Type 0
-IsAddressed b = (user : List ℕ) × (address : List ℕ) × (path : List ℕ) × AddressedShape b user address path
 
 -- a local path, as the earlier grammar had it
 pub record SpellsLocalBefore (b : List ℕ) (v : Location) : Type 0 where

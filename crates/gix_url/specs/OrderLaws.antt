@@ -15,7 +15,7 @@ use Rattle.gix_url.specs.Order.{rank, held_name, text_eq, protocol_eq, location_
 -- ---- what is equal is one value
 
 -- a test that decides equality does so of what may be missing, too
-options_decide : {K : Type 0} (E : K → K → Bool) → ((x y : K) → Decides (E x y) (x ≡ y)) → (p q : Option K) → Decides (option_eq E p q) (p ≡ q)
+pub options_decide : {K : Type 0} (E : K → K → Bool) → ((x y : K) → Decides (E x y) (x ≡ y)) → (p q : Option K) → Decides (option_eq E p q) (p ≡ q)
 options_decide E d None None = (λ e. refl, λ e. refl)
 options_decide E d None (Some y) = (λ e. absurd (true≢false (sym e)), λ e. sym (ap is_none e))
 options_decide E d (Some x) None = (λ e. absurd (true≢false (sym e)), λ e. ap is_none e)
@@ -52,7 +52,7 @@ pub kind_and_name : (p q : Protocol) → rank p ≡ rank q → held_name p ≡ h
 kind_and_name p q kinds names = sym (at_itself p) ∙ ((λ i. protocol_at (kinds i) (names i)) ∙ at_itself q)
 
 -- two tests that pass, pass together
-both_pass : (s t : Bool) → s ≡ true → t ≡ true → (s && t) ≡ true
+pub both_pass : (s t : Bool) → s ≡ true → t ≡ true → (s && t) ≡ true
 both_pass s t p q = λ i. p i && q i
 
 protocol_same : (p q : Protocol) → protocol_eq p q ≡ true → p ≡ q

@@ -1,8 +1,7 @@
 -- Paths as text: segments with a `/` between each two, the pieces among them, and what lies above and below.
 use Rattle.std.specs.Prelude.{◌≡◌, ℕ, ◌<◌, Bool, true, false, not, ◌==◌, List, [], ◌∷◌, ◌++◌, length, flat_map, Option, Some, None}
-use Rattle.std.specs.List.{list_any}
+use Rattle.std.specs.List.{list_any, join_with_byte}
 use Rattle.gix_url.specs.Bytes.{dot, slash, FreeOf, begins_with}
-use Rattle.gix_url.specs.Addresses.{joined_by}
 
 -- ---- pieces
 
@@ -39,7 +38,7 @@ pub record HasPieces (text first : List ℕ) (pieces : List (List ℕ)) : Type 0
 
 -- a text without its first component, which is the root or the first segment: the pieces behind, with a `/` between each two
 abbrev pub WithoutFirst : List ℕ → List ℕ → Type 0
-WithoutFirst text rest = (first : List ℕ) × (pieces : List (List ℕ)) × HasPieces text first pieces × (rest ≡ joined_by slash pieces)
+WithoutFirst text rest = (first : List ℕ) × (pieces : List (List ℕ)) × HasPieces text first pieces × (rest ≡ join_with_byte slash pieces)
 
 -- ---- joined paths
 

@@ -1,5 +1,6 @@
 -- The pieces of a text, and what they make up.
-use Rattle.std.specs.Prelude.{ℕ, List, [], ◌∷◌, ◌++◌, length, Option, Some, None, option_map, Result, Ok, Err}
+use Rattle.std.specs.Prelude.{ℕ, List, [], ◌∷◌, ◌++◌, length, Option, Some, None, Result, Ok, Err}
+use Rattle.std.specs.Option.{option_copied}
 use Rattle.std.specs.Borrow.{Bor}
 use Rattle.percent_encoding.specs.Percent.{percent_encode}
 use Rattle.gix_url.specs.declared.escape.TheConstants.{PATH, PASSWORD, USER}
@@ -20,7 +21,7 @@ use Rattle.gix_url.specs.declared.error.WriteFault.{WriteFault}
 use Rattle.gix_url.specs.Bytes.{colon, at_sign, left_bracket, right_bracket}
 use Rattle.gix_url.specs.Escapes.{escaped_percents}
 use Rattle.gix_url.specs.Value.{Location}
-use Rattle.gix_url.specs.Text.{Form, matching_or}
+use Rattle.gix_url.specs.Text.{Form}
 use Rattle.gix_url.specs.Text.Form.{helper_form, path_form, scp_form, canonical_form}
 
 -- the text of a piece: raw, with the escapes of a user or of a password, or with each `%` escaped
@@ -77,20 +78,17 @@ form_chosen (Err fault) = Err fault
 
 -- the location with this password
 abbrev pub with_password : Location → Option (Bor (List ℕ)) → Location
-with_password v other = record v { password = option_map (λ p. p.now) other }
+with_password v other = record v { password = option_copied other }
 
 -- ---- what the pieces of a location are
 
 -- the text that pieces make up, or the fault
-abbrev pub pieced : Result Pieces WriteFault → Result (List ℕ) WriteFault
-pieced (Ok p) = Ok (pieces_text p)
-pieced (Err fault) = Err fault
+abbrev pub text_of_pieces : Result Pieces WriteFault → Result (List ℕ) WriteFault
+text_of_pieces (Ok p) = Ok (pieces_text p)
+text_of_pieces (Err fault) = Err fault
 
 -- the length of a text, or the fault
 abbrev pub text_length : Result (List ℕ) WriteFault → Result ℕ WriteFault
 text_length (Ok t) = Ok (length t)
 text_length (Err fault) = Err fault
 
--- the spelling of the path where it matches, and else the path
-abbrev pub original_path_of : Location → List ℕ
-original_path_of v = matching_or v.spelling v.path v.path

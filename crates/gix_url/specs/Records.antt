@@ -1,10 +1,9 @@
 -- Stored locations. A record of the legacy form has the spelling of the path in place of the path as well, and is
 -- migrated: its path is decoded, and spelled anew.
 use Rattle.std.specs.Prelude.{◌≡◌, ℕ, ◌+◌, ◌<◌, ◌≤◌, Bool, true, false, ◌&&◌, ◌||◌, ◌==◌, nat_lt, ◌↔◌, List, [], ◌∷◌, ◌++◌, bytes_eq, length, All, Option, Some, None, if◌then◌else◌}
-use Rattle.std.specs.Char.{is_digit}
 use Rattle.percent_encoding.specs.Percent.{percent_encode_byte, percent_decode}
 use Rattle.gix_url.specs.Value.{Location}
-use Rattle.gix_url.specs.Bytes.{percent_sign}
+use Rattle.gix_url.specs.Bytes.{percent_sign, is_hexadecimal}
 use Rattle.gix_url.specs.Escapes.{begins_with_digits, is_path_escaped}
 
 -- ---- the new spelling of a legacy path
@@ -20,15 +19,15 @@ begins_escape b behind = b == percent_sign && begins_with_digits behind
 -- the path is escapes and other bytes, and the spelling has the same escapes, and those bytes as they are written in a path
 pub data Respells : List ℕ → List ℕ → Type 0 where
   nothing : Respells [] []
-  escape : (high low : ℕ) (path spelling : List ℕ) → is_digit high 16 ≡ true → is_digit low 16 ≡ true → Respells path spelling
+  escape : (high low : ℕ) (path spelling : List ℕ) → is_hexadecimal high ≡ true → is_hexadecimal low ≡ true → Respells path spelling
       → Respells (percent_sign ∷ high ∷ low ∷ path) (percent_sign ∷ high ∷ low ∷ spelling)
   other : (b : ℕ) (path spelling : List ℕ) → begins_escape b path ≡ false → Respells path spelling
       → Respells (b ∷ path) (written_in_path b ++ spelling)
 
 -- the path with each `%` that begins an escape as it is, and every other byte as it is written in a path
-abbrev pub respelled : List ℕ → List ℕ
-respelled [] = []
-respelled (b ∷ path) = (if begins_escape b path then b ∷ [] else written_in_path b) ++ respelled path
+abbrev pub new_spelling : List ℕ → List ℕ
+new_spelling [] = []
+new_spelling (b ∷ path) = (if begins_escape b path then b ∷ [] else written_in_path b) ++ new_spelling path
 
 -- ---- migration
 
@@ -38,7 +37,7 @@ IsLegacy v = v.spelling ≡ Some v.path
 
 -- the location with its path taken for a spelled one
 abbrev pub from_legacy : Location → Location
-from_legacy v = record v { path = percent_decode v.path; spelling = Some (respelled v.path) }
+from_legacy v = record v { path = percent_decode v.path; spelling = Some (new_spelling v.path) }
 
 -- the location of a record with this spelling: the record is of the legacy form where the spelling is the path
 abbrev pub migrated_by : Option (List ℕ) → Location → Location
@@ -53,7 +52,7 @@ migrated v = migrated_by v.spelling v
 
 -- the front of the new spelling of a path, with the path that the rest of it spells
 pub record SpellsFront (path front behind : List ℕ) : Type 0 where
-  pub spelled : respelled path ≡ front ++ respelled behind
+  pub spelled : new_spelling path ≡ front ++ new_spelling behind
   pub shorter : length behind + 1 ≡ length path
   pub short : length front ≤ 3
 
@@ -61,7 +60,7 @@ pub record SpellsFront (path front behind : List ℕ) : Type 0 where
 
 -- a path has one new spelling
 abbrev pub RespelledOnce : Type 0
-RespelledOnce = (path spelling : List ℕ) → Respells path spelling ↔ (spelling ≡ respelled path)
+RespelledOnce = (path spelling : List ℕ) → Respells path spelling ↔ (spelling ≡ new_spelling path)
 
 -- a path in its new spelling stands for the same bytes
 abbrev pub KeepsMeaning : Type 0

@@ -2,7 +2,7 @@
 use Rattle.std.specs.Prelude.{◌≡◌, ℕ, false, ◌↔◌, List, Option, Some, IsTrue}
 use Rattle.gix_url.specs.declared.escape.TheConstants.{PATH, PASSWORD, USER}
 use Rattle.gix_url.specs.Value.{Location}
-use Rattle.gix_url.specs.Escapes.{HoldsExactly, is_path_escaped, is_password_escaped, is_user_escaped}
+use Rattle.gix_url.specs.Escapes.{HoldsExactly, path_set, password_set, user_set, is_path_escaped, is_password_escaped, is_user_escaped}
 use Rattle.gix_url.specs.Addresses.{IsIpv6Text}
 use Rattle.gix_url.specs.AddressTest.{is_ipv6_text}
 use Rattle.gix_url.specs.Arguments.{judgement_of, path_argument, is_option_like}
@@ -21,17 +21,17 @@ UsableIsNoOption = (part : Option (List ℕ)) (text : List ℕ) → judgement_of
 abbrev pub PathIsNoOption : Type 0
 PathIsNoOption = (path text : List ℕ) → path_argument path ≡ Some text → (path ≡ text) × (is_option_like text ≡ false)
 
--- the set of the path holds the documented bytes of ASCII
+-- the code's set of the path is the documented one, and holds the documented bytes of ASCII
 abbrev pub PathSet : Type 0
-PathSet = HoldsExactly PATH is_path_escaped
+PathSet = (PATH ≡ path_set) × HoldsExactly path_set is_path_escaped
 
--- so does the set of the password
+-- so is and does the set of the password
 abbrev pub PasswordSet : Type 0
-PasswordSet = HoldsExactly PASSWORD is_password_escaped
+PasswordSet = (PASSWORD ≡ password_set) × HoldsExactly password_set is_password_escaped
 
--- so does the set of the user
+-- so is and does the set of the user
 abbrev pub UserSet : Type 0
-UserSet = HoldsExactly USER is_user_escaped
+UserSet = (USER ≡ user_set) × HoldsExactly user_set is_user_escaped
 
 -- the test that the text of a location asks is passed by the IPv6 texts, and by nothing else
 abbrev pub DecidesAddresses : Type 0

@@ -1,5 +1,6 @@
 -- What the reader of the scp form answers: the pieces of its front, and what its host is refused for.
-use Rattle.std.specs.Prelude.{◌≡◌, ℕ, ◌⊎◌, List, [], ◌∷◌, ◌++◌, Option, Some, None, option_map}
+use Rattle.std.specs.Prelude.{◌≡◌, ℕ, ◌⊎◌, List, [], ◌∷◌, ◌++◌, Option, Some, None}
+use Rattle.std.specs.Option.{option_copied}
 use Rattle.std.specs.Borrow.{Bor}
 use Rattle.gix_url.specs.declared.error.UrlFault.{UrlFault}
 use Rattle.gix_url.specs.declared.error.UrlFault.TheVariants as fault
@@ -14,7 +15,7 @@ use Rattle.gix_url.specs.Flaws.{NameFlaw, ScpHostFlaw, ScpFlaw}
 
 -- the front is cut at its last `@`
 pub record CutsUser (front : List ℕ) (user : Option (Bor (List ℕ))) (host : List ℕ) : Type 0 where
-  pub split : ScpUser front (option_map (λ u. u.now) user) host
+  pub split : ScpUser front (option_copied user) host
   pub no_at : FreeOf at_sign host
 
 -- each colon of the text stands before a closing bracket

@@ -1,12 +1,11 @@
--- The settled class: the locations whose text reads as the same fields, one definition for each kind.
+-- The settled class, one definition for each kind. The text of each location in it is read as the same public fields and
+-- is written the same again; some locations outside come back too.
 use Rattle.std.specs.Prelude.{◌≡◌, ◌≢◌, ℕ, ◌<◌, Bool, true, false, ◌&&◌, ◌||◌, ◌==◌, ◌⊎◌, List, [], ◌∷◌, ◌++◌, length, codes, bytes_eq, Option, Some, None, IsSome, IfSome, Ok, IsUtf8, All}
 use Rattle.std.specs.List.{list_all}
-use Rattle.percent_encoding.specs.Percent.{percent_decode}
 use Rattle.gix_url.specs.Value.{Protocol, Location}
 use Rattle.gix_url.specs.Value.Protocol.{file, git, ssh, http, https, ext, helper, helper_url}
-use Rattle.gix_url.specs.Bytes.{slash, colon, at_sign, left_bracket, backslash, right_bracket, tilde, FreeOf, begins_by, begins_with, Holds, IsLowercase, LacksWhiteSpace, is_scheme_text, is_helper_name}
-use Rattle.gix_url.specs.Cuts.{is_path_start}
-use Rattle.gix_url.specs.Escapes.{is_sound, has_percent}
+use Rattle.gix_url.specs.Bytes.{slash, colon, at_sign, left_bracket, backslash, right_bracket, tilde, FreeOf, begins_by, begins_with, Holds, IsLowercase, LacksWhiteSpace, is_scheme_text, is_helper_name, is_path_start}
+use Rattle.gix_url.specs.Escapes.{is_sound, DecodesTo, has_percent}
 use Rattle.gix_url.specs.Addresses.{IsIpv6Text, Literal}
 use Rattle.gix_url.specs.Hosts.{normal_host, is_http_host_byte}
 use Rattle.gix_url.specs.Schemes.{is_known_scheme}
@@ -27,7 +26,7 @@ pub record IsValue (v : Location) : Type 0 where
 
 -- the spelling of the path is retained, and decodes to it
 abbrev pub HasMatch : Location → Type 0
-HasMatch v = (spelling : List ℕ) × (v.spelling ≡ Some spelling) × (percent_decode spelling ≡ v.path)
+HasMatch v = (spelling : List ℕ) × (v.spelling ≡ Some spelling) × DecodesTo spelling v.path
 
 -- the first byte of a text, if it has one
 abbrev pub first_byte : List ℕ → Option ℕ
@@ -68,9 +67,13 @@ pub record IsSettledUrl (v : Location) : Type 0 where
   pub port_hosted : IsSome v.port → IsSome v.host
   pub fits : HasFittingText v
   pub path_text : IsUtf8 v.path
-  pub spelling : (s : List ℕ) → v.spelling ≡ Some s → percent_decode s ≡ v.path → IsFairSpelling s v.path
+  pub spelling : (s : List ℕ) → v.spelling ≡ Some s → DecodesTo s v.path → IsFairSpelling s v.path
 
 -- ---- HTTP
+
+-- the location is one of HTTP
+abbrev pub IsWeb : Location → Type 0
+IsWeb v = (v.scheme ≡ http) ⊎ (v.scheme ≡ https)
 
 -- a host of HTTP outside brackets that stays as it is
 pub record IsWebName (host : List ℕ) : Type 0 where
@@ -113,7 +116,7 @@ IsBareHost host = IsNormalName host ⊎ IsNormalAddress host
 abbrev pub IsBracketedHost : List ℕ → Type 0
 IsBracketedHost host = IsNormalName host ⊎ ((address : List ℕ) × IsNormalAddress address × (host ≡ left_bracket ∷ (address ++ right_bracket ∷ [])))
 
--- the path is written raw where no spelling matches it
+-- the path, which is UTF-8, is written raw where no spelling matches it
 abbrev pub IsRawPath : Location → Type 0
 IsRawPath v = ¬ HasMatch v → (has_percent v.path ≡ false) × LacksWhiteSpace v.path
 
@@ -183,7 +186,7 @@ pub record IsSettledLocal (v : Location) : Type 0 where
 
 -- ---- the scp form
 
--- a settled name of a host in the scp form
+-- a settled name of a host in the scp form; a host is UTF-8 in every value (`IsValue`), so white space means something of it
 pub record IsScpName (host : List ℕ) : Type 0 where
   pub normal : IsNormalName host
   pub no_at : FreeOf at_sign host

@@ -1,12 +1,9 @@
 -- The parts that the settled class is tested by: each is a few clauses of its definitions.
 use Rattle.std.specs.Prelude.{◌≡◌, ◌≢◌, ℕ, ◌<◌, ◌≤◌, true, false, ◌⊎◌, List, [], ◌∷◌, ◌++◌, length, codes, bytes_eq, Option, MatchOption, Some, None, IsSome, IfSome, Ok, IsUtf8}
 use Rattle.std.specs.Borrow.{Bor}
-use Rattle.percent_encoding.specs.Percent.{percent_decode}
 use Rattle.gix_url.specs.Value.{Location}
-use Rattle.gix_url.specs.Value.Protocol.{http, https}
-use Rattle.gix_url.specs.Bytes.{colon, left_bracket, right_bracket, slash, FreeOf, begins_by, begins_with, Holds, LacksWhiteSpace, is_scheme_text}
-use Rattle.gix_url.specs.Cuts.{is_path_start}
-use Rattle.gix_url.specs.Escapes.{has_percent, is_sound}
+use Rattle.gix_url.specs.Bytes.{colon, left_bracket, right_bracket, slash, FreeOf, begins_by, begins_with, Holds, LacksWhiteSpace, is_scheme_text, is_path_start}
+use Rattle.gix_url.specs.Escapes.{DecodesTo, has_percent, is_sound}
 use Rattle.gix_url.specs.Addresses.{Literal}
 use Rattle.gix_url.specs.Schemes.{is_known_scheme, protocol_text}
 use Rattle.gix_url.specs.Text.{text, canonical_text}
@@ -101,7 +98,7 @@ pub record IsEscapedText (spelling : List ℕ) : Type 0 where
 
 -- a matching spelling is fair
 abbrev pub HasFairSpelling : Location → Type 0
-HasFairSpelling v = (s : List ℕ) → v.spelling ≡ Some s → percent_decode s ≡ v.path → IsFairSpelling s v.path
+HasFairSpelling v = (s : List ℕ) → v.spelling ≡ Some s → DecodesTo s v.path → IsFairSpelling s v.path
 
 -- the path is text, and a matching spelling is fair
 pub record HasUrlPath (v : Location) : Type 0 where
@@ -111,10 +108,6 @@ pub record HasUrlPath (v : Location) : Type 0 where
 -- all of a settled URL but the length of its text
 abbrev pub HasUrlForm : Location → Type 0
 HasUrlForm v = HasUrlParts v × HasUrlPath v
-
--- the location is one of HTTP
-abbrev pub IsWeb : Location → Type 0
-IsWeb v = (v.scheme ≡ http) ⊎ (v.scheme ≡ https)
 
 -- the scheme is free of `:`, and the text is the canonical one, where the location has the parts of a URL
 pub record IsWrittenAsUrl (v : Location) : Type 0 where

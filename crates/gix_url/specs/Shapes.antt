@@ -3,10 +3,8 @@ use Rattle.std.specs.Prelude.{◌≡◌, ℕ, ◌<◌, false, ◌⊎◌, List, [
 use Rattle.gix_url.specs.declared.parse.classify.Shape.{Shape}
 use Rattle.gix_url.specs.declared.parse.classify.Shape.TheVariants as shape
 use Rattle.gix_url.specs.Bytes.{slash, colon, at_sign, left_bracket, right_bracket, FreeOf, begins_with}
-use Rattle.gix_url.specs.Addresses.{IsIpv6Text}
-use Rattle.gix_url.specs.Grammar.{HelperParts, IsNeither, ScpFront, ScpShape, AddressedShape, IsScpShaped}
+use Rattle.gix_url.specs.Grammar.{HelperCut, IsNeither, ScpFront, ScpShape, AddressedCut, AddressedShape, IsAddressed, IsScpShaped}
 use Rattle.gix_url.specs.Flaws.{UrlShape}
-use Rattle.gix_url.specs.Laws.{IsAddressed}
 
 -- the pieces around the colon of the scp form
 pub record FrontCut (b front path : List ℕ) : Type 0 where
@@ -30,14 +28,7 @@ pub record ScpCut (b front path : List ℕ) : Type 0 where
 abbrev pub HasScpCut : List ℕ → Type 0
 HasScpCut b = (front : List ℕ) × (path : List ℕ) × ScpCut b front path
 
--- the pieces of `user@[address]:path`
-pub record AddressedCut (b user address path : List ℕ) : Type 0 where
-  pub joined : b ≡ user ++ at_sign ∷ (left_bracket ∷ (address ++ right_bracket ∷ (colon ∷ path)))
-  pub no_slash : FreeOf slash user
-  pub no_colon : FreeOf colon user
-  pub addressed : IsIpv6Text address
-
--- the text has such pieces
+-- the text is `user@[address]:path`
 abbrev pub HasAddressedCut : List ℕ → Type 0
 HasAddressedCut b = (user : List ℕ) × (address : List ℕ) × (path : List ℕ) × AddressedCut b user address path
 
@@ -61,7 +52,7 @@ pub record LocalShape (b : List ℕ) : Type 0 where
 -- the text has this form, with these pieces
 abbrev pub Classifies : List ℕ → Shape → Type 0
 Classifies b shape.Empty = b ≡ []
-Classifies b (shape.Helper name address) = HelperParts b name.now address.now
+Classifies b (shape.Helper name address) = HelperCut b name.now address.now
 Classifies b (shape.Url scheme rest) = UrlShape b scheme.now rest.now
 Classifies b (shape.Addressed user address path) = AddressedShape b user.now address.now path.now
 Classifies b (shape.Scp front path) = PlainScp b front.now path.now

@@ -6,8 +6,8 @@ use Rattle.gix_url.specs.Value.{Location}
 use Rattle.gix_url.specs.Views.{protocol}
 
 -- the eight parts of a record, as plain values
-abbrev pub recorded : StoredUrl → Location
-recorded s = record {
+abbrev pub recorded_location : StoredUrl → Location
+recorded_location s = record {
   scheme = protocol s.scheme;
   user = option_map string_bytes s.user;
   password = option_map string_bytes s.password;

@@ -1,14 +1,13 @@
 -- The text of a location: first the choice of its form, then one concatenation for each form.
-use Rattle.std.specs.Prelude.{ℕ, Bool, true, false, not, ◌&&◌, ◌||◌, ◌==◌, List, [], ◌∷◌, ◌++◌, codes, bytes_eq, decimal, Option, Some, None, is_some, is_none, Result, Ok, Err, if◌then◌else◌}
+use Rattle.std.specs.Prelude.{ℕ, Bool, true, false, not, ◌&&◌, ◌||◌, ◌==◌, List, [], ◌∷◌, ◌++◌, codes, decimal, Option, Some, None, is_some, is_none, Result, Ok, Err, if◌then◌else◌}
 use Rattle.std.specs.List.{list_any}
-use Rattle.percent_encoding.specs.Percent.{percent_encode, percent_decode}
+use Rattle.percent_encoding.specs.Percent.{percent_encode}
 use Rattle.gix_url.specs.declared.error.WriteFault.{WriteFault}
 use Rattle.gix_url.specs.declared.error.WriteFault.TheVariants.{HelperName, HelperParts, RelativeSsh, UserWithoutHost}
-use Rattle.gix_url.specs.declared.escape.TheConstants.{PATH, PASSWORD, USER}
 use Rattle.gix_url.specs.Value.{Protocol, Location}
 use Rattle.gix_url.specs.Value.Protocol.{file, git, ssh, http, https, ext, helper, helper_url}
 use Rattle.gix_url.specs.Bytes.{slash, colon, at_sign, left_bracket, right_bracket, tilde, begins_with, is_helper_name}
-use Rattle.gix_url.specs.Escapes.{has_percent, escaped_percents}
+use Rattle.gix_url.specs.Escapes.{matches, has_percent, path_set, password_set, user_set, escaped_percents}
 use Rattle.gix_url.specs.AddressTest.{is_ipv6_text}
 use Rattle.gix_url.specs.Schemes.{protocol_text}
 
@@ -86,8 +85,8 @@ abbrev pub raw_host : Option (List ℕ) → List ℕ
 raw_host None = []
 raw_host (Some host) = if wants_brackets host then left_bracket ∷ (host ++ right_bracket ∷ []) else host
 
-abbrev pub path_text : Location → List ℕ
-path_text v = raw_user v.user ++ (raw_host v.host ++ v.path)
+abbrev pub path_form_text : Location → List ℕ
+path_form_text v = raw_user v.user ++ (raw_host v.host ++ v.path)
 
 abbrev pub scp_text : Location → List ℕ
 scp_text v = raw_user v.user ++ (raw_host v.host ++ colon ∷ v.path)
@@ -97,12 +96,12 @@ scp_text v = raw_user v.user ++ (raw_host v.host ++ colon ∷ v.path)
 -- the password behind its colon, escaped
 abbrev pub escaped_password : Option (List ℕ) → List ℕ
 escaped_password None = []
-escaped_password (Some password) = colon ∷ percent_encode PASSWORD password
+escaped_password (Some password) = colon ∷ percent_encode password_set password
 
 -- the user information and `@`, escaped: a password without a user is left out
 abbrev pub user_information : Option (List ℕ) → Option (List ℕ) → List ℕ
 user_information None password = []
-user_information (Some user) password = percent_encode USER user ++ (escaped_password password ++ at_sign ∷ [])
+user_information (Some user) password = percent_encode user_set user ++ (escaped_password password ++ at_sign ∷ [])
 
 -- the protocol's hosts are written as they are
 abbrev pub keeps_host : Protocol → Bool
@@ -117,7 +116,7 @@ keeps_host (helper_url name) = false
 
 -- a host outside brackets: as it is, or escaped, but for the colons of an address
 abbrev pub open_host : Protocol → List ℕ → List ℕ
-open_host protocol host = if keeps_host protocol then host else (if is_ipv6_text host then percent_encode PASSWORD host else percent_encode USER host)
+open_host protocol host = if keeps_host protocol then host else (if is_ipv6_text host then percent_encode password_set host else percent_encode user_set host)
 
 -- the host goes between brackets: it wants them, and a port or an escape would mislead without
 abbrev pub needs_brackets : Option ℕ → List ℕ → Bool
@@ -153,8 +152,8 @@ root_part v = if roots_path v.scheme && not (begins_with slash v.path) then slas
 
 -- the path as it is written without a spelling: escaped for HTTP, raw else
 abbrev pub plain_path : Protocol → List ℕ → List ℕ
-plain_path http path = percent_encode PATH path
-plain_path https path = percent_encode PATH path
+plain_path http path = percent_encode path_set path
+plain_path https path = percent_encode path_set path
 plain_path file path = path
 plain_path git path = path
 plain_path ssh path = path
@@ -165,7 +164,11 @@ plain_path (helper_url name) path = path
 -- the spelling where it matches the path, and else what stands in for it
 abbrev pub matching_or : Option (List ℕ) → List ℕ → List ℕ → List ℕ
 matching_or None path other = other
-matching_or (Some spelling) path other = if bytes_eq (percent_decode spelling) path then spelling else other
+matching_or (Some spelling) path other = if matches (Some spelling) path then spelling else other
+
+-- the spelling of the path where it matches, and else the path
+abbrev pub original_path : Location → List ℕ
+original_path v = matching_or v.spelling v.path v.path
 
 -- the path of a URL
 abbrev pub canonical_path : Location → List ℕ
@@ -177,15 +180,15 @@ canonical_text v = protocol_text v.scheme ++ (codes "://" ++ (user_information v
 -- ---- the text
 
 -- the text of a location in this form
-abbrev pub written : Form → Location → List ℕ
-written helper_form v = helper_text v
-written path_form v = path_text v
-written scp_form v = scp_text v
-written canonical_form v = canonical_text v
+abbrev pub text_in : Form → Location → List ℕ
+text_in helper_form v = helper_text v
+text_in path_form v = path_form_text v
+text_in scp_form v = scp_text v
+text_in canonical_form v = canonical_text v
 
 -- the text in the form that was chosen, or the fault
 abbrev pub in_form : Result Form WriteFault → Location → Result (List ℕ) WriteFault
-in_form (Ok form) v = Ok (written form v)
+in_form (Ok form) v = Ok (text_in form v)
 in_form (Err fault) v = Err fault
 
 -- the text of a location, or why it has none

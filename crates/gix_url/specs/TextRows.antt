@@ -2,10 +2,9 @@
 use Rattle.std.specs.Prelude.{◌≡◌, true, false, [], codes, Some, Ok, Err}
 use Rattle.percent_encoding.specs.Percent.{percent_encode, percent_decode}
 use Rattle.gix_url.specs.declared.error.WriteFault.TheVariants as write
-use Rattle.gix_url.specs.declared.escape.TheConstants.{PATH, PASSWORD, USER}
 use Rattle.gix_url.specs.Value.{path_alone}
 use Rattle.gix_url.specs.Value.Protocol.{file, git, ssh, http, https, ext, helper, helper_url}
-use Rattle.gix_url.specs.Escapes.{is_sound, escaped_percents}
+use Rattle.gix_url.specs.Escapes.{is_sound, path_set, password_set, user_set, escaped_percents}
 use Rattle.gix_url.specs.Hosts.{normal_host}
 use Rattle.gix_url.specs.Schemes.{protocol_of}
 use Rattle.gix_url.specs.Grammar.{from_home, or_root}
@@ -18,12 +17,12 @@ use Rattle.gix_url.specs.Examples.{o_umlaut, no_text, at_host, with_spelling}
 -- what is written with each set, and what is read
 abbrev pub EscapeRows : Type 0
 EscapeRows =
-    (percent_encode USER (codes "a@b:c") ≡ codes "a%40b%3Ac")
-    × (percent_encode PASSWORD (codes "a@b:c") ≡ codes "a%40b:c")
-    × (percent_encode PATH (codes "/a b%?#") ≡ codes "/a%20b%25?#")
-    × (percent_encode PATH o_umlaut ≡ codes "%C3%B6")
-    × (percent_encode PASSWORD o_umlaut ≡ codes "%C3%B6")
-    × (percent_encode USER o_umlaut ≡ codes "%C3%B6")
+    (percent_encode user_set (codes "a@b:c") ≡ codes "a%40b%3Ac")
+    × (percent_encode password_set (codes "a@b:c") ≡ codes "a%40b:c")
+    × (percent_encode path_set (codes "/a b%?#") ≡ codes "/a%20b%25?#")
+    × (percent_encode path_set o_umlaut ≡ codes "%C3%B6")
+    × (percent_encode password_set o_umlaut ≡ codes "%C3%B6")
+    × (percent_encode user_set o_umlaut ≡ codes "%C3%B6")
     × (percent_decode (codes "%2f%2F%2") ≡ codes "//%2")
     × (percent_decode (codes "%2541%zz") ≡ codes "%41%zz")
     × (is_sound (codes "a%2Fb") ≡ true)

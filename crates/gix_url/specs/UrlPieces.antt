@@ -5,8 +5,7 @@ use Rattle.percent_encoding.specs.Percent.{percent_decode}
 use Rattle.gix_url.specs.declared.simple_url.ParsedUrl.{ParsedUrl}
 use Rattle.gix_url.specs.declared.simple_url.AuthorityParts.{AuthorityParts}
 use Rattle.gix_url.specs.declared.simple_url.CredentialParts.{CredentialParts}
-use Rattle.gix_url.specs.Bytes.{colon, left_bracket, right_bracket, Lacks, FreeOf}
-use Rattle.gix_url.specs.Cuts.{is_path_start, StartsPath}
+use Rattle.gix_url.specs.Bytes.{colon, left_bracket, right_bracket, Lacks, FreeOf, is_path_start, StartsPath}
 use Rattle.gix_url.specs.Hosts.{Mode}
 use Rattle.gix_url.specs.Schemes.{is_web_scheme}
 use Rattle.gix_url.specs.Authority.{Credentials, Authority}

@@ -6,7 +6,7 @@ use Rattle.gix_url.specs.declared.length.Stage.TheVariants.{Slashes, Front, Behi
 use Rattle.gix_url.specs.declared.length.Walk.{Walk}
 use Rattle.gix_url.specs.declared.length.TextWalk.{TextWalk}
 use Rattle.gix_url.specs.Authority.{is_any_slash}
-use Rattle.gix_url.specs.Cuts.{is_path_start}
+use Rattle.gix_url.specs.Bytes.{is_path_start}
 use Rattle.gix_url.specs.Schemes.{is_web_scheme}
 
 -- one more, up to one past the limit

@@ -7,7 +7,8 @@
 
 ghost use Rattle.std.specs.Prelude.{◌≡◌, Some, IfSome, false, option_map};
 ghost use Rattle.bstr.specs.BStr.{bstr_bytes};
-ghost use Rattle.gix_url.specs.Arguments.{IsNoOption, is_option_like, judgement, judgement_of, judgement_of_text, path_argument, usable_text};
+ghost use Rattle.gix_url.specs.Arguments.{IsNoOption, is_option_like, judgement_of, judgement_of_text, path_argument, usable_text};
+ghost use Rattle.gix_url.specs.Views.{judgement};
 ghost use Rattle.gix_url.specs.Safeguards.{PathIsNoOption, UsableIsNoOption};
 
 use crate::bytes::{after, starts_with_byte};

@@ -7,8 +7,8 @@
 ghost use Rattle.std.specs.Prelude.{◌≡◌, ◌↔◌, ◌+◌, ◌≤◌, ◌++◌, IsTrue, length, vec_capacity, vec_len};
 ghost use Rattle.std.specs.List.{list_all};
 ghost use Rattle.memchr.specs.Find.{IsFirstByte};
-ghost use Rattle.gix_url.specs.Bytes.{FreeOf, IsLowercase, Lacks, begins_with, is_helper_name, is_name_byte, is_scheme_text};
-ghost use Rattle.gix_url.specs.Cuts.{CutsAt, CutsAtLast, CutsAtMark, StartsPath, StripsFirst, StripsLast, is_path_start};
+ghost use Rattle.gix_url.specs.Bytes.{FreeOf, IsLowercase, Lacks, StartsPath, begins_with, is_helper_name, is_name_byte, is_path_start, is_scheme_text};
+ghost use Rattle.gix_url.specs.Cuts.{CutsAt, CutsAtLast, CutsAtMark, StripsFirst, StripsLast};
 
 use bstr::ByteSlice;
 use memchr::memchr3;

@@ -47,7 +47,8 @@ pub const PASSWORD: AsciiSet = ascii_set!(
 /// The bytes that a user is not written with: those of the password, and `:`.
 pub const USER: AsciiSet = ascii_set!(PASSWORD.add(b':'));
 
-/// Each set of escaped bytes holds exactly the ASCII bytes that are documented; bytes past ASCII are always escaped.
+/// Each set of escaped bytes is the documented set, of which the text of a location speaks, and holds exactly these bytes
+/// of ASCII; bytes past ASCII are always escaped.
 ///
 /// - `path`: in a path of HTTP, the controls, the space, `"`, `%`, `<`, `>`, `` ` ``, `{` and `}`.
 /// - `password`: in a password, those and `#`, `/`, `?`, `@`, `[`, `\`, `]`, `^` and `|`.

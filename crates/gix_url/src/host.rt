@@ -12,7 +12,7 @@ ghost use Rattle.gix_url.specs.Bytes.{begins_with, colon, left_bracket, lowercas
 ghost use Rattle.gix_url.specs.Flaws.{IsNoHost, IsNoInner, IsNoPort, NameFlaw};
 ghost use Rattle.gix_url.specs.Hosts as spec;
 ghost use Rattle.gix_url.specs.Hosts.{HostText, IsAddressPiece, IsLiteral, IsManyColoned, Names, Number, ReadsAddress};
-ghost use Rattle.gix_url.specs.HostPieces.{EndsHost, Follows, IsEscapedZone, IsInner, ReadsName, host_of, host_text, in_brackets, is_bracketed, lowercase_address, meant, piece_text, port_of, settled, shown_literal, strictness, unescaped};
+ghost use Rattle.gix_url.specs.HostPieces.{EndsHost, Follows, IsEscapedZone, IsInner, ReadsName, host_of, in_brackets, is_bracketed, lowercase_address, meant_host, named_text, normal_case, port_of, shown_literal, slice_text, strictness, unescaped_host};
 ghost use Rattle.percent_encoding.specs.Percent as percent;
 
 use crate::bytes::{after, append_within, before, cut, is_free_of, starts_with_byte};
@@ -65,7 +65,7 @@ pub(crate) struct NamedHost<'a> {
 /// Reads a host and a port: none where the piece is empty.
 pub(crate) fn read_host(mode: Mode, piece: &[u8]) -> Result<Option<NamedHost<'_>>, UrlFault>
     ensures named { IfOk result (λ named. Names (strictness mode) piece.now (host_of named) (port_of named)) }
-    ensures text { IfOk result (λ named. IfSome named (λ host. IsUtf8 (host_text host))) }
+    ensures text { IfOk result (λ named. IfSome named (λ host. IsUtf8 (named_text host))) }
     ensures unnamed { IfErr result (λ fault. (host : Option (List ℕ)) (port : Option ℕ) → ¬ Names (strictness mode) piece.now host port) }
     ensures flaw { IfErr result (λ fault. NameFlaw (strictness mode) piece.now fault) }
 {
@@ -171,7 +171,7 @@ fn read_colons(mode: Mode, piece: &[u8]) -> Result<NamedHost<'_>, UrlFault>
 
 /// A host with nothing behind it.
 fn alone(piece: HostPiece<'_>) -> NamedHost<'_>
-    ensures host { host_text result ≡ meant piece.entry }
+    ensures host { named_text result ≡ meant_host piece.entry }
     ensures port { result.port ≡ None }
 {
     NamedHost {
@@ -183,7 +183,7 @@ fn alone(piece: HostPiece<'_>) -> NamedHost<'_>
 
 /// A host with a colon and this text behind it: the colon stays where the text is empty, else the text is the port.
 fn with_port<'a>(mode: Mode, piece: HostPiece<'a>, digits: &[u8]) -> Option<NamedHost<'a>>
-    ensures { MatchOption result (IsNoPort (strictness mode) digits.now) (λ named. Follows (strictness mode) (meant piece.entry) (colon ∷ digits.now) (Some (host_text named)) named.port) }
+    ensures { MatchOption result (IsNoPort (strictness mode) digits.now) (λ named. Follows (strictness mode) (meant_host piece.entry) (colon ∷ digits.now) (Some (named_text named)) named.port) }
 {
     if digits.is_empty() {
         return Some(NamedHost {
@@ -266,7 +266,7 @@ fn is_address_piece(piece: &[u8]) -> bool
 
 /// The host that a text outside brackets stands for.
 fn read_text(mode: Mode, text: &[u8]) -> Option<HostPiece<'_>>
-    ensures { MatchOption result (IsNoHost (strictness mode) text.now) (λ piece. HostText (strictness mode) text.now (meant piece)) }
+    ensures { MatchOption result (IsNoHost (strictness mode) text.now) (λ piece. HostText (strictness mode) text.now (meant_host piece)) }
 {
     match mode {
         Mode::Strict => {
@@ -313,7 +313,7 @@ fn is_http_host_byte(byte: u8) -> bool
 
 /// The host that a text between brackets stands for.
 fn read_inner(mode: Mode, text: &[u8]) -> Option<HostPiece<'_>>
-    ensures { MatchOption result (IsNoInner (strictness mode) text.now) (λ piece. IsInner (strictness mode) text.now (meant piece)) }
+    ensures { MatchOption result (IsNoInner (strictness mode) text.now) (λ piece. IsInner (strictness mode) text.now (meant_host piece)) }
 {
     if is_literal(text) {
         return Some(literal(mode, text));
@@ -323,7 +323,7 @@ fn read_inner(mode: Mode, text: &[u8]) -> Option<HostPiece<'_>>
 
 /// The piece of a literal, which is decoded but for HTTP.
 fn literal(mode: Mode, text: &[u8]) -> HostPiece<'_>
-    ensures { meant result ≡ in_brackets (shown_literal (strictness mode) text.now) }
+    ensures { meant_host result ≡ in_brackets (shown_literal (strictness mode) text.now) }
 {
     match mode {
         Mode::Strict => HostPiece::Literal(text),
@@ -334,7 +334,7 @@ fn literal(mode: Mode, text: &[u8]) -> HostPiece<'_>
 /// The host that a text between brackets stands for that is no literal.
 fn read_other(mode: Mode, text: &[u8]) -> Option<HostPiece<'_>>
     requires { ¬ IsLiteral text.now }
-    ensures { MatchOption result (IsNoInner (strictness mode) text.now) (λ piece. IsInner (strictness mode) text.now (meant piece)) }
+    ensures { MatchOption result (IsNoInner (strictness mode) text.now) (λ piece. IsInner (strictness mode) text.now (meant_host piece)) }
 {
     match mode {
         Mode::Strict => None,
@@ -400,8 +400,8 @@ fn is_zone_byte(byte: u8) -> bool
 impl NamedHost<'_> {
     /// The text of the host.
     pub(crate) fn build(self, alloc: Global) -> Result<String, AllocError>
-        requires { IsUtf8 (host_text self) }
-        ensures { IfOk result (λ s. string_bytes s ≡ host_text self.entry) }
+        requires { IsUtf8 (named_text self) }
+        ensures { IfOk result (λ s. string_bytes s ≡ named_text self.entry) }
     {
         let mut text = Vec::with_capacity(alloc, piece_text(self.piece).len() + 3)?;
         append_piece(&mut text, self.piece);
@@ -414,7 +414,7 @@ impl NamedHost<'_> {
 
 /// The slice that a piece holds.
 fn piece_text(piece: HostPiece<'_>) -> &[u8]
-    ensures { result.now ≡ piece_text piece.entry }
+    ensures { result.now ≡ slice_text piece.entry }
 {
     match piece {
         HostPiece::Address(text)
@@ -428,10 +428,10 @@ fn piece_text(piece: HostPiece<'_>) -> &[u8]
 
 /// Writes the host that a piece stands for into a buffer that has room for it.
 fn append_piece(out: &mut Vec<u8>, piece: HostPiece<'_>)
-    requires { vec_len out.old + length (piece_text piece) + 2 ≤ vec_capacity out.old }
-    ensures items { out.new.items ≡ out.old.items ++ meant piece.entry }
+    requires { vec_len out.old + length (slice_text piece) + 2 ≤ vec_capacity out.old }
+    ensures items { out.new.items ≡ out.old.items ++ meant_host piece.entry }
     ensures capacity { vec_capacity out.old ≤ vec_capacity out.new }
-    ensures len { vec_len out.new ≤ vec_len out.old + length (piece_text piece.entry) + 2 }
+    ensures len { vec_len out.new ≤ vec_len out.old + length (slice_text piece.entry) + 2 }
 {
     let brackets = is_bracketed(piece);
     if brackets {
@@ -455,10 +455,10 @@ fn is_bracketed(piece: HostPiece<'_>) -> bool
 
 /// Writes what a piece shows, without its brackets.
 fn append_shown(out: &mut Vec<u8>, piece: HostPiece<'_>)
-    requires { vec_len out.old + length (piece_text piece) ≤ vec_capacity out.old }
-    ensures items { out.new.items ≡ out.old.items ++ settled piece.entry (unescaped piece.entry) }
+    requires { vec_len out.old + length (slice_text piece) ≤ vec_capacity out.old }
+    ensures items { out.new.items ≡ out.old.items ++ normal_case piece.entry (unescaped_host piece.entry) }
     ensures capacity { vec_capacity out.old ≤ vec_capacity out.new }
-    ensures len { vec_len out.new ≤ vec_len out.old + length (piece_text piece.entry) }
+    ensures len { vec_len out.new ≤ vec_len out.old + length (slice_text piece.entry) }
 {
     let start = out.len();
     append_unescaped(out, piece);
@@ -467,10 +467,10 @@ fn append_shown(out: &mut Vec<u8>, piece: HostPiece<'_>)
 
 /// Writes the text of a piece, decoded where it has to be.
 fn append_unescaped(out: &mut Vec<u8>, piece: HostPiece<'_>)
-    requires { vec_len out.old + length (piece_text piece) ≤ vec_capacity out.old }
-    ensures items { out.new.items ≡ out.old.items ++ unescaped piece.entry }
+    requires { vec_len out.old + length (slice_text piece) ≤ vec_capacity out.old }
+    ensures items { out.new.items ≡ out.old.items ++ unescaped_host piece.entry }
     ensures capacity { vec_capacity out.old ≤ vec_capacity out.new }
-    ensures len { vec_len out.new ≤ vec_len out.old + length (piece_text piece.entry) }
+    ensures len { vec_len out.new ≤ vec_len out.old + length (slice_text piece.entry) }
 {
     match piece {
         HostPiece::Address(text) | HostPiece::Kept(text) | HostPiece::Literal(text) =>
@@ -482,7 +482,7 @@ fn append_unescaped(out: &mut Vec<u8>, piece: HostPiece<'_>)
 
 /// Brings the letters of a host to the case that they are shown in.
 fn settle(host: &mut [u8], piece: HostPiece<'_>)
-    ensures { host.new ≡ settled piece.entry host.old }
+    ensures { host.new ≡ normal_case piece.entry host.old }
 {
     match piece {
         HostPiece::Address(_) => host.make_ascii_lowercase(),

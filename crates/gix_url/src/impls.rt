@@ -7,7 +7,7 @@
 
 ghost use Rattle.std.specs.Prelude.{◌≡◌, None, IsErr, option_map, string_bytes};
 ghost use Rattle.std.specs.Fmt.{DisplaysOnOk, DisplaysStyledOnOk};
-ghost use Rattle.gix_url.specs.Display.{display, hidden};
+ghost use Rattle.gix_url.specs.Display.{display, hidden_password};
 ghost use Rattle.gix_url.specs.Safeguards.{HidesPassword};
 
 use crate::location::Url;
@@ -40,7 +40,7 @@ impl fmt::Display for Url {
 
 /// What is shown in place of a password.
 pub(crate) fn hidden_password(password: &Option<String>) -> Option<&str>
-    ensures { option_map (λ p. p.now) result ≡ hidden (option_map string_bytes password.now) }
+    ensures { option_map (λ p. p.now) result ≡ hidden_password (option_map string_bytes password.now) }
 {
     match password {
         None => None,

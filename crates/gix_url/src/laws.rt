@@ -61,7 +61,7 @@ pub fn law_stored()
 ///   location of HTTP whose text is too long to be read again. Who only reads meets no other unsettled one.
 /// - `apart`: no location in a corner is settled, so what is read is one or the other.
 /// - `exact`: such a location is settled exactly where its text is read as its public fields and written the same
-///   again, if its spelling isn't its path. So the class leaves nothing out.
+///   again, if its spelling isn't its path. So of these the class leaves none out.
 /// - `unchanged`: what bytes spell as a remote helper or a local path is settled, and its text is those bytes. Tools
 ///   that read and write lists of remotes keep such lines to the byte. (A URL of the scheme `ext` is settled too, but
 ///   is written behind `ext::`.)

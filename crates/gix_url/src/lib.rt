@@ -1,7 +1,7 @@
 //! Git locations: remote helpers, URLs, the scp form and local paths, read, written and told apart.
 //!
 //! [`parse::parse`] reads bytes and [`Url::from_text`] text; [`Url::write_to`] and [`Url::to_bstring`] write a
-//! location, and [`Url::is_settled`] tells whether it comes back the same. [`Url::user_as_argument`] and its like tell
+//! location, and one that [`Url::is_settled`] accepts comes back the same. [`Url::user_as_argument`] and its like tell
 //! which parts a command may get.
 //!
 //! ```

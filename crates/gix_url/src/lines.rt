@@ -5,7 +5,7 @@
 
 ghost use Rattle.std.specs.Prelude.{◌≡◌, ℕ, ◌≤◌, ◌^◌, ◌++◌, List, None, codes, length, IfOk, IfSome, OnOk};
 ghost use Rattle.std.specs.Io.KnownBytes.{IsAtEnd};
-ghost use Rattle.gix_url.specs.Answers.{Answers, AppendsAnswer, NamesRefusal, Ran, Tells, TellsRefusal, fault_name, fault_text, status_of, told};
+ghost use Rattle.gix_url.specs.Answers.{Answers, AppendsAnswer, NamesRefusal, Ran, Tells, TellsRefusal, fault_name, fault_text, status_of, told_line};
 ghost use Rattle.gix_url.specs.Schemes.{protocol_text};
 ghost use Rattle.gix_url.specs.Text.{text};
 
@@ -210,14 +210,14 @@ fn bad_url_name(fault: UrlFault) -> &'static str
 
 /// Appends the line of a location that isn't settled: a word and the scheme.
 fn put_scheme(out: &mut Vec<u8>, word: &str, url: &Url) -> Result<(), RunError>
-    ensures { OnOk result (out.new.items ≡ out.old.items ++ told word.now (protocol_text url.now.scheme)) }
+    ensures { OnOk result (out.new.items ≡ out.old.items ++ told_line word.now (protocol_text url.now.scheme)) }
 {
     put_line(out, word, url.scheme.as_str().as_bytes())
 }
 
 /// Appends a line: a word, a tab, and what it is said of.
 fn put_line(out: &mut Vec<u8>, word: &str, of_what: &[u8]) -> Result<(), RunError>
-    ensures { OnOk result (out.new.items ≡ out.old.items ++ told word.now of_what.now) }
+    ensures { OnOk result (out.new.items ≡ out.old.items ++ told_line word.now of_what.now) }
 {
     out.extend_from_slice(word.as_bytes())?;
     out.extend_from_slice(b"\t")?;
@@ -228,7 +228,7 @@ fn put_line(out: &mut Vec<u8>, word: &str, of_what: &[u8]) -> Result<(), RunErro
 
 /// Appends the line of a settled location: its text.
 fn put_text(out: &mut Vec<u8>, url: &Url) -> Result<(), RunError>
-    ensures { OnOk result ((t : List ℕ) × (text url.now ≡ Ok t) × (out.new.items ≡ out.old.items ++ told (codes "settled") t)) }
+    ensures { OnOk result ((t : List ℕ) × (text url.now ≡ Ok t) × (out.new.items ≡ out.old.items ++ told_line (codes "settled") t)) }
 {
     out.extend_from_slice(b"settled\t")?;
     match url.write_to(out) {

@@ -1,4 +1,4 @@
-//! The settled class, decided: the locations whose text reads as the same fields and is written the same again.
+//! The settled class, decided. What is in it comes back: its text reads as the same fields and is written the same again.
 //!
 //! It may use every test of bytes, of addresses, of lengths and of forms, and the pieces of the writer. Its
 //! contract: the answer is yes exactly for the settled class, and so is the answer for each kind of location. It
@@ -22,7 +22,11 @@ use scp::is_settled_scp;
 use url::{is_settled_git, is_settled_helper_url, is_settled_secure, is_settled_web};
 
 impl Url {
-    /// Whether the location's text reads as the same fields and is written the same again. It takes no memory.
+    /// Whether the location is of the settled class. It takes no memory.
+    ///
+    /// A settled location comes back: its text is read as the same public fields, and is written the same again. Of local
+    /// files, HTTP, `ext` and remote helpers no other location does, if its spelling isn't its path. Of the other kinds
+    /// some do: Git with the host `]` and the path `/p` is not settled, though it comes back.
     pub fn is_settled(&self) -> bool
         ensures { IsTrue result ↔ IsSettled self.now }
     {

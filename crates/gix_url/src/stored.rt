@@ -5,8 +5,8 @@
 //! stores what was read gets it back.
 
 ghost use Rattle.std.specs.Prelude.{◌≡◌, ◌↔◌, [], IfErr, IfOk, IsOk, IsTrue, MatchOption, length};
-ghost use Rattle.gix_url.specs.Records.{IsLegacy, SpellsFront, begins_escape, from_legacy, migrated, respelled};
-ghost use Rattle.gix_url.specs.Stored.{recorded};
+ghost use Rattle.gix_url.specs.Records.{IsLegacy, SpellsFront, begins_escape, from_legacy, migrated, new_spelling};
+ghost use Rattle.gix_url.specs.Stored.{recorded_location};
 
 use crate::bytes::append_within;
 use crate::error::Error;
@@ -96,7 +96,7 @@ impl Url {
     ///
     /// [`Error::Memory`] where memory is refused.
     pub fn to_stored(&self, alloc: Global) -> Result<StoredUrl, Error>
-        ensures stored { IfOk result (λ stored. recorded stored ≡ self.now) }
+        ensures stored { IfOk result (λ stored. recorded_location stored ≡ self.now) }
         ensures memory { IfErr result (λ e. e ≡ Error.Memory) }
     {
         let copy = self.clone(alloc)?;
@@ -134,8 +134,8 @@ impl Url {
     ///
     /// [`Error::Memory`] where memory is refused for a record of the older form.
     pub fn from_stored(alloc: Global, stored: StoredUrl) -> Result<Url, Error>
-        ensures restored { IfOk result (λ url. url ≡ migrated (recorded stored)) }
-        ensures current { ¬ IsLegacy (recorded stored) → IsOk result }
+        ensures restored { IfOk result (λ url. url ≡ migrated (recorded_location stored)) }
+        ensures current { ¬ IsLegacy (recorded_location stored) → IsOk result }
         ensures memory { IfErr result (λ e. e ≡ Error.Memory) }
     {
         let url = Url {
@@ -183,7 +183,7 @@ impl Url {
 /// The new spelling of a path: its escapes as they are, and every other byte as it is written in a path. Memory is
 /// asked for once, and a length that no memory has counts as refused.
 fn respelled(alloc: Global, path: &[u8]) -> Result<Vec<u8>, AllocError>
-    ensures { IfOk result (λ spelling. spelling.items ≡ respelled path.now) }
+    ensures { IfOk result (λ spelling. spelling.items ≡ new_spelling path.now) }
 {
     let Ok(len) = usize::try_from(respelled_len(path)) else {
         return Err(AllocError);
@@ -199,7 +199,7 @@ fn respelled(alloc: Global, path: &[u8]) -> Result<Vec<u8>, AllocError>
 
 /// The length of the new spelling of a path.
 fn respelled_len(path: &[u8]) -> u128
-    ensures { result ≡ length (respelled path.now) }
+    ensures { result ≡ length (new_spelling path.now) }
 {
     let mut total = 0;
     let mut rest = path;

@@ -299,7 +299,7 @@ fn or_root(path: &[u8]) -> &[u8]
 
 /// The spelling of the path, where it holds an escape.
 fn retained(alloc: Global, path: &[u8]) -> Result<Option<BString>, AllocError>
-    ensures { IfOk result (λ spelling. option_map bstring_bytes spelling ≡ grammar.retained path.now) }
+    ensures { IfOk result (λ spelling. option_map bstring_bytes spelling ≡ grammar.retained_spelling path.now) }
 {
     if has_percent(path) {
         Ok(Some(BString::from_slice(alloc, path)?))

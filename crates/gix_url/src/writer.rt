@@ -8,8 +8,8 @@ ghost use Rattle.std.specs.Prelude.{◌≡◌, [], Ok, Err, IsOk, IfOk, IfErr, i
 ghost use Rattle.bstr.specs.BStr.{bstr_bytes};
 ghost use Rattle.bstr.specs.Owned.{bstring_bytes};
 ghost use Rattle.gix_url.specs.declared.error.WriteFault.{WriteFault};
-ghost use Rattle.gix_url.specs.Text.{text};
-ghost use Rattle.gix_url.specs.Pieces.{pieced, pieces_text, text_length, original_path_of};
+ghost use Rattle.gix_url.specs.Text.{original_path, text};
+ghost use Rattle.gix_url.specs.Pieces.{pieces_text, text_length, text_of_pieces};
 ghost use Rattle.gix_url.specs.Readings.{Written, IsUnwritten, WritesAgain};
 ghost use Rattle.gix_url.specs.Settled.{IsSettled};
 
@@ -88,7 +88,7 @@ impl Url {
     /// The path as it was spelled, with its escapes: the retained spelling where it still stands for the path, and
     /// else the path itself. It takes no memory.
     pub fn original_path(&self) -> BStr<'_>
-        ensures { bstr_bytes result ≡ original_path_of self.now }
+        ensures { bstr_bytes result ≡ original_path self.now }
     {
         match self.matching_spelling() {
             Some(spelling) => BStr::new(spelling),
@@ -105,7 +105,7 @@ impl Url {
 
     /// The pieces of the text, or why there is none. The digits of the port stand in the buffer.
     pub(crate) fn own_pieces<'a>(&'a self, digits: &'a mut Buffer) -> Result<Pieces<'a>, WriteFault>
-        ensures { pieced result ≡ text self.now }
+        ensures { text_of_pieces result ≡ text self.now }
     {
         let password = self.own_password();
         self.pieces(password, digits)

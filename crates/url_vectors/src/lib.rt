@@ -6,6 +6,8 @@
 #![tactic(auto)]
 
 #[cfg(test)]
+mod escaping;
+#[cfg(test)]
 mod leaves;
 #[cfg(test)]
 mod long;

@@ -4,9 +4,9 @@
 
 ghost use Rattle.std.specs.Prelude.{◌≡◌, ◌∷◌, Some, IfOk};
 ghost use Rattle.bstr.specs.Owned.{bstring_bytes};
-ghost use Rattle.gix_url.specs.Bytes.{slash};
+ghost use Rattle.gix_url.specs.Bytes.{lossy_text, slash};
 ghost use Rattle.gix_url.specs.HomeReadings.{CutsHome, user_of};
-ghost use Rattle.gix_url.specs.Homes.{home_user, shown};
+ghost use Rattle.gix_url.specs.Homes.{home_user};
 
 use super::ForUser;
 use crate::bytes::{after, cut};
@@ -36,7 +36,7 @@ pub(super) fn user_named(alloc: Global, name: &[u8]) -> Result<ForUser, AllocErr
 
 /// The path behind the home folder: a `/`, and what lies below it as text.
 pub(super) fn path_below(alloc: Global, below: &[u8]) -> Result<BString, AllocError>
-    ensures { IfOk result (λ path. bstring_bytes path ≡ slash ∷ shown below.now) }
+    ensures { IfOk result (λ path. bstring_bytes path ≡ slash ∷ lossy_text below.now) }
 {
     let mut path = String::from_str(alloc, "/")?;
     below.to_str_lossy_into(&mut path)?;

@@ -5,8 +5,8 @@
 
 ghost use Rattle.std.specs.Prelude.{◌≡◌, ◌<◌, ◌++◌, ◌∷◌, MatchOption, length};
 ghost use Rattle.gix_url.specs.Bytes.{FreeOf, left_bracket, right_bracket};
-ghost use Rattle.gix_url.specs.Grammar.{HasHelperForm, HelperParts, IsNeither};
-ghost use Rattle.gix_url.specs.Shapes.{AddressedCut, AddressedFront, Classifies, FrontCut, HasAddressedCut, HasFrontCut, HasScpCut, LacksBrackets, ScpCut};
+ghost use Rattle.gix_url.specs.Grammar.{AddressedCut, HasHelperForm, HelperCut, IsNeither};
+ghost use Rattle.gix_url.specs.Shapes.{AddressedFront, Classifies, FrontCut, HasAddressedCut, HasFrontCut, HasScpCut, LacksBrackets, ScpCut};
 
 use crate::bytes::{after, cut, cut_at_mark, is_free_of, is_helper_name, last_cut};
 use crate::ipv6::is_address;
@@ -87,7 +87,7 @@ fn classify_plain(bytes: &[u8]) -> Shape<'_>
 
 /// The name and the address of a remote helper.
 fn cut_helper(bytes: &[u8]) -> Option<(&[u8], &[u8])>
-    ensures { MatchOption result (¬ HasHelperForm bytes.now) (λ p. HelperParts bytes.now p.0.now p.1.now) }
+    ensures { MatchOption result (¬ HasHelperForm bytes.now) (λ p. HelperCut bytes.now p.0.now p.1.now) }
 {
     let (name, rest) = cut(bytes, b':')?;
     let address = after(rest, b':')?;

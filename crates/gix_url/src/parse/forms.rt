@@ -7,7 +7,7 @@ ghost use Rattle.std.specs.Prelude.{◌≡◌, true, IfErr, IfOk, codes, option_
 ghost use Rattle.bstr.specs.Owned.{bstring_bytes};
 ghost use Rattle.gix_url.specs.Bytes.{is_helper_name};
 ghost use Rattle.gix_url.specs.Flaws.{Flaw, UrlShape};
-ghost use Rattle.gix_url.specs.Grammar.{HelperParts, SpellsFile, SpellsHelper, SpellsLocal, helper_protocol};
+ghost use Rattle.gix_url.specs.Grammar.{HelperCut, SpellsFile, SpellsHelper, SpellsLocal, helper_protocol};
 ghost use Rattle.gix_url.specs.Readings.{NoneBut};
 ghost use Rattle.gix_url.specs.Shapes.{LocalShape};
 ghost use Rattle.gix_url.specs.Value.{path_alone};
@@ -58,7 +58,7 @@ pub(super) fn read_helper(
     name: &[u8],
     address: &[u8],
 ) -> Result<Url, Error>
-    requires { HelperParts input.now name.now address.now }
+    requires { HelperCut input.now name.now address.now }
     ensures found { IfOk result (λ v. SpellsHelper input.now v) }
     ensures refused { IfErr result (λ e. e ≡ Error.Memory) }
 {

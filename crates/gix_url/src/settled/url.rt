@@ -2,10 +2,9 @@
 
 ghost use Rattle.std.specs.Prelude.{◌≡◌, ◌↔◌, IsTrue, IsUtf8, Some, [], true, IfSome};
 ghost use Rattle.gix_url.specs.Value.Protocol.{git, helper_url, ssh};
-ghost use Rattle.gix_url.specs.Bytes.{begins_by};
-ghost use Rattle.gix_url.specs.Cuts.{is_path_start};
-ghost use Rattle.gix_url.specs.Settled.{IsBracketedHost, IsFairSpelling, IsRawPath, IsSettledGit, IsSettledHelperUrl, IsSettledSecure, IsSettledUrl, IsSettledWeb, IsTransportPath, first_byte, is_ftp};
-ghost use Rattle.gix_url.specs.SettledParts.{HasBareHost, HasBracketedHost, HasCredentials, HasFairSpelling, HasUrlForm, HasUrlParts, HasUrlPath, HasWebHost, IsEscapedText, IsGitTarget, IsHomeless, IsHosted, IsOtherForm, IsOtherScheme, IsOtherTarget, IsRaw, IsRootedOrEmpty, IsSecureTarget, IsSettledRaw, IsWeb, IsWebTarget, IsWrittenAsUrl};
+ghost use Rattle.gix_url.specs.Bytes.{begins_by, is_path_start};
+ghost use Rattle.gix_url.specs.Settled.{IsBracketedHost, IsFairSpelling, IsRawPath, IsSettledGit, IsSettledHelperUrl, IsSettledSecure, IsSettledUrl, IsSettledWeb, IsTransportPath, IsWeb, first_byte, is_ftp};
+ghost use Rattle.gix_url.specs.SettledParts.{HasBareHost, HasBracketedHost, HasCredentials, HasFairSpelling, HasUrlForm, HasUrlParts, HasUrlPath, HasWebHost, IsEscapedText, IsGitTarget, IsHomeless, IsHosted, IsOtherForm, IsOtherScheme, IsOtherTarget, IsRaw, IsRootedOrEmpty, IsSecureTarget, IsSettledRaw, IsWebTarget, IsWrittenAsUrl};
 
 use super::host::{is_bare_host, is_bracketed_host, is_web_host};
 use super::measure::has_fitting_text;

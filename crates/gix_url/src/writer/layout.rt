@@ -7,8 +7,8 @@ ghost use Rattle.std.specs.Prelude.{◌≡◌, ℕ, List, ◌++◌, option_map, 
 ghost use Rattle.gix_url.specs.Views.{protocol};
 ghost use Rattle.gix_url.specs.AddressTest.{is_ipv6_text};
 ghost use Rattle.gix_url.specs.Text as spec;
-ghost use Rattle.gix_url.specs.Text.{text, helper_text, path_text, scp_text, canonical_text};
-ghost use Rattle.gix_url.specs.Pieces.{pieced, piece_text, pieces_text, port_text, user_text, host_text, path_end_text, with_password};
+ghost use Rattle.gix_url.specs.Text.{text, helper_text, path_form_text, scp_text, canonical_text};
+ghost use Rattle.gix_url.specs.Pieces.{host_text, path_end_text, piece_text, pieces_text, port_text, text_of_pieces, user_text, with_password};
 
 use crate::error::WriteFault;
 use crate::location::Url;
@@ -26,7 +26,7 @@ impl Url {
         password: Option<&'a str>,
         digits: &'a mut Buffer,
     ) -> Result<Pieces<'a>, WriteFault>
-        ensures { pieced result ≡ text (with_password self.now password.entry) }
+        ensures { text_of_pieces result ≡ text (with_password self.now password.entry) }
     {
         match self.form(password)? {
             Form::Helper => Ok(self.helper_pieces()),
@@ -51,7 +51,7 @@ impl Url {
 
     /// The pieces of the path form.
     fn path_pieces(&self) -> Pieces<'_>
-        ensures { pieces_text result ≡ path_text self.now }
+        ensures { pieces_text result ≡ path_form_text self.now }
     {
         Pieces {
             scheme: SchemePieces::None,

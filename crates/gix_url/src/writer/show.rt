@@ -4,7 +4,7 @@
 //! formatter has. It takes no memory.
 
 ghost use Rattle.std.specs.Fmt.{WritesOnOk, WritesStyledOnOk};
-ghost use Rattle.gix_url.specs.Display.{lossy_text};
+ghost use Rattle.gix_url.specs.Bytes.{lossy_text};
 ghost use Rattle.gix_url.specs.Pieces.{pieces_text};
 ghost use Rattle.gix_url.specs.Sinks.{ShowsEnd, ShowsText, shows_joined, shows_nothing, shows_to_end};
 

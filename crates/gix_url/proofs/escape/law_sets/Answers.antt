@@ -1,5 +1,6 @@
+use Rattle.std.proofs.Common.{refl}
 use Rattle.gix_url.proofs.EscapeSets.{path_holds, password_holds, user_holds}
 use Rattle.gix_url.proofs.escape.law_sets.Goals as goal
 
 pub returns : goal.returns
-returns c = record { path = path_holds; password = password_holds; user = user_holds }
+returns c = record { path = (refl, path_holds); password = (refl, password_holds); user = (refl, user_holds) }

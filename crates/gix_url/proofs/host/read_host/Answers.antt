@@ -1,6 +1,6 @@
 -- A piece with a flaw names nothing.
 use Rattle.std.proofs.lemmas.Result.{err_from_is_err_and}
-use Rattle.gix_url.specs.HostPieces.{host_text, strictness}
+use Rattle.gix_url.specs.HostPieces.{named_text, strictness}
 use Rattle.gix_url.proofs.HostLemmas.{flawed_unnamed, names_utf8}
 use Rattle.gix_url.proofs.host.read_host.Goals as goal
 
@@ -10,4 +10,4 @@ returns-in_err-named-clause-unnamed c =
     rw p.1 (flawed_unnamed (strictness c.args.mode) c.args.piece.now c.in_err-named.field-0.0 c.in_err-named.ensures)
 
 pub returns-clause-text : goal.returns-clause-text
-returns-clause-text c = names_utf8 (strictness c.args.mode) c.args.piece.now (host_text c.in_ok-named.named) c.in_ok-named.named.port c.in_ok-named.ensures
+returns-clause-text c = names_utf8 (strictness c.args.mode) c.args.piece.now (named_text c.in_ok-named.named) c.in_ok-named.named.port c.in_ok-named.ensures

@@ -1,10 +1,8 @@
 -- What the rooms lend are the components of the location.
 use Rattle.std.proofs.Common.{◌≡◌, ◌∙◌, ◌⊎◌, inl, inr, ap, sym, ⊎_elim, subst}
 use Rattle.gix_url.specs.Value.{Location}
-use Rattle.gix_url.specs.Value.Protocol.{http, https}
 use Rattle.gix_url.specs.Views.{protocol}
-use Rattle.gix_url.specs.SettledParts.{IsWeb}
-use Rattle.gix_url.specs.Components.{original_path}
+use Rattle.gix_url.specs.Settled.{IsWeb}
 use Rattle.gix_url.specs.ComponentPieces.{HasQuery}
 use Rattle.gix_url.specs.ComponentViews.{components}
 use Rattle.gix_url.proofs.ComponentLemmas.{web_parts}

@@ -18,7 +18,7 @@ returns-then-is_empty-clause-refused c =
     c.missing_path.result
 
 pub copied_text-requires : goal.copied_text-requires
-copied_text-requires c = address_utf8 c.args.address.now c.requires.addressed
+copied_text-requires c = address_utf8 c.args.address.now c.requires.cut.addressed
 
 pub scp_location-requires : goal.scp_location-requires
 scp_location-requires c =

@@ -1,6 +1,6 @@
 -- The host that a piece names is text, and comes without a port.
 use Rattle.std.proofs.Common.{None, Some, string_bytes}
-use Rattle.gix_url.specs.HostPieces.{host_text}
+use Rattle.gix_url.specs.HostPieces.{named_text}
 use Rattle.gix_url.specs.Hosts.Mode.{bare}
 use Rattle.gix_url.specs.ScpPieces.{PieceFlaw}
 use Rattle.gix_url.proofs.HostLemmas.{names_utf8}
@@ -8,7 +8,7 @@ use Rattle.gix_url.proofs.ScpLemmas.{nothing_named, nothing_means, piece_found}
 use Rattle.gix_url.proofs.parse.scp.read_piece.Goals as goal
 
 pub build-requires : goal.build-requires
-build-requires c = names_utf8 bare c.args.piece.now (host_text c.in-Ok-Some.named) c.in-Ok-Some.named.port (rw c.in-Ok-Some.field-0-is at c.in-Ok-Some.ensures.named)
+build-requires c = names_utf8 bare c.args.piece.now (named_text c.in-Ok-Some.named) c.in-Ok-Some.named.port (rw c.in-Ok-Some.field-0-is at c.in-Ok-Some.ensures.named)
 
 pub returns-in-Err-clause-refused : goal.returns-in-Err-clause-refused
 returns-in-Err-clause-refused c =
@@ -21,5 +21,5 @@ returns-in-Ok-None-clause-refused c =
 
 pub returns-in-Ok-clause-found : goal.returns-in-Ok-clause-found
 returns-in-Ok-clause-found c =
-    piece_found c.args.piece.now (host_text c.in-Ok-Some.named) (string_bytes c.without_brackets.result) (string_bytes c.in-Ok.text) c.in-Ok-Some.named.port c.requires
+    piece_found c.args.piece.now (named_text c.in-Ok-Some.named) (string_bytes c.without_brackets.result) (string_bytes c.in-Ok.text) c.in-Ok-Some.named.port c.requires
     (rw c.in-Ok-Some.field-0-is at c.in-Ok-Some.ensures.named) c.in-Ok.ensures c.without_brackets.ensures

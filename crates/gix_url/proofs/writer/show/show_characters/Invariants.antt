@@ -1,7 +1,7 @@
 -- The characters so far were shown.
 use Rattle.std.proofs.Common.{◌≡◌, ℕ, List, ◌++◌, encode_utf8_all}
 use Rattle.std.specs.Fmt.{HasWrittenStyled, IsFlush}
-use Rattle.gix_url.specs.Display.{lossy_text}
+use Rattle.gix_url.specs.Bytes.{lossy_text}
 use Rattle.gix_url.proofs.writer.show.show_characters.Given as goal
 
 abbrev pub invariant-loop-character : goal.invariant-loop-character

@@ -2,12 +2,11 @@
 use Rattle.std.specs.Prelude.{◌≡◌, ℕ, ◌<◌, Bool, true, List, [], ◌∷◌, ◌++◌, length, Option, Some, IsUtf8}
 use Rattle.percent_encoding.specs.Percent.{percent_decode}
 use Rattle.gix_url.specs.Value.{Location}
-use Rattle.gix_url.specs.Bytes.{at_sign, backslash, Lacks, FreeOf, LacksWhiteSpace}
-use Rattle.gix_url.specs.Cuts.{is_path_start, StartsPath}
+use Rattle.gix_url.specs.Bytes.{at_sign, backslash, Lacks, FreeOf, LacksWhiteSpace, is_path_start, StartsPath}
 use Rattle.gix_url.specs.Escapes.{is_sound}
 use Rattle.gix_url.specs.Hosts.{Mode, Names}
 use Rattle.gix_url.specs.Authority.{Credentials}
-use Rattle.gix_url.specs.Grammar.{path_for, requires_path, retained}
+use Rattle.gix_url.specs.Grammar.{path_for, requires_path, retained_spelling}
 use Rattle.gix_url.specs.Text.{user_information, canonical_host, port_part, canonical_path}
 use Rattle.gix_url.specs.SettledParts.{HasFairSpelling}
 
@@ -42,7 +41,7 @@ pub record WritesHost (mode : Mode) (v : Location) (host named : List ℕ) : Typ
 
 -- the location with the spelling that its URL is read with
 abbrev pub as_read : Location → Location
-as_read v = record v { spelling = retained (canonical_path v) }
+as_read v = record v { spelling = retained_spelling (canonical_path v) }
 
 -- the written path means the path, and is written the same again
 pub record WritesPath (web : Bool) (v : Location) : Type 0 where
