@@ -91,4 +91,3 @@ text_of_pieces (Err fault) = Err fault
 abbrev pub text_length : Result (List ℕ) WriteFault → Result ℕ WriteFault
 text_length (Ok t) = Ok (length t)
 text_length (Err fault) = Err fault
-
