@@ -19,8 +19,10 @@ use gix_url::{Error, Url};
 use refusal::Refusal;
 use serde::Serialize;
 use std::alloc::{AllocError, Global};
+use std::env;
 use std::io::{self, BufRead, BufReader, Write};
 use std::process::ExitCode;
+use std::rt::Env;
 use told::Told;
 
 /// What is answered to a line: a location or why there is none.
@@ -41,7 +43,29 @@ enum Layout {
     Json,
 }
 
-/// What the command line asks for, or what is printed in place of an answer.
+/// The layout that the command line asks for; or the status to end with, once what there is to say was said.
+fn asked(rt: &(impl Env + AllocGlobal + Print + Eprint)) -> Result<Layout, u8> {
+    let Ok(words) = words(rt) else {
+        // Where standard error takes no line, the status still tells of the fault.
+        let _ = rt.eprintln("explain: the arguments are no text, or memory is refused");
+        return Err(2);
+    };
+    match options(rt.alloc(), words.as_slice()) {
+        Ok(given) if given.get_flag("json") => Ok(Layout::Json),
+        Ok(_) => Ok(Layout::People),
+        Err(error) => {
+            let _ = error.print(rt);
+            Err(if error.use_stderr() { 2 } else { 0 })
+        }
+    }
+}
+
+/// The words of the command line, the program's name first.
+fn words(rt: &(impl Env + AllocGlobal)) -> io::Result<Vec<String>> {
+    Ok(env::args(rt)?.collect(rt.alloc())?)
+}
+
+/// The options of the command line, or what is printed in place of an answer.
 fn options<'a>(alloc: Global, words: &'a [String]) -> Result<ArgMatches<'a>, clap::Error> {
     let json = Arg::new(alloc, "json")
         .long("json")
@@ -144,21 +168,18 @@ fn json(alloc: Global, answer: &Answer<'_>) -> Result<String, AllocError> {
     }
 }
 
-fn main(rt: HostRuntime) -> io::Result<ExitCode> {
-    let alloc = rt.alloc();
-    let words: Vec<String> = std::env::args(&rt)?.collect(alloc)?;
-    let layout = match options(alloc, words.as_slice()) {
-        Ok(given) if given.get_flag("json") => Layout::Json,
-        Ok(_) => Layout::People,
-        Err(error) => {
-            error.print(&rt)?;
-            return Ok(ExitCode::from(if error.use_stderr() { 2 } else { 0 }));
-        }
+fn main(rt: HostRuntime) -> ExitCode {
+    let layout = match asked(&rt) {
+        Ok(layout) => layout,
+        Err(status) => return ExitCode::from(status),
     };
-    let input = BufReader::new(alloc, rt.reader())?;
-    let outcome = run(alloc, input, &mut rt.stdout(), layout);
+    let alloc = rt.alloc();
+    let outcome = match BufReader::new(alloc, rt.reader()) {
+        Ok(input) => run(alloc, input, &mut rt.stdout(), layout),
+        Err(_) => Err(RunError::Memory),
+    };
     if let Err(fault) = &outcome {
-        eprintln!(rt; "explain: {fault}")?;
+        let _ = eprintln!(rt; "explain: {fault}");
     }
-    Ok(ExitCode::from(lines::status(&outcome)))
+    ExitCode::from(lines::status(&outcome))
 }
