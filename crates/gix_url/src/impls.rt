@@ -17,7 +17,13 @@ impl fmt::Display for Url {
     ghost output = { display };
 
     /// Shows the text of the location with `redacted` in place of a password, and U+FFFD in place of what is no
-    /// UTF-8. It fails where there is no such text, and where the formatter fails.
+    /// UTF-8. It fails where there is no such text, and where the formatter fails. It takes no memory.
+    ///
+    /// ```
+    /// fn log_line(alloc: Global, url: &Url) -> Result<String, AllocError> {
+    ///     format!(in alloc; "fetching {url}") // `fetching ssh://u:redacted@h/p`
+    /// }
+    /// ```
     fn fmt<W: fmt::Write>(&self, f: &mut fmt::Formatter<W>) -> fmt::Result
         ensures writes { DisplaysOnOk W.write_str_gives f.old result (display self.now) f.new }
         ensures fault { display self.now ≡ None → IsErr result }

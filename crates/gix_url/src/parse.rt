@@ -28,8 +28,27 @@ use url::read_url;
 /// The one location that the bytes spell.
 ///
 /// They are a remote helper's address (`name::address`), a URL, the scp form (`user@host:path`) or a local path.
-/// Where they spell no location, the error names a flaw that stands in them. The empty text is refused without
-/// memory.
+/// Where they spell no location, the error names a flaw that stands in them. `docs/GRAMMAR.md` says which texts are
+/// which, after gitremote-helpers, git-clone's "GIT URLS" and RFC 3986.
+///
+/// Memory is asked for to copy each part, and on a refusal to copy the bytes into the error; the empty text is refused
+/// without memory.
+///
+/// # Errors
+///
+/// [`Error::EmptyLocal`], [`Error::MissingPath`], [`Error::NotUtf8`], [`Error::TooLong`] and [`Error::BadUrl`], each where
+/// what it names stands in the bytes. [`Error::Memory`] where memory is refused.
+///
+/// ```
+/// /// Whether bytes that somebody sent spell a location.
+/// fn is_location(alloc: Global, bytes: &[u8]) -> Result<bool, Error> {
+///     match parse(alloc, BStr::new(bytes)) {
+///         Ok(_) => Ok(true),
+///         Err(Error::Memory) => Err(Error::Memory),
+///         Err(_) => Ok(false),
+///     }
+/// }
+/// ```
 pub fn parse(alloc: Global, input: BStr<'_>) -> Result<Url, Error>
     ensures { Reads (bstr_bytes input.entry) result }
 {
@@ -37,14 +56,26 @@ pub fn parse(alloc: Global, input: BStr<'_>) -> Result<Url, Error>
 }
 
 impl Url {
-    /// The one location that the bytes spell: [`parse`].
+    /// The one location that the bytes spell: [`parse`], with its errors.
+    ///
+    /// ```
+    /// fn of_line(alloc: Global, line: &[u8]) -> Result<Url, Error> {
+    ///     Url::from_bytes(alloc, BStr::new(line))
+    /// }
+    /// ```
     pub fn from_bytes(alloc: Global, input: BStr<'_>) -> Result<Url, Error>
         ensures { Reads (bstr_bytes input.entry) result }
     {
         parse(alloc, input)
     }
 
-    /// The one location that the text spells: [`parse`] of its bytes.
+    /// The one location that the text spells: [`parse`] of its bytes, with its errors.
+    ///
+    /// ```
+    /// fn port_of(alloc: Global, text: &str) -> Result<Option<u16>, Error> {
+    ///     Ok(Url::from_text(alloc, text)?.port) // 22 of `ssh://h:22/p`, none of `h:22/p`
+    /// }
+    /// ```
     pub fn from_text(alloc: Global, text: &str) -> Result<Url, Error>
         ensures { Reads text.now result }
     {

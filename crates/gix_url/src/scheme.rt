@@ -13,6 +13,12 @@ use std::alloc::Global;
 use std::fmt;
 
 /// What a location is reached by.
+///
+/// ```
+/// fn is_encrypted(scheme: &Scheme) -> bool {
+///     matches!(scheme, Scheme::Ssh | Scheme::Https)
+/// }
+/// ```
 #[derive(Debug, Drop, Serialize, Deserialize)]
 pub enum Scheme {
     /// A path of the local file system, or a `file` URL.
@@ -34,8 +40,19 @@ pub enum Scheme {
 }
 
 impl Scheme {
-    /// The scheme with this text, to the letter: one with a name of its own, or any other by its text. It takes
-    /// no memory for a name of its own.
+    /// The scheme with this text, to the letter: one with a name of its own, or any other by its text. Letter case
+    /// counts. It takes no memory for a name of its own, and else asks once for the text.
+    ///
+    /// # Errors
+    ///
+    /// [`Error::Memory`] where the text can't be copied.
+    ///
+    /// ```
+    /// fn is_web(alloc: Global, name: &str) -> Result<bool, Error> {
+    ///     let scheme = Scheme::from_text(alloc, name)?;
+    ///     Ok(matches!(scheme, Scheme::Http | Scheme::Https)) // of `https`, but not of `HTTPS`
+    /// }
+    /// ```
     pub fn from_text(alloc: Global, text: &str) -> Result<Scheme, Error>
         ensures found { IfOk result (λ scheme. protocol scheme ≡ protocol_of text.now) }
         ensures memory { IfErr result (λ e. e ≡ Error.Memory) }
@@ -59,7 +76,13 @@ impl Scheme {
         Scheme::from_text(alloc, text)
     }
 
-    /// The text that the scheme is written with. It takes no memory.
+    /// The text that the scheme is written with. It takes no memory. `ssh+git` and `git+ssh` are read as `ssh`.
+    ///
+    /// ```
+    /// fn protocol_of(url: &Url) -> &str {
+    ///     url.scheme.as_str() // `ssh` of `git@host:repo` and of `ssh+git://host/repo`
+    /// }
+    /// ```
     pub fn as_str(&self) -> &str
         ensures { result.now ≡ protocol_text (protocol self.now) }
     {
@@ -75,7 +98,13 @@ impl Scheme {
         }
     }
 
-    /// The port that the scheme stands for where a location names none: 80, 443, 22 or 9418.
+    /// The port that the scheme stands for where a location names none: 80, 443, 22 or 9418. It takes no memory.
+    ///
+    /// ```
+    /// fn port_of(scheme: &Scheme) -> u16 {
+    ///     scheme.default_port().unwrap_or(0) // 9418 of `Scheme::Git`, 0 of `Scheme::File`
+    /// }
+    /// ```
     pub fn default_port(&self) -> Option<u16>
         ensures { result ≡ default_port_of (protocol self.now) }
     {

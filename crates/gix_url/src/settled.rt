@@ -23,6 +23,19 @@ use url::{is_settled_git, is_settled_helper_url, is_settled_secure, is_settled_w
 
 impl Url {
     /// Whether the location's text reads as the same fields and is written the same again. It takes no memory.
+    ///
+    /// Of what is read most is settled; `[host]::path` isn't, whose text `host::path` names a helper, nor is a location
+    /// with a field that was changed so that its text means another place.
+    ///
+    /// ```
+    /// /// The text to store for a location, if others read it as the same.
+    /// fn to_store(alloc: Global, url: &Url) -> Result<Option<BString>, Error> {
+    ///     if !url.is_settled() {
+    ///         return Ok(None);
+    ///     }
+    ///     Ok(Some(url.to_bstring(alloc)?))
+    /// }
+    /// ```
     pub fn is_settled(&self) -> bool
         ensures { IsTrue result ↔ IsSettled self.now }
     {
