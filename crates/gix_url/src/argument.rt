@@ -60,7 +60,7 @@ impl Url {
     /// A host may begin with `-`. An IPv6 text of Secure Shell is without its brackets, one of other schemes with them.
     ///
     /// ```
-    /// fn is_refused(url: &Url) -> bool {
+    /// fn is_refused_host(url: &Url) -> bool {
     ///     // `Dangerous("-h")` of `ssh://-h/repo`, `Usable("::1")` of `ssh://[::1]/repo`
     ///     matches!(url.host_as_argument(), ArgumentSafety::Dangerous(_))
     /// }

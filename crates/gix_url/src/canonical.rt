@@ -30,7 +30,11 @@ impl Url {
     /// ```
     /// /// Gives a local location the path that the file system has for it.
     /// fn resolve<R: Files + AllocGlobal>(rt: &R, url: &mut Url) -> Result<(), Error> {
-    ///     url.canonicalize(|path| fs::canonicalize(rt, path).ok().map(|path| path.into_string()))
+    ///     url.canonicalize(|path| {
+    ///         fs::canonicalize(rt, path)
+    ///             .ok()
+    ///             .map(|path| path.into_string())
+    ///     })
     /// }
     /// ```
     pub fn canonicalize<F: FnOnce(&str) -> Option<String> + Drop>(
@@ -73,7 +77,11 @@ impl Url {
     /// /// The same location by the path that the file system has for it.
     /// fn real<R: Files + AllocGlobal>(rt: &R, url: &Url) -> Result<Url, Error> {
     ///     let alloc = rt.alloc();
-    ///     url.canonicalized(alloc, |path| fs::canonicalize(rt, path).ok().map(|path| path.into_string()))
+    ///     url.canonicalized(alloc, |path| {
+    ///         fs::canonicalize(rt, path)
+    ///             .ok()
+    ///             .map(|path| path.into_string())
+    ///     })
     /// }
     /// ```
     pub fn canonicalized<F: FnOnce(&str) -> Option<String> + Drop>(

@@ -30,7 +30,13 @@ use fields::lend_query;
 use std::alloc::{AllocError, Global};
 
 /// The path of a location with the query and the fragment that stand in it, as they are meant: escapes stand for
-/// their bytes, where the location's spelling has them.
+/// their bytes, where the location's spelling has them. It is what [`Url::path_query_fragment`] answers.
+///
+/// ```
+/// fn fragment_of<'a>(parts: &PathComponents<'a>) -> Option<BStr<'a>> {
+///     parts.fragment
+/// }
+/// ```
 #[derive(Debug, Drop)]
 pub struct PathComponents<'a> {
     /// The path before the query and the fragment.
@@ -41,7 +47,13 @@ pub struct PathComponents<'a> {
     pub fragment: Option<BStr<'a>>,
 }
 
-/// A name or a value of a query.
+/// A name or a value of a query. Two are equal where their bytes are, lent or not.
+///
+/// ```
+/// fn is_empty(value: &QueryText<'_>) -> bool {
+///     value.as_bstr().as_bytes().is_empty()
+/// }
+/// ```
 #[derive(Debug, Drop)]
 pub enum QueryText<'a> {
     /// A part of the location's path, as it stands there.
@@ -78,7 +90,9 @@ impl Url {
     ///         return Ok(false);
     ///     };
     ///     for (name, value) in query {
-    ///         if name.as_bstr().as_bytes() == b"service" && value.as_bstr().as_bytes() == service {
+    ///         if name.as_bstr().as_bytes() == b"service".as_slice()
+    ///             && value.as_bstr().as_bytes() == service
+    ///         {
     ///             return Ok(true);
     ///         }
     ///     }

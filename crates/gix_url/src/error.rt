@@ -11,7 +11,19 @@ use std::alloc::AllocError;
 use std::io;
 use thiserror::Error;
 
-/// The form that a text was taken for.
+/// The form that a text was taken for. `Display` names it, as in `the URL has no path`.
+///
+/// ```
+/// fn is_scp(error: &Error) -> bool {
+///     matches!(
+///         error,
+///         Error::MissingPath {
+///             kind: UrlKind::Scp,
+///             ..
+///         }
+///     )
+/// }
+/// ```
 #[derive(Clone, Copy, Debug, PartialEq, Eq)]
 pub enum UrlKind {
     /// A URL: `://` stands in it.
@@ -22,7 +34,19 @@ pub enum UrlKind {
     Local,
 }
 
-/// What is wrong with a URL, or with the host of the scp form.
+/// What is wrong with a URL, or with the host of the scp form. `Display` says it in words.
+///
+/// ```
+/// fn has_bad_port(error: &Error) -> bool {
+///     matches!(
+///         error,
+///         Error::BadUrl {
+///             fault: UrlFault::BadPort,
+///             ..
+///         }
+///     )
+/// }
+/// ```
 #[derive(Clone, Copy, Debug, PartialEq, Eq)]
 pub enum UrlFault {
     /// What stands before `://` is no scheme.
@@ -35,7 +59,14 @@ pub enum UrlFault {
     HostRequired,
 }
 
-/// Why a location has no text.
+/// Why a location has no text. What is read always has one: it is a location made of parts, or changed by hand, that can
+/// lack it.
+///
+/// ```
+/// fn lacks_host(error: &WriteError) -> bool {
+///     matches!(error, WriteError::Fault(WriteFault::UserWithoutHost))
+/// }
+/// ```
 #[derive(Clone, Copy, Debug, PartialEq, Eq)]
 pub enum WriteFault {
     /// The name of the remote helper is no such name.
@@ -52,6 +83,13 @@ pub enum WriteFault {
 ///
 /// `Display` says it in words, `Debug` by its fields. Neither shows bytes of what was refused, which may hold a password:
 /// `Debug` shows their length. Who wants the bytes finds them in the fields.
+///
+/// ```
+/// /// Whether the same text can be read at another time: nothing is wrong with it.
+/// fn is_passing(error: &Error) -> bool {
+///     matches!(error, Error::Memory)
+/// }
+/// ```
 #[derive(Drop, Error)]
 pub enum Error {
     /// Memory was refused.
@@ -125,6 +163,12 @@ impl From<AllocError> for Error {
 }
 
 /// Why a location was not written to a writer.
+///
+/// ```
+/// fn lacks_host(error: &WriteError) -> bool {
+///     matches!(error, WriteError::Fault(WriteFault::UserWithoutHost))
+/// }
+/// ```
 #[derive(Debug, Drop, Error)]
 pub enum WriteError {
     /// The location has no text. Nothing was written.

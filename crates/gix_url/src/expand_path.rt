@@ -27,6 +27,12 @@ use std::alloc::{AllocError, Global};
 /// The user in whose home folder a path begins.
 ///
 /// The current user comes before all others in order, and others by the bytes of their names.
+///
+/// ```
+/// fn is_current(user: &ForUser) -> bool {
+///     matches!(user, ForUser::Current)
+/// }
+/// ```
 #[derive(Debug, Drop)]
 pub enum ForUser {
     /// The current user.
@@ -37,6 +43,13 @@ pub enum ForUser {
 
 impl ForUser {
     /// An equal user. It asks for memory once for a name that isn't empty, and not at all for the current user.
+    ///
+    /// ```
+    /// fn two_of(alloc: Global, user: ForUser) -> Result<(ForUser, ForUser), Error> {
+    ///     let copy = user.clone(alloc)?;
+    ///     Ok((user, copy))
+    /// }
+    /// ```
     ///
     /// # Errors
     ///

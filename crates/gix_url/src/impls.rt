@@ -22,7 +22,13 @@ impl fmt::Display for Url {
 
     /// Shows the text of the location with `redacted` in place of a password, and U+FFFD in place of what is no
     /// UTF-8. Width, precision and flags change nothing. It fails where there is no such text, and then shows nothing;
-    /// and where the formatter fails.
+    /// and where the formatter fails. It takes no memory.
+    ///
+    /// ```
+    /// fn log_line(alloc: Global, url: &Url) -> Result<String, AllocError> {
+    ///     format!(in alloc; "fetching {url}") // `fetching ssh://u:redacted@h/p`
+    /// }
+    /// ```
     fn fmt<W: fmt::Write>(&self, f: &mut fmt::Formatter<W>) -> fmt::Result
         ensures writes { DisplaysOnOk W.write_str_gives f.old result (display self.now) f.new }
         ensures styled { DisplaysStyledOnOk W.write_str_gives f.old result (display self.now) f.new }

@@ -9,13 +9,12 @@ ghost use Rattle.std.specs.Prelude.{IsTrue, ◌↔◌};
 use std::net::Ipv6Addr;
 
 /// Whether the text is eight groups of one to four hexadecimal digits joined by `:`, where one `::` may stand for one
-/// or more groups that are zero, and an IPv4 text for the last two (RFC 4291, section 2.2). Brackets and zones are no
-/// part of it. It takes no memory.
+/// or more groups that are zero, and an IPv4 text for the last two (RFC 4291, section 2.2). Brackets and zones are no part
+/// of it. It takes no memory.
 ///
 /// ```
-/// /// Whether the host of a location of Secure Shell has to be written in brackets.
 /// fn needs_brackets(host: &str) -> bool {
-///     is_ipv6(host)
+///     is_ipv6(host) // `::1`, but neither `[::1]` nor `fe80::1%eth0`
 /// }
 /// ```
 pub fn is_ipv6(text: &str) -> bool

@@ -30,6 +30,25 @@ pub use crate::value_law::law_value;
 /// - `components`: what is read of a settled location of HTTP has the same path, query and fragment.
 /// - `before`: each location that bytes spelled before the scp form took `user@[address]:path` is still what they
 ///   spell, and bytes without that shape spell nothing else. Who stored such texts reads them as before.
+///
+/// A law is a call with an empty body. A proof cites it where it was made:
+///
+/// ```
+/// /// Whether two remotes are written alike. Then they have the same public fields.
+/// fn are_alike(alloc: Global, one: &Url, other: &Url) -> Result<bool, Error>
+///     ensures { IfOk result (λ alike. alike ≡ true → fields one.now ≡ fields other.now) }
+/// {
+///     if !one.is_settled() || !other.is_settled() {
+///         return Ok(false);
+///     }
+///     law_value(one);
+///     law_value(other);
+///     law_separation();
+///     let text = one.to_bstring(alloc)?;
+///     let other_text = other.to_bstring(alloc)?;
+///     Ok(text.as_bytes() == other_text.as_bytes())
+/// }
+/// ```
 pub fn law_separation()
     ensures unique { Unique }
     ensures settled_again { SettledAgain }

@@ -45,7 +45,17 @@ impl From<AllocError> for RunError {
 /// How often the input is read at most: a reader that hasn't ended by then is given up.
 const MOST_READS: u64 = 1 << 40;
 
-/// The line, without its end, that the program says of a fault on standard error. It takes no memory.
+/// The line, without its end, that the program `locations` says of a fault on standard error. It takes no memory.
+///
+/// ```
+/// /// What a program of one's own says of a run, and the status that it ends with.
+/// fn ended(rt: &impl Eprint, outcome: &Result<bool, RunError>) -> u8 {
+///     if let Err(fault) = outcome {
+///         let _ = rt.eprintln(lines::fault_line(fault));
+///     }
+///     lines::status(outcome)
+/// }
+/// ```
 pub fn fault_line(fault: &RunError) -> &'static str
     ensures { result.now ≡ fault_text fault.now }
 {
@@ -56,7 +66,8 @@ pub fn fault_line(fault: &RunError) -> &'static str
     }
 }
 
-/// The exit status of the program: 0 where every line was settled, 1 where one was not, 2 for a fault.
+/// The exit status of the program: 0 where every line was settled, 1 where one was not, 2 for a fault. It takes no
+/// memory. [`fault_line`] has an example.
 pub fn status(outcome: &Result<bool, RunError>) -> u8
     ensures { result ≡ status_of outcome.now }
 {
@@ -76,6 +87,16 @@ pub fn status(outcome: &Result<bool, RunError>) -> u8
 ///
 /// `Ok(true)` says that every line was settled. The errors are those of [`RunError`]; a reader that hasn't ended
 /// after 2^40 calls is answered `Read`. The whole answer is built in memory before it is written.
+///
+/// ```
+/// /// The answers to lines in memory.
+/// fn answers(alloc: Global, input: &[u8]) -> Result<Vec<u8>, RunError> {
+///     let mut input = input;
+///     let mut output = Vec::new(alloc);
+///     lines::run(alloc, &mut input, &mut output)?;
+///     Ok(output)
+/// }
+/// ```
 pub fn run<R: Read, W: Write>(
     alloc: Global,
     input: &mut R,

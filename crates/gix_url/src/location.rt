@@ -10,6 +10,13 @@ use std::marker::Model;
 ///
 /// The fields may be changed by hand. A location may have no text then, or one that is read as something else:
 /// [`Url::is_settled`] tells. `Debug` and `Display` show `redacted` in place of a password.
+///
+/// ```
+/// /// Whether a command of Secure Shell needs the option for a port.
+/// fn names_port(url: &Url) -> bool {
+///     matches!(&url.scheme, Scheme::Ssh) && url.port.is_some()
+/// }
+/// ```
 #[derive(Drop)]
 pub struct Url {
     /// What the location is reached by.
@@ -20,14 +27,16 @@ pub struct Url {
     /// The password, decoded. It is not written without a user.
     pub password: Option<String>,
     /// The host. It may be empty, and may begin with `-`: hand it to a command by [`Url::host_as_argument`]. An IPv6
-    /// text of Secure Shell is without its brackets, one of other schemes with them.
+    /// text of Secure Shell is without its brackets, one of other schemes with them. A `:` can stand at its end, where the
+    /// text had one without a port.
     pub host: Option<String>,
     /// Whether the location is written in the form that is no URL, where it has one: as `host:path`, or as a path.
     pub serialize_alternative_form: bool,
     /// The port. It may be 0, which only HTTP's locations are refused with when they are read.
     pub port: Option<u16>,
-    /// The path, decoded. It may be any bytes. The path of an HTTP location holds its query and its fragment too, where
-    /// a decoded `?` or `#` looks like one that separates them.
+    /// The path, decoded. It may be any bytes, and may begin with `-`. The path of an HTTP location holds its query and its
+    /// fragment too, where a decoded `?` or `#` looks like one that separates them: [`Url::path_query_fragment`] tells them
+    /// apart. A home folder of Secure Shell and Git stands at its front without a `/`, as in `~user/repo`.
     pub path: BString,
     /// The escaped spelling of the path, where the text had one. It counts while it still stands for the path.
     pub(crate) spelling: Option<BString>,

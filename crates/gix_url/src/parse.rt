@@ -27,21 +27,26 @@ use url::read_url;
 
 /// The one location that the bytes spell.
 ///
-/// They are a remote helper's address (`name::address`, see gitremote-helpers), a URL (RFC 3986), the scp form
-/// (`user@host:path`) or a local path, as in git-clone's section on URLs. Memory is asked for once for each part that
-/// the location owns.
+/// They are a remote helper's address (`name::address`), a URL, the scp form (`user@host:path`) or a local path.
+/// Where they spell no location, the error names a flaw that stands in them. `docs/GRAMMAR.md` says which texts are
+/// which, after gitremote-helpers, git-clone's "GIT URLS" and RFC 3986.
+///
+/// Memory is asked for to copy each part, and on a refusal to copy the bytes into the error; the empty text is refused
+/// without memory.
 ///
 /// # Errors
 ///
-/// Where the bytes spell no location, the error names a flaw that stands in them, and holds them, or their front:
-/// [`Error::TooLong`], [`Error::BadUrl`], [`Error::NotUtf8`], [`Error::MissingPath`] or, for the empty text and without
-/// memory, [`Error::EmptyLocal`]. [`Error::Memory`] where memory is refused.
+/// [`Error::EmptyLocal`], [`Error::MissingPath`], [`Error::NotUtf8`], [`Error::TooLong`] and [`Error::BadUrl`], each where
+/// what it names stands in the bytes. [`Error::Memory`] where memory is refused.
 ///
 /// ```
-/// /// Whether the bytes name a place that is reached by Secure Shell.
-/// fn is_secure_shell(alloc: Global, bytes: &[u8]) -> Result<bool, Error> {
-///     let url = parse(alloc, BStr::new(bytes))?;
-///     Ok(matches!(url.scheme, Scheme::Ssh))
+/// /// Whether bytes that somebody sent spell a location.
+/// fn is_location(alloc: Global, bytes: &[u8]) -> Result<bool, Error> {
+///     match parse(alloc, BStr::new(bytes)) {
+///         Ok(_) => Ok(true),
+///         Err(Error::Memory) => Err(Error::Memory),
+///         Err(_) => Ok(false),
+///     }
 /// }
 /// ```
 pub fn parse(alloc: Global, input: BStr<'_>) -> Result<Url, Error>
@@ -51,16 +56,11 @@ pub fn parse(alloc: Global, input: BStr<'_>) -> Result<Url, Error>
 }
 
 impl Url {
-    /// The one location that the bytes spell: [`parse`], which says what it asks for and when.
-    ///
-    /// # Errors
-    ///
-    /// Those of [`parse`].
+    /// The one location that the bytes spell: [`parse`], with its errors.
     ///
     /// ```
-    /// /// The path that bytes name, decoded.
-    /// fn path_of(alloc: Global, bytes: &[u8]) -> Result<BString, Error> {
-    ///     Ok(Url::from_bytes(alloc, BStr::new(bytes))?.path)
+    /// fn of_line(alloc: Global, line: &[u8]) -> Result<Url, Error> {
+    ///     Url::from_bytes(alloc, BStr::new(line))
     /// }
     /// ```
     pub fn from_bytes(alloc: Global, input: BStr<'_>) -> Result<Url, Error>
@@ -69,16 +69,11 @@ impl Url {
         parse(alloc, input)
     }
 
-    /// The one location that the text spells: [`parse`] of its bytes.
-    ///
-    /// # Errors
-    ///
-    /// Those of [`parse`].
+    /// The one location that the text spells: [`parse`] of its bytes, with its errors.
     ///
     /// ```
-    /// /// The user that a remote names, if it names one.
-    /// fn user_of(alloc: Global, remote: &str) -> Result<Option<String>, Error> {
-    ///     Ok(Url::from_text(alloc, remote)?.user)
+    /// fn port_of(alloc: Global, text: &str) -> Result<Option<u16>, Error> {
+    ///     Ok(Url::from_text(alloc, text)?.port) // 22 of `ssh://h:22/p`, none of `h:22/p`
     /// }
     /// ```
     pub fn from_text(alloc: Global, text: &str) -> Result<Url, Error>

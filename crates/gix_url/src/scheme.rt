@@ -14,6 +14,12 @@ use std::alloc::Global;
 use std::fmt;
 
 /// What a location is reached by.
+///
+/// ```
+/// fn is_encrypted(scheme: &Scheme) -> bool {
+///     matches!(scheme, Scheme::Ssh | Scheme::Https)
+/// }
+/// ```
 #[derive(Debug, Drop, Serialize, Deserialize)]
 pub enum Scheme {
     /// A path of the local file system, or a `file` URL.
@@ -35,19 +41,17 @@ pub enum Scheme {
 }
 
 impl Scheme {
-    /// The scheme with this text, to the letter: one with a name of its own, or any other by its text. It takes
-    /// no memory for a name of its own, and else asks once.
-    ///
-    /// Nothing is checked: any text is a scheme's here, also one that no URL has. `SSH` is not Secure Shell.
+    /// The scheme with this text, to the letter: one with a name of its own, or any other by its text. Letter case
+    /// counts. It takes no memory for a name of its own, and else asks once for the text.
     ///
     /// # Errors
     ///
-    /// [`Error::Memory`] where memory is refused, and no other.
+    /// [`Error::Memory`] where the text can't be copied.
     ///
     /// ```
-    /// /// The port that a scheme of this name stands for.
-    /// fn port_of(alloc: Global, name: &str) -> Result<Option<u16>, Error> {
-    ///     Ok(Scheme::from_text(alloc, name)?.default_port())
+    /// fn is_web(alloc: Global, name: &str) -> Result<bool, Error> {
+    ///     let scheme = Scheme::from_text(alloc, name)?;
+    ///     Ok(matches!(scheme, Scheme::Http | Scheme::Https)) // of `https`, but not of `HTTPS`
     /// }
     /// ```
     pub fn from_text(alloc: Global, text: &str) -> Result<Scheme, Error>
@@ -70,12 +74,11 @@ impl Scheme {
         Scheme::from_text(alloc, as_text(text))
     }
 
-    /// The text that the scheme is written with, as in `https`; of a remote helper its name. It takes no memory.
+    /// The text that the scheme is written with. It takes no memory. `ssh+git` and `git+ssh` are read as `ssh`.
     ///
     /// ```
-    /// /// Whether both locations are reached by the same means.
-    /// fn are_reached_alike(one: &Url, other: &Url) -> bool {
-    ///     one.scheme.as_str() == other.scheme.as_str()
+    /// fn protocol_of(url: &Url) -> &str {
+    ///     url.scheme.as_str() // `ssh` of `git@host:repo` and of `ssh+git://host/repo`
     /// }
     /// ```
     pub fn as_str(&self) -> &str
@@ -93,13 +96,11 @@ impl Scheme {
         }
     }
 
-    /// The port that the scheme stands for where a location names none: 80, 443, 22 or 9418, as registered for HTTP,
-    /// HTTPS, Secure Shell and Git. Local files and remote helpers have none.
+    /// The port that the scheme stands for where a location names none: 80, 443, 22 or 9418. It takes no memory.
     ///
     /// ```
-    /// /// Whether the port of the location needn't be written.
-    /// fn is_port_spare(url: &Url) -> bool {
-    ///     url.port == url.scheme.default_port()
+    /// fn port_of(scheme: &Scheme) -> u16 {
+    ///     scheme.default_port().unwrap_or(0) // 9418 of `Scheme::Git`, 0 of `Scheme::File`
     /// }
     /// ```
     pub fn default_port(&self) -> Option<u16>

@@ -12,6 +12,20 @@ use bstr::BString;
 pub trait TestUrlExtension {
     /// The location with these parts and no retained spelling, as they are: nothing is read, nothing is refused,
     /// and the location may have no text. It takes no memory.
+    ///
+    /// ```
+    /// fn without_host(path: BString) -> Url {
+    ///     <Url as TestUrlExtension>::from_parts_unchecked(
+    ///         Scheme::Https,
+    ///         None,
+    ///         None,
+    ///         None,
+    ///         None,
+    ///         path,
+    ///         false,
+    ///     )
+    /// }
+    /// ```
     fn from_parts_unchecked(
         scheme: Scheme,
         user: Option<String>,

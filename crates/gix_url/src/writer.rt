@@ -30,7 +30,13 @@ use std::alloc::Global;
 use std::io::Write;
 
 impl Url {
-    /// Writes the text of the location. It takes no memory.
+    /// Writes the text of the location, the password in it as it is. It takes no memory.
+    ///
+    /// ```
+    /// fn append(out: &mut Vec<u8>, url: &Url) -> Result<(), WriteError> {
+    ///     url.write_to(out)
+    /// }
+    /// ```
     ///
     /// # Errors
     ///
@@ -51,6 +57,13 @@ impl Url {
 
     /// The length of the text of the location, in bytes. It takes no memory.
     ///
+    /// ```
+    /// /// Whether the text fits into a field of so many bytes.
+    /// fn fits(url: &Url, room: u128) -> bool {
+    ///     url.text_len().is_ok_and(|length| length <= room)
+    /// }
+    /// ```
+    ///
     /// # Errors
     ///
     /// The fault, exactly where the location has no text.
@@ -64,7 +77,15 @@ impl Url {
 
     /// The text of the location. Memory is asked for once, for the whole text, and not at all where there is none.
     ///
-    /// The text of a settled location spells a location with the same public fields and the same text.
+    /// The text of a settled location spells a location with the same public fields and the same text. A password is
+    /// in it as it is: `Display` hides it.
+    ///
+    /// ```
+    /// /// A text in the form that this library writes.
+    /// fn rewritten(alloc: Global, text: &str) -> Result<BString, Error> {
+    ///     Url::from_text(alloc, text)?.to_bstring(alloc) // `ssh://h/p` of `ssh://H:/p`
+    /// }
+    /// ```
     ///
     /// # Errors
     ///
@@ -87,6 +108,12 @@ impl Url {
 
     /// The path as it was spelled, with its escapes: the retained spelling where it still stands for the path, and
     /// else the path itself. It takes no memory.
+    ///
+    /// ```
+    /// fn spelled(url: &Url) -> BStr<'_> {
+    ///     url.original_path() // `/my%20repo` of `https://host/my%20repo`, whose path is `/my repo`
+    /// }
+    /// ```
     pub fn original_path(&self) -> BStr<'_>
         ensures { bstr_bytes result ≡ original_path self.now }
     {

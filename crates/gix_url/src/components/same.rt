@@ -21,9 +21,8 @@ impl<'a> QueryText<'a> {
     /// The bytes of the name or the value. It takes no memory.
     ///
     /// ```
-    /// /// How long the name is, in bytes, once a `+` in it is a space.
-    /// fn length_of(name: &QueryText<'_>) -> usize {
-    ///     name.as_bstr().len()
+    /// fn is_empty(value: &QueryText<'_>) -> bool {
+    ///     value.as_bstr().as_bytes().is_empty()
     /// }
     /// ```
     pub fn as_bstr(&self) -> BStr<'_>
@@ -36,6 +35,12 @@ impl<'a> QueryText<'a> {
     }
 
     /// The same name or value once more: lent where this is lent, and else copied.
+    ///
+    /// ```
+    /// fn kept<'a>(alloc: Global, value: &QueryText<'a>) -> Result<QueryText<'a>, Error> {
+    ///     value.clone(alloc)
+    /// }
+    /// ```
     ///
     /// # Errors
     ///
@@ -64,7 +69,13 @@ impl<'a> QueryText<'a> {
 }
 
 impl<'a> PathComponents<'a> {
-    /// The same components once more.
+    /// The same components once more. What is lent stays lent.
+    ///
+    /// ```
+    /// fn both<'a>(alloc: Global, parts: &PathComponents<'a>) -> Result<PathComponents<'a>, Error> {
+    ///     parts.clone(alloc)
+    /// }
+    /// ```
     ///
     /// # Errors
     ///

@@ -1,0 +1,72 @@
+//! Examples of arguments of commands.
+
+use bstr::BStr;
+use gix_url::{ArgumentSafety, Url};
+use std::test::Fail;
+
+/// A user that may not be handed to a command.
+#[derive(Clone, Copy, Debug)]
+struct Refused;
+
+fn ssh_user<'a>(url: &'a Url) -> Result<Option<&'a str>, Refused> {
+    match url.user_as_argument() {
+        ArgumentSafety::Absent => Ok(None),
+        ArgumentSafety::Usable(user) => Ok(Some(user)),
+        ArgumentSafety::Dangerous(_) => Err(Refused),
+    }
+}
+
+fn is_refused(url: &Url) -> bool {
+    // `Dangerous("-Fconfig")` of `ssh://-Fconfig@host/repo`, `Absent` of `ssh://host/repo`
+    matches!(url.user_as_argument(), ArgumentSafety::Dangerous(_))
+}
+
+fn is_refused_host(url: &Url) -> bool {
+    // `Dangerous("-h")` of `ssh://-h/repo`, `Usable("::1")` of `ssh://[::1]/repo`
+    matches!(url.host_as_argument(), ArgumentSafety::Dangerous(_))
+}
+
+fn user_or_git(url: &Url) -> &str {
+    url.user_argument_safe().unwrap_or("git")
+}
+
+fn can_connect(url: &Url) -> bool {
+    url.host_argument_safe().is_some()
+}
+
+fn served(url: &Url) -> Option<BStr<'_>> {
+    url.path_argument_safe() // `/repo` of `ssh://host/repo`, none of `ssh://host/-repo`
+}
+
+/// Texts; whether their user is refused, their host is refused, and a command can connect; and the user that it gets.
+static ROWS: [(&str, bool, bool, bool, &str); 5] = [
+    ("ssh://-Fconfig@host/repo", true, false, true, "git"),
+    ("ssh://host/repo", false, false, true, "git"),
+    ("ssh://-h/repo", false, true, false, "git"),
+    ("ssh://me@[::1]/repo", false, false, true, "me"),
+    ("/repo", false, false, false, "git"),
+];
+
+#[test]
+fn options_are_kept_out(rt: HostRuntime) -> Result<(), Fail> {
+    for (text, user, host, reached, handed) in ROWS {
+        let url = Url::from_text(rt.alloc(), text)?;
+        assert_eq!(rt; is_refused(&url), user, "{text}");
+        assert_eq!(rt; ssh_user(&url).is_err(), user, "{text}");
+        assert_eq!(rt; is_refused_host(&url), host, "{text}");
+        assert_eq!(rt; can_connect(&url), reached, "{text}");
+        assert_eq!(rt; user_or_git(&url), handed, "{text}");
+    }
+    Ok(())
+}
+
+#[test]
+fn a_path_is_served(rt: HostRuntime) -> Result<(), Fail> {
+    let alloc = rt.alloc();
+    let url = Url::from_text(alloc, "ssh://host/repo")?;
+    let path = served(&url).ok_or("a path")?;
+    assert_eq!(rt; path.as_bytes(), b"/repo".as_slice());
+    let url = Url::from_text(alloc, "ssh://host/-repo")?;
+    assert!(rt; served(&url).is_none());
+    Ok(())
+}

@@ -1,0 +1,81 @@
+//! Uses of the Rust crate as they are written here: those of `docs/COMING_FROM_GIX_URL.md`.
+
+use bstr::{BStr, BString};
+use gix_url::{Error, Url, UrlFault, expand_path};
+use std::alloc::{AllocError, Global};
+use std::test::Fail;
+
+fn host_named(alloc: Global, text: &str) -> Result<Option<String>, Error> {
+    let url = Url::from_text(alloc, text)?;
+    Ok(url.host)
+}
+
+fn as_user(alloc: Global, url: &Url, user: String) -> Result<BString, Error> {
+    let mut url = url.clone(alloc)?;
+    let _ = url.set_user(Some(user));
+    url.to_bstring(alloc)
+}
+
+fn asks_for_a_host(alloc: Global, text: &str) -> bool {
+    matches!(
+        Url::from_text(alloc, text),
+        Err(Error::BadUrl {
+            fault: UrlFault::HostRequired,
+            ..
+        })
+    )
+}
+
+fn query_names(alloc: Global, url: &Url) -> Result<Vec<BString>, Error> {
+    let mut names = Vec::new(alloc);
+    if let Some(query) = &url.path_query_fragment(alloc)?.query {
+        for (name, _) in query {
+            let name = BString::from_slice(alloc, name.as_bstr().as_bytes())?;
+            names.push(name).map_err(AllocError::from)?;
+        }
+    }
+    Ok(names)
+}
+
+fn path_at_home(alloc: Global, path: BStr<'_>, home: Option<&str>) -> Result<String, Error> {
+    let (user, below) = expand_path::parse(alloc, path)?;
+    expand_path::expand_path(alloc, user.as_ref(), below.as_bstr(), home)
+}
+
+#[test]
+fn hosts_are_named_or_wanted(rt: HostRuntime) -> Result<(), Fail> {
+    let alloc = rt.alloc();
+    let host = host_named(alloc, "git@example.com:a/b.git")?;
+    assert_eq!(rt; host.as_deref(), Some("example.com"));
+    assert!(rt; asks_for_a_host(alloc, "http://"));
+    assert!(rt; !asks_for_a_host(alloc, "http://h"));
+    Ok(())
+}
+
+#[test]
+fn another_user_is_written(rt: HostRuntime) -> Result<(), Fail> {
+    let alloc = rt.alloc();
+    let url = Url::from_text(alloc, "ssh://git@h/p")?;
+    let text = as_user(alloc, &url, String::from_str(alloc, "byron")?)?;
+    assert_eq!(rt; text.as_bytes(), b"ssh://byron@h/p".as_slice());
+    Ok(())
+}
+
+#[test]
+fn names_of_a_query_are_read(rt: HostRuntime) -> Result<(), Fail> {
+    let alloc = rt.alloc();
+    let url = Url::from_text(alloc, "http://h/?a+b=%2B&&c&=d#x+y")?;
+    let names = query_names(alloc, &url)?;
+    assert_eq!(rt; names.len(), 3);
+    let first = names.first().ok_or("a name")?;
+    assert_eq!(rt; first.as_bytes(), b"a b".as_slice());
+    Ok(())
+}
+
+#[test]
+fn a_path_lies_at_home(rt: HostRuntime) -> Result<(), Fail> {
+    let alloc = rt.alloc();
+    let path = path_at_home(alloc, BStr::new(b"/~bob/r"), Some("/home/al"))?;
+    assert_eq!(rt; path.as_str(), "/home/bob/r");
+    Ok(())
+}

@@ -1,0 +1,36 @@
+//! Examples that ask the file system.
+
+use gix_url::{Error, Url};
+use std::fs;
+use std::rt::Files;
+use std::test::Fail;
+
+/// Gives a local location the path that the file system has for it.
+fn resolve<R: Files + AllocGlobal>(rt: &R, url: &mut Url) -> Result<(), Error> {
+    url.canonicalize(|path| {
+        fs::canonicalize(rt, path)
+            .ok()
+            .map(|path| path.into_string())
+    })
+}
+
+/// The same location by the path that the file system has for it.
+fn real<R: Files + AllocGlobal>(rt: &R, url: &Url) -> Result<Url, Error> {
+    let alloc = rt.alloc();
+    url.canonicalized(alloc, |path| {
+        fs::canonicalize(rt, path)
+            .ok()
+            .map(|path| path.into_string())
+    })
+}
+
+#[test]
+fn the_root_is_where_it_is(rt: HostRuntime) -> Result<(), Fail> {
+    let alloc = rt.alloc();
+    let mut url = Url::from_text(alloc, "/./")?;
+    let other = real(&rt, &url)?;
+    assert_eq!(rt; other.path.as_bytes(), b"/".as_slice());
+    resolve(&rt, &mut url)?;
+    assert_eq!(rt; url.path.as_bytes(), b"/".as_slice());
+    Ok(())
+}

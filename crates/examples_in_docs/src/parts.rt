@@ -1,0 +1,100 @@
+//! Examples of parts looked at and exchanged.
+
+use bstr::BString;
+use gix_url::{Error, Url};
+use std::alloc::{AllocError, Global};
+use std::test::Fail;
+
+fn at_host(alloc: Global, host: String) -> Url {
+    let mut url = Url::default_in(alloc);
+    url.host = Some(host);
+    url
+}
+
+fn is_git(url: &Url) -> bool {
+    url.user() == Some("git") // of `ssh://git@host/repo`
+}
+
+fn asks_for_password(url: &Url) -> bool {
+    url.user().is_some() && url.password().is_none() // of `https://user@host/repo`
+}
+
+fn is_here(url: &Url) -> bool {
+    url.host() == Some("::1") // of `ssh://[::1]/repo`, but not of `git://[::1]/repo`
+}
+
+fn is_same_service(one: &Url, other: &Url) -> bool {
+    // `https://host/repo` and `https://host:443/repo` are
+    one.host() == other.host() && one.port_or_default() == other.port_or_default()
+}
+
+fn names_a_repository(url: &Url) -> bool {
+    !url.path_is_root()
+}
+
+fn as_git(alloc: Global, url: &mut Url) -> Result<Option<String>, AllocError> {
+    let git = String::from_str(alloc, "git")?;
+    Ok(url.set_user(Some(git)))
+}
+
+fn without_password(url: &mut Url) {
+    let _ = url.set_password(None);
+}
+
+fn as_path(alloc: Global) -> Result<BString, Error> {
+    let url = Url::from_text(alloc, "file:///path")?.with_request_alternate_form(true);
+    url.to_bstring(alloc) // `/path`
+}
+
+/// Texts; whether the user is `git`, a password is wanted, the host is here, and a repository is named.
+static ROWS: [(&str, bool, bool, bool, bool); 5] = [
+    ("ssh://git@host/repo", true, true, false, true),
+    ("https://user@host/repo", false, true, false, true),
+    ("https://user:x@host/", false, false, false, false),
+    ("ssh://[::1]/repo", false, false, true, true),
+    ("git://[::1]/repo", false, false, false, true),
+];
+
+#[test]
+fn parts_are_looked_at(rt: HostRuntime) -> Result<(), Fail> {
+    for (text, git, asks, here, names) in ROWS {
+        let url = Url::from_text(rt.alloc(), text)?;
+        assert_eq!(rt; is_git(&url), git, "{text}");
+        assert_eq!(rt; asks_for_password(&url), asks, "{text}");
+        assert_eq!(rt; is_here(&url), here, "{text}");
+        assert_eq!(rt; names_a_repository(&url), names, "{text}");
+    }
+    Ok(())
+}
+
+#[test]
+fn services_are_told_apart(rt: HostRuntime) -> Result<(), Fail> {
+    let alloc = rt.alloc();
+    let one = Url::from_text(alloc, "https://host/repo")?;
+    for (text, same) in [("https://host:443/repo", true), ("http://host/repo", false)] {
+        let other = Url::from_text(alloc, text)?;
+        assert_eq!(rt; is_same_service(&one, &other), same, "{text}");
+    }
+    Ok(())
+}
+
+#[test]
+fn parts_are_exchanged(rt: HostRuntime) -> Result<(), Fail> {
+    let alloc = rt.alloc();
+    let mut url = Url::from_text(alloc, "https://user:x@host/p")?;
+    without_password(&mut url);
+    assert_eq!(rt; url.password(), None);
+    let before = as_git(alloc, &mut url)?;
+    assert_eq!(rt; before.as_deref(), Some("user"));
+    assert_eq!(rt; url.user(), Some("git"));
+    Ok(())
+}
+
+#[test]
+fn locations_are_made(rt: HostRuntime) -> Result<(), Fail> {
+    let alloc = rt.alloc();
+    let url = at_host(alloc, String::from_str(alloc, "h")?);
+    assert_eq!(rt; url.to_bstring(alloc)?.as_bytes(), b"ssh://h/".as_slice());
+    assert_eq!(rt; as_path(alloc)?.as_bytes(), b"/path".as_slice());
+    Ok(())
+}

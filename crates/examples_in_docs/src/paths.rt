@@ -1,0 +1,84 @@
+//! Examples of what a path means: a query, a home folder.
+
+use bstr::{BStr, BString};
+use gix_url::expand_path::{self, ForUser, for_shell};
+use gix_url::{Error, Url};
+use std::alloc::Global;
+use std::env;
+use std::rt::Env;
+use std::test::Fail;
+
+/// Whether the query asks for the service of this name.
+fn asks_for(alloc: Global, url: &Url, service: &[u8]) -> Result<bool, Error> {
+    let parts = url.path_query_fragment(alloc)?;
+    let Some(query) = &parts.query else {
+        return Ok(false);
+    };
+    for (name, value) in query {
+        if name.as_bstr().as_bytes() == b"service".as_slice()
+            && value.as_bstr().as_bytes() == service
+        {
+            return Ok(true);
+        }
+    }
+    Ok(false)
+}
+
+/// Whether a path begins in the home folder of the current user.
+fn is_own(alloc: Global, path: BStr<'_>) -> Result<bool, Error> {
+    let (user, _) = expand_path::parse(alloc, path)?;
+    Ok(user == Some(ForUser::Current))
+}
+
+/// The path of a location, to be handed to a shell on its host.
+fn remote_path(alloc: Global, url: Url) -> Result<BString, Error> {
+    for_shell(alloc, url.path)
+}
+
+/// The path, where all users have their home folders in `/home`.
+fn in_home(alloc: Global, user: Option<&ForUser>, path: BStr<'_>) -> Result<String, Error> {
+    expand_path::with(alloc, user, path, |user| match user {
+        ForUser::Current => None,
+        ForUser::Name(name) => format!(in alloc; "/home/{name}").ok(),
+    })
+}
+
+/// A path below the home folder of its user, by the home folder that the environment names.
+fn expand(rt: &(impl Env + AllocGlobal), path: BStr<'_>) -> Result<String, Error> {
+    let (user, rest) = expand_path::parse(rt.alloc(), path)?;
+    let home = env::home_dir(rt).ok().flatten();
+    let home = home.as_ref().map(|home| home.as_path().as_str());
+    expand_path::expand_path(rt.alloc(), user.as_ref(), rest.as_bstr(), home)
+}
+
+#[test]
+fn a_query_is_searched(rt: HostRuntime) -> Result<(), Fail> {
+    let alloc = rt.alloc();
+    let url = Url::from_text(alloc, "https://h/info/refs?service=git-upload-pack")?;
+    assert!(rt; asks_for(alloc, &url, b"git-upload-pack")?);
+    assert!(rt; !asks_for(alloc, &url, b"git-receive-pack")?);
+    Ok(())
+}
+
+#[test]
+fn a_home_folder_is_named(rt: HostRuntime) -> Result<(), Fail> {
+    let alloc = rt.alloc();
+    assert!(rt; is_own(alloc, BStr::new(b"/~/repo"))?);
+    assert!(rt; !is_own(alloc, BStr::new(b"/~bob/repo"))?);
+    let url = Url::from_text(alloc, "/~bob/repo")?;
+    let text = remote_path(alloc, url)?;
+    assert_eq!(rt; text.as_bytes(), b"~bob/repo".as_slice());
+    Ok(())
+}
+
+#[test]
+fn a_home_folder_is_entered(rt: HostRuntime) -> Result<(), Fail> {
+    let alloc = rt.alloc();
+    let (user, below) = expand_path::parse(alloc, BStr::new(b"/~bob/repo"))?;
+    let path = in_home(alloc, user.as_ref(), below.as_bstr())?;
+    assert_eq!(rt; path.as_str(), "/home/bob/repo");
+    // Without a user the environment isn't asked for anything that counts.
+    let path = expand(&rt, BStr::new(b"/srv/repo"))?;
+    assert_eq!(rt; path.as_str(), "/srv/repo");
+    Ok(())
+}

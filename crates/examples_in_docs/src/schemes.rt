@@ -1,0 +1,75 @@
+//! Examples of schemes, addresses, and the small parts of an answer.
+
+use bstr::BStr;
+use gix_url::expand_path::ForUser;
+use gix_url::ipv6::is_ipv6;
+use gix_url::{Error, PathComponents, QueryText, Scheme, Url};
+use std::alloc::Global;
+use std::test::Fail;
+
+fn is_web(alloc: Global, name: &str) -> Result<bool, Error> {
+    let scheme = Scheme::from_text(alloc, name)?;
+    Ok(matches!(scheme, Scheme::Http | Scheme::Https)) // of `https`, but not of `HTTPS`
+}
+
+fn protocol_of(url: &Url) -> &str {
+    url.scheme.as_str() // `ssh` of `git@host:repo` and of `ssh+git://host/repo`
+}
+
+fn port_of(scheme: &Scheme) -> u16 {
+    scheme.default_port().unwrap_or(0) // 9418 of `Scheme::Git`, 0 of `Scheme::File`
+}
+
+fn needs_brackets(host: &str) -> bool {
+    is_ipv6(host) // `::1`, but neither `[::1]` nor `fe80::1%eth0`
+}
+
+fn two_of(alloc: Global, user: ForUser) -> Result<(ForUser, ForUser), Error> {
+    let copy = user.clone(alloc)?;
+    Ok((user, copy))
+}
+
+fn is_empty(value: &QueryText<'_>) -> bool {
+    value.as_bstr().as_bytes().is_empty()
+}
+
+fn fragment_of<'a>(parts: &PathComponents<'a>) -> Option<BStr<'a>> {
+    parts.fragment
+}
+
+#[test]
+fn schemes_are_told_apart(rt: HostRuntime) -> Result<(), Fail> {
+    let alloc = rt.alloc();
+    for (name, is) in [("https", true), ("HTTPS", false)] {
+        assert_eq!(rt; is_web(alloc, name)?, is, "{name}");
+    }
+    for text in ["git@host:repo", "ssh+git://host/repo"] {
+        let url = Url::from_text(alloc, text)?;
+        assert_eq!(rt; protocol_of(&url), "ssh", "{text}");
+    }
+    assert_eq!(rt; port_of(&Scheme::Git), 9418);
+    assert_eq!(rt; port_of(&Scheme::File), 0);
+    Ok(())
+}
+
+#[test]
+fn addresses_are_told_apart(rt: HostRuntime) {
+    for (host, is) in [("::1", true), ("[::1]", false), ("fe80::1%eth0", false)] {
+        assert_eq!(rt; needs_brackets(host), is, "{host}");
+    }
+}
+
+#[test]
+fn parts_of_answers(rt: HostRuntime) -> Result<(), Fail> {
+    let alloc = rt.alloc();
+    let (one, other) = two_of(alloc, ForUser::Current)?;
+    assert!(rt; one == other);
+    let url = Url::from_text(alloc, "http://h/?a#b")?;
+    let parts = url.path_query_fragment(alloc)?;
+    let fragment = fragment_of(&parts).ok_or("a fragment")?;
+    assert_eq!(rt; fragment.as_bytes(), b"b".as_slice());
+    let pairs = parts.query.as_ref().ok_or("a query")?;
+    let (_, value) = pairs.first().ok_or("a field")?;
+    assert!(rt; is_empty(value));
+    Ok(())
+}

@@ -1,0 +1,131 @@
+//! Examples of bytes read, and of locations written.
+
+use bstr::{BStr, BString};
+use gix_url::lines::{self, RunError};
+use gix_url::parse::parse;
+use gix_url::testing::TestUrlExtension;
+use gix_url::{Error, Scheme, Url, WriteError};
+use std::alloc::{AllocError, Global};
+use std::test::Fail;
+
+/// Whether bytes that somebody sent spell a location.
+fn is_location(alloc: Global, bytes: &[u8]) -> Result<bool, Error> {
+    match parse(alloc, BStr::new(bytes)) {
+        Ok(_) => Ok(true),
+        Err(Error::Memory) => Err(Error::Memory),
+        Err(_) => Ok(false),
+    }
+}
+
+fn of_line(alloc: Global, line: &[u8]) -> Result<Url, Error> {
+    Url::from_bytes(alloc, BStr::new(line))
+}
+
+fn port_of(alloc: Global, text: &str) -> Result<Option<u16>, Error> {
+    Ok(Url::from_text(alloc, text)?.port) // 22 of `ssh://h:22/p`, none of `h:22/p`
+}
+
+fn append(out: &mut Vec<u8>, url: &Url) -> Result<(), WriteError> {
+    url.write_to(out)
+}
+
+/// Whether the text fits into a field of so many bytes.
+fn fits(url: &Url, room: u128) -> bool {
+    url.text_len().is_ok_and(|length| length <= room)
+}
+
+/// A text in the form that this library writes.
+fn rewritten(alloc: Global, text: &str) -> Result<BString, Error> {
+    Url::from_text(alloc, text)?.to_bstring(alloc) // `ssh://h/p` of `ssh://H:/p`
+}
+
+fn spelled(url: &Url) -> BStr<'_> {
+    url.original_path() // `/my%20repo` of `https://host/my%20repo`, whose path is `/my repo`
+}
+
+/// The text to store for a location, if others read it as the same.
+fn to_store(alloc: Global, url: &Url) -> Result<Option<BString>, Error> {
+    if !url.is_settled() {
+        return Ok(None);
+    }
+    Ok(Some(url.to_bstring(alloc)?))
+}
+
+fn log_line(alloc: Global, url: &Url) -> Result<String, AllocError> {
+    format!(in alloc; "fetching {url}") // `fetching ssh://u:redacted@h/p`
+}
+
+/// The answers to lines in memory.
+fn answers(alloc: Global, input: &[u8]) -> Result<Vec<u8>, RunError> {
+    let mut input = input;
+    let mut output = Vec::new(alloc);
+    lines::run(alloc, &mut input, &mut output)?;
+    Ok(output)
+}
+
+fn without_host(path: BString) -> Url {
+    <Url as TestUrlExtension>::from_parts_unchecked(
+        Scheme::Https,
+        None,
+        None,
+        None,
+        None,
+        path,
+        false,
+    )
+}
+
+#[test]
+fn bytes_are_read(rt: HostRuntime) -> Result<(), Fail> {
+    let alloc = rt.alloc();
+    for (bytes, is) in [(b"h:p".as_slice(), true), (b"h:".as_slice(), false)] {
+        assert_eq!(rt; is_location(alloc, bytes)?, is);
+    }
+    assert_eq!(rt; of_line(alloc, b"/srv/repo")?.scheme.as_str(), "file");
+    for (text, port) in [("ssh://h:22/p", Some(22)), ("h:22/p", None)] {
+        assert_eq!(rt; port_of(alloc, text)?, port, "{text}");
+    }
+    Ok(())
+}
+
+#[test]
+fn locations_are_written(rt: HostRuntime) -> Result<(), Fail> {
+    let alloc = rt.alloc();
+    assert_eq!(rt;
+        rewritten(alloc, "ssh://H:/p")?.as_bytes(),
+        b"ssh://h/p".as_slice()
+    );
+    let url = Url::from_text(alloc, "https://host/my%20repo")?;
+    let mut out = Vec::new(alloc);
+    append(&mut out, &url)?;
+    assert_eq!(rt; out.as_slice(), b"https://host/my%20repo".as_slice());
+    assert!(rt; fits(&url, 22) && !fits(&url, 21));
+    assert_eq!(rt; spelled(&url).as_bytes(), b"/my%20repo".as_slice());
+    Ok(())
+}
+
+#[test]
+fn what_comes_back_is_stored(rt: HostRuntime) -> Result<(), Fail> {
+    let alloc = rt.alloc();
+    for (text, is) in [("http://h/p", true), ("[host]::path", false)] {
+        let url = Url::from_text(alloc, text)?;
+        assert_eq!(rt; to_store(alloc, &url)?.is_some(), is, "{text}");
+    }
+    let url = without_host(BString::from_slice(alloc, b"/p")?);
+    assert!(rt; to_store(alloc, &url)?.is_none());
+    Ok(())
+}
+
+#[test]
+fn people_are_shown_no_password(rt: HostRuntime) -> Result<(), Fail> {
+    let alloc = rt.alloc();
+    let url = Url::from_text(alloc, "ssh://u:secret@h/p")?;
+    assert_eq!(rt;
+        log_line(alloc, &url)?.as_str(),
+        "fetching ssh://u:redacted@h/p"
+    );
+    let answered = answers(alloc, b"/a\nssh+git:///p\n\n")?;
+    let wanted = b"settled\t/a\nunsettled\tssh\nrefused\tEmptyLocal\n";
+    assert_eq!(rt; answered.as_slice(), wanted.as_slice());
+    Ok(())
+}

@@ -1,0 +1,197 @@
+//! What the own text of a location is read as, where the location isn't settled.
+//!
+//! It reads the text again by `Url::reread` and looks for the first of the public fields, in declared order, that is
+//! another one. A password is shown by no answer.
+
+use crate::refusal::Refusal;
+use bstr::ByteSlice;
+use gix_url::{Error, Scheme, Url};
+use serde::Serialize;
+use std::alloc::{AllocError, Global};
+
+/// What the own text of a location is read as in place of the location. With neither difference nor refusal it is read
+/// as the same fields, though no promise covers that.
+#[derive(Drop, Serialize)]
+pub struct Reread {
+    /// The first field that is another one.
+    pub difference: Option<Difference>,
+    /// Why the text is refused.
+    pub refusal: Option<Refusal>,
+    /// The same in words.
+    pub words: String,
+}
+
+/// A field that isn't read as it is.
+#[derive(Drop, Serialize)]
+pub struct Difference {
+    /// The name of the field.
+    pub field: &'static str,
+    /// What it is, if there is anything.
+    pub here: Option<String>,
+    /// What it is read as, if there is anything.
+    pub instead: Option<String>,
+}
+
+impl Reread {
+    /// What the text of the location is read as, unless the location is settled.
+    pub fn of(alloc: Global, url: &Url) -> Result<Option<Reread>, AllocError> {
+        if url.is_settled() {
+            return Ok(None);
+        }
+        match url.reread(alloc) {
+            Ok(other) => {
+                let difference = first_difference(alloc, url, &other)?;
+                Ok(Some(Reread {
+                    words: words(alloc, &difference)?,
+                    difference,
+                    refusal: None,
+                }))
+            }
+            Err(Error::Memory) => Err(AllocError),
+            Err(error) => Ok(Some(Reread {
+                difference: None,
+                refusal: Some(Refusal::of(alloc, &error)?),
+                words: format!(in alloc; "its own text is refused: {error}")?,
+            })),
+        }
+    }
+}
+
+/// The first public field in which the two differ.
+fn first_difference(
+    alloc: Global,
+    url: &Url,
+    other: &Url,
+) -> Result<Option<Difference>, AllocError> {
+    if url.scheme != other.scheme {
+        return Ok(Some(Difference {
+            field: "scheme",
+            here: Some(scheme_name(alloc, &url.scheme)?),
+            instead: Some(scheme_name(alloc, &other.scheme)?),
+        }));
+    }
+    if url.user() != other.user() {
+        return part_difference(alloc, "user", url.user(), other.user());
+    }
+    if url.password() != other.password() {
+        return part_difference(alloc, "password", hidden(url), hidden(other));
+    }
+    if url.host() != other.host() {
+        return part_difference(alloc, "host", url.host(), other.host());
+    }
+    later_difference(alloc, url, other)
+}
+
+/// The first of the public fields behind the host in which the two differ.
+fn later_difference(
+    alloc: Global,
+    url: &Url,
+    other: &Url,
+) -> Result<Option<Difference>, AllocError> {
+    if url.serialize_alternative_form != other.serialize_alternative_form {
+        let (here, instead) = (flag_text(url), flag_text(other));
+        return part_difference(
+            alloc,
+            "serialize_alternative_form",
+            Some(here),
+            Some(instead),
+        );
+    }
+    if url.port != other.port {
+        return Ok(Some(Difference {
+            field: "port",
+            here: port_text(alloc, url.port)?,
+            instead: port_text(alloc, other.port)?,
+        }));
+    }
+    if url.path.as_bytes() != other.path.as_bytes() {
+        return Ok(Some(Difference {
+            field: "path",
+            here: Some(url.path.as_bstr().to_string(alloc)?),
+            instead: Some(other.path.as_bstr().to_string(alloc)?),
+        }));
+    }
+    Ok(None)
+}
+
+/// A field with its two texts.
+fn part_difference(
+    alloc: Global,
+    field: &'static str,
+    here: Option<&str>,
+    instead: Option<&str>,
+) -> Result<Option<Difference>, AllocError> {
+    Ok(Some(Difference {
+        field,
+        here: owned(alloc, here)?,
+        instead: owned(alloc, instead)?,
+    }))
+}
+
+/// A text of its own.
+fn owned(alloc: Global, text: Option<&str>) -> Result<Option<String>, AllocError> {
+    match text {
+        None => Ok(None),
+        Some(text) => Ok(Some(String::from_str(alloc, text)?)),
+    }
+}
+
+/// A word in place of a password, where there is one.
+fn hidden(url: &Url) -> Option<&'static str> {
+    url.password().map(|_| "redacted")
+}
+
+/// The scheme by its text, and a remote helper as such.
+fn scheme_name(alloc: Global, scheme: &Scheme) -> Result<String, AllocError> {
+    match scheme {
+        Scheme::Ext | Scheme::Helper(_) => format!(in alloc; "helper {scheme}"),
+        Scheme::File
+        | Scheme::Git
+        | Scheme::Ssh
+        | Scheme::Http
+        | Scheme::Https
+        | Scheme::HelperUrl(_) => scheme.to_string(alloc),
+    }
+}
+
+/// The port in decimal.
+fn port_text(alloc: Global, port: Option<u16>) -> Result<Option<String>, AllocError> {
+    match port {
+        None => Ok(None),
+        Some(port) => Ok(Some(port.to_string(alloc)?)),
+    }
+}
+
+/// The flag of the location in a word.
+fn flag_text(url: &Url) -> &'static str {
+    if url.serialize_alternative_form {
+        "true"
+    } else {
+        "false"
+    }
+}
+
+/// The difference in words.
+fn words(alloc: Global, difference: &Option<Difference>) -> Result<String, AllocError> {
+    let Some(it) = difference else {
+        return String::from_str(
+            alloc,
+            "its own text is read as the same fields, which no promise covers",
+        );
+    };
+    let field = it.field;
+    match (&it.here, &it.instead) {
+        (Some(here), Some(instead)) => {
+            format!(in alloc;
+                "its own text is read with the {field} {instead:?} in place of {here:?}"
+            )
+        }
+        (Some(here), None) => {
+            format!(in alloc; "its own text is read with no {field} in place of {here:?}")
+        }
+        (None, Some(instead)) => {
+            format!(in alloc; "its own text is read with the {field} {instead:?} in place of none")
+        }
+        (None, None) => format!(in alloc; "its own text is read with another {field}"),
+    }
+}

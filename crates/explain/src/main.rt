@@ -1,0 +1,185 @@
+//! The program `explain`: tells a person, or another program, what each line of its standard input means as a location.
+//!
+//! It stands on the public calls of `gix_url` alone. `told` finds what is said of a location, `difference` what its own
+//! text is read as, `refusal` why a line is refused, `shown` lays all of that out for people; with `--json` it goes out
+//! as one object a line. Each answer is written as soon as its line is read. The status is 0 where every line is settled,
+//! 1 where one is not, and 2 where the run was cut short or the options are wrong.
+#![tactic(auto)]
+
+mod difference;
+mod refusal;
+mod shown;
+mod told;
+
+use bstr::BStr;
+use clap::{Arg, ArgAction, ArgMatches, Command};
+use gix_url::lines::{self, RunError};
+use gix_url::parse::parse;
+use gix_url::{Error, Url};
+use refusal::Refusal;
+use serde::Serialize;
+use std::alloc::{AllocError, Global};
+use std::env;
+use std::io::{self, BufRead, BufReader, Write};
+use std::process::ExitCode;
+use std::rt::Env;
+use told::Told;
+
+/// What is answered to a line: a location or why there is none.
+#[derive(Drop, Serialize)]
+struct Answer<'a> {
+    /// The number of the line, from 1.
+    line: u64,
+    /// What the line is read as.
+    location: Option<Told<'a>>,
+    /// Why it is read as nothing.
+    refusal: Option<Refusal>,
+}
+
+/// How answers are laid out.
+#[derive(Clone, Copy)]
+enum Layout {
+    People,
+    Json,
+}
+
+/// The layout that the command line asks for; or the status to end with, once what there is to say was said.
+fn asked(rt: &(impl Env + AllocGlobal + Print + Eprint)) -> Result<Layout, u8> {
+    let Ok(words) = words(rt) else {
+        // Where standard error takes no line, the status still tells of the fault.
+        let _ = rt.eprintln("explain: the arguments are no text, or memory is refused");
+        return Err(2);
+    };
+    match options(rt.alloc(), words.as_slice()) {
+        Ok(given) if given.get_flag("json") => Ok(Layout::Json),
+        Ok(_) => Ok(Layout::People),
+        Err(error) => {
+            let _ = error.print(rt);
+            Err(if error.use_stderr() { 2 } else { 0 })
+        }
+    }
+}
+
+/// The words of the command line, the program's name first.
+fn words(rt: &(impl Env + AllocGlobal)) -> io::Result<Vec<String>> {
+    Ok(env::args(rt)?.collect(rt.alloc())?)
+}
+
+/// The options of the command line, or what is printed in place of an answer.
+fn options<'a>(alloc: Global, words: &'a [String]) -> Result<ArgMatches<'a>, clap::Error> {
+    let json = Arg::new(alloc, "json")
+        .long("json")
+        .help("Answer each line by one JSON object on a line")
+        .action(ArgAction::SetTrue);
+    Command::new(alloc, "explain")
+        .version("0.40.1")
+        .about("Tells what each line of the standard input means as a Git location")
+        .arg(json)?
+        .try_get_matches_from(words)
+}
+
+/// Answers all lines of the input, each as soon as it is read. `Ok(true)` says that every line is settled.
+fn run<B: BufRead + Drop, W: Write>(
+    alloc: Global,
+    input: B,
+    output: &mut W,
+    layout: Layout,
+) -> Result<bool, RunError> {
+    let mut all = true;
+    let mut number = 0u64;
+    for line in input.split(alloc, b'\n') {
+        let line = line.map_err(RunError::Read)?;
+        number = number.saturating_add(1);
+        let (answer, is_settled) = answered(alloc, number, line.as_slice(), layout)?;
+        output
+            .write_all(answer.as_str().as_bytes())
+            .map_err(RunError::Write)?;
+        all &= is_settled;
+    }
+    Ok(all)
+}
+
+/// The answer to a line, and whether the line is settled.
+fn answered(
+    alloc: Global,
+    number: u64,
+    line: &[u8],
+    layout: Layout,
+) -> Result<(String, bool), AllocError> {
+    match parse(alloc, BStr::new(line)) {
+        Ok(url) => told_location(alloc, number, &url, layout),
+        Err(Error::Memory) => Err(AllocError),
+        Err(error) => Ok((told_refusal(alloc, number, &error, layout)?, false)),
+    }
+}
+
+/// What is told of a location, and whether it is settled.
+fn told_location(
+    alloc: Global,
+    number: u64,
+    url: &Url,
+    layout: Layout,
+) -> Result<(String, bool), AllocError> {
+    let told = Told::of(alloc, url)?;
+    let is_settled = told.settled;
+    let answer = match layout {
+        Layout::People => shown::location(alloc, number, url, &told)?,
+        Layout::Json => json(
+            alloc,
+            &Answer {
+                line: number,
+                location: Some(told),
+                refusal: None,
+            },
+        )?,
+    };
+    Ok((answer, is_settled))
+}
+
+/// What is told of a line that is refused.
+fn told_refusal(
+    alloc: Global,
+    number: u64,
+    error: &Error,
+    layout: Layout,
+) -> Result<String, AllocError> {
+    let refusal = Refusal::of(alloc, error)?;
+    match layout {
+        Layout::People => shown::refusal(alloc, number, &refusal),
+        Layout::Json => json(
+            alloc,
+            &Answer {
+                line: number,
+                location: None,
+                refusal: Some(refusal),
+            },
+        ),
+    }
+}
+
+/// The answer as one line of JSON. All parts of an answer have a JSON, so only memory can be wanting.
+fn json(alloc: Global, answer: &Answer<'_>) -> Result<String, AllocError> {
+    match serde_json::to_string(alloc, answer) {
+        Ok(mut line) => {
+            line.push('\n')?;
+            Ok(line)
+        }
+        Err(_) => Err(AllocError),
+    }
+}
+
+fn main(rt: HostRuntime) -> ExitCode {
+    let layout = match asked(&rt) {
+        Ok(layout) => layout,
+        Err(status) => return ExitCode::from(status),
+    };
+    let alloc = rt.alloc();
+    let outcome = match BufReader::new(alloc, rt.reader()) {
+        Ok(input) => run(alloc, input, &mut rt.stdout(), layout),
+        Err(_) => Err(RunError::Memory),
+    };
+    if let Err(fault) = &outcome {
+        let _ = eprintln!(rt; "explain: {fault}");
+    }
+    ExitCode::from(lines::status(&outcome))
+}

@@ -1,0 +1,264 @@
+//! What is told of a location: its form, its parts, what its path means, and what it may be used for.
+//!
+//! Bytes that are no UTF-8 are told as U+FFFD. No password is told.
+
+use crate::difference::Reread;
+use bstr::{BStr, BString, ByteSlice};
+use gix_url::expand_path::{self, ForUser};
+use gix_url::{ArgumentSafety, Error, PathComponents, Scheme, Url};
+use serde::Serialize;
+use std::alloc::{AllocError, Global};
+use std::borrow::CowStr;
+use std::fmt;
+
+/// What is told of a location.
+#[derive(Drop, Serialize)]
+pub struct Told<'a> {
+    /// The form that it is written in.
+    pub form: Form,
+    /// The text of the scheme: a remote helper's is its name.
+    pub scheme: &'a str,
+    /// The user.
+    pub user: Option<&'a str>,
+    /// `redacted`, where there is a password.
+    pub password: Option<&'static str>,
+    /// The host.
+    pub host: Option<&'a str>,
+    /// The port.
+    pub port: Option<u16>,
+    /// The port, or the one that the scheme stands for.
+    pub port_or_default: Option<u16>,
+    /// The path, decoded.
+    pub path: CowStr<'a>,
+    /// Whether the path is told byte for byte.
+    pub path_is_utf8: bool,
+    /// The path as it was spelled.
+    pub original_path: CowStr<'a>,
+    /// Path, query and fragment.
+    pub components: Components<'a>,
+    /// Whose home folder the path begins in, on a system of files.
+    pub home: Option<Home>,
+    /// The path as a shell takes it, on a system of files.
+    pub shell_path: Option<String>,
+    /// Whether parts may be handed to a command.
+    pub arguments: Arguments,
+    /// The text, with `redacted` in place of a password.
+    pub text: Option<String>,
+    /// Whether the location comes back from its own text.
+    pub settled: bool,
+    /// What its own text is read as, where it is not settled.
+    pub reread: Option<Reread>,
+}
+
+/// The form that a location is written in.
+#[derive(Clone, Copy, Serialize)]
+#[serde(rename_all = "snake_case")]
+pub enum Form {
+    RemoteHelper,
+    Url,
+    Scp,
+    Local,
+}
+
+/// What a path is made of.
+#[derive(Drop, Serialize)]
+pub struct Components<'a> {
+    pub path: CowStr<'a>,
+    pub query: Option<Vec<Field>>,
+    pub fragment: Option<CowStr<'a>>,
+}
+
+/// A field of a query.
+#[derive(Drop, Serialize)]
+pub struct Field {
+    pub name: String,
+    pub value: String,
+}
+
+/// A home folder that a path begins in.
+#[derive(Drop, Serialize)]
+pub struct Home {
+    /// The name of the user; the current one has none.
+    pub user: Option<String>,
+    /// The path below the folder.
+    pub below: String,
+}
+
+/// What the parts of a location are to a command line.
+#[derive(Clone, Copy, Serialize)]
+pub struct Arguments {
+    pub user: Safety,
+    pub host: Safety,
+    pub path: Safety,
+}
+
+/// What a part of a location is to a command line.
+#[derive(Clone, Copy, Serialize)]
+#[serde(rename_all = "snake_case")]
+pub enum Safety {
+    /// There is no such part.
+    Absent,
+    /// It can't be taken for an option.
+    Usable,
+    /// It begins with `-`.
+    Dangerous,
+    /// A path that doesn't begin with `/`, or that goes on with `-` behind it.
+    Withheld,
+}
+
+impl fmt::Display for Form {
+    fn fmt<W: fmt::Write>(&self, f: &mut fmt::Formatter<W>) -> fmt::Result {
+        match self {
+            Form::RemoteHelper => f.write_str("remote helper"),
+            Form::Url => f.write_str("URL"),
+            Form::Scp => f.write_str("scp form"),
+            Form::Local => f.write_str("local path"),
+        }
+    }
+}
+
+impl<'a> Told<'a> {
+    /// What is told of this location.
+    pub fn of(alloc: Global, url: &'a Url) -> Result<Told<'a>, AllocError> {
+        Ok(Told {
+            form: form_of(url),
+            scheme: url.scheme.as_str(),
+            user: url.user(),
+            password: url.password().map(|_| "redacted"),
+            host: url.host(),
+            port: url.port,
+            port_or_default: url.port_or_default(),
+            path: url.path.as_bytes().to_str_lossy(alloc)?,
+            path_is_utf8: url.path.as_bytes().to_str().is_ok(),
+            original_path: url.original_path().as_bytes().to_str_lossy(alloc)?,
+            components: components_of(alloc, url)?,
+            home: home_of(alloc, url)?,
+            shell_path: shell_path_of(alloc, url)?,
+            arguments: arguments_of(url),
+            text: text_of(alloc, url)?,
+            settled: url.is_settled(),
+            reread: Reread::of(alloc, url)?,
+        })
+    }
+}
+
+/// The form that the location is written in.
+fn form_of(url: &Url) -> Form {
+    match &url.scheme {
+        Scheme::Ext | Scheme::Helper(_) => Form::RemoteHelper,
+        Scheme::File if url.serialize_alternative_form => Form::Local,
+        Scheme::Ssh if url.serialize_alternative_form => Form::Scp,
+        Scheme::File
+        | Scheme::Git
+        | Scheme::Ssh
+        | Scheme::Http
+        | Scheme::Https
+        | Scheme::HelperUrl(_) => Form::Url,
+    }
+}
+
+/// The calls below fail for want of memory alone.
+fn no_memory(_: Error) -> AllocError {
+    AllocError
+}
+
+/// Bytes as a text of their own.
+fn lossy(alloc: Global, bytes: BStr<'_>) -> Result<String, AllocError> {
+    bytes.to_string(alloc)
+}
+
+/// Path, query and fragment of the location.
+fn components_of<'a>(alloc: Global, url: &'a Url) -> Result<Components<'a>, AllocError> {
+    let parts = url.path_query_fragment(alloc).map_err(no_memory)?;
+    let query = query(alloc, &parts)?;
+    let fragment = match parts.fragment {
+        None => None,
+        Some(fragment) => Some(fragment.as_bytes().to_str_lossy(alloc)?),
+    };
+    Ok(Components {
+        path: parts.path.as_bytes().to_str_lossy(alloc)?,
+        query,
+        fragment,
+    })
+}
+
+/// The fields of the query.
+fn query(alloc: Global, parts: &PathComponents<'_>) -> Result<Option<Vec<Field>>, AllocError> {
+    let Some(pairs) = &parts.query else {
+        return Ok(None);
+    };
+    let mut fields = Vec::new(alloc);
+    for (name, value) in pairs {
+        fields.push(Field {
+            name: lossy(alloc, name.as_bstr())?,
+            value: lossy(alloc, value.as_bstr())?,
+        })?;
+    }
+    Ok(Some(fields))
+}
+
+/// Whether the path is one of a system of files, which a shell may take.
+fn is_of_files(url: &Url) -> bool {
+    matches!(&url.scheme, Scheme::File | Scheme::Ssh | Scheme::Git)
+}
+
+/// Whose home folder the path begins in. A URL of Secure Shell or Git, and the scp form, have lost the `/` before `~`.
+fn home_of(alloc: Global, url: &Url) -> Result<Option<Home>, AllocError> {
+    if !is_of_files(url) {
+        return Ok(None);
+    }
+    let mut path = BString::new(Vec::new(alloc));
+    if url.path.starts_with(b"~") && !matches!(&url.scheme, Scheme::File) {
+        path.push(b'/')?;
+    }
+    path.extend_from_slice(url.path.as_bytes())?;
+    let (user, below) = expand_path::parse(alloc, path.as_bstr()).map_err(no_memory)?;
+    let user = match user {
+        None => return Ok(None),
+        Some(ForUser::Current) => None,
+        Some(ForUser::Name(name)) => Some(lossy(alloc, name.as_bstr())?),
+    };
+    Ok(Some(Home {
+        user,
+        below: lossy(alloc, below.as_bstr())?,
+    }))
+}
+
+/// The path as a shell takes it.
+fn shell_path_of(alloc: Global, url: &Url) -> Result<Option<String>, AllocError> {
+    if !is_of_files(url) {
+        return Ok(None);
+    }
+    let path = BString::from_slice(alloc, url.path.as_bytes())?;
+    let path = expand_path::for_shell(alloc, path).map_err(no_memory)?;
+    Ok(Some(lossy(alloc, path.as_bstr())?))
+}
+
+/// What the parts of the location are to a command line.
+fn arguments_of(url: &Url) -> Arguments {
+    Arguments {
+        user: safety_of(url.user_as_argument()),
+        host: safety_of(url.host_as_argument()),
+        path: match url.path_argument_safe() {
+            Some(_) => Safety::Usable,
+            None => Safety::Withheld,
+        },
+    }
+}
+
+/// The judgement of a user or a host in a word.
+fn safety_of(judged: ArgumentSafety<'_>) -> Safety {
+    match judged {
+        ArgumentSafety::Absent => Safety::Absent,
+        ArgumentSafety::Usable(_) => Safety::Usable,
+        ArgumentSafety::Dangerous(_) => Safety::Dangerous,
+    }
+}
+
+/// The text of the location with its password hidden, if it has a text.
+fn text_of(alloc: Global, url: &Url) -> Result<Option<String>, AllocError> {
+    match url.text_len() {
+        Ok(_) => Ok(Some(url.to_string(alloc)?)),
+        Err(_) => Ok(None),
+    }
+}
