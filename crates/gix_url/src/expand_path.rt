@@ -54,13 +54,6 @@ impl ForUser {
     /// # Errors
     ///
     /// [`Error::Memory`], where the name can't be copied.
-    ///
-    /// ```
-    /// /// The name of the user, which is left as it is.
-    /// fn name_of(alloc: Global, user: &ForUser) -> Result<Option<BString>, Error> {
-    ///     Ok(user.clone(alloc)?.into())
-    /// }
-    /// ```
     pub fn clone(&self, alloc: Global) -> Result<ForUser, Error>
         ensures equal { IfOk result (λ copy. user_of copy ≡ user_of self.now) }
         ensures memory { IfErr result (λ e. e ≡ Error.Memory) }

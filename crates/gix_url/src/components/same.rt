@@ -45,13 +45,6 @@ impl<'a> QueryText<'a> {
     /// # Errors
     ///
     /// [`Error::Memory`] where memory is refused for a copy. What is lent takes none.
-    ///
-    /// ```
-    /// /// A field once more, to be kept while the list of all fields goes.
-    /// fn kept<'a>(alloc: Global, field: &(QueryText<'a>, QueryText<'a>)) -> Result<(QueryText<'a>, QueryText<'a>), Error> {
-    ///     Ok((field.0.clone(alloc)?, field.1.clone(alloc)?))
-    /// }
-    /// ```
     pub fn clone(&self, alloc: Global) -> Result<QueryText<'a>, Error>
         ensures equal { IfOk result (λ copy. text_bytes copy ≡ text_bytes self.now) }
         ensures alike { IfOk result (λ copy. is_borrowed copy ≡ is_borrowed self.now) }
@@ -81,15 +74,6 @@ impl<'a> PathComponents<'a> {
     ///
     /// [`Error::Memory`] where memory is refused for the list of the query, or for a name or a value that is not lent.
     /// Components without a query take none.
-    ///
-    /// ```
-    /// /// The components without their fragment, beside those with it.
-    /// fn without_fragment<'a>(alloc: Global, parts: &PathComponents<'a>) -> Result<PathComponents<'a>, Error> {
-    ///     let mut copy = parts.clone(alloc)?;
-    ///     copy.fragment = None;
-    ///     Ok(copy)
-    /// }
-    /// ```
     pub fn clone(&self, alloc: Global) -> Result<PathComponents<'a>, Error>
         ensures equal { IfOk result (λ copy. components copy ≡ components self.now) }
         ensures memory { IfErr result (λ e. e ≡ Error.Memory) }
