@@ -122,24 +122,33 @@ fn a_password_without_a_user_is_not_shown(rt: HostRuntime) -> Result<(), Fail> {
     Ok(())
 }
 
-/// Shows the location to a formatter that fails at each call in turn: what it was handed is a front of what is shown.
-fn shows_a_front(rt: &impl Abort, alloc: Global, url: &Url, shown: &str) -> Result<(), Fail> {
-    for way in 0..WAYS {
-        let mut calls = 0;
-        while calls < 100 {
-            let mut out = empty_keeper(alloc, calls);
-            let outcome = show(&mut out, url, way);
-            let kept = out.kept.as_str();
-            assert!(rt; shown.starts_with(kept), "{kept} is no front of {shown}");
-            if outcome.is_ok() {
-                assert_eq!(rt; kept, shown, "way {way}");
-                break;
-            }
-            calls += 1;
+/// How many calls it takes to show the location: a formatter that fails at one of them was handed a front of it.
+fn calls_taken(
+    rt: &impl Abort,
+    alloc: Global,
+    url: &Url,
+    way: usize,
+    shown: &str,
+) -> Option<usize> {
+    for calls in 0..100 {
+        let mut out = empty_keeper(alloc, calls);
+        let outcome = show(&mut out, url, way);
+        let kept = out.kept.as_str();
+        assert!(rt; shown.starts_with(kept), "{kept} is no front of {shown}");
+        if outcome.is_ok() {
+            assert_eq!(rt; kept, shown, "way {way}");
+            return Some(calls);
         }
-        assert!(rt; calls > 0 && calls < 100, "{calls} calls for {shown}");
     }
-    Ok(())
+    None
+}
+
+/// Checks what a formatter was handed that fails at each call in turn.
+fn shows_a_front(rt: &impl Abort, alloc: Global, url: &Url, shown: &str) {
+    for way in 0..WAYS {
+        let calls = calls_taken(rt, alloc, url, way, shown).unwrap_or(0);
+        assert!(rt; calls > 0, "way {way} of {shown} never ends");
+    }
 }
 
 #[test]
@@ -148,7 +157,7 @@ fn a_formatter_that_fails_was_shown_no_password(rt: HostRuntime) -> Result<(), F
     for &(scheme, path, flag, shown) in SHOWN.as_slice() {
         let (user, host) = (Some("u"), Some("h"));
         let url = with_password(alloc, scheme, user, host, path, flag, "secret")?;
-        shows_a_front(&rt, alloc, &url, shown)?;
+        shows_a_front(&rt, alloc, &url, shown);
     }
     Ok(())
 }
