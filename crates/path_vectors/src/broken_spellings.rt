@@ -68,6 +68,7 @@ fn broken_escapes_end_at_marks(rt: HostRuntime) -> Result<(), Fail> {
     let parts = url.path_query_fragment(rt.alloc())?;
     assert_eq!(rt; parts.path.as_bytes(), b"/A%".as_slice());
     has_pair(&rt, &parts, b"%4", b"1", true);
+    assert!(rt; !url.is_settled());
     Ok(())
 }
 

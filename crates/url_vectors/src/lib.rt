@@ -24,6 +24,4 @@ mod rows;
 #[cfg(test)]
 mod runs;
 #[cfg(test)]
-mod streams;
-#[cfg(test)]
 mod values;
