@@ -84,10 +84,7 @@ static UNSETTLED: [(&str, &str); 7] = [
     ),
     ("ssh+git:///p", "BadUrl HostRequired Url"),
     ("ssh://[]/p", "BadUrl HostRequired Url"),
-    (
-        "ssh://[%5Bx%5D]/p",
-        "Ssh host=x path=/p, settled ssh://x/p",
-    ),
+    ("ssh://[%5Bx%5D]/p", "Ssh host=x path=/p, settled ssh://x/p"),
 ];
 
 #[test]
