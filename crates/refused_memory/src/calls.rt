@@ -13,7 +13,7 @@ mod views;
 
 use crate::halt::Halt;
 use crate::order::Order;
-use crate::telling::Page;
+use crate::page::Page;
 use std::alloc::Global;
 
 /// Carries out an order.

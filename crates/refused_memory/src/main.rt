@@ -6,16 +6,18 @@
 #![tactic(auto)]
 
 mod calls;
+mod errors;
 mod halt;
 mod order;
+mod page;
 mod prepared;
 mod telling;
 
 use halt::Halt;
 use order::Order;
+use page::{Page, empty_page, written};
 use std::alloc::Global;
 use std::io::{self, Read, Write};
-use telling::{Page, empty_page, written};
 
 /// Carries out an order, and tells the answer.
 fn carry_out(alloc: Global, line: &[u8], page: &mut Page) -> Result<(), Halt> {

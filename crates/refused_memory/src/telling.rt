@@ -1,52 +1,14 @@
-//! Answers, told in a line without memory: locations by their parts, errors by their names.
+//! Answers, told in a line: locations and records by their parts, as `prepared` reads them.
 
+use crate::errors::tell_error;
 use crate::halt::Halt;
+use crate::page::{Page, tell, tell_user};
 use bstr::{BStr, BString};
 use gix_url::expand_path::ForUser;
 use gix_url::lines::RunError;
-use gix_url::parse::UrlKind;
 use gix_url::stored::StoredUrl;
-use gix_url::{
-    ArgumentSafety, Error, PathComponents, QueryText, Scheme, Url, UrlFault, WriteFault,
-};
-use std::io::{Cursor, Write};
-
-/// Where an answer is told.
-pub type Page = Cursor<[u8; 8192]>;
-
-/// A page with nothing on it.
-pub fn empty_page() -> Page {
-    Cursor::new([0u8; 8192])
-}
-
-/// What stands on a page.
-pub fn written(page: &Page) -> &[u8] {
-    let all = page.get_ref().as_slice();
-    all.get(..page.position() as usize).unwrap_or(all)
-}
-
-/// Tells bytes as they are.
-pub fn tell(page: &mut Page, bytes: &[u8]) -> Result<(), Halt> {
-    Ok(page.write_all(bytes)?)
-}
-
-/// Tells yes or no.
-pub fn tell_bool(page: &mut Page, is_so: bool) -> Result<(), Halt> {
-    tell(page, if is_so { b"yes" } else { b"no" })
-}
-
-/// Tells a text that may be missing.
-pub fn tell_option(page: &mut Page, text: Option<&str>) -> Result<(), Halt> {
-    tell(page, text.unwrap_or("none").as_bytes())
-}
-
-/// Tells a port that may be missing.
-pub fn tell_port(page: &mut Page, port: Option<u16>) -> Result<(), Halt> {
-    match port {
-        None => tell(page, b"none"),
-        Some(port) => Ok(write!(page, "{port}")?),
-    }
-}
+use gix_url::{ArgumentSafety, Error, PathComponents, QueryText, Scheme, Url};
+use std::io::Write;
 
 /// Tells what a text is to a command.
 pub fn tell_argument(page: &mut Page, argument: ArgumentSafety<'_>) -> Result<(), Halt> {
@@ -129,17 +91,6 @@ pub fn tell_text(page: &mut Page, answer: Result<String, Error>) -> Result<(), H
     match answer {
         Ok(text) => tell(page, text.as_bytes()),
         Err(error) => tell_error(page, &error),
-    }
-}
-
-/// Tells a user.
-pub fn tell_user(page: &mut Page, user: &ForUser) -> Result<(), Halt> {
-    match user {
-        ForUser::Current => tell(page, b"~"),
-        ForUser::Name(name) => {
-            tell(page, b"~")?;
-            tell(page, name.as_bytes())
-        }
     }
 }
 
@@ -294,61 +245,4 @@ pub fn tell_run(page: &mut Page, outcome: &Result<bool, RunError>, out: &[u8]) -
         Err(RunError::Write(_)) => tell(page, b"Write")?,
     }
     tell(page, out)
-}
-
-/// Tells an error by its name, then its fault, the form and the lengths, where it has them.
-pub fn tell_error(page: &mut Page, error: &Error) -> Result<(), Halt> {
-    match error {
-        Error::Memory => tell(page, b"Memory"),
-        Error::EmptyLocal => tell(page, b"EmptyLocal"),
-        Error::MissingPath { kind, .. } => tell_words(page, "MissingPath", kind_name(*kind)),
-        Error::NotUtf8 { kind, .. } => tell_words(page, "NotUtf8", kind_name(*kind)),
-        Error::TooLong { shown, total } => Ok(write!(page, "TooLong {} of {total}", shown.len())?),
-        Error::BadUrl { kind, fault, .. } => {
-            tell_words(page, "BadUrl", fault_name(*fault))?;
-            tell_words(page, "", kind_name(*kind))
-        }
-        Error::HelperName { name } => Ok(write!(page, "HelperName {name}")?),
-        Error::Unwritable(fault) => tell_words(page, "Unwritable", write_fault_name(*fault)),
-        Error::NoHome(user) => {
-            tell(page, b"NoHome ")?;
-            tell_user(page, user)
-        }
-        Error::PathNotUtf8 => tell(page, b"PathNotUtf8"),
-        Error::Unresolved => tell(page, b"Unresolved"),
-    }
-}
-
-/// Tells two words.
-pub fn tell_words(page: &mut Page, first: &str, second: &str) -> Result<(), Halt> {
-    Ok(write!(page, "{first} {second}")?)
-}
-
-/// The name of a form.
-fn kind_name(kind: UrlKind) -> &'static str {
-    match kind {
-        UrlKind::Url => "Url",
-        UrlKind::Scp => "Scp",
-        UrlKind::Local => "Local",
-    }
-}
-
-/// The name of a fault of a URL.
-fn fault_name(fault: UrlFault) -> &'static str {
-    match fault {
-        UrlFault::NoScheme => "NoScheme",
-        UrlFault::BadPort => "BadPort",
-        UrlFault::BadCharacter => "BadCharacter",
-        UrlFault::HostRequired => "HostRequired",
-    }
-}
-
-/// The name of a fault of writing.
-pub fn write_fault_name(fault: WriteFault) -> &'static str {
-    match fault {
-        WriteFault::HelperName => "HelperName",
-        WriteFault::HelperParts => "HelperParts",
-        WriteFault::RelativeSsh => "RelativeSsh",
-        WriteFault::UserWithoutHost => "UserWithoutHost",
-    }
 }

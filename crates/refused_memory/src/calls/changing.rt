@@ -1,9 +1,11 @@
 //! Calls that change a location, with a text that was made before.
 
+use crate::errors::tell_error;
 use crate::halt::Halt;
 use crate::order::{Order, cut_word};
+use crate::page::{Page, tell, tell_option};
 use crate::prepared;
-use crate::telling::{Page, tell, tell_error, tell_option, tell_url};
+use crate::telling::tell_url;
 use gix_url::{Error, Url};
 use std::alloc::Global;
 

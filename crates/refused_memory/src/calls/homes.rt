@@ -2,10 +2,9 @@
 
 use crate::halt::Halt;
 use crate::order::{Order, cut_word, text};
+use crate::page::{Page, empty_page, tell, tell_bool, tell_user, written};
 use crate::prepared;
-use crate::telling::{
-    Page, empty_page, tell, tell_bool, tell_bytes, tell_text, tell_user, tell_user_copy, written,
-};
+use crate::telling::{tell_bytes, tell_text, tell_user_copy};
 use bstr::{BStr, BString};
 use gix_url::expand_path::{self, ForUser};
 use std::alloc::Global;

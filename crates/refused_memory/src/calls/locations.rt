@@ -2,10 +2,10 @@
 
 use crate::halt::Halt;
 use crate::order::{Order, cut_word};
+use crate::page::{Page, empty_page, tell, tell_bool, written};
 use crate::prepared;
 use crate::telling::{
-    Page, empty_page, tell, tell_bool, tell_bytes, tell_components, tell_copied_term, tell_read,
-    tell_stored, tell_url, written,
+    tell_bytes, tell_components, tell_copied_term, tell_read, tell_stored, tell_url,
 };
 use gix_url::{PathComponents, QueryText, Url};
 use std::alloc::Global;

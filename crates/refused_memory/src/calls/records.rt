@@ -2,8 +2,9 @@
 
 use crate::halt::Halt;
 use crate::order::Order;
+use crate::page::Page;
 use crate::prepared;
-use crate::telling::{Page, tell_json, tell_read, tell_url};
+use crate::telling::{tell_json, tell_read, tell_url};
 use bstr::BString;
 use gix_url::stored::StoredUrl;
 use gix_url::testing::TestUrlExtension;

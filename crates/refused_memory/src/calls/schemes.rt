@@ -2,8 +2,9 @@
 
 use crate::halt::Halt;
 use crate::order::Order;
+use crate::page::{Page, tell, tell_bool, tell_port};
 use crate::prepared;
-use crate::telling::{Page, tell, tell_bool, tell_named, tell_port};
+use crate::telling::tell_named;
 use std::alloc::Global;
 use std::cmp::Ordering;
 use std::io::Write;

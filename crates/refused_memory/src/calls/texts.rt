@@ -2,11 +2,9 @@
 
 use crate::halt::Halt;
 use crate::order::{Order, text};
+use crate::page::{Page, empty_page, tell, tell_bool, written};
 use crate::prepared;
-use crate::telling::{
-    Page, empty_page, tell, tell_bool, tell_named, tell_of_json, tell_read, tell_run, tell_split,
-    tell_url, written,
-};
+use crate::telling::{tell_named, tell_of_json, tell_read, tell_run, tell_split, tell_url};
 use bstr::BStr;
 use gix_url::lines::{RunError, fault_line, run, status};
 use gix_url::parse::parse;

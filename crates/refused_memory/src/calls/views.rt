@@ -1,12 +1,11 @@
 //! Calls that look at a location and take no memory.
 
+use crate::errors::write_fault_name;
 use crate::halt::Halt;
 use crate::order::Order;
+use crate::page::{Page, empty_page, tell, tell_bool, tell_option, tell_port, tell_words};
 use crate::prepared;
-use crate::telling::{
-    Page, empty_page, tell, tell_argument, tell_bool, tell_option, tell_port, tell_words,
-    write_fault_name,
-};
+use crate::telling::tell_argument;
 use bstr::BStr;
 use gix_url::{Url, WriteError};
 use std::alloc::Global;
