@@ -44,6 +44,7 @@ fn broken_escapes_are_bytes(rt: HostRuntime) -> Result<(), Fail> {
     for &(path, spelling, want) in BROKEN.as_slice() {
         let url = spelled(rt.alloc(), path.as_bytes(), spelling.as_bytes())?;
         is_made_of(&rt, rt.alloc(), &url, want)?;
+        assert!(rt; !url.is_settled(), "{spelling}");
     }
     Ok(())
 }

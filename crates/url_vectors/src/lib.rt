@@ -26,6 +26,4 @@ mod rows;
 #[cfg(test)]
 mod runs;
 #[cfg(test)]
-mod streams;
-#[cfg(test)]
 mod values;

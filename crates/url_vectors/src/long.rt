@@ -42,7 +42,9 @@ fn just_short_enough(rt: HostRuntime) -> Result<(), Fail> {
         1032,
         true,
     )?;
-    reads(&rt, alloc, &[("http://h?", 1), ("a", 1100)], 1109, true)?;
+    let query = reads(&rt, alloc, &[("http://h?", 1), ("a", 1100)], 1109, true)?;
+    assert_eq!(rt; query.host.as_deref(), Some("h"));
+    assert!(rt; query.path.as_bytes().starts_with(b"?aaa"));
     reads(&rt, alloc, &[("a", 1024), ("://h/p", 1)], 1030, true)?;
     reads(
         &rt,

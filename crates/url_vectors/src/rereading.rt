@@ -71,7 +71,7 @@ fn the_spelling_is_that_of_the_text(rt: HostRuntime) -> Result<(), Fail> {
 }
 
 /// Texts of unsettled locations, and what the text that they are written as is read as.
-static UNSETTLED: [(&str, &str); 6] = [
+static UNSETTLED: [(&str, &str); 7] = [
     ("ssh://host/~a%20b", "BadUrl BadCharacter Url"),
     (
         "[host]::path",
@@ -84,6 +84,7 @@ static UNSETTLED: [(&str, &str); 6] = [
     ),
     ("ssh+git:///p", "BadUrl HostRequired Url"),
     ("ssh://[]/p", "BadUrl HostRequired Url"),
+    ("ssh://[%5Bx%5D]/p", "Ssh host=x path=/p, settled ssh://x/p"),
 ];
 
 #[test]

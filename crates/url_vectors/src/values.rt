@@ -1,13 +1,11 @@
-//! Values that no text is read as: the edges of the settled class, faults of writing, and every byte in every part.
+//! Values that no text is read as: the edges of the settled class, and faults of writing.
 
 use bstr::BString;
 use gix_url::Url;
-use gix_url::parse::parse;
 use std::alloc::Global;
 use std::fmt::Write;
-use std::process::Abort;
 use std::test::Fail;
-use told::{told_front, told_text, unchecked};
+use told::{told_text, unchecked};
 
 /// Scheme, user, password, host, port, path and flag of a location.
 pub type Parts = (
@@ -185,101 +183,6 @@ fn edges_of_the_settled_class(rt: HostRuntime) -> Result<(), Fail> {
             flag,
         )?;
         assert_eq!(rt; told_text(alloc, &url)?.as_str(), written);
-    }
-    Ok(())
-}
-
-/// Locations of which a part is every character up to U+00FF in turn, where it has a `*`; and how many of the 256
-/// are settled.
-static EVERY_CHARACTER: [(Parts, usize); 6] = [
-    (
-        ("Https", Some("*"), None, Some("h"), None, "/p", false),
-        256,
-    ),
-    (("Https", None, None, Some("*"), None, "/p", false), 51),
-    (("Https", None, None, Some("h"), None, "/*", false), 256),
-    (("Ssh", None, None, Some("*"), None, "/p", false), 227),
-    (("Ssh", None, None, Some("h"), None, "/*", false), 246),
-    (("Ssh", Some("*"), None, Some("h"), None, "p", true), 253),
-];
-
-/// The text with each `*` as another character.
-fn filled(alloc: Global, text: &str, character: char) -> Result<String, Fail> {
-    let mut out = String::new(alloc);
-    for c in text.chars() {
-        out.push(if c == '*' { character } else { c })?;
-    }
-    Ok(out)
-}
-
-/// The same of a part that may be missing.
-fn filled_part(alloc: Global, text: Option<&str>, character: char) -> Result<Option<String>, Fail> {
-    match text {
-        None => Ok(None),
-        Some(text) => Ok(Some(filled(alloc, text, character)?)),
-    }
-}
-
-/// The location of these parts with each `*` as the character.
-fn with_character(alloc: Global, parts: Parts, character: char) -> Result<Url, Fail> {
-    let (scheme, user, password, host, port, path, flag) = parts;
-    let user = filled_part(alloc, user, character)?;
-    let host = filled_part(alloc, host, character)?;
-    let path = filled(alloc, path, character)?;
-    unchecked(
-        alloc,
-        scheme,
-        user.as_deref(),
-        password,
-        host.as_deref(),
-        port,
-        path.as_bytes(),
-        flag,
-    )
-}
-
-/// Whether the location is settled. One that is has to come back from its text.
-fn counts(rt: &impl Abort, alloc: Global, url: &Url) -> Result<bool, Fail> {
-    if !url.is_settled() {
-        return Ok(false);
-    }
-    let text = url.to_bstring(alloc)?;
-    let again = parse(alloc, text.as_bstr())?;
-    assert_eq!(rt;
-        again.path.as_bytes(),
-        url.path.as_bytes(),
-        "the path of {text}"
-    );
-    assert_eq!(rt;
-        told_front(alloc, &again)?.as_str(),
-        told_front(alloc, url)?.as_str(),
-        "the parts of {text}"
-    );
-    Ok(true)
-}
-
-#[test]
-fn every_character_in_every_part(rt: HostRuntime) -> Result<(), Fail> {
-    let alloc = rt.alloc();
-    for &(parts, want) in EVERY_CHARACTER.as_slice() {
-        let mut settled = 0usize;
-        for character in '\0'..='\u{ff}' {
-            let url = with_character(alloc, parts, character)?;
-            if counts(&rt, alloc, &url)? {
-                settled = settled.saturating_add(1);
-            }
-        }
-        assert_eq!(rt; settled, want);
-    }
-    Ok(())
-}
-
-#[test]
-fn every_byte_as_a_local_path(rt: HostRuntime) -> Result<(), Fail> {
-    let alloc = rt.alloc();
-    for byte in 0..=255u8 {
-        let url = unchecked(alloc, "File", None, None, None, None, &[byte], true)?;
-        assert_eq!(rt; counts(&rt, alloc, &url)?, byte != b':', "{byte}");
     }
     Ok(())
 }

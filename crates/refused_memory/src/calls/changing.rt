@@ -1,0 +1,38 @@
+//! Calls that change a location, with a text that was made before.
+
+use crate::errors::tell_error;
+use crate::halt::Halt;
+use crate::order::{Order, cut_word};
+use crate::page::{Page, tell, tell_option};
+use crate::prepared;
+use crate::telling::tell_url;
+use gix_url::{Error, Url};
+use std::alloc::Global;
+
+/// Makes a call that changes a location. The text is the first word of the input, and the location the rest.
+pub fn over_changed(alloc: Global, order: &Order<'_>, page: &mut Page) -> Result<(), Halt> {
+    let (word, rest) = cut_word(order.input)?;
+    let mut url = prepared::location(alloc, rest)?;
+    let text = prepared::optional(alloc, word)?;
+    if !order.is_made {
+        return Ok(());
+    }
+    match order.call {
+        "Url::set_user" => tell_option(page, url.set_user(text).as_deref())?,
+        "Url::set_password" => tell_option(page, url.set_password(text).as_deref())?,
+        "Url::canonicalize" => tell_outcome(page, url.canonicalize(|_| text))?,
+        "Url::with_request_alternate_form" => url = url.with_request_alternate_form(true),
+        _ => return Err(Halt::Unknown),
+    }
+    // Behind the answer stands what has become of the location.
+    tell(page, b"; ")?;
+    tell_url(page, &url)
+}
+
+/// Tells how a change ended.
+fn tell_outcome(page: &mut Page, outcome: Result<(), Error>) -> Result<(), Halt> {
+    match outcome {
+        Ok(()) => tell(page, b"done"),
+        Err(error) => tell_error(page, &error),
+    }
+}

@@ -1,0 +1,116 @@
+"""Real ends: the program `locations` with streams that fail, or give and take little at a time."""
+import os
+import subprocess
+import threading
+
+from kit import built
+
+
+LINES = b"a::b://c\n/srv/repo.git\nhttp://h:0/\n"
+ANSWER = b"settled\ta::b://c\nsettled\t/srv/repo.git\nrefused\tBadUrl BadPort\n"
+CANNOT_READ, CANNOT_WRITE = (2, b"locations: cannot read\n"), (2, b"locations: cannot write\n")
+
+
+def run(path, **how):
+    """Runs the program with these streams, and answers its status and what it says on standard error."""
+    ran = subprocess.run([path], stderr=subprocess.PIPE, timeout=60, **how)
+    return ran.returncode, ran.stderr
+
+
+def closing(*files):
+    """Closes file descriptors before the program begins."""
+    return lambda: [os.close(it) for it in files]
+
+
+def full_device(path):
+    with open("/dev/full", "wb") as full:
+        return run(path, input=LINES, stdout=full), CANNOT_WRITE
+
+
+def closed_output(path):
+    return run(path, input=LINES, preexec_fn=closing(1)), CANNOT_WRITE
+
+
+def closed_input(path):
+    ran = subprocess.run([path], stdout=subprocess.PIPE, stderr=subprocess.PIPE, preexec_fn=closing(0), timeout=60)
+    return (ran.returncode, ran.stdout + ran.stderr), CANNOT_READ
+
+
+def folder_as_input(path):
+    folder = os.open("/", os.O_RDONLY | os.O_DIRECTORY)
+    try:
+        ran = subprocess.run([path], stdin=folder, stdout=subprocess.PIPE, stderr=subprocess.PIPE, timeout=60)
+    finally:
+        os.close(folder)
+    return (ran.returncode, ran.stdout + ran.stderr), CANNOT_READ
+
+
+def write_only_input(path):
+    with open("/dev/null", "wb") as it:
+        ran = subprocess.run([path], stdin=it, stdout=subprocess.PIPE, stderr=subprocess.PIPE, timeout=60)
+    return (ran.returncode, ran.stdout + ran.stderr), CANNOT_READ
+
+
+def read_only_output(path):
+    with open("/dev/null", "rb") as it:
+        return run(path, input=LINES, stdout=it), CANNOT_WRITE
+
+
+def pipe_closed_before(path):
+    reader, writer = os.pipe()
+    os.close(reader)
+    try:
+        return run(path, input=LINES, stdout=writer), CANNOT_WRITE
+    finally:
+        os.close(writer)
+
+
+def pipe_closed_early(path):
+    """The reader takes a thousand bytes of a megabyte and goes away."""
+    line = b"/" * (1 << 20)
+    started = subprocess.Popen([path], stdin=subprocess.PIPE, stdout=subprocess.PIPE, stderr=subprocess.PIPE)
+    started.stdin.write(line)
+    started.stdin.close()
+    front = os.read(started.stdout.fileno(), 1000)
+    started.stdout.close()
+    said = started.stderr.read()
+    right = (b"settled\t" + line).startswith(front)
+    return (started.wait(60), said, right), (*CANNOT_WRITE, True)
+
+
+def no_standard_error(path):
+    """Where nothing can be said of a fault, the status still tells."""
+    with open("/dev/full", "wb") as full:
+        ran = subprocess.run([path], input=LINES, stdout=full, preexec_fn=closing(2), timeout=60)
+    return ran.returncode, 2
+
+
+def a_byte_at_a_time(path):
+    """A pipe that brings a byte at a time, and one that is emptied a byte at a time."""
+    started = subprocess.Popen([path], stdin=subprocess.PIPE, stdout=subprocess.PIPE, bufsize=0)
+
+    def feed():
+        for at in range(len(LINES)):
+            started.stdin.write(LINES[at : at + 1])
+        started.stdin.close()
+
+    feeding = threading.Thread(target=feed)
+    feeding.start()
+    out = b"".join(iter(lambda: os.read(started.stdout.fileno(), 1), b""))
+    feeding.join()
+    return (started.wait(60), out), (1, ANSWER)
+
+
+ENDS = [
+    full_device, closed_output, closed_input, folder_as_input, write_only_input, read_only_output, pipe_closed_before, pipe_closed_early,
+    no_standard_error, a_byte_at_a_time,
+]
+
+
+def check(_room):
+    path, faults = built("locations", "run"), []
+    for end in ENDS:
+        got, want = end(path)
+        if got != want:
+            faults.append(f"locations, {end.__name__.replace('_', ' ')}: {got}, and not {want}")
+    return faults, [f"`locations` at {len(ENDS)} real ends"]
