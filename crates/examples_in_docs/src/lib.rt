@@ -21,4 +21,6 @@ mod reading;
 #[cfg(test)]
 mod schemes;
 #[cfg(test)]
+mod types;
+#[cfg(test)]
 mod writing;
