@@ -8,6 +8,15 @@ use Rattle.gix_url.specs.Grammar.{HelperParts, IsNeither, ScpFront, ScpShape, Ad
 use Rattle.gix_url.specs.Flaws.{UrlShape}
 use Rattle.gix_url.specs.Laws.{IsAddressed}
 
+-- the pieces around the first colon of the text
+pub record ColonCut (b front rest : List ℕ) : Type 0 where
+  pub joined : b ≡ front ++ colon ∷ rest
+  pub no_colon : FreeOf colon front
+
+-- the text has this before its first colon
+abbrev pub IsColonFront : List ℕ → List ℕ → Type 0
+IsColonFront b front = (rest : List ℕ) × ColonCut b front rest
+
 -- the pieces around the colon of the scp form
 pub record FrontCut (b front path : List ℕ) : Type 0 where
   pub joined : b ≡ front ++ colon ∷ path
@@ -40,6 +49,10 @@ pub record AddressedCut (b user address path : List ℕ) : Type 0 where
 -- the text has such pieces
 abbrev pub HasAddressedCut : List ℕ → Type 0
 HasAddressedCut b = (user : List ℕ) × (address : List ℕ) × (path : List ℕ) × AddressedCut b user address path
+
+-- a user, `@[` and what stands behind it
+abbrev pub addressed_text : List ℕ → List ℕ → List ℕ
+addressed_text user behind = user ++ at_sign ∷ (left_bracket ∷ behind)
 
 -- the user, and what stands behind its `@[`, of all such pieces that the text may have
 pub record AddressedFront (b user behind : List ℕ) : Type 0 where
