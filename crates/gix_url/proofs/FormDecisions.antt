@@ -1,7 +1,6 @@
 -- Decisions on whole texts: each spells a location, or a flaw stands in it.
-use Rattle.std.proofs.Common.{◌≡◌, ℕ, true, false, ◌⊎◌, inl, inr, List, [], ◌∷◌, ◌++◌, length, drop, Option, Some, None, refl, sym, ap, subst, ◌∙◌, append_assoc, IsUtf8}
+use Rattle.std.proofs.Common.{◌≡◌, ℕ, true, false, ◌⊎◌, inl, inr, List, [], ◌∷◌, ◌++◌, ◌+◌, length, drop, Option, Some, None, refl, sym, ap, subst, ◌∙◌, IsUtf8}
 use Rattle.std.proofs.lemmas.Bool.{both_ways, cases_Bool}
-use Rattle.std.proofs.lemmas.List.{drop_at}
 use Rattle.gix_url.specs.declared.error.UrlKind.TheVariants as kind
 use Rattle.gix_url.specs.declared.error.UrlFault.{UrlFault}
 use Rattle.gix_url.specs.declared.error.UrlFault.TheVariants as fault
@@ -13,12 +12,12 @@ use Rattle.gix_url.specs.Hosts.{Names}
 use Rattle.gix_url.specs.Hosts.Mode.{bare}
 use Rattle.gix_url.specs.Grammar.{HasHelperForm, helper_protocol, IsBracketed, IsNeither, ScpFront, ScpShape, AddressedShape, ScpUser, Unbrackets, ScpHost, scp_location, Spells}
 use Rattle.gix_url.specs.Flaws.{ScpHostFlaw, MissesPath}
-use Rattle.gix_url.specs.Shapes.{HasFrontCut, LacksBrackets, HasScpCut, HasAddressedCut, AddressedFront, PlainScp}
+use Rattle.gix_url.specs.Shapes.{ColonCut, HasFrontCut, LacksBrackets, HasScpCut, HasAddressedCut, AddressedFront, PlainScp}
 use Rattle.gix_url.specs.ScpPieces.{ColonsInside}
 use Rattle.gix_url.specs.Refusals.{HasFlaw, Decided}
 use Rattle.gix_url.proofs.CutLemmas.{tails, free-cons, begins_cut, free_or_cut, not_free}
 use Rattle.gix_url.proofs.ClosedLemmas.{ends_or_not}
-use Rattle.gix_url.proofs.ShapeLemmas.{no_helper_free, no_helper_alone, no_helper_unnamed, front_unbracketed, front_taken, no_scp_cut, no_scp_uncut, addressed_free, addressed_at, addressed_no_bracket, addressed_cut_front, addressed_no_path, addressed_other, plain_scp, local_shape}
+use Rattle.gix_url.proofs.ShapeLemmas.{no_helper_free, no_helper_alone, no_helper_unnamed, front_unbracketed, front_taken, no_scp_cut, no_scp_uncut, addressed_free, addressed_at, addressed_unbracketed, addressed_bracketed, addressed_no_path, addressed_other, plain_scp, local_shape}
 use Rattle.gix_url.proofs.ScpLemmas.{colons_inside_front, colons_inside_host, colons_inside_escaped, no_port_inside, no_port_named, nothing_named, nothing_escaped, scp_host_found, scp_host_utf8}
 use Rattle.gix_url.proofs.TextDecisions.{Decides, nil_or_some, free_or_not, white_or_not, utf8_or_not, address_or_not, free_or_last_cut, mark_or_cut}
 use Rattle.gix_url.proofs.HostDecisions.{named_or_flawed}
@@ -146,13 +145,10 @@ user_or_not b =
           elim (free_or_last_cut at_sign front) [
             | inl lone ↦ inr (addressed_at b front rest free e lone)
             | inr (user, last, lone, k) ↦
-                let whole : b ≡ user ++ at_sign ∷ (last ++ colon ∷ rest) = e ∙ ap (λ t. t ++ colon ∷ rest) k ∙ append_assoc user (at_sign ∷ last) (colon ∷ rest) in
-                let tail : drop (length user) b ≡ at_sign ∷ (last ++ colon ∷ rest) = ap (drop (length user)) whole ∙ drop_at user (at_sign ∷ (last ++ colon ∷ rest)) (length user) refl in
-                elim (cases_Bool (begins_with left_bracket (last ++ colon ∷ rest))) [
-                  | inr other ↦ inr (addressed_no_bracket b front rest user last (last ++ colon ∷ rest) free e lone k tail other)
-                  | inl begins ↦
-                      let (behind, is) = begins_cut left_bracket (last ++ colon ∷ rest) begins in
-                      inl (user, behind, addressed_cut_front b front rest user last behind free e lone k (tail ∙ ap (λ t. at_sign ∷ t) is))
+                let cut : ColonCut b front rest = record { joined = e; no_colon = free } in
+                elim (cases_Bool (begins_with left_bracket last)) [
+                  | inr other ↦ inr (addressed_unbracketed b front rest user last cut lone k other)
+                  | inl begins ↦ inl (user, drop (length user + 2) b, addressed_bracketed b front rest user last cut lone k begins)
                 ]
           ]
     ]

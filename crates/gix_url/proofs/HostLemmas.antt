@@ -17,6 +17,8 @@ use Rattle.std.specs.Str.{IsUtf8}
 use Rattle.percent_encoding.specs.Percent.{percent_decode}
 use Rattle.gix_url.specs.declared.error.UrlFault.{UrlFault}
 use Rattle.gix_url.specs.declared.error.UrlFault.TheVariants as fault
+use Rattle.std.specs.Option.{MatchOption}
+use Rattle.gix_url.specs.declared.host.NamedHost.{NamedHost}
 use Rattle.gix_url.specs.Bytes.{colon, left_bracket, right_bracket, percent_sign, FreeOf, begins_with, lowercase}
 use Rattle.gix_url.specs.Addresses.{IsIpv6Text, is_zone_byte, Literal}
 use Rattle.gix_url.specs.Addresses.Literal.{address, zoned}
@@ -24,7 +26,7 @@ use Rattle.gix_url.specs.Hosts as spec
 use Rattle.gix_url.specs.Hosts.{Mode, is_dns_byte, is_http_host_byte, HostText, IsLiteral, Bracketed, Inner, AllowsPort, IsDigits, Number, IsAddressPiece, ReadsAddress, HoldsTwoColons, IsManyColoned, IsPlainHost, Names, normal_host}
 use Rattle.gix_url.specs.Hosts.Mode.{strict, bare, loose}
 use Rattle.gix_url.specs.Flaws.{IsNoPort, HasBadPort, IsPortPlace, IsNoInner, BracketsAround, HasBadHost, NameFlaw}
-use Rattle.gix_url.specs.HostPieces.{EndsHost, Follows, IsEscapedZone, IsInner, in_brackets, lowercase_address, shown_literal}
+use Rattle.gix_url.specs.HostPieces.{EndsHost, Follows, HasNoPort, named_text, IsEscapedZone, IsInner, in_brackets, lowercase_address, shown_literal}
 use Rattle.gix_url.proofs.CutLemmas.{heads, tails, class_cut_unique, cut_unique, free-append, free_begins, free_head_tail, free_of_all, free_or_cut, begins-append, not_free}
 use Rattle.gix_url.proofs.EscapeLemmas.{decode_kept, decodes_in_parts, sound_free, utf8_byte, utf8_class}
 use Rattle.gix_url.proofs.AddressLemmas.{address_free, address_two_colons, address_utf8, address-lowercase}
@@ -547,6 +549,13 @@ no_port_behind mode behind x rest digits free e f none =
 pub nothing_follows : (rest : List ℕ) → EndsHost rest → begins_with colon rest ≡ false → rest ≡ []
 nothing_follows rest (inl e) none = e
 nothing_follows rest (inr h) none = absurd (both_ways _ none h)
+
+-- what follows a colon follows the host
+pub port_follows : (mode : Mode) (base rest digits : List ℕ) (named : Option NamedHost) → rest ≡ colon ∷ digits
+    → MatchOption named (IsNoPort mode digits) (λ n. Follows mode base (colon ∷ digits) (Some (named_text n)) n.port)
+    → MatchOption named (HasNoPort mode rest) (λ n. Follows mode base rest (Some (named_text n)) n.port)
+port_follows mode base rest digits None is h = (digits, h, is)
+port_follows mode base rest digits (Some n) is h = subst (λ t. Follows mode base t (Some (named_text n)) n.port) (sym is) h
 
 -- there is room for one more byte of a decoding, where there is for the text
 pub room_for_next : (text yielded rest : List ℕ) (byte : ℕ) (left : List ℕ) → percent_decode text ≡ yielded ++ rest → rest ≡ byte ∷ left → length yielded + 1 ≤ length text

@@ -1,5 +1,6 @@
 -- The forms of a text: where its pieces are cut, that they are cut in one way, and that one form excludes the others.
 use Rattle.std.proofs.Common.{◌≡◌, ℕ, ◌+◌, ◌<◌, true, false, ◌⊎◌, inl, inr, List, [], ◌∷◌, ◌++◌, length, take, drop, refl, sym, ap, subst, ◌∙◌, arith, append_assoc, length-append, ◌==◌, eq-eqb, IsUtf8, codes, bytes_eq}
+use Rattle.std.proofs.Math.Seq.{drop-append-add}
 use Rattle.std.proofs.lemmas.Bool.{eqb-true, both_ways, false≢true}
 use Rattle.std.proofs.lemmas.Bool.Decides.{nat_tests}
 use Rattle.std.proofs.lemmas.List.{take_at, drop_at, append_cancel_left, nil_from_length}
@@ -10,7 +11,7 @@ use Rattle.gix_url.specs.declared.error.Error.{Error}
 use Rattle.gix_url.specs.declared.error.Error.TheVariants as error
 use Rattle.gix_url.specs.Value.{Location, path_alone}
 use Rattle.gix_url.specs.Value.Protocol.{file}
-use Rattle.gix_url.specs.Bytes.{slash, colon, at_sign, left_bracket, right_bracket, FreeOf, begins_with, is_helper_name, is_name_byte}
+use Rattle.gix_url.specs.Bytes.{slash, colon, at_sign, left_bracket, right_bracket, FreeOf, Holds, begins_with, is_helper_name, is_name_byte}
 use Rattle.gix_url.specs.Addresses.{IsIpv6Text}
 use Rattle.gix_url.specs.Grammar.{HelperCut, HasHelperForm, IsNeither, ScpFront, AddressedShape, IsScpShaped, SpellsHelper, SpellsUrl, SpellsFile, SpellsScpBefore, SpellsScp, SpellsLocal, Spells, AddressedCut}
 use Rattle.gix_url.specs.Grammar.Spells.{url, file_url, remote_helper, scp_form, local_path}
@@ -19,8 +20,8 @@ use Rattle.gix_url.specs.Authority.{unless_empty, Fits}
 use Rattle.gix_url.specs.Flaws.{UrlShape, OtherShape, MissesPath}
 use Rattle.gix_url.specs.Flaws.MissesPath.{in_file}
 use Rattle.gix_url.specs.Readings.{NoneBut}
-use Rattle.gix_url.specs.Shapes.{FrontCut, HasFrontCut, ScpCut, HasScpCut, AddressedFront, HasAddressedCut, PlainScp, LocalShape}
-use Rattle.gix_url.proofs.CutLemmas.{heads, tails, different_bytes, begins_cut, not_free, free-cons, free_parts, cut_unique, last_cut_unique, mark_cut_unique, held_free, helper_name_bytes, helper_name_free, scheme_text_free}
+use Rattle.gix_url.specs.Shapes.{ColonCut, FrontCut, HasFrontCut, ScpCut, HasScpCut, AddressedFront, HasAddressedCut, LacksBrackets, PlainScp, LocalShape}
+use Rattle.gix_url.proofs.CutLemmas.{heads, tails, different_bytes, begins_cut, free_or_cut, not_free, free-cons, free_parts, cut_unique, last_cut_unique, mark_cut_unique, held_free, helper_name_bytes, helper_name_free, scheme_text_free}
 use Rattle.gix_url.proofs.AddressLemmas.{address_free}
 use Rattle.gix_url.proofs.EscapeLemmas.{utf8_behind, utf8_class, utf8_parts}
 use Rattle.gix_url.proofs.FormLemmas.{address_cut, addressed_joined, addressed_front_free, address_front_free, mark_no_helper, url_scheme_free, url_not_neither, file_not_neither, scp_neither, scp_shaped}
@@ -44,6 +45,30 @@ no_helper_free b free (name, address, h) = not_free colon name (colon ∷ addres
 pub no_helper_unnamed : (b name rest : List ℕ) → FreeOf colon name → b ≡ name ++ colon ∷ rest → is_helper_name name ≡ false → ¬ HasHelperForm b
 no_helper_unnamed b name rest free e other (n, a, h) =
     false≢true (sym other ∙ ap is_helper_name (sym (helper_front b name rest n a h free e).0) ∙ h.named)
+
+-- ---- URLs
+
+-- what is no `/` at the front is not two of them
+pub no_slashes : (text : List ℕ) → begins_with slash text ≡ false → (behind : List ℕ) → ¬ (text ≡ slash ∷ (slash ∷ behind))
+no_slashes text other behind is = false≢true (sym other ∙ ap (begins_with slash) is)
+
+-- nor where another byte follows
+pub no_second_slash : (text rest : List ℕ) → text ≡ slash ∷ rest → begins_with slash rest ≡ false → (behind : List ℕ) → ¬ (text ≡ slash ∷ (slash ∷ behind))
+no_second_slash text rest first other behind is = false≢true (sym other ∙ ap (begins_with slash) (tails (sym first ∙ is)))
+
+-- two slashes behind the first colon are the first mark
+pub mark_at_colon : (b front rest behind : List ℕ) → ColonCut b front rest → rest ≡ slash ∷ (slash ∷ behind) → (¬ Holds (codes "://") front) × (b ≡ front ++ (codes "://" ++ behind))
+mark_at_colon b front rest behind cut is = (held_free front cut.no_colon, cut.joined ∙ ap (λ t. front ++ colon ∷ t) is)
+
+-- no mark where the only colon has no two slashes behind it
+pub no_mark_at_colon : (b front rest : List ℕ) → ColonCut b front rest → ((behind : List ℕ) → ¬ (rest ≡ slash ∷ (slash ∷ behind))) → FreeOf colon rest → ¬ Holds (codes "://") b
+no_mark_at_colon b front rest cut other none (f, r, e) = elim (free_or_cut colon f) [
+  | inl free ↦ other r (cut_unique colon front f rest (slash ∷ (slash ∷ r)) cut.no_colon free (sym cut.joined ∙ e)).1
+  | inr (x, y, free, is) ↦
+      let behind = y ++ colon ∷ (slash ∷ (slash ∷ r)) in
+      let whole = sym cut.joined ∙ e ∙ ap (λ t. t ++ (codes "://" ++ r)) is ∙ append_assoc x (colon ∷ y) (codes "://" ++ r) in
+      not_free colon y (slash ∷ (slash ∷ r)) (subst (λ t. FreeOf colon t) (cut_unique colon front x rest behind cut.no_colon free whole).1 none)
+]
 
 -- ---- the colon of the scp form
 
@@ -129,15 +154,15 @@ addressed_user b front rest user last u a p h free e none f =
     let same : u ≡ user = (last_cut_unique at_sign u user (left_bracket ∷ x) last (free-cons at_sign left_bracket x refl no_at) none (sym is ∙ f)).0 in
     (same, ap (drop (length user)) h.joined ∙ drop_at u (at_sign ∷ (left_bracket ∷ (a ++ right_bracket ∷ (colon ∷ p)))) (length user) (ap length same))
 
--- no `@` or no bracket where the user ends
-pub addressed_no_bracket : (b front rest user last behind : List ℕ) → FreeOf colon front → b ≡ front ++ colon ∷ rest → FreeOf at_sign last → front ≡ user ++ at_sign ∷ last
-    → drop (length user) b ≡ at_sign ∷ behind → begins_with left_bracket behind ≡ false → ¬ HasAddressedCut b
-addressed_no_bracket b front rest user last behind free e none f tail other (u, a, p, h) =
-    let is : behind ≡ left_bracket ∷ (a ++ right_bracket ∷ (colon ∷ p)) = tails (sym tail ∙ (addressed_user b front rest user last u a p h free e none f).1) in
-    false≢true (sym other ∙ ap (begins_with left_bracket) is)
+-- no bracket between the user and the first colon
+pub addressed_unbracketed : (b front rest user last : List ℕ) → ColonCut b front rest → FreeOf at_sign last → front ≡ user ++ at_sign ∷ last → begins_with left_bracket last ≡ false → ¬ HasAddressedCut b
+addressed_unbracketed b front rest user last cut none f other (u, a, p, h) =
+    let (x, no_at, is) = addressed_front b front rest u a p h cut.no_colon cut.joined in
+    let same = (last_cut_unique at_sign u user (left_bracket ∷ x) last (free-cons at_sign left_bracket x refl no_at) none (sym is ∙ f)).1 in
+    false≢true (sym other ∙ ap (begins_with left_bracket) (sym same))
 
 -- the user and the bracket, as they were cut one behind the other
-pub addressed_cut_front : (b front rest user last behind : List ℕ) → FreeOf colon front → b ≡ front ++ colon ∷ rest → FreeOf at_sign last → front ≡ user ++ at_sign ∷ last
+addressed_cut_front : (b front rest user last behind : List ℕ) → FreeOf colon front → b ≡ front ++ colon ∷ rest → FreeOf at_sign last → front ≡ user ++ at_sign ∷ last
     → drop (length user) b ≡ at_sign ∷ (left_bracket ∷ behind) → AddressedFront b user behind
 addressed_cut_front b front rest user last behind free e none f tail =
     let whole : b ≡ user ++ (at_sign ∷ last ++ colon ∷ rest) = e ∙ ap (λ t. t ++ colon ∷ rest) f ∙ append_assoc user (at_sign ∷ last) (colon ∷ rest) in
@@ -150,10 +175,24 @@ addressed_cut_front b front rest user last behind free e none f tail =
           (same.0, tails (tails (sym tail ∙ same.1)));
     }
 
+-- the same by the place of what follows the bracket
+pub addressed_bracketed : (b front rest user last : List ℕ) → ColonCut b front rest → FreeOf at_sign last → front ≡ user ++ at_sign ∷ last → begins_with left_bracket last ≡ true → AddressedFront b user (drop (length user + 2) b)
+addressed_bracketed b front rest user last cut none f begins =
+    let (tail, is) = begins_cut left_bracket last begins in
+    let behind = at_sign ∷ (left_bracket ∷ (tail ++ colon ∷ rest)) in
+    let whole : b ≡ user ++ behind = cut.joined ∙ ap (λ t. t ++ colon ∷ rest) (f ∙ ap (λ t. user ++ at_sign ∷ t) is) ∙ append_assoc user (at_sign ∷ (left_bracket ∷ tail)) (colon ∷ rest) in
+    let second : drop (length user + 2) b ≡ tail ++ colon ∷ rest = ap (drop (length user + 2)) whole ∙ drop-append-add user behind 2 in
+    let first : drop (length user) b ≡ at_sign ∷ (left_bracket ∷ drop (length user + 2) b) = ap (drop (length user)) whole ∙ drop_at user behind (length user) refl ∙ ap (λ t. at_sign ∷ (left_bracket ∷ t)) (sym second) in
+    addressed_cut_front b front rest user last _ cut.no_colon cut.joined none f first
+
 -- the address and what follows it
 addressed_pieces : (b user behind address path u a p : List ℕ) → AddressedFront b user behind → FreeOf right_bracket address → behind ≡ address ++ right_bracket ∷ path → AddressedCut b u a p → (a ≡ address) × (colon ∷ p ≡ path)
 addressed_pieces b user behind address path u a p s free e h =
     cut_unique right_bracket a address (colon ∷ p) path (address_free right_bracket a refl h.addressed) free (sym (s.only u a p h).1 ∙ e)
+
+-- no bracket that closes it
+pub addressed_open : (b user behind : List ℕ) → AddressedFront b user behind → FreeOf right_bracket behind → ¬ HasAddressedCut b
+addressed_open b user behind s free (u, a, p, h) = not_free right_bracket a (colon ∷ p) (subst (λ t. FreeOf right_bracket t) (s.only u a p h).1 free)
 
 -- no colon behind the bracket
 pub addressed_no_path : (b user behind address path : List ℕ) → AddressedFront b user behind → FreeOf right_bracket address → behind ≡ address ++ right_bracket ∷ path → begins_with colon path ≡ false → ¬ HasAddressedCut b
@@ -165,6 +204,12 @@ pub addressed_other : (b user behind address path : List ℕ) → AddressedFront
 addressed_other b user behind address path s free e other (u, a, p, h) =
     let same = addressed_pieces b user behind address path u a p s free e h in
     other (subst (λ t. FreeOf slash t) (s.only u a p h).0 h.no_slash) (subst IsIpv6Text same.0 h.addressed)
+
+-- a front of a text without brackets has none
+unbracketed_front : (b front rest : List ℕ) → b ≡ front ++ colon ∷ rest → LacksBrackets b → (begins_with left_bracket front ≡ false) ⊎ FreeOf right_bracket b
+unbracketed_front b front rest e (inr free) = inr free
+unbracketed_front b [] rest e (inl other) = inl refl
+unbracketed_front b (c ∷ front) rest e (inl other) = inl (sym (ap (begins_with left_bracket) e) ∙ other)
 
 -- ---- the answers
 
@@ -185,6 +230,20 @@ local_shape b some neither none uncut = record {
     | inr (u, a, p, s) ↦ none (u, a, p, s.cut)
   ];
 }
+
+-- a text with a colon isn't empty
+pub colon_nonempty : (b front rest : List ℕ) → ColonCut b front rest → 0 < length b
+colon_nonempty b front rest cut = omega (arith, ap length cut.joined, length-append front (colon ∷ rest))
+
+-- a text without a colon is neither a helper nor a URL, and has no other shape
+pub whole_shape : (b : List ℕ) → 0 < length b → FreeOf colon b → LocalShape b
+whole_shape b some free =
+    local_shape b some (record { no_helper = no_helper_free b free; no_mark = held_free b free }) (addressed_free b free)
+    (λ (f, p, h). not_free colon f p (subst (λ t. FreeOf colon t) h.around.joined free))
+
+-- the first colon is that of the scp form where no brackets stand at the front
+pub front_at_colon : (b front rest : List ℕ) → ColonCut b front rest → LacksBrackets b → FrontCut b front rest
+front_at_colon b front rest cut lacks = record { joined = cut.joined; shape = plain cut.no_colon (unbracketed_front b front rest cut.joined lacks) }
 
 -- ---- what is refused
 

@@ -12,7 +12,7 @@ use Rattle.gix_url.specs.Bytes.{colon, percent_sign, left_bracket, right_bracket
 use Rattle.gix_url.specs.Addresses.{IsZone}
 use Rattle.gix_url.specs.Hosts.{Mode, Inner, normal_host, Names, Number}
 use Rattle.gix_url.specs.Hosts.Mode.{strict, bare, loose}
-use Rattle.gix_url.specs.Flaws.{NameFlaw}
+use Rattle.gix_url.specs.Flaws.{IsNoPort, NameFlaw}
 
 -- the mode that the code names
 abbrev pub strictness : rust.Mode → Mode
@@ -109,6 +109,10 @@ pub data Follows (mode : Mode) (base rest : List ℕ) (host : Option (List ℕ))
   nothing : rest ≡ [] → host ≡ Some base → port ≡ None → Follows mode base rest host port
   lone_colon : rest ≡ colon ∷ [] → host ≡ Some (base ++ colon ∷ []) → port ≡ None → Follows mode base rest host port
   number : (digits : List ℕ) (n : ℕ) → Number mode digits n → rest ≡ colon ∷ digits → host ≡ Some base → port ≡ Some n → Follows mode base rest host port
+
+-- a colon and something that is no port
+abbrev pub HasNoPort : Mode → List ℕ → Type 0
+HasNoPort mode rest = (digits : List ℕ) × IsNoPort mode digits × (rest ≡ colon ∷ digits)
 
 -- what was read from a piece that isn't empty: the host and the port that it names, or a flaw of it
 abbrev pub ReadsName : Mode → List ℕ → Result NamedHost UrlFault → Type 0

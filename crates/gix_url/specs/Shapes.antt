@@ -6,6 +6,15 @@ use Rattle.gix_url.specs.Bytes.{slash, colon, at_sign, left_bracket, right_brack
 use Rattle.gix_url.specs.Grammar.{HelperCut, IsNeither, ScpFront, ScpShape, AddressedCut, AddressedShape, IsAddressed, IsScpShaped}
 use Rattle.gix_url.specs.Flaws.{UrlShape}
 
+-- the pieces around the first colon of the text
+pub record ColonCut (b front rest : List ℕ) : Type 0 where
+  pub joined : b ≡ front ++ colon ∷ rest
+  pub no_colon : FreeOf colon front
+
+-- the text has this before its first colon
+abbrev pub IsColonFront : List ℕ → List ℕ → Type 0
+IsColonFront b front = (rest : List ℕ) × ColonCut b front rest
+
 -- the pieces around the colon of the scp form
 pub record FrontCut (b front path : List ℕ) : Type 0 where
   pub joined : b ≡ front ++ colon ∷ path
@@ -31,6 +40,10 @@ HasScpCut b = (front : List ℕ) × (path : List ℕ) × ScpCut b front path
 -- the text is `user@[address]:path`
 abbrev pub HasAddressedCut : List ℕ → Type 0
 HasAddressedCut b = (user : List ℕ) × (address : List ℕ) × (path : List ℕ) × AddressedCut b user address path
+
+-- a user, `@[` and what stands behind it
+abbrev pub addressed_text : List ℕ → List ℕ → List ℕ
+addressed_text user behind = user ++ at_sign ∷ (left_bracket ∷ behind)
 
 -- the user, and what stands behind its `@[`, of all such pieces that the text may have
 pub record AddressedFront (b user behind : List ℕ) : Type 0 where

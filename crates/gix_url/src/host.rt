@@ -8,11 +8,11 @@ ghost use Rattle.std.specs.Prelude.{◌≡◌, ℕ, ◌+◌, ◌≤◌, vec_len,
 ghost use Rattle.std.specs.Char.{is_ascii_digit};
 ghost use Rattle.std.specs.List.{list_all};
 ghost use Rattle.gix_url.specs.Addresses as address;
-ghost use Rattle.gix_url.specs.Bytes.{begins_with, colon, left_bracket, lowercase};
+ghost use Rattle.gix_url.specs.Bytes.{FreeOf, begins_with, colon, left_bracket, lowercase, right_bracket};
 ghost use Rattle.gix_url.specs.Flaws.{IsNoHost, IsNoInner, IsNoPort, NameFlaw};
 ghost use Rattle.gix_url.specs.Hosts as spec;
 ghost use Rattle.gix_url.specs.Hosts.{HostText, IsAddressPiece, IsLiteral, IsManyColoned, Names, Number, ReadsAddress};
-ghost use Rattle.gix_url.specs.HostPieces.{EndsHost, Follows, IsEscapedZone, IsInner, ReadsName, host_of, in_brackets, is_bracketed, lowercase_address, meant_host, named_text, normal_case, port_of, shown_literal, slice_text, strictness, unescaped_host};
+ghost use Rattle.gix_url.specs.HostPieces.{EndsHost, Follows, HasNoPort, IsEscapedZone, IsInner, ReadsName, host_of, in_brackets, is_bracketed, lowercase_address, meant_host, named_text, normal_case, port_of, shown_literal, slice_text, strictness, unescaped_host};
 ghost use Rattle.percent_encoding.specs.Percent as percent;
 
 use crate::bytes::{after, append_within, before, cut, is_free_of, starts_with_byte};
@@ -91,21 +91,37 @@ fn read_some(mode: Mode, piece: &[u8]) -> Result<NamedHost<'_>, UrlFault>
 fn read_bracketed(mode: Mode, behind: &[u8]) -> Result<NamedHost<'_>, UrlFault>
     ensures { ReadsName (strictness mode) (left_bracket ∷ behind.now) result }
 {
-    let Some((inner, rest)) = cut(behind, b']') else {
-        return Err(UrlFault::BadCharacter);
-    };
+    match cut(behind, b']') {
+        Some((inner, rest)) => read_brackets(mode, inner, rest),
+        None => Err(UrlFault::BadCharacter),
+    }
+}
+
+/// Reads what stands between brackets, and behind them.
+fn read_brackets<'a>(mode: Mode, inner: &'a [u8], rest: &'a [u8]) -> Result<NamedHost<'a>, UrlFault>
+    requires { FreeOf right_bracket inner.now }
+    ensures { ReadsName (strictness mode) (left_bracket ∷ (inner.now ++ right_bracket ∷ rest.now)) result }
+{
     if !ends_host(rest) {
         return Err(UrlFault::BadCharacter);
     }
     let Some(host) = read_inner(mode, inner) else {
         return Err(UrlFault::BadCharacter);
     };
-    let Some(digits) = after(rest, b':') else {
-        return Ok(alone(host));
-    };
-    match with_port(mode, host, digits) {
+    match with_rest(mode, host, rest) {
         Some(named) => Ok(named),
         None => Err(UrlFault::BadPort),
+    }
+}
+
+/// A host with what follows it: nothing, or a colon and perhaps a port.
+fn with_rest<'a>(mode: Mode, piece: HostPiece<'a>, rest: &[u8]) -> Option<NamedHost<'a>>
+    requires { EndsHost rest.now }
+    ensures { MatchOption result (HasNoPort (strictness mode) rest.now) (λ named. Follows (strictness mode) (meant_host piece.entry) rest.now (Some (named_text named)) named.port) }
+{
+    match after(rest, b':') {
+        Some(digits) => with_port(mode, piece, digits),
+        None => Some(alone(piece)),
     }
 }
 

@@ -1,21 +1,15 @@
--- The user ends at the last `@` before the first colon.
-use Rattle.std.proofs.Common.{sym, ap, ◌∙◌, ◌∷◌}
-use Rattle.gix_url.specs.Bytes.{at_sign}
-use Rattle.gix_url.proofs.ShapeLemmas.{addressed_at, addressed_no_bracket, addressed_cut_front}
+-- The user ends at the last `@` before the first colon, which a bracket follows.
+use Rattle.std.proofs.Common.{sym}
+use Rattle.gix_url.proofs.ShapeLemmas.{addressed_at, addressed_unbracketed, addressed_bracketed}
 use Rattle.gix_url.proofs.parse.classify.cut_user.Goals as goal
 
-pub returns-in_err-user : goal.returns-in_err-user
-returns-in_err-user c =
-    rw c.from_residual-in_err-user.ensures (addressed_at c.args.bytes.now c.in_ok-front.front.now c.in_ok-front.field-0-1.now c.in_ok-front.ensures.0 c.in_ok-front.ensures.1 c.in_err-user.ensures)
+pub returns-in-None : goal.returns-in-None
+returns-in-None c = addressed_at c.args.bytes.now c.args.front.now c.requires.0 c.requires.1.no_colon c.requires.1.joined c.in-None.ensures
 
-pub returns-in_err-behind : goal.returns-in_err-behind
-returns-in_err-behind c =
-    rw c.from_residual-in_err-behind.ensures
-    (addressed_no_bracket c.args.bytes.now c.in_ok-front.front.now c.in_ok-front.field-0-1.now c.in_ok-user.user.now c.in_ok-user.field-0-1.now c.in_ok-after.field-0.now
-    c.in_ok-front.ensures.0 c.in_ok-front.ensures.1 c.in_ok-user.ensures.0 c.in_ok-user.ensures.1 (sym c.split_at.ensures.back ∙ c.in_ok-after.ensures) c.in_err-behind.ensures)
+pub returns-then-starts_with_byte : goal.returns-then-starts_with_byte
+returns-then-starts_with_byte c =
+    rw c.split_at.ensures.back (addressed_bracketed c.args.bytes.now c.args.front.now c.requires.0 c.in-Some.user.now c.in-Some.host.now c.requires.1 c.in-Some.ensures.0 c.in-Some.ensures.1 (sym c.if-starts_with_byte.ensures))
 
-pub returns : goal.returns
-returns c =
-    addressed_cut_front c.args.bytes.now c.in_ok-front.front.now c.in_ok-front.field-0-1.now c.in_ok-user.user.now c.in_ok-user.field-0-1.now c.in_ok-behind.behind.now
-    c.in_ok-front.ensures.0 c.in_ok-front.ensures.1 c.in_ok-user.ensures.0 c.in_ok-user.ensures.1
-    (sym c.split_at.ensures.back ∙ c.in_ok-after.ensures ∙ ap (λ t. at_sign ∷ t) c.in_ok-behind.ensures)
+pub returns-else-starts_with_byte : goal.returns-else-starts_with_byte
+returns-else-starts_with_byte c =
+    addressed_unbracketed c.args.bytes.now c.args.front.now c.requires.0 c.in-Some.user.now c.in-Some.host.now c.requires.1 c.in-Some.ensures.0 c.in-Some.ensures.1 (sym c.if-starts_with_byte.ensures)
