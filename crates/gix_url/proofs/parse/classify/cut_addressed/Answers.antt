@@ -1,7 +1,8 @@
 -- The pieces behind the user are pieces of the text.
 use Rattle.std.proofs.Common.{sym, subst}
 use Rattle.std.specs.Option.{MatchOption}
-use Rattle.gix_url.specs.Shapes.{AddressedCut, AddressedFront, HasAddressedCut}
+use Rattle.gix_url.specs.Grammar.{AddressedCut}
+use Rattle.gix_url.specs.Shapes.{AddressedFront, HasAddressedCut}
 use Rattle.gix_url.proofs.parse.classify.cut_addressed.Goals as goal
 
 pub cut_address-requires : goal.cut_address-requires
