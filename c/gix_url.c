@@ -1,0 +1,267 @@
+/* The calls of gix_url.h over the exports of the static library crates/gix_url_c.
+ *
+ * What is here is glue: null pointers are answered, parts become pointers and lengths, and what comes back as lengths
+ * becomes pointers into the caller's room. Each export and its types are declared as crates/gix_url_c/src has them; a
+ * slice of that library is a pointer that isn't null and a length. */
+#include "gix_url.h"
+
+#include <string.h>
+
+typedef struct front {
+    uint8_t scheme;
+    bool alternative, has_user, has_password, has_host, has_port, has_spelling;
+    uint16_t port;
+} front;
+
+typedef struct made {
+    front front;
+    size_t name, user, password, host, path, spelling;
+} made;
+
+typedef struct told {
+    uint8_t kind, fault;
+    size_t shown, total;
+} told;
+
+typedef struct seen {
+    uint8_t user, host;
+    bool path, is_root, is_spelled, has_port;
+    uint16_t port;
+} seen;
+
+typedef struct parted {
+    bool has_query, has_fragment;
+    size_t path, fragment, pairs, bytes;
+} parted;
+
+/* The bytes of a part, and the six of a location, as arguments. */
+#define BYTES const char *, size_t
+#define SIX(u) PART((u)->name), PART((u)->user), PART((u)->password), PART((u)->host), PART((u)->path), PART((u)->spelling)
+#define PART(t) bytes_of(t), len_of(t)
+
+uint32_t gix_url_c_read(BYTES, made *, char *, size_t, told *);
+uint32_t gix_url_c_from_parts(const front *, BYTES, BYTES, BYTES, BYTES, BYTES, made *, char *, size_t, told *);
+uint32_t gix_url_c_is_settled(const front *, BYTES, BYTES, BYTES, BYTES, BYTES, BYTES, bool *);
+uint32_t gix_url_c_write(const front *, BYTES, BYTES, BYTES, BYTES, BYTES, BYTES, char *, size_t, size_t *, told *);
+uint32_t gix_url_c_display(const front *, BYTES, BYTES, BYTES, BYTES, BYTES, BYTES, char *, size_t, size_t *, told *);
+uint32_t gix_url_c_look(const front *, BYTES, BYTES, BYTES, BYTES, BYTES, BYTES, seen *);
+uint32_t gix_url_c_components(const front *, BYTES, BYTES, BYTES, BYTES, BYTES, BYTES, parted *, char *, size_t, size_t *,
+                              size_t);
+
+/* Somewhere to point to where there are no bytes. */
+static char nowhere[1];
+static size_t no_lengths[1];
+
+static const char *bytes_of(gix_url_text text) { return text.at ? text.at : nowhere; }
+
+static size_t len_of(gix_url_text text) { return text.at ? text.len : 0; }
+
+static gix_url_text text_of(const char *at, size_t len, bool is_there) {
+    gix_url_text text = {is_there ? at : NULL, is_there ? len : 0};
+    return text;
+}
+
+/* The numbers of a location. A scheme that is no byte becomes one that is none of the eight. */
+static front front_of(const gix_url *url) {
+    front front;
+    memset(&front, 0, sizeof front);
+    front.scheme = (unsigned)url->scheme < 8 ? (uint8_t)url->scheme : UINT8_MAX;
+    front.alternative = url->alternative;
+    front.has_user = url->user.at != NULL;
+    front.has_password = url->password.at != NULL;
+    front.has_host = url->host.at != NULL;
+    front.has_port = url->has_port;
+    front.has_spelling = url->spelling.at != NULL;
+    front.port = url->port;
+    return front;
+}
+
+/* The bytes at the front of the room, which moves on behind them. */
+static gix_url_text next_part(const char **room, size_t len, bool is_there) {
+    gix_url_text part = text_of(*room, len, is_there);
+    *room += len;
+    return part;
+}
+
+/* The location whose parts stand in the room, in the order in which they are handed out. */
+static gix_url located(const made *made, const char *room) {
+    gix_url url;
+    memset(&url, 0, sizeof url);
+    url.scheme = (gix_url_scheme)made->front.scheme;
+    url.name = next_part(&room, made->name, made->front.scheme >= GIX_URL_HELPER);
+    url.user = next_part(&room, made->user, made->front.has_user);
+    url.password = next_part(&room, made->password, made->front.has_password);
+    url.host = next_part(&room, made->host, made->front.has_host);
+    url.path = next_part(&room, made->path, true);
+    url.spelling = next_part(&room, made->spelling, made->front.has_spelling);
+    url.alternative = made->front.alternative;
+    url.has_port = made->front.has_port;
+    url.port = made->front.port;
+    return url;
+}
+
+/* What is told of an error. */
+static void tell(uint32_t error, const told *told, gix_url_problem *problem) {
+    if (!problem) return;
+    memset(problem, 0, sizeof *problem);
+    problem->kind = (gix_url_kind)told->kind;
+    if (error == GIX_URL_UNWRITABLE) problem->write_fault = (gix_url_write_fault)told->fault;
+    else problem->fault = (gix_url_fault)told->fault;
+    problem->shown = told->shown;
+    problem->total = told->total;
+}
+
+/* Hands out what was made in the room, or tells the error. */
+static gix_url_error hand_out(uint32_t error, const made *made, const char *room, gix_url *url, size_t *needed,
+                              const told *told, gix_url_problem *problem) {
+    if (error == GIX_URL_OK) *url = located(made, room);
+    if ((error == GIX_URL_OK || error == GIX_URL_NO_ROOM) && needed)
+        *needed = made->name + made->user + made->password + made->host + made->path + made->spelling;
+    tell(error, told, problem);
+    return (gix_url_error)error;
+}
+
+gix_url_error gix_url_parse(const char *input, size_t len, char *room, size_t room_len, gix_url *url, size_t *needed,
+                            gix_url_problem *problem) {
+    if (!url) return GIX_URL_NULL;
+    if (!input) input = nowhere, len = 0;
+    if (!room) room = nowhere, room_len = 0;
+    made made = {0};
+    told told = {0};
+    uint32_t error = gix_url_c_read(input, len, &made, room, room_len, &told);
+    return hand_out(error, &made, room, url, needed, &told, problem);
+}
+
+gix_url_error gix_url_from_parts(const gix_url *parts, char *room, size_t room_len, gix_url *url, size_t *needed,
+                                 gix_url_problem *problem) {
+    if (!parts || !url) return GIX_URL_NULL;
+    if (!room) room = nowhere, room_len = 0;
+    made made = {0};
+    told told = {0};
+    front front = front_of(parts);
+    uint32_t error = gix_url_c_from_parts(&front, PART(parts->name), PART(parts->user), PART(parts->password),
+                                          PART(parts->host), PART(parts->path), &made, room, room_len, &told);
+    return hand_out(error, &made, room, url, needed, &told, problem);
+}
+
+gix_url_error gix_url_is_settled(const gix_url *url, bool *settled) {
+    if (!url || !settled) return GIX_URL_NULL;
+    front front = front_of(url);
+    return (gix_url_error)gix_url_c_is_settled(&front, SIX(url), settled);
+}
+
+gix_url_error gix_url_write(const gix_url *url, char *room, size_t room_len, size_t *len, gix_url_problem *problem) {
+    if (!url || !len) return GIX_URL_NULL;
+    if (!room) room = nowhere, room_len = 0;
+    told told = {0};
+    front front = front_of(url);
+    uint32_t error = gix_url_c_write(&front, SIX(url), room, room_len, len, &told);
+    tell(error, &told, problem);
+    return (gix_url_error)error;
+}
+
+gix_url_error gix_url_display(const gix_url *url, char *room, size_t room_len, size_t *len, gix_url_problem *problem) {
+    if (!url || !len) return GIX_URL_NULL;
+    if (!room) room = nowhere, room_len = 0;
+    told told = {0};
+    front front = front_of(url);
+    uint32_t error = gix_url_c_display(&front, SIX(url), room, room_len, len, &told);
+    tell(error, &told, problem);
+    return (gix_url_error)error;
+}
+
+gix_url_error gix_url_look(const gix_url *url, gix_url_seen *answer) {
+    if (!url || !answer) return GIX_URL_NULL;
+    seen seen = {0};
+    front front = front_of(url);
+    uint32_t error = gix_url_c_look(&front, SIX(url), &seen);
+    if (error != GIX_URL_OK) return (gix_url_error)error;
+    memset(answer, 0, sizeof *answer);
+    answer->user = (gix_url_argument)seen.user;
+    answer->host = (gix_url_argument)seen.host;
+    answer->path_is_usable = seen.path;
+    answer->path_is_root = seen.is_root;
+    answer->original_path = seen.is_spelled ? url->spelling : url->path;
+    answer->has_port = seen.has_port;
+    answer->port = seen.port;
+    return GIX_URL_OK;
+}
+
+gix_url_error gix_url_path_query_fragment(const gix_url *url, char *room, size_t room_len, gix_url_pair *pairs,
+                                          size_t pair_room, gix_url_components *components, size_t *needed,
+                                          size_t *needed_pairs) {
+    if (!url || !components) return GIX_URL_NULL;
+    if (!room) room = nowhere, room_len = 0;
+    if (!pairs || pair_room > SIZE_MAX / sizeof *pairs) pair_room = 0;
+    size_t *lengths = pair_room ? &pairs->name_len : no_lengths;
+    parted parted = {0};
+    front front = front_of(url);
+    uint32_t error = gix_url_c_components(&front, SIX(url), &parted, room, room_len, lengths, 2 * pair_room);
+    if (error != GIX_URL_OK && error != GIX_URL_NO_ROOM) return (gix_url_error)error;
+    if (needed) *needed = parted.bytes;
+    if (needed_pairs) *needed_pairs = parted.pairs;
+    if (error != GIX_URL_OK) return GIX_URL_NO_ROOM;
+    const char *at = room;
+    components->path = next_part(&at, parted.path, true);
+    components->fragment = next_part(&at, parted.fragment, parted.has_fragment);
+    components->query = next_part(&at, parted.bytes - parted.path - parted.fragment, parted.has_query);
+    components->pair_count = parted.pairs;
+    return GIX_URL_OK;
+}
+
+const char *gix_url_error_name(gix_url_error error) {
+    switch (error) {
+    case GIX_URL_OK: return "Ok";
+    case GIX_URL_MEMORY: return "Memory";
+    case GIX_URL_EMPTY_LOCAL: return "EmptyLocal";
+    case GIX_URL_MISSING_PATH: return "MissingPath";
+    case GIX_URL_NOT_UTF8: return "NotUtf8";
+    case GIX_URL_TOO_LONG: return "TooLong";
+    case GIX_URL_BAD_URL: return "BadUrl";
+    case GIX_URL_HELPER_NAME: return "HelperName";
+    case GIX_URL_UNWRITABLE: return "Unwritable";
+    case GIX_URL_NO_LOCATION: return "NoLocation";
+    case GIX_URL_NO_ROOM: return "NoRoom";
+    case GIX_URL_NULL: return "Null";
+    }
+    return "?";
+}
+
+const char *gix_url_fault_name(gix_url_fault fault) {
+    switch (fault) {
+    case GIX_URL_FAULT_NONE: return "None";
+    case GIX_URL_NO_SCHEME: return "NoScheme";
+    case GIX_URL_BAD_PORT: return "BadPort";
+    case GIX_URL_BAD_CHARACTER: return "BadCharacter";
+    case GIX_URL_HOST_REQUIRED: return "HostRequired";
+    }
+    return "?";
+}
+
+const char *gix_url_write_fault_name(gix_url_write_fault fault) {
+    switch (fault) {
+    case GIX_URL_WRITE_FAULT_NONE: return "None";
+    case GIX_URL_WRITE_HELPER_NAME: return "HelperName";
+    case GIX_URL_WRITE_HELPER_PARTS: return "HelperParts";
+    case GIX_URL_WRITE_RELATIVE_SSH: return "RelativeSsh";
+    case GIX_URL_WRITE_USER_WITHOUT_HOST: return "UserWithoutHost";
+    }
+    return "?";
+}
+
+const char *gix_url_kind_name(gix_url_kind kind) {
+    switch (kind) {
+    case GIX_URL_KIND_NONE: return "None";
+    case GIX_URL_KIND_URL: return "Url";
+    case GIX_URL_KIND_SCP: return "Scp";
+    case GIX_URL_KIND_LOCAL: return "Local";
+    }
+    return "?";
+}
+
+gix_url_text gix_url_scheme_text(const gix_url *url) {
+    static const char *const names[] = {"file", "git", "ssh", "http", "https", "ext"};
+    if (!url) return text_of(NULL, 0, false);
+    if ((unsigned)url->scheme < 6) return text_of(names[url->scheme], strlen(names[url->scheme]), true);
+    return url->name;
+}

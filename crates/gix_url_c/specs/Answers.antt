@@ -1,0 +1,46 @@
+-- What the calls answer: which answer of the library was told, and how.
+use Rattle.std.specs.Prelude.{◌≡◌, ℕ, Bool, IsTrue, ◌↔◌, ◌⊎◌, List, length, Option, Result, Ok, Err, IfSome}
+use Rattle.gix_url.specs.declared.error.Error.{Error}
+use Rattle.gix_url.specs.declared.error.WriteFault.{WriteFault}
+use Rattle.gix_url.specs.Value.{Location}
+use Rattle.gix_url.specs.Readings.{Reads}
+use Rattle.gix_url.specs.FromParts.{MadeOf}
+use Rattle.gix_url.specs.Settled.{IsSettled}
+use Rattle.gix_url.specs.Text.{text}
+use Rattle.gix_url.specs.Display.{display}
+use Rattle.gix_url_c.specs.declared.codes.Problem.{Problem}
+use Rattle.gix_url_c.specs.declared.handed.Made.{Made}
+use Rattle.gix_url_c.specs.Codes.{memory, unwritable, error_code, problem_of, problem_numbered, write_fault_number}
+use Rattle.gix_url_c.specs.Handed.{HandsOut, Puts}
+
+-- an answer is told: a location handed out, or an error by its numbers
+abbrev pub Tells : Result Location Error → Made → List ℕ → List ℕ → Problem → ℕ → Type 0
+Tells (Ok v) made old new problem code = HandsOut v made old new code
+Tells (Err e) made old new problem code = (code ≡ error_code e) × (problem ≡ problem_of e)
+
+-- what reading the bytes answers is told
+abbrev pub TellsRead : List ℕ → Made → List ℕ → List ℕ → Problem → ℕ → Type 0
+TellsRead input made old new problem code = (answer : Result Location Error) × Reads input answer × Tells answer made old new problem code
+
+-- what making a location of parts answers is told
+abbrev pub TellsMade : Location → Made → List ℕ → List ℕ → Problem → ℕ → Type 0
+TellsMade parts made old new problem code = (answer : Result Location Error) × MadeOf parts answer × Tells answer made old new problem code
+
+-- whether the location is settled is told
+abbrev pub TellsSettled : Location → Bool → ℕ → Type 0
+TellsSettled v settled code = (code ≡ 0) × (IsTrue settled ↔ IsSettled v)
+
+-- a text is told, or the fault for which there is none
+abbrev pub TellsText : Result (List ℕ) WriteFault → List ℕ → List ℕ → ℕ → Problem → ℕ → Type 0
+TellsText (Ok t) old new len problem code = (code ≡ memory) ⊎ ((len ≡ length t) × Puts t old new code)
+TellsText (Err f) old new len problem code = (code ≡ memory) ⊎ ((code ≡ unwritable) × (problem ≡ problem_numbered 0 (write_fault_number f) 0 0))
+
+-- a text is told that is this one, where there is one
+abbrev pub TellsShown : Option (List ℕ) → List ℕ → List ℕ → ℕ → ℕ → Type 0
+TellsShown shown old new len code = (t : List ℕ) × IfSome shown (λ s. t ≡ s) × (len ≡ length t) × Puts t old new code
+
+-- what the location is shown as is told, or the fault for which it has no text
+abbrev pub TellsDisplay : Location → List ℕ → List ℕ → ℕ → Problem → ℕ → Type 0
+TellsDisplay v old new len problem code =
+    (code ≡ memory) ⊎ (TellsShown (display v) old new len code
+    ⊎ ((f : WriteFault) × (text v ≡ Err f) × (code ≡ unwritable) × (problem ≡ problem_numbered 0 (write_fault_number f) 0 0)))

@@ -1,0 +1,88 @@
+-- The numbers by which C is told what a call answers.
+use Rattle.std.specs.Prelude.{◌≡◌, ℕ, ◌⊎◌, length}
+use Rattle.bstr.specs.Owned.{bstring_bytes}
+use Rattle.gix_url.specs.declared.error.UrlKind.{UrlKind}
+use Rattle.gix_url.specs.declared.error.UrlKind.TheVariants as kind
+use Rattle.gix_url.specs.declared.error.UrlFault.{UrlFault}
+use Rattle.gix_url.specs.declared.error.UrlFault.TheVariants as fault
+use Rattle.gix_url.specs.declared.error.WriteFault.{WriteFault}
+use Rattle.gix_url.specs.declared.error.WriteFault.TheVariants as unwritten
+use Rattle.gix_url.specs.declared.error.Error.{Error}
+use Rattle.gix_url.specs.declared.error.Error.TheVariants as error
+use Rattle.gix_url_c.specs.declared.codes.Problem.{Problem}
+
+-- memory was refused
+abbrev pub memory : ℕ
+memory = 1
+
+-- the location has no text
+abbrev pub unwritable : ℕ
+unwritable = 8
+
+-- what was given is no location
+abbrev pub no_location : ℕ
+no_location = 101
+
+-- the answer doesn't fit into the room
+abbrev pub no_room : ℕ
+no_room = 102
+
+-- the number of an error
+abbrev pub error_code : Error → ℕ
+error_code error.Memory = memory
+error_code error.EmptyLocal = 2
+error_code (error.MissingPath kind input) = 3
+error_code (error.NotUtf8 kind input) = 4
+error_code (error.TooLong shown total) = 5
+error_code (error.BadUrl kind fault input) = 6
+error_code (error.HelperName name) = 7
+error_code (error.Unwritable fault) = unwritable
+error_code (error.NoHome user) = 9
+error_code error.PathNotUtf8 = 10
+error_code error.Unresolved = 11
+
+-- the number of a form
+abbrev pub kind_number : UrlKind → ℕ
+kind_number kind.Url = 1
+kind_number kind.Scp = 2
+kind_number kind.Local = 3
+
+-- the number of a fault of a URL
+abbrev pub fault_number : UrlFault → ℕ
+fault_number fault.NoScheme = 1
+fault_number fault.BadPort = 2
+fault_number fault.BadCharacter = 3
+fault_number fault.HostRequired = 4
+
+-- the number of a fault of writing
+abbrev pub write_fault_number : WriteFault → ℕ
+write_fault_number unwritten.HelperName = 1
+write_fault_number unwritten.HelperParts = 2
+write_fault_number unwritten.RelativeSsh = 3
+write_fault_number unwritten.UserWithoutHost = 4
+
+-- what is told of an error beside its number
+abbrev pub problem_numbered : ℕ → ℕ → ℕ → ℕ → Problem
+problem_numbered kind fault shown total = record { kind = kind; fault = fault; shown = shown; total = total }
+
+-- what is told of an error: the form, the fault, the length of the front that it shows, and that of the whole
+abbrev pub problem_of : Error → Problem
+problem_of error.Memory = problem_numbered 0 0 0 0
+problem_of error.EmptyLocal = problem_numbered 0 0 0 0
+problem_of (error.MissingPath kind input) = problem_numbered (kind_number kind) 0 0 0
+problem_of (error.NotUtf8 kind input) = problem_numbered (kind_number kind) 0 0 0
+problem_of (error.TooLong shown total) = problem_numbered 0 0 (length (bstring_bytes shown)) total
+problem_of (error.BadUrl kind fault input) = problem_numbered (kind_number kind) (fault_number fault) 0 0
+problem_of (error.HelperName name) = problem_numbered 0 0 0 0
+problem_of (error.Unwritable fault) = problem_numbered 0 (write_fault_number fault) 0 0
+problem_of (error.NoHome user) = problem_numbered 0 0 0 0
+problem_of error.PathNotUtf8 = problem_numbered 0 0 0 0
+problem_of error.Unresolved = problem_numbered 0 0 0 0
+
+-- memory was refused, or what was given is no location
+abbrev pub IsUnmade : ℕ → Type 0
+IsUnmade code = (code ≡ memory) ⊎ (code ≡ no_location)
+
+-- memory was refused, or what was given is no location, or else this holds
+abbrev pub Unless : ℕ → Type 0 → Type 0
+Unless code holds = IsUnmade code ⊎ holds

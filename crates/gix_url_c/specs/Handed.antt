@@ -1,0 +1,84 @@
+-- A location as C gets it: numbers, and the bytes of all parts one behind the other.
+use Rattle.std.specs.Prelude.{◌≡◌, ℕ, Bool, true, false, MatchBool, ◌⊎◌, nat_lt, List, [], ◌++◌, length, drop, Option, Some, None}
+use Rattle.gix_url.specs.Value.{Protocol, Location}
+use Rattle.gix_url.specs.Value.Protocol.{file, git, ssh, http, https, ext, helper, helper_url}
+use Rattle.gix_url_c.specs.declared.given.Front.{Front}
+use Rattle.gix_url_c.specs.declared.handed.Made.{Made}
+use Rattle.gix_url_c.specs.Codes.{memory, no_room}
+
+-- the number of a protocol
+abbrev pub protocol_number : Protocol → ℕ
+protocol_number file = 0
+protocol_number git = 1
+protocol_number ssh = 2
+protocol_number http = 3
+protocol_number https = 4
+protocol_number ext = 5
+protocol_number (helper name) = 6
+protocol_number (helper_url name) = 7
+
+-- the name that a protocol holds, or nothing
+abbrev pub protocol_name : Protocol → List ℕ
+protocol_name file = []
+protocol_name git = []
+protocol_name ssh = []
+protocol_name http = []
+protocol_name https = []
+protocol_name ext = []
+protocol_name (helper name) = name
+protocol_name (helper_url name) = name
+
+-- a part, or nothing
+abbrev pub or_nothing : Option (List ℕ) → List ℕ
+or_nothing None = []
+or_nothing (Some part) = part
+
+-- a port, or 0
+abbrev pub or_zero : Option ℕ → ℕ
+or_zero None = 0
+or_zero (Some port) = port
+
+-- whether it is there
+abbrev pub is_there : {A : Type 0} → Option A → Bool
+is_there None = false
+is_there (Some a) = true
+
+-- the numbers of a location
+abbrev pub front_of : Location → Front
+front_of v = record {
+  scheme = protocol_number v.scheme;
+  alternative = v.flag;
+  has_user = is_there v.user;
+  has_password = is_there v.password;
+  has_host = is_there v.host;
+  has_port = is_there v.port;
+  has_spelling = is_there v.spelling;
+  port = or_zero v.port;
+}
+
+-- the numbers of a location, and the lengths of its parts
+abbrev pub made_of : Location → Made
+made_of v = record {
+  front = front_of v;
+  name = length (protocol_name v.scheme);
+  user = length (or_nothing v.user);
+  password = length (or_nothing v.password);
+  host = length (or_nothing v.host);
+  path = length v.path;
+  spelling = length (or_nothing v.spelling);
+}
+
+-- the bytes of its parts, one behind the other
+abbrev pub bytes_of : Location → List ℕ
+bytes_of v = ((((protocol_name v.scheme ++ or_nothing v.user) ++ or_nothing v.password) ++ or_nothing v.host) ++ v.path) ++ or_nothing v.spelling
+
+-- the bytes stand at the front of the room and the rest of it is as it was; or they don't fit, and all of it is
+abbrev pub Puts : List ℕ → List ℕ → List ℕ → ℕ → Type 0
+Puts bytes old new code =
+    MatchBool (nat_lt (length old) (length bytes))
+    ((code ≡ no_room) × (new ≡ old))
+    ((code ≡ 0) × (new ≡ bytes ++ drop (length bytes) old))
+
+-- the location was handed out, unless memory was refused
+abbrev pub HandsOut : Location → Made → List ℕ → List ℕ → ℕ → Type 0
+HandsOut v made old new code = (code ≡ memory) ⊎ ((made ≡ made_of v) × Puts (bytes_of v) old new code)

@@ -1,0 +1,6 @@
+pub mod Given
+pub mod Codes
+pub mod Handed
+pub mod Answers
+pub mod Looks
+pub mod Parted

@@ -1,0 +1,32 @@
+-- What C is told of a location that no memory is wanted for.
+use Rattle.std.specs.Prelude.{◌≡◌, ℕ, IsTrue, ◌↔◌, [], ◌∷◌, if◌then◌else◌}
+use Rattle.std.specs.Option.{option_or}
+use Rattle.gix_url.specs.Value.{Location}
+use Rattle.gix_url.specs.Bytes.{slash}
+use Rattle.gix_url.specs.Arguments.{Judgement, judgement_of, is_path_argument}
+use Rattle.gix_url.specs.Arguments.Judgement.{absent, usable, dangerous}
+use Rattle.gix_url.specs.Pieces.{original_path_of}
+use Rattle.gix_url.specs.Schemes.{default_port_of}
+use Rattle.gix_url_c.specs.declared.looking.Seen.{Seen}
+use Rattle.gix_url_c.specs.Given.{present}
+use Rattle.gix_url_c.specs.Handed.{or_nothing}
+
+-- the number of a judgement
+abbrev pub judgement_number : Judgement → ℕ
+judgement_number absent = 0
+judgement_number (usable text) = 1
+judgement_number (dangerous text) = 2
+
+-- what was seen of a location
+pub record Looks (v : Location) (seen : Seen) : Type 0 where
+  -- what its user and its host are to a command line
+  pub user : seen.user ≡ judgement_number (judgement_of v.user)
+  pub host : seen.host ≡ judgement_number (judgement_of v.host)
+  -- whether its path may be handed to a command
+  pub path : seen.path ≡ is_path_argument v.path
+  -- whether its path is `/`
+  pub root : IsTrue seen.is_root ↔ (v.path ≡ slash ∷ [])
+  -- its original path is the retained spelling, or the path
+  pub original : original_path_of v ≡ (if seen.is_spelled then or_nothing v.spelling else v.path)
+  -- its port, or that of its scheme
+  pub port : present seen.has_port seen.port ≡ option_or v.port (default_port_of v.scheme)

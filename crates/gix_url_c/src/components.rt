@@ -1,0 +1,189 @@
+//! The export that takes the path of a location apart: path, query and fragment.
+//!
+//! It uses `given`. Its contract: what is told are the components of the location.
+
+ghost use Rattle.std.specs.Prelude.{◌≡◌, ◌++◌, IfOk, OnOk, length, map, option_map};
+ghost use Rattle.bstr.specs.BStr.{bstr_bytes};
+ghost use Rattle.gix_url.specs.ComponentViews.{components, pair_bytes};
+ghost use Rattle.gix_url_c.specs.Codes.{Unless};
+ghost use Rattle.gix_url_c.specs.Given.{given};
+ghost use Rattle.gix_url_c.specs.Handed.{is_there, or_nothing};
+ghost use Rattle.gix_url_c.specs.Parted.{PutsBoth, TellsParts, component_bytes, joined_pair, joined_pairs, lengths_of_pair, pair_lengths, pairs_of, parted};
+
+use crate::codes::{MEMORY, NO_ROOM, OK};
+use crate::given::{Front, located};
+use gix_url::{PathComponents, QueryText, Url};
+use std::alloc::{AllocError, Global};
+
+/// The components of a path: numbers, and lengths in bytes.
+#[repr(C)]
+#[derive(Clone, Copy)]
+pub struct Parted {
+    /// Whether there is a query.
+    pub has_query: bool,
+    /// Whether there is a fragment.
+    pub has_fragment: bool,
+    /// The length of the path.
+    pub path: usize,
+    /// The length of the fragment.
+    pub fragment: usize,
+    /// How many names with their values the query has.
+    pub pairs: usize,
+    /// The length of all: the path, the fragment, and each name with its value.
+    pub bytes: usize,
+}
+
+/// Puts the components into the room, the path first, then the fragment, then each name with its value, and the lengths
+/// of names and values in turn into `lengths`: [`gix_url::Url::path_query_fragment`].
+///
+/// It answers 0; 1 where memory is refused; 101 where the parts are none of a location; 102 where the bytes or the
+/// lengths don't fit, whose numbers are told.
+#[unsafe(no_mangle)]
+#[allow(clippy::too_many_arguments)]
+pub extern "C" fn gix_url_c_components(
+    alloc: Global,
+    front: &Front,
+    name: &[u8],
+    user: &[u8],
+    password: &[u8],
+    host: &[u8],
+    path: &[u8],
+    spelling: &[u8],
+    told: &mut Parted,
+    room: &mut [u8],
+    lengths: &mut [usize],
+) -> u32
+    ensures { Unless result (TellsParts (given front.now name.now user.now password.now host.now path.now spelling.now) told.new room.old room.new lengths.old lengths.new result) }
+{
+    match located(alloc, front, name, user, password, host, path, spelling) {
+        Ok(url) => part(alloc, &url, told, room, lengths),
+        Err(unmade) => unmade.code(),
+    }
+}
+
+/// Tells the components of the location.
+fn part(alloc: Global, url: &Url, told: &mut Parted, room: &mut [u8], lengths: &mut [usize]) -> u32
+    ensures { TellsParts url.now told.new room.old room.new lengths.old lengths.new result }
+{
+    let Ok(parts) = url.path_query_fragment(alloc) else {
+        return MEMORY;
+    };
+    let Ok(bytes) = joined(alloc, &parts) else {
+        return MEMORY;
+    };
+    let Ok(measured) = lengths_of(alloc, pairs(&parts)) else {
+        return MEMORY;
+    };
+    *told = numbered(&parts, bytes.len());
+    put_both(bytes.as_slice(), measured.as_slice(), room, lengths)
+}
+
+/// The names and values of the query, or none.
+fn pairs<'a, 'b>(parts: &'b PathComponents<'a>) -> &'b [(QueryText<'a>, QueryText<'a>)]
+    ensures { map pair_bytes result.now ≡ pairs_of (components parts.now).query }
+{
+    match &parts.query {
+        None => &[],
+        Some(pairs) => pairs.as_slice(),
+    }
+}
+
+/// The fragment, or nothing.
+fn fragment<'a>(parts: &PathComponents<'a>) -> &'a [u8]
+    ensures { result.now ≡ or_nothing (option_map bstr_bytes parts.now.fragment) }
+{
+    match parts.fragment {
+        None => b"",
+        Some(fragment) => fragment.as_bytes(),
+    }
+}
+
+/// The bytes of the path, of the fragment, and of names and values.
+fn joined(alloc: Global, parts: &PathComponents<'_>) -> Result<Vec<u8>, AllocError>
+    ensures { IfOk result (λ bytes. bytes.items ≡ component_bytes (components parts.now)) }
+{
+    let mut bytes = Vec::from_slice(alloc, parts.path.as_bytes())?;
+    bytes.extend_from_slice(fragment(parts))?;
+    append_pairs(&mut bytes, pairs(parts))?;
+    Ok(bytes)
+}
+
+/// Appends each name with its value.
+#[tactic(auto, using(crate::proofs::PartedLemmas::joined_more))]
+fn append_pairs(
+    bytes: &mut Vec<u8>,
+    pairs: &[(QueryText<'_>, QueryText<'_>)],
+) -> Result<(), AllocError>
+    ensures { OnOk result (bytes.new.items ≡ bytes.old.items ++ joined_pairs (map pair_bytes pairs.now)) }
+{
+    for pair in pairs {
+        append_pair(bytes, pair)?;
+    }
+    Ok(())
+}
+
+/// Appends a name and its value.
+fn append_pair(bytes: &mut Vec<u8>, pair: &(QueryText<'_>, QueryText<'_>)) -> Result<(), AllocError>
+    ensures { OnOk result (bytes.new.items ≡ bytes.old.items ++ joined_pair (pair_bytes pair.now)) }
+{
+    bytes.extend_from_slice(pair.0.as_bstr().as_bytes())?;
+    bytes.extend_from_slice(pair.1.as_bstr().as_bytes())
+}
+
+/// The lengths of names and values in turn.
+#[tactic(auto, using(crate::proofs::PartedLemmas::lengths_more))]
+fn lengths_of(
+    alloc: Global,
+    pairs: &[(QueryText<'_>, QueryText<'_>)],
+) -> Result<Vec<usize>, AllocError>
+    ensures { IfOk result (λ lengths. lengths.items ≡ pair_lengths (map pair_bytes pairs.now)) }
+{
+    let mut lengths = Vec::new(alloc);
+    for pair in pairs {
+        append_lengths(&mut lengths, pair)?;
+    }
+    Ok(lengths)
+}
+
+/// Appends the lengths of a name and of its value.
+fn append_lengths(
+    lengths: &mut Vec<usize>,
+    pair: &(QueryText<'_>, QueryText<'_>),
+) -> Result<(), AllocError>
+    ensures { OnOk result (lengths.new.items ≡ lengths.old.items ++ lengths_of_pair (pair_bytes pair.now)) }
+{
+    let measured = [
+        pair.0.as_bstr().as_bytes().len(),
+        pair.1.as_bstr().as_bytes().len(),
+    ];
+    lengths.extend_from_slice(&measured)
+}
+
+/// The numbers of the components.
+fn numbered(parts: &PathComponents<'_>, bytes: usize) -> Parted
+    requires { bytes ≡ length (component_bytes (components parts.now)) }
+    ensures { result ≡ parted (components parts.now) }
+{
+    Parted {
+        has_query: parts.query.is_some(),
+        has_fragment: parts.fragment.is_some(),
+        path: parts.path.as_bytes().len(),
+        fragment: fragment(parts).len(),
+        pairs: pairs(parts).len(),
+        bytes,
+    }
+}
+
+/// Copies both to the fronts of their rooms, if both fit.
+fn put_both(bytes: &[u8], measured: &[usize], room: &mut [u8], lengths: &mut [usize]) -> u32
+    ensures { PutsBoth bytes.now measured.now room.old room.new lengths.old lengths.new result }
+{
+    if room.len() < bytes.len() || lengths.len() < measured.len() {
+        return NO_ROOM;
+    }
+    let (front, _) = room.split_at_mut(bytes.len());
+    front.copy_from_slice(bytes);
+    let (front, _) = lengths.split_at_mut(measured.len());
+    front.copy_from_slice(measured);
+    OK
+}

@@ -1,0 +1,106 @@
+/* Answers each line of the standard input as the program `locations` does, by calls of the library, and looks whether
+ * the calls agree with one another. */
+#include "told.h"
+
+#include <string.h>
+
+static void answer_refused(line *out, gix_url_error error, const gix_url_problem *problem) {
+    put_word(out, "refused\t");
+    put_word(out, gix_url_error_name(error));
+    if (problem->fault) put_word(out, " "), put_word(out, gix_url_fault_name(problem->fault));
+}
+
+/* What was written is read as the same fields; and made of its parts, which have no spelling, it is the same, if those
+ * are settled. */
+static void comes_back(const gix_url *url, gix_url_text text) {
+    gix_url again;
+    gix_url_error error;
+    gix_url_problem problem;
+    char *room = read_input(text, &again, &error, &problem);
+    HOLDS(error == GIX_URL_OK && has_same_fields(url, &again));
+    free(room);
+    gix_url parts = *url;
+    bool settled;
+    parts.spelling = (gix_url_text){NULL, 0};
+    HOLDS(gix_url_is_settled(&parts, &settled) == GIX_URL_OK);
+    if (!settled) return;
+    room = make_parts(url, &again, &error, &problem);
+    HOLDS(error == GIX_URL_OK && has_same_fields(url, &again));
+    free(room);
+}
+
+/* No text that begins with - is handed out as usable, and the original path is one of the two. */
+static void is_seen(const gix_url *url) {
+    gix_url_seen seen;
+    HOLDS(gix_url_look(url, &seen) == GIX_URL_OK);
+    bool user = url->user.at && !(url->user.len && url->user.at[0] == '-');
+    bool host = url->host.at && !(url->host.len && url->host.at[0] == '-');
+    HOLDS((seen.user == GIX_URL_USABLE) == user && (seen.user == GIX_URL_ABSENT) == !url->user.at);
+    HOLDS((seen.host == GIX_URL_USABLE) == host && (seen.host == GIX_URL_ABSENT) == !url->host.at);
+    HOLDS(!seen.path_is_usable || (url->path.at[0] == '/' && !(url->path.len > 1 && url->path.at[1] == '-')));
+    HOLDS(seen.path_is_root == (url->path.len == 1 && url->path.at[0] == '/'));
+    HOLDS(is_same(seen.original_path, url->path) || is_same(seen.original_path, url->spelling));
+    HOLDS(!url->has_port || (seen.has_port && seen.port == url->port));
+}
+
+/* A location without a password is shown as its text, where that is ASCII; with one it is shown otherwise. */
+static void is_shown(const gix_url *url, gix_url_text text) {
+    gix_url_error error;
+    gix_url_problem problem;
+    gix_url_text shown;
+    char *room = text_of_location(gix_url_display, url, &shown.len, &error, &problem);
+    HOLDS(room);
+    shown.at = room;
+    bool is_ascii = true;
+    for (size_t i = 0; i < text.len; i++) is_ascii &= (unsigned char)text.at[i] < 128;
+    if (!url->password.at && is_ascii) HOLDS(is_same(shown, text));
+    free(room);
+}
+
+static void answer_read(line *out, const gix_url *url) {
+    gix_url_error error;
+    gix_url_problem problem;
+    gix_url_text text;
+    bool settled;
+    is_seen(url);
+    line told = {0};
+    tell_components(&told, url);
+    free(told.at);
+    HOLDS(gix_url_is_settled(url, &settled) == GIX_URL_OK);
+    char *room = text_of_location(gix_url_write, url, &text.len, &error, &problem);
+    text.at = room;
+    put_word(out, !room ? "unwritable\t" : settled ? "settled\t" : "unsettled\t");
+    put_text(out, room && settled ? text : gix_url_scheme_text(url));
+    if (room) is_shown(url, text);
+    if (settled) comes_back(url, text);
+    free(room);
+}
+
+static void answer(line *out, gix_url_text input) {
+    gix_url url;
+    gix_url_error error;
+    gix_url_problem problem;
+    about(input);
+    char *room = read_input(input, &url, &error, &problem);
+    if (error == GIX_URL_OK) answer_read(out, &url);
+    else answer_refused(out, error, &problem);
+    put_word(out, "\n");
+    free(room);
+}
+
+int main(void) {
+    line all = {0}, out = {0};
+    char block[65536];
+    size_t count;
+    while ((count = fread(block, 1, sizeof block, stdin)) > 0) put(&all, block, count);
+    for (size_t at = 0; at < all.len;) {
+        char *end = memchr(all.at + at, '\n', all.len - at);
+        size_t len = end ? (size_t)(end - all.at) - at : all.len - at;
+        answer(&out, (gix_url_text){all.at + at, len});
+        at += len + 1;
+    }
+    fwrite(out.at, 1, out.len, stdout);
+    free(all.at);
+    free(out.at);
+    return 0;
+}

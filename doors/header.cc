@@ -1,0 +1,6 @@
+// The header is C++ too: its types can be made, and its calls named.
+#include <gix_url.h>
+
+gix_url_error settled(const gix_url &url, bool &answer) { return gix_url_is_settled(&url, &answer); }
+
+gix_url empty() { return gix_url(); }

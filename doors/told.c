@@ -1,0 +1,211 @@
+#define _DEFAULT_SOURCE
+#include "told.h"
+
+#include <string.h>
+#include <sys/mman.h>
+#include <unistd.h>
+
+static gix_url_text subject;
+
+void about(gix_url_text text) { subject = text; }
+
+void fails(const char *file, int number, const char *what) {
+    fprintf(stderr, "%s:%d: this doesn't hold: %s\nwith: %.*s\n", file, number, what, (int)subject.len, subject.at ? subject.at : "");
+    exit(1);
+}
+
+char *at_wall(int number, const char *bytes, size_t len) {
+    static char *walls[2];
+    static const size_t size = (size_t)1 << 22;
+    if (!walls[number]) {
+        size_t page = (size_t)sysconf(_SC_PAGESIZE);
+        char *at = mmap(NULL, size + page, PROT_READ | PROT_WRITE, MAP_PRIVATE | MAP_ANONYMOUS, -1, 0);
+        HOLDS(at != MAP_FAILED && mprotect(at + size, page, PROT_NONE) == 0);
+        walls[number] = at + size;
+    }
+    HOLDS(len <= size);
+    char *at = walls[number] - len;
+    if (bytes && len) memcpy(at, bytes, len);
+    return at;
+}
+
+void put(line *out, const char *bytes, size_t len) {
+    if (out->room - out->len < len) {
+        out->room = 2 * (out->room + len) + 64;
+        out->at = realloc(out->at, out->room);
+        HOLDS(out->at);
+    }
+    if (len) memcpy(out->at + out->len, bytes, len);
+    out->len += len;
+}
+
+void put_text(line *out, gix_url_text text) { put(out, text.at, text.len); }
+
+void put_word(line *out, const char *word) { put(out, word, strlen(word)); }
+
+void put_number(line *out, size_t number) {
+    char digits[32];
+    put(out, digits, (size_t)snprintf(digits, sizeof digits, "%zu", number));
+}
+
+static void put_part(line *out, const char *name, gix_url_text part) {
+    if (!part.at) return;
+    put_word(out, name);
+    put_text(out, part);
+}
+
+bool is_same(gix_url_text one, gix_url_text other) {
+    return !one.at == !other.at && one.len == other.len && (one.len == 0 || memcmp(one.at, other.at, one.len) == 0);
+}
+
+bool has_same_fields(const gix_url *one, const gix_url *other) {
+    return one->scheme == other->scheme && is_same(one->name, other->name) && is_same(one->user, other->user)
+        && is_same(one->password, other->password) && is_same(one->host, other->host)
+        && one->alternative == other->alternative && one->has_port == other->has_port && one->port == other->port
+        && is_same(one->path, other->path);
+}
+
+void tell_parts(line *out, const gix_url *url) {
+    static const char *const names[] = {"File", "Git", "Ssh", "Http", "Https", "Ext", "Helper", "HelperUrl"};
+    gix_url_seen seen;
+    HOLDS(gix_url_look(url, &seen) == GIX_URL_OK);
+    put_word(out, names[url->scheme]);
+    put_part(out, " ", url->name);
+    put_part(out, " user=", url->user);
+    put_part(out, " password=", url->password);
+    put_part(out, " host=", url->host);
+    if (url->has_port) put_word(out, " port="), put_number(out, url->port);
+    if (url->alternative) put_word(out, " flag");
+    if (!is_same(seen.original_path, url->path)) put_part(out, " spelled=", seen.original_path);
+    put_part(out, " path=", url->path);
+}
+
+char *text_of_location(putter *call, const gix_url *url, size_t *len, gix_url_error *error, gix_url_problem *problem) {
+    *error = call(url, NULL, 0, len, problem);
+    if (*error != GIX_URL_NO_ROOM && !(*error == GIX_URL_OK && *len == 0)) return NULL;
+    size_t wanted = *len;
+    if (wanted > 0) HOLDS(call(url, at_wall(1, NULL, wanted - 1), wanted - 1, len, problem) == GIX_URL_NO_ROOM && *len == wanted);
+    char *room = at_wall(1, NULL, wanted);
+    *error = call(url, room, wanted, len, problem);
+    HOLDS(*error == GIX_URL_OK && *len == wanted);
+    char *text = malloc(wanted + 1);
+    HOLDS(text);
+    memcpy(text, room, wanted);
+    return text;
+}
+
+void tell_written(line *out, const gix_url *url) {
+    size_t len;
+    gix_url_error error;
+    gix_url_problem problem;
+    bool settled;
+    HOLDS(gix_url_is_settled(url, &settled) == GIX_URL_OK);
+    char *text = text_of_location(gix_url_write, url, &len, &error, &problem);
+    if (!text) {
+        HOLDS(error == GIX_URL_UNWRITABLE && !settled);
+        put_word(out, "unwritable ");
+        put_word(out, gix_url_write_fault_name(problem.write_fault));
+        return;
+    }
+    put_word(out, settled ? "settled " : "unsettled ");
+    put(out, text, len);
+    free(text);
+}
+
+void tell_error(line *out, gix_url_error error, const gix_url_problem *problem) {
+    put_word(out, gix_url_error_name(error));
+    if (problem->fault) put_word(out, " "), put_word(out, gix_url_fault_name(problem->fault));
+    if (problem->write_fault) put_word(out, " "), put_word(out, gix_url_write_fault_name(problem->write_fault));
+    if (problem->kind) put_word(out, " "), put_word(out, gix_url_kind_name(problem->kind));
+}
+
+void tell_answer(line *out, gix_url_error error, const gix_url *url, const gix_url_problem *problem) {
+    if (error != GIX_URL_OK) {
+        tell_error(out, error, problem);
+        return;
+    }
+    tell_parts(out, url);
+    put_word(out, ", ");
+    tell_written(out, url);
+}
+
+static void put_judged(line *out, gix_url_argument judged, gix_url_text part) {
+    static const char *const words[] = {"absent", "usable ", "dangerous "};
+    put_word(out, words[judged]);
+    put_text(out, part);
+    put_word(out, ", ");
+}
+
+void tell_judged(line *out, const gix_url *url) {
+    gix_url_seen seen;
+    HOLDS(gix_url_look(url, &seen) == GIX_URL_OK);
+    put_judged(out, seen.user, url->user);
+    put_judged(out, seen.host, url->host);
+    if (seen.path_is_usable) put_text(out, url->path);
+    else put_word(out, "no path");
+}
+
+void tell_components(line *out, const gix_url *url) {
+    gix_url_components parts;
+    size_t needed, needed_pairs, again, pairs_again;
+    gix_url_error error = gix_url_path_query_fragment(url, NULL, 0, NULL, 0, &parts, &needed, &needed_pairs);
+    HOLDS(error == GIX_URL_NO_ROOM || (error == GIX_URL_OK && needed == 0 && needed_pairs == 0));
+    gix_url_pair *pairs = (gix_url_pair *)malloc(needed_pairs * sizeof *pairs + 1);
+    char *room = at_wall(1, NULL, needed);
+    HOLDS(pairs);
+    if (needed > 0)
+        HOLDS(gix_url_path_query_fragment(url, room + 1, needed - 1, pairs, needed_pairs, &parts, NULL, NULL) == GIX_URL_NO_ROOM);
+    if (needed_pairs > 0)
+        HOLDS(gix_url_path_query_fragment(url, room, needed, pairs, needed_pairs - 1, &parts, NULL, NULL) == GIX_URL_NO_ROOM);
+    HOLDS(gix_url_path_query_fragment(url, room, needed, pairs, needed_pairs, &parts, &again, &pairs_again) == GIX_URL_OK);
+    HOLDS(again == needed && pairs_again == needed_pairs && parts.pair_count == needed_pairs);
+    put_text(out, parts.path);
+    if (parts.query.at) put_word(out, " ?");
+    const char *at = parts.query.at;
+    for (size_t i = 0; i < parts.pair_count; i++) {
+        put_word(out, " <"), put(out, at, pairs[i].name_len), at += pairs[i].name_len;
+        put_word(out, ">=<"), put(out, at, pairs[i].value_len), at += pairs[i].value_len;
+        put_word(out, ">");
+    }
+    HOLDS(!parts.query.at || at == parts.query.at + parts.query.len);
+    if (parts.fragment.at) put_word(out, " #"), put_text(out, parts.fragment);
+    free(pairs);
+}
+
+/* The location in room of its own that is just large enough, whose bytes are those of the room. */
+static gix_url moved(gix_url url, const char *from, size_t len, char *to) {
+    gix_url_text *parts[] = {&url.name, &url.user, &url.password, &url.host, &url.path, &url.spelling};
+    if (len) memcpy(to, from, len);
+    for (size_t i = 0; i < sizeof parts / sizeof *parts; i++)
+        if (parts[i]->at) parts[i]->at = to + (parts[i]->at - from);
+    return url;
+}
+
+char *read_input(gix_url_text input, gix_url *url, gix_url_error *error, gix_url_problem *problem) {
+    size_t needed = 0, again;
+    char *bytes = at_wall(0, input.at, input.len);
+    *error = gix_url_parse(bytes, input.len, NULL, 0, url, &needed, problem);
+    if (*error != GIX_URL_NO_ROOM) return NULL;
+    HOLDS(needed <= GIX_URL_ROOM(input.len));
+    HOLDS(gix_url_parse(bytes, input.len, at_wall(1, NULL, needed - 1), needed - 1, url, &again, problem) == GIX_URL_NO_ROOM && again == needed);
+    char *room = at_wall(1, NULL, needed);
+    *error = gix_url_parse(bytes, input.len, room, needed, url, &again, problem);
+    HOLDS(*error == GIX_URL_OK && again == needed);
+    char *own = malloc(needed);
+    HOLDS(own);
+    *url = moved(*url, room, needed, own);
+    return own;
+}
+
+char *make_parts(const gix_url *parts, gix_url *url, gix_url_error *error, gix_url_problem *problem) {
+    size_t needed = 0, again;
+    *error = gix_url_from_parts(parts, NULL, 0, url, &needed, problem);
+    if (*error != GIX_URL_NO_ROOM) return NULL;
+    char *room = at_wall(1, NULL, needed);
+    *error = gix_url_from_parts(parts, room, needed, url, &again, problem);
+    HOLDS(*error == GIX_URL_OK && again == needed);
+    char *own = malloc(needed);
+    HOLDS(own);
+    *url = moved(*url, room, needed, own);
+    return own;
+}

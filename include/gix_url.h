@@ -1,0 +1,198 @@
+/* Git locations: remote helpers (name::address), URLs, the scp form (user@host:path) and local paths, read, written and
+ * told apart by the library gix_url, whose answers are proved.
+ *
+ * Link libgix_url.a, which scripts/doors builds, and nothing else but the C library.
+ *
+ * A location is a plain struct of parts, and each part is a pointer and a length in bytes. Parts may hold any bytes,
+ * byte 0 among them, and don't end in one. Nothing here has to be freed: a call takes memory for its work alone, and its
+ * answer goes into room that the caller hands in. A location that was read points into that room, so the room has to
+ * stay as long as the location is used. No call keeps a pointer past its return. Calls may run in several threads, as
+ * long as no room is shared.
+ *
+ * Any pointer may be null: a null part is a part that isn't there, a null input or path is empty, and a null struct or
+ * answer is answered GIX_URL_NULL. A pointer that isn't null points to as many bytes as its length says. Room, and what
+ * an answer is stored in, lie apart from what the call reads.
+ *
+ * Each call answers GIX_URL_OK (0) or an error, and stores its answer only then, where nothing else is said. */
+#ifndef GIX_URL_H
+#define GIX_URL_H
+
+#include <stdbool.h>
+#include <stddef.h>
+#include <stdint.h>
+
+#ifdef __cplusplus
+extern "C" {
+#endif
+
+/* What a call answers. */
+typedef enum gix_url_error {
+    GIX_URL_OK = 0,
+    GIX_URL_MEMORY = 1,        /* memory was refused; the same call can succeed later */
+    GIX_URL_EMPTY_LOCAL = 2,   /* the text is empty */
+    GIX_URL_MISSING_PATH = 3,  /* a path is wanted and there is none */
+    GIX_URL_NOT_UTF8 = 4,      /* the text is not UTF-8 */
+    GIX_URL_TOO_LONG = 5,      /* the scheme or the authority is too long */
+    GIX_URL_BAD_URL = 6,       /* the text is no URL, or the host of the scp form is none */
+    GIX_URL_HELPER_NAME = 7,   /* the name of a remote helper is no such name */
+    GIX_URL_UNWRITABLE = 8,    /* the location has no text */
+    GIX_URL_NO_LOCATION = 101, /* the struct holds no location: no such scheme, or a name, user, password or host that
+                                  is not UTF-8 */
+    GIX_URL_NO_ROOM = 102,     /* the answer doesn't fit into the room; how much is needed is told */
+    GIX_URL_NULL = 103         /* a pointer that may not be null is */
+} gix_url_error;
+
+/* The form that a refused text was taken for. */
+typedef enum gix_url_kind {
+    GIX_URL_KIND_NONE = 0, /* none is told */
+    GIX_URL_KIND_URL = 1,
+    GIX_URL_KIND_SCP = 2,
+    GIX_URL_KIND_LOCAL = 3
+} gix_url_kind;
+
+/* What is wrong with a URL, or with the host of the scp form: of GIX_URL_BAD_URL. */
+typedef enum gix_url_fault {
+    GIX_URL_FAULT_NONE = 0,
+    GIX_URL_NO_SCHEME = 1,     /* what stands before :// is no scheme */
+    GIX_URL_BAD_PORT = 2,      /* what stands in a port's place is no port */
+    GIX_URL_BAD_CHARACTER = 3, /* a byte, a character or an escape that is not allowed */
+    GIX_URL_HOST_REQUIRED = 4  /* a host is wanted and there is none */
+} gix_url_fault;
+
+/* Why a location has no text: of GIX_URL_UNWRITABLE. */
+typedef enum gix_url_write_fault {
+    GIX_URL_WRITE_FAULT_NONE = 0,
+    GIX_URL_WRITE_HELPER_NAME = 1,    /* the name of the remote helper is no such name */
+    GIX_URL_WRITE_HELPER_PARTS = 2,   /* a remote helper has a user, a password, a host or a port */
+    GIX_URL_WRITE_RELATIVE_SSH = 3,   /* a relative path of Secure Shell without a host, or with a password or a port */
+    GIX_URL_WRITE_USER_WITHOUT_HOST = 4
+} gix_url_write_fault;
+
+/* What is told of an error beside its number. What doesn't belong to the error is 0. */
+typedef struct gix_url_problem {
+    gix_url_kind kind;               /* MISSING_PATH, NOT_UTF8, BAD_URL */
+    gix_url_fault fault;             /* BAD_URL */
+    gix_url_write_fault write_fault; /* UNWRITABLE */
+    size_t shown;                    /* TOO_LONG: how many bytes of the input's front are fit to be shown */
+    size_t total;                    /* TOO_LONG: the length of the input */
+} gix_url_problem;
+
+/* What a location is reached by. */
+typedef enum gix_url_scheme {
+    GIX_URL_FILE = 0,
+    GIX_URL_GIT = 1,
+    GIX_URL_SSH = 2,
+    GIX_URL_HTTP = 3,
+    GIX_URL_HTTPS = 4,
+    GIX_URL_EXT = 5,       /* the remote helper ext, which runs a command */
+    GIX_URL_HELPER = 6,    /* another remote helper, by its name */
+    GIX_URL_HELPER_URL = 7 /* any other URL, by its scheme */
+} gix_url_scheme;
+
+/* Bytes. A null pointer says that there are none at all, which is not the same as an empty text. */
+typedef struct gix_url_text {
+    const char *at;
+    size_t len;
+} gix_url_text;
+
+/* A location. Its fields may be changed by hand: the location may have no text then, or one that is read as something
+ * else, which gix_url_is_settled tells. */
+typedef struct gix_url {
+    gix_url_scheme scheme;
+    gix_url_text name;     /* of GIX_URL_HELPER and GIX_URL_HELPER_URL: UTF-8 */
+    gix_url_text user;     /* decoded, UTF-8. It may be empty, and may begin with -: ask gix_url_look */
+    gix_url_text password; /* decoded, UTF-8 */
+    gix_url_text host;     /* UTF-8. It may be empty, and may begin with -: ask gix_url_look */
+    bool alternative;      /* written in the form that is no URL, where there is one: as host:path, or as a path */
+    bool has_port;
+    uint16_t port;
+    gix_url_text path;     /* decoded, any bytes. Of HTTP with query and fragment */
+    gix_url_text spelling; /* the path as it was spelled, with its escapes, where that was retained. It counts while it
+                              still stands for the path */
+} gix_url;
+
+/* Ample room for the parts of what is read of a text of this many bytes: no byte of it stands in more than two parts. */
+#define GIX_URL_ROOM(len) (2 * (size_t)(len) + 32)
+
+/* Reads the one location that the bytes spell.
+ *
+ * On GIX_URL_OK url points into the room. On GIX_URL_NO_ROOM there is a location, and needed tells how many bytes of room
+ * it takes; needed is stored on GIX_URL_OK too, and may be null. Else the error says why the bytes spell no location, and
+ * problem, which may be null, what is told of it. */
+gix_url_error gix_url_parse(const char *input, size_t len, char *room, size_t room_len, gix_url *url, size_t *needed,
+                            gix_url_problem *problem);
+
+/* Makes the location that the text of these parts means: they are written as one text, and that is read. What comes out
+ * may have other parts than were given; settled parts come back as they are. HTTP keeps the given path unless it is
+ * empty. The spelling of the parts is not looked at. Room, needed and problem are as of gix_url_parse; parts and url may
+ * be the same struct. GIX_URL_HELPER_NAME and GIX_URL_UNWRITABLE are answered too. */
+gix_url_error gix_url_from_parts(const gix_url *parts, char *room, size_t room_len, gix_url *url, size_t *needed,
+                                 gix_url_problem *problem);
+
+/* Whether the location's text is read as the same parts and is written the same again. */
+gix_url_error gix_url_is_settled(const gix_url *url, bool *settled);
+
+/* Puts the text of the location into the room, and stores its length, on GIX_URL_NO_ROOM too. No byte 0 is added.
+ * GIX_URL_UNWRITABLE says that there is none, and problem, which may be null, why. */
+gix_url_error gix_url_write(const gix_url *url, char *room, size_t room_len, size_t *len, gix_url_problem *problem);
+
+/* The same with redacted in place of a password, and U+FFFD in place of what is no UTF-8: fit to be shown to people. */
+gix_url_error gix_url_display(const gix_url *url, char *room, size_t room_len, size_t *len, gix_url_problem *problem);
+
+/* What a part is to a command line. */
+typedef enum gix_url_argument {
+    GIX_URL_ABSENT = 0,   /* there is no such part */
+    GIX_URL_USABLE = 1,   /* it doesn't begin with -; quoting for a shell is another matter */
+    GIX_URL_DANGEROUS = 2 /* it begins with -, and may be taken for an option */
+} gix_url_argument;
+
+/* What is seen of a location. */
+typedef struct gix_url_seen {
+    gix_url_argument user;
+    gix_url_argument host;
+    bool path_is_usable;        /* the path begins with /, and the byte behind that isn't - */
+    bool path_is_root;          /* the path is / */
+    gix_url_text original_path; /* the path as it was spelled: the spelling or the path of the location itself */
+    bool has_port;              /* there is a port, or one that the scheme stands for */
+    uint16_t port;
+} gix_url_seen;
+
+/* Looks at a location. */
+gix_url_error gix_url_look(const gix_url *url, gix_url_seen *seen);
+
+/* The lengths of a name of a query and of its value. */
+typedef struct gix_url_pair {
+    size_t name_len;
+    size_t value_len;
+} gix_url_pair;
+
+/* What the path of a location is made of. Of HTTP it is a path, a query and a fragment; any other has its path alone. */
+typedef struct gix_url_components {
+    gix_url_text path;
+    gix_url_text fragment; /* null where there is none */
+    gix_url_text query;    /* each name with its value, in order, one behind the other; null where there is no query */
+    size_t pair_count;     /* how many names with their values there are, whose lengths stand in the caller's pairs */
+} gix_url_components;
+
+/* Takes the path of a location apart. The components point into the room, and the lengths of names and values are stored
+ * in pairs, which has pair_room places. On GIX_URL_NO_ROOM nothing is stored but needed and needed_pairs, which tell how
+ * many bytes of room and how many places it takes; they are stored on GIX_URL_OK too, and may be null. */
+gix_url_error gix_url_path_query_fragment(const gix_url *url, char *room, size_t room_len, gix_url_pair *pairs,
+                                          size_t pair_room, gix_url_components *components, size_t *needed,
+                                          size_t *needed_pairs);
+
+/* The name of an error, a fault or a form, as EmptyLocal, BadPort or Scp; a number that stands for none is named "?". The
+ * names end in a byte 0 and stay for good. */
+const char *gix_url_error_name(gix_url_error error);
+const char *gix_url_fault_name(gix_url_fault fault);
+const char *gix_url_write_fault_name(gix_url_write_fault fault);
+const char *gix_url_kind_name(gix_url_kind kind);
+
+/* The text of a scheme: file, git, ssh, http, https, ext, or the name of the location. */
+gix_url_text gix_url_scheme_text(const gix_url *url);
+
+#ifdef __cplusplus
+}
+#endif
+
+#endif

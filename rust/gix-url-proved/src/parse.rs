@@ -1,0 +1,160 @@
+//! Reading, and what a text or a value is refused for.
+
+use crate::door;
+use crate::Url;
+use std::fmt;
+
+/// The one location that the bytes spell.
+///
+/// ```
+/// use gix_url_proved::{Scheme, parse};
+///
+/// let url = parse(b"git@host:path/to/repo")?;
+/// assert_eq!((url.scheme.clone(), url.path.as_slice()), (Scheme::Ssh, b"path/to/repo".as_slice()));
+/// assert!(parse(b"http://").is_err());
+/// # Ok::<(), parse::Error>(())
+/// ```
+///
+/// # Errors
+///
+/// Exactly where the bytes spell no location; the error names a flaw that stands in them.
+pub fn parse(input: &[u8]) -> Result<Url, Error> {
+    door::read(input)
+}
+
+/// The form that a text was taken for.
+#[derive(Clone, Copy, Debug, PartialEq, Eq)]
+pub enum UrlKind {
+    /// A URL: `://` stands in it.
+    Url,
+    /// The form `user@host:path` of `scp`.
+    Scp,
+    /// A path of the local file system.
+    Local,
+}
+
+/// What is wrong with a URL, or with the host of the scp form.
+#[derive(Clone, Copy, Debug, PartialEq, Eq)]
+pub enum UrlFault {
+    /// What stands before `://` is no scheme.
+    NoScheme,
+    /// What stands in a port's place is no port.
+    BadPort,
+    /// A byte or a character stands where it is not allowed, or an escape is broken or stands for no text.
+    BadCharacter,
+    /// The scheme, or the scp form, needs a host.
+    HostRequired,
+}
+
+/// Why a location has no text.
+#[derive(Clone, Copy, Debug, PartialEq, Eq)]
+pub enum WriteFault {
+    /// The name of the remote helper is no such name.
+    HelperName,
+    /// A remote helper has a user, a password, a host or a port.
+    HelperParts,
+    /// A relative path of Secure Shell comes without a host, or with a password or a port.
+    RelativeSsh,
+    /// A user comes without a host.
+    UserWithoutHost,
+}
+
+/// Why a text or a value was refused. The words that it is shown by don't show what was refused, which may hold a
+/// password; the fields do, and so does `Debug`.
+#[derive(Clone, Debug, PartialEq, Eq)]
+pub enum Error {
+    /// Memory was refused.
+    Memory,
+    /// The text is empty.
+    EmptyLocal,
+    /// A path is wanted and there is none.
+    MissingPath {
+        /// The form that the text was taken for.
+        kind: UrlKind,
+        /// The text.
+        input: Vec<u8>,
+    },
+    /// The text is not UTF-8.
+    NotUtf8 {
+        /// The form that the text was taken for.
+        kind: UrlKind,
+        /// The text.
+        input: Vec<u8>,
+    },
+    /// The scheme or the authority is too long.
+    TooLong {
+        /// The front of the text.
+        shown: Vec<u8>,
+        /// The length of the text, in bytes.
+        total: usize,
+    },
+    /// The text is no URL, or the host of the scp form is none.
+    BadUrl {
+        /// The form that the text was taken for.
+        kind: UrlKind,
+        /// What is wrong.
+        fault: UrlFault,
+        /// The text.
+        input: Vec<u8>,
+    },
+    /// The name of a remote helper is no such name.
+    HelperName {
+        /// The name.
+        name: Vec<u8>,
+    },
+    /// The location has no text.
+    Unwritable(WriteFault),
+}
+
+impl fmt::Display for UrlKind {
+    fn fmt(&self, f: &mut fmt::Formatter<'_>) -> fmt::Result {
+        f.write_str(match self {
+            UrlKind::Url => "URL",
+            UrlKind::Scp => "scp form",
+            UrlKind::Local => "local path",
+        })
+    }
+}
+
+impl fmt::Display for UrlFault {
+    fn fmt(&self, f: &mut fmt::Formatter<'_>) -> fmt::Result {
+        f.write_str(match self {
+            UrlFault::NoScheme => "no valid scheme",
+            UrlFault::BadPort => "an invalid port",
+            UrlFault::BadCharacter => "a character or an escape that is not allowed",
+            UrlFault::HostRequired => "no host where one is required",
+        })
+    }
+}
+
+impl fmt::Display for WriteFault {
+    fn fmt(&self, f: &mut fmt::Formatter<'_>) -> fmt::Result {
+        f.write_str(match self {
+            WriteFault::HelperName => "the name of the remote helper is no such name",
+            WriteFault::HelperParts => "a remote helper has a user, a password, a host or a port",
+            WriteFault::RelativeSsh => {
+                "a relative path of Secure Shell needs a host, and neither a password nor a port"
+            }
+            WriteFault::UserWithoutHost => "a user comes without a host",
+        })
+    }
+}
+
+impl fmt::Display for Error {
+    fn fmt(&self, f: &mut fmt::Formatter<'_>) -> fmt::Result {
+        match self {
+            Error::Memory => f.write_str("out of memory"),
+            Error::EmptyLocal => f.write_str("the location is empty"),
+            Error::MissingPath { kind, .. } => write!(f, "the {kind} has no path"),
+            Error::NotUtf8 { kind, .. } => write!(f, "the {kind} is not UTF-8"),
+            Error::TooLong { total, .. } => {
+                write!(f, "the scheme or the authority is longer than 1024 bytes, in a text of {total} bytes")
+            }
+            Error::BadUrl { kind, fault, .. } => write!(f, "the {kind} has {fault}"),
+            Error::HelperName { .. } => f.write_str("the remote helper has no valid name"),
+            Error::Unwritable(fault) => write!(f, "the location can't be written: {fault}"),
+        }
+    }
+}
+
+impl std::error::Error for Error {}
