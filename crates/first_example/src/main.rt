@@ -18,7 +18,7 @@ fn main(rt: HostRuntime) -> io::Result<()> {
     for text in ["ssh://git@example.com/gitoxide", "/srv/repo", "http://h:0/"] {
         match host_of(rt.alloc(), text) {
             Ok(Some(host)) => println!(rt; "{text} is on {host}")?,
-            Ok(None) => println!(rt; "{text} names no host")?,
+            Ok(None) => println!(rt; "{text} names no host to rely on")?,
             Err(error) => println!(rt; "{text} is refused: {error}")?,
         }
     }
