@@ -334,7 +334,7 @@ fn read_inner(mode: Mode, text: &[u8]) -> Option<HostPiece<'_>>
     if is_literal(text) {
         return Some(literal(mode, text));
     }
-    read_other(mode, text)
+    read_no_literal(mode, text)
 }
 
 /// The piece of a literal, which is decoded but for HTTP.
@@ -348,7 +348,7 @@ fn literal(mode: Mode, text: &[u8]) -> HostPiece<'_>
 }
 
 /// The host that a text between brackets stands for that is no literal.
-fn read_other(mode: Mode, text: &[u8]) -> Option<HostPiece<'_>>
+fn read_no_literal(mode: Mode, text: &[u8]) -> Option<HostPiece<'_>>
     requires { ¬ IsLiteral text.now }
     ensures { MatchOption result (IsNoInner (strictness mode) text.now) (λ piece. IsInner (strictness mode) text.now (meant_host piece)) }
 {
@@ -419,7 +419,7 @@ impl NamedHost<'_> {
         requires { IsUtf8 (named_text self) }
         ensures { IfOk result (λ s. string_bytes s ≡ named_text self.entry) }
     {
-        let mut text = Vec::with_capacity(alloc, piece_text(self.piece).len() + 3)?;
+        let mut text = Vec::with_capacity(alloc, piece_bytes(self.piece).len() + 3)?;
         append_piece(&mut text, self.piece);
         if self.keeps_colon {
             append_within(&mut text, b":");
@@ -429,7 +429,7 @@ impl NamedHost<'_> {
 }
 
 /// The slice that a piece holds.
-fn piece_text(piece: HostPiece<'_>) -> &[u8]
+fn piece_bytes(piece: HostPiece<'_>) -> &[u8]
     ensures { result.now ≡ slice_text piece.entry }
 {
     match piece {

@@ -57,7 +57,7 @@ struct CredentialParts<'a> {
 
 /// Reads the URL with this scheme and this rest behind `://`. It is no file URL, and no remote helper. What is known
 /// to be plain isn't looked at again.
-pub(crate) fn read_url<'a>(
+pub(crate) fn read_simple_url<'a>(
     text: &'a str,
     plain: bool,
     scheme: &'a [u8],

@@ -27,7 +27,7 @@ use crate::escape::{decoded, decoded_text, has_percent};
 use crate::host::NamedHost;
 use crate::location::Url;
 use crate::scheme::Scheme;
-use crate::simple_url::{ParsedUrl, read_url};
+use crate::simple_url::{ParsedUrl, read_simple_url};
 use crate::text::into_text;
 use bstr::BString;
 use std::alloc::{AllocError, Global};
@@ -48,7 +48,7 @@ pub(crate) fn url_location(
     ensures refused { IfErr result (λ e. NoneBut (SpellsUrl text.now) e) }
     ensures flaw { IfErr result (λ e. Flaw text.now e) }
 {
-    match read_url(text, plain, scheme, rest) {
+    match read_simple_url(text, plain, scheme, rest) {
         Ok(url) => located(alloc, text, url),
         Err(fault) => Err(bad_url(alloc, text, fault)),
     }

@@ -178,7 +178,7 @@ fn cut_addressed<'a>(bytes: &'a [u8], front: &'a [u8]) -> Option<AddressedPieces
     requires { IsColonFront bytes.now front.now }
     ensures { MatchOption result (¬ HasAddressedCut bytes.now) (λ cut. AddressedCut bytes.now cut.user.now cut.address.now cut.path.now) }
 {
-    match cut_user(bytes, front) {
+    match cut_addressed_user(bytes, front) {
         Some(found) => cut_address(found.user, found.behind),
         None => None,
     }
@@ -192,7 +192,7 @@ struct UserCut<'a> {
 }
 
 /// That user: the first colon is one of the address, which holds no `@`, so the user ends at the last `@` before it.
-fn cut_user<'a>(bytes: &'a [u8], front: &'a [u8]) -> Option<UserCut<'a>>
+fn cut_addressed_user<'a>(bytes: &'a [u8], front: &'a [u8]) -> Option<UserCut<'a>>
     requires { IsColonFront bytes.now front.now }
     ensures { MatchOption result (¬ HasAddressedCut bytes.now) (λ cut. AddressedFront bytes.now cut.user.now cut.behind.now) }
 {

@@ -80,7 +80,7 @@ pub(super) fn too_long(alloc: Global, input: &[u8], scheme: &[u8], rest: &[u8]) 
     ensures { Flaw input.now result }
 {
     let _ = rest;
-    match copied(alloc, shown(input, scheme)) {
+    match copied(alloc, shown_front(input, scheme)) {
         Ok(shown) => Error::TooLong {
             shown,
             total: input.len(),
@@ -90,7 +90,7 @@ pub(super) fn too_long(alloc: Global, input: &[u8], scheme: &[u8], rest: &[u8]) 
 }
 
 /// The front of the text that is as long as the scheme, `://` and 1,024 bytes, or the whole.
-fn shown<'a>(input: &'a [u8], scheme: &[u8]) -> &'a [u8]
+fn shown_front<'a>(input: &'a [u8], scheme: &[u8]) -> &'a [u8]
     requires { length scheme.now < length input.now }
     ensures { result.now ≡ take (length scheme.now + 1027) input.now }
 {

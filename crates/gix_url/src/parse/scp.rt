@@ -46,7 +46,7 @@ pub(super) fn read_scp(alloc: Global, input: &[u8], front: &[u8], path: &[u8]) -
     if path.is_empty() {
         return Err(missing_path(alloc, UrlKind::Scp, input));
     }
-    let (user, host) = cut_user(front);
+    let (user, host) = cut_front_user(front);
     match read_scp_host(alloc, host) {
         Ok(host) => Ok(scp_location(alloc, user, host, path)?),
         Err(refusal) => Err(host_error(alloc, refusal, input)),
@@ -118,7 +118,7 @@ fn from_home(path: &[u8]) -> &[u8]
 }
 
 /// The user and the host of a front: the user ends at the last `@`.
-fn cut_user(front: &[u8]) -> (Option<&[u8]>, &[u8])
+fn cut_front_user(front: &[u8]) -> (Option<&[u8]>, &[u8])
     ensures { CutsUser front.now result.0 result.1.now }
 {
     match last_cut(front, b'@') {

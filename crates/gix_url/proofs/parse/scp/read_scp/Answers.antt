@@ -19,31 +19,31 @@ returns-then-is_empty-clause-refused c =
 
 pub read_scp_host-requires-clause-text : goal.read_scp_host-requires-clause-text
 read_scp_host-requires-clause-text c =
-    scp_host_utf8 c.args.input.now c.args.front.now c.args.path.now _ c.cut_user.result.1.now c.requires.shape (c.if-not-is_text.ensures.0 refl) c.cut_user.ensures.split
+    scp_host_utf8 c.args.input.now c.args.front.now c.args.path.now _ c.cut_front_user.result.1.now c.requires.shape (c.if-not-is_text.ensures.0 refl) c.cut_front_user.ensures.split
 
 pub read_scp_host-requires-clause-colons : goal.read_scp_host-requires-clause-colons
 read_scp_host-requires-clause-colons c =
-    colons_inside_host c.args.front.now _ c.cut_user.result.1.now c.cut_user.ensures.split (colons_inside_front c.args.input.now c.args.front.now c.requires.shape.shape)
+    colons_inside_host c.args.front.now _ c.cut_front_user.result.1.now c.cut_front_user.ensures.split (colons_inside_front c.args.input.now c.args.front.now c.requires.shape.shape)
 
 pub scp_location-requires : goal.scp_location-requires
 scp_location-requires c =
-    scp_user_utf8 c.args.input.now c.args.front.now c.args.path.now c.cut_user.result.0 c.cut_user.result.1.now c.requires.shape (c.if-not-is_text.ensures.0 refl) c.cut_user.ensures.split
+    scp_user_utf8 c.args.input.now c.args.front.now c.args.path.now c.cut_front_user.result.0 c.cut_front_user.result.1.now c.requires.shape (c.if-not-is_text.ensures.0 refl) c.cut_front_user.ensures.split
 
 pub host_error-requires : goal.host_error-requires
 host_error-requires c =
-    scp_refused c.args.input.now c.args.front.now c.args.path.now _ c.cut_user.result.1.now c.requires c.cut_user.ensures.split c.cut_user.ensures.no_at c.in-Err.refusal c.in-Err.ensures.refused
+    scp_refused c.args.input.now c.args.front.now c.args.path.now _ c.cut_front_user.result.1.now c.requires c.cut_front_user.ensures.split c.cut_front_user.ensures.no_at c.in-Err.refusal c.in-Err.ensures.refused
 
 pub returns-in_ok-scp_location-in-Ok-clause-found : goal.returns-in_ok-scp_location-in-Ok-clause-found
 returns-in_ok-scp_location-in-Ok-clause-found c = record {
   front = c.args.front.now;
   path = c.args.path.now;
-  user = option_map (λ u. u.now) c.cut_user.result.0;
-  host = c.cut_user.result.1.now;
+  user = option_map (λ u. u.now) c.cut_front_user.result.0;
+  host = c.cut_front_user.result.1.now;
   meant = string_bytes c.in-Ok.host;
   shape = c.requires.shape;
   text = c.if-not-is_text.ensures.0 refl;
   pathed = some_tested c.args.path.now c.if-is_empty.ensures;
-  split = c.cut_user.ensures.split;
+  split = c.cut_front_user.ensures.split;
   hosted = c.in-Ok.ensures.found;
   value = c.in_ok-scp_location-in-Ok.ensures;
 }

@@ -1,7 +1,7 @@
 -- The user ends at the last `@` before the first colon, which a bracket follows.
 use Rattle.std.proofs.Common.{sym}
 use Rattle.gix_url.proofs.ShapeLemmas.{addressed_at, addressed_unbracketed, addressed_bracketed}
-use Rattle.gix_url.proofs.parse.classify.cut_user.Goals as goal
+use Rattle.gix_url.proofs.parse.classify.cut_addressed_user.Goals as goal
 
 pub returns-in-None : goal.returns-in-None
 returns-in-None c = addressed_at c.args.bytes.now c.args.front.now c.requires.0 c.requires.1.no_colon c.requires.1.joined c.in-None.ensures

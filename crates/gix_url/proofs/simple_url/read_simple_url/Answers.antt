@@ -6,7 +6,7 @@ use Rattle.gix_url.specs.Authority.{Fits}
 use Rattle.gix_url.specs.Flaws.{AuthorityFlaw, UrlFlaw}
 use Rattle.gix_url.proofs.PlainLemmas.{plain_path}
 use Rattle.gix_url.proofs.UrlLemmas.{url_cut, spelled, no_scheme_refutes, bad_path_refutes, backslash_refutes, no_authority_refutes}
-use Rattle.gix_url.proofs.simple_url.read_url.Goals as goal
+use Rattle.gix_url.proofs.simple_url.read_simple_url.Goals as goal
 
 pub returns-then-not-has_no_white_space-clause-refused : goal.returns-then-not-has_no_white_space-clause-refused
 returns-then-not-has_no_white_space-clause-refused c =
