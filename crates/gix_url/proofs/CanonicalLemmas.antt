@@ -1,5 +1,5 @@
 -- A location with its path resolved: what the resolver answered, by what came of it.
-use Rattle.std.proofs.Common.{◌≡◌, ◌⊎◌, inl, inr, Option, Some, None, MatchOption, Result, Ok, Err, String}
+use Rattle.std.proofs.Common.{◌≡◌, ◌⊎◌, inr, Option, Some, None, MatchOption, Result, Ok, Err, String}
 use Rattle.std.specs.Global.{Global}
 use Rattle.std.specs.String.{string_bytes}
 use Rattle.gix_url.specs.declared.error.Error.{Error}

@@ -1,7 +1,6 @@
 -- Components that are handed out: they are those of the location, and what is lent stands in its path.
 use Rattle.std.proofs.Common.{◌≡◌, ◌∙◌, ℕ, Bool, true, false, ◌⊎◌, inl, inr, List, [], ◌∷◌, ◌++◌, map, length, Option, Some, None, option_map, IfSome, All, Result, Ok, Err, IsOk, IsErr, IfOk, refl, sym, ap, subst, append_assoc, arith, ⊎_elim}
 use Rattle.std.specs.List.{join_with_byte}
-use Rattle.std.specs.Option.{unwrap_or}
 use Rattle.std.proofs.lemmas.Bool.{cases_Bool}
 use Rattle.std.proofs.lemmas.List.{append-nil}
 use Rattle.std.proofs.lemmas.List.Elements.{All-nil, All-cons, All-head, All-tail}

@@ -1,6 +1,6 @@
 -- A path has one home split, one reading for a shell and one expansion, and a user has one home folder.
-use Rattle.std.proofs.Common.{◌≡◌, ℕ, Bool, true, false, ◌==◌, ◌⊎◌, inl, inr, List, [], ◌∷◌, ◌++◌, Option, Some, None, refl, sym, ap, subst, ◌∙◌}
-use Rattle.std.proofs.lemmas.Bool.{both_ways, cases_Bool, false≢true, eqb-true, and_parts}
+use Rattle.std.proofs.Common.{◌≡◌, ℕ, true, false, ◌==◌, ◌⊎◌, inl, inr, List, [], ◌∷◌, ◌++◌, Option, Some, None, refl, sym, ap, subst, ◌∙◌}
+use Rattle.std.proofs.lemmas.Bool.{cases_Bool, false≢true, eqb-true, and_parts}
 use Rattle.gix_url.specs.Bytes.{slash, tilde, FreeOf, lossy_text}
 use Rattle.gix_url.specs.Settled.{begins_at_home}
 use Rattle.gix_url.specs.Paths.{Joins, LiesBelow, IsParent}

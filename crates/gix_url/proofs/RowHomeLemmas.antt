@@ -1,5 +1,5 @@
 -- Rows on home folders and on paths as text: the pieces are given.
-use Rattle.std.proofs.Common.{◌≡◌, ℕ, List, [], ◌∷◌, Some, None, codes, refl, lit<}
+use Rattle.std.proofs.Common.{[], ◌∷◌, Some, None, codes, refl, lit<}
 use Rattle.bstr.proofs.Computing.{computing}
 use Rattle.gix_url.specs.Paths.{IsIdle, HasPieces, Opens, Joins, LiesBelow, EndsInPiece, IsParent}
 use Rattle.gix_url.specs.Homes.{SplitsHome, HomeFolder, Expands}

@@ -1,7 +1,6 @@
 -- The folder that was found is the user's.
-use Rattle.std.proofs.Common.{subst, option_map, ◌≡◌, ◌∙◌}
+use Rattle.std.proofs.Common.{subst, ◌≡◌, ◌∙◌}
 use Rattle.std.specs.Option.{option_copied}
-use Rattle.std.specs.String.{string_bytes}
 use Rattle.bstr.specs.BStr.{bstr_bytes}
 use Rattle.gix_url.specs.Homes.{HomeFolder}
 use Rattle.gix_url.specs.HomeReadings.{Expansion, user_of}

@@ -1,5 +1,5 @@
 -- The folder beside another is the name joined to its parent.
-use Rattle.std.proofs.Common.{refl, ap, sym, subst, ◌∙◌, ◌++◌}
+use Rattle.std.proofs.Common.{refl, ap, subst, ◌∙◌, ◌++◌}
 use Rattle.std.specs.String.{string_bytes}
 use Rattle.gix_url.specs.Paths.{Joins}
 use Rattle.gix_url.specs.Homes.{HomeFolder}

@@ -1,5 +1,5 @@
 -- A field that was cut off is counted, and the rest is shorter.
-use Rattle.std.proofs.Common.{◌+◌, ◌∷◌, arith, ap, length}
+use Rattle.std.proofs.Common.{◌∷◌, arith, ap, length}
 use Rattle.std.proofs.lemmas.List.{length-append}
 use Rattle.gix_url.specs.Bytes.{ampersand}
 use Rattle.gix_url.proofs.LentLemmas.{one_field-small, field_count_cut, field_count_last}

@@ -1,7 +1,6 @@
 -- Pairs that differ at an index are different, and past the last index they are equal.
-use Rattle.std.proofs.Common.{◌≡◌, ◌∙◌, ◌&&◌, ◌+◌, false, Bool, List, ap, sym, drop, arith}
+use Rattle.std.proofs.Common.{◌≡◌, ◌∙◌, ◌&&◌, ◌+◌, false, Bool, ap, sym, drop, arith}
 use Rattle.std.specs.Cmp.Lexicographic.{pointwise}
-use Rattle.std.proofs.lemmas.Bool.{not-true}
 use Rattle.gix_url.specs.declared.components.QueryText.{QueryText}
 use Rattle.gix_url.specs.ComponentEquality.{pair_eq}
 use Rattle.gix_url.specs.ComponentViews.{pair_bytes}

@@ -1,5 +1,5 @@
 -- A folder is ready where it is empty or ends in `/`, and is made so by a `/`.
-use Rattle.std.proofs.Common.{refl, sym, subst, ap, ◌≡◌, ◌<◌, ◌∙◌, ◌++◌, length, arith}
+use Rattle.std.proofs.Common.{refl, sym, subst, ap, ◌<◌, ◌∙◌, ◌++◌, length, arith}
 use Rattle.std.specs.String.{string_bytes}
 use Rattle.std.proofs.lemmas.Bool.Decides.{nat_tests}
 use Rattle.gix_url.specs.Paths.{Opens}

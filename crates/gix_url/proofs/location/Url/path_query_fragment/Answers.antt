@@ -1,5 +1,5 @@
 -- What the rooms lend are the components of the location.
-use Rattle.std.proofs.Common.{◌≡◌, ◌∙◌, ◌⊎◌, inl, inr, ap, sym, ⊎_elim, subst}
+use Rattle.std.proofs.Common.{◌∙◌, inl, inr, ap, sym, ⊎_elim, subst}
 use Rattle.gix_url.specs.Value.{Location}
 use Rattle.gix_url.specs.Views.{protocol}
 use Rattle.gix_url.specs.Settled.{IsWeb}
