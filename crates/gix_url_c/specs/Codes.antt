@@ -79,10 +79,10 @@ problem_of (error.NoHome user) = problem_numbered 0 0 0 0
 problem_of error.PathNotUtf8 = problem_numbered 0 0 0 0
 problem_of error.Unresolved = problem_numbered 0 0 0 0
 
--- memory was refused, or what was given is no location
-abbrev pub IsUnmade : ℕ → Type 0
-IsUnmade code = (code ≡ memory) ⊎ (code ≡ no_location)
+-- memory was refused, or what was given is no location, as it is said
+abbrev pub IsUnmade : ℕ → Type 0 → Type 0
+IsUnmade code none = (code ≡ memory) ⊎ ((code ≡ no_location) × none)
 
--- memory was refused, or what was given is no location, or else this holds
-abbrev pub Unless : ℕ → Type 0 → Type 0
-Unless code holds = IsUnmade code ⊎ holds
+-- no location is made, or else this holds
+abbrev pub Unless : ℕ → Type 0 → Type 0 → Type 0
+Unless code none holds = IsUnmade code none ⊎ holds

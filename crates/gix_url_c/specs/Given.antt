@@ -1,5 +1,5 @@
 -- A location as C gives it: numbers, and the bytes of each part.
-use Rattle.std.specs.Prelude.{ℕ, Bool, not, ◌&&◌, ◌==◌, bytes_eq, List, Option, Some, None, if◌then◌else◌}
+use Rattle.std.specs.Prelude.{◌≡◌, ℕ, ◌<◌, ◌⊎◌, Bool, true, not, IsUtf8, ◌&&◌, ◌==◌, bytes_eq, List, Option, Some, None, if◌then◌else◌}
 use Rattle.gix_url.specs.Value.{Protocol, Location}
 use Rattle.gix_url.specs.Value.Protocol.{file, git, ssh, http, https, ext, helper, helper_url}
 use Rattle.gix_url_c.specs.declared.given.Front.{Front}
@@ -35,3 +35,16 @@ given front name user password host path spelling = record {
   path = path;
   spelling = present (is_spelled front.has_spelling spelling path) spelling;
 }
+
+-- the bytes are to be text, and are none
+abbrev pub IsNoText : Bool → List ℕ → Type 0
+IsNoText is_there bytes = (is_there ≡ true) × (¬ IsUtf8 bytes)
+
+-- the number is that of no scheme, or of one whose name is no text
+abbrev pub IsNoScheme : ℕ → List ℕ → Type 0
+IsNoScheme n name = (7 < n) ⊎ ((5 < n) × (¬ IsUtf8 name))
+
+-- these parts are none of a location
+abbrev pub IsNone : Front → List ℕ → List ℕ → List ℕ → List ℕ → Type 0
+IsNone front name user password host =
+    IsNoScheme front.scheme name ⊎ (IsNoText front.has_user user ⊎ (IsNoText front.has_password password ⊎ IsNoText front.has_host host))

@@ -6,7 +6,7 @@ ghost use Rattle.std.specs.Prelude.{◌≡◌, ◌++◌, IfOk, OnOk, length, map
 ghost use Rattle.bstr.specs.BStr.{bstr_bytes};
 ghost use Rattle.gix_url.specs.ComponentViews.{components, pair_bytes};
 ghost use Rattle.gix_url_c.specs.Codes.{Unless};
-ghost use Rattle.gix_url_c.specs.Given.{given};
+ghost use Rattle.gix_url_c.specs.Given.{IsNone, given};
 ghost use Rattle.gix_url_c.specs.Handed.{is_there, or_nothing};
 ghost use Rattle.gix_url_c.specs.Parted.{PutsBoth, TellsParts, component_bytes, joined_pair, joined_pairs, lengths_of_pair, pair_lengths, pairs_of, parted};
 
@@ -53,11 +53,11 @@ pub extern "C" fn gix_url_c_components(
     room: &mut [u8],
     lengths: &mut [usize],
 ) -> u32
-    ensures { Unless result (TellsParts (given front.now name.now user.now password.now host.now path.now spelling.now) told.new room.old room.new lengths.old lengths.new result) }
+    ensures { Unless result (IsNone front.now name.now user.now password.now host.now) (TellsParts (given front.now name.now user.now password.now host.now path.now spelling.now) told.new room.old room.new lengths.old lengths.new result) }
 {
     match located(alloc, front, name, user, password, host, path, spelling) {
         Ok(url) => part(alloc, &url, told, room, lengths),
-        Err(unmade) => unmade.code(),
+        Err(code) => code,
     }
 }
 

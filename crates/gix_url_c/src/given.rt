@@ -2,12 +2,12 @@
 //!
 //! It uses stored locations, which have all parts. Its contract: what comes out is the location with just these parts.
 
-ghost use Rattle.std.specs.Prelude.{◌≡◌, IfOk, Some, option_map, string_bytes};
+ghost use Rattle.std.specs.Prelude.{◌≡◌, IfErr, IfOk, IsUtf8, Some, option_map, string_bytes};
 ghost use Rattle.std.specs.Vec.{vec_items};
 ghost use Rattle.gix_url.specs.Stored.{recorded};
 ghost use Rattle.gix_url.specs.Views.{protocol};
 ghost use Rattle.gix_url_c.specs.Codes.{IsUnmade};
-ghost use Rattle.gix_url_c.specs.Given.{given, is_spelled, present, protocol_numbered};
+ghost use Rattle.gix_url_c.specs.Given.{IsNoScheme, IsNoText, IsNone, given, is_spelled, present, protocol_numbered};
 
 use crate::codes::{MEMORY, NO_LOCATION};
 use gix_url::laws::law_stored;
@@ -47,25 +47,21 @@ pub(crate) enum Unmade {
     NoLocation,
 }
 
-impl Unmade {
-    /// The number by which it is told.
-    pub(crate) fn code(&self) -> u32
-        ensures { IsUnmade result }
-    {
-        match self {
-            Unmade::Memory => MEMORY,
-            Unmade::NoLocation => NO_LOCATION,
-        }
-    }
-}
-
 impl From<AllocError> for Unmade {
+    ghost use Rattle.gix_url_c.specs.declared.given.Unmade.TheVariants.{Memory};
+
+    ghost from_gives = { λ _ e. e ≡ Memory };
+
     fn from(_: AllocError) -> Unmade {
         Unmade::Memory
     }
 }
 
 impl From<Error> for Unmade {
+    ghost use Rattle.gix_url_c.specs.declared.given.Unmade.TheVariants.{Memory};
+
+    ghost from_gives = { λ _ e. e ≡ Memory };
+
     fn from(_: Error) -> Unmade {
         Unmade::Memory
     }
@@ -83,8 +79,31 @@ pub(crate) fn located(
     host: &[u8],
     path: &[u8],
     spelling: &[u8],
+) -> Result<Url, u32>
+    ensures made { IfOk result (λ url. url ≡ given front.now name.now user.now password.now host.now path.now spelling.now) }
+    ensures refused { IfErr result (λ code. IsUnmade code (IsNone front.now name.now user.now password.now host.now)) }
+{
+    match made(alloc, front, name, user, password, host, path, spelling) {
+        Ok(url) => Ok(url),
+        Err(Unmade::Memory) => Err(MEMORY),
+        Err(Unmade::NoLocation) => Err(NO_LOCATION),
+    }
+}
+
+/// The same, with the reason where there is none.
+#[allow(clippy::too_many_arguments)]
+fn made(
+    alloc: Global,
+    front: &Front,
+    name: &[u8],
+    user: &[u8],
+    password: &[u8],
+    host: &[u8],
+    path: &[u8],
+    spelling: &[u8],
 ) -> Result<Url, Unmade>
-    ensures { IfOk result (λ url. url ≡ given front.now name.now user.now password.now host.now path.now spelling.now) }
+    ensures made { IfOk result (λ url. url ≡ given front.now name.now user.now password.now host.now path.now spelling.now) }
+    ensures refused { IfErr result (λ e. e ≡ Unmade.NoLocation → IsNone front.now name.now user.now password.now host.now) }
 {
     law_stored();
     let is_spelled = is_spelled(front.has_spelling, spelling, path);
@@ -116,7 +135,8 @@ pub(crate) fn is_spelled(is_there: bool, spelling: &[u8], path: &[u8]) -> bool
 
 /// The scheme of this number, and of this name where it holds one.
 fn scheme(alloc: Global, number: u8, name: &[u8]) -> Result<Scheme, Unmade>
-    ensures { IfOk result (λ scheme. protocol scheme ≡ protocol_numbered number name.now) }
+    ensures made { IfOk result (λ scheme. protocol scheme ≡ protocol_numbered number name.now) }
+    ensures refused { IfErr result (λ e. e ≡ Unmade.NoLocation → IsNoScheme number name.now) }
 {
     match number {
         0 => Ok(Scheme::File),
@@ -133,7 +153,8 @@ fn scheme(alloc: Global, number: u8, name: &[u8]) -> Result<Scheme, Unmade>
 
 /// A copy of a text that may be missing.
 fn text(alloc: Global, is_there: bool, bytes: &[u8]) -> Result<Option<String>, Unmade>
-    ensures { IfOk result (λ text. option_map string_bytes text ≡ present is_there bytes.now) }
+    ensures made { IfOk result (λ text. option_map string_bytes text ≡ present is_there bytes.now) }
+    ensures refused { IfErr result (λ e. e ≡ Unmade.NoLocation → IsNoText is_there bytes.now) }
 {
     if !is_there {
         return Ok(None);
@@ -143,7 +164,8 @@ fn text(alloc: Global, is_there: bool, bytes: &[u8]) -> Result<Option<String>, U
 
 /// A copy of bytes that are to be text.
 fn owned(alloc: Global, bytes: &[u8]) -> Result<String, Unmade>
-    ensures { IfOk result (λ text. string_bytes text ≡ bytes.now) }
+    ensures made { IfOk result (λ text. string_bytes text ≡ bytes.now) }
+    ensures refused { IfErr result (λ e. e ≡ Unmade.NoLocation → ¬ IsUtf8 bytes.now) }
 {
     match str::from_utf8(bytes) {
         Ok(text) => Ok(String::from_str(alloc, text)?),

@@ -6,7 +6,7 @@ ghost use Rattle.std.specs.Prelude.{◌≡◌, ◌↔◌, IsTrue, if◌then◌el
 ghost use Rattle.gix_url.specs.Arguments.{judgement};
 ghost use Rattle.gix_url.specs.Pieces.{original_path_of};
 ghost use Rattle.gix_url_c.specs.Codes.{Unless};
-ghost use Rattle.gix_url_c.specs.Given.{given, present};
+ghost use Rattle.gix_url_c.specs.Given.{IsNone, given, present};
 ghost use Rattle.gix_url_c.specs.Handed.{is_there, or_nothing, or_zero};
 ghost use Rattle.gix_url_c.specs.Looks.{Looks, judgement_number};
 
@@ -53,7 +53,7 @@ pub extern "C" fn gix_url_c_look(
     spelling: &[u8],
     seen: &mut Seen,
 ) -> u32
-    ensures { Unless result ((result ≡ 0) × Looks (given front.now name.now user.now password.now host.now path.now spelling.now) seen.new) }
+    ensures { Unless result (IsNone front.now name.now user.now password.now host.now) ((result ≡ 0) × Looks (given front.now name.now user.now password.now host.now path.now spelling.now) seen.new) }
 {
     match located(alloc, front, name, user, password, host, path, spelling) {
         Ok(url) => {
@@ -61,7 +61,7 @@ pub extern "C" fn gix_url_c_look(
             *seen = look(&url, has_spelling, spelling);
             OK
         }
-        Err(unmade) => unmade.code(),
+        Err(code) => code,
     }
 }
 

@@ -7,7 +7,7 @@ ghost use Rattle.gix_url.specs.FromParts.{MadeOf};
 ghost use Rattle.gix_url.specs.Value.{fields};
 ghost use Rattle.gix_url_c.specs.Answers.{Tells, TellsMade, TellsRead};
 ghost use Rattle.gix_url_c.specs.Codes.{Unless};
-ghost use Rattle.gix_url_c.specs.Given.{given};
+ghost use Rattle.gix_url_c.specs.Given.{IsNone, given};
 
 use crate::codes::{Problem, error_code, told_of};
 use crate::given::{Front, located};
@@ -54,7 +54,7 @@ pub extern "C" fn gix_url_c_from_parts(
     told: &mut Problem,
 ) -> u32
     ensures { let parts = fields (given front.now name.now user.now password.now host.now path.now []) in
-        Unless result (TellsMade parts made.new room.old room.new told.new result) }
+        Unless result (IsNone front.now name.now user.now password.now host.now) (TellsMade parts made.new room.old room.new told.new result) }
 {
     let unspelled = Front {
         has_spelling: false,
@@ -62,7 +62,7 @@ pub extern "C" fn gix_url_c_from_parts(
     };
     match located(alloc, &unspelled, name, user, password, host, path, b"") {
         Ok(url) => tell(alloc, of_parts(alloc, url), made, room, told),
-        Err(unmade) => unmade.code(),
+        Err(code) => code,
     }
 }
 

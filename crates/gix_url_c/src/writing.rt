@@ -6,7 +6,7 @@ ghost use Rattle.std.specs.Prelude.{◌≡◌, ◌↔◌, IsTrue};
 ghost use Rattle.gix_url.specs.Text.{text};
 ghost use Rattle.gix_url_c.specs.Answers.{TellsDisplay, TellsSettled, TellsText};
 ghost use Rattle.gix_url_c.specs.Codes.{Unless};
-ghost use Rattle.gix_url_c.specs.Given.{given};
+ghost use Rattle.gix_url_c.specs.Given.{IsNone, given};
 
 use crate::codes::{MEMORY, OK, Problem, UNWRITABLE, unwritable};
 use crate::given::{Front, located};
@@ -30,14 +30,14 @@ pub extern "C" fn gix_url_c_is_settled(
     spelling: &[u8],
     settled: &mut bool,
 ) -> u32
-    ensures { Unless result (TellsSettled (given front.now name.now user.now password.now host.now path.now spelling.now) settled.new result) }
+    ensures { Unless result (IsNone front.now name.now user.now password.now host.now) (TellsSettled (given front.now name.now user.now password.now host.now path.now spelling.now) settled.new result) }
 {
     match located(alloc, front, name, user, password, host, path, spelling) {
         Ok(url) => {
             *settled = url.is_settled();
             OK
         }
-        Err(unmade) => unmade.code(),
+        Err(code) => code,
     }
 }
 
@@ -60,11 +60,11 @@ pub extern "C" fn gix_url_c_write(
     len: &mut usize,
     told: &mut Problem,
 ) -> u32
-    ensures { Unless result (TellsText (text (given front.now name.now user.now password.now host.now path.now spelling.now)) room.old room.new len.new told.new result) }
+    ensures { Unless result (IsNone front.now name.now user.now password.now host.now) (TellsText (text (given front.now name.now user.now password.now host.now path.now spelling.now)) room.old room.new len.new told.new result) }
 {
     match located(alloc, front, name, user, password, host, path, spelling) {
         Ok(url) => write(alloc, &url, room, len, told),
-        Err(unmade) => unmade.code(),
+        Err(code) => code,
     }
 }
 
@@ -87,11 +87,11 @@ pub extern "C" fn gix_url_c_display(
     len: &mut usize,
     told: &mut Problem,
 ) -> u32
-    ensures { Unless result (TellsDisplay (given front.now name.now user.now password.now host.now path.now spelling.now) room.old room.new len.new told.new result) }
+    ensures { Unless result (IsNone front.now name.now user.now password.now host.now) (TellsDisplay (given front.now name.now user.now password.now host.now path.now spelling.now) room.old room.new len.new told.new result) }
 {
     match located(alloc, front, name, user, password, host, path, spelling) {
         Ok(url) => show(alloc, &url, room, len, told),
-        Err(unmade) => unmade.code(),
+        Err(code) => code,
     }
 }
 
