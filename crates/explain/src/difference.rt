@@ -3,6 +3,9 @@
 //! It reads the text again by `Url::reread` and looks for the first of the public fields, in declared order, that is
 //! another one. A password is shown by no answer.
 
+ghost use Rattle.std.specs.Prelude.{◌↔◌, IfOk, IsNone};
+ghost use Rattle.gix_url.specs.Settled.{IsSettled};
+
 use crate::refusal::Refusal;
 use bstr::ByteSlice;
 use gix_url::{Error, Scheme, Url};
@@ -34,7 +37,9 @@ pub struct Difference {
 
 impl Reread {
     /// What the text of the location is read as, unless the location is settled.
-    pub fn of(alloc: Global, url: &Url) -> Result<Option<Reread>, AllocError> {
+    pub fn of(alloc: Global, url: &Url) -> Result<Option<Reread>, AllocError>
+        ensures { IfOk result (λ reread. IsNone reread ↔ IsSettled url.now) }
+    {
         if url.is_settled() {
             return Ok(None);
         }

@@ -2,6 +2,9 @@
 //!
 //! Bytes that are no UTF-8 are told as U+FFFD. No password is told.
 
+ghost use Rattle.std.specs.Prelude.{◌≡◌, ◌↔◌, IfOk, IsTrue, codes, option_map};
+ghost use Rattle.gix_url.specs.Settled.{IsSettled};
+
 use crate::difference::Reread;
 use bstr::{BStr, BString, ByteSlice};
 use gix_url::expand_path::{self, ForUser};
@@ -119,7 +122,11 @@ impl fmt::Display for Form {
 
 impl<'a> Told<'a> {
     /// What is told of this location.
-    pub fn of(alloc: Global, url: &'a Url) -> Result<Told<'a>, AllocError> {
+    pub fn of(alloc: Global, url: &'a Url) -> Result<Told<'a>, AllocError>
+        ensures hidden { IfOk result (λ told. option_map (λ word. word.now) told.password
+            ≡ option_map (λ _. codes "redacted") url.now.password) }
+        ensures settled { IfOk result (λ told. IsTrue told.settled ↔ IsSettled url.now) }
+    {
         Ok(Told {
             form: form_of(url),
             scheme: url.scheme.as_str(),
