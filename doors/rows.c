@@ -1,6 +1,6 @@
-/* The rows of a table, whose expected columns a second reading of the grammar computed: what is read, made of parts,
- * written, judged, taken apart and shown. Columns are parted by tabs; `~` is a part that isn't there, and `\x` with two
- * digits a byte. */
+/* The rows of a table: what is read, made of parts, written, judged, taken apart and shown. What is read was computed by a
+ * second reading of the grammar; the other answers are those of the tables that the tests of the library stand on. Columns
+ * are parted by tabs; `~` is a part that isn't there, and `\x` with two digits a byte. */
 #include "told.h"
 
 #include <string.h>
