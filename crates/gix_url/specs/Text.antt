@@ -3,7 +3,7 @@ use Rattle.std.specs.Prelude.{ℕ, Bool, true, false, not, ◌&&◌, ◌||◌, �
 use Rattle.std.specs.List.{list_any}
 use Rattle.percent_encoding.specs.Percent.{percent_encode}
 use Rattle.gix_url.specs.declared.error.WriteFault.{WriteFault}
-use Rattle.gix_url.specs.declared.error.WriteFault.TheVariants.{HelperName, HelperCut, RelativeSsh, UserWithoutHost}
+use Rattle.gix_url.specs.declared.error.WriteFault.TheVariants.{HelperName, HelperParts, RelativeSsh, UserWithoutHost}
 use Rattle.gix_url.specs.Value.{Protocol, Location}
 use Rattle.gix_url.specs.Value.Protocol.{file, git, ssh, http, https, ext, helper, helper_url}
 use Rattle.gix_url.specs.Bytes.{slash, colon, at_sign, left_bracket, right_bracket, tilde, begins_with, is_helper_name}
@@ -28,7 +28,7 @@ has_authority v = is_some v.user || (is_some v.password || (is_some v.host || is
 
 -- the form of a remote helper of this name
 abbrev pub helper_choice : List ℕ → Location → Result Form WriteFault
-helper_choice name v = if is_helper_name name then (if has_authority v then Err HelperCut else Ok helper_form) else Err HelperName
+helper_choice name v = if is_helper_name name then (if has_authority v then Err HelperParts else Ok helper_form) else Err HelperName
 
 -- the location asks for the form that is no URL, and can have it
 abbrev pub is_alternative : Location → Bool

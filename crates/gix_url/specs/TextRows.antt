@@ -111,7 +111,7 @@ FaultRows =
     × (text (record (path_alone file true (codes "/p")) { user = Some (codes "u") }) ≡ Err write.UserWithoutHost)
     × (text (record (at_host ssh (codes "h") (codes "p")) { port = Some 22 }) ≡ Err write.RelativeSsh)
     × (text (path_alone ssh true (codes "p")) ≡ Err write.RelativeSsh)
-    × (text (record (path_alone (helper (codes "a")) true (codes "b")) { host = Some (codes "h") }) ≡ Err write.HelperCut)
+    × (text (record (path_alone (helper (codes "a")) true (codes "b")) { host = Some (codes "h") }) ≡ Err write.HelperParts)
     × (text (path_alone (helper (codes "-a")) true (codes "b")) ≡ Err write.HelperName)
     × (text (path_alone (helper []) true (codes "b")) ≡ Err write.HelperName)
 

@@ -23,6 +23,6 @@ url_fault_words url.HostRequired = codes "no host where one is required"
 -- why a location has no text
 abbrev pub write_fault_words : WriteFault → List ℕ
 write_fault_words write.HelperName = codes "the remote helper has no valid name"
-write_fault_words write.HelperCut = codes "a remote helper comes with a user, a password, a host or a port"
+write_fault_words write.HelperParts = codes "a remote helper comes with a user, a password, a host or a port"
 write_fault_words write.RelativeSsh = codes "a relative path of Secure Shell comes without a host, or with a password or a port"
 write_fault_words write.UserWithoutHost = codes "a user comes without a host"

@@ -72,7 +72,7 @@ pub enum WriteFault {
     /// The name of the remote helper is no such name.
     HelperName,
     /// A remote helper has a user, a password, a host or a port.
-    HelperCut,
+    HelperParts,
     /// A relative path of Secure Shell comes without a host, or with a password or a port.
     RelativeSsh,
     /// A user comes without a host.

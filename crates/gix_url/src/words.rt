@@ -43,7 +43,7 @@ impl fmt::Display for WriteFault {
     fn fmt<W: fmt::Write>(&self, f: &mut fmt::Formatter<W>) -> fmt::Result {
         match self {
             WriteFault::HelperName => f.write_str("the remote helper has no valid name"),
-            WriteFault::HelperCut => {
+            WriteFault::HelperParts => {
                 f.write_str("a remote helper comes with a user, a password, a host or a port")
             }
             WriteFault::RelativeSsh => f.write_str(

@@ -55,7 +55,7 @@ impl Url {
         if !bytes::is_helper_name(name) {
             Err(WriteFault::HelperName)
         } else if self.has_authority(password) {
-            Err(WriteFault::HelperCut)
+            Err(WriteFault::HelperParts)
         } else {
             Ok(Form::Helper)
         }
