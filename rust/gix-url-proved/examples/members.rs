@@ -1,0 +1,87 @@
+//! Tells of each line of the standard input what the calls of the library answer, in words parted by a space: bytes in
+//! hexadecimal digits behind a `.`, and `-` for what isn't there.
+
+use gix_url_proved::parse::Error;
+use gix_url_proved::{parse, ArgumentSafety, PathComponents, Url};
+use std::io::Read;
+
+fn bytes(bytes: &[u8]) -> String {
+    bytes.iter().fold(".".to_string(), |told, byte| told + &format!("{byte:02x}"))
+}
+
+fn member(part: Option<&str>) -> String {
+    part.map_or("-".to_string(), |part| bytes(part.as_bytes()))
+}
+
+fn port(port: Option<u16>) -> String {
+    port.map_or("-".to_string(), |port| port.to_string())
+}
+
+fn judged(judged: ArgumentSafety<'_>) -> &'static str {
+    match judged {
+        ArgumentSafety::Absent => "absent",
+        ArgumentSafety::Usable(_) => "usable",
+        ArgumentSafety::Dangerous(_) => "dangerous",
+    }
+}
+
+/// The path, the names and values of the query and the fragment, in one text.
+fn components(parts: PathComponents<'_>) -> Vec<u8> {
+    let mut told = parts.path.into_owned();
+    if let Some(query) = parts.query {
+        told.extend_from_slice(b" ?");
+        for (name, value) in query {
+            for (front, part, behind) in [(" <", name, ">="), ("<", value, ">")] {
+                told.extend_from_slice(front.as_bytes());
+                told.extend_from_slice(&part);
+                told.extend_from_slice(behind.as_bytes());
+            }
+        }
+    }
+    if let Some(fragment) = parts.fragment {
+        told.extend_from_slice(b" #");
+        told.extend_from_slice(&fragment);
+    }
+    told
+}
+
+fn members(url: &Url) -> String {
+    let shown = url.text().map(|_| url.to_string());
+    let words = [
+        bytes(url.scheme.as_str().as_bytes()),
+        member(url.user()),
+        url.password().map_or("-", |_| "hidden").to_string(),
+        member(url.host()),
+        port(url.port),
+        port(url.port_or_default()),
+        bytes(&url.path),
+        bytes(url.original_path()),
+        judged(url.user_as_argument()).to_string(),
+        judged(url.host_as_argument()).to_string(),
+        url.path_argument_safe().map_or("withheld", |_| "usable").to_string(),
+        if url.is_settled() { "settled" } else { "unsettled" }.to_string(),
+        shown.map_or("-".to_string(), |text| bytes(text.as_bytes())),
+        bytes(&components(url.path_query_fragment())),
+    ];
+    words.iter().fold("read".to_string(), |told, word| told + " " + word)
+}
+
+/// The names of the error, of its fault and of its kind.
+fn refusal(error: &Error) -> String {
+    match error {
+        Error::EmptyLocal => "refused EmptyLocal - -".to_string(),
+        Error::MissingPath { kind, .. } => format!("refused MissingPath - {kind:?}"),
+        Error::NotUtf8 { kind, .. } => format!("refused NotUtf8 - {kind:?}"),
+        Error::TooLong { .. } => "refused TooLong - -".to_string(),
+        Error::BadUrl { fault, kind, .. } => format!("refused BadUrl {fault:?} {kind:?}"),
+        other => format!("refused {other:?} - -"),
+    }
+}
+
+fn main() {
+    let mut all = Vec::new();
+    std::io::stdin().read_to_end(&mut all).expect("the standard input can be read");
+    for line in all.strip_suffix(b"\n").unwrap_or(&all).split(|byte| *byte == b'\n') {
+        println!("{}", parse(line).map_or_else(|error| refusal(&error), |url| members(&url)));
+    }
+}
