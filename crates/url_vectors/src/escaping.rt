@@ -32,7 +32,11 @@ fn every_byte_in_a_path(rt: HostRuntime) -> Result<(), Fail> {
         url.path = BString::from_slice(alloc, &[b'/', byte])?;
         let mut expected = String::from_str(alloc, "http://h/")?;
         put(&mut expected, PATH.as_slice(), byte)?;
-        assert_eq!(rt; url.to_bstring(alloc)?.as_bytes(), expected.as_bytes(), "{byte}");
+        assert_eq!(rt;
+            url.to_bstring(alloc)?.as_bytes(),
+            expected.as_bytes(),
+            "{byte}"
+        );
     }
     Ok(())
 }
@@ -51,7 +55,11 @@ fn every_byte_of_ascii_in_a_user_and_a_password(rt: HostRuntime) -> Result<(), F
         expected.push(':')?;
         put(&mut expected, PASSWORD.as_slice(), byte)?;
         expected.push_str("@h/")?;
-        assert_eq!(rt; url.to_bstring(alloc)?.as_bytes(), expected.as_bytes(), "{byte}");
+        assert_eq!(rt;
+            url.to_bstring(alloc)?.as_bytes(),
+            expected.as_bytes(),
+            "{byte}"
+        );
     }
     Ok(())
 }
