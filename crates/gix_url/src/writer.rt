@@ -16,6 +16,7 @@ ghost use Rattle.gix_url.specs.Settled.{IsSettled};
 mod form;
 mod layout;
 pub(crate) mod piece;
+mod ready;
 pub(crate) mod show;
 pub(crate) mod sink;
 

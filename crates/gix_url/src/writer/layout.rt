@@ -238,11 +238,11 @@ fn open_host<'a>(scheme: &Scheme, host: &'a str) -> Piece<'a>
     }
 }
 
-/// Whether the host is an IPv6 text.
+/// Whether the host is an IPv6 text, which holds a colon, as few hosts do.
 fn is_address(host: &[u8]) -> bool
     ensures { result ≡ is_ipv6_text host.now }
 {
-    ipv6::is_address(host)
+    has_colon(host) && ipv6::is_address(host)
 }
 
 /// Whether the host holds `:` and doesn't begin with `[`.
@@ -256,7 +256,7 @@ fn wants_brackets(host: &[u8]) -> bool
 fn has_colon(host: &[u8]) -> bool
     ensures { result ≡ spec.has_colon host.now }
 {
-    host.iter().any(|byte| *byte == b':')
+    host.contains(&b':')
 }
 
 /// Whether the host of a URL goes between brackets: a port or an escape would mislead without.

@@ -11,6 +11,7 @@ ghost use Rattle.gix_url.specs.Bytes.{percent_sign};
 ghost use Rattle.gix_url.specs.Pieces.{host_text, path_end_text, piece_text, pieces_text, port_text, scheme_text, user_text};
 
 use crate::escape::{PASSWORD, PATH, USER};
+use crate::writer::ready::{is_ready_path, is_ready_user};
 use crate::writer::sink::{Sink, put_escaped, put_percents};
 use percent_encoding::AsciiSet;
 
@@ -87,7 +88,7 @@ impl<'a> Piece<'a> {
     pub(crate) fn user(text: &'a str) -> Piece<'a>
         ensures { piece_text result ≡ percent_encode USER text.now }
     {
-        if is_kept(text.as_bytes(), USER) {
+        if is_ready_user(text.as_bytes()) || is_kept(text.as_bytes(), USER) {
             Piece::Raw(text)
         } else {
             Piece::User(text)
@@ -98,7 +99,7 @@ impl<'a> Piece<'a> {
     pub(crate) fn password(text: &'a str) -> Piece<'a>
         ensures { piece_text result ≡ percent_encode PASSWORD text.now }
     {
-        if is_kept(text.as_bytes(), PASSWORD) {
+        if is_ready_user(text.as_bytes()) || is_kept(text.as_bytes(), PASSWORD) {
             Piece::Raw(text)
         } else {
             Piece::Password(text)
@@ -225,7 +226,7 @@ impl<'a> PathPieces<'a> {
     pub(crate) fn escaped(mark: &'a str, path: &'a [u8]) -> PathPieces<'a>
         ensures { path_end_text result ≡ mark.now ++ percent_encode PATH path.now }
     {
-        if is_kept(path, PATH) {
+        if is_ready_path(path) || is_kept(path, PATH) {
             PathPieces::Raw(mark, path)
         } else {
             PathPieces::Escaped(mark, path)
@@ -263,6 +264,7 @@ impl<'a> PathPieces<'a> {
 
 impl<'a> Pieces<'a> {
     /// The length of the whole text.
+    #[inline]
     pub(crate) fn len(&self) -> u128
         ensures { result ≡ length (pieces_text self.now) }
     {
@@ -274,6 +276,7 @@ impl<'a> Pieces<'a> {
     }
 
     /// Puts the whole text.
+    #[inline]
     pub(crate) fn put<T, S: Sink<T>>(&self, place: &mut T) -> Result<(), S::Fault>
         ensures { OnOk result (S.ends place.old (pieces_text self.now) place.new) }
     {
