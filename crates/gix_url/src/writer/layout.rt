@@ -37,7 +37,7 @@ impl Url {
     }
 
     /// The pieces of the helper form.
-    fn helper_pieces(&self) -> Pieces<'_>
+    pub(crate) fn helper_pieces(&self) -> Pieces<'_>
         ensures { pieces_text result ≡ helper_text self.now }
     {
         Pieces {
@@ -50,7 +50,7 @@ impl Url {
     }
 
     /// The pieces of the path form.
-    fn path_pieces(&self) -> Pieces<'_>
+    pub(crate) fn path_pieces(&self) -> Pieces<'_>
         ensures { pieces_text result ≡ path_form_text self.now }
     {
         Pieces {
@@ -63,7 +63,7 @@ impl Url {
     }
 
     /// The pieces of the scp form.
-    fn scp_pieces(&self) -> Pieces<'_>
+    pub(crate) fn scp_pieces(&self) -> Pieces<'_>
         ensures { pieces_text result ≡ scp_text self.now }
     {
         Pieces {
@@ -76,7 +76,8 @@ impl Url {
     }
 
     /// The pieces of a URL.
-    fn canonical_pieces<'a>(
+    #[inline(always)]
+    pub(crate) fn canonical_pieces<'a>(
         &'a self,
         password: Option<&'a str>,
         digits: &'a mut Buffer,

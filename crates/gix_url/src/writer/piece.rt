@@ -107,6 +107,7 @@ impl<'a> Piece<'a> {
     }
 
     /// The length of the text of the piece.
+    #[inline(always)]
     fn len(self) -> u128
         ensures exact { result ≡ length (piece_text self.entry) }
         ensures bound { result ≤ 3 * 2 ^ 64 }
@@ -121,6 +122,7 @@ impl<'a> Piece<'a> {
     }
 
     /// Puts the text of the piece.
+    #[inline(always)]
     fn put<T, S: Sink<T>>(self, place: &mut T) -> Result<(), S::Fault>
         ensures { OnOk result (S.takes place.old (piece_text self.entry) place.new) }
     {
@@ -135,6 +137,7 @@ impl<'a> Piece<'a> {
 
 impl<'a> SchemePieces<'a> {
     /// The length of the text.
+    #[inline(always)]
     fn len(self) -> u128
         ensures exact { result ≡ length (scheme_text self.entry) }
         ensures bound { result ≤ 2 * 2 ^ 64 }
@@ -146,6 +149,7 @@ impl<'a> SchemePieces<'a> {
     }
 
     /// Puts the text.
+    #[inline(always)]
     fn put<T, S: Sink<T>>(self, place: &mut T) -> Result<(), S::Fault>
         ensures { OnOk result (S.takes place.old (scheme_text self.entry) place.new) }
     {
@@ -161,6 +165,7 @@ impl<'a> SchemePieces<'a> {
 
 impl<'a> UserPieces<'a> {
     /// The length of the text.
+    #[inline(always)]
     fn len(self) -> u128
         ensures exact { result ≡ length (user_text self.entry) }
         ensures bound { result ≤ 7 * 2 ^ 64 }
@@ -173,6 +178,7 @@ impl<'a> UserPieces<'a> {
     }
 
     /// Puts the text.
+    #[inline(always)]
     fn put<T, S: Sink<T>>(self, place: &mut T) -> Result<(), S::Fault>
         ensures { OnOk result (S.takes place.old (user_text self.entry) place.new) }
     {
@@ -194,6 +200,7 @@ impl<'a> UserPieces<'a> {
 
 impl<'a> HostPieces<'a> {
     /// The length of the text.
+    #[inline(always)]
     fn len(self) -> u128
         ensures exact { result ≡ length (host_text self.entry) }
         ensures bound { result ≤ 4 * 2 ^ 64 }
@@ -206,6 +213,7 @@ impl<'a> HostPieces<'a> {
     }
 
     /// Puts the text.
+    #[inline(always)]
     fn put<T, S: Sink<T>>(self, place: &mut T) -> Result<(), S::Fault>
         ensures { OnOk result (S.takes place.old (host_text self.entry) place.new) }
     {
@@ -234,6 +242,7 @@ impl<'a> PathPieces<'a> {
     }
 
     /// The length of the text.
+    #[inline(always)]
     fn len(self) -> u128
         ensures exact { result ≡ length (path_end_text self.entry) }
         ensures bound { result ≤ 4 * 2 ^ 64 }
@@ -245,6 +254,7 @@ impl<'a> PathPieces<'a> {
     }
 
     /// Puts the text, which is the end of its own.
+    #[inline(always)]
     fn put<T, S: Sink<T>>(self, place: &mut T) -> Result<(), S::Fault>
         ensures { OnOk result (S.ends place.old (path_end_text self.entry) place.new) }
     {
@@ -264,7 +274,7 @@ impl<'a> PathPieces<'a> {
 
 impl<'a> Pieces<'a> {
     /// The length of the whole text.
-    #[inline]
+    #[inline(always)]
     pub(crate) fn len(&self) -> u128
         ensures { result ≡ length (pieces_text self.now) }
     {
@@ -276,7 +286,7 @@ impl<'a> Pieces<'a> {
     }
 
     /// Puts the whole text.
-    #[inline]
+    #[inline(always)]
     pub(crate) fn put<T, S: Sink<T>>(&self, place: &mut T) -> Result<(), S::Fault>
         ensures { OnOk result (S.ends place.old (pieces_text self.now) place.new) }
     {
@@ -300,6 +310,7 @@ fn port_len(digits: Option<&str>) -> u128
 }
 
 /// Puts a port behind its colon.
+#[inline(always)]
 fn put_port<T, S: Sink<T>>(place: &mut T, digits: Option<&str>) -> Result<(), S::Fault>
     ensures { OnOk result (S.takes place.old (port_text digits.entry) place.new) }
 {
