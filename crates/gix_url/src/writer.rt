@@ -1,8 +1,8 @@
 //! Writing: the text of a location, its length, and the spelling of its path.
 //!
 //! The text is laid out once, as pieces: slices of the location with the way that each is written. `form` chooses
-//! the form, `layout` the pieces, `piece` adds up their lengths and puts them into a sink, and `sink` and `show` are
-//! the sinks. The contract of each public call is the text of the definitions.
+//! the form, `layout` the pieces, `piece` adds up their lengths and puts them into a sink, `ready` tells texts that
+//! need no escape, and `sink` and `show` are the sinks. The contract of each public call is the text of the definitions.
 
 ghost use Rattle.std.specs.Prelude.{◌≡◌, [], Ok, Err, IsOk, IfOk, IfErr, is_ok, option_map};
 ghost use Rattle.bstr.specs.BStr.{bstr_bytes};
