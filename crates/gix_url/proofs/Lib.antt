@@ -6,6 +6,7 @@ pub mod AddressReader
 pub mod EscapeLemmas
 pub mod LineLemmas
 pub mod EscapeSets
+pub mod ReadyLemmas
 pub mod PlainLemmas
 pub mod HostLemmas
 pub mod LengthLemmas

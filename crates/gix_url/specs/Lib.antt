@@ -55,6 +55,7 @@ pub mod HostPieces
 pub mod UrlPieces
 pub mod ScpPieces
 pub mod Shapes
+pub mod KeptBytes
 pub mod Pieces
 pub mod Sinks
 pub mod SettledParts

@@ -1,27 +1,29 @@
 //! Writing: the text of a location, its length, and the spelling of its path.
 //!
 //! The text is laid out once, as pieces: slices of the location with the way that each is written. `form` chooses
-//! the form, `layout` the pieces, `piece` adds up their lengths and puts them into a sink, and `sink` and `show` are
-//! the sinks. The contract of each public call is the text of the definitions.
+//! the form, `layout` the pieces, `piece` adds up their lengths and puts them into a sink, `ready` tells texts that
+//! need no escape, and `sink` and `show` are the sinks. The contract of each public call is the text of the definitions.
 
 ghost use Rattle.std.specs.Prelude.{◌≡◌, [], Ok, Err, IsOk, IfOk, IfErr, is_ok, option_map};
 ghost use Rattle.bstr.specs.BStr.{bstr_bytes};
 ghost use Rattle.bstr.specs.Owned.{bstring_bytes};
 ghost use Rattle.gix_url.specs.declared.error.WriteFault.{WriteFault};
-ghost use Rattle.gix_url.specs.Text.{original_path, text};
-ghost use Rattle.gix_url.specs.Pieces.{pieces_text, text_length, text_of_pieces};
+ghost use Rattle.gix_url.specs.Text.{canonical_text, in_form, original_path, text, text_in};
+ghost use Rattle.gix_url.specs.Pieces.{form_chosen, form_of, pieces_text, text_length, text_of_pieces};
 ghost use Rattle.gix_url.specs.Readings.{Written, IsUnwritten, WritesAgain};
 ghost use Rattle.gix_url.specs.Settled.{IsSettled};
 
 mod form;
 mod layout;
 pub(crate) mod piece;
+mod ready;
 pub(crate) mod show;
 pub(crate) mod sink;
 
 use crate::error::{Error, WriteError, WriteFault};
 use crate::location::Url;
 use crate::value_law::law_value;
+use crate::writer::form::Form;
 use crate::writer::piece::Pieces;
 use crate::writer::sink::{Output, Room};
 use bstr::{BStr, BString};
@@ -99,9 +101,8 @@ impl Url {
         ensures settled { IsSettled self.now → WritesAgain self.now result }
     {
         law_value(self);
-        let mut digits = Buffer::new();
-        match self.own_pieces(&mut digits) {
-            Ok(pieces) => collect(alloc, &pieces),
+        match self.own_form() {
+            Ok(form) => self.collect_in(alloc, form),
             Err(fault) => Err(Error::Unwritable(fault)),
         }
     }
@@ -121,6 +122,41 @@ impl Url {
             Some(spelling) => BStr::new(spelling),
             None => self.path.as_bstr(),
         }
+    }
+
+    /// The form of the text, or why there is none.
+    fn own_form(&self) -> Result<Form, WriteFault>
+        ensures { in_form (form_chosen result) self.now ≡ text self.now }
+    {
+        self.form(self.own_password())
+    }
+
+    /// The text in this form. Each form is collected by itself, so that the compiler knows which pieces it lacks.
+    fn collect_in(&self, alloc: Global, form: Form) -> Result<BString, Error>
+        ensures text { IfOk result (λ s. bstring_bytes s ≡ text_in (form_of form) self.now) }
+        ensures memory { IfErr result (λ e. e ≡ Error.Memory) }
+        ensures empty { text_in (form_of form) self.now ≡ [] → IsOk result }
+    {
+        match form {
+            Form::Helper => collect(alloc, &self.helper_pieces()),
+            Form::Path => collect(alloc, &self.path_pieces()),
+            Form::Scp => collect(alloc, &self.scp_pieces()),
+            Form::Canonical => self.collect_canonical(alloc),
+        }
+    }
+
+    /// The text as a URL.
+    #[inline(never)]
+    fn collect_canonical(&self, alloc: Global) -> Result<BString, Error>
+        ensures text { IfOk result (λ s. bstring_bytes s ≡ canonical_text self.now) }
+        ensures memory { IfErr result (λ e. e ≡ Error.Memory) }
+        ensures empty { canonical_text self.now ≡ [] → IsOk result }
+    {
+        let mut digits = Buffer::new();
+        collect(
+            alloc,
+            &self.canonical_pieces(self.own_password(), &mut digits),
+        )
     }
 
     /// Whether the location has a text. Its form alone decides, so nothing is laid out.
@@ -150,6 +186,7 @@ impl Url {
 }
 
 /// The text of the pieces. Memory is asked for once, and a length that no memory has counts as refused.
+#[inline(always)]
 fn collect(alloc: Global, pieces: &Pieces<'_>) -> Result<BString, Error>
     ensures text { IfOk result (λ s. bstring_bytes s ≡ pieces_text pieces.now) }
     ensures memory { IfErr result (λ e. e ≡ Error.Memory) }

@@ -28,6 +28,7 @@ pub(crate) enum Form {
 
 impl Url {
     /// The form that the location has with this password in place of its own.
+    #[inline(always)]
     pub(crate) fn form(&self, password: Option<&str>) -> Result<Form, WriteFault>
         ensures { form_chosen result ≡ choice (with_password self.now password.entry) }
     {

@@ -37,7 +37,7 @@ impl Url {
     }
 
     /// The pieces of the helper form.
-    fn helper_pieces(&self) -> Pieces<'_>
+    pub(crate) fn helper_pieces(&self) -> Pieces<'_>
         ensures { pieces_text result ≡ helper_text self.now }
     {
         Pieces {
@@ -50,7 +50,7 @@ impl Url {
     }
 
     /// The pieces of the path form.
-    fn path_pieces(&self) -> Pieces<'_>
+    pub(crate) fn path_pieces(&self) -> Pieces<'_>
         ensures { pieces_text result ≡ path_form_text self.now }
     {
         Pieces {
@@ -63,7 +63,7 @@ impl Url {
     }
 
     /// The pieces of the scp form.
-    fn scp_pieces(&self) -> Pieces<'_>
+    pub(crate) fn scp_pieces(&self) -> Pieces<'_>
         ensures { pieces_text result ≡ scp_text self.now }
     {
         Pieces {
@@ -76,7 +76,8 @@ impl Url {
     }
 
     /// The pieces of a URL.
-    fn canonical_pieces<'a>(
+    #[inline(always)]
+    pub(crate) fn canonical_pieces<'a>(
         &'a self,
         password: Option<&'a str>,
         digits: &'a mut Buffer,
@@ -238,11 +239,11 @@ fn open_host<'a>(scheme: &Scheme, host: &'a str) -> Piece<'a>
     }
 }
 
-/// Whether the host is an IPv6 text.
+/// Whether the host is an IPv6 text, which holds a colon, as few hosts do.
 fn is_address(host: &[u8]) -> bool
     ensures { result ≡ is_ipv6_text host.now }
 {
-    ipv6::is_address(host)
+    has_colon(host) && ipv6::is_address(host)
 }
 
 /// Whether the host holds `:` and doesn't begin with `[`.
@@ -256,7 +257,7 @@ fn wants_brackets(host: &[u8]) -> bool
 fn has_colon(host: &[u8]) -> bool
     ensures { result ≡ spec.has_colon host.now }
 {
-    host.iter().any(|byte| *byte == b':')
+    host.contains(&b':')
 }
 
 /// Whether the host of a URL goes between brackets: a port or an escape would mislead without.

@@ -11,6 +11,7 @@ ghost use Rattle.gix_url.specs.Bytes.{percent_sign};
 ghost use Rattle.gix_url.specs.Pieces.{host_text, path_end_text, piece_text, pieces_text, port_text, scheme_text, user_text};
 
 use crate::escape::{PASSWORD, PATH, USER};
+use crate::writer::ready::{is_ready_path, is_ready_user};
 use crate::writer::sink::{Sink, put_escaped, put_percents};
 use percent_encoding::AsciiSet;
 
@@ -87,7 +88,7 @@ impl<'a> Piece<'a> {
     pub(crate) fn user(text: &'a str) -> Piece<'a>
         ensures { piece_text result ≡ percent_encode USER text.now }
     {
-        if is_kept(text.as_bytes(), USER) {
+        if is_ready_user(text.as_bytes()) || is_kept(text.as_bytes(), USER) {
             Piece::Raw(text)
         } else {
             Piece::User(text)
@@ -98,7 +99,7 @@ impl<'a> Piece<'a> {
     pub(crate) fn password(text: &'a str) -> Piece<'a>
         ensures { piece_text result ≡ percent_encode PASSWORD text.now }
     {
-        if is_kept(text.as_bytes(), PASSWORD) {
+        if is_ready_user(text.as_bytes()) || is_kept(text.as_bytes(), PASSWORD) {
             Piece::Raw(text)
         } else {
             Piece::Password(text)
@@ -106,6 +107,7 @@ impl<'a> Piece<'a> {
     }
 
     /// The length of the text of the piece.
+    #[inline(always)]
     fn len(self) -> u128
         ensures exact { result ≡ length (piece_text self.entry) }
         ensures bound { result ≤ 3 * 2 ^ 64 }
@@ -120,6 +122,7 @@ impl<'a> Piece<'a> {
     }
 
     /// Puts the text of the piece.
+    #[inline(always)]
     fn put<T, S: Sink<T>>(self, place: &mut T) -> Result<(), S::Fault>
         ensures { OnOk result (S.takes place.old (piece_text self.entry) place.new) }
     {
@@ -134,6 +137,7 @@ impl<'a> Piece<'a> {
 
 impl<'a> SchemePieces<'a> {
     /// The length of the text.
+    #[inline(always)]
     fn len(self) -> u128
         ensures exact { result ≡ length (scheme_text self.entry) }
         ensures bound { result ≤ 2 * 2 ^ 64 }
@@ -145,6 +149,7 @@ impl<'a> SchemePieces<'a> {
     }
 
     /// Puts the text.
+    #[inline(always)]
     fn put<T, S: Sink<T>>(self, place: &mut T) -> Result<(), S::Fault>
         ensures { OnOk result (S.takes place.old (scheme_text self.entry) place.new) }
     {
@@ -160,6 +165,7 @@ impl<'a> SchemePieces<'a> {
 
 impl<'a> UserPieces<'a> {
     /// The length of the text.
+    #[inline(always)]
     fn len(self) -> u128
         ensures exact { result ≡ length (user_text self.entry) }
         ensures bound { result ≤ 7 * 2 ^ 64 }
@@ -172,6 +178,7 @@ impl<'a> UserPieces<'a> {
     }
 
     /// Puts the text.
+    #[inline(always)]
     fn put<T, S: Sink<T>>(self, place: &mut T) -> Result<(), S::Fault>
         ensures { OnOk result (S.takes place.old (user_text self.entry) place.new) }
     {
@@ -193,6 +200,7 @@ impl<'a> UserPieces<'a> {
 
 impl<'a> HostPieces<'a> {
     /// The length of the text.
+    #[inline(always)]
     fn len(self) -> u128
         ensures exact { result ≡ length (host_text self.entry) }
         ensures bound { result ≤ 4 * 2 ^ 64 }
@@ -205,6 +213,7 @@ impl<'a> HostPieces<'a> {
     }
 
     /// Puts the text.
+    #[inline(always)]
     fn put<T, S: Sink<T>>(self, place: &mut T) -> Result<(), S::Fault>
         ensures { OnOk result (S.takes place.old (host_text self.entry) place.new) }
     {
@@ -225,7 +234,7 @@ impl<'a> PathPieces<'a> {
     pub(crate) fn escaped(mark: &'a str, path: &'a [u8]) -> PathPieces<'a>
         ensures { path_end_text result ≡ mark.now ++ percent_encode PATH path.now }
     {
-        if is_kept(path, PATH) {
+        if is_ready_path(path) || is_kept(path, PATH) {
             PathPieces::Raw(mark, path)
         } else {
             PathPieces::Escaped(mark, path)
@@ -233,6 +242,7 @@ impl<'a> PathPieces<'a> {
     }
 
     /// The length of the text.
+    #[inline(always)]
     fn len(self) -> u128
         ensures exact { result ≡ length (path_end_text self.entry) }
         ensures bound { result ≤ 4 * 2 ^ 64 }
@@ -244,6 +254,7 @@ impl<'a> PathPieces<'a> {
     }
 
     /// Puts the text, which is the end of its own.
+    #[inline(always)]
     fn put<T, S: Sink<T>>(self, place: &mut T) -> Result<(), S::Fault>
         ensures { OnOk result (S.ends place.old (path_end_text self.entry) place.new) }
     {
@@ -263,6 +274,7 @@ impl<'a> PathPieces<'a> {
 
 impl<'a> Pieces<'a> {
     /// The length of the whole text.
+    #[inline(always)]
     pub(crate) fn len(&self) -> u128
         ensures { result ≡ length (pieces_text self.now) }
     {
@@ -274,6 +286,7 @@ impl<'a> Pieces<'a> {
     }
 
     /// Puts the whole text.
+    #[inline(always)]
     pub(crate) fn put<T, S: Sink<T>>(&self, place: &mut T) -> Result<(), S::Fault>
         ensures { OnOk result (S.ends place.old (pieces_text self.now) place.new) }
     {
@@ -297,6 +310,7 @@ fn port_len(digits: Option<&str>) -> u128
 }
 
 /// Puts a port behind its colon.
+#[inline(always)]
 fn put_port<T, S: Sink<T>>(place: &mut T, digits: Option<&str>) -> Result<(), S::Fault>
     ensures { OnOk result (S.takes place.old (port_text digits.entry) place.new) }
 {

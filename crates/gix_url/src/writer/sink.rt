@@ -45,6 +45,7 @@ pub(crate) trait Sink<T> {
 }
 
 /// Puts the text with the bytes of the set, and those past ASCII, as escapes.
+#[inline(never)]
 pub(crate) fn put_escaped<T, S: Sink<T>>(
     place: &mut T,
     text: &[u8],
@@ -59,6 +60,7 @@ pub(crate) fn put_escaped<T, S: Sink<T>>(
 }
 
 /// Puts the text with each `%` as its escape.
+#[inline(never)]
 pub(crate) fn put_percents<T, S: Sink<T>>(place: &mut T, text: &str) -> Result<(), S::Fault>
     ensures { OnOk result (S.takes place.old (escaped_percents text.now) place.new) }
 {

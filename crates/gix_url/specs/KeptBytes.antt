@@ -1,0 +1,14 @@
+-- Bytes that are written as they are: quick tests, which not every such byte passes.
+use Rattle.std.specs.Prelude.{ℕ, Bool, ◌&&◌, ◌||◌, nat_le}
+
+-- the byte is one of these two or between them
+abbrev pub is_between : ℕ → ℕ → ℕ → Bool
+is_between first last b = nat_le first b && nat_le b last
+
+-- a byte from `&` to `;`, from `?` to `_`, or a small letter
+abbrev pub is_ready_in_path : ℕ → Bool
+is_ready_in_path b = is_between 38 59 b || is_between 63 95 b || is_between 97 122 b
+
+-- a byte from `&` to `.`, a digit or a letter
+abbrev pub is_ready_in_user : ℕ → Bool
+is_ready_in_user b = is_between 38 46 b || is_between 48 57 b || is_between 65 90 b || is_between 97 122 b
