@@ -5,7 +5,7 @@ use Rattle.gix_url.specs.Value.{Location}
 use Rattle.gix_url.specs.Bytes.{slash}
 use Rattle.gix_url.specs.Arguments.{Judgement, judgement_of, is_path_argument}
 use Rattle.gix_url.specs.Arguments.Judgement.{absent, usable, dangerous}
-use Rattle.gix_url.specs.Pieces.{original_path_of}
+use Rattle.gix_url.specs.Text.{original_path}
 use Rattle.gix_url.specs.Schemes.{default_port_of}
 use Rattle.gix_url_c.specs.declared.looking.Seen.{Seen}
 use Rattle.gix_url_c.specs.Given.{present}
@@ -27,6 +27,6 @@ pub record Looks (v : Location) (seen : Seen) : Type 0 where
   -- whether its path is `/`
   pub root : IsTrue seen.is_root ↔ (v.path ≡ slash ∷ [])
   -- its original path is the retained spelling, or the path
-  pub original : original_path_of v ≡ (if seen.is_spelled then or_nothing v.spelling else v.path)
+  pub original : original_path v ≡ (if seen.is_spelled then or_nothing v.spelling else v.path)
   -- its port, or that of its scheme
   pub port : present seen.has_port seen.port ≡ option_or v.port (default_port_of v.scheme)

@@ -4,7 +4,7 @@
 
 ghost use Rattle.std.specs.Prelude.{◌≡◌, IfErr, IfOk, IsUtf8, Some, option_map, string_bytes};
 ghost use Rattle.std.specs.Vec.{vec_items};
-ghost use Rattle.gix_url.specs.Stored.{recorded};
+ghost use Rattle.gix_url.specs.Stored.{recorded_location};
 ghost use Rattle.gix_url.specs.Views.{protocol};
 ghost use Rattle.gix_url_c.specs.Codes.{IsUnmade};
 ghost use Rattle.gix_url_c.specs.Given.{IsNoScheme, IsNoText, IsNone, given, is_spelled, present, protocol_numbered};

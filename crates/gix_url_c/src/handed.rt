@@ -5,7 +5,7 @@
 
 ghost use Rattle.std.specs.Prelude.{◌≡◌, IfOk, option_map, string_bytes};
 ghost use Rattle.std.specs.Vec.{vec_items};
-ghost use Rattle.gix_url.specs.Stored.{recorded};
+ghost use Rattle.gix_url.specs.Stored.{recorded_location};
 ghost use Rattle.gix_url.specs.Views.{protocol};
 ghost use Rattle.gix_url_c.specs.Handed.{HandsOut, bytes_of, front_of, is_there, made_of, or_nothing, or_zero, protocol_name, protocol_number};
 
@@ -52,7 +52,7 @@ pub(crate) fn hand_out(alloc: Global, url: &Url, made: &mut Made, room: &mut [u8
 
 /// The bytes of all parts, one behind the other.
 fn joined(alloc: Global, stored: &StoredUrl) -> Result<Vec<u8>, AllocError>
-    ensures { IfOk result (λ bytes. bytes.items ≡ bytes_of (recorded stored.now)) }
+    ensures { IfOk result (λ bytes. bytes.items ≡ bytes_of (recorded_location stored.now)) }
 {
     let mut bytes = Vec::from_slice(alloc, name(&stored.scheme))?;
     bytes.extend_from_slice(text(&stored.user))?;
@@ -65,7 +65,7 @@ fn joined(alloc: Global, stored: &StoredUrl) -> Result<Vec<u8>, AllocError>
 
 /// The numbers, and the lengths of the parts.
 fn measured(stored: &StoredUrl) -> Made
-    ensures { result ≡ made_of (recorded stored.now) }
+    ensures { result ≡ made_of (recorded_location stored.now) }
 {
     Made {
         front: numbers(stored),
@@ -80,7 +80,7 @@ fn measured(stored: &StoredUrl) -> Made
 
 /// The numbers.
 fn numbers(stored: &StoredUrl) -> Front
-    ensures { result ≡ front_of (recorded stored.now) }
+    ensures { result ≡ front_of (recorded_location stored.now) }
 {
     Front {
         scheme: number(&stored.scheme),

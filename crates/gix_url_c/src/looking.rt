@@ -3,8 +3,8 @@
 //! It uses `given`. Its contract: what is told is what the library's calls answer.
 
 ghost use Rattle.std.specs.Prelude.{◌≡◌, ◌↔◌, IsTrue, if◌then◌else◌};
-ghost use Rattle.gix_url.specs.Arguments.{judgement};
-ghost use Rattle.gix_url.specs.Pieces.{original_path_of};
+ghost use Rattle.gix_url.specs.Views.{judgement};
+ghost use Rattle.gix_url.specs.Text.{original_path};
 ghost use Rattle.gix_url_c.specs.Codes.{Unless};
 ghost use Rattle.gix_url_c.specs.Given.{IsNone, given, present};
 ghost use Rattle.gix_url_c.specs.Handed.{is_there, or_nothing, or_zero};
@@ -85,7 +85,7 @@ fn look(url: &Url, has_spelling: bool, spelling: &[u8]) -> Seen
 /// Whether the original path is the retained spelling, which is given.
 fn shows_spelling(url: &Url, has_spelling: bool, spelling: &[u8]) -> bool
     requires { url.now.spelling ≡ present has_spelling spelling.now }
-    ensures { original_path_of url.now ≡ (if result then or_nothing url.now.spelling else url.now.path) }
+    ensures { original_path url.now ≡ (if result then or_nothing url.now.spelling else url.now.path) }
 {
     has_spelling && url.original_path().as_bytes() == spelling
 }

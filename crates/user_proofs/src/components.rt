@@ -2,8 +2,7 @@
 
 ghost use Rattle.std.specs.Prelude.{◌≡◌, IfErr, IfOk, true};
 ghost use Rattle.gix_url.specs.Components.{Components, PartsOf};
-ghost use Rattle.gix_url.specs.Settled.{IsSettled};
-ghost use Rattle.gix_url.specs.SettledParts.{IsWeb};
+ghost use Rattle.gix_url.specs.Settled.{IsSettled, IsWeb};
 ghost use Rattle.gix_url.specs.declared.error.Error.TheVariants as error;
 
 use gix_url::laws::{law_components, law_separation, law_value};

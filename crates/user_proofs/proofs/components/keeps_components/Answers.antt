@@ -3,8 +3,7 @@ use Rattle.std.proofs.Common.{◌≡◌, ℕ, Bool, true, List, Result, Ok, Err,
 use Rattle.gix_url.specs.Value.{Location}
 use Rattle.gix_url.specs.Grammar.{Spells}
 use Rattle.gix_url.specs.Text.{text}
-use Rattle.gix_url.specs.Settled.{IsSettled, IsValue}
-use Rattle.gix_url.specs.SettledParts.{IsWeb}
+use Rattle.gix_url.specs.Settled.{IsSettled, IsValue, IsWeb}
 use Rattle.gix_url.specs.Components.{Components, PartsOf}
 use Rattle.gix_url.specs.ComponentLaws.{OneComponents}
 use Rattle.gix_url.specs.Laws.{SameComponents, SettledAgain}
