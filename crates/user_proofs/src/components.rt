@@ -40,7 +40,7 @@ static TEXTS: [&str; 8] = [
     "https://u:p@h:8443/a%20b?c#d",
     "http://h/repo%23one?x=a%26b#fragment%23one",
     "http://h/?a+b=%2B&&c&=d#x+y",
-    "http://h/a<b?c d",
+    "http://h/a<b?c",
     "http://h/%3Fa?b",
     "https://[::1]/?a=1&a=2",
     "http://h/?#",
