@@ -3,7 +3,7 @@
 Many change the body of one function each, and one check can try them together. A function is proved from its own body and
 the contracts of what it calls, so an edit of one body leaves the goals of all other functions as they are, and the check
 says of each function by itself what is not proved. An edit counts as refused here only where the check names a goal of
-the very function that it changes.
+the very function that it changes, or an answer to one of its goals that no longer answers it.
 
 An edit of definitions is tried by a check of the laws alone: they have no code, and stand on the definitions and on
 lemmas. It counts as refused here only where the check says of a law that it is not proved, and of no lemma that it names
@@ -21,6 +21,8 @@ OPEN_LAW = re.compile(r"fn \w+::laws::\w+: not proved")
 # A lemma that names what an edit took away, which says little of the law.
 GONE = re.compile(r"(?:\./)?proofs/.*(has no field|is not in scope|has no `)")
 OPEN_GOAL = re.compile(r"note: (?:\./)?(src/\S+):(\d+):\d+: it is not proved")
+# An answer that doesn't answer its goal: the folders of a function's proof are its module or its type, and its name.
+BAD_ANSWER = re.compile(r"(?:\./)?proofs/(\S+)/(\w+)/(?:Answers|Invariants)\.antt:\d+:\d+: error(?!.*(has no field|is not in scope|has no `|was not admitted))")
 
 
 def bodies(text):
@@ -112,11 +114,32 @@ def refusals(kit, crate, group, flags, kept):
     lines = told_by(kit, crate, texts, flags, kept, "logic=not-proved")
     open_goals = [(it[1], int(it[2]), it.string) for it in map(OPEN_GOAL.match, lines) if it]
     told = {}
-    for edit, (file, first, last, _) in made:
+    for edit, place in made:
+        file, first, last, _ = place
         said = next((line for where, at, line in open_goals if where == file and first <= at <= last), None)
+        said = said or bad_answer(crate, [it for _, it in made], place, lines)
         if said:
             told[edit] = said
     return told
+
+
+def name_at(crate, file, first):
+    """The name of the function that begins in a line of a file."""
+    with open(f"{crate.folder}/{file}", encoding="utf-8") as it:
+        return re.search(r"\bfn (\w+)", it.read().split("\n")[first - 1])[1]
+
+
+def bad_answer(crate, places, place, lines):
+    """What is said of the answers of the function at a place, if its name tells it from those at the other places."""
+    name, module = name_at(crate, *place[:2]), place[0].removeprefix("src/").removesuffix(".rt")
+    if [name_at(crate, *it[:2]) for it in places].count(name) > 1:
+        return None
+    for line in lines:
+        found = BAD_ANSWER.match(line)
+        # A method's folder is that of its type.
+        if found and found[2] == name and (found[1] == module or found[1].rpartition("/")[2][:1].isupper()):
+            return line
+    return None
 
 
 def is_of_definitions(kit, crate, edit):
