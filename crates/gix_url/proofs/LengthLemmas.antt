@@ -7,10 +7,10 @@ use Rattle.std.proofs.Math.Seq.{drop-append-add}
 use Rattle.std.proofs.lemmas.List.{length-drop}
 use Rattle.std.proofs.lemmas.Bool.{cases_Bool, and_from, and_parts, leb-true, le-leb}
 use Rattle.std.proofs.lemmas.List.Filters.{length-filter_both}
-use Rattle.gix_url.specs.declared.length.Stage.{Stage}
-use Rattle.gix_url.specs.declared.length.Stage.TheVariants.{Slashes, Front, Behind}
-use Rattle.gix_url.specs.declared.length.Walk.{Walk}
-use Rattle.gix_url.specs.declared.length.TextWalk.{TextWalk}
+use Rattle.gix_url.specs.declared.parse.length.Stage.{Stage}
+use Rattle.gix_url.specs.declared.parse.length.Stage.TheVariants.{Slashes, Front, Behind}
+use Rattle.gix_url.specs.declared.parse.length.Walk.{Walk}
+use Rattle.gix_url.specs.declared.parse.length.TextWalk.{TextWalk}
 use Rattle.gix_url.specs.Bytes.{Lacks, FreeOf, colon, begins_by, is_path_start, StartsPath}
 use Rattle.gix_url.specs.Schemes.{is_web_scheme}
 use Rattle.gix_url.specs.Authority.{is_any_slash, without_white_space, IsWithinLimit, Fits, FitsText}

@@ -15,7 +15,7 @@ use Rattle.gix_url.specs.Authority.Credentials.{user_alone, with_password}
 use Rattle.gix_url.specs.Authority.Authority.{host_alone, with_user}
 use Rattle.gix_url.specs.Grammar.{UrlParts, SpellsParts}
 use Rattle.gix_url.specs.Flaws.{AuthorityFlaw, HasBadUser, OtherShape, UrlCut}
-use Rattle.gix_url.specs.declared.host.NamedHost.{NamedHost}
+use Rattle.gix_url.specs.declared.parse.host.NamedHost.{NamedHost}
 use Rattle.gix_url.specs.HostPieces.{host_of}
 use Rattle.gix_url.specs.UrlPieces.{CutsRest, HasNoText, HoldsHosted, IsNoAuthority}
 use Rattle.gix_url.proofs.CutLemmas.{not_free, cut_unique, last_cut_unique, path_cut_unique, mark_cut_unique, held_free, scheme_text_free}
