@@ -17,6 +17,10 @@ use Rattle.gix_url.specs.Authority.{is_any_slash, without_white_space, IsWithinL
 use Rattle.gix_url.specs.Walks.{one_more, stage_counted, stage_past, walk_past, walk_past_all, walk_behind, counted_at, is_walk_short, text_walk_past, text_walk_for}
 use Rattle.gix_url.proofs.CutLemmas.{cut_at_first, cut_unique, lacks_head_tail, tails}
 
+-- a walk before its first byte is one behind each scheme that is HTTP's where the walk is for HTTP
+pub behind_scheme : (scheme : List ℕ) (web : Bool) (walk : Walk) → web ≡ is_web_scheme scheme → walk ≡ record { web = web; stage = Slashes; whole = 0 } → walk ≡ walk_behind scheme
+behind_scheme scheme web walk same e = subst (λ w. walk ≡ record { web = w; stage = Slashes; whole = 0 }) same e
+
 -- ---- walks in pieces
 
 -- a walk past joined texts is one past the first and then past the second

@@ -17,6 +17,7 @@ pub(crate) mod length;
 mod made;
 mod meaning;
 mod peeled;
+mod rules;
 mod scp;
 mod simple_url;
 mod url;

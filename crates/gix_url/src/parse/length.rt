@@ -7,7 +7,8 @@
 
 ghost use Rattle.std.specs.Prelude.{◌≡◌, ◌↔◌, IsTrue};
 ghost use Rattle.gix_url.specs.Authority.{Fits, is_any_slash};
-ghost use Rattle.gix_url.specs.Walks.{one_more, stage_counted, stage_past, walk_past, walk_past_all, walk_behind, is_walk_short, text_walk_past, text_walk_for};
+ghost use Rattle.gix_url.specs.Schemes.{is_web_scheme};
+ghost use Rattle.gix_url.specs.Walks.{one_more, stage_counted, stage_past, walk_past, walk_past_all, is_walk_short, text_walk_past, text_walk_for};
 
 use crate::bytes::is_path_start;
 use crate::scheme::is_web_scheme;
@@ -28,26 +29,26 @@ enum Stage {
 
 /// A walk over what follows the `://` of a URL.
 #[derive(Clone, Copy, PartialEq, Eq)]
-pub(crate) struct Walk {
+struct Walk {
     web: bool,
     stage: Stage,
     whole: u16,
 }
 
 impl Walk {
-    /// A walk that has yet to begin, behind a scheme.
-    pub(crate) fn behind(scheme: &[u8]) -> Walk
-        ensures { result ≡ walk_behind scheme.now }
+    /// A walk that has yet to begin, behind a scheme of HTTP or another.
+    fn behind(web: bool) -> Walk
+        ensures { result ≡ record { web = web; stage = Stage.Slashes; whole = 0 } }
     {
         Walk {
-            web: is_web_scheme(scheme),
+            web,
             stage: Stage::Slashes,
             whole: 0,
         }
     }
 
     /// The walk past these bytes.
-    pub(crate) fn past(self, bytes: &[u8]) -> Walk
+    fn past(self, bytes: &[u8]) -> Walk
         ensures { result ≡ walk_past_all self bytes.now }
     {
         let mut walk = self;
@@ -74,7 +75,7 @@ impl Walk {
     }
 
     /// Whether what was walked past is short enough.
-    pub(crate) fn is_short(self) -> bool
+    fn is_short(self) -> bool
         ensures { result ≡ is_walk_short self }
     {
         match self.stage {
@@ -98,7 +99,7 @@ impl TextWalk {
     {
         TextWalk {
             left: scheme.len() + 3,
-            walk: Walk::behind(scheme),
+            walk: Walk::behind(is_web_scheme(scheme)),
         }
     }
 
@@ -163,8 +164,9 @@ fn is_any_slash(byte: u8) -> bool
     byte == b'/' || byte == b'\\'
 }
 
-/// Whether a scheme and what follows its `://` are short enough.
-pub(crate) fn fits(scheme: &[u8], rest: &[u8]) -> bool
+/// Whether a scheme, of HTTP or another, and what follows its `://` are short enough.
+pub(super) fn fits(web: bool, scheme: &[u8], rest: &[u8]) -> bool
+    requires { web ≡ is_web_scheme scheme.now }
     ensures { IsTrue result ↔ Fits scheme.now rest.now }
 {
     let limit = usize::from(LIMIT);
@@ -172,5 +174,5 @@ pub(crate) fn fits(scheme: &[u8], rest: &[u8]) -> bool
         return false;
     }
     // What counts is never longer than the whole, so a short rest needs no walk.
-    rest.len() <= limit || Walk::behind(scheme).past(rest).is_short()
+    rest.len() <= limit || Walk::behind(web).past(rest).is_short()
 }

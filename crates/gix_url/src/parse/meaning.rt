@@ -1,39 +1,44 @@
 //! The location that the parts of a URL stand for.
 //!
-//! It may use `simple_url`, `host`, `peeled`, `made`, `scheme` and `escape`. Its contract: the location is the one that
+//! It may use `rules`, `simple_url`, `host`, `peeled`, `made`, `scheme`, `text` and `escape`. Its contract: the location is the one that
 //! the definitions give the parts. Each part is decoded once, into memory of its own, and is edited in place.
 
-ghost use Rattle.std.specs.Prelude.{◌≡◌, ◌<◌, ◌⊎◌, ◌↔◌, IsTrue, IfOk, IfSome, IsUtf8, true, length, option_map, string_bytes};
+ghost use Rattle.std.specs.Prelude.{◌≡◌, ◌<◌, ◌↔◌, List, ℕ, IsTrue, IfOk, IfSome, IsUtf8, true, length, option_map, string_bytes};
 ghost use Rattle.bstr.specs.Owned.{bstring_bytes};
 ghost use Rattle.percent_encoding.specs.Percent.{percent_decode};
 ghost use Rattle.gix_url.specs.Grammar as grammar;
-ghost use Rattle.gix_url.specs.Grammar.{HostFor, MeansByProtocol, path_for};
+ghost use Rattle.gix_url.specs.Grammar.{HostFor, MeansByProtocol, path_for, requires_path};
 ghost use Rattle.gix_url.specs.HostPieces.{host_of, port_of};
+ghost use Rattle.gix_url.specs.SchemeRules.{AreRulesOf, named_protocol};
+ghost use Rattle.gix_url.specs.Schemes.{protocol_of};
 ghost use Rattle.gix_url.specs.Settled.{begins_at_home};
 ghost use Rattle.gix_url.specs.UrlPieces.{AreTexts, decoded_option, parts_of};
-ghost use Rattle.gix_url.specs.Value.Protocol.{ext, http, https, ssh};
-ghost use Rattle.gix_url.specs.Views.{protocol};
 
 use super::host::NamedHost;
 use super::made::full_location;
 use super::peeled::peeled;
+use super::rules::Rules;
 use super::simple_url::ParsedUrl;
 use crate::escape::{decoded, decoded_text, has_percent};
 use crate::location::Url;
-use crate::scheme::Scheme;
+use crate::scheme::{Protocol, Scheme};
+use crate::text::as_text;
 use bstr::BString;
 use std::alloc::{AllocError, Global};
 
-/// The location of a URL with this scheme and these parts.
-pub(super) fn build(alloc: Global, scheme: Scheme, url: ParsedUrl<'_>) -> Result<Url, AllocError>
+/// The location of a URL with these parts, of whose scheme these are the rules.
+pub(super) fn build(alloc: Global, rules: Rules, url: ParsedUrl<'_>) -> Result<Url, AllocError>
+    requires rules { AreRulesOf url.scheme.now rules }
+    requires scheme_text { IsUtf8 url.scheme.now }
     requires texts { AreTexts (parts_of url) }
-    requires pathed { grammar.requires_path (protocol scheme) ≡ true → 0 < length url.path.now }
-    ensures { IfOk result (λ v. MeansByProtocol (protocol scheme) (parts_of url.entry) v) }
+    requires pathed { requires_path (protocol_of url.scheme.now) ≡ true → 0 < length url.path.now }
+    ensures { IfOk result (λ v. MeansByProtocol (protocol_of url.entry.scheme.now) (parts_of url.entry) v) }
 {
+    let scheme = Scheme::of_protocol(alloc, rules.protocol, as_text(url.scheme))?;
     let user = decoded_part(alloc, url.user)?;
     let password = decoded_part(alloc, url.password)?;
-    let host = host_for(&scheme, built(alloc, url.host)?);
-    let path = path_for(alloc, &scheme, url.path)?;
+    let host = host_for(rules.protocol, built(alloc, url.host)?);
+    let path = path_for(alloc, rules, url)?;
     let spelling = retained(alloc, url.path)?;
     let port = port_of(url.host);
     Ok(full_location(scheme, user, password, host, false, port, path, spelling))
@@ -72,13 +77,13 @@ fn port_of(host: Option<NamedHost<'_>>) -> Option<u16>
 }
 
 /// The host of a location: Secure Shell takes it without marks, any other scheme as it is.
-fn host_for(scheme: &Scheme, host: Option<String>) -> Option<String>
-    ensures { HostFor (protocol scheme.now) (option_map string_bytes host) (option_map string_bytes result) }
+fn host_for(protocol: Protocol, host: Option<String>) -> Option<String>
+    ensures { (scheme : List ℕ) → HostFor (named_protocol protocol scheme) (option_map string_bytes host) (option_map string_bytes result) }
 {
     match host {
         None => None,
         Some(host) => {
-            if is_ssh(scheme) {
+            if is_ssh(protocol) {
                 Some(peeled(host))
             } else {
                 Some(host)
@@ -88,16 +93,17 @@ fn host_for(scheme: &Scheme, host: Option<String>) -> Option<String>
 }
 
 /// The path of a location, decoded.
-fn path_for(alloc: Global, scheme: &Scheme, path: &[u8]) -> Result<BString, AllocError>
-    ensures { IfOk result (λ bytes. bstring_bytes bytes ≡ path_for (protocol scheme.now) (percent_decode path.now)) }
+fn path_for(alloc: Global, rules: Rules, url: ParsedUrl<'_>) -> Result<BString, AllocError>
+    requires { AreRulesOf url.scheme.now rules }
+    ensures { IfOk result (λ bytes. bstring_bytes bytes ≡ path_for (protocol_of url.entry.scheme.now) (percent_decode url.entry.path.now)) }
 {
-    if requires_path(scheme) {
-        return Ok(BString::new(from_home(decoded(alloc, path)?)));
+    if rules.needs_path {
+        return Ok(BString::new(from_home(decoded(alloc, url.path)?)));
     }
-    if is_web(scheme) {
-        return Ok(BString::new(decoded(alloc, or_root(path))?));
+    if rules.web {
+        return Ok(BString::new(decoded(alloc, or_root(url.path))?));
     }
-    Ok(BString::new(decoded(alloc, path)?))
+    Ok(BString::new(decoded(alloc, url.path)?))
 }
 
 /// The path without the `/` before a `~` at its front, in place.
@@ -138,30 +144,9 @@ fn retained(alloc: Global, path: &[u8]) -> Result<Option<BString>, AllocError>
     }
 }
 
-/// Whether the scheme is Secure Shell's.
-fn is_ssh(scheme: &Scheme) -> bool
-    ensures { IsTrue result ↔ (protocol scheme.now ≡ ssh) }
+/// Whether the protocol is Secure Shell's.
+fn is_ssh(protocol: Protocol) -> bool
+    ensures { IsTrue result ↔ (protocol ≡ Protocol.Ssh) }
 {
-    matches!(scheme, Scheme::Ssh)
-}
-
-/// Whether the scheme is HTTP's, with or without encryption.
-fn is_web(scheme: &Scheme) -> bool
-    ensures { IsTrue result ↔ ((protocol scheme.now ≡ http) ⊎ (protocol scheme.now ≡ https)) }
-{
-    matches!(scheme, Scheme::Http | Scheme::Https)
-}
-
-/// Whether a URL with this scheme needs a path.
-pub(super) fn requires_path(scheme: &Scheme) -> bool
-    ensures { result ≡ grammar.requires_path (protocol scheme.now) }
-{
-    matches!(scheme, Scheme::Ssh | Scheme::Git)
-}
-
-/// Whether the scheme is that of the helper `ext`.
-pub(super) fn is_ext(scheme: &Scheme) -> bool
-    ensures { IsTrue result ↔ (protocol scheme.now ≡ ext) }
-{
-    matches!(scheme, Scheme::Ext)
+    matches!(protocol, Protocol::Ssh)
 }

@@ -1,6 +1,6 @@
 //! The reader of URLs: scheme, user information, host, port and path, as slices of the text.
 //!
-//! It may use `bytes`, `escape` and `host`. Its contract: the parts are read exactly where the definitions
+//! It may use `bytes`, `escape`, `host` and `rules`. Its contract: the parts are read exactly where the definitions
 //! spell a URL with them, and each refusal has its flaw. It takes no memory and copies nothing.
 
 ghost use Rattle.std.specs.Prelude.{◌≡◌, ◌↔◌, Bool, IfErr, IfOk, IsTrue, IsUtf8, MatchOption, true};
@@ -12,15 +12,15 @@ ghost use Rattle.gix_url.specs.Escapes.{is_plain};
 ghost use Rattle.gix_url.specs.Flaws.{AuthorityFlaw, OtherShape, UrlFlaw};
 ghost use Rattle.gix_url.specs.Grammar.{SpellsParts, UrlParts};
 ghost use Rattle.gix_url.specs.HostPieces.{strictness};
-ghost use Rattle.gix_url.specs.Schemes as schemes;
+ghost use Rattle.gix_url.specs.SchemeRules.{AreRulesOf};
 ghost use Rattle.gix_url.specs.Bytes.{FreeOf, LacksWhiteSpace, at_sign, colon};
 ghost use Rattle.gix_url.specs.UrlPieces.{CutsRest, HasNoText, HoldsCredentials, HoldsParts, IsNoAuthority, decoded_option, parts_of};
 
 use super::host::{Mode, NamedHost, read_host};
+use super::rules::Rules;
 use crate::bytes::{cut, cut_before_path, is_free_of, is_scheme_text, last_cut};
 use crate::error::UrlFault;
 use crate::escape::{decodes_to_utf8, is_sound, lacks_white_space};
-use crate::scheme::{is_named, is_ssh_scheme, is_web_scheme};
 
 /// The parts of a URL, as slices of its text: nothing is decoded, nothing is copied.
 #[derive(Clone, Copy)]
@@ -55,18 +55,21 @@ struct CredentialParts<'a> {
     password: Option<&'a [u8]>,
 }
 
-/// Reads the URL with this scheme and this rest behind `://`. It is no file URL, and no remote helper. What is known
-/// to be plain isn't looked at again.
+/// Reads the URL with this scheme, of which these are the rules, and this rest behind `://`. It is no file URL, and no
+/// remote helper. What is known to be plain isn't looked at again.
 pub(crate) fn read_simple_url<'a>(
     text: &'a str,
     plain: bool,
+    rules: Rules,
     scheme: &'a [u8],
     rest: &'a [u8],
 ) -> Result<ParsedUrl<'a>, UrlFault>
     requires plain { plain ≡ true → is_plain text.now ≡ true }
     requires shape { OtherShape text.now scheme.now rest.now }
+    requires rules { AreRulesOf scheme.now rules }
     requires fits { Fits scheme.now rest.now }
     ensures read { IfOk result (λ url. SpellsParts text.now (parts_of url)) }
+    ensures same_scheme { IfOk result (λ url. url.scheme.now ≡ scheme.now) }
     ensures refused { IfErr result (λ fault. (parts : UrlParts) → ¬ SpellsParts text.now parts) }
     ensures flaw { IfErr result (λ fault. UrlFlaw text.now fault) }
 {
@@ -79,14 +82,14 @@ pub(crate) fn read_simple_url<'a>(
     if !is_scheme_text(scheme) {
         return Err(UrlFault::NoScheme);
     }
-    let (authority, path) = cut_rest(scheme, rest);
+    let (authority, path) = cut_before_path(rest, rules.web);
     if !is_free_of(authority, b'\\') {
         return Err(UrlFault::BadCharacter);
     }
     if !means_text(plain, path) {
         return Err(UrlFault::BadCharacter);
     }
-    let parts = read_authority(mode_of(scheme), requires_host(scheme), authority)?;
+    let parts = read_authority(rules.mode, rules.needs_host, authority)?;
     Ok(ParsedUrl {
         scheme,
         user: parts.credentials.user,
@@ -118,13 +121,6 @@ fn means_text(plain: bool, piece: &[u8]) -> bool
     ensures { IsTrue result ↔ IsUtf8 (percent_decode piece.now) }
 {
     plain || decodes_to_utf8(piece)
-}
-
-/// The authority and the path of a URL with this scheme.
-fn cut_rest<'a>(scheme: &[u8], rest: &'a [u8]) -> (&'a [u8], &'a [u8])
-    ensures { CutsRest scheme.now rest.now result.0.now result.1.now }
-{
-    cut_before_path(rest, is_web_scheme(scheme))
 }
 
 /// Reads an authority, in which a host may be needed.
@@ -225,28 +221,4 @@ fn user_beside<'a>(password: Option<&'a [u8]>, user: &'a [u8]) -> Option<&'a [u8
         Some(_) => Some(user),
         None => unless_empty(user),
     }
-}
-
-/// How the host of a URL with this scheme is read.
-fn mode_of(scheme: &[u8]) -> Mode
-    ensures { strictness result ≡ schemes.mode_of scheme.now }
-{
-    if is_web_scheme(scheme) {
-        return Mode::Strict;
-    }
-    if is_ssh_scheme(scheme) || is_named(scheme, "git") {
-        return Mode::Bare;
-    }
-    Mode::Loose
-}
-
-/// Whether a URL with this scheme needs a host.
-fn requires_host(scheme: &[u8]) -> bool
-    ensures { result ≡ schemes.requires_host scheme.now }
-{
-    is_web_scheme(scheme)
-        || is_named(scheme, "git")
-        || is_named(scheme, "ssh")
-        || is_named(scheme, "ftp")
-        || is_named(scheme, "ftps")
 }
