@@ -1,7 +1,7 @@
 //! Remote helpers, local paths and file URLs, from the pieces that the classifier cut.
 //!
-//! It may use `bytes`, `text`, `copies` and `made`. Its contract: each form is read exactly where the definitions spell it, and each
-//! refusal has its flaw.
+//! It may use `bytes`, `text`, `copies` and `made`. Its contract: each form is read exactly where the definitions
+//! spell it, and each refusal has its flaw.
 
 ghost use Rattle.std.specs.Prelude.{◌≡◌, true, IfErr, IfOk, codes, option_map, string_bytes};
 ghost use Rattle.bstr.specs.Owned.{bstring_bytes};

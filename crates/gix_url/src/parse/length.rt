@@ -1,9 +1,9 @@
 //! The length test of URLs.
 //!
-//! It uses the tests of `bytes` and `scheme`, and asks for no memory. A [`Walk`] takes what follows the `://` of a URL in
-//! any number of pieces, so that a text can be measured that stands nowhere as a whole. Its contract: a walk past
-//! pieces is a walk past the pieces joined, and it is short exactly where the definition of the length test says. A
-//! text that isn't longer than the limit is short without a walk.
+//! It uses the tests of `bytes` and `scheme`, and asks for no memory. A [`Walk`] takes what follows the `://` of a
+//! URL in any number of pieces, so that a text can be measured that stands nowhere as a whole. Its contract: a walk
+//! past pieces is a walk past the pieces joined, and it is short exactly where the definition of the length test
+//! says. A text that isn't longer than the limit is short without a walk.
 
 ghost use Rattle.std.specs.Prelude.{◌≡◌, ◌↔◌, IsTrue};
 ghost use Rattle.gix_url.specs.Authority.{Fits, is_any_slash};

@@ -1,7 +1,8 @@
 //! The location that the parts of a URL stand for.
 //!
-//! It may use `rules`, `simple_url`, `host`, `peeled`, `made`, `scheme`, `text` and `escape`. Its contract: the location is the one that
-//! the definitions give the parts. Each part is decoded once, into memory of its own, and is edited in place.
+//! It may use `rules`, `simple_url`, `host`, `peeled`, `copies`, `made`, `scheme`, `text` and `escape`. Its contract:
+//! the location is the one that the definitions give the parts. Each part is decoded once, into memory of its own,
+//! and is edited in place.
 
 ghost use Rattle.std.specs.Prelude.{◌≡◌, ◌<◌, ◌↔◌, List, ℕ, IsTrue, IfOk, IfSome, IsUtf8, true, length, option_map, string_bytes};
 ghost use Rattle.bstr.specs.Owned.{bstring_bytes};
@@ -14,6 +15,7 @@ ghost use Rattle.gix_url.specs.Schemes.{protocol_of};
 ghost use Rattle.gix_url.specs.Settled.{begins_at_home};
 ghost use Rattle.gix_url.specs.UrlPieces.{AreTexts, decoded_option, parts_of};
 
+use super::copies::copied;
 use super::host::NamedHost;
 use super::made::full_location;
 use super::peeled::peeled;
@@ -138,7 +140,7 @@ fn retained(alloc: Global, path: &[u8]) -> Result<Option<BString>, AllocError>
     ensures { IfOk result (λ spelling. option_map bstring_bytes spelling ≡ grammar.retained_spelling path.now) }
 {
     if has_percent(path) {
-        Ok(Some(BString::from_slice(alloc, path)?))
+        Ok(Some(copied(alloc, path)?))
     } else {
         Ok(None)
     }

@@ -1,7 +1,7 @@
 //! What the scheme of a URL says of the rest of it. It is decided once, and handed on.
 //!
-//! It may use `scheme` and the modes of `host`, and asks for no memory. Its contract: each rule is the definition's, for
-//! the text of the scheme.
+//! It may use `scheme` and the modes of `host`, and asks for no memory. Its contract: each rule is the definition's,
+//! for the text of the scheme.
 
 ghost use Rattle.std.specs.Prelude.{◌≡◌, false, true};
 ghost use Rattle.gix_url.specs.Grammar.{requires_path};

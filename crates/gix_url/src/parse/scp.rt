@@ -1,8 +1,8 @@
 //! The scp form, from the pieces that the classifier cut.
 //!
-//! It may use `bytes`, `text`, `escape`, `host`, `copies` and `made`. Its contract: a location is read exactly where the
-//! definitions spell one, and each refusal has its flaw. An escape in the host is no escape: the host is read with
-//! each `%` escaped, so that it decodes to what stands there.
+//! It may use `bytes`, `text`, `escape`, `host`, `copies` and `made`. Its contract: a location is read exactly where
+//! the definitions spell one, and each refusal has its flaw. An escape in the host is no escape: the host is read
+//! with each `%` escaped, so that it decodes to what stands there.
 
 ghost use Rattle.std.specs.Prelude.{◌≡◌, ◌↔◌, IfErr, IfOk, IfSome, IsTrue, IsUtf8, option_map, string_bytes};
 ghost use Rattle.gix_url.specs.Bytes.{FreeOf, LacksWhiteSpace, at_sign};

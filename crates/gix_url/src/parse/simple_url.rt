@@ -55,8 +55,8 @@ struct CredentialParts<'a> {
     password: Option<&'a [u8]>,
 }
 
-/// Reads the URL with this scheme, of which these are the rules, and this rest behind `://`. It is no file URL, and no
-/// remote helper. What is known to be plain isn't looked at again.
+/// Reads the URL with this scheme, of which these are the rules, and this rest behind `://`. It is no file URL, and
+/// no remote helper. What is known to be plain isn't looked at again.
 pub(crate) fn read_simple_url<'a>(
     text: &'a str,
     plain: bool,

@@ -1,7 +1,8 @@
 //! URLs, from the pieces that the classifier cut: file URLs, and those whose scheme gives them a meaning.
 //!
-//! It may use `rules`, `length`, `text`, `simple_url`, `meaning`, `copies`, `forms` and `made`. Its contract: a location is read
-//! exactly where the definitions spell one, and each refusal has its flaw.
+//! It may use `rules`, `length`, `text`, `simple_url`, `meaning`, `copies`, `forms` and `made`. Its contract: a
+//! location is read exactly where the definitions spell one, and each refusal has its flaw. The scheme is looked at
+//! once, here, and what it says of the rest is handed on.
 
 ghost use Rattle.std.specs.Prelude.{◌≡◌, ◌↔◌, IfErr, IfOk, IsTrue, true};
 ghost use Rattle.gix_url.specs.Authority.{Fits};
