@@ -18,7 +18,7 @@ use Rattle.percent_encoding.specs.Percent.{percent_decode}
 use Rattle.gix_url.specs.declared.error.UrlFault.{UrlFault}
 use Rattle.gix_url.specs.declared.error.UrlFault.TheVariants as fault
 use Rattle.std.specs.Option.{MatchOption}
-use Rattle.gix_url.specs.declared.host.NamedHost.{NamedHost}
+use Rattle.gix_url.specs.declared.parse.host.NamedHost.{NamedHost}
 use Rattle.gix_url.specs.Bytes.{colon, left_bracket, right_bracket, percent_sign, FreeOf, begins_with, lowercase}
 use Rattle.gix_url.specs.Addresses.{IsIpv6Text, is_zone_byte, Literal}
 use Rattle.gix_url.specs.Addresses.Literal.{address, zoned}

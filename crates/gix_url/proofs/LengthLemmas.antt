@@ -7,15 +7,19 @@ use Rattle.std.proofs.Math.Seq.{drop-append-add}
 use Rattle.std.proofs.lemmas.List.{length-drop}
 use Rattle.std.proofs.lemmas.Bool.{cases_Bool, and_from, and_parts, leb-true, le-leb}
 use Rattle.std.proofs.lemmas.List.Filters.{length-filter_both}
-use Rattle.gix_url.specs.declared.length.Stage.{Stage}
-use Rattle.gix_url.specs.declared.length.Stage.TheVariants.{Slashes, Front, Behind}
-use Rattle.gix_url.specs.declared.length.Walk.{Walk}
-use Rattle.gix_url.specs.declared.length.TextWalk.{TextWalk}
+use Rattle.gix_url.specs.declared.parse.length.Stage.{Stage}
+use Rattle.gix_url.specs.declared.parse.length.Stage.TheVariants.{Slashes, Front, Behind}
+use Rattle.gix_url.specs.declared.parse.length.Walk.{Walk}
+use Rattle.gix_url.specs.declared.parse.length.TextWalk.{TextWalk}
 use Rattle.gix_url.specs.Bytes.{Lacks, FreeOf, colon, begins_by, is_path_start, StartsPath}
 use Rattle.gix_url.specs.Schemes.{is_web_scheme}
 use Rattle.gix_url.specs.Authority.{is_any_slash, without_white_space, IsWithinLimit, Fits, FitsText}
 use Rattle.gix_url.specs.Walks.{one_more, stage_counted, stage_past, walk_past, walk_past_all, walk_behind, counted_at, is_walk_short, text_walk_past, text_walk_for}
 use Rattle.gix_url.proofs.CutLemmas.{cut_at_first, cut_unique, lacks_head_tail, tails}
+
+-- a walk before its first byte is one behind each scheme that is HTTP's where the walk is for HTTP
+pub behind_scheme : (scheme : List ℕ) (web : Bool) (walk : Walk) → web ≡ is_web_scheme scheme → walk ≡ record { web = web; stage = Slashes; whole = 0 } → walk ≡ walk_behind scheme
+behind_scheme scheme web walk same e = subst (λ w. walk ≡ record { web = w; stage = Slashes; whole = 0 }) same e
 
 -- ---- walks in pieces
 

@@ -61,6 +61,7 @@ pub mod LentLemmas
 pub mod HandedLemmas
 pub mod SameLemmas
 pub mod SchemeLemmas
+pub mod SchemeRuleLemmas
 pub mod CanonicalLemmas
 pub mod PathLemmas
 pub mod PathUniqueLemmas

@@ -15,7 +15,7 @@ use Rattle.gix_url.specs.Authority.Credentials.{user_alone, with_password}
 use Rattle.gix_url.specs.Authority.Authority.{host_alone, with_user}
 use Rattle.gix_url.specs.Grammar.{UrlParts, SpellsParts}
 use Rattle.gix_url.specs.Flaws.{AuthorityFlaw, HasBadUser, OtherShape, UrlCut}
-use Rattle.gix_url.specs.declared.host.NamedHost.{NamedHost}
+use Rattle.gix_url.specs.declared.parse.host.NamedHost.{NamedHost}
 use Rattle.gix_url.specs.HostPieces.{host_of}
 use Rattle.gix_url.specs.UrlPieces.{CutsRest, HasNoText, HoldsHosted, IsNoAuthority}
 use Rattle.gix_url.proofs.CutLemmas.{not_free, cut_unique, last_cut_unique, path_cut_unique, mark_cut_unique, held_free, scheme_text_free}
@@ -163,6 +163,14 @@ parts_cut b scheme authority path parts cut h =
     let starts = subst (λ s. StartsPath (is_web_scheme s) parts.path) pieces.0 h.path_starts in
     let rest = path_cut_unique (is_web_scheme scheme) h.authority authority parts.path path before cut.before_path starts cut.path_starts pieces.1 in
     (pieces.0, rest.0, rest.1)
+
+-- what follows the `://` of a URL is cut before its path by the bytes that start one for its scheme
+pub rest_cut : {scheme rest authority path : List ℕ} {web : Bool} → web ≡ is_web_scheme scheme → rest ≡ authority ++ path → Lacks (is_path_start web) authority → StartsPath web path → CutsRest scheme rest authority path
+rest_cut {scheme} {rest} {authority} {path} {web} same joined before starts = record {
+  joined = joined;
+  before_path = subst (λ w. Lacks (is_path_start w) authority) same before;
+  path_starts = subst (λ w. StartsPath w path) same starts;
+}
 
 -- a scheme, and what follows its `://` cut into an authority and a path, cut the URL
 pub url_cut : {b scheme rest authority path : List ℕ} → OtherShape b scheme rest → true ≡ is_scheme_text scheme → CutsRest scheme rest authority path → UrlCut b scheme authority path

@@ -116,10 +116,6 @@ scheme_utf8 {b} {parts} h =
 
 -- ---- meanings
 
--- a protocol that needs a path is that of the scheme
-pub needs_path : {p q : Protocol} → true ≡ requires_path p → p ≡ q → requires_path q ≡ true
-needs_path h e = ap requires_path (sym e) ∙ sym h
-
 -- two readings of a text have one scheme, one authority and one path
 pub pieces_unique : {b : List ℕ} {p q : UrlParts} → (h : SpellsParts b p) → (k : SpellsParts b q) → (p.scheme ≡ q.scheme) × (h.authority ≡ k.authority) × (p.path ≡ q.path)
 pieces_unique {b} {p} {q} h k =

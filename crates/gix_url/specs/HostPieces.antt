@@ -3,11 +3,11 @@ use Rattle.std.specs.Prelude.{◌≡◌, ℕ, Bool, true, false, ◌==◌, ◌�
 use Rattle.std.specs.Char.{to_ascii_lowercase}
 use Rattle.percent_encoding.specs.Percent.{percent_decode}
 use Rattle.gix_url.specs.declared.error.UrlFault.{UrlFault}
-use Rattle.gix_url.specs.declared.host.Mode as rust
-use Rattle.gix_url.specs.declared.host.Mode.TheVariants as read
-use Rattle.gix_url.specs.declared.host.HostPiece.{HostPiece}
-use Rattle.gix_url.specs.declared.host.HostPiece.TheVariants.{Address, Kept, Decoded, Literal, DecodedLiteral, Bracketed}
-use Rattle.gix_url.specs.declared.host.NamedHost.{NamedHost}
+use Rattle.gix_url.specs.declared.parse.host.Mode as rust
+use Rattle.gix_url.specs.declared.parse.host.Mode.TheVariants as read
+use Rattle.gix_url.specs.declared.parse.host.HostPiece.{HostPiece}
+use Rattle.gix_url.specs.declared.parse.host.HostPiece.TheVariants.{Address, Kept, Decoded, Literal, DecodedLiteral, Bracketed}
+use Rattle.gix_url.specs.declared.parse.host.NamedHost.{NamedHost}
 use Rattle.gix_url.specs.Bytes.{colon, percent_sign, left_bracket, right_bracket, begins_with, lowercase}
 use Rattle.gix_url.specs.Addresses.{IsZone}
 use Rattle.gix_url.specs.Hosts.{Mode, Inner, normal_host, Names, Number}

@@ -53,6 +53,7 @@ pub mod Cuts
 pub mod Walks
 pub mod HostPieces
 pub mod UrlPieces
+pub mod SchemeRules
 pub mod ScpPieces
 pub mod Shapes
 pub mod KeptBytes

@@ -5,7 +5,7 @@ use Rattle.std.proofs.Common.{sym, ap, subst, ◌∙◌, append_assoc, append-ni
 use Rattle.std.proofs.lemmas.Grind.{put_two}
 use Rattle.std.specs.declared.fmt.Formatter.{Formatter}
 use Rattle.std.specs.Fmt.{HasWrittenStyled, IsFlush, IsPlainFormatter, WritesInCalls}
-use Rattle.gix_url.specs.declared.length.TextWalk.{TextWalk}
+use Rattle.gix_url.specs.declared.parse.length.TextWalk.{TextWalk}
 use Rattle.gix_url.specs.Bytes.{lossy_text}
 use Rattle.gix_url.specs.Walks.{text_walk_past}
 

@@ -2,9 +2,9 @@
 use Rattle.std.specs.Prelude.{◌≡◌, ℕ, Bool, true, ◌⊎◌, List, [], ◌∷◌, ◌++◌, Option, option_map, IfSome, IsSome, IsUtf8}
 use Rattle.std.specs.Borrow.{Bor}
 use Rattle.percent_encoding.specs.Percent.{percent_decode}
-use Rattle.gix_url.specs.declared.simple_url.ParsedUrl.{ParsedUrl}
-use Rattle.gix_url.specs.declared.simple_url.AuthorityParts.{AuthorityParts}
-use Rattle.gix_url.specs.declared.simple_url.CredentialParts.{CredentialParts}
+use Rattle.gix_url.specs.declared.parse.simple_url.ParsedUrl.{ParsedUrl}
+use Rattle.gix_url.specs.declared.parse.simple_url.AuthorityParts.{AuthorityParts}
+use Rattle.gix_url.specs.declared.parse.simple_url.CredentialParts.{CredentialParts}
 use Rattle.gix_url.specs.Bytes.{colon, left_bracket, right_bracket, Lacks, FreeOf, is_path_start, StartsPath}
 use Rattle.gix_url.specs.Hosts.{Mode}
 use Rattle.gix_url.specs.Schemes.{is_web_scheme}

@@ -1,10 +1,10 @@
 -- A walk over what follows the `://` of a URL, which measures it for the length test. Counts stop one past the limit.
 use Rattle.std.specs.Prelude.{ℕ, ◌+◌, ◌-◌, length, drop, min, nat_le, Bool, List, [], ◌∷◌, if◌then◌else◌}
 use Rattle.std.specs.Char.{is_ascii_whitespace}
-use Rattle.gix_url.specs.declared.length.Stage.{Stage}
-use Rattle.gix_url.specs.declared.length.Stage.TheVariants.{Slashes, Front, Behind}
-use Rattle.gix_url.specs.declared.length.Walk.{Walk}
-use Rattle.gix_url.specs.declared.length.TextWalk.{TextWalk}
+use Rattle.gix_url.specs.declared.parse.length.Stage.{Stage}
+use Rattle.gix_url.specs.declared.parse.length.Stage.TheVariants.{Slashes, Front, Behind}
+use Rattle.gix_url.specs.declared.parse.length.Walk.{Walk}
+use Rattle.gix_url.specs.declared.parse.length.TextWalk.{TextWalk}
 use Rattle.gix_url.specs.Authority.{is_any_slash}
 use Rattle.gix_url.specs.Bytes.{is_path_start}
 use Rattle.gix_url.specs.Schemes.{is_web_scheme}

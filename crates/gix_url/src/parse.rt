@@ -12,7 +12,14 @@ ghost use Rattle.gix_url.specs.Readings.{Reads, Refuses};
 pub(crate) mod classify;
 mod copies;
 mod forms;
+pub(crate) mod host;
+pub(crate) mod length;
+mod made;
+mod meaning;
+mod peeled;
+mod rules;
 mod scp;
+mod simple_url;
 mod url;
 
 use crate::error::Error;

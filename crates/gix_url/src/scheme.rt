@@ -1,16 +1,17 @@
 //! Schemes: the protocols that have a name of their own, and the others by name.
 //!
-//! It uses `text` alone. Its contract: names and default ports are those of the definitions, and a
+//! It uses nothing of this crate but its errors. Its contract: names and default ports are those of the definitions, and a
 //! scheme's text stands for its protocol to the letter.
 
-ghost use Rattle.std.specs.Prelude.{◌≡◌, IfErr, IfOk, IsOk, IsUtf8, MatchOption, bytes_eq, false, true};
+ghost use Rattle.std.specs.Prelude.{◌≡◌, IfErr, IfOk, IsOk, bytes_eq, true};
+ghost use Rattle.gix_url.specs.SchemeRules.{named_protocol};
 ghost use Rattle.gix_url.specs.Schemes.{protocol_of, protocol_text, default_port_of, is_known_scheme, is_ssh_scheme, is_web_scheme};
+ghost use Rattle.gix_url.specs.Settled.{is_ftp};
 ghost use Rattle.gix_url.specs.Views.{protocol};
 
 use crate::error::Error;
-use crate::text::as_text;
 use serde::{Deserialize, Serialize};
-use std::alloc::Global;
+use std::alloc::{AllocError, Global};
 use std::fmt;
 
 /// What a location is reached by.
@@ -59,19 +60,27 @@ impl Scheme {
         ensures memory { IfErr result (λ e. e ≡ Error.Memory) }
         ensures known { is_known_scheme text.now ≡ true → IsOk result }
     {
-        match known(text.as_bytes()) {
-            Some(scheme) => Ok(scheme),
-            None => other(alloc, text),
-        }
+        Ok(Scheme::of_protocol(alloc, protocol_of(text.as_bytes()), text)?)
     }
 
-    /// The same of bytes that are text.
-    pub(crate) fn from_bytes(alloc: Global, text: &[u8]) -> Result<Scheme, Error>
-        requires { IsUtf8 text.now }
-        ensures found { IfOk result (λ scheme. protocol scheme ≡ protocol_of text.now) }
-        ensures memory { IfErr result (λ e. e ≡ Error.Memory) }
+    /// The scheme with this text, which names this protocol. It asks for memory only for one without a name of its own.
+    pub(crate) fn of_protocol(
+        alloc: Global,
+        named: Protocol,
+        text: &str,
+    ) -> Result<Scheme, AllocError>
+        ensures found { IfOk result (λ scheme. protocol scheme ≡ named_protocol named text.now) }
+        ensures known { IfErr result (λ e. named ≡ Protocol.Other) }
     {
-        Scheme::from_text(alloc, as_text(text))
+        match named {
+            Protocol::File => Ok(Scheme::File),
+            Protocol::Git => Ok(Scheme::Git),
+            Protocol::Ssh => Ok(Scheme::Ssh),
+            Protocol::Http => Ok(Scheme::Http),
+            Protocol::Https => Ok(Scheme::Https),
+            Protocol::Ext => Ok(Scheme::Ext),
+            Protocol::Other => Ok(Scheme::HelperUrl(String::from_str(alloc, text)?)),
+        }
     }
 
     /// The text that the scheme is written with. It takes no memory. `ssh+git` and `git+ssh` are read as `ssh`.
@@ -116,38 +125,48 @@ impl Scheme {
     }
 }
 
-/// The scheme that has this text for a name of its own.
-fn known(text: &[u8]) -> Option<Scheme>
-    ensures { MatchOption result (is_known_scheme text.now ≡ false) (λ scheme. protocol scheme ≡ protocol_of text.now) }
-{
-    if is_ssh_scheme(text) {
-        return Some(Scheme::Ssh);
-    }
-    if is_named(text, "file") {
-        return Some(Scheme::File);
-    }
-    if is_named(text, "git") {
-        return Some(Scheme::Git);
-    }
-    if is_named(text, "http") {
-        return Some(Scheme::Http);
-    }
-    if is_named(text, "https") {
-        return Some(Scheme::Https);
-    }
-    if is_named(text, "ext") {
-        return Some(Scheme::Ext);
-    }
-    None
+/// The protocol that the text of a scheme names, to the letter.
+#[derive(Clone, Copy)]
+pub(crate) enum Protocol {
+    /// The local file system.
+    File,
+    /// Git's own protocol.
+    Git,
+    /// Secure Shell.
+    Ssh,
+    /// HTTP.
+    Http,
+    /// HTTP, encrypted.
+    Https,
+    /// The remote helper `ext`.
+    Ext,
+    /// Any other, which has no name but the text.
+    Other,
 }
 
-/// A scheme without a name of its own.
-fn other(alloc: Global, text: &str) -> Result<Scheme, Error>
-    requires { is_known_scheme text.now ≡ false }
-    ensures found { IfOk result (λ scheme. protocol scheme ≡ protocol_of text.now) }
-    ensures memory { IfErr result (λ e. e ≡ Error.Memory) }
+/// The protocol that the text of a scheme names.
+pub(crate) fn protocol_of(text: &[u8]) -> Protocol
+    ensures { named_protocol result text.now ≡ protocol_of text.now }
 {
-    Ok(Scheme::HelperUrl(String::from_str(alloc, text)?))
+    if is_ssh_scheme(text) {
+        return Protocol::Ssh;
+    }
+    if is_named(text, "file") {
+        return Protocol::File;
+    }
+    if is_named(text, "git") {
+        return Protocol::Git;
+    }
+    if is_named(text, "http") {
+        return Protocol::Http;
+    }
+    if is_named(text, "https") {
+        return Protocol::Https;
+    }
+    if is_named(text, "ext") {
+        return Protocol::Ext;
+    }
+    Protocol::Other
 }
 
 /// Whether the text is a scheme that has a name of its own.
@@ -162,7 +181,7 @@ pub(crate) fn is_known_scheme(text: &[u8]) -> bool
 }
 
 /// Whether the text is one of Secure Shell's names.
-pub(crate) fn is_ssh_scheme(text: &[u8]) -> bool
+fn is_ssh_scheme(text: &[u8]) -> bool
     ensures { result ≡ is_ssh_scheme text.now }
 {
     is_named(text, "ssh") || is_named(text, "ssh+git") || is_named(text, "git+ssh")
@@ -173,6 +192,13 @@ pub(crate) fn is_web_scheme(text: &[u8]) -> bool
     ensures { result ≡ is_web_scheme text.now }
 {
     is_named(text, "http") || is_named(text, "https")
+}
+
+/// Whether the text is one of FTP's names, whose URLs need a host.
+pub(crate) fn is_ftp(text: &[u8]) -> bool
+    ensures { result ≡ is_ftp text.now }
+{
+    is_named(text, "ftp") || is_named(text, "ftps")
 }
 
 /// Whether the text is the name, to the letter.

@@ -1,7 +1,7 @@
 //! Remote helpers, local paths and file URLs, from the pieces that the classifier cut.
 //!
-//! It may use `bytes`, `text` and `copies`. Its contract: each form is read exactly where the definitions spell it, and each
-//! refusal has its flaw.
+//! It may use `bytes`, `text`, `copies` and `made`. Its contract: each form is read exactly where the definitions
+//! spell it, and each refusal has its flaw.
 
 ghost use Rattle.std.specs.Prelude.{◌≡◌, true, IfErr, IfOk, codes, option_map, string_bytes};
 ghost use Rattle.bstr.specs.Owned.{bstring_bytes};
@@ -14,42 +14,13 @@ ghost use Rattle.gix_url.specs.Value.{path_alone};
 ghost use Rattle.gix_url.specs.Views.{protocol};
 
 use super::copies::{copied, copied_text, copied_unless_empty, missing_path, not_utf8};
+use super::made::{path_alone, plain_location};
 use crate::bytes::cut;
 use crate::error::{Error, UrlKind};
 use crate::location::Url;
 use crate::scheme::Scheme;
 use crate::text::is_text;
-use bstr::BString;
 use std::alloc::{AllocError, Global};
-
-/// A location without a password, a port and a spelling.
-pub(super) fn plain_location(
-    scheme: Scheme,
-    user: Option<String>,
-    host: Option<String>,
-    flag: bool,
-    path: BString,
-) -> Url
-    ensures { result ≡ record (path_alone (protocol scheme) flag (bstring_bytes path)) { user = option_map string_bytes user; host = option_map string_bytes host } }
-{
-    Url {
-        scheme,
-        user,
-        password: None,
-        host,
-        serialize_alternative_form: flag,
-        port: None,
-        path,
-        spelling: None,
-    }
-}
-
-/// A path with this scheme and this flag, and nothing else.
-fn path_alone(scheme: Scheme, flag: bool, path: BString) -> Url
-    ensures { result ≡ path_alone (protocol scheme) flag (bstring_bytes path) }
-{
-    plain_location(scheme, None, None, flag, path)
-}
 
 /// A remote helper, which keeps its address as it is.
 pub(super) fn read_helper(

@@ -1,8 +1,8 @@
 //! The scp form, from the pieces that the classifier cut.
 //!
-//! It may use `bytes`, `text`, `escape`, `host`, `copies` and `forms`. Its contract: a location is read exactly where the
-//! definitions spell one, and each refusal has its flaw. An escape in the host is no escape: the host is read with
-//! each `%` escaped, so that it decodes to what stands there.
+//! It may use `bytes`, `text`, `escape`, `host`, `copies` and `made`. Its contract: a location is read exactly where
+//! the definitions spell one, and each refusal has its flaw. An escape in the host is no escape: the host is read
+//! with each `%` escaped, so that it decodes to what stands there.
 
 ghost use Rattle.std.specs.Prelude.{◌≡◌, ◌↔◌, IfErr, IfOk, IfSome, IsTrue, IsUtf8, option_map, string_bytes};
 ghost use Rattle.gix_url.specs.Bytes.{FreeOf, LacksWhiteSpace, at_sign};
@@ -14,11 +14,11 @@ ghost use Rattle.gix_url.specs.Shapes.{PlainScp};
 ghost use Rattle.gix_url.specs.ScpPieces.{ColonsInside, CutsUser, NamesHost, NamesNoPort, RefusesHost, RefusesPiece, RefusesScp};
 
 use super::copies::{bad_url, copied, copied_text, missing_path, not_utf8};
-use super::forms::plain_location;
+use super::host::{Mode, read_host};
+use super::made::plain_location;
 use crate::bytes::{after, before, is_free_of, last_cut, starts_with_byte};
 use crate::error::{Error, UrlFault, UrlKind};
 use crate::escape::{has_percent, lacks_white_space};
-use crate::host::{Mode, read_host};
 use crate::location::Url;
 use crate::scheme::Scheme;
 use crate::text::{as_text, is_plain, is_text};

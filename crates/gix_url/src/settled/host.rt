@@ -7,7 +7,7 @@ ghost use Rattle.gix_url.specs.SettledParts.{IsBracketedAddress, IsBracketedLite
 use super::parts::{is_normal, is_normal_address, is_normal_name};
 use crate::bytes::{after, before, cut};
 use crate::escape::{has_percent, is_sound};
-use crate::host::{are_http_host_bytes, is_escaped_zone};
+use crate::parse::host::bytes::{are_http_host_bytes, is_escaped_zone};
 
 /// Whether the text is a settled host of HTTP, beside this port.
 pub(crate) fn is_web_host(host: &[u8], port: Option<u16>) -> bool

@@ -10,8 +10,8 @@ ghost use Rattle.gix_url.specs.Walks.{is_walk_short, text_walk_for, text_walk_pa
 ghost use Rattle.gix_url.specs.SettledParts.{IsPiecesShort};
 ghost use Rattle.gix_url.specs.Sinks.{WalksPast, walks_joined, walks_nothing};
 
-use crate::length::{LIMIT, TextWalk};
 use crate::location::Url;
+use crate::parse::length::{LIMIT, TextWalk};
 use crate::writer::piece::Pieces;
 use crate::writer::sink::Sink;
 use itoa::Buffer;

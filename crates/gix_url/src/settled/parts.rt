@@ -8,9 +8,9 @@ ghost use Rattle.gix_url.specs.SettledParts.{IsFlaggedPath};
 
 use crate::bytes::{cut_at_mark, is_free_of, is_lowercase};
 use crate::escape::decodes_to;
-use crate::host::looks_like_domain;
 use crate::ipv6::is_address;
 use crate::location::Url;
+use crate::parse::host::bytes::looks_like_domain;
 
 /// Whether the location has neither user nor password nor port.
 pub(crate) fn has_host_alone(url: &Url) -> bool

@@ -3,7 +3,7 @@
 ghost use Rattle.std.specs.Prelude.{◌≡◌, ◌↔◌, IsTrue, IsUtf8, Some, [], true, IfSome};
 ghost use Rattle.gix_url.specs.Value.Protocol.{git, helper_url, ssh};
 ghost use Rattle.gix_url.specs.Bytes.{begins_by, is_path_start};
-ghost use Rattle.gix_url.specs.Settled.{IsBracketedHost, IsFairSpelling, IsRawPath, IsSettledGit, IsSettledHelperUrl, IsSettledSecure, IsSettledUrl, IsSettledWeb, IsTransportPath, IsWeb, first_byte, is_ftp};
+ghost use Rattle.gix_url.specs.Settled.{IsBracketedHost, IsFairSpelling, IsRawPath, IsSettledGit, IsSettledHelperUrl, IsSettledSecure, IsSettledUrl, IsSettledWeb, IsTransportPath, IsWeb, first_byte};
 ghost use Rattle.gix_url.specs.SettledParts.{HasBareHost, HasBracketedHost, HasCredentials, HasFairSpelling, HasUrlForm, HasUrlParts, HasUrlPath, HasWebHost, IsEscapedText, IsGitTarget, IsHomeless, IsHosted, IsOtherForm, IsOtherScheme, IsOtherTarget, IsRaw, IsRootedOrEmpty, IsSecureTarget, IsSettledRaw, IsWebTarget, IsWrittenAsUrl};
 
 use super::host::{is_bare_host, is_bracketed_host, is_web_host};
@@ -12,7 +12,7 @@ use super::parts::{begins_at_home, has_match};
 use crate::bytes::{is_scheme_text, starts_with_byte};
 use crate::escape::{decodes_to, has_percent, is_sound, lacks_white_space};
 use crate::location::Url;
-use crate::scheme::is_known_scheme;
+use crate::scheme::{is_ftp, is_known_scheme};
 use crate::text::is_text;
 
 /// Whether the location is a settled one of HTTP.
@@ -161,13 +161,6 @@ fn is_rooted_or_empty(path: &[u8]) -> bool
     ensures { IsTrue result ↔ IsRootedOrEmpty path.now }
 {
     path.is_empty() || starts_with_byte(path, b'/')
-}
-
-/// Whether the name is that of a scheme of FTP, which needs a host.
-fn is_ftp(name: &[u8]) -> bool
-    ensures { result ≡ is_ftp name.now }
-{
-    name == b"ftp".as_slice() || name == b"ftps".as_slice()
 }
 
 /// Whether the location is a settled URL, and its path is written raw where no spelling matches it.

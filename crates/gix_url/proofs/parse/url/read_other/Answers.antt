@@ -8,7 +8,7 @@ use Rattle.gix_url.proofs.parse.url.read_other.Goals as goal
 
 pub returns-then-not-fits-clause-refused : goal.returns-then-not-fits-clause-refused
 returns-then-not-fits-clause-refused c =
-    none_but (SpellsUrl c.args.input.now) (unfit_url c.args.input.now c.args.scheme.now c.args.rest.now c.requires (λ h. false≢true (c.if-not-fits.ensures.1 h))) c.too_long.result
+    none_but (SpellsUrl c.args.input.now) (unfit_url c.args.input.now c.args.scheme.now c.args.rest.now c.requires.shape (λ h. false≢true (c.if-not-fits.ensures.1 h))) c.too_long.result
 
 pub as_text-requires : goal.as_text-requires
 as_text-requires c = plain_utf8 c.args.input.now (sym c.if-is_plain.ensures)

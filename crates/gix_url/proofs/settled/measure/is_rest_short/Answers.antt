@@ -1,6 +1,6 @@
 -- A text that is hardly longer than its scheme, or a walk past it.
 use Rattle.std.proofs.Common.{◌∙◌, ap, sym, arith}
-use Rattle.gix_url.specs.declared.length.TextWalk.{TextWalk}
+use Rattle.gix_url.specs.declared.parse.length.TextWalk.{TextWalk}
 use Rattle.gix_url.specs.Pieces.{pieces_text}
 use Rattle.gix_url.specs.Walks.{is_walk_short, text_walk_past}
 use Rattle.gix_url.proofs.LengthLemmas.{short_walk}

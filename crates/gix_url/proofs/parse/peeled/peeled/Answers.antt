@@ -1,0 +1,11 @@
+-- What Secure Shell takes of a text is text.
+use Rattle.std.proofs.Common.{sym, subst}
+use Rattle.std.specs.Str.{IsUtf8}
+use Rattle.std.proofs.lemmas.Str.{IsUtf8-string_bytes}
+use Rattle.gix_url.proofs.UrlLocationLemmas.{peels_utf8}
+use Rattle.gix_url.proofs.parse.peeled.peeled.Goals as goal
+
+pub into_text-requires : goal.into_text-requires
+into_text-requires c =
+    let host = subst (λ v. IsUtf8 v.items) (sym c.into_bytes.ensures.value) (IsUtf8-string_bytes c.args.host) in
+    peels_utf8 c.peeled_bytes.ensures host

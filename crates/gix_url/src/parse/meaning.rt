@@ -1,0 +1,154 @@
+//! The location that the parts of a URL stand for.
+//!
+//! It may use `rules`, `simple_url`, `host`, `peeled`, `copies`, `made`, `scheme`, `text` and `escape`. Its contract:
+//! the location is the one that the definitions give the parts. Each part is decoded once, into memory of its own,
+//! and is edited in place.
+
+ghost use Rattle.std.specs.Prelude.{◌≡◌, ◌<◌, ◌↔◌, List, ℕ, IsTrue, IfOk, IfSome, IsUtf8, true, length, option_map, string_bytes};
+ghost use Rattle.bstr.specs.Owned.{bstring_bytes};
+ghost use Rattle.percent_encoding.specs.Percent.{percent_decode};
+ghost use Rattle.gix_url.specs.Grammar as grammar;
+ghost use Rattle.gix_url.specs.Grammar.{HostFor, MeansByProtocol, path_for, requires_path};
+ghost use Rattle.gix_url.specs.HostPieces.{host_of, port_of};
+ghost use Rattle.gix_url.specs.SchemeRules.{AreRulesOf, named_protocol};
+ghost use Rattle.gix_url.specs.Schemes.{protocol_of};
+ghost use Rattle.gix_url.specs.Settled.{begins_at_home};
+ghost use Rattle.gix_url.specs.UrlPieces.{AreTexts, decoded_option, parts_of};
+
+use super::copies::copied;
+use super::host::NamedHost;
+use super::made::full_location;
+use super::peeled::peeled;
+use super::rules::Rules;
+use super::simple_url::ParsedUrl;
+use crate::escape::{decoded, decoded_text, has_percent};
+use crate::location::Url;
+use crate::scheme::{Protocol, Scheme};
+use crate::text::as_text;
+use bstr::BString;
+use std::alloc::{AllocError, Global};
+
+/// The location of a URL with these parts, of whose scheme these are the rules.
+pub(super) fn build(alloc: Global, rules: Rules, url: ParsedUrl<'_>) -> Result<Url, AllocError>
+    requires rules { AreRulesOf url.scheme.now rules }
+    requires scheme_text { IsUtf8 url.scheme.now }
+    requires texts { AreTexts (parts_of url) }
+    requires pathed { requires_path (protocol_of url.scheme.now) ≡ true → 0 < length url.path.now }
+    ensures { IfOk result (λ v. MeansByProtocol (protocol_of url.entry.scheme.now) (parts_of url.entry) v) }
+{
+    let scheme = Scheme::of_protocol(alloc, rules.protocol, as_text(url.scheme))?;
+    let user = decoded_part(alloc, url.user)?;
+    let password = decoded_part(alloc, url.password)?;
+    let host = host_for(rules.protocol, built(alloc, url.host)?);
+    let path = path_for(alloc, rules, url)?;
+    let spelling = retained(alloc, url.path)?;
+    let port = port_of(url.host);
+    Ok(full_location(scheme, user, password, host, false, port, path, spelling))
+}
+
+/// The text of a user or a password, decoded, if there is one.
+fn decoded_part(alloc: Global, piece: Option<&[u8]>) -> Result<Option<String>, AllocError>
+    requires { IfSome (decoded_option piece) IsUtf8 }
+    ensures { IfOk result (λ text. option_map string_bytes text ≡ decoded_option piece.entry) }
+{
+    match piece {
+        None => Ok(None),
+        Some(piece) => Ok(Some(decoded_text(alloc, piece)?)),
+    }
+}
+
+/// The text of a host, if there is one.
+fn built(alloc: Global, host: Option<NamedHost<'_>>) -> Result<Option<String>, AllocError>
+    requires { IfSome (host_of host) IsUtf8 }
+    ensures { IfOk result (λ text. option_map string_bytes text ≡ host_of host.entry) }
+{
+    match host {
+        None => Ok(None),
+        Some(host) => Ok(Some(host.build(alloc)?)),
+    }
+}
+
+/// The port, if there is one.
+fn port_of(host: Option<NamedHost<'_>>) -> Option<u16>
+    ensures { result ≡ port_of host.entry }
+{
+    match host {
+        None => None,
+        Some(host) => host.port,
+    }
+}
+
+/// The host of a location: Secure Shell takes it without marks, any other scheme as it is.
+fn host_for(protocol: Protocol, host: Option<String>) -> Option<String>
+    ensures { (scheme : List ℕ) → HostFor (named_protocol protocol scheme) (option_map string_bytes host) (option_map string_bytes result) }
+{
+    match host {
+        None => None,
+        Some(host) => {
+            if is_ssh(protocol) {
+                Some(peeled(host))
+            } else {
+                Some(host)
+            }
+        }
+    }
+}
+
+/// The path of a location, decoded.
+fn path_for(alloc: Global, rules: Rules, url: ParsedUrl<'_>) -> Result<BString, AllocError>
+    requires { AreRulesOf url.scheme.now rules }
+    ensures { IfOk result (λ bytes. bstring_bytes bytes ≡ path_for (protocol_of url.entry.scheme.now) (percent_decode url.entry.path.now)) }
+{
+    if rules.needs_path {
+        return Ok(BString::new(from_home(decoded(alloc, url.path)?)));
+    }
+    if rules.web {
+        return Ok(BString::new(decoded(alloc, or_root(url.path))?));
+    }
+    Ok(BString::new(decoded(alloc, url.path)?))
+}
+
+/// The path without the `/` before a `~` at its front, in place.
+fn from_home(mut path: Vec<u8>) -> Vec<u8>
+    ensures { result.items ≡ grammar.from_home path.items }
+{
+    if begins_at_home(path.as_slice()) {
+        let _ = path.remove(0);
+    }
+    path
+}
+
+/// Whether the path begins with `/~`.
+fn begins_at_home(path: &[u8]) -> bool
+    ensures { result ≡ begins_at_home path.now }
+{
+    match path {
+        [first, second, ..] => *first == b'/' && *second == b'~',
+        _ => false,
+    }
+}
+
+/// The path, or `/` where it is empty.
+fn or_root(path: &[u8]) -> &[u8]
+    ensures { percent_decode result.now ≡ grammar.or_root (percent_decode path.now) }
+{
+    if path.is_empty() { b"/" } else { path }
+}
+
+/// The spelling of the path, where it holds an escape.
+fn retained(alloc: Global, path: &[u8]) -> Result<Option<BString>, AllocError>
+    ensures { IfOk result (λ spelling. option_map bstring_bytes spelling ≡ grammar.retained_spelling path.now) }
+{
+    if has_percent(path) {
+        Ok(Some(copied(alloc, path)?))
+    } else {
+        Ok(None)
+    }
+}
+
+/// Whether the protocol is Secure Shell's.
+fn is_ssh(protocol: Protocol) -> bool
+    ensures { IsTrue result ↔ (protocol ≡ Protocol.Ssh) }
+{
+    matches!(protocol, Protocol::Ssh)
+}
