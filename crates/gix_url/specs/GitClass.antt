@@ -1,5 +1,5 @@
 -- The locations that a careful user hands to Git: in the text of each Git reads what this library reads.
-use Rattle.std.specs.Prelude.{◌≡◌, ℕ, Bool, true, false, ◌||◌, ◌==◌, List, [], ◌∷◌, codes, Option, Some, None, IfSome, Ok}
+use Rattle.std.specs.Prelude.{◌≡◌, ℕ, Bool, true, false, ◌||◌, ◌==◌, List, [], ◌∷◌, codes, Some, None, IfSome, Ok}
 use Rattle.gix_url.specs.Value.{Protocol, Location}
 use Rattle.gix_url.specs.Value.Protocol.{file, git, ssh}
 use Rattle.gix_url.specs.Bytes.{percent_sign, left_bracket, right_bracket, tilde, Lacks}

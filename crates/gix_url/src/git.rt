@@ -37,7 +37,9 @@ impl Url {
 fn has_no_option(url: &Url) -> bool
     ensures { IsTrue result ↔ HasNoOption url.now }
 {
-    is_no_option(&url.user) && is_no_option(&url.host) && !starts_with_byte(url.path.as_bytes(), b'-')
+    is_no_option(&url.user)
+        && is_no_option(&url.host)
+        && !starts_with_byte(url.path.as_bytes(), b'-')
 }
 
 /// Whether the text, where there is one, doesn't begin with `-`.
@@ -58,7 +60,8 @@ fn suits_transport(url: &Url) -> bool
         Scheme::Ssh => !is_tilde_second(url.path.as_bytes()) && !is_rsync(url),
         Scheme::Git => url.user.is_none(),
         Scheme::File => url.host.is_none(),
-        Scheme::Http | Scheme::Https | Scheme::Ext | Scheme::Helper(_) | Scheme::HelperUrl(_) => false,
+        Scheme::Http | Scheme::Https | Scheme::Ext | Scheme::Helper(_) | Scheme::HelperUrl(_) =>
+            false,
     }
 }
 
