@@ -87,6 +87,11 @@ settled_text host path spelling apart hosted =
     ∙ ap (λ h. Ok (codes "file://" ++ (h ++ matching_or spelling path path))) (host_written host path spelling hosted)
     ∙ ap (λ p. Ok (codes "file://" ++ (as_it_is host ++ p))) (unmatched spelling path path apart)
 
+-- without a host it holds its path alone
+pub hostless_text : (v : Location) → v.scheme ≡ file → IsSettledFile v → v.host ≡ None → text v ≡ Ok (codes "file://" ++ v.path)
+hostless_text v scheme h none =
+    ap (λ l. text l) (file_value v scheme h) ∙ settled_text v.host v.path v.spelling h.no_match h.host ∙ ap (λ o. Ok (codes "file://" ++ (as_it_is o ++ v.path))) none
+
 -- ---- settled file URLs come back
 
 -- a settled host is read as it is written

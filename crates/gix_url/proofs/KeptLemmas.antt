@@ -40,6 +40,11 @@ helper_written name path spelling named = rw named refl
 local_written : (path : List ℕ) (spelling : Option (List ℕ)) → text (kept file path spelling) ≡ Ok path
 local_written path spelling = refl
 
+-- the text of a settled local path is the path
+pub flagged_text : (v : Location) → v.scheme ≡ file → IsSettledLocal v → text v ≡ Ok v.path
+flagged_text v scheme h =
+    ap (λ l. text l) (kept_value v file scheme h.flagged h.alone h.no_host) ∙ local_written v.path v.spelling
+
 -- ---- what is spelled is settled, and written as it was read
 
 -- a remote helper without a spelling is settled

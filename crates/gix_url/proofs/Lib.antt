@@ -43,6 +43,10 @@ pub mod WebClosedLemmas
 pub mod AgainLemmas
 pub mod RereadLemmas
 pub mod FromPartsLemmas
+pub mod GitCutLemmas
+pub mod GitPieceLemmas
+pub mod GitTransportLemmas
+pub mod GitLemmas
 pub mod WrittenHostLemmas
 pub mod WebExactLemmas
 pub mod ClosedLemmas

@@ -35,7 +35,7 @@ abbrev pub scp_value : Option (List ℕ) → List ℕ → List ℕ → Option (L
 scp_value user host path spelling = record (path_alone ssh true path) { user = user; host = Some host; spelling = spelling }
 
 -- a settled location in the scp form is such a value
-scp_value_of : (v : Location) (h : List ℕ) → v.scheme ≡ ssh → IsSettledScp v → v.host ≡ Some h → v ≡ scp_value v.user h v.path v.spelling
+pub scp_value_of : (v : Location) (h : List ℕ) → v.scheme ≡ ssh → IsSettledScp v → v.host ≡ Some h → v ≡ scp_value v.user h v.path v.spelling
 scp_value_of v h scheme s host =
     value_of v ssh true scheme s.flagged s.no_password s.no_port ∙ ap (λ o. record (path_alone ssh true v.path) { user = v.user; host = o; spelling = v.spelling }) host
 
@@ -356,7 +356,7 @@ bracketed_spelled (Some user) h path named u a p =
     subst (λ t. SpellsScp t (scp_value (Some user) h path None)) (sym (addressed_written user h path)) (addressed_spelled user h path named u a p)
 
 -- what is written spells the location
-scp_spelled : (user : Option (List ℕ)) (h path : List ℕ) → IfSome user IsUtf8 → IsUtf8 h → IfSome user IsScpUser → IsScpName h ⊎ IsNormalAddress h → IsScpPath path → ¬ LooksLikeHelper (scp_value user h path None) h → SpellsScp (raw_user user ++ (raw_host (Some h) ++ colon ∷ path)) (scp_value user h path None)
+pub scp_spelled : (user : Option (List ℕ)) (h path : List ℕ) → IfSome user IsUtf8 → IsUtf8 h → IfSome user IsScpUser → IsScpName h ⊎ IsNormalAddress h → IsScpPath path → ¬ LooksLikeHelper (scp_value user h path None) h → SpellsScp (raw_user user ++ (raw_host (Some h) ++ colon ∷ path)) (scp_value user h path None)
 scp_spelled user h path named host u (inl n) p other = name_spelled user h path named host u n p other
 scp_spelled user h path named host u (inr a) p other =
     subst (λ t. SpellsScp (raw_user user ++ (t ++ colon ∷ path)) (scp_value user h path None)) (sym (address_raw h a)) (bracketed_spelled user h path named u a p)
@@ -364,7 +364,7 @@ scp_spelled user h path named host u (inr a) p other =
 -- ---- settled locations come back
 
 -- the path of a settled location
-scp_path : (v : Location) → IsSettledScp v → IsScpPath v.path
+pub scp_path : (v : Location) → IsSettledScp v → IsScpPath v.path
 scp_path v s = ((settled_scp v).1 s).1.0
 
 -- the location without its spelling is settled

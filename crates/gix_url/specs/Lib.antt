@@ -18,6 +18,9 @@ pub mod Display
 pub mod Words
 pub mod Arguments
 pub mod Answers
+-- What Git reads, and where it reads the same.
+pub mod Git
+pub mod GitClass
 -- What the path of a location is made of, home folders, stored locations, order.
 pub mod Components
 pub mod ComponentEquality

@@ -7,6 +7,7 @@
 
 ghost use Rattle.std.specs.Cmp.{IsTotalOrder};
 ghost use Rattle.gix_url.specs.ComponentLaws.{EqualComponents, OneComponents};
+ghost use Rattle.gix_url.specs.GitClass.{ReadAlike};
 ghost use Rattle.gix_url.specs.Laws.{Apart, Closed, EqualIsSame, Exact, ExactByFields, FedAlike, KeepsEarlier, LocationsFedApart, ProtocolsFedApart, SameComponents, SettledAgain, SpellingLast, TextDecides, TiedIsEqual, Unchanged, Unique, Writable};
 ghost use Rattle.gix_url.specs.Order.{fed_location, fed_protocol, location_cmp, location_eq, protocol_cmp, protocol_eq};
 ghost use Rattle.gix_url.specs.Records.{KeepsMeaning, MigratedOnce, Migrates, RespelledOnce};
@@ -159,4 +160,13 @@ pub fn law_refusals()
 pub fn law_components()
     ensures one { OneComponents }
     ensures equal { EqualComponents }
+{}
+
+/// Git reads the same place.
+///
+/// - `alike`: a location that [`Url::agrees_with_git`](crate::Url::agrees_with_git) accepts has a text, and Git reads in
+///   it the location's own protocol, user, host, port and path. So who picks credentials by the host that is read here,
+///   and then hands the text to Git, sends them to that host.
+pub fn law_git()
+    ensures alike { ReadAlike }
 {}

@@ -26,6 +26,7 @@ mod error;
 mod escape;
 pub mod expand_path;
 mod from_parts;
+mod git;
 mod home_law;
 mod impls;
 pub mod ipv6;

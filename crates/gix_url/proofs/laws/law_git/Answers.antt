@@ -1,0 +1,6 @@
+-- The law is a lemma.
+use Rattle.gix_url.proofs.GitLemmas.{read_same}
+use Rattle.gix_url.proofs.laws.law_git.Goals as goal
+
+pub returns : goal.returns
+returns c = record { alike = read_same }

@@ -1,0 +1,66 @@
+-- The locations that a careful user hands to Git: in the text of each Git reads what this library reads.
+use Rattle.std.specs.Prelude.{◌≡◌, ℕ, Bool, true, false, ◌||◌, ◌==◌, List, [], ◌∷◌, codes, Some, None, IfSome, Ok}
+use Rattle.gix_url.specs.Value.{Protocol, Location}
+use Rattle.gix_url.specs.Value.Protocol.{file, git, ssh}
+use Rattle.gix_url.specs.Bytes.{percent_sign, left_bracket, right_bracket, tilde, Lacks}
+use Rattle.gix_url.specs.Text.{text}
+use Rattle.gix_url.specs.Settled.{IsValue, IsSettled}
+use Rattle.gix_url.specs.Arguments.{is_option_like}
+use Rattle.gix_url.specs.Git.{GitReading, GitReads}
+
+-- a byte by which Git cuts a text otherwise: byte 0, `%`, `[` or `]`
+abbrev pub is_contested : ℕ → Bool
+is_contested b = b == 0 || (b == percent_sign || (b == left_bracket || b == right_bracket))
+
+-- the location has a text, without such a byte
+abbrev pub HasPlainText : Location → Type 0
+HasPlainText v = (t : List ℕ) × (text v ≡ Ok t) × Lacks is_contested t
+
+-- neither user nor host nor path begins with `-`
+pub record HasNoOption (v : Location) : Type 0 where
+  pub user : IfSome v.user (λ u. is_option_like u ≡ false)
+  pub host : IfSome v.host (λ h. is_option_like h ≡ false)
+  pub path : is_option_like v.path ≡ false
+
+-- the second byte of the text is `~`
+abbrev pub is_tilde_second : List ℕ → Bool
+is_tilde_second [] = false
+is_tilde_second (a ∷ []) = false
+is_tilde_second (a ∷ b ∷ rest) = b == tilde
+
+-- the text of the location begins with `rsync:`, which Git refuses
+pub record IsRsync (v : Location) : Type 0 where
+  pub scp : v.flag ≡ true
+  pub no_user : v.user ≡ None
+  pub host : v.host ≡ Some (codes "rsync")
+
+-- what Git's own transports ask besides: Secure Shell's path, no user for `git://`, no host for a file
+abbrev pub SuitsTransport : Protocol → Location → Type 0
+SuitsTransport ssh v = (is_tilde_second v.path ≡ false) × ¬ IsRsync v
+SuitsTransport git v = v.user ≡ None
+SuitsTransport file v = v.host ≡ None
+SuitsTransport _ v = ⊥
+
+-- the location is of the class
+pub record AgreesWithGit (v : Location) : Type 0 where
+  pub settled : IsSettled v
+  pub no_password : v.password ≡ None
+  pub no_option : HasNoOption v
+  pub suits : SuitsTransport v.scheme v
+  pub plain : HasPlainText v
+
+-- ---- the law
+
+-- the location's own protocol, user, host, port and path
+abbrev pub own_reading : Location → GitReading
+own_reading v = record { protocol = v.scheme; user = v.user; host = v.host; port = v.port; path = v.path }
+
+-- the location has a text, and Git reads it as the location's own parts
+pub record IsReadAlike (v : Location) : Type 0 where
+  pub written : List ℕ
+  pub has_text : text v ≡ Ok written
+  pub read : GitReads written (own_reading v)
+
+-- so it is with each location of the class
+abbrev pub ReadAlike : Type 0
+ReadAlike = (v : Location) → IsValue v → AgreesWithGit v → IsReadAlike v
