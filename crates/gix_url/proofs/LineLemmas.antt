@@ -1,8 +1,7 @@
 -- Lines and their answers, one after another.
 use Rattle.std.proofs.Common.{◌≡◌, ℕ, Bool, true, false, List, [], ◌∷◌, ◌++◌, refl, sym, ap, subst, ◌∙◌, append_assoc, append-nil, All, length, arith, eqb-true}
-use Rattle.std.specs.Prelude.{◌&&◌, ◌==◌, Option, Result, Ok, Err, is_ok}
+use Rattle.std.specs.Prelude.{◌&&◌, ◌==◌, Result, Ok, Err}
 use Rattle.std.proofs.lemmas.List.Elements.{All-append, All-cons, All-nil}
-use Rattle.gix_url.specs.declared.error.WriteFault.{WriteFault}
 use Rattle.gix_url.specs.Value.{Location}
 use Rattle.gix_url.specs.Bytes.{newline, FreeOf}
 use Rattle.gix_url.specs.declared.error.Error.{Error}
@@ -10,8 +9,7 @@ use Rattle.gix_url.specs.declared.error.Error.TheVariants as error
 use Rattle.gix_url.specs.declared.lines.RunError.{RunError}
 use Rattle.gix_url.specs.Grammar.{Spells}
 use Rattle.gix_url.specs.Flaws.{Flaw}
-use Rattle.std.specs.Io.KnownBytes.{Appends}
-use Rattle.gix_url.specs.Readings.{Refuses, Written}
+use Rattle.gix_url.specs.Readings.{Refuses}
 use Rattle.gix_url.specs.Answers.{ended_lines, IsAnswer, AnswersEach, Answers, AppendsAnswer, Tells, TellsRefusal}
 use Rattle.gix_url.specs.Answers.IsAnswer.{refused}
 
@@ -102,15 +100,6 @@ done_last whole (b ∷ bs) out new good first done free filled (answer, one, joi
       answers_push done.lines out good (b ∷ bs) answer first done.answered one,
     )
 
--- a text or a fault: which it is, by a test
-pub has_text : (w : Result (List ℕ) WriteFault) → is_ok w ≡ true → (t : List ℕ) × (w ≡ Ok t)
-has_text (Ok t) h = (t, refl)
-has_text (Err f) h = absurd (cc)
-
-pub has_fault : (w : Result (List ℕ) WriteFault) → is_ok w ≡ false → (f : WriteFault) × (w ≡ Err f)
-has_fault (Ok t) h = absurd (cc)
-has_fault (Err f) h = (f, refl)
-
 -- what is told of a location is the answer to each line that spells it
 pub told_answer : (read line old new : List ℕ) (v : Location) (r : Result Bool RunError) → read ≡ line → Spells read v → Tells v old new r → AppendsAnswer line old new r
 told_answer read line old new v (Ok good) same spelled (answer, each, joined) = (answer, each line (subst (λ b. Spells b v) same spelled), joined)
@@ -130,13 +119,3 @@ refused_answer read line old new e r same none flaw told =
     refusal_told line old new (error.TooLong shown total) (Ok good) none flaw told = (_, refused (error.TooLong shown total) tt none flaw refl told.1, told.2)
     refusal_told line old new (error.BadUrl kind named input) (Ok good) none flaw told = (_, refused (error.BadUrl kind named input) tt none flaw refl told.1, told.2)
     refusal_told line old new _ (Ok good) none flaw told = absurd told.0
-
--- where a text was written there is one, and it was appended
-pub text_appended : {W : Type 0} (contents : W → Option (List ℕ)) (old new : W) (r : Result (List ℕ) WriteFault) → Written contents old new r (Ok tt) → (t : List ℕ) × (r ≡ Ok t) × Appends (contents old) (contents new) t
-text_appended contents old new (Ok t) appended = (t, refl, appended)
-text_appended contents old new (Err fault) told = absurd (cc told.0)
-
--- three appended texts, grouped to the right
-pub appended_line : (old word t end first second third : List ℕ) → first ≡ old ++ word → second ≡ first ++ t → third ≡ second ++ end → third ≡ old ++ (word ++ (t ++ end))
-appended_line old word t end first second third a b c =
-    c ∙ ap (λ x. x ++ end) (b ∙ ap (λ x. x ++ t) a) ∙ append_assoc (old ++ word) t end ∙ append_assoc old word (t ++ end)

@@ -366,3 +366,11 @@ fitting_text v t free canonical is =
       λ short. (t, sym is, test.0 short),
       λ (x, e, fits). test.1 (subst FitsText (one_text e (sym is)) fits),
     )
+
+-- so a test of its scheme and of what it is made of tells it
+pub text_tested : (v : Location) (s t : List ℕ) (b : Bool) → s ≡ protocol_text v.scheme → FreeOf colon (protocol_text v.scheme) → text v ≡ Ok (canonical_text v) → Ok t ≡ text v
+    → (IsTrue b ↔ IsPiecesShort s t) → IsTrue b ↔ HasFittingText v
+text_tested v s t b same_scheme free canonical is test =
+    let told = subst (λ n. IsTrue b ↔ IsPiecesShort n t) same_scheme test in
+    let class = fitting_text v t free canonical is in
+    (λ yes. class.0 (told.0 yes), λ fits. told.1 (class.1 fits))

@@ -1,5 +1,5 @@
 -- The pieces of a text, and what they make up.
-use Rattle.std.specs.Prelude.{ℕ, List, [], ◌∷◌, ◌++◌, length, Option, Some, None, Result, Ok, Err}
+use Rattle.std.specs.Prelude.{◌≡◌, ℕ, List, [], ◌∷◌, ◌++◌, length, Option, Some, None, IfSome, Result, Ok, Err}
 use Rattle.std.specs.Option.{option_copied}
 use Rattle.std.specs.Borrow.{Bor}
 use Rattle.percent_encoding.specs.Percent.{percent_encode}
@@ -21,7 +21,7 @@ use Rattle.gix_url.specs.declared.error.WriteFault.{WriteFault}
 use Rattle.gix_url.specs.Bytes.{colon, at_sign, left_bracket, right_bracket}
 use Rattle.gix_url.specs.Escapes.{escaped_percents}
 use Rattle.gix_url.specs.Value.{Location}
-use Rattle.gix_url.specs.Text.{Form}
+use Rattle.gix_url.specs.Text.{Form, text}
 use Rattle.gix_url.specs.Text.Form.{helper_form, path_form, scp_form, canonical_form}
 
 -- the text of a piece: raw, with the escapes of a user or of a password, or with each `%` escaped
@@ -86,6 +86,10 @@ with_password v other = record v { password = option_copied other }
 abbrev pub text_of_pieces : Result Pieces WriteFault → Result (List ℕ) WriteFault
 text_of_pieces (Ok p) = Ok (pieces_text p)
 text_of_pieces (Err fault) = Err fault
+
+-- pieces that are at hand, if there are any, make up the location's text
+abbrev pub AreOwn : Option (Bor Pieces) → Location → Type 0
+AreOwn laid v = IfSome laid (λ p. text v ≡ Ok (pieces_text p.now))
 
 -- the length of a text, or the fault
 abbrev pub text_length : Result (List ℕ) WriteFault → Result ℕ WriteFault

@@ -3,9 +3,10 @@
 //! It uses `parse`, the settled test and the writer. Its contract: all of the input is answered, line by line, as
 //! the definitions have it; nothing is written before the whole answer stands.
 
-ghost use Rattle.std.specs.Prelude.{◌≡◌, ℕ, ◌≤◌, ◌^◌, ◌++◌, List, None, codes, length, IfOk, IfSome, OnOk};
+ghost use Rattle.std.specs.Prelude.{◌≡◌, ℕ, ◌≤◌, ◌^◌, ◌++◌, List, None, Ok, codes, length, IfOk, IfSome, OnOk};
 ghost use Rattle.std.specs.Io.KnownBytes.{IsAtEnd};
 ghost use Rattle.gix_url.specs.Answers.{Answers, AppendsAnswer, NamesRefusal, Ran, Tells, TellsRefusal, fault_name, fault_text, status_of, told_line};
+ghost use Rattle.gix_url.specs.Pieces.{pieces_text};
 ghost use Rattle.gix_url.specs.Schemes.{protocol_text};
 ghost use Rattle.gix_url.specs.Text.{text};
 
@@ -13,7 +14,10 @@ use crate::bytes;
 use crate::error::{Error, UrlFault};
 use crate::location::Url;
 use crate::parse::parse;
+use crate::writer::piece::Pieces;
+use crate::writer::sink::Output;
 use bstr::BStr;
+use itoa::Buffer;
 use std::alloc::{AllocError, Global};
 use std::io::{self, ErrorKind, Read, Write};
 use thiserror::Error as ThisError;
@@ -171,19 +175,30 @@ fn answer(alloc: Global, line: &[u8], out: &mut Vec<u8>) -> Result<bool, RunErro
     }
 }
 
-/// Appends the answer for a location that a line spells, and says whether it is settled.
+/// Appends the answer for a location that a line spells, and says whether it is settled. Its text is laid out once.
 fn tell(url: &Url, out: &mut Vec<u8>) -> Result<bool, RunError>
     ensures { Tells url.now out.old.items out.new.items result }
 {
-    if url.is_settled() {
-        put_text(out, url)?;
+    let mut digits = Buffer::new();
+    match url.own_pieces(&mut digits) {
+        Ok(pieces) => tell_written(url, &pieces, out),
+        Err(_) => {
+            put_scheme(out, "unwritable", url)?;
+            Ok(false)
+        }
+    }
+}
+
+/// The same of a location whose text these pieces make up.
+fn tell_written(url: &Url, pieces: &Pieces<'_>, out: &mut Vec<u8>) -> Result<bool, RunError>
+    requires { text url.now ≡ Ok (pieces_text pieces.now) }
+    ensures { Tells url.now out.old.items out.new.items result }
+{
+    if url.is_settled_as(Some(pieces)) {
+        put_text(out, pieces)?;
         return Ok(true);
     }
-    if url.has_text() {
-        put_scheme(out, "unsettled", url)?;
-        return Ok(false);
-    }
-    put_scheme(out, "unwritable", url)?;
+    put_scheme(out, "unsettled", url)?;
     Ok(false)
 }
 
@@ -247,12 +262,12 @@ fn put_line(out: &mut Vec<u8>, word: &str, of_what: &[u8]) -> Result<(), RunErro
     Ok(())
 }
 
-/// Appends the line of a settled location: its text.
-fn put_text(out: &mut Vec<u8>, url: &Url) -> Result<(), RunError>
-    ensures { OnOk result ((t : List ℕ) × (text url.now ≡ Ok t) × (out.new.items ≡ out.old.items ++ told_line (codes "settled") t)) }
+/// Appends the line of a settled location: the text that its pieces make up.
+fn put_text(out: &mut Vec<u8>, pieces: &Pieces<'_>) -> Result<(), RunError>
+    ensures { OnOk result (out.new.items ≡ out.old.items ++ told_line (codes "settled") (pieces_text pieces.now)) }
 {
     out.extend_from_slice(b"settled\t")?;
-    match url.write_to(out) {
+    match pieces.put::<Vec<u8>, Output>(out) {
         Ok(()) => {}
         Err(_) => return Err(RunError::Memory),
     }

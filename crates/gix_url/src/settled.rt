@@ -5,6 +5,7 @@
 //! takes no memory.
 
 ghost use Rattle.std.specs.Prelude.{◌↔◌, IsTrue};
+ghost use Rattle.gix_url.specs.Pieces.{AreOwn};
 ghost use Rattle.gix_url.specs.Settled.{IsSettled};
 ghost use Rattle.gix_url.specs.SettledParts.{IsSettledNamed};
 
@@ -17,6 +18,7 @@ mod url;
 
 use crate::location::Url;
 use crate::scheme::Scheme;
+use crate::writer::piece::Pieces;
 use local::{is_settled_file, is_settled_helper, is_settled_local};
 use scp::is_settled_scp;
 use url::{is_settled_git, is_settled_helper_url, is_settled_secure, is_settled_web};
@@ -43,14 +45,22 @@ impl Url {
     pub fn is_settled(&self) -> bool
         ensures { IsTrue result ↔ IsSettled self.now }
     {
+        self.is_settled_as(None)
+    }
+
+    /// The same, where the pieces of the location's text may be at hand: they aren't laid out again then.
+    pub(crate) fn is_settled_as(&self, laid: Option<&Pieces<'_>>) -> bool
+        requires { AreOwn laid self.now }
+        ensures { IsTrue result ↔ IsSettled self.now }
+    {
         match &self.scheme {
             Scheme::File => is_settled_local(self) || is_settled_file(self),
-            Scheme::Ssh => is_settled_scp(self) || is_settled_secure(self),
-            Scheme::Git => is_settled_git(self),
-            Scheme::Http | Scheme::Https => is_settled_web(self),
+            Scheme::Ssh => is_settled_scp(self) || is_settled_secure(self, laid),
+            Scheme::Git => is_settled_git(self, laid),
+            Scheme::Http | Scheme::Https => is_settled_web(self, laid),
             Scheme::Ext => is_settled_helper(self, b"ext"),
             Scheme::Helper(name) => is_settled_named(self, name.as_bytes()),
-            Scheme::HelperUrl(name) => is_settled_helper_url(self, name.as_bytes()),
+            Scheme::HelperUrl(name) => is_settled_helper_url(self, laid, name.as_bytes()),
         }
     }
 }

@@ -159,13 +159,6 @@ impl Url {
         )
     }
 
-    /// Whether the location has a text. Its form alone decides, so nothing is laid out.
-    pub(crate) fn has_text(&self) -> bool
-        ensures { result ≡ is_ok (text self.now) }
-    {
-        self.form(self.own_password()).is_ok()
-    }
-
     /// The pieces of the text, or why there is none. The digits of the port stand in the buffer.
     pub(crate) fn own_pieces<'a>(&'a self, digits: &'a mut Buffer) -> Result<Pieces<'a>, WriteFault>
         ensures { text_of_pieces result ≡ text self.now }

@@ -2,7 +2,7 @@
 
 ghost use Rattle.std.specs.Prelude.{◌≡◌, ◌↔◌, IsTrue, Ok};
 ghost use Rattle.gix_url.specs.Bytes.{FreeOf, colon};
-ghost use Rattle.gix_url.specs.Pieces.{pieces_text};
+ghost use Rattle.gix_url.specs.Pieces.{AreOwn, pieces_text};
 ghost use Rattle.gix_url.specs.Schemes.{protocol_text};
 ghost use Rattle.gix_url.specs.Settled.{HasFittingText};
 ghost use Rattle.gix_url.specs.Text.{canonical_text, text};
@@ -17,8 +17,22 @@ use crate::writer::sink::Sink;
 use itoa::Buffer;
 use std::convert::Infallible;
 
-/// Whether the text of the location, which is that of a URL, is short enough.
-pub(crate) fn has_fitting_text(url: &Url) -> bool
+/// Whether the text of the location, which is that of a URL, is short enough. It is laid out, unless its pieces are at
+/// hand.
+pub(crate) fn has_fitting_text(url: &Url, laid: Option<&Pieces<'_>>) -> bool
+    requires no_colon { FreeOf colon (protocol_text url.now.scheme) }
+    requires canonical { text url.now ≡ Ok (canonical_text url.now) }
+    requires laid { AreOwn laid url.now }
+    ensures { IsTrue result ↔ HasFittingText url.now }
+{
+    match laid {
+        Some(pieces) => are_short(url.scheme.as_str().as_bytes(), pieces),
+        None => is_own_short(url),
+    }
+}
+
+/// Whether the text of the location, which is laid out now, is short enough.
+fn is_own_short(url: &Url) -> bool
     requires no_colon { FreeOf colon (protocol_text url.now.scheme) }
     requires canonical { text url.now ≡ Ok (canonical_text url.now) }
     ensures { IsTrue result ↔ HasFittingText url.now }

@@ -3,6 +3,7 @@
 ghost use Rattle.std.specs.Prelude.{◌≡◌, ◌↔◌, IsTrue, IsUtf8, Some, [], true, IfSome};
 ghost use Rattle.gix_url.specs.Value.Protocol.{git, helper_url, ssh};
 ghost use Rattle.gix_url.specs.Bytes.{begins_by, is_path_start};
+ghost use Rattle.gix_url.specs.Pieces.{AreOwn};
 ghost use Rattle.gix_url.specs.Settled.{IsBracketedHost, IsFairSpelling, IsRawPath, IsSettledGit, IsSettledHelperUrl, IsSettledSecure, IsSettledUrl, IsSettledWeb, IsTransportPath, IsWeb, first_byte};
 ghost use Rattle.gix_url.specs.SettledParts.{HasBareHost, HasBracketedHost, HasCredentials, HasFairSpelling, HasUrlForm, HasUrlParts, HasUrlPath, HasWebHost, IsEscapedText, IsGitTarget, IsHomeless, IsHosted, IsOtherForm, IsOtherScheme, IsOtherTarget, IsRaw, IsRootedOrEmpty, IsSecureTarget, IsSettledRaw, IsWebTarget, IsWrittenAsUrl};
 
@@ -14,13 +15,15 @@ use crate::escape::{decodes_to, has_percent, is_sound, lacks_white_space};
 use crate::location::Url;
 use crate::scheme::{is_ftp, is_known_scheme};
 use crate::text::is_text;
+use crate::writer::piece::Pieces;
 
 /// Whether the location is a settled one of HTTP.
-pub(crate) fn is_settled_web(url: &Url) -> bool
-    requires { IsWeb url.now }
+pub(crate) fn is_settled_web(url: &Url, laid: Option<&Pieces<'_>>) -> bool
+    requires scheme { IsWeb url.now }
+    requires laid { AreOwn laid url.now }
     ensures { IsTrue result ↔ IsSettledWeb url.now }
 {
-    is_web_target(url) && is_settled_url(url)
+    is_web_target(url) && is_settled_url(url, laid)
 }
 
 /// Whether host, port and path are those of a settled location of HTTP.
@@ -51,11 +54,12 @@ fn begins_web_path(path: &[u8]) -> bool
 }
 
 /// Whether the location is a settled URL of Secure Shell.
-pub(crate) fn is_settled_secure(url: &Url) -> bool
-    requires { url.now.scheme ≡ ssh }
+pub(crate) fn is_settled_secure(url: &Url, laid: Option<&Pieces<'_>>) -> bool
+    requires scheme { url.now.scheme ≡ ssh }
+    requires laid { AreOwn laid url.now }
     ensures { IsTrue result ↔ IsSettledSecure url.now }
 {
-    is_secure_target(url) && is_settled_raw(url)
+    is_secure_target(url) && is_settled_raw(url, laid)
 }
 
 /// Whether host and path are those of a settled URL of Secure Shell.
@@ -76,11 +80,12 @@ fn has_bare_host(url: &Url) -> bool
 }
 
 /// Whether the location is a settled URL of Git's own protocol.
-pub(crate) fn is_settled_git(url: &Url) -> bool
-    requires { url.now.scheme ≡ git }
+pub(crate) fn is_settled_git(url: &Url, laid: Option<&Pieces<'_>>) -> bool
+    requires scheme { url.now.scheme ≡ git }
+    requires laid { AreOwn laid url.now }
     ensures { IsTrue result ↔ IsSettledGit url.now }
 {
-    is_git_target(url) && is_settled_raw(url)
+    is_git_target(url) && is_settled_raw(url, laid)
 }
 
 /// Whether host and path are those of a settled URL of Git's own protocol.
@@ -116,11 +121,12 @@ fn is_homeless(path: &[u8]) -> bool
 }
 
 /// Whether the location is a settled URL of another scheme, which has this name.
-pub(crate) fn is_settled_helper_url(url: &Url, name: &[u8]) -> bool
-    requires { url.now.scheme ≡ helper_url name.now }
+pub(crate) fn is_settled_helper_url(url: &Url, laid: Option<&Pieces<'_>>, name: &[u8]) -> bool
+    requires scheme { url.now.scheme ≡ helper_url name.now }
+    requires laid { AreOwn laid url.now }
     ensures { IsTrue result ↔ IsSettledHelperUrl name.now url.now }
 {
-    is_other_form(url, name) && is_settled_raw(url)
+    is_other_form(url, name) && is_settled_raw(url, laid)
 }
 
 /// Whether scheme, host and path are those of a settled URL of another scheme.
@@ -164,11 +170,12 @@ fn is_rooted_or_empty(path: &[u8]) -> bool
 }
 
 /// Whether the location is a settled URL, and its path is written raw where no spelling matches it.
-fn is_settled_raw(url: &Url) -> bool
-    requires { IsWrittenAsUrl url.now }
+fn is_settled_raw(url: &Url, laid: Option<&Pieces<'_>>) -> bool
+    requires form { IsWrittenAsUrl url.now }
+    requires laid { AreOwn laid url.now }
     ensures { IsTrue result ↔ IsSettledRaw url.now }
 {
-    is_settled_url(url) && is_raw_path(url)
+    is_settled_url(url, laid) && is_raw_path(url)
 }
 
 /// Whether the path is written raw where no spelling matches it.
@@ -191,11 +198,12 @@ fn is_raw(path: &[u8]) -> bool
 }
 
 /// Whether the location has what the settled URLs have in common.
-fn is_settled_url(url: &Url) -> bool
-    requires { IsWrittenAsUrl url.now }
+fn is_settled_url(url: &Url, laid: Option<&Pieces<'_>>) -> bool
+    requires form { IsWrittenAsUrl url.now }
+    requires laid { AreOwn laid url.now }
     ensures { IsTrue result ↔ IsSettledUrl url.now }
 {
-    has_url_form(url) && has_fitting_text(url)
+    has_url_form(url) && has_fitting_text(url, laid)
 }
 
 /// The same, but for the length of the text.

@@ -1,20 +1,9 @@
 use Rattle.std.proofs.Common.{sym, refl}
-use Rattle.std.proofs.lemmas.Bool.{false≢true}
-use Rattle.gix_url.specs.Answers.IsAnswer.{settled, unsettled, unwritable}
-use Rattle.gix_url.proofs.LineLemmas.{has_text, has_fault}
+use Rattle.gix_url.specs.Answers.IsAnswer.{unwritable}
 use Rattle.gix_url.proofs.lines.tell.Goals as goal
 
-pub returns-then-is_settled : goal.returns-then-is_settled
-returns-then-is_settled c =
-    let (t, e, joined) = c.in_ok-put_text.ensures in
-    (_, (λ line spelled. settled c.args.url.now t spelled e (c.if-is_settled.ensures.0 refl) refl refl), joined)
+pub tell_written-requires : goal.tell_written-requires
+tell_written-requires c = sym c.in-Ok.ensures
 
-pub returns-then-has_text : goal.returns-then-has_text
-returns-then-has_text c =
-    let (t, e) = has_text _ (sym c.if-has_text.ensures) in
-    (_, (λ line spelled. unsettled c.args.url.now t spelled e (λ s. false≢true (c.if-is_settled.ensures.1 s)) refl refl), c.in_ok-put_scheme.ensures)
-
-pub returns : goal.returns
-returns c =
-    let (f, e) = has_fault _ (sym c.if-has_text.ensures) in
-    (_, (λ line spelled. unwritable c.args.url.now f spelled e refl refl), c.in_ok-put_scheme-2.ensures)
+pub returns-in_ok-put_scheme-in-Err : goal.returns-in_ok-put_scheme-in-Err
+returns-in_ok-put_scheme-in-Err c = (_, (λ line spelled. unwritable c.args.url.now _ spelled (sym c.in-Err.ensures) refl refl), c.in_ok-put_scheme-in-Err.ensures)

@@ -2,8 +2,8 @@
 use Rattle.gix_url.proofs.SettledLemmas.{second_decides, first_fails, settled_git, written_git}
 use Rattle.gix_url.proofs.settled.url.is_settled_git.Goals as goal
 
-pub is_settled_raw-requires : goal.is_settled_raw-requires
-is_settled_raw-requires c = written_git c.args.url.now c.requires
+pub is_settled_raw-requires-clause-form : goal.is_settled_raw-requires-clause-form
+is_settled_raw-requires-clause-form c = written_git c.args.url.now c.requires.scheme
 
 pub returns-then-is_git_target : goal.returns-then-is_git_target
 returns-then-is_git_target c =

@@ -2,8 +2,8 @@
 use Rattle.gix_url.proofs.SettledLemmas.{second_decides, first_fails, settled_helper_url, written_other}
 use Rattle.gix_url.proofs.settled.url.is_settled_helper_url.Goals as goal
 
-pub is_settled_raw-requires : goal.is_settled_raw-requires
-is_settled_raw-requires c = written_other c.args.url.now c.args.name.now c.requires (c.is_other_form.ensures.0 c.if-is_other_form.true).0.scheme_text
+pub is_settled_raw-requires-clause-form : goal.is_settled_raw-requires-clause-form
+is_settled_raw-requires-clause-form c = written_other c.args.url.now c.args.name.now c.requires.scheme (c.is_other_form.ensures.0 c.if-is_other_form.true).0.scheme_text
 
 pub returns-then-is_other_form : goal.returns-then-is_other_form
 returns-then-is_other_form c =

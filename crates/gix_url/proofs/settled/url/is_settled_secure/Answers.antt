@@ -2,8 +2,8 @@
 use Rattle.gix_url.proofs.SettledLemmas.{second_decides, first_fails, settled_secure, written_secure}
 use Rattle.gix_url.proofs.settled.url.is_settled_secure.Goals as goal
 
-pub is_settled_raw-requires : goal.is_settled_raw-requires
-is_settled_raw-requires c = written_secure c.args.url.now c.requires (c.is_secure_target.ensures.0 c.if-is_secure_target.true).1
+pub is_settled_raw-requires-clause-form : goal.is_settled_raw-requires-clause-form
+is_settled_raw-requires-clause-form c = written_secure c.args.url.now c.requires.scheme (c.is_secure_target.ensures.0 c.if-is_secure_target.true).1
 
 pub returns-then-is_secure_target : goal.returns-then-is_secure_target
 returns-then-is_secure_target c =

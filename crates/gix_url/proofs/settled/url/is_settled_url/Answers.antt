@@ -5,7 +5,7 @@ use Rattle.gix_url.proofs.settled.url.is_settled_url.Goals as goal
 pub has_fitting_text-requires : goal.has_fitting_text-requires
 has_fitting_text-requires c =
     let form = c.has_url_form.ensures.0 c.if-has_url_form.true in
-    record { no_colon = c.requires.no_colon; canonical = c.requires.canonical form.0.unflagged form.0.hosted }
+    record { no_colon = c.requires.form.no_colon; canonical = c.requires.form.canonical form.0.unflagged form.0.hosted; laid = c.requires.laid }
 
 pub returns-then-has_url_form : goal.returns-then-has_url_form
 returns-then-has_url_form c =

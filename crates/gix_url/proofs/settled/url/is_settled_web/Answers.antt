@@ -2,8 +2,8 @@
 use Rattle.gix_url.proofs.SettledLemmas.{second_decides, first_fails, settled_web, written_web}
 use Rattle.gix_url.proofs.settled.url.is_settled_web.Goals as goal
 
-pub is_settled_url-requires : goal.is_settled_url-requires
-is_settled_url-requires c = written_web c.args.url.now c.requires
+pub is_settled_url-requires-clause-form : goal.is_settled_url-requires-clause-form
+is_settled_url-requires-clause-form c = written_web c.args.url.now c.requires.scheme
 
 pub returns-then-is_web_target : goal.returns-then-is_web_target
 returns-then-is_web_target c =
