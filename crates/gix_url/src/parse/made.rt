@@ -57,7 +57,16 @@ pub(super) fn plain_location(
 ) -> Url
     ensures { result ≡ record (path_alone (protocol scheme) flag (bstring_bytes path)) { user = option_map string_bytes user; host = option_map string_bytes host } }
 {
-    full_location(scheme, user, None, host, flag, None, path, None)
+    Url {
+        scheme,
+        user,
+        password: None,
+        host,
+        serialize_alternative_form: flag,
+        port: None,
+        path,
+        spelling: None,
+    }
 }
 
 /// A path with this scheme and this flag, and nothing else.
