@@ -184,6 +184,10 @@ def dash_host(case):
     return {"refusal"} if case.git == "strange hostname" else ()
 
 
+def rsync(case):
+    return {"refusal"} if case.git == "rsync" else ()
+
+
 def refused_here(*faults):
     return lambda case: {"refusal"} if case.ours in faults else ()
 
@@ -210,6 +214,7 @@ CLASSES = {
     "option": option,
     "dash-path": dash_path,
     "dash-host": dash_host,
+    "rsync": rsync,
     "character": refused_here("BadCharacter"),
     "port": refused_here("BadPort"),
     "no-host": refused_here("HostRequired"),
@@ -220,11 +225,12 @@ CLASSES = {
 
 
 def is_careful(case, is_same):
-    """What `docs/GIT.md` tells a careful user to ask of a text, before Git gets it for the place that is read here.
+    """What `docs/GIT.md` tells a careful user to ask by hand of a text, before Git gets it for the place that is read here.
 
-    `is_same` says that the text is settled and is what `to_bstring` writes.
+    It is what `Url::agrees_with_git` asks of a text that is written as it was read. `is_same` says that the text is settled
+    and is what `to_bstring` writes.
     """
-    if not is_same or re.search(rb"[%\[\]\0]", case.text) or case.ours.protocol.startswith("helper "):
+    if not is_same or re.search(rb"\Arsync:|[%\[\]\0]", case.text) or case.ours.protocol.startswith("helper "):
         return False
     _, user, password, host, _, path = case.ours
     is_known = password is None and not any((it or b"").startswith(b"-") for it in (user, host, path))

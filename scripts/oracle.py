@@ -655,6 +655,19 @@ def settled(v):
     return kind == "Ext" or (is_helper_name(v.scheme[1]) and v.scheme[1] != b"ext")
 
 
+def agrees_with_git(v):
+    """Git reads the same place in the text of the location."""
+    kind = v.scheme[0]
+    if kind not in ("Ssh", "Git", "File") or not settled(v) or v.password is not None:
+        return False
+    if any(it is not None and it.startswith(b"-") for it in (v.user, v.host, v.path)):
+        return False
+    t = text(v)
+    if t.startswith(b"rsync:") or any(it in t for it in (b"\0", b"%", b"[", b"]")):
+        return False
+    return v.path[1:2] != b"~" if kind == "Ssh" else (v.user if kind == "Git" else v.host) is None
+
+
 # ---------------------------------------------------------------------------------------------------------------
 # Components and stored records
 

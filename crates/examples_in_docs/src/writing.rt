@@ -51,6 +51,14 @@ fn to_store(alloc: Global, url: &Url) -> Result<Option<BString>, Error> {
     Ok(Some(url.to_bstring(alloc)?))
 }
 
+/// The text for Git, if Git reads the same place in it.
+fn for_git(alloc: Global, url: &Url) -> Result<Option<BString>, Error> {
+    if !url.agrees_with_git() {
+        return Ok(None); // `ssh://u:p@h/p`, in which Git reads the user `u:p`
+    }
+    Ok(Some(url.to_bstring(alloc)?))
+}
+
 fn log_line(alloc: Global, url: &Url) -> Result<String, AllocError> {
     format!(in alloc; "fetching {url}") // `fetching ssh://u:redacted@h/p`
 }
@@ -113,6 +121,21 @@ fn what_comes_back_is_stored(rt: HostRuntime) -> Result<(), Fail> {
     }
     let url = without_host(BString::from_slice(alloc, b"/p")?);
     assert!(rt; to_store(alloc, &url)?.is_none());
+    Ok(())
+}
+
+#[test]
+fn what_git_reads_alike_is_handed_on(rt: HostRuntime) -> Result<(), Fail> {
+    let alloc = rt.alloc();
+    for text in ["ssh://u:p@h/p", "https://h/p", "ssh://[::1]:22/p"] {
+        let url = Url::from_text(alloc, text)?;
+        assert!(rt; for_git(alloc, &url)?.is_none(), "{text}");
+    }
+    let url = Url::from_text(alloc, "ssh://@h/p")?;
+    match for_git(alloc, &url)? {
+        None => assert!(rt; false),
+        Some(written) => assert_eq!(rt; written.as_bytes(), b"ssh://h/p".as_slice()),
+    }
     Ok(())
 }
 

@@ -47,6 +47,8 @@ pub mod GitCutLemmas
 pub mod GitPieceLemmas
 pub mod GitTransportLemmas
 pub mod GitLemmas
+pub mod GitUniqueLemmas
+pub mod RowGitLemmas
 pub mod WrittenHostLemmas
 pub mod WebExactLemmas
 pub mod ClosedLemmas

@@ -212,3 +212,7 @@ pub record GitReads (t : List ℕ) (reading : GitReading) : Type 0 where
   pub whole : FreeOf 0 t
   pub no_option : is_option_like t ≡ false
   pub reads : ReadsGiven t reading
+
+-- Git reads one thing in a text
+abbrev pub OneReading : Type 0
+OneReading = (t : List ℕ) (reading other : GitReading) → GitReads t reading → GitReads t other → reading ≡ other

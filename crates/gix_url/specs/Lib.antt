@@ -50,6 +50,7 @@ pub mod NameRows
 pub mod FormRows
 pub mod ClassRows
 pub mod HomeRows
+pub mod GitRows
 pub mod RefusalRows
 -- What serves the proofs of the readers, of the writer and of the settled test alone.
 pub mod Cuts

@@ -5,6 +5,7 @@
 ghost use Rattle.gix_url.specs.ByteRows.{EscapeSetRows, EscapedByteRows, HostByteRows, NameByteRows, WhiteSpaceRows};
 ghost use Rattle.gix_url.specs.ClassRows.{SettledRows, UnsettledOtherRows, UnsettledUrlRows, UnsettledWebRows, WebHostRows};
 ghost use Rattle.gix_url.specs.FormRows.{FlawRows, FormRows, NameFlawRows, NoFormRows, UrlRows};
+ghost use Rattle.gix_url.specs.GitRows.{GitTextRows, GitUrlRows, NoGitRows};
 ghost use Rattle.gix_url.specs.HomeRows.{ExpandedRows, ParentRows, PieceRows, RawPartRows, SpelledPartRows, SplitRows};
 ghost use Rattle.gix_url.specs.NameRows.{AuthorityRows, LengthRows, LiteralAgain, LiteralRows, NameRows, NoAuthorityRows, NoNameRows, NormalAgain};
 ghost use Rattle.gix_url.specs.RefusalRows.{CornerRows, FlawlessRows, NoCornerRows, NoNameFlawRows, NoPartFlawRows, NoUrlFlawRow};
@@ -116,4 +117,11 @@ fn law_class()
 fn law_corners()
     ensures inside { CornerRows }
     ensures outside { NoCornerRows }
+{}
+
+/// What Git reads.
+fn law_git()
+    ensures urls { GitUrlRows }
+    ensures others { GitTextRows }
+    ensures none { NoGitRows }
 {}

@@ -1,4 +1,5 @@
-//! Texts that Git and the library read differently: three of each class of `docs/GIT.md`, with both readings.
+//! Texts that Git and the library read differently: three of each class of `docs/GIT.md`, with both readings; and texts
+//! that are read alike.
 //!
 //! Git's were told by git 2.39.5, and `scripts/git_witness` asks for them again; the library's were computed by
 //! `scripts/oracle.py`. A reading is the protocol and the parts that are there, or a refusal.
@@ -345,7 +346,7 @@ static SPELLING: [Example; 9] = [
 ];
 
 /// Texts that one side alone refuses.
-static REFUSED: [Example; 27] = [
+static REFUSED: [Example; 30] = [
     ("option", b"-h:p", "refused option", "ssh host=-h path=p"),
     (
         "option",
@@ -394,6 +395,24 @@ static REFUSED: [Example; 27] = [
         b"ssh://%2Dh/p",
         "refused strange hostname",
         "ssh host=-h path=/p",
+    ),
+    (
+        "rsync",
+        b"rsync:p",
+        "refused rsync",
+        "ssh host=rsync path=p",
+    ),
+    (
+        "rsync",
+        b"rsync:/srv/p",
+        "refused rsync",
+        "ssh host=rsync path=/srv/p",
+    ),
+    (
+        "rsync",
+        b"rsync:~u/p",
+        "refused rsync",
+        "ssh host=rsync path=~u/p",
     ),
     (
         "character",
@@ -480,6 +499,72 @@ static REFUSED: [Example; 27] = [
     ("no-scheme", b"7z://h", "helper 7z", "refused NoScheme"),
 ];
 
+/// Texts that are read alike, and that the library lets by.
+static ALIKE: [Example; 12] = [
+    (
+        "alike",
+        b"git@h:a/b.git",
+        "ssh user=git host=h path=a/b.git",
+        "ssh user=git host=h path=a/b.git",
+    ),
+    (
+        "alike",
+        b"a@b@h:p",
+        "ssh user=a@b host=h path=p",
+        "ssh user=a@b host=h path=p",
+    ),
+    (
+        "alike",
+        b"@h:p",
+        "ssh user= host=h path=p",
+        "ssh user= host=h path=p",
+    ),
+    (
+        "alike",
+        b"h:~u/p",
+        "ssh host=h path=~u/p",
+        "ssh host=h path=~u/p",
+    ),
+    (
+        "alike",
+        b"u@rsync:p",
+        "ssh user=u host=rsync path=p",
+        "ssh user=u host=rsync path=p",
+    ),
+    (
+        "alike",
+        b"ssh://u@h:22/p",
+        "ssh user=u host=h port=22 path=/p",
+        "ssh user=u host=h port=22 path=/p",
+    ),
+    (
+        "alike",
+        b"ssh://u@::1/~u/p",
+        "ssh user=u host=::1 path=~u/p",
+        "ssh user=u host=::1 path=~u/p",
+    ),
+    (
+        "alike",
+        b"ssh://rsync/p",
+        "ssh host=rsync path=/p",
+        "ssh host=rsync path=/p",
+    ),
+    (
+        "alike",
+        b"git://h:9418/p",
+        "git host=h port=9418 path=/p",
+        "git host=h port=9418 path=/p",
+    ),
+    (
+        "alike",
+        b"file:///a:b@c",
+        "file path=/a:b@c",
+        "file path=/a:b@c",
+    ),
+    ("alike", b"./a:b", "file path=./a:b", "file path=./a:b"),
+    ("alike", b"~u/@p", "file path=~u/@p", "file path=~u/@p"),
+];
+
 /// What the library reads in a text.
 fn told(alloc: Global, text: &[u8]) -> Result<String, Fail> {
     let mut out = String::new(alloc);
@@ -499,6 +584,14 @@ fn told(alloc: Global, text: &[u8]) -> Result<String, Fail> {
     Ok(out)
 }
 
+/// Whether the text is let by: Git is said to read in it what the library does, and it is the text that is written.
+fn is_let_by(alloc: Global, text: &[u8]) -> Result<bool, Fail> {
+    match Url::from_bytes(alloc, BStr::new(text)) {
+        Err(_) => Ok(false),
+        Ok(url) => Ok(url.agrees_with_git() && url.to_bstring(alloc)?.as_bytes() == text),
+    }
+}
+
 /// A part, where it is there.
 fn put(out: &mut String, name: &str, part: Option<&str>) -> Result<(), Fail> {
     if let Some(part) = part {
@@ -513,6 +606,7 @@ fn another_machine(rt: HostRuntime) -> Result<(), Fail> {
         let told = told(rt.alloc(), text)?;
         assert_eq!(rt; told.as_str(), ours, "{class}");
         assert!(rt; told.as_str() != git, "{class}");
+        assert!(rt; !is_let_by(rt.alloc(), text)?, "{class}");
     }
     Ok(())
 }
@@ -523,6 +617,7 @@ fn another_path(rt: HostRuntime) -> Result<(), Fail> {
         let told = told(rt.alloc(), text)?;
         assert_eq!(rt; told.as_str(), ours, "{class}");
         assert!(rt; told.as_str() != git, "{class}");
+        assert!(rt; !is_let_by(rt.alloc(), text)?, "{class}");
     }
     Ok(())
 }
@@ -533,6 +628,7 @@ fn another_spelling(rt: HostRuntime) -> Result<(), Fail> {
         let told = told(rt.alloc(), text)?;
         assert_eq!(rt; told.as_str(), ours, "{class}");
         assert!(rt; told.as_str() != git, "{class}");
+        assert!(rt; !is_let_by(rt.alloc(), text)?, "{class}");
     }
     Ok(())
 }
@@ -543,6 +639,18 @@ fn refused_by_one_side(rt: HostRuntime) -> Result<(), Fail> {
         let told = told(rt.alloc(), text)?;
         assert_eq!(rt; told.as_str(), ours, "{class}");
         assert!(rt; told.as_str() != git, "{class}");
+        assert!(rt; !is_let_by(rt.alloc(), text)?, "{class}");
+    }
+    Ok(())
+}
+
+#[test]
+fn read_alike(rt: HostRuntime) -> Result<(), Fail> {
+    for (class, text, git, ours) in ALIKE {
+        let told = told(rt.alloc(), text)?;
+        assert_eq!(rt; told.as_str(), ours, "{class}");
+        assert_eq!(rt; told.as_str(), git, "{class}");
+        assert!(rt; is_let_by(rt.alloc(), text)?, "{told}");
     }
     Ok(())
 }

@@ -2,7 +2,8 @@
 //! Git how it reads the same lines.
 //!
 //! Glue alone, by public calls of `gix_url`: the record of what was read, under `Same`, `Settled` or `Unsettled`, or the
-//! name of what is wrong, under `Refused`. Lines are bytes, and end with byte 10. Arguments are ignored.
+//! name of what is wrong, under `Refused`; the text that is written, where it is another one; and whether Git is said to
+//! read the same place in that text. Lines are bytes, and end with byte 10. Arguments are ignored.
 //! The stored run is the examples of `differences`, answered by `scripts/oracle.py`.
 #![tactic(auto)]
 
@@ -29,24 +30,49 @@ enum Reading {
     Refused(String),
 }
 
-/// What the bytes are read as.
-fn read(alloc: Global, bytes: &[u8]) -> Result<Reading, Error> {
+/// What is said of a line.
+#[derive(Drop, Serialize)]
+struct LineAnswer {
+    /// What it is read as.
+    reading: Reading,
+    /// The text of a settled location, where it isn't the line.
+    written: Option<Vec<u8>>,
+    /// Whether Git is said to read the same place in the text of the location.
+    agrees_with_git: bool,
+}
+
+/// What is said of bytes.
+fn said(alloc: Global, bytes: &[u8]) -> Result<LineAnswer, Error> {
     match Url::from_bytes(alloc, BStr::new(bytes)) {
-        Ok(url) => {
-            let parts = url.to_stored(alloc)?;
-            if !url.is_settled() {
-                return Ok(Reading::Unsettled(parts));
-            }
-            let text = url.to_bstring(alloc)?;
-            Ok(if text.as_bytes() == bytes {
-                Reading::Same(parts)
-            } else {
-                Reading::Settled(parts)
-            })
-        }
+        Ok(url) => said_of(alloc, bytes, &url),
         Err(Error::Memory) => Err(Error::Memory),
-        Err(error) => Ok(Reading::Refused(String::from_str(alloc, flaw(&error))?)),
+        Err(error) => Ok(LineAnswer {
+            reading: Reading::Refused(String::from_str(alloc, flaw(&error))?),
+            written: None,
+            agrees_with_git: false,
+        }),
     }
+}
+
+/// What is said of bytes and of what they are read as.
+fn said_of(alloc: Global, bytes: &[u8], url: &Url) -> Result<LineAnswer, Error> {
+    let parts = url.to_stored(alloc)?;
+    let agrees_with_git = url.agrees_with_git();
+    let (reading, written) = if !url.is_settled() {
+        (Reading::Unsettled(parts), None)
+    } else {
+        let text = url.to_bstring(alloc)?.into_vec();
+        if text.as_slice() == bytes {
+            (Reading::Same(parts), None)
+        } else {
+            (Reading::Settled(parts), Some(text))
+        }
+    };
+    Ok(LineAnswer {
+        reading,
+        written,
+        agrees_with_git,
+    })
 }
 
 /// The name of what is wrong with a text.
@@ -68,8 +94,8 @@ fn flaw(error: &Error) -> &'static str {
 
 /// The answer to a line.
 fn answer(alloc: Global, line: &[u8]) -> Result<String, AllocError> {
-    let reading = read(alloc, line).map_err(|_| AllocError)?;
-    serde_json::to_string(alloc, &reading).map_err(|_| AllocError)
+    let said = said(alloc, line).map_err(|_| AllocError)?;
+    serde_json::to_string(alloc, &said).map_err(|_| AllocError)
 }
 
 fn main(rt: HostRuntime) -> io::Result<()> {

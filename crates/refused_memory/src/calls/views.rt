@@ -21,6 +21,7 @@ pub fn over_view(alloc: Global, order: &Order<'_>, page: &mut Page) -> Result<()
     }
     match order.call {
         "Url::is_settled" => tell_bool(page, url.is_settled()),
+        "Url::agrees_with_git" => tell_bool(page, url.agrees_with_git()),
         "Url::user" => tell_option(page, url.user()),
         "Url::password" => tell_option(page, url.password()),
         "Url::host" => tell_option(page, url.host()),

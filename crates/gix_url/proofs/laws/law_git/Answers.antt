@@ -1,6 +1,7 @@
--- The law is a lemma.
+-- Each law is a lemma.
 use Rattle.gix_url.proofs.GitLemmas.{read_same}
+use Rattle.gix_url.proofs.GitUniqueLemmas.{one_reading}
 use Rattle.gix_url.proofs.laws.law_git.Goals as goal
 
 pub returns : goal.returns
-returns c = record { alike = read_same }
+returns c = record { alike = read_same; one = one_reading }
