@@ -5,6 +5,7 @@ use crate::components::is_made_of;
 use gix_url::stored::StoredUrl;
 use gix_url::{Error, Scheme, Url, UrlFault};
 use std::alloc::Global;
+use std::process::Abort;
 use std::test::Fail;
 
 /// A location with this path and this spelling of it.
@@ -23,12 +24,24 @@ fn spelled(alloc: Global, path: &[u8], spelling: &[u8]) -> Result<Url, Fail> {
 }
 
 /// Whether a character was refused.
-fn is_refused(read: Result<Url, Error>) -> bool {
+fn is_refused(read: &Result<Url, Error>) -> bool {
     match read {
-        Ok(_) => false,
-        Err(Error::BadUrl { fault, .. }) => fault == UrlFault::BadCharacter,
-        Err(_) => false,
+        Err(Error::BadUrl { fault, .. }) => *fault == UrlFault::BadCharacter,
+        _ => false,
     }
+}
+
+/// Checks what the path of a location is made of, and that the location is unsettled.
+fn is_broken(
+    rt: &impl Abort,
+    alloc: Global,
+    path: &str,
+    spelling: &str,
+    want: &str,
+) -> Result<(), Fail> {
+    let url = spelled(alloc, path.as_bytes(), spelling.as_bytes())?;
+    assert!(rt; !url.is_settled(), "{spelling}");
+    is_made_of(rt, alloc, &url, want)
 }
 
 /// Paths, their spellings, and what they are made of, told as in `components`: an escaped mark behind a broken escape
@@ -42,18 +55,21 @@ static BROKEN: [(&str, &str, &str); 3] = [
 #[test]
 fn broken_escapes_are_bytes(rt: HostRuntime) -> Result<(), Fail> {
     for &(path, spelling, want) in BROKEN.as_slice() {
-        let url = spelled(rt.alloc(), path.as_bytes(), spelling.as_bytes())?;
-        is_made_of(&rt, rt.alloc(), &url, want)?;
-        assert!(rt; !url.is_settled(), "{spelling}");
+        is_broken(&rt, rt.alloc(), path, spelling, want)?;
     }
+    Ok(())
+}
+
+/// Checks how a location is written, and that its text is refused.
+fn is_not_read_again(rt: &impl Abort, alloc: Global, url: &Url, text: &[u8]) -> Result<(), Fail> {
+    assert_eq!(rt; url.to_bstring(alloc)?.as_bytes(), text);
+    assert!(rt; is_refused(&url.reread(alloc)));
     Ok(())
 }
 
 #[test]
 fn a_broken_spelling_is_written_and_refused(rt: HostRuntime) -> Result<(), Fail> {
     let url = spelled(rt.alloc(), b"/a%2?b", b"/a%2%3Fb")?;
-    let text = url.to_bstring(rt.alloc())?;
-    assert_eq!(rt; text.as_bytes(), b"https://h/a%2%3Fb".as_slice());
-    assert!(rt; !url.is_settled() && is_refused(url.reread(rt.alloc())));
-    Ok(())
+    assert!(rt; !url.is_settled());
+    is_not_read_again(&rt, rt.alloc(), &url, b"https://h/a%2%3Fb")
 }

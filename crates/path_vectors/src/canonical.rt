@@ -24,39 +24,66 @@ fn real<R: Files + AllocGlobal>(rt: &R, url: &Url) -> Result<Url, Error> {
     })
 }
 
-/// Canonicalizes a location by a resolver that answers this, in place and in a copy, which have to agree. Answers the
-/// outcome and how often the resolver was called; it is called for the path alone.
-fn canonicalize(
+/// Canonicalizes a copy of a location by a resolver that answers this, and which is called for the path alone. Answers
+/// the outcome and how often the resolver was called.
+fn in_a_copy(
     rt: &impl Abort,
     alloc: Global,
-    url: &mut Url,
+    url: &Url,
     answer: Option<&str>,
-) -> Result<(Result<(), Error>, u8), Fail> {
+) -> Result<(Result<Url, Error>, u8), Fail> {
     let path = url.path.as_bytes();
-    let mut copied = 0u8;
+    let mut calls = 0u8;
     let mut strangers = 0u8;
     let given = text(alloc, answer)?;
-    let copy = url.canonicalized(alloc, |asked| {
-        copied = copied.saturating_add(1);
+    let outcome = url.canonicalized(alloc, |asked| {
+        calls = calls.saturating_add(1);
         if asked.as_bytes() != path {
             strangers = strangers.saturating_add(1);
         }
         given
     });
+    assert_eq!(rt; strangers, 0, "the resolver is asked for another path");
+    Ok((outcome, calls))
+}
+
+/// The same in place.
+fn in_place(
+    alloc: Global,
+    url: &mut Url,
+    answer: Option<&str>,
+) -> Result<(Result<(), Error>, u8), Fail> {
     let mut calls = 0u8;
     let given = text(alloc, answer)?;
     let outcome = url.canonicalize(|_| {
         calls = calls.saturating_add(1);
         given
     });
-    assert_eq!(rt; strangers, 0, "the resolver is asked for another path");
-    assert_eq!(rt; calls, copied, "calls in place and of the copy");
-    match &copy {
-        Ok(copy) => assert!(rt; outcome.is_ok() && *copy == *url, "the copy differs"),
-        Err(Error::PathNotUtf8) => assert!(rt; matches!(outcome, Err(Error::PathNotUtf8))),
-        Err(Error::Unresolved) => assert!(rt; matches!(outcome, Err(Error::Unresolved))),
-        Err(_) => assert!(rt; false, "another error"),
+    Ok((outcome, calls))
+}
+
+/// Whether a copy is the location that was canonicalized in place, or both were refused alike.
+fn agree(copy: &Result<Url, Error>, outcome: &Result<(), Error>, url: &Url) -> bool {
+    match (copy, outcome) {
+        (Ok(copy), Ok(())) => copy == url,
+        (Err(Error::PathNotUtf8), Err(Error::PathNotUtf8)) => true,
+        (Err(Error::Unresolved), Err(Error::Unresolved)) => true,
+        _ => false,
     }
+}
+
+/// Canonicalizes a location by a resolver that answers this, in place and in a copy, which have to agree. Answers the
+/// outcome and how often the resolver was called.
+fn canonicalize(
+    rt: &impl Abort,
+    alloc: Global,
+    url: &mut Url,
+    answer: Option<&str>,
+) -> Result<(Result<(), Error>, u8), Fail> {
+    let (copy, copied) = in_a_copy(rt, alloc, url, answer)?;
+    let (outcome, calls) = in_place(alloc, url, answer)?;
+    assert_eq!(rt; calls, copied, "calls in place and of the copy");
+    assert!(rt; agree(&copy, &outcome, url), "the copy differs");
     Ok((outcome, calls))
 }
 
@@ -68,60 +95,83 @@ fn text(alloc: Global, text: Option<&str>) -> Result<Option<String>, Fail> {
     }
 }
 
+/// Checks that the answer of the resolver becomes the path of a location, and how that is written then.
+fn takes(
+    rt: &impl Abort,
+    alloc: Global,
+    text: &str,
+    answer: &str,
+    written: &str,
+) -> Result<(), Fail> {
+    let mut url = Url::from_text(alloc, text)?;
+    let (outcome, calls) = canonicalize(rt, alloc, &mut url, Some(answer))?;
+    outcome?;
+    assert_eq!(rt; calls, 1, "calls");
+    assert_eq!(rt; url.path.as_bytes(), answer.as_bytes());
+    assert_eq!(rt; url.to_bstring(alloc)?.as_bytes(), written.as_bytes());
+    Ok(())
+}
+
 #[test]
 fn the_answer_is_the_path(rt: HostRuntime) -> Result<(), Fail> {
-    let alloc = rt.alloc();
-    let mut url = Url::from_text(alloc, "/a/../b")?;
-    let (outcome, calls) = canonicalize(&rt, alloc, &mut url, Some("/b"))?;
-    outcome?;
-    assert_eq!(&rt; calls, 1, "calls");
-    assert_eq!(&rt; url.path.as_bytes(), b"/b".as_slice());
-    assert_eq!(&rt; url.to_bstring(alloc)?.as_bytes(), b"/b".as_slice());
-    let mut url = Url::from_text(alloc, "file:///a%20b")?;
-    let (outcome, calls) = canonicalize(&rt, alloc, &mut url, Some("/c"))?;
-    outcome?;
-    assert_eq!(&rt; calls, 1, "calls");
-    assert_eq!(&rt; url.to_bstring(alloc)?.as_bytes(), b"file:///c".as_slice());
-    Ok(())
+    takes(&rt, rt.alloc(), "/a/../b", "/b", "/b")?;
+    takes(&rt, rt.alloc(), "file:///a%20b", "/c", "file:///c")
+}
+
+/// Whether the resolver is asked for this path, and a refusal of it is told.
+fn is_asked_for(url: &mut Url, path: &str) -> bool {
+    let mut right = false;
+    let outcome = url.canonicalize(|asked| {
+        right = asked == path;
+        None
+    });
+    right && matches!(&outcome, Err(Error::Unresolved))
 }
 
 #[test]
 fn what_the_resolver_is_asked(rt: HostRuntime) -> Result<(), Fail> {
     let mut url = Url::from_text(rt.alloc(), "file:///a%20b")?;
-    let mut right = false;
-    let outcome = url.canonicalize(|path| {
-        right = path == "/a%20b";
-        None
-    });
-    assert!(&rt; right, "the path as it stands");
-    assert!(&rt; matches!(outcome, Err(Error::Unresolved)));
+    assert!(&rt; is_asked_for(&mut url, "/a%20b"), "the path as it stands");
     Ok(())
 }
 
 #[test]
-fn refusals_leave_the_path(rt: HostRuntime) -> Result<(), Fail> {
-    let alloc = rt.alloc();
-    let mut url = Url::from_text(alloc, "/")?;
+fn a_path_that_is_no_text_stays(rt: HostRuntime) -> Result<(), Fail> {
+    let mut url = Url::from_text(rt.alloc(), "/")?;
     url.path.push(0xff)?;
-    let (outcome, calls) = canonicalize(&rt, alloc, &mut url, Some("/b"))?;
+    let (outcome, calls) = canonicalize(&rt, rt.alloc(), &mut url, Some("/b"))?;
     assert!(&rt;
-        matches!(outcome, Err(Error::PathNotUtf8)),
+        matches!(&outcome, Err(Error::PathNotUtf8)),
         "the path is no text"
     );
     assert_eq!(&rt; calls, 0, "the resolver is called");
     assert_eq!(&rt; url.path.as_bytes(), b"/\xff".as_slice());
-    let mut url = Url::from_text(alloc, "/a")?;
-    let (outcome, calls) = canonicalize(&rt, alloc, &mut url, None)?;
-    assert!(&rt; matches!(outcome, Err(Error::Unresolved)), "no answer");
+    Ok(())
+}
+
+#[test]
+fn a_refusal_leaves_the_path(rt: HostRuntime) -> Result<(), Fail> {
+    let mut url = Url::from_text(rt.alloc(), "/a")?;
+    let (outcome, calls) = canonicalize(&rt, rt.alloc(), &mut url, None)?;
+    assert!(&rt; matches!(&outcome, Err(Error::Unresolved)), "no answer");
     assert_eq!(&rt; calls, 1, "calls");
     assert_eq!(&rt; url.path.as_bytes(), b"/a".as_slice());
     Ok(())
 }
 
+/// Checks that a location stays as it is, and that the resolver isn't asked.
+fn stays(rt: &impl Abort, alloc: Global, text: &str) -> Result<(), Fail> {
+    let mut url = Url::from_text(alloc, text)?;
+    let (outcome, calls) = canonicalize(rt, alloc, &mut url, Some("/b"))?;
+    outcome?;
+    assert_eq!(rt; calls, 0, "the resolver is called for {text}");
+    assert!(rt; url == Url::from_text(alloc, text)?, "{text} changes");
+    Ok(())
+}
+
 #[test]
 fn other_schemes_stay(rt: HostRuntime) -> Result<(), Fail> {
-    let alloc = rt.alloc();
-    for given in [
+    for text in [
         "ssh://h/a",
         "https://h/a%20b",
         "a::b",
@@ -129,23 +179,23 @@ fn other_schemes_stay(rt: HostRuntime) -> Result<(), Fail> {
         "x://h/a",
         "ext::a",
     ] {
-        let mut url = Url::from_text(alloc, given)?;
-        let before = url.clone(alloc)?;
-        let (outcome, calls) = canonicalize(&rt, alloc, &mut url, Some("/b"))?;
-        outcome?;
-        assert_eq!(&rt; calls, 0, "the resolver is called for {given}");
-        assert!(&rt; url == before, "{given} changes");
+        stays(&rt, rt.alloc(), text)?;
     }
     Ok(())
 }
 
 #[test]
-fn paths_of_the_file_system(rt: HostRuntime) -> Result<(), Fail> {
+fn the_root_of_the_file_system(rt: HostRuntime) -> Result<(), Fail> {
     let mut url = Url::from_text(rt.alloc(), "/.././")?;
     assert_eq!(&rt; real(&rt, &url)?.path.as_bytes(), b"/".as_slice());
     resolve(&rt, &mut url)?;
     assert_eq!(&rt; url.path.as_bytes(), b"/".as_slice());
+    Ok(())
+}
+
+#[test]
+fn what_the_file_system_lacks(rt: HostRuntime) -> Result<(), Fail> {
     let mut url = Url::from_text(rt.alloc(), "/no such folder/at all")?;
-    assert!(&rt; matches!(resolve(&rt, &mut url), Err(Error::Unresolved)));
+    assert!(&rt; matches!(&resolve(&rt, &mut url), Err(Error::Unresolved)));
     Ok(())
 }

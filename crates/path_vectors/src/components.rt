@@ -75,6 +75,18 @@ fn told(alloc: Global, parts: &PathComponents<'_>) -> Result<Vec<u8>, Fail> {
     Ok(told)
 }
 
+/// Checks what a path is made of.
+fn is_told(
+    rt: &impl Abort,
+    alloc: Global,
+    parts: &PathComponents<'_>,
+    want: &str,
+) -> Result<(), Fail> {
+    let told = told(alloc, parts)?;
+    assert_eq!(rt; told.as_slice(), want.as_bytes(), "{want}");
+    Ok(())
+}
+
 /// Checks what the path of the location is made of.
 pub(crate) fn is_made_of(
     rt: &impl Abort,
@@ -83,111 +95,127 @@ pub(crate) fn is_made_of(
     want: &str,
 ) -> Result<(), Fail> {
     let parts = url.path_query_fragment(alloc)?;
-    let told = told(alloc, &parts)?;
-    assert_eq!(rt; told.as_slice(), want.as_bytes(), "{want}");
-    Ok(())
+    is_told(rt, alloc, &parts, want)
 }
 
 #[test]
 fn what_paths_are_made_of(rt: HostRuntime) -> Result<(), Fail> {
-    let alloc = rt.alloc();
     for &(text, want) in READ.as_slice() {
-        let url = Url::from_text(alloc, text)?;
-        is_made_of(&rt, alloc, &url, want)?;
-    }
-    for &(scheme, path, want) in ASSIGNED.as_slice() {
-        let url = unchecked(
-            alloc,
-            scheme,
-            None,
-            None,
-            Some("h"),
-            None,
-            path.as_bytes(),
-            false,
-        )?;
-        is_made_of(&rt, alloc, &url, want)?;
+        let url = Url::from_text(rt.alloc(), text)?;
+        is_made_of(&rt, rt.alloc(), &url, want)?;
     }
     Ok(())
+}
+
+/// A location of this scheme and this path, which no spelling comes with.
+fn assigned(alloc: Global, scheme: &str, path: &[u8]) -> Result<Url, Fail> {
+    unchecked(alloc, scheme, None, None, Some("h"), None, path, false)
+}
+
+#[test]
+fn what_paths_without_a_spelling_are_made_of(rt: HostRuntime) -> Result<(), Fail> {
+    for &(scheme, path, want) in ASSIGNED.as_slice() {
+        let url = assigned(rt.alloc(), scheme, path.as_bytes())?;
+        is_made_of(&rt, rt.alloc(), &url, want)?;
+    }
+    Ok(())
+}
+
+/// Checks what the path of the location is made of once it is another one.
+fn is_then_made_of(
+    rt: &impl Abort,
+    alloc: Global,
+    url: &mut Url,
+    path: &[u8],
+    want: &str,
+) -> Result<(), Fail> {
+    url.path = BString::from_slice(alloc, path)?;
+    is_made_of(rt, alloc, url, want)
 }
 
 #[test]
 fn escapes_count_while_the_spelling_does(rt: HostRuntime) -> Result<(), Fail> {
-    let alloc = rt.alloc();
-    let mut url = Url::from_text(alloc, "https://host/my%20repo?a%2Bb")?;
-    url.path = BString::from_slice(alloc, b"/x%20y?a%2B+b")?;
-    is_made_of(&rt, alloc, &url, "/x%20y ? {a%2B b}=<>")?;
-    url.path = BString::from_slice(alloc, b"/my repo?a+b")?;
-    is_made_of(&rt, alloc, &url, "/my repo ? <a+b>=<>")?;
-    Ok(())
-}
-
-#[test]
-fn copies_are_equal_and_lend_alike(rt: HostRuntime) -> Result<(), Fail> {
-    let alloc = rt.alloc();
-    let url = Url::from_text(alloc, "http://h/?a+b=%2B&&c&=d#x+y")?;
-    let parts = url.path_query_fragment(alloc)?;
-    let copy = parts.clone(alloc)?;
-    assert!(rt; copy == parts);
-    let told_copy = told(alloc, &copy)?;
-    assert_eq!(rt;
-        told_copy.as_slice(),
-        b"/ ? {a b}=<+> <c>=<> <>=<d> #x+y".as_slice()
-    );
-    Ok(())
-}
-
-/// Whether the paths of two locations are made of the same.
-fn are_equal(alloc: Global, first: &Url, second: &Url) -> Result<bool, Fail> {
-    let parts = first.path_query_fragment(alloc)?;
-    Ok(parts == second.path_query_fragment(alloc)?)
-}
-
-#[test]
-fn equality_counts_bytes(rt: HostRuntime) -> Result<(), Fail> {
-    let alloc = rt.alloc();
-    let owned = Url::from_text(alloc, "http://h/?a+b#x")?;
-    let lent = Url::from_text(alloc, "http://other/?a%20b#x")?;
-    assert!(rt; are_equal(alloc, &owned, &lent)?);
-    for text in [
-        "http://h/?a+b",
-        "http://h/#x",
-        "http://h/?a+c#x",
-        "http://h/?a+b&a+b#x",
-        "http://h/?#x",
-        "http://h/b?a+b#x",
-        "http://h/?a+b#y",
+    let mut url = Url::from_text(rt.alloc(), "https://host/my%20repo?a%2Bb")?;
+    for (path, want) in [
+        (b"/x%20y?a%2B+b".as_slice(), "/x%20y ? {a%2B b}=<>"),
+        (b"/my repo?a+b".as_slice(), "/my repo ? <a+b>=<>"),
     ] {
-        let url = Url::from_text(alloc, text)?;
-        assert!(rt; !are_equal(alloc, &owned, &url)?, "{text}");
+        is_then_made_of(&rt, rt.alloc(), &mut url, path, want)?;
     }
     Ok(())
 }
 
+/// Checks what a copy of a path's parts is told as, and that it is equal to them.
+fn are_copied(
+    rt: &impl Abort,
+    alloc: Global,
+    parts: &PathComponents<'_>,
+    want: &str,
+) -> Result<(), Fail> {
+    let copy = parts.clone(alloc)?;
+    assert!(rt; copy == *parts);
+    is_told(rt, alloc, &copy, want)
+}
+
+#[test]
+fn copies_are_equal_and_lend_alike(rt: HostRuntime) -> Result<(), Fail> {
+    let url = Url::from_text(rt.alloc(), "http://h/?a+b=%2B&&c&=d#x+y")?;
+    let parts = url.path_query_fragment(rt.alloc())?;
+    are_copied(&rt, rt.alloc(), &parts, "/ ? {a b}=<+> <c>=<> <>=<d> #x+y")
+}
+
+/// Checks whether the paths of two texts are made of the same.
+fn are_equal(
+    rt: &impl Abort,
+    alloc: Global,
+    text: &str,
+    parts: &PathComponents<'_>,
+    equal: bool,
+) -> Result<(), Fail> {
+    let url = Url::from_text(alloc, text)?;
+    let is_equal = url.path_query_fragment(alloc)? == *parts;
+    assert_eq!(rt; is_equal, equal, "{text}");
+    Ok(())
+}
+
+/// Texts, and whether their paths are made of the same as that of `http://h/?a+b#x`.
+static EQUAL: [(&str, bool); 8] = [
+    ("http://other/?a%20b#x", true),
+    ("http://h/?a+b", false),
+    ("http://h/#x", false),
+    ("http://h/?a+c#x", false),
+    ("http://h/?a+b&a+b#x", false),
+    ("http://h/?#x", false),
+    ("http://h/b?a+b#x", false),
+    ("http://h/?a+b#y", false),
+];
+
+#[test]
+fn equality_counts_bytes(rt: HostRuntime) -> Result<(), Fail> {
+    let url = Url::from_text(rt.alloc(), "http://h/?a+b#x")?;
+    let parts = url.path_query_fragment(rt.alloc())?;
+    for &(text, equal) in EQUAL.as_slice() {
+        are_equal(&rt, rt.alloc(), text, &parts, equal)?;
+    }
+    Ok(())
+}
+
+/// Checks what the path of a location is made of, by the second reading. It says whether the path has a spelling.
+fn is_read_plainly(rt: &impl Abort, alloc: Global, url: &Url, turn: u64) -> Result<bool, Fail> {
+    let original = url.original_path().as_bytes();
+    let is_spelled = original != url.path.as_bytes();
+    let want = plainly_told(alloc, original, is_spelled)?;
+    let told = told(alloc, &url.path_query_fragment(alloc)?)?;
+    assert_eq!(rt; told.as_slice(), want.as_slice(), "path {turn}");
+    Ok(is_spelled)
+}
+
 #[test]
 fn random_paths_read_plainly(rt: HostRuntime) -> Result<(), Fail> {
-    let alloc = rt.alloc();
     let mut spelled = 0usize;
     for turn in 0..500u64 {
-        let path = random_path(alloc, turn)?;
-        let url = match read(alloc, path.as_slice())? {
-            Some(url) => url,
-            None => unchecked(
-                alloc,
-                "Http",
-                None,
-                None,
-                Some("h"),
-                None,
-                path.as_slice(),
-                false,
-            )?,
-        };
-        let is_spelled = url.original_path().as_bytes() != url.path.as_bytes();
-        let want = plainly_told(alloc, url.original_path().as_bytes(), is_spelled)?;
-        let parts = url.path_query_fragment(alloc)?;
-        let told = told(alloc, &parts)?;
-        assert_eq!(rt; told.as_slice(), want.as_slice(), "path {turn}");
+        let url = random_url(rt.alloc(), turn)?;
+        let is_spelled = is_read_plainly(&rt, rt.alloc(), &url, turn)?;
         spelled = spelled.saturating_add(usize::from(is_spelled));
     }
     assert!(rt;
@@ -197,14 +225,13 @@ fn random_paths_read_plainly(rt: HostRuntime) -> Result<(), Fail> {
     Ok(())
 }
 
-/// What a URL with this path is read as, if it is one.
-fn read(alloc: Global, path: &[u8]) -> Result<Option<Url>, Fail> {
-    let mut text = Vec::new(alloc);
-    text.extend_from_slice(b"http://h/")?;
-    text.extend_from_slice(path)?;
-    let text = BString::new(text);
-    match Url::from_bytes(alloc, text.as_bstr()) {
-        Ok(url) => Ok(Some(url)),
-        Err(_) => Ok(None),
+/// A location of HTTP with the path of this number: what a text with it is read as, if it is a URL.
+fn random_url(alloc: Global, turn: u64) -> Result<Url, Fail> {
+    let path = random_path(alloc, turn)?;
+    let mut text = BString::from_slice(alloc, b"http://h/")?;
+    text.extend_from_slice(path.as_slice())?;
+    if let Ok(url) = Url::from_bytes(alloc, text.as_bstr()) {
+        return Ok(url);
     }
+    assigned(alloc, "Http", path.as_slice())
 }

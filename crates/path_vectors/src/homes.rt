@@ -1,15 +1,14 @@
-//! Home folders: splits, paths for a shell, expansions, and how users compare.
+//! Home folders: splits, paths for a shell, and expansions.
 //!
 //! The rows are those of the crate that this library is a port of. Two thousand short paths are read a second time here,
 //! plainly, and the answers compared.
 
 use crate::plain_homes::{Paths, expanded, shell_path, split};
+use crate::users::user;
 use bstr::{BStr, BString};
 use gix_url::Error;
 use gix_url::expand_path::{self, ForUser, for_shell};
 use std::alloc::Global;
-use std::cmp::Ordering;
-use std::collections::HashSet;
 use std::env;
 use std::path::PathBuf;
 use std::process::Abort;
@@ -38,14 +37,6 @@ fn is_own(alloc: Global, path: BStr<'_>) -> Result<bool, Error> {
     Ok(user == Some(ForUser::Current))
 }
 
-/// The user of this name; none named is the current one.
-fn user(alloc: Global, name: &str) -> Result<ForUser, Fail> {
-    if name.is_empty() {
-        return Ok(ForUser::Current);
-    }
-    Ok(ForUser::Name(BString::from_slice(alloc, name)?))
-}
-
 /// Whether a user has this name; the current one has an empty one.
 fn is_named(user: &ForUser, name: &[u8]) -> bool {
     match user {
@@ -63,53 +54,82 @@ fn is_told(user: &Option<ForUser>, name: Option<&[u8]>) -> bool {
     }
 }
 
+/// Checks the name of the user in whose home folder a path begins, and what is left of the path.
+fn splits_into(
+    rt: &impl Abort,
+    alloc: Global,
+    path: &[u8],
+    name: Option<&[u8]>,
+    rest: &[u8],
+) -> Result<(), Fail> {
+    let shown = BStr::new(path);
+    let (user, left) = expand_path::parse(alloc, shown)?;
+    assert!(rt; is_told(&user, name), "the user of {shown}");
+    assert_eq!(rt; left.as_bytes(), rest, "what is left of {shown}");
+    Ok(())
+}
+
 /// Paths, the name of the user in whose home folder they begin (empty for the current one), and what is left.
-static SPLITS: [(&str, Option<&str>, &str); 9] = [
-    ("/~/repopath", Some(""), "/repopath"),
-    ("/~user/repopath", Some("user"), "/repopath"),
-    ("/~", Some(""), "/"),
-    ("/~u", Some("u"), "/"),
-    ("/~u//a/./b", Some("u"), "//a/./b"),
-    ("~/a", None, "~/a"),
-    ("/a/~b", None, "/a/~b"),
-    ("//~u", None, "//~u"),
-    ("", None, ""),
+static SPLITS: [(&[u8], Option<&[u8]>, &[u8]); 10] = [
+    (b"/~/repopath", Some(b""), b"/repopath"),
+    (b"/~user/repopath", Some(b"user"), b"/repopath"),
+    (b"/~", Some(b""), b"/"),
+    (b"/~u", Some(b"u"), b"/"),
+    (b"/~u//a/./b", Some(b"u"), b"//a/./b"),
+    (b"~/a", None, b"~/a"),
+    (b"/a/~b", None, b"/a/~b"),
+    (b"//~u", None, b"//~u"),
+    (b"", None, b""),
+    (b"/~\xff/\xff", Some(b"\xff"), b"/\xef\xbf\xbd"),
 ];
 
 #[test]
 fn splits(rt: HostRuntime) -> Result<(), Fail> {
     for &(path, name, rest) in SPLITS.as_slice() {
-        let (user, left) = expand_path::parse(rt.alloc(), BStr::from(path))?;
-        assert!(&rt;
-            is_told(&user, name.map(|name| name.as_bytes())),
-            "the user of {path}"
-        );
-        assert_eq!(&rt; left.as_bytes(), rest.as_bytes(), "what is left of {path}");
+        splits_into(&rt, rt.alloc(), path, name, rest)?;
     }
-    let (user, left) = expand_path::parse(rt.alloc(), BStr::new(b"/~\xff/\xff"))?;
-    assert!(&rt;
-        is_told(&user, Some(b"\xff".as_slice())),
-        "a name that is no text"
-    );
-    assert_eq!(&rt; left.as_bytes(), b"/\xef\xbf\xbd".as_slice());
     Ok(())
 }
 
+/// Checks the text that a shell takes for a path.
+fn goes_to_a_shell(rt: &impl Abort, alloc: Global, path: &[u8], text: &[u8]) -> Result<(), Fail> {
+    let answer = for_shell(alloc, BString::from_slice(alloc, path)?)?;
+    assert_eq!(rt; answer.as_bytes(), text, "the text for {}", BStr::new(path));
+    Ok(())
+}
+
+/// Paths, and what a shell takes for them.
+static TO_A_SHELL: [(&[u8], &[u8]); 6] = [
+    (b"/~user/repopath", b"~user/repopath"),
+    (b"/~", b"~/"),
+    (b"/~/a", b"~/a"),
+    (b"/~u", b"~u/"),
+    (b"/a", b"/a"),
+    (b"~a", b"~a"),
+];
+
 #[test]
 fn paths_for_a_shell(rt: HostRuntime) -> Result<(), Fail> {
-    let rows = [
-        ("/~user/repopath", "~user/repopath"),
-        ("/~", "~/"),
-        ("/~/a", "~/a"),
-        ("/~u", "~u/"),
-        ("/a", "/a"),
-        ("~a", "~a"),
-    ];
-    for (path, text) in rows {
-        let answer = for_shell(rt.alloc(), BString::from_slice(rt.alloc(), path)?)?;
-        assert_eq!(&rt; answer.as_bytes(), text.as_bytes(), "the text for {path}");
+    for &(path, text) in TO_A_SHELL.as_slice() {
+        goes_to_a_shell(&rt, rt.alloc(), path, text)?;
     }
     Ok(())
+}
+
+/// Checks where a path lies.
+fn lies_at(rt: &impl Abort, outcome: &Result<String, Error>, whole: &str) {
+    match outcome {
+        Ok(found) => assert_eq!(rt; found.as_str(), whole),
+        Err(error) => assert!(rt; false, "{whole}: {error}"),
+    }
+}
+
+/// Whether no home folder is known for this user.
+fn is_unknown(outcome: &Result<String, Error>, user: &ForUser) -> bool {
+    match outcome {
+        Err(Error::NoHome(other)) => other == user,
+        _ => false,
+    }
 }
 
 /// What `with` answers for a user by a home folder, and how often it asks for that. It asks for no other user.
@@ -137,56 +157,75 @@ fn with_home(
     Ok((outcome, calls))
 }
 
+/// Checks where a path lies below a home folder, and how often that is asked for.
+fn is_resolved(
+    rt: &impl Abort,
+    alloc: Global,
+    user: Option<&ForUser>,
+    path: &str,
+    home: &str,
+    whole: &str,
+) -> Result<(), Fail> {
+    let (outcome, calls) = with_home(rt, alloc, user, path.as_bytes(), Some(home))?;
+    assert_eq!(rt; calls, u8::from(user.is_some()), "calls for {path}");
+    lies_at(rt, &outcome, whole);
+    Ok(())
+}
+
+/// Paths, the home folder of their user, and where they lie.
+static RESOLVED: [(&str, &str, &str); 8] = [
+    ("/a//./b", "/h", "/h/a/b"),
+    ("a/b", "/h", "/h/b"),
+    ("./b", "/h", "/h/b"),
+    ("/", "/h", "/h/"),
+    ("", "/h", "/h/"),
+    ("/a", "/h/", "/h/a"),
+    ("/a", "", "a"),
+    ("/../a", "/h", "/h/../a"),
+];
+
 #[test]
 fn expansions_by_a_resolver(rt: HostRuntime) -> Result<(), Fail> {
-    let alloc = rt.alloc();
-    let rows = [
-        ("/a//./b", "/h", "/h/a/b"),
-        ("a/b", "/h", "/h/b"),
-        ("./b", "/h", "/h/b"),
-        ("/", "/h", "/h/"),
-        ("", "/h", "/h/"),
-        ("/a", "/h/", "/h/a"),
-        ("/a", "", "a"),
-        ("/../a", "/h", "/h/../a"),
-    ];
-    let current = ForUser::Current;
-    for (path, home, whole) in rows {
-        let (outcome, calls) = with_home(&rt, alloc, Some(&current), path.as_bytes(), Some(home))?;
-        assert_eq!(&rt; calls, 1, "calls for {path}");
-        assert_eq!(&rt; outcome?.as_str(), whole, "{path} below {home}");
+    for &(path, home, whole) in RESOLVED.as_slice() {
+        is_resolved(&rt, rt.alloc(), Some(&ForUser::Current), path, home, whole)?;
     }
-    let (outcome, calls) = with_home(&rt, alloc, None, b"/x//y", Some("/h"))?;
-    assert_eq!(&rt; calls, 0, "the closure is called without a user");
-    assert_eq!(&rt; outcome?.as_str(), "/x//y");
+    is_resolved(&rt, rt.alloc(), None, "/x//y", "/h", "/x//y")
+}
+
+/// Checks that the user is told for whom no home folder is known.
+fn has_no_home(rt: &impl Abort, alloc: Global, user: &ForUser) -> Result<(), Fail> {
+    let (outcome, calls) = with_home(rt, alloc, Some(user), b"/a", None)?;
+    assert_eq!(rt; calls, 1, "calls");
+    assert!(rt; is_unknown(&outcome, user), "no home is told with the user");
     Ok(())
 }
 
 #[test]
-fn refused_expansions(rt: HostRuntime) -> Result<(), Fail> {
-    let alloc = rt.alloc();
-    let bob = user(alloc, "bob")?;
-    for name in ["", "bob"] {
-        let user = user(alloc, name)?;
-        let (outcome, calls) = with_home(&rt, alloc, Some(&user), b"/a", None)?;
-        assert_eq!(&rt; calls, 1, "calls");
-        let told = matches!(&outcome, Err(Error::NoHome(other)) if *other == user);
-        assert!(&rt; told, "no home is told with the user");
-    }
-    for user in [Some(&bob), None] {
-        let (outcome, calls) = with_home(&rt, alloc, user, b"/\xff", Some("/h"))?;
-        assert_eq!(&rt; calls, 0, "the closure is called for what is no text");
-        assert!(&rt;
-            matches!(outcome, Err(Error::PathNotUtf8)),
-            "the path is no text"
-        );
-        let outcome = expand_path::expand_path(alloc, user, BStr::new(b"/\xff"), Some("/h"));
-        assert!(&rt;
-            matches!(outcome, Err(Error::PathNotUtf8)),
-            "the path is no text"
-        );
-    }
+fn users_without_a_home(rt: HostRuntime) -> Result<(), Fail> {
+    has_no_home(&rt, rt.alloc(), &ForUser::Current)?;
+    has_no_home(&rt, rt.alloc(), &user(rt.alloc(), "bob")?)
+}
+
+/// Checks that a path that is no text is refused, and no home folder is asked for.
+fn is_no_text(rt: &impl Abort, alloc: Global, user: Option<&ForUser>) -> Result<(), Fail> {
+    let (outcome, calls) = with_home(rt, alloc, user, b"/\xff", Some("/h"))?;
+    assert_eq!(rt; calls, 0, "the closure is called for what is no text");
+    assert!(rt;
+        matches!(&outcome, Err(Error::PathNotUtf8)),
+        "the path is no text"
+    );
+    let outcome = expand_path::expand_path(alloc, user, BStr::new(b"/\xff"), Some("/h"));
+    assert!(rt;
+        matches!(&outcome, Err(Error::PathNotUtf8)),
+        "the path is no text"
+    );
     Ok(())
+}
+
+#[test]
+fn paths_that_are_no_text(rt: HostRuntime) -> Result<(), Fail> {
+    is_no_text(&rt, rt.alloc(), None)?;
+    is_no_text(&rt, rt.alloc(), Some(&user(rt.alloc(), "bob")?))
 }
 
 /// Names of users (empty for the current one), paths, home folders, and where the path lies, if a home is known.
@@ -206,114 +245,114 @@ static EXPANSIONS: [(&str, &str, &str, Option<&str>); 13] = [
     ("b/c", "/r", "/home/al", Some("/home/b/c/r")),
 ];
 
+/// Checks where a path of the user lies beside this home folder, if a home folder is known for the user.
+fn is_expanded(
+    rt: &impl Abort,
+    alloc: Global,
+    user: &ForUser,
+    path: &str,
+    home: &str,
+    whole: Option<&str>,
+) {
+    let outcome = expand_path::expand_path(alloc, Some(user), BStr::from(path), Some(home));
+    match whole {
+        Some(whole) => lies_at(rt, &outcome, whole),
+        None => assert!(rt; is_unknown(&outcome, user), "a home is known beside {home}"),
+    }
+}
+
+/// Checks that a path of a user lies nowhere without a home folder, and that it stays as it is without a user.
+fn needs_both(rt: &impl Abort, alloc: Global, user: &ForUser, path: &str, home: &str) {
+    let outcome = expand_path::expand_path(alloc, Some(user), BStr::from(path), None);
+    assert!(rt; is_unknown(&outcome, user), "no home at all");
+    let outcome = expand_path::expand_path(alloc, None, BStr::from(path), Some(home));
+    lies_at(rt, &outcome, path);
+}
+
 #[test]
 fn expansions_by_a_home(rt: HostRuntime) -> Result<(), Fail> {
-    let alloc = rt.alloc();
     for &(name, path, home, whole) in EXPANSIONS.as_slice() {
-        let user = user(alloc, name)?;
-        let outcome = expand_path::expand_path(alloc, Some(&user), BStr::from(path), Some(home));
-        match whole {
-            Some(whole) => assert_eq!(&rt; outcome?.as_str(), whole, "{name} {path} {home}"),
-            None => {
-                let told = matches!(&outcome, Err(Error::NoHome(other)) if *other == user);
-                assert!(&rt; told, "no home is known for {name} beside {home}");
-            }
-        }
-        let outcome = expand_path::expand_path(alloc, Some(&user), BStr::from(path), None);
-        assert!(&rt; matches!(outcome, Err(Error::NoHome(_))), "no home at all");
-        let outcome = expand_path::expand_path(alloc, None, BStr::from(path), Some(home));
-        assert_eq!(&rt; outcome?.as_str(), path, "without a user");
+        let user = user(rt.alloc(), name)?;
+        is_expanded(&rt, rt.alloc(), &user, path, home, whole);
+        needs_both(&rt, rt.alloc(), &user, path, home);
     }
     Ok(())
 }
 
 #[test]
-fn examples_of_the_documentation(rt: HostRuntime) -> Result<(), Fail> {
-    let alloc = rt.alloc();
-    let bob = user(alloc, "bob")?;
-    let path = BStr::from("/r");
-    assert_eq!(&rt; in_home(alloc, Some(&bob), path)?.as_str(), "/home/bob/r");
+fn the_example_of_a_resolver(rt: HostRuntime) -> Result<(), Fail> {
+    let (bob, path) = (user(rt.alloc(), "bob")?, BStr::from("/r"));
+    lies_at(&rt, &in_home(rt.alloc(), Some(&bob), path), "/home/bob/r");
+    let outcome = in_home(rt.alloc(), Some(&ForUser::Current), path);
+    assert!(&rt; is_unknown(&outcome, &ForUser::Current), "a home is known");
+    Ok(())
+}
+
+#[test]
+fn the_example_of_a_split(rt: HostRuntime) -> Result<(), Fail> {
     assert!(&rt;
-        in_home(alloc, Some(&ForUser::Current), path).is_err(),
-        "no home is known"
+        is_own(rt.alloc(), BStr::from("/~/r"))?,
+        "the current user's"
     );
-    assert!(&rt; is_own(alloc, BStr::from("/~/r"))?, "the current user's");
-    assert!(&rt; !is_own(alloc, BStr::from("/~bob/r"))?, "another's");
+    assert!(&rt; !is_own(rt.alloc(), BStr::from("/~bob/r"))?, "another's");
+    Ok(())
+}
+
+/// Checks that a path lies at `a` in this folder.
+fn lies_below(
+    rt: &impl Abort,
+    alloc: Global,
+    outcome: &Result<String, Error>,
+    home: &PathBuf,
+) -> Result<(), Fail> {
+    let whole = home.as_path().join(alloc, "a")?;
+    lies_at(rt, outcome, whole.as_path().as_str());
     Ok(())
 }
 
 #[test]
 fn the_home_of_the_environment(rt: HostRuntime) -> Result<(), Fail> {
     let outcome = expand(&rt, BStr::from("/~/a"));
-    match env::home_dir(&rt)? {
-        Some(home) => {
-            let whole = home.as_path().join(rt.alloc(), "a")?;
-            assert_eq!(&rt; outcome?.as_str(), whole.as_path().as_str());
-        }
+    match &env::home_dir(&rt)? {
+        Some(home) => lies_below(&rt, rt.alloc(), &outcome, home)?,
         None => assert!(&rt; outcome.is_err(), "no home is known"),
     }
     Ok(())
 }
 
-#[test]
-fn users_compare(rt: HostRuntime) -> Result<(), Fail> {
-    let alloc = rt.alloc();
-    let users = [
-        ForUser::Current,
-        user(alloc, "A")?,
-        user(alloc, "a")?,
-        user(alloc, "ab")?,
-        user(alloc, "b")?,
-    ];
-    for (i, one) in users.iter().enumerate() {
-        for (j, other) in users.iter().enumerate() {
-            assert_eq!(&rt; one.cmp(other), i.cmp(&j), "users {i} and {j}");
-            assert_eq!(&rt; one == other, i == j, "users {i} and {j}");
-        }
-        let copy = one.clone(alloc)?;
-        assert!(&rt; copy == *one, "the copy of user {i}");
-        let mut set: HashSet<ForUser> = HashSet::new(alloc);
-        set.insert(copy)?;
-        assert!(&rt; set.contains(one), "a copy of user {i} in a set");
-        let name: Option<BString> = one.clone(alloc)?.into();
-        assert_eq!(&rt; name.is_none(), i == 0, "the name of user {i}");
+/// Checks where a path lies below a home folder, by the second reading.
+fn is_expanded_plainly(
+    rt: &impl Abort,
+    alloc: Global,
+    path: &[u8],
+    name: Option<&[u8]>,
+    home: &str,
+) -> Result<(), Fail> {
+    let (user, left) = expand_path::parse(alloc, BStr::new(path))?;
+    let outcome = expand_path::expand_path(alloc, user.as_ref(), left.as_bstr(), Some(home));
+    let whole = expanded(alloc, name, left.as_bytes(), home.as_bytes())?;
+    match (&outcome, &whole) {
+        (Ok(found), Some(whole)) => assert_eq!(rt; found.as_bytes(), whole.as_slice(), "{home}"),
+        (found, whole) => assert_eq!(rt; found.is_ok(), whole.is_some(), "{left} and {home}"),
     }
-    assert_eq!(&rt;
-        ForUser::Current.partial_cmp(&ForUser::Current),
-        Some(Ordering::Equal)
-    );
     Ok(())
+}
+
+/// Checks what is made of a path, and where it lies below a home folder, by the second reading.
+fn is_read_plainly(rt: &impl Abort, alloc: Global, path: &[u8], home: &str) -> Result<(), Fail> {
+    let (name, rest) = split(alloc, path)?;
+    splits_into(rt, alloc, path, name.as_deref(), rest.as_slice())?;
+    is_expanded_plainly(rt, alloc, path, name.as_deref(), home)?;
+    goes_to_a_shell(rt, alloc, path, shell_path(alloc, path)?.as_slice())
 }
 
 #[test]
 fn two_thousand_paths(rt: HostRuntime) -> Result<(), Fail> {
-    let alloc = rt.alloc();
     let mut paths = Paths::new();
     for _ in 0..2000 {
-        let path = paths.next_path(alloc)?;
-        let home = paths.next_text(alloc)?;
-        let shown = BStr::new(path.as_slice());
-        let (user, left) = expand_path::parse(alloc, shown)?;
-        let (name, rest) = split(alloc, path.as_slice())?;
-        assert!(&rt; is_told(&user, name.as_deref()), "the user of {shown}");
-        assert_eq!(&rt; left.as_bytes(), rest.as_slice(), "what is left of {shown}");
-        let text = for_shell(alloc, BString::from_slice(alloc, path.as_slice())?)?;
-        let plain = shell_path(alloc, path.as_slice())?;
-        assert_eq!(&rt; text.as_bytes(), plain.as_slice(), "the text for {shown}");
-        let outcome = expand_path::expand_path(
-            alloc,
-            user.as_ref(),
-            left.as_bstr(),
-            Some(home.as_str()),
-        );
-        match expanded(alloc, name.as_deref(), left.as_bytes(), home.as_bytes())? {
-            Some(whole) => assert_eq!(&rt;
-                outcome?.as_bytes(),
-                whole.as_slice(),
-                "{shown} and {home}"
-            ),
-            None => assert!(&rt; outcome.is_err(), "{shown} and {home}"),
-        }
+        let path = paths.next_path(rt.alloc())?;
+        let home = paths.next_text(rt.alloc())?;
+        is_read_plainly(&rt, rt.alloc(), path.as_slice(), home.as_str())?;
     }
     Ok(())
 }

@@ -16,3 +16,5 @@ mod homes;
 mod plain_components;
 #[cfg(test)]
 mod plain_homes;
+#[cfg(test)]
+mod users;

@@ -156,30 +156,28 @@ fn join(folder: &mut Vec<u8>, path: &[u8]) -> Result<(), Fail> {
     Ok(())
 }
 
-/// Where a path lies, below the home folder of its user.
-pub fn expanded(
-    alloc: Global,
-    user: Option<&[u8]>,
-    path: &[u8],
-    home: &[u8],
-) -> Result<Option<Vec<u8>>, Fail> {
-    let Some(name) = user else {
-        return Ok(
-            str::from_utf8(path)
-                .ok()
-                .map(|_| path)
-                .map(|path| Vec::from_slice(alloc, path))
-                .transpose()?,
-        );
-    };
-    let mut folder = Vec::from_slice(alloc, home)?;
-    if !name.is_empty() {
-        let Some(beside) = parent(alloc, home)? else {
-            return Ok(None);
-        };
-        folder = beside;
-        join(&mut folder, shown(alloc, name)?.as_slice())?;
+/// The path that no user comes with, if it is a text.
+fn unexpanded(alloc: Global, path: &[u8]) -> Result<Option<Vec<u8>>, Fail> {
+    match str::from_utf8(path) {
+        Ok(_) => Ok(Some(Vec::from_slice(alloc, path)?)),
+        Err(_) => Ok(None),
     }
+}
+
+/// The home folder of a user beside that of the current one, whose name is empty.
+fn folder_of(alloc: Global, name: &[u8], home: &[u8]) -> Result<Option<Vec<u8>>, Fail> {
+    if name.is_empty() {
+        return Ok(Some(Vec::from_slice(alloc, home)?));
+    }
+    let Some(mut folder) = parent(alloc, home)? else {
+        return Ok(None);
+    };
+    join(&mut folder, shown(alloc, name)?.as_slice())?;
+    Ok(Some(folder))
+}
+
+/// The components of a path below a folder.
+fn below(alloc: Global, path: &[u8]) -> Result<Vec<u8>, Fail> {
     let mut below = Vec::new(alloc);
     for (start, end) in places(alloc, path)? {
         if start == 0 {
@@ -190,6 +188,22 @@ pub fn expanded(
         }
         below.extend_from_slice(path.get(start..end).unwrap_or(path))?;
     }
-    join(&mut folder, below.as_slice())?;
+    Ok(below)
+}
+
+/// Where a path lies, below the home folder of its user.
+pub fn expanded(
+    alloc: Global,
+    user: Option<&[u8]>,
+    path: &[u8],
+    home: &[u8],
+) -> Result<Option<Vec<u8>>, Fail> {
+    let Some(name) = user else {
+        return unexpanded(alloc, path);
+    };
+    let Some(mut folder) = folder_of(alloc, name, home)? else {
+        return Ok(None);
+    };
+    join(&mut folder, below(alloc, path)?.as_slice())?;
     Ok(Some(folder))
 }

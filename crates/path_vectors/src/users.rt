@@ -1,0 +1,78 @@
+//! Users of home folders: how they compare, and copies of them.
+
+use bstr::BString;
+use gix_url::expand_path::ForUser;
+use std::alloc::Global;
+use std::cmp::Ordering;
+use std::collections::HashSet;
+use std::process::Abort;
+use std::test::Fail;
+
+/// The user of this name; none named is the current one.
+pub fn user(alloc: Global, name: &str) -> Result<ForUser, Fail> {
+    if name.is_empty() {
+        return Ok(ForUser::Current);
+    }
+    Ok(ForUser::Name(BString::from_slice(alloc, name)?))
+}
+
+/// Users, each before the next.
+fn users(alloc: Global) -> Result<Vec<ForUser>, Fail> {
+    let mut users = Vec::new(alloc);
+    for name in ["", "A", "a", "ab", "b"] {
+        users.push(user(alloc, name)?)?;
+    }
+    Ok(users)
+}
+
+/// Checks how two users compare, by their places.
+fn compare(rt: &impl Abort, one: (usize, &ForUser), other: (usize, &ForUser)) {
+    let (i, j) = (one.0, other.0);
+    assert_eq!(rt; one.1.cmp(other.1), i.cmp(&j), "users {i} and {j}");
+    assert_eq!(rt; one.1 == other.1, i == j, "users {i} and {j}");
+}
+
+#[test]
+fn users_compare(rt: HostRuntime) -> Result<(), Fail> {
+    let users = users(rt.alloc())?;
+    for one in users.iter().enumerate() {
+        for other in users.iter().enumerate() {
+            compare(&rt, one, other);
+        }
+    }
+    assert_eq!(&rt;
+        ForUser::Current.partial_cmp(&ForUser::Current),
+        Some(Ordering::Equal)
+    );
+    Ok(())
+}
+
+/// Checks that a copy of a user is found in a set by the user.
+fn is_found(rt: &impl Abort, alloc: Global, user: &ForUser) -> Result<(), Fail> {
+    let mut set: HashSet<ForUser> = HashSet::new(alloc);
+    set.insert(user.clone(alloc)?)?;
+    assert!(rt; set.contains(user), "a copy in a set");
+    Ok(())
+}
+
+/// Checks that a copy of a user is the user, and has a name unless it is the current one.
+fn copies(rt: &impl Abort, alloc: Global, user: &ForUser) -> Result<(), Fail> {
+    let copy = user.clone(alloc)?;
+    assert!(rt; copy == *user, "a copy");
+    let name: Option<BString> = copy.into();
+    assert_eq!(rt;
+        name.is_none(),
+        *user == ForUser::Current,
+        "the name of a copy"
+    );
+    Ok(())
+}
+
+#[test]
+fn users_are_copied(rt: HostRuntime) -> Result<(), Fail> {
+    for user in &users(rt.alloc())? {
+        copies(&rt, rt.alloc(), user)?;
+        is_found(&rt, rt.alloc(), user)?;
+    }
+    Ok(())
+}
