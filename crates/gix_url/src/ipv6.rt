@@ -24,7 +24,7 @@ pub fn is_ipv6(text: &str) -> bool
 }
 
 /// The same of bytes.
-#[tactic(auto, using(crate::proofs::AddressReader::reads_addresses))]
+#[tactic(auto, using(crate::proofs::Addresses::AddressReader::reads_addresses))]
 pub(crate) fn is_address(text: &[u8]) -> bool
     ensures { IsTrue result ↔ IsIpv6Text text.now }
 {

@@ -1,5 +1,5 @@
 -- The pieces around the place of the byte that was found.
-use Rattle.gix_url.proofs.CutLemmas.{first_found, none_found}
+use Rattle.gix_url.proofs.Texts.CutLemmas.{first_found, none_found}
 use Rattle.gix_url.proofs.bytes.cut.Goals as goal
 
 pub returns-in_err-at : goal.returns-in_err-at

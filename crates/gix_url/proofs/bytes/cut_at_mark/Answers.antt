@@ -1,5 +1,5 @@
 -- The pieces around the place of the mark that was found.
-use Rattle.gix_url.proofs.CutLemmas.{mark_found, no_mark_found}
+use Rattle.gix_url.proofs.Texts.CutLemmas.{mark_found, no_mark_found}
 use Rattle.gix_url.proofs.bytes.cut_at_mark.Goals as goal
 
 pub returns-in_err-at : goal.returns-in_err-at

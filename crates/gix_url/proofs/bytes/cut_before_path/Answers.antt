@@ -1,7 +1,7 @@
 -- The pieces around the place where a path may first start, or the whole where it may nowhere.
 use Rattle.std.proofs.Common.{refl}
 use Rattle.gix_url.specs.Bytes.{is_path_start}
-use Rattle.gix_url.proofs.CutLemmas.{cut_at_place, cut_at_end}
+use Rattle.gix_url.proofs.Texts.CutLemmas.{cut_at_place, cut_at_end}
 use Rattle.gix_url.proofs.bytes.cut_before_path.Goals as goal
 
 pub returns-in-Some : goal.returns-in-Some

@@ -1,5 +1,5 @@
 -- The pieces around the place of the byte that was found.
-use Rattle.gix_url.proofs.CutLemmas.{last_found, none_last}
+use Rattle.gix_url.proofs.Texts.CutLemmas.{last_found, none_last}
 use Rattle.gix_url.proofs.bytes.last_cut.Goals as goal
 
 pub returns-in_err-at : goal.returns-in_err-at

@@ -1,5 +1,5 @@
 -- The first byte of those that may start a path.
-use Rattle.gix_url.proofs.CutLemmas.{web_start, other_start}
+use Rattle.gix_url.proofs.Texts.CutLemmas.{web_start, other_start}
 use Rattle.gix_url.proofs.bytes.path_start.Goals as goal
 
 pub returns-then-web : goal.returns-then-web

@@ -1,7 +1,7 @@
 -- A text with no `%` decodes to itself. The room that was asked for holds any decoding, which is no longer than the text.
 use Rattle.std.proofs.Common.{sym, arith}
 use Rattle.percent_encoding.proofs.PercentLemmas.{length-percent_decode}
-use Rattle.gix_url.proofs.EscapeLemmas.{decode_kept}
+use Rattle.gix_url.proofs.Texts.EscapeLemmas.{decode_kept}
 use Rattle.gix_url.proofs.escape.decoded.Goals as goal
 
 pub returns-then-not-has_percent : goal.returns-then-not-has_percent

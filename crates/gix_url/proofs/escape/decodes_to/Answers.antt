@@ -1,6 +1,6 @@
 -- The decoding and the path agree up to a byte, and differ there.
 use Rattle.std.proofs.Common.{◌++◌, ◌∙◌, ap, sym}
-use Rattle.gix_url.proofs.EscapeLemmas.{differ_behind}
+use Rattle.gix_url.proofs.Texts.EscapeLemmas.{differ_behind}
 use Rattle.gix_url.proofs.escape.decodes_to.Goals as goal
 
 pub returns-then-first-byte : goal.returns-then-first-byte

@@ -1,8 +1,8 @@
 -- A plain text decodes to itself, and so does one with no `%`.
 use Rattle.std.proofs.Common.{◌∙◌, refl, sym, subst}
 use Rattle.std.specs.Str.{IsUtf8}
-use Rattle.gix_url.proofs.EscapeLemmas.{decode_kept}
-use Rattle.gix_url.proofs.PlainLemmas.{plain_means_utf8}
+use Rattle.gix_url.proofs.Texts.EscapeLemmas.{decode_kept}
+use Rattle.gix_url.proofs.Texts.PlainLemmas.{plain_means_utf8}
 use Rattle.gix_url.proofs.escape.decodes_to_utf8.Goals as goal
 
 pub returns-then-is_plain : goal.returns-then-is_plain

@@ -1,6 +1,6 @@
 -- The window holds the first four bytes of what is left, which decide on its first character.
 use Rattle.std.proofs.Common.{arith}
-use Rattle.gix_url.proofs.EscapeLemmas.{utf8_past_window, shorter_past_window, not_utf8_at_window}
+use Rattle.gix_url.proofs.Texts.EscapeLemmas.{utf8_past_window, shorter_past_window, not_utf8_at_window}
 use Rattle.gix_url.proofs.escape.decoding_is_utf8.Goals as goal
 
 pub returns-then-is_none : goal.returns-then-is_none

@@ -1,5 +1,5 @@
 use Rattle.std.proofs.Common.{refl}
-use Rattle.gix_url.proofs.EscapeSets.{path_holds, password_holds, user_holds}
+use Rattle.gix_url.proofs.Texts.EscapeSets.{path_holds, password_holds, user_holds}
 use Rattle.gix_url.proofs.escape.law_sets.Goals as goal
 
 pub returns : goal.returns

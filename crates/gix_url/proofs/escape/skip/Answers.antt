@@ -1,5 +1,5 @@
 -- A call of `next` leaves one byte less, or nothing where nothing was left.
-use Rattle.gix_url.proofs.EscapeLemmas.{drop_next}
+use Rattle.gix_url.proofs.Texts.EscapeLemmas.{drop_next}
 use Rattle.gix_url.proofs.escape.skip.Goals as goal
 
 pub loop-turn-preserved : goal.loop-turn-preserved

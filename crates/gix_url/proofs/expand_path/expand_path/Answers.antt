@@ -4,7 +4,7 @@ use Rattle.std.specs.Option.{option_copied}
 use Rattle.bstr.specs.BStr.{bstr_bytes}
 use Rattle.gix_url.specs.Homes.{HomeFolder}
 use Rattle.gix_url.specs.HomeReadings.{Expansion, user_of}
-use Rattle.gix_url.proofs.HomeLemmas.{expansion_weaker}
+use Rattle.gix_url.proofs.Homes.HomeLemmas.{expansion_weaker}
 use Rattle.gix_url.proofs.expand_path.expand_path.Goals as goal
 
 pub returns-in_ok-folder-in-Some-clause-at_home : goal.returns-in_ok-folder-in-Some-clause-at_home

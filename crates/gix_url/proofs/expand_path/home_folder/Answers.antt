@@ -1,6 +1,6 @@
 -- Without a home folder none is known.
 use Rattle.gix_url.specs.HomeReadings.{user_of}
-use Rattle.gix_url.proofs.HomeLemmas.{folder_unknown}
+use Rattle.gix_url.proofs.Homes.HomeLemmas.{folder_unknown}
 use Rattle.gix_url.proofs.expand_path.home_folder.Goals as goal
 
 pub returns-in_default : goal.returns-in_default

@@ -2,7 +2,7 @@
 use Rattle.std.proofs.Common.{subst}
 use Rattle.bstr.specs.BStr.{bstr_bytes}
 use Rattle.gix_url.specs.HomeReadings.{HomePath}
-use Rattle.gix_url.proofs.HomeLemmas.{splits_at}
+use Rattle.gix_url.proofs.Homes.HomeLemmas.{splits_at}
 use Rattle.gix_url.proofs.expand_path.parse.Goals as goal
 
 pub returns-in_ok-path_below-in-Some-clause-split : goal.returns-in_ok-path_below-in-Some-clause-split

@@ -1,6 +1,6 @@
 -- Each law is a lemma on there being one, and one on there being no other.
-use Rattle.gix_url.proofs.PathUniqueLemmas.{some_rest, rest_unique, some_joined, joins_unique, some_parent, parent_unique}
-use Rattle.gix_url.proofs.HomeUniqueLemmas.{some_split, split_unique, some_reading, reading_unique, some_folder, folder_unique, some_expansion, expansion_unique}
+use Rattle.gix_url.proofs.Homes.PathUniqueLemmas.{some_rest, rest_unique, some_joined, joins_unique, some_parent, parent_unique}
+use Rattle.gix_url.proofs.Homes.HomeUniqueLemmas.{some_split, split_unique, some_reading, reading_unique, some_folder, folder_unique, some_expansion, expansion_unique}
 use Rattle.gix_url.proofs.home_law.law_homes.Goals as goal
 
 pub returns : goal.returns

@@ -1,10 +1,10 @@
 -- Each law is a lemma.
 use Rattle.std.proofs.Common.{inl, inr}
 use Rattle.gix_url.specs.Laws.{Unchanged}
-use Rattle.gix_url.proofs.ClosedLemmas.{closed, exact}
-use Rattle.gix_url.proofs.CornerLemmas.{apart}
-use Rattle.gix_url.proofs.KeptLemmas.{helper_unchanged, local_unchanged, kept_exact}
-use Rattle.gix_url.proofs.WritableLemmas.{writable}
+use Rattle.gix_url.proofs.Closed.ClosedLemmas.{closed, exact}
+use Rattle.gix_url.proofs.Refused.CornerLemmas.{apart}
+use Rattle.gix_url.proofs.Written.KeptLemmas.{helper_unchanged, local_unchanged, kept_exact}
+use Rattle.gix_url.proofs.Closed.WritableLemmas.{writable}
 use Rattle.gix_url.proofs.laws.law_closed.Goals as goal
 
 -- both forms write what they read

@@ -1,6 +1,6 @@
 -- Each law is a lemma.
 use Rattle.gix_url.specs.ComponentEquality.{components_decide}
-use Rattle.gix_url.proofs.PartsLemmas.{one_components}
+use Rattle.gix_url.proofs.Parted.PartsLemmas.{one_components}
 use Rattle.gix_url.proofs.laws.law_components.Goals as goal
 
 pub returns : goal.returns

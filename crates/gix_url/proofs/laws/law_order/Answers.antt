@@ -1,8 +1,8 @@
 -- Each law is a lemma.
 use Rattle.gix_url.specs.Order.{location_cmp, location_eq}
 use Rattle.gix_url.specs.OrderLaws.{location_decides, location_ties, location_total, locations_alike}
-use Rattle.gix_url.proofs.HashLemmas.{locations_apart}
-use Rattle.gix_url.proofs.OrderLemmas.{spelling_last, tied_is_equal}
+use Rattle.gix_url.proofs.Values.HashLemmas.{locations_apart}
+use Rattle.gix_url.proofs.Values.OrderLemmas.{spelling_last, tied_is_equal}
 use Rattle.gix_url.proofs.laws.law_order.Goals as goal
 
 pub returns : goal.returns

@@ -1,8 +1,8 @@
 -- Each law is a lemma.
 use Rattle.gix_url.specs.Order.{protocol_cmp, protocol_eq}
 use Rattle.gix_url.specs.OrderLaws.{protocol_decides, protocol_ties, protocol_total, protocols_alike}
-use Rattle.gix_url.proofs.HashLemmas.{protocols_apart}
-use Rattle.gix_url.proofs.OrderLemmas.{tied_is_equal}
+use Rattle.gix_url.proofs.Values.HashLemmas.{protocols_apart}
+use Rattle.gix_url.proofs.Values.OrderLemmas.{tied_is_equal}
 use Rattle.gix_url.proofs.laws.law_scheme_order.Goals as goal
 
 pub returns : goal.returns

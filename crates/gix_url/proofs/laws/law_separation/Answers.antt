@@ -1,8 +1,8 @@
 -- Each law is a lemma.
-use Rattle.gix_url.proofs.UniqueLemmas.{spells_unique}
-use Rattle.gix_url.proofs.ComponentLemmas.{same_components}
-use Rattle.gix_url.proofs.FormLemmas.{spelled_from_before, spelled_to_before}
-use Rattle.gix_url.proofs.AgainLemmas.{settled_again, text_decides}
+use Rattle.gix_url.proofs.Unique.UniqueLemmas.{spells_unique}
+use Rattle.gix_url.proofs.Parted.ComponentLemmas.{same_components}
+use Rattle.gix_url.proofs.Readings.FormLemmas.{spelled_from_before, spelled_to_before}
+use Rattle.gix_url.proofs.Written.AgainLemmas.{settled_again, text_decides}
 use Rattle.gix_url.proofs.laws.law_separation.Goals as goal
 
 pub returns : goal.returns

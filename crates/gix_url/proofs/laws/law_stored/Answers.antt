@@ -1,5 +1,5 @@
 -- Each law is a lemma.
-use Rattle.gix_url.proofs.RecordLemmas.{respelled_once, keeps_meaning, migrates, migrated_once}
+use Rattle.gix_url.proofs.Values.RecordLemmas.{respelled_once, keeps_meaning, migrates, migrated_once}
 use Rattle.gix_url.proofs.laws.law_stored.Goals as goal
 
 pub returns : goal.returns

@@ -1,4 +1,4 @@
-use Rattle.gix_url.proofs.LineLemmas.{told_answer, refused_answer}
+use Rattle.gix_url.proofs.Values.LineLemmas.{told_answer, refused_answer}
 use Rattle.gix_url.proofs.lines.answer.Goals as goal
 
 pub returns-in-Ok : goal.returns-in-Ok

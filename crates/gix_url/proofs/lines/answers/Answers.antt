@@ -1,5 +1,5 @@
 use Rattle.std.proofs.Common.{sym, ◌∙◌}
-use Rattle.gix_url.proofs.LineLemmas.{done_step, done_all, done_last}
+use Rattle.gix_url.proofs.Values.LineLemmas.{done_step, done_all, done_last}
 use Rattle.gix_url.proofs.lines.answers.Goals as goal
 
 pub loop-line-preserved : goal.loop-line-preserved

@@ -1,5 +1,5 @@
 use Rattle.std.proofs.Common.{length}
-use Rattle.gix_url.proofs.LineLemmas.{Done}
+use Rattle.gix_url.proofs.Values.LineLemmas.{Done}
 use Rattle.gix_url.proofs.lines.answers.Given as goal
 
 abbrev pub invariant-loop-line : goal.invariant-loop-line

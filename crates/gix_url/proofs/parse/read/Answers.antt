@@ -3,7 +3,7 @@ use Rattle.std.proofs.Common.{sym, subst}
 use Rattle.std.proofs.lemmas.Result.{IfErr-weaker}
 use Rattle.gix_url.specs.Grammar.{Spells, SpellsScp, SpellsScpBefore}
 use Rattle.gix_url.specs.Readings.{NoneBut, Refuses}
-use Rattle.gix_url.proofs.ShapeLemmas.{none_weaker, spelled_as_addressed, spelled_as_plain, empty_unspelled}
+use Rattle.gix_url.proofs.Readings.ShapeLemmas.{none_weaker, spelled_as_addressed, spelled_as_plain, empty_unspelled}
 use Rattle.gix_url.proofs.parse.read.Goals as goal
 
 pub returns-in-Empty-clause-refused : goal.returns-in-Empty-clause-refused

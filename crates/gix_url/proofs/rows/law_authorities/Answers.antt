@@ -1,5 +1,5 @@
 -- The rows are lemmas.
-use Rattle.gix_url.proofs.RowNameLemmas.{authority_rows, no_authority_rows}
+use Rattle.gix_url.proofs.Examples.RowNameLemmas.{authority_rows, no_authority_rows}
 use Rattle.gix_url.proofs.rows.law_authorities.Goals as goal
 
 pub returns : goal.returns

@@ -1,5 +1,5 @@
 -- The rows are lemmas.
-use Rattle.gix_url.proofs.RowByteLemmas.{name_byte_rows, host_byte_rows, white_space_rows, escaped_byte_rows, escape_set_rows}
+use Rattle.gix_url.proofs.Examples.RowByteLemmas.{name_byte_rows, host_byte_rows, white_space_rows, escaped_byte_rows, escape_set_rows}
 use Rattle.gix_url.proofs.rows.law_bytes.Goals as goal
 
 pub returns : goal.returns

@@ -1,5 +1,5 @@
 -- The rows are lemmas.
-use Rattle.gix_url.proofs.RowRefusalLemmas.{corner_rows, no_corner_rows}
+use Rattle.gix_url.proofs.Examples.RowRefusalLemmas.{corner_rows, no_corner_rows}
 use Rattle.gix_url.proofs.rows.law_corners.Goals as goal
 
 pub returns : goal.returns

@@ -1,5 +1,5 @@
 -- The rows are lemmas.
-use Rattle.gix_url.proofs.RowLemmas.{escape_rows}
+use Rattle.gix_url.proofs.Examples.RowLemmas.{escape_rows}
 use Rattle.gix_url.proofs.rows.law_escapes.Goals as goal
 
 pub returns : goal.returns

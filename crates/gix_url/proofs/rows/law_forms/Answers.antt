@@ -1,5 +1,5 @@
 -- The rows are lemmas.
-use Rattle.gix_url.proofs.RowFormLemmas.{url_rows, form_rows, no_form_rows}
+use Rattle.gix_url.proofs.Examples.RowFormLemmas.{url_rows, form_rows, no_form_rows}
 use Rattle.gix_url.proofs.rows.law_forms.Goals as goal
 
 pub returns : goal.returns

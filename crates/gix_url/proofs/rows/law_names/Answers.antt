@@ -1,5 +1,5 @@
 -- The rows are lemmas.
-use Rattle.gix_url.proofs.RowLemmas.{host_rows, scheme_rows, path_rows}
+use Rattle.gix_url.proofs.Examples.RowLemmas.{host_rows, scheme_rows, path_rows}
 use Rattle.gix_url.proofs.rows.law_names.Goals as goal
 
 pub returns : goal.returns

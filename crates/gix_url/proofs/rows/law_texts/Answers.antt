@@ -1,5 +1,5 @@
 -- The rows are lemmas.
-use Rattle.gix_url.proofs.RowLemmas.{other_text_rows, url_text_rows, user_text_rows, fault_rows}
+use Rattle.gix_url.proofs.Examples.RowLemmas.{other_text_rows, url_text_rows, user_text_rows, fault_rows}
 use Rattle.gix_url.proofs.rows.law_texts.Goals as goal
 
 pub returns : goal.returns

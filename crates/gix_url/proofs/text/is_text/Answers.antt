@@ -1,6 +1,6 @@
 -- A plain text is UTF-8.
 use Rattle.std.proofs.Common.{sym}
-use Rattle.gix_url.proofs.PlainLemmas.{plain_utf8}
+use Rattle.gix_url.proofs.Texts.PlainLemmas.{plain_utf8}
 use Rattle.gix_url.proofs.text.is_text.Goals as goal
 
 pub returns-then-is_plain : goal.returns-then-is_plain

@@ -1,7 +1,7 @@
 -- The names and values of the next field stand before those of the rest.
 use Rattle.std.proofs.Common.{◌∙◌, arith, subst, sym}
 use Rattle.gix_url.specs.ComponentPieces.{LendsFields, AddsPair}
-use Rattle.gix_url.proofs.LentLemmas.{adds_field, adds_last, field_count_cut}
+use Rattle.gix_url.proofs.Parted.LentLemmas.{adds_field, adds_last, field_count_cut}
 use Rattle.gix_url.proofs.components.fields.lend_query.Goals as goal
 
 pub loop-field-preserved : goal.loop-field-preserved

@@ -2,7 +2,7 @@
 use Rattle.std.proofs.Common.{◌+◌, ◌≤◌, ◌∷◌, ◌++◌, ◌∙◌, arith, ap, length, [], vec_len, vec_capacity}
 use Rattle.std.proofs.lemmas.List.{length-append}
 use Rattle.gix_url.specs.Bytes.{plus_sign}
-use Rattle.gix_url.proofs.LentLemmas.{meant_as, spelled_cut, plus_parts, spaced_more, spaced_whole}
+use Rattle.gix_url.proofs.Parted.LentLemmas.{meant_as, spelled_cut, plus_parts, spaced_more, spaced_whole}
 use Rattle.gix_url.proofs.components.lend.spaced.Goals as goal
 
 pub append_within-requires : goal.append_within-requires

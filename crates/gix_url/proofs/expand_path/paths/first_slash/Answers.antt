@@ -1,6 +1,6 @@
 -- The cut of `split_once`.
 use Rattle.std.proofs.Common.{arith}
-use Rattle.gix_url.proofs.PathLemmas.{text_cut}
+use Rattle.gix_url.proofs.Homes.PathLemmas.{text_cut}
 use Rattle.gix_url.proofs.expand_path.paths.first_slash.Goals as goal
 
 pub returns : goal.returns

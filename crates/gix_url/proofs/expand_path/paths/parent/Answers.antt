@@ -1,7 +1,7 @@
 -- The last piece is cut off, and what is idle before it.
 use Rattle.std.proofs.Common.{arith}
 use Rattle.std.proofs.lemmas.Bool.Decides.{nat_tests}
-use Rattle.gix_url.proofs.PathLemmas.{parent_above, parent_of_first}
+use Rattle.gix_url.proofs.Homes.PathLemmas.{parent_above, parent_of_first}
 use Rattle.gix_url.proofs.expand_path.paths.parent.Goals as goal
 
 pub returns-in-Some : goal.returns-in-Some

@@ -1,5 +1,5 @@
 -- The folder is made ready, and the pieces are appended.
-use Rattle.gix_url.proofs.PathLemmas.{lies_below}
+use Rattle.gix_url.proofs.Homes.PathLemmas.{lies_below}
 use Rattle.gix_url.proofs.expand_path.paths.push_below.Goals as goal
 
 pub returns : goal.returns

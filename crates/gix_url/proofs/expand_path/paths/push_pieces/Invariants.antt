@@ -3,7 +3,7 @@ use Rattle.std.proofs.Common.{length}
 use denote.Text.{Utf8}
 use denote.Shadow.{shadow}
 use Rattle.std.specs.String.{string_bytes}
-use Rattle.gix_url.proofs.PathLemmas.{Gathers, unread}
+use Rattle.gix_url.proofs.Homes.PathLemmas.{Gathers, unread}
 use Rattle.gix_url.proofs.expand_path.paths.push_pieces.Given as goal
 
 abbrev pub invariant-loop-rest : goal.invariant-loop-rest

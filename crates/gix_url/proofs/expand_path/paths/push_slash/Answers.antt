@@ -3,7 +3,7 @@ use Rattle.std.proofs.Common.{refl, sym, subst, ap, ◌<◌, ◌∙◌, ◌++◌
 use Rattle.std.specs.String.{string_bytes}
 use Rattle.std.proofs.lemmas.Bool.Decides.{nat_tests}
 use Rattle.gix_url.specs.Paths.{Opens}
-use Rattle.gix_url.proofs.PathLemmas.{opens_name}
+use Rattle.gix_url.proofs.Homes.PathLemmas.{opens_name}
 use Rattle.gix_url.proofs.expand_path.paths.push_slash.Goals as goal
 
 pub returns-in-Some : goal.returns-in-Some

@@ -1,7 +1,7 @@
 -- The front is passed from `/` to `/`, up to a segment that counts.
 use Rattle.std.proofs.Common.{inl, sym, ◌∙◌, rules}
 use Rattle.gix_url.specs.Paths.{EndsInPiece}
-use Rattle.gix_url.proofs.PathLemmas.{tail_more}
+use Rattle.gix_url.proofs.Homes.PathLemmas.{tail_more}
 use Rattle.gix_url.proofs.expand_path.paths.up_to_last.Goals as goal
 
 pub returns-then-counts : goal.returns-then-counts

@@ -2,7 +2,7 @@
 use Rattle.std.proofs.Common.{ap, refl, inl, inr, ◌∙◌, ◌∷◌}
 use Rattle.gix_url.specs.Bytes.{slash, tilde}
 use Rattle.gix_url.specs.Settled.{begins_at_home}
-use Rattle.gix_url.proofs.HomeLemmas.{no_slash_no_home, no_tilde_no_home}
+use Rattle.gix_url.proofs.Homes.HomeLemmas.{no_slash_no_home, no_tilde_no_home}
 use Rattle.gix_url.proofs.expand_path.split.cut_home.Goals as goal
 
 pub returns-in_err-after : goal.returns-in_err-after

@@ -1,7 +1,7 @@
 -- The name of no helper is told; else the text is read, and the path kept.
 use Rattle.std.proofs.Common.{refl, ap, ◌∙◌, Err}
 use Rattle.std.proofs.lemmas.Result.{err_from_is_err_and}
-use Rattle.gix_url.proofs.FromPartsLemmas.{invalid_made, read_made}
+use Rattle.gix_url.proofs.Written.FromPartsLemmas.{invalid_made, read_made}
 use Rattle.gix_url.proofs.location.Url.from_parts.Goals as goal
 
 pub returns-in_err-checked : goal.returns-in_err-checked

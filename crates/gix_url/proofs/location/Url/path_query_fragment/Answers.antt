@@ -5,8 +5,8 @@ use Rattle.gix_url.specs.Views.{protocol}
 use Rattle.gix_url.specs.Settled.{IsWeb}
 use Rattle.gix_url.specs.ComponentPieces.{HasQuery}
 use Rattle.gix_url.specs.ComponentViews.{components}
-use Rattle.gix_url.proofs.ComponentLemmas.{web_parts}
-use Rattle.gix_url.proofs.HandedLemmas.{parts_meant, path_lent, query_lent, fragment_lent, query_there, given, map_ok, whole_meant, lends_whole, path_alone_held}
+use Rattle.gix_url.proofs.Parted.ComponentLemmas.{web_parts}
+use Rattle.gix_url.proofs.Parted.HandedLemmas.{parts_meant, path_lent, query_lent, fragment_lent, query_there, given, map_ok, whole_meant, lends_whole, path_alone_held}
 use Rattle.gix_url.proofs.location.Url.path_query_fragment.Goals as goal
 
 pub returns-in-File-clause-path : goal.returns-in-File-clause-path

@@ -2,8 +2,8 @@
 -- again.
 use Rattle.std.proofs.Common.{ap, sym, ◌∙◌, Err}
 use Rattle.gix_url.specs.declared.error.Error.TheVariants.{Unwritable}
-use Rattle.gix_url.proofs.PieceLemmas.{same_fault}
-use Rattle.gix_url.proofs.RereadLemmas.{written_again, settled_has_text}
+use Rattle.gix_url.proofs.Written.PieceLemmas.{same_fault}
+use Rattle.gix_url.proofs.Written.RereadLemmas.{written_again, settled_has_text}
 use Rattle.gix_url.proofs.location.Url.to_bstring.Goals as goal
 
 pub returns-in-Ok-clause-fault : goal.returns-in-Ok-clause-fault

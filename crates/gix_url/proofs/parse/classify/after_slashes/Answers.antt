@@ -4,7 +4,7 @@ use Rattle.std.specs.Borrow.{Bor}
 use Rattle.std.specs.Option.{MatchOption}
 use Rattle.gix_url.specs.Bytes.{slash}
 use Rattle.gix_url.specs.Cuts.{StripsFirst}
-use Rattle.gix_url.proofs.ShapeLemmas.{no_slashes, no_second_slash}
+use Rattle.gix_url.proofs.Readings.ShapeLemmas.{no_slashes, no_second_slash}
 use Rattle.gix_url.proofs.parse.classify.after_slashes.Goals as goal
 
 behind_both : (text rest : List ℕ) (behind : Option (Bor (List ℕ))) → text ≡ slash ∷ rest → StripsFirst slash rest behind

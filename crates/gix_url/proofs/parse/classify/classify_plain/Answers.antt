@@ -1,5 +1,5 @@
 -- The scp form and local paths, where no address stands between brackets behind a user.
-use Rattle.gix_url.proofs.ShapeLemmas.{plain_scp, local_shape, colon_nonempty}
+use Rattle.gix_url.proofs.Readings.ShapeLemmas.{plain_scp, local_shape, colon_nonempty}
 use Rattle.gix_url.proofs.parse.classify.classify_plain.Goals as goal
 
 pub returns-in-Some : goal.returns-in-Some

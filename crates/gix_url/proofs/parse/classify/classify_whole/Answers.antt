@@ -1,6 +1,6 @@
 -- A text without a colon is a local path, or empty.
-use Rattle.gix_url.proofs.HostLemmas.{some_tested}
-use Rattle.gix_url.proofs.ShapeLemmas.{whole_shape}
+use Rattle.gix_url.proofs.Readings.HostLemmas.{some_tested}
+use Rattle.gix_url.proofs.Readings.ShapeLemmas.{whole_shape}
 use Rattle.gix_url.proofs.parse.classify.classify_whole.Goals as goal
 
 pub returns-else-is_empty : goal.returns-else-is_empty

@@ -1,6 +1,6 @@
 -- The user ends at the last `@` before the first colon, which a bracket follows.
 use Rattle.std.proofs.Common.{sym}
-use Rattle.gix_url.proofs.ShapeLemmas.{addressed_at, addressed_unbracketed, addressed_bracketed}
+use Rattle.gix_url.proofs.Readings.ShapeLemmas.{addressed_at, addressed_unbracketed, addressed_bracketed}
 use Rattle.gix_url.proofs.parse.classify.cut_addressed_user.Goals as goal
 
 pub returns-in-None : goal.returns-in-None

@@ -1,7 +1,7 @@
 -- The colon of the scp form stands before any slash.
 use Rattle.std.proofs.Common.{refl}
 use Rattle.std.proofs.lemmas.Bool.{false≢true}
-use Rattle.gix_url.proofs.ShapeLemmas.{no_scp_cut, no_scp_uncut}
+use Rattle.gix_url.proofs.Readings.ShapeLemmas.{no_scp_cut, no_scp_uncut}
 use Rattle.gix_url.proofs.parse.classify.cut_scp.Goals as goal
 
 pub returns-in-None : goal.returns-in-None

@@ -1,6 +1,6 @@
 -- Two slashes behind the first colon are the first mark, and without another colon there is no other.
 use Rattle.std.proofs.Common.{refl}
-use Rattle.gix_url.proofs.ShapeLemmas.{mark_at_colon, no_mark_at_colon}
+use Rattle.gix_url.proofs.Readings.ShapeLemmas.{mark_at_colon, no_mark_at_colon}
 use Rattle.gix_url.proofs.parse.classify.cut_url.Goals as goal
 
 pub returns-in-Some : goal.returns-in-Some

@@ -1,6 +1,6 @@
 -- A helper's name stands before the first colon, and another colon follows it.
 use Rattle.std.proofs.Common.{refl, sym}
-use Rattle.gix_url.proofs.ShapeLemmas.{no_helper_alone, no_helper_unnamed}
+use Rattle.gix_url.proofs.Readings.ShapeLemmas.{no_helper_alone, no_helper_unnamed}
 use Rattle.gix_url.proofs.parse.classify.helper_address.Goals as goal
 
 pub returns-in-None : goal.returns-in-None

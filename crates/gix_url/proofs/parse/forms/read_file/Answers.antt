@@ -2,7 +2,7 @@
 use Rattle.std.proofs.Common.{refl}
 use Rattle.std.proofs.lemmas.Bool.{false≢true}
 use Rattle.gix_url.specs.Grammar.{SpellsFile}
-use Rattle.gix_url.proofs.ShapeLemmas.{none_but, no_file_path, no_file_text, file_misses_path, file_host_utf8, file_found}
+use Rattle.gix_url.proofs.Readings.ShapeLemmas.{none_but, no_file_path, no_file_text, file_misses_path, file_host_utf8, file_found}
 use Rattle.gix_url.proofs.parse.forms.read_file.Goals as goal
 
 pub returns-then-not-is_text-clause-refused : goal.returns-then-not-is_text-clause-refused

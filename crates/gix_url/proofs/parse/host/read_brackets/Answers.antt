@@ -2,7 +2,7 @@
 use Rattle.std.proofs.Common.{Some, refl}
 use Rattle.std.proofs.lemmas.Bool.{false≢true}
 use Rattle.gix_url.specs.HostPieces.{named_text, meant_host, strictness}
-use Rattle.gix_url.proofs.HostLemmas.{bracketed_name, no_port_behind, not_ended, not_inner}
+use Rattle.gix_url.proofs.Readings.HostLemmas.{bracketed_name, no_port_behind, not_ended, not_inner}
 use Rattle.gix_url.proofs.parse.host.read_brackets.Goals as goal
 
 pub returns-then-not-ends_host : goal.returns-then-not-ends_host

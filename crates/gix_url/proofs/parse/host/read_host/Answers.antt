@@ -1,7 +1,7 @@
 -- A piece with a flaw names nothing.
 use Rattle.std.proofs.lemmas.Result.{err_from_is_err_and}
 use Rattle.gix_url.specs.HostPieces.{named_text, strictness}
-use Rattle.gix_url.proofs.HostLemmas.{flawed_unnamed, names_utf8}
+use Rattle.gix_url.proofs.Readings.HostLemmas.{flawed_unnamed, names_utf8}
 use Rattle.gix_url.proofs.parse.host.read_host.Goals as goal
 
 pub returns-in_err-named-clause-unnamed : goal.returns-in_err-named-clause-unnamed

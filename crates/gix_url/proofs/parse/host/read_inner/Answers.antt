@@ -1,7 +1,7 @@
 -- A literal is decoded but for HTTP.
 use Rattle.std.proofs.Common.{refl}
 use Rattle.gix_url.specs.HostPieces.{shown_literal, strictness}
-use Rattle.gix_url.proofs.HostLemmas.{literal_inner}
+use Rattle.gix_url.proofs.Readings.HostLemmas.{literal_inner}
 use Rattle.gix_url.proofs.parse.host.read_inner.Goals as goal
 
 pub returns-then-is_literal : goal.returns-then-is_literal

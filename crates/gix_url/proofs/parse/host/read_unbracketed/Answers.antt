@@ -4,7 +4,7 @@ use Rattle.std.proofs.lemmas.Bool.{false≢true}
 use Rattle.gix_url.specs.Bytes.{colon}
 use Rattle.gix_url.specs.Flaws.{HasBadHost, HasBadPort}
 use Rattle.gix_url.specs.HostPieces.{named_text, meant_host, strictness}
-use Rattle.gix_url.proofs.HostLemmas.{colon_again, colon_first, not_digits, plain_front, plain_name}
+use Rattle.gix_url.proofs.Readings.HostLemmas.{colon_again, colon_first, not_digits, plain_front, plain_name}
 use Rattle.gix_url.proofs.parse.host.read_unbracketed.Goals as goal
 use Rattle.gix_url.proofs.parse.host.read_unbracketed.Goals.{then-is_empty-via-then-is_empty, then-is_empty-via-else-is_empty+then-not-is_free_of}
 

@@ -2,7 +2,7 @@
 use Rattle.std.proofs.Common.{◌∙◌, ap, sym, arith}
 use Rattle.std.proofs.lemmas.Bool.{le-leb}
 use Rattle.gix_url.specs.Walks.{walk_past_all, is_walk_short}
-use Rattle.gix_url.proofs.LengthLemmas.{behind_scheme, fits_from_lengths, fits_from_walk, walk_from_fits}
+use Rattle.gix_url.proofs.Readings.LengthLemmas.{behind_scheme, fits_from_lengths, fits_from_walk, walk_from_fits}
 use Rattle.gix_url.proofs.parse.length.fits.Goals as goal
 
 pub returns-then-rest-limit : goal.returns-then-rest-limit

@@ -1,5 +1,5 @@
 -- The text between the brackets, whether a colon follows them or nothing.
-use Rattle.gix_url.proofs.UrlLocationLemmas.{inside_brackets}
+use Rattle.gix_url.proofs.Readings.UrlLocationLemmas.{inside_brackets}
 use Rattle.gix_url.proofs.parse.peeled.in_brackets.Goals as goal
 
 pub returns : goal.returns

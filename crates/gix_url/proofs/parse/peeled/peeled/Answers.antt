@@ -2,7 +2,7 @@
 use Rattle.std.proofs.Common.{sym, subst}
 use Rattle.std.specs.Str.{IsUtf8}
 use Rattle.std.proofs.lemmas.Str.{IsUtf8-string_bytes}
-use Rattle.gix_url.proofs.UrlLocationLemmas.{peels_utf8}
+use Rattle.gix_url.proofs.Readings.UrlLocationLemmas.{peels_utf8}
 use Rattle.gix_url.proofs.parse.peeled.peeled.Goals as goal
 
 pub into_text-requires : goal.into_text-requires

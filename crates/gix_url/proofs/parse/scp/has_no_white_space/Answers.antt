@@ -1,6 +1,6 @@
 -- A plain text holds no white space.
 use Rattle.std.proofs.Common.{sym}
-use Rattle.gix_url.proofs.PlainLemmas.{plain_white_space}
+use Rattle.gix_url.proofs.Texts.PlainLemmas.{plain_white_space}
 use Rattle.gix_url.proofs.parse.scp.has_no_white_space.Goals as goal
 
 pub returns-then-is_plain : goal.returns-then-is_plain

@@ -2,9 +2,9 @@
 use Rattle.std.proofs.Common.{refl, subst}
 use Rattle.gix_url.specs.Grammar.{AddressedShape, SpellsScp}
 use Rattle.gix_url.specs.Flaws.MissesPath.{behind_address}
-use Rattle.gix_url.proofs.ShapeLemmas.{none_but, nil_tested}
-use Rattle.gix_url.proofs.AddressLemmas.{address_utf8}
-use Rattle.gix_url.proofs.ScpLemmas.{addressed_no_path, addressed_user_utf8}
+use Rattle.gix_url.proofs.Readings.ShapeLemmas.{none_but, nil_tested}
+use Rattle.gix_url.proofs.Addresses.AddressLemmas.{address_utf8}
+use Rattle.gix_url.proofs.Readings.ScpLemmas.{addressed_no_path, addressed_user_utf8}
 use Rattle.gix_url.proofs.parse.scp.read_addressed.Goals as goal
 
 pub missing_path-requires : goal.missing_path-requires

@@ -3,8 +3,8 @@ use Rattle.std.proofs.Common.{None, Some, string_bytes}
 use Rattle.gix_url.specs.HostPieces.{named_text}
 use Rattle.gix_url.specs.Hosts.Mode.{bare}
 use Rattle.gix_url.specs.ScpPieces.{PieceFlaw}
-use Rattle.gix_url.proofs.HostLemmas.{names_utf8}
-use Rattle.gix_url.proofs.ScpLemmas.{nothing_named, nothing_means, piece_found}
+use Rattle.gix_url.proofs.Readings.HostLemmas.{names_utf8}
+use Rattle.gix_url.proofs.Readings.ScpLemmas.{nothing_named, nothing_means, piece_found}
 use Rattle.gix_url.proofs.parse.scp.read_piece.Goals as goal
 
 pub build-requires : goal.build-requires

@@ -2,9 +2,9 @@
 use Rattle.std.proofs.Common.{refl, subst, option_map, string_bytes}
 use Rattle.gix_url.specs.Grammar.{ScpShape, SpellsScpBefore}
 use Rattle.gix_url.specs.Flaws.MissesPath.{in_scp}
-use Rattle.gix_url.proofs.HostLemmas.{some_tested}
-use Rattle.gix_url.proofs.ShapeLemmas.{none_but, nil_tested}
-use Rattle.gix_url.proofs.ScpLemmas.{scp_no_path, scp_refused, scp_host_utf8, scp_user_utf8, colons_inside_front, colons_inside_host}
+use Rattle.gix_url.proofs.Readings.HostLemmas.{some_tested}
+use Rattle.gix_url.proofs.Readings.ShapeLemmas.{none_but, nil_tested}
+use Rattle.gix_url.proofs.Readings.ScpLemmas.{scp_no_path, scp_refused, scp_host_utf8, scp_user_utf8, colons_inside_front, colons_inside_host}
 use Rattle.gix_url.proofs.parse.scp.read_scp.Goals as goal
 
 pub missing_path-requires : goal.missing_path-requires

@@ -4,8 +4,8 @@ use Rattle.std.proofs.lemmas.Bool.{false≢true}
 use Rattle.std.proofs.lemmas.Result.{IfOk-weaker, IfErr-weaker}
 use Rattle.gix_url.specs.Grammar.{ScpHost}
 use Rattle.gix_url.specs.ScpPieces.{ColonsInside, NamesHost, RefusesHost, RefusesPiece}
-use Rattle.gix_url.proofs.EscapeLemmas.{escaped_percents_kept}
-use Rattle.gix_url.proofs.ScpLemmas.{white_space_refused, backslash_refused, no_port_inside, colons_inside_escaped, scp_host_found, scp_host_refused}
+use Rattle.gix_url.proofs.Texts.EscapeLemmas.{escaped_percents_kept}
+use Rattle.gix_url.proofs.Readings.ScpLemmas.{white_space_refused, backslash_refused, no_port_inside, colons_inside_escaped, scp_host_found, scp_host_refused}
 use Rattle.gix_url.proofs.parse.scp.read_scp_host.Goals as goal
 
 pub returns-then-not-has_no_white_space-clause-refused : goal.returns-then-not-has_no_white_space-clause-refused

@@ -1,5 +1,5 @@
 -- A plain text holds no white space.
-use Rattle.gix_url.proofs.PlainLemmas.{plain_white_space}
+use Rattle.gix_url.proofs.Texts.PlainLemmas.{plain_white_space}
 use Rattle.gix_url.proofs.parse.simple_url.has_no_white_space.Goals as goal
 
 pub returns-then-plain : goal.returns-then-plain

@@ -1,6 +1,6 @@
 -- A plain text holds no `%`.
 use Rattle.std.proofs.Common.{◌∙◌, sym}
-use Rattle.gix_url.proofs.PlainLemmas.{plain_sound}
+use Rattle.gix_url.proofs.Texts.PlainLemmas.{plain_sound}
 use Rattle.gix_url.proofs.parse.simple_url.has_sound_escapes.Goals as goal
 
 pub returns-then-plain : goal.returns-then-plain

@@ -5,7 +5,7 @@ use Rattle.gix_url.specs.Bytes.{at_sign}
 use Rattle.gix_url.specs.HostPieces.{host_of}
 use Rattle.gix_url.specs.Authority.Authority.{with_user}
 use Rattle.gix_url.specs.Flaws.{AuthorityFlaw, PieceOf}
-use Rattle.gix_url.proofs.UrlLemmas.{nothing_named, no_name_behind, no_text_before, no_host_behind, bad_user_flaw}
+use Rattle.gix_url.proofs.Readings.UrlLemmas.{nothing_named, no_name_behind, no_text_before, no_host_behind, bad_user_flaw}
 use Rattle.gix_url.proofs.parse.simple_url.read_authority.Goals as goal
 
 pub returns-in_default-read_credentials-clause-refused : goal.returns-in_default-read_credentials-clause-refused

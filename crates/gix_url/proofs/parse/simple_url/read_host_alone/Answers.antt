@@ -4,7 +4,7 @@ use Rattle.std.proofs.lemmas.Bool.{both_ways}
 use Rattle.std.proofs.lemmas.Result.{err_from_is_err_and}
 use Rattle.gix_url.specs.Authority.Authority.{host_alone}
 use Rattle.gix_url.specs.Flaws.{AuthorityFlaw, PieceOf}
-use Rattle.gix_url.proofs.UrlLemmas.{nothing_named, none_host, some_host, no_name_alone, no_host_alone}
+use Rattle.gix_url.proofs.Readings.UrlLemmas.{nothing_named, none_host, some_host, no_name_alone, no_host_alone}
 use Rattle.gix_url.proofs.parse.simple_url.read_host_alone.Goals as goal
 use Rattle.gix_url.proofs.parse.simple_url.read_host_alone.Goals.{else-needed-via-then-needed+else-is_none, else-needed-via-else-needed}
 

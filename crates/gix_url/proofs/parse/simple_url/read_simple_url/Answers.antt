@@ -4,8 +4,8 @@ use Rattle.std.proofs.lemmas.Bool.{false≢true}
 use Rattle.std.proofs.lemmas.Result.{err_from_is_err_and}
 use Rattle.gix_url.specs.Authority.{Fits}
 use Rattle.gix_url.specs.Flaws.{AuthorityFlaw, UrlFlaw}
-use Rattle.gix_url.proofs.PlainLemmas.{plain_path}
-use Rattle.gix_url.proofs.UrlLemmas.{rest_cut, url_cut, spelled, no_scheme_refutes, bad_path_refutes, backslash_refutes, no_authority_refutes}
+use Rattle.gix_url.proofs.Texts.PlainLemmas.{plain_path}
+use Rattle.gix_url.proofs.Readings.UrlLemmas.{rest_cut, url_cut, spelled, no_scheme_refutes, bad_path_refutes, backslash_refutes, no_authority_refutes}
 use Rattle.gix_url.proofs.parse.simple_url.read_simple_url.Goals as goal
 
 pub returns-then-not-has_no_white_space-clause-refused : goal.returns-then-not-has_no_white_space-clause-refused

@@ -1,7 +1,7 @@
 -- An escaped text is empty exactly where it decodes to nothing.
 use Rattle.std.proofs.Common.{arith}
 use Rattle.std.proofs.lemmas.Bool.Decides.{nat_tests}
-use Rattle.gix_url.proofs.UrlLemmas.{nothing_meant, something_meant}
+use Rattle.gix_url.proofs.Readings.UrlLemmas.{nothing_meant, something_meant}
 use Rattle.gix_url.proofs.parse.simple_url.unless_empty.Goals as goal
 
 pub returns-then-is_empty : goal.returns-then-is_empty

@@ -2,9 +2,9 @@
 use Rattle.std.proofs.Common.{refl, sym, ◌∙◌}
 use Rattle.std.proofs.lemmas.Bool.{false≢true}
 use Rattle.gix_url.specs.Grammar.{SpellsUrl}
-use Rattle.gix_url.proofs.ShapeLemmas.{nil_tested, none_but}
-use Rattle.gix_url.proofs.SchemeRuleLemmas.{named_ext}
-use Rattle.gix_url.proofs.UrlLocationLemmas.{texts, scheme_utf8, no_path_refutes, path_missed, spelled_url}
+use Rattle.gix_url.proofs.Readings.ShapeLemmas.{nil_tested, none_but}
+use Rattle.gix_url.proofs.Readings.SchemeRuleLemmas.{named_ext}
+use Rattle.gix_url.proofs.Readings.UrlLocationLemmas.{texts, scheme_utf8, no_path_refutes, path_missed, spelled_url}
 use Rattle.gix_url.proofs.parse.url.located.Goals as goal
 
 pub missing_path-requires : goal.missing_path-requires

@@ -2,8 +2,8 @@
 use Rattle.std.proofs.Common.{sym}
 use Rattle.std.proofs.lemmas.Bool.{false≢true}
 use Rattle.gix_url.specs.Grammar.{SpellsUrl}
-use Rattle.gix_url.proofs.PlainLemmas.{plain_utf8}
-use Rattle.gix_url.proofs.ShapeLemmas.{none_but, unfit_url, no_url_text}
+use Rattle.gix_url.proofs.Texts.PlainLemmas.{plain_utf8}
+use Rattle.gix_url.proofs.Readings.ShapeLemmas.{none_but, unfit_url, no_url_text}
 use Rattle.gix_url.proofs.parse.url.read_other.Goals as goal
 
 pub returns-then-not-fits-clause-refused : goal.returns-then-not-fits-clause-refused

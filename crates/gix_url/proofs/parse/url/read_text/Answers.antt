@@ -2,7 +2,7 @@
 use Rattle.std.proofs.Common.{sym, subst}
 use Rattle.gix_url.specs.Grammar.{SpellsUrl}
 use Rattle.gix_url.specs.SchemeRules.{AreRulesOf}
-use Rattle.gix_url.proofs.ShapeLemmas.{none_but}
+use Rattle.gix_url.proofs.Readings.ShapeLemmas.{none_but}
 use Rattle.gix_url.proofs.parse.url.read_text.Goals as goal
 
 pub returns-in-Err-clause-refused : goal.returns-in-Err-clause-refused

@@ -4,8 +4,8 @@ use Rattle.std.proofs.lemmas.Bool.{false≢true}
 use Rattle.std.proofs.lemmas.Result.{IfErr-weaker}
 use Rattle.gix_url.specs.Grammar.{Spells, SpellsFile, SpellsUrl}
 use Rattle.gix_url.specs.Readings.{NoneBut, Refuses}
-use Rattle.gix_url.proofs.ShapeLemmas.{none_weaker, file_shape, other_shape, spelled_as_file, spelled_as_url}
-use Rattle.gix_url.proofs.SchemeRuleLemmas.{file_named, file_unnamed}
+use Rattle.gix_url.proofs.Readings.ShapeLemmas.{none_weaker, file_shape, other_shape, spelled_as_file, spelled_as_url}
+use Rattle.gix_url.proofs.Readings.SchemeRuleLemmas.{file_named, file_unnamed}
 use Rattle.gix_url.proofs.parse.url.read_url.Goals as goal
 
 pub read_file-requires : goal.read_file-requires

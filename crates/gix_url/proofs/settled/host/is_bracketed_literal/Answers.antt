@@ -1,5 +1,5 @@
 -- The brackets are cut off in one way.
-use Rattle.gix_url.proofs.SettledLemmas.{literal_in_brackets}
+use Rattle.gix_url.proofs.Closed.SettledLemmas.{literal_in_brackets}
 use Rattle.gix_url.proofs.settled.host.is_bracketed_literal.Goals as goal
 
 pub returns-in-Some : goal.returns-in-Some

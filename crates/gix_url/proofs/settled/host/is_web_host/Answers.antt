@@ -1,5 +1,5 @@
 -- A host of HTTP is closed before a colon behind it, and else a literal in brackets or a name.
-use Rattle.gix_url.proofs.SettledLemmas.{none_tested, second_decides, first_fails, first_suffices, second_needed, web_host_colon, web_host_bare}
+use Rattle.gix_url.proofs.Closed.SettledLemmas.{none_tested, second_decides, first_fails, first_suffices, second_needed, web_host_colon, web_host_bare}
 use Rattle.gix_url.proofs.settled.host.is_web_host.Goals as goal
 
 pub returns-then-is_none : goal.returns-then-is_none

@@ -2,7 +2,7 @@
 use Rattle.std.proofs.Common.{◌↔◌, ◌∙◌, ap, subst, IsTrue}
 use Rattle.gix_url.specs.Value.{Location}
 use Rattle.gix_url.specs.Shapes.{LocalShape}
-use Rattle.gix_url.proofs.SettledLemmas.{second_decides, settled_local}
+use Rattle.gix_url.proofs.Closed.SettledLemmas.{second_decides, settled_local}
 use Rattle.gix_url.proofs.settled.local.is_settled_local.Goals as goal
 
 pub returns-then-is_flagged_path : goal.returns-then-is_flagged_path

@@ -3,7 +3,7 @@ use Rattle.std.proofs.Common.{◌∙◌, ap, subst, sym}
 use Rattle.gix_url.specs.Value.{Location}
 use Rattle.gix_url.specs.Pieces.{AreOwn, pieces_text}
 use Rattle.gix_url.specs.Schemes.{protocol_text}
-use Rattle.gix_url.proofs.SettledLemmas.{text_tested}
+use Rattle.gix_url.proofs.Closed.SettledLemmas.{text_tested}
 use Rattle.gix_url.proofs.settled.measure.has_fitting_text.Goals as goal
 
 pub returns-in-Some : goal.returns-in-Some

@@ -3,7 +3,7 @@ use Rattle.std.proofs.Common.{◌∙◌, ap}
 use Rattle.gix_url.specs.Value.{Location}
 use Rattle.gix_url.specs.Pieces.{pieces_text}
 use Rattle.gix_url.specs.Schemes.{protocol_text}
-use Rattle.gix_url.proofs.SettledLemmas.{text_tested}
+use Rattle.gix_url.proofs.Closed.SettledLemmas.{text_tested}
 use Rattle.gix_url.proofs.settled.measure.is_own_short.Goals as goal
 
 pub returns-in-Ok : goal.returns-in-Ok

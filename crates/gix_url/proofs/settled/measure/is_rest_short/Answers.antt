@@ -3,7 +3,7 @@ use Rattle.std.proofs.Common.{◌∙◌, ap, sym, arith}
 use Rattle.gix_url.specs.declared.parse.length.TextWalk.{TextWalk}
 use Rattle.gix_url.specs.Pieces.{pieces_text}
 use Rattle.gix_url.specs.Walks.{is_walk_short, text_walk_past}
-use Rattle.gix_url.proofs.LengthLemmas.{short_walk}
+use Rattle.gix_url.proofs.Readings.LengthLemmas.{short_walk}
 use Rattle.gix_url.proofs.settled.measure.is_rest_short.Goals as goal
 
 pub returns-then-len-scheme : goal.returns-then-len-scheme

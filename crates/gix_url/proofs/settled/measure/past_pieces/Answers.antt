@@ -2,7 +2,7 @@
 use Rattle.std.proofs.Common.{[], ◌∙◌, sym, ap, append-nil}
 use Rattle.gix_url.specs.Pieces.{pieces_text}
 use Rattle.gix_url.specs.Walks.{text_walk_past}
-use Rattle.gix_url.proofs.LengthLemmas.{text_walk-nil}
+use Rattle.gix_url.proofs.Readings.LengthLemmas.{text_walk-nil}
 use Rattle.gix_url.proofs.settled.measure.past_pieces.Goals as goal
 
 pub returns : goal.returns

@@ -2,7 +2,7 @@
 use Rattle.std.proofs.Common.{◌↔◌, ◌∙◌, ap, sym, subst, Some, IsTrue, option_map, string_bytes}
 use Rattle.gix_url.specs.Value.{Location}
 use Rattle.gix_url.specs.Settled.{IsWebHost}
-use Rattle.gix_url.proofs.SettledLemmas.{host_tested}
+use Rattle.gix_url.proofs.Closed.SettledLemmas.{host_tested}
 use Rattle.gix_url.proofs.settled.url.has_web_host.Goals as goal
 
 pub returns-in-Some : goal.returns-in-Some

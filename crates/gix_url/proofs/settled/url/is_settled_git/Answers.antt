@@ -1,5 +1,5 @@
 -- The parts, and that the text is that of a URL.
-use Rattle.gix_url.proofs.SettledLemmas.{second_decides, first_fails, settled_git, written_git}
+use Rattle.gix_url.proofs.Closed.SettledLemmas.{second_decides, first_fails, settled_git, written_git}
 use Rattle.gix_url.proofs.settled.url.is_settled_git.Goals as goal
 
 pub is_settled_raw-requires-clause-form : goal.is_settled_raw-requires-clause-form

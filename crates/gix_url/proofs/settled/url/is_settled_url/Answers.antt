@@ -1,5 +1,5 @@
 -- The form of a URL, and the length of its text.
-use Rattle.gix_url.proofs.SettledLemmas.{second_decides, first_fails, settled_url}
+use Rattle.gix_url.proofs.Closed.SettledLemmas.{second_decides, first_fails, settled_url}
 use Rattle.gix_url.proofs.settled.url.is_settled_url.Goals as goal
 
 pub has_fitting_text-requires : goal.has_fitting_text-requires

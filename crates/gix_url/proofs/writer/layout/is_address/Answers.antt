@@ -3,9 +3,9 @@ use Rattle.std.proofs.Common.{◌≡◌, ◌∙◌, ℕ, false, List, sym, subst
 use Rattle.std.proofs.lemmas.Bool.{false_from_ne_true}
 use Rattle.gix_url.specs.Bytes.{colon, FreeOf}
 use Rattle.gix_url.specs.AddressTest.{is_ipv6_text}
-use Rattle.gix_url.proofs.AddressLemmas.{address_two_colons}
-use Rattle.gix_url.proofs.AddressTestLemmas.{answers_address, ipv6_text_from}
-use Rattle.gix_url.proofs.CutLemmas.{not_free}
+use Rattle.gix_url.proofs.Addresses.AddressLemmas.{address_two_colons}
+use Rattle.gix_url.proofs.Addresses.AddressTestLemmas.{answers_address, ipv6_text_from}
+use Rattle.gix_url.proofs.Texts.CutLemmas.{not_free}
 use Rattle.gix_url.proofs.writer.layout.is_address.Goals as goal
 
 no_address : (t : List ℕ) → FreeOf colon t → is_ipv6_text t ≡ false

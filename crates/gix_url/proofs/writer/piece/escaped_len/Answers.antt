@@ -1,6 +1,6 @@
 -- Each escape makes a text longer by two.
 use Rattle.std.proofs.Common.{arith}
-use Rattle.gix_url.proofs.PieceLemmas.{length_escapes}
+use Rattle.gix_url.proofs.Written.PieceLemmas.{length_escapes}
 use Rattle.gix_url.proofs.writer.piece.escaped_len.Goals as goal
 
 pub returns-clause-exact : goal.returns-clause-exact

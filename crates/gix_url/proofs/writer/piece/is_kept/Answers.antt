@@ -1,6 +1,6 @@
 -- Where no byte has to be escaped the text stays.
 use Rattle.std.proofs.Common.{sym, ◌∙◌, eqb-true}
-use Rattle.gix_url.proofs.PieceLemmas.{kept_text}
+use Rattle.gix_url.proofs.Written.PieceLemmas.{kept_text}
 use Rattle.gix_url.proofs.writer.piece.is_kept.Goals as goal
 
 pub returns : goal.returns

@@ -1,5 +1,5 @@
 -- The colon, and the digits behind it.
-use Rattle.gix_url.proofs.PieceLemmas.{on_ok}
+use Rattle.gix_url.proofs.Written.PieceLemmas.{on_ok}
 use Rattle.gix_url.proofs.writer.piece.put_port.Goals as goal
 
 pub returns-in_ok-put-in-Some : goal.returns-in_ok-put-in-Some

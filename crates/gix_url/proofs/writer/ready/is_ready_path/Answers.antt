@@ -1,6 +1,6 @@
 -- A text of ready bytes is written as it is.
 use Rattle.std.proofs.Common.{◌∙◌, sym}
-use Rattle.gix_url.proofs.ReadyLemmas.{ready_path}
+use Rattle.gix_url.proofs.Texts.ReadyLemmas.{ready_path}
 use Rattle.gix_url.proofs.writer.ready.is_ready_path.Goals as goal
 
 pub returns : goal.returns

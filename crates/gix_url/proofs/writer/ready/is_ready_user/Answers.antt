@@ -1,6 +1,6 @@
 -- A text of ready bytes is written as it is.
 use Rattle.std.proofs.Common.{◌∙◌, sym}
-use Rattle.gix_url.proofs.ReadyLemmas.{ready_user, ready_password}
+use Rattle.gix_url.proofs.Texts.ReadyLemmas.{ready_user, ready_password}
 use Rattle.gix_url.proofs.writer.ready.is_ready_user.Goals as goal
 
 pub returns-clause-user : goal.returns-clause-user

@@ -1,6 +1,6 @@
 -- Pieces that were put to their end were shown.
 use Rattle.gix_url.specs.Pieces.{pieces_text}
-use Rattle.gix_url.proofs.DisplayLemmas.{shown_plain, shown_whole}
+use Rattle.gix_url.proofs.Written.DisplayLemmas.{shown_plain, shown_whole}
 use Rattle.gix_url.proofs.writer.show.show_pieces.Goals as goal
 
 pub returns : goal.returns

@@ -1,6 +1,6 @@
 -- The parts around the first `%`.
 use Rattle.std.proofs.Common.{arith}
-use Rattle.gix_url.proofs.PieceLemmas.{split_cuts}
+use Rattle.gix_url.proofs.Written.PieceLemmas.{split_cuts}
 use Rattle.gix_url.proofs.writer.sink.cut_at_percent.Goals as goal
 
 pub returns : goal.returns

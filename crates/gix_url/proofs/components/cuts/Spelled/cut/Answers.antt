@@ -1,6 +1,6 @@
 -- What the text stands for is cut where the front that was counted ends.
 use Rattle.std.proofs.Common.{arith, ◌∙◌}
-use Rattle.gix_url.proofs.MeaningLemmas.{Parts, meant_front, meant_behind, meant_within}
+use Rattle.gix_url.proofs.Parted.MeaningLemmas.{Parts, meant_front, meant_behind, meant_within}
 use Rattle.gix_url.proofs.components.cuts.Spelled.cut.Goals as goal
 
 pub split_at-requires-2 : goal.split_at-requires-2

@@ -1,5 +1,5 @@
 -- What stands before the first `%` is free of it.
-use Rattle.gix_url.proofs.HostLemmas.{lowercase_address_cut, lowercase_address_whole}
+use Rattle.gix_url.proofs.Readings.HostLemmas.{lowercase_address_cut, lowercase_address_whole}
 use Rattle.gix_url.proofs.parse.host.build.address_len.Goals as goal
 
 pub returns-in-Some-clause-cut : goal.returns-in-Some-clause-cut

@@ -1,8 +1,8 @@
 -- A text with no `%` decodes to itself, and no decoding is longer than its text.
 use Rattle.std.proofs.Common.{arith, sym}
 use Rattle.percent_encoding.specs.Iter.{decoded_bytes}
-use Rattle.gix_url.proofs.EscapeLemmas.{decode_kept}
-use Rattle.gix_url.proofs.HostLemmas.{room_for_all, room_for_next}
+use Rattle.gix_url.proofs.Texts.EscapeLemmas.{decode_kept}
+use Rattle.gix_url.proofs.Readings.HostLemmas.{room_for_all, room_for_next}
 use Rattle.gix_url.proofs.parse.host.build.append_decoded.Goals as goal
 
 pub returns-then-not-has_percent-clause-items : goal.returns-then-not-has_percent-clause-items

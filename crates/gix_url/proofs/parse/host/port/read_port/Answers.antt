@@ -1,6 +1,6 @@
 -- Digits are text, and std reads them as a number where there is one of 16 bits.
 use Rattle.std.proofs.Common.{sym}
-use Rattle.gix_url.proofs.HostLemmas.{digits_utf8, not_parsed}
+use Rattle.gix_url.proofs.Readings.HostLemmas.{digits_utf8, not_parsed}
 use Rattle.gix_url.specs.HostPieces.{strictness}
 use Rattle.gix_url.proofs.parse.host.port.read_port.Goals as goal
 

@@ -1,7 +1,7 @@
 -- A port, or nothing.
 use Rattle.std.proofs.Common.{Some, ap}
 use Rattle.gix_url.specs.HostPieces.{Follows, meant_host, strictness}
-use Rattle.gix_url.proofs.HostLemmas.{nothing_follows, port_follows}
+use Rattle.gix_url.proofs.Readings.HostLemmas.{nothing_follows, port_follows}
 use Rattle.gix_url.proofs.parse.host.port.with_rest.Goals as goal
 
 pub returns-in-Some : goal.returns-in-Some

@@ -2,7 +2,7 @@
 use Rattle.std.proofs.Common.{◌∙◌, sym, ap}
 use Rattle.gix_url.specs.declared.parse.length.TextWalk.{TextWalk}
 use Rattle.gix_url.specs.Walks.{text_walk_past}
-use Rattle.gix_url.proofs.LengthLemmas.{text_walk-append}
+use Rattle.gix_url.proofs.Readings.LengthLemmas.{text_walk-append}
 use Rattle.gix_url.proofs.settled.measure.MeasureSinkTextWalk.put_end.Goals as goal
 
 pub returns : goal.returns

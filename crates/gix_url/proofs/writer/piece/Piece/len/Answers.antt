@@ -1,7 +1,7 @@
 -- The length of written percents.
 use Rattle.std.proofs.Common.{ap, ◌∙◌, arith, length}
 use Rattle.gix_url.specs.Pieces.{piece_text}
-use Rattle.gix_url.proofs.PieceLemmas.{length_percents}
+use Rattle.gix_url.proofs.Written.PieceLemmas.{length_percents}
 use Rattle.gix_url.proofs.writer.piece.Piece.len.Goals as goal
 
 pub returns-in-Percents-clause-exact : goal.returns-in-Percents-clause-exact

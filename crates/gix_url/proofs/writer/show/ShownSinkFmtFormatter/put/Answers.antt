@@ -1,5 +1,5 @@
 -- A text that is UTF-8 is shown as it is.
-use Rattle.gix_url.proofs.DisplayLemmas.{shown_text}
+use Rattle.gix_url.proofs.Written.DisplayLemmas.{shown_text}
 use Rattle.gix_url.proofs.writer.show.ShownSinkFmtFormatter.put.Goals as goal
 
 pub returns : goal.returns

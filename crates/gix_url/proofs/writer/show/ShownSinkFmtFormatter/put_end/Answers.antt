@@ -1,5 +1,5 @@
 -- An end is shown, whatever bytes it is.
-use Rattle.gix_url.proofs.DisplayLemmas.{shown_end}
+use Rattle.gix_url.proofs.Written.DisplayLemmas.{shown_end}
 use Rattle.gix_url.proofs.writer.show.ShownSinkFmtFormatter.put_end.Goals as goal
 
 pub returns : goal.returns

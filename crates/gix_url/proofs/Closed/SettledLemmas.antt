@@ -1,0 +1,376 @@
+-- The settled class by its parts: what the small tests tell, joined.
+use Rattle.std.proofs.Common.{⊎_elim, ◌≡◌, ◌↔◌, ℕ, Bool, true, false, not, ◌==◌, ◌⊎◌, inl, inr, List, [], ◌∷◌, ◌++◌, refl, sym, ap, subst, ◌∙◌, append_assoc, Option, Some, None, IsSome, Result, Ok, ◌&&◌, IsTrue}
+use Rattle.std.specs.List.{list_all}
+use Rattle.std.specs.Option.{is_some, is_none}
+use Rattle.std.proofs.lemmas.List.{append_cancel_right}
+use Rattle.std.proofs.lemmas.List.Folds.{list_all-append}
+use Rattle.std.proofs.lemmas.Bool.{cond-false, and_right, both_ways, false≢true, true≢false, not-false, and_parts}
+use Rattle.gix_url.specs.Value.{Protocol, Location, path_alone}
+use Rattle.gix_url.specs.Value.Protocol.{ssh, git, helper_url}
+use Rattle.gix_url.specs.Bytes.{colon, left_bracket, right_bracket, percent_sign, slash, tilde, begins_with, is_scheme_text, FreeOf, lowercase}
+use Rattle.gix_url.specs.Escapes.{has_percent}
+use Rattle.gix_url.specs.Addresses.{Literal, IsIpv6Text}
+use Rattle.gix_url.specs.Addresses.Literal.{address, zoned}
+use Rattle.gix_url.specs.Hosts.{is_http_host_byte}
+use Rattle.gix_url.specs.HostPieces.{IsEscapedZone}
+use Rattle.gix_url.specs.Shapes.{LocalShape}
+use Rattle.gix_url.specs.Settled.{HasFittingText, IsNormalAddress, IsSettledGit, IsSettledHelperUrl, IsSettledLocal, IsSettledScp, IsSettledSecure, IsSettledUrl, IsSettledWeb, IsTransportPath, IsWebName, IsWebHost, IsWeb}
+use Rattle.gix_url.specs.Settled.IsWebHost.{literal, literal_colon, named, named_colon}
+use Rattle.gix_url.specs.SettledParts.{HasScpForm, HasScpParts, HasUrlForm, IsFlaggedPath, IsGitTarget, IsHosted, IsNormalLiteral, IsBracketedLiteral, IsClosedHost, IsOtherForm, IsPiecesShort, IsSecureTarget, IsSettledRaw, IsWebTarget, IsWrittenAsUrl}
+use Rattle.gix_url.specs.Schemes.{protocol_text}
+use Rattle.gix_url.specs.Text.{Form, choice, choice_by, ssh_choice, with_host, is_relative, in_form, text, canonical_text, user_information, host_part, port_part, canonical_path}
+use Rattle.gix_url.specs.Text.Form.{canonical_form}
+use Rattle.gix_url.specs.Authority.{FitsText}
+use Rattle.gix_url.proofs.Readings.LengthLemmas.{fits_text}
+use Rattle.gix_url.proofs.Addresses.AddressLemmas.{address_free}
+use Rattle.gix_url.proofs.Texts.CutLemmas.{cut_unique, different_bytes, not_free, tails, last_unique, scheme_text_free}
+
+-- ---- tests in a row
+
+-- the second test of two decides, where the first holds
+pub second_decides : {A B R : Type 0} (b : Bool) → A → (IsTrue b ↔ B) → ((A × B) ↔ R) → IsTrue b ↔ R
+second_decides b first second both = (λ yes. both.0 (first, second.0 yes), λ all. second.1 (both.1 all).1)
+
+-- the first test of two decides, where it fails
+pub first_fails : {A B R : Type 0} (b : Bool) → b ≡ false → (IsTrue b ↔ A) → ((A × B) ↔ R) → IsTrue b ↔ R
+first_fails b fails first both = (λ yes. absurd (both_ways b fails yes), λ all. absurd (both_ways b fails (first.1 (both.1 all).0)))
+
+-- the first test of two decides, where it holds and one is enough
+pub first_suffices : {A B R : Type 0} (b : Bool) → b ≡ true → A → ((A ⊎ B) ↔ R) → IsTrue b ↔ R
+first_suffices b holds first either = (λ yes. either.0 (inl first), λ all. holds)
+
+-- the second test of two decides, where the first fails and one is enough
+pub second_needed : {A B R : Type 0} (a b : Bool) → a ≡ false → (IsTrue a ↔ A) → (IsTrue b ↔ B) → ((A ⊎ B) ↔ R) → IsTrue b ↔ R
+second_needed a b fails first second either = (
+  λ yes. either.0 (inr (second.0 yes)),
+  λ all. ⊎_elim (λ x. absurd (both_ways a fails (first.1 x))) (λ y. second.1 y) (either.1 all),
+)
+
+-- `is_none` tells that there is no value
+pub none_tested : {A : Type 0} (o : Option A) (b : Bool) → is_some o ≡ not b → IsTrue b ↔ (o ≡ None)
+none_tested None b e = (λ yes. refl, λ none. not-false b (sym e))
+none_tested (Some x) b e = (λ yes. absurd (true≢false (e ∙ ap not yes)), λ none. cc)
+
+-- ---- values
+
+-- a location without password and port is made of its other parts
+pub value_of : (v : Location) (protocol : Protocol) (flag : Bool) → v.scheme ≡ protocol → v.flag ≡ flag → v.password ≡ None → v.port ≡ None → v ≡ record (path_alone protocol flag v.path) { user = v.user; host = v.host; spelling = v.spelling }
+value_of v protocol flag scheme flagged no_password no_port = λ i. record {
+  scheme = scheme i;
+  user = v.user;
+  password = no_password i;
+  host = v.host;
+  flag = flagged i;
+  port = no_port i;
+  path = v.path;
+  spelling = v.spelling;
+}
+
+-- ---- local paths
+
+-- a settled local path is a flagged path with the form of a local path
+pub settled_local : (v : Location) → (IsFlaggedPath v × LocalShape v.path) ↔ IsSettledLocal v
+settled_local v = (
+  λ parts. record {
+    flagged = parts.0.flagged;
+    alone = parts.0.alone;
+    no_host = parts.0.no_host;
+    nonempty = parts.1.nonempty;
+    neither = parts.1.neither;
+    no_scp = parts.1.no_scp;
+  },
+  λ s. (
+    record { flagged = s.flagged; alone = s.alone; no_host = s.no_host },
+    record { nonempty = s.nonempty; neither = s.neither; no_scp = s.no_scp },
+  ),
+)
+
+-- ---- literals
+
+-- a literal without `%` is an address
+address_without_zone : (t : List ℕ) → FreeOf percent_sign t → Literal t t → IsNormalAddress t
+address_without_zone t free (address a e) = record { address = a; lower = sym e }
+address_without_zone t free (zoned a z addressed zone joined normal) =
+    absurd (not_free percent_sign a (50 ∷ 53 ∷ z) (subst (λ x. FreeOf percent_sign x) joined free))
+
+-- a text without `%` is a settled literal where it is a settled address
+pub literal_without_zone : (t : List ℕ) → FreeOf percent_sign t → IsNormalAddress t ↔ IsNormalLiteral t
+literal_without_zone t free = (λ n. address n.address (sym n.lower), λ l. address_without_zone t free l)
+
+-- an address and an escaped zone behind it are a literal
+literal_of_parts : (t a e : List ℕ) → t ≡ a ++ percent_sign ∷ e → IsNormalAddress a → IsEscapedZone e → Literal t t
+literal_of_parts t a e joined normal (z, zone, escaped) =
+    let whole : t ≡ a ++ (percent_sign ∷ 50 ∷ 53 ∷ z) = joined ∙ ap (λ x. a ++ percent_sign ∷ x) escaped in
+    zoned a z normal.address zone whole (whole ∙ ap (λ x. x ++ (percent_sign ∷ 50 ∷ 53 ∷ z)) (sym normal.lower))
+
+-- a literal with `%` is an address and an escaped zone behind it
+parts_of_literal : (t a e : List ℕ) → FreeOf percent_sign a → t ≡ a ++ percent_sign ∷ e → Literal t t → IsNormalAddress a × IsEscapedZone e
+parts_of_literal t a e free joined (address whole n) =
+    absurd (not_free percent_sign a e (subst (λ x. FreeOf percent_sign x) joined (address_free percent_sign t refl whole)))
+parts_of_literal t a e free joined (zoned b z addressed zone same normal) =
+    let cuts : (a ≡ b) × (e ≡ 50 ∷ 53 ∷ z) = cut_unique percent_sign a b e (50 ∷ 53 ∷ z) free (address_free percent_sign b refl addressed) (sym joined ∙ same) in
+    let lower : lowercase b ≡ b = append_cancel_right (lowercase b) b (percent_sign ∷ 50 ∷ 53 ∷ z) (sym normal ∙ same) in (
+      record { address = subst IsIpv6Text (sym cuts.0) addressed; lower = ap lowercase cuts.0 ∙ lower ∙ sym cuts.0 },
+      (z, zone, cuts.1),
+    )
+
+-- a text with `%` is a settled literal where an address and a zone stand around its first `%`
+pub literal_with_zone : (t a e : List ℕ) → FreeOf percent_sign a → t ≡ a ++ percent_sign ∷ e → (IsNormalAddress a × IsEscapedZone e) ↔ IsNormalLiteral t
+literal_with_zone t a e free joined =
+    (λ parts. literal_of_parts t a e joined parts.0 parts.1, λ l. parts_of_literal t a e free joined l)
+
+-- brackets are cut off in one way
+inside_brackets : (x y : List ℕ) → left_bracket ∷ (x ++ right_bracket ∷ []) ≡ left_bracket ∷ (y ++ right_bracket ∷ []) → x ≡ y
+inside_brackets x y e = (last_unique x y right_bracket right_bracket (tails e)).0
+
+-- brackets hold a literal that stays as it is where what stands between them is one
+pub literal_in_brackets : (b : Bool) (host inner : List ℕ) → host ≡ left_bracket ∷ (inner ++ right_bracket ∷ []) → (IsTrue b ↔ IsNormalLiteral inner) → IsTrue b ↔ IsBracketedLiteral host
+literal_in_brackets b host inner joined test = (
+  λ yes. (inner, test.0 yes, joined),
+  λ (n, l, e). test.1 (subst IsNormalLiteral (inside_brackets n inner (sym e ∙ joined)) l),
+)
+
+-- ---- hosts of HTTP
+
+-- a text that ends in `]` doesn't end in `:`
+bracket_or_colon : {A : Type 0} (front x : List ℕ) → x ++ right_bracket ∷ [] ≡ front ++ colon ∷ [] → A
+bracket_or_colon front x e = different_bytes right_bracket colon {x = []} {y = []} refl (ap (λ c. c ∷ []) (last_unique x front right_bracket colon e).1)
+
+-- a name of HTTP doesn't end in `:`
+name_or_colon : {A : Type 0} (host front : List ℕ) → IsWebName host → host ≡ front ++ colon ∷ [] → A
+name_or_colon host front name e =
+    let all = sym (list_all-append is_http_host_byte front (colon ∷ [])) ∙ ap (list_all is_http_host_byte) (sym e) ∙ name.bytes in
+    absurd (false≢true (and_parts _ _ all).1)
+
+-- the colon behind brackets stands behind what they are part of
+colon_behind : (n : List ℕ) → left_bracket ∷ (n ++ right_bracket ∷ (colon ∷ [])) ≡ (left_bracket ∷ (n ++ right_bracket ∷ [])) ++ colon ∷ []
+colon_behind n = sym (append_assoc (left_bracket ∷ n) (right_bracket ∷ []) (colon ∷ []))
+
+-- a closed host and a colon are a settled host where there is no port
+colon_host_from : (port : Option ℕ) (host front : List ℕ) → host ≡ front ++ colon ∷ [] → port ≡ None → IsClosedHost front → IsWebHost port host
+colon_host_from port host front joined none (inl (n, l, e)) =
+    literal_colon n l none (joined ∙ ap (λ x. x ++ colon ∷ []) e ∙ sym (colon_behind n))
+colon_host_from port host front joined none (inr (name, plain)) = named_colon front name plain none joined
+
+-- and such a host has no port, and is closed before its colon
+colon_host_to : (port : Option ℕ) (host front : List ℕ) → host ≡ front ++ colon ∷ [] → IsWebHost port host → (port ≡ None) × IsClosedHost front
+colon_host_to port host front joined (literal n l e) = bracket_or_colon front (left_bracket ∷ n) (sym e ∙ joined)
+colon_host_to port host front joined (literal_colon n l none e) =
+    (none, inl (n, l, sym (last_unique (left_bracket ∷ (n ++ right_bracket ∷ [])) front colon colon (sym (colon_behind n) ∙ sym e ∙ joined)).0))
+colon_host_to port host front joined (named name) = name_or_colon host front name joined
+colon_host_to port host front joined (named_colon n name plain none e) =
+    let same : n ≡ front = (last_unique n front colon colon (sym e ∙ joined)).0 in
+    (none, inr (subst IsWebName same name, subst (λ x. has_percent x ≡ false) same plain))
+
+-- a host with a colon behind it is settled where there is no port, and it is closed before the colon
+pub web_host_colon : (port : Option ℕ) (host front : List ℕ) → host ≡ front ++ colon ∷ [] → ((port ≡ None) × IsClosedHost front) ↔ IsWebHost port host
+web_host_colon port host front joined =
+    (λ parts. colon_host_from port host front joined parts.0 parts.1, λ settled. colon_host_to port host front joined settled)
+
+-- a host with no colon behind it is settled where it is a literal in brackets or a name
+bare_host_from : (port : Option ℕ) (host : List ℕ) → IsBracketedLiteral host ⊎ IsWebName host → IsWebHost port host
+bare_host_from port host (inl (n, l, e)) = literal n l e
+bare_host_from port host (inr name) = named name
+
+bare_host_to : (port : Option ℕ) (host : List ℕ) → ((front : List ℕ) → ¬ (host ≡ front ++ colon ∷ [])) → IsWebHost port host → IsBracketedLiteral host ⊎ IsWebName host
+bare_host_to port host ends (literal n l e) = inl (n, l, e)
+bare_host_to port host ends (literal_colon n l none e) = absurd (ends (left_bracket ∷ (n ++ right_bracket ∷ [])) (e ∙ colon_behind n))
+bare_host_to port host ends (named name) = inr name
+bare_host_to port host ends (named_colon n name plain none e) = absurd (ends n e)
+
+pub web_host_bare : (port : Option ℕ) (host : List ℕ) → ((front : List ℕ) → ¬ (host ≡ front ++ colon ∷ [])) → (IsBracketedLiteral host ⊎ IsWebName host) ↔ IsWebHost port host
+web_host_bare port host ends = (λ either. bare_host_from port host either, λ settled. bare_host_to port host ends settled)
+
+-- ---- hosts that are there
+
+-- there is a host that passes where the one that is there does
+pub host_tested : (P : List ℕ → Type 0) (host : Option (List ℕ)) (h : List ℕ) (b : Bool) → host ≡ Some h → (IsTrue b ↔ P h) → IsTrue b ↔ ((x : List ℕ) × (host ≡ Some x) × P x)
+host_tested P host h b is test = (
+  λ yes. (h, is, test.0 yes),
+  λ (x, e, passes). let same : Some x ≡ Some h = sym e ∙ is in let equal : x ≡ h = cc in test.1 (subst P equal passes),
+)
+
+-- ---- the kinds of locations, by their parts
+
+-- a settled URL has the form of one, and its text is short enough
+pub settled_url : (v : Location) → (HasUrlForm v × HasFittingText v) ↔ IsSettledUrl v
+settled_url v = (
+  λ parts. record {
+    unflagged = parts.0.0.unflagged;
+    password = parts.0.0.credentials.password;
+    user = parts.0.0.credentials.user;
+    user_hosted = parts.0.0.hosted.user_hosted;
+    port_hosted = parts.0.0.hosted.port_hosted;
+    fits = parts.1;
+    path_text = parts.0.1.path_text;
+    spelling = parts.0.1.spelling;
+  },
+  λ s. (
+    (
+      record {
+        unflagged = s.unflagged;
+        credentials = record { password = s.password; user = s.user };
+        hosted = record { user_hosted = s.user_hosted; port_hosted = s.port_hosted };
+      },
+      record { path_text = s.path_text; spelling = s.spelling },
+    ),
+    s.fits,
+  ),
+)
+
+-- a settled location of HTTP
+pub settled_web : (v : Location) → (IsWebTarget v × IsSettledUrl v) ↔ IsSettledWeb v
+settled_web v = (
+  λ parts. record { common = parts.1; host = parts.0.host; port = parts.0.port; path = parts.0.path },
+  λ s. (record { host = s.host; port = s.port; path = s.path }, s.common),
+)
+
+-- a settled URL of Secure Shell
+pub settled_secure : (v : Location) → (IsSecureTarget v × IsSettledRaw v) ↔ IsSettledSecure v
+settled_secure v = (
+  λ parts. record { common = parts.1.0; host = parts.0.0; path = parts.0.1; raw = parts.1.1 },
+  λ s. ((s.host, s.path), (s.common, s.raw)),
+)
+
+-- a settled URL of Git's own protocol
+pub settled_git : (v : Location) → (IsGitTarget v × IsSettledRaw v) ↔ IsSettledGit v
+settled_git v = (
+  λ parts. record { common = parts.1.0; host = parts.0.0; path = parts.0.1; raw = parts.1.1 },
+  λ s. ((s.host, s.path), (s.common, s.raw)),
+)
+
+-- a settled URL of another scheme
+pub settled_helper_url : (name : List ℕ) (v : Location) → (IsOtherForm name v × IsSettledRaw v) ↔ IsSettledHelperUrl name v
+settled_helper_url name v = (
+  λ parts. record {
+    common = parts.1.0;
+    scheme_text = parts.0.0.scheme_text;
+    unknown = parts.0.0.unknown;
+    host = parts.0.1.host;
+    hosted = parts.0.1.hosted;
+    path = parts.0.1.path;
+    raw = parts.1.1;
+  },
+  λ s. (
+    (
+      record { scheme_text = s.scheme_text; unknown = s.unknown },
+      record { host = s.host; hosted = s.hosted; path = s.path },
+    ),
+    (s.common, s.raw),
+  ),
+)
+
+-- a settled location in the scp form
+pub settled_scp : (v : Location) → (HasScpForm v × HasScpParts v) ↔ IsSettledScp v
+settled_scp v = (
+  λ parts. record {
+    flagged = parts.0.flagged;
+    no_password = parts.0.no_password;
+    no_port = parts.0.no_port;
+    path_text = parts.1.0.path_text;
+    nonempty = parts.1.0.nonempty;
+    not_home = parts.1.0.not_home;
+    not_slashes = parts.1.0.not_slashes;
+    no_mark = parts.1.0.no_mark;
+    user = parts.1.1.0;
+    host = parts.1.1.1;
+  },
+  λ s. (
+    record { flagged = s.flagged; no_password = s.no_password; no_port = s.no_port },
+    (
+      record {
+        path_text = s.path_text;
+        nonempty = s.nonempty;
+        not_home = s.not_home;
+        not_slashes = s.not_slashes;
+        no_mark = s.no_mark;
+      },
+      (s.user, s.host),
+    ),
+  ),
+)
+
+-- ---- the texts of settled URLs
+
+-- a result holds one text
+pub one_text : {E : Type 0} {r : Result (List ℕ) E} {s t : List ℕ} → r ≡ Ok s → r ≡ Ok t → s ≡ t
+one_text h k = let both = sym h ∙ k in cc
+
+-- there isn't a user without a host
+both_given : (user host : Option (List ℕ)) → (IsSome user → IsSome host) → (is_some user && is_none host) ≡ false
+both_given None host hosted = refl
+both_given (Some u) None hosted = absurd (false≢true (hosted refl))
+both_given (Some u) (Some h) hosted = refl
+
+-- a user that comes with a host leaves the form as it is
+pub host_given : (v : Location) (form : Form) → (IsSome v.user → IsSome v.host) → with_host v form ≡ Ok form
+host_given v form hosted = cond-false _ _ _ (both_given v.user v.host hosted)
+
+-- a location whose form is that of a URL has the text of a URL
+canonical_by : (v : Location) → choice v ≡ with_host v canonical_form → IsHosted v → text v ≡ Ok (canonical_text v)
+canonical_by v chosen hosted = ap (λ form. in_form form v) (chosen ∙ host_given v canonical_form hosted.user_hosted)
+
+-- HTTP
+pub written_web : (v : Location) → IsWeb v → IsWrittenAsUrl v
+written_web v (inl e) = record {
+  no_colon = subst (λ p. FreeOf colon (protocol_text p)) (sym e) refl;
+  canonical = λ unflagged hosted. canonical_by v (ap (λ p. choice_by p v) e) hosted;
+}
+written_web v (inr e) = record {
+  no_colon = subst (λ p. FreeOf colon (protocol_text p)) (sym e) refl;
+  canonical = λ unflagged hosted. canonical_by v (ap (λ p. choice_by p v) e) hosted;
+}
+
+-- Git's own protocol
+pub written_git : (v : Location) → v.scheme ≡ git → IsWrittenAsUrl v
+written_git v e = record {
+  no_colon = subst (λ p. FreeOf colon (protocol_text p)) (sym e) refl;
+  canonical = λ unflagged hosted. canonical_by v (ap (λ p. choice_by p v) e) hosted;
+}
+
+-- another scheme
+pub written_other : (v : Location) (name : List ℕ) → v.scheme ≡ helper_url name → is_scheme_text name ≡ true → IsWrittenAsUrl v
+written_other v name e spelled = record {
+  no_colon = subst (λ p. FreeOf colon (protocol_text p)) (sym e) (scheme_text_free name colon spelled refl);
+  canonical = λ unflagged hosted. canonical_by v (ap (λ p. choice_by p v) e) hosted;
+}
+
+-- a path that is rooted or below a home folder is not relative
+pub not_relative : (path : List ℕ) → (begins_with slash path ≡ true) ⊎ (begins_with tilde path ≡ true) → is_relative path ≡ false
+not_relative [] begins = refl
+not_relative (b ∷ bs) (inl e) = rw e refl
+not_relative (b ∷ bs) (inr e) = let other : not (b == tilde) ≡ false = ap not e in and_right _ _ other
+
+-- such a location of Secure Shell without the flag has the form of a URL
+pub secure_choice : (v : Location) → is_relative v.path ≡ false → v.flag ≡ false → ssh_choice v ≡ with_host v canonical_form
+secure_choice v rooted unflagged = rw (rooted, unflagged) refl
+
+transport_begins : (v : Location) → IsTransportPath v → (begins_with slash v.path ≡ true) ⊎ (begins_with tilde v.path ≡ true)
+transport_begins v (inl rooted) = inl rooted.0
+transport_begins v (inr home) = inr home.0
+
+-- Secure Shell
+pub written_secure : (v : Location) → v.scheme ≡ ssh → IsTransportPath v → IsWrittenAsUrl v
+written_secure v e path = record {
+  no_colon = subst (λ p. FreeOf colon (protocol_text p)) (sym e) refl;
+  canonical = λ unflagged hosted. canonical_by v (ap (λ p. choice_by p v) e ∙ secure_choice v (not_relative v.path (transport_begins v path)) unflagged) hosted;
+}
+
+-- the text of a URL is short enough where the walk over it is
+pub fitting_text : (v : Location) (t : List ℕ) → FreeOf colon (protocol_text v.scheme) → text v ≡ Ok (canonical_text v) → Ok t ≡ text v → IsPiecesShort (protocol_text v.scheme) t ↔ HasFittingText v
+fitting_text v t free canonical is =
+    let okay : Ok t ≡ Ok (canonical_text v) = is ∙ canonical in
+    let same : t ≡ canonical_text v = cc in
+    let rest = user_information v.user v.password ++ (host_part v v.host ++ (port_part v.port ++ canonical_path v)) in
+    let test : IsPiecesShort (protocol_text v.scheme) t ↔ FitsText t = fits_text (protocol_text v.scheme) rest t free same in (
+      λ short. (t, sym is, test.0 short),
+      λ (x, e, fits). test.1 (subst FitsText (one_text e (sym is)) fits),
+    )
+
+-- so a test of its scheme and of what it is made of tells it
+pub text_tested : (v : Location) (s t : List ℕ) (b : Bool) → s ≡ protocol_text v.scheme → FreeOf colon (protocol_text v.scheme) → text v ≡ Ok (canonical_text v) → Ok t ≡ text v
+    → (IsTrue b ↔ IsPiecesShort s t) → IsTrue b ↔ HasFittingText v
+text_tested v s t b same_scheme free canonical is test =
+    let told = subst (λ n. IsTrue b ↔ IsPiecesShort n t) same_scheme test in
+    let class = fitting_text v t free canonical is in
+    (λ yes. class.0 (told.0 yes), λ fits. told.1 (class.1 fits))

@@ -1,0 +1,254 @@
+-- Rows on what Git reads: by giving the cuts, and what it doesn't.
+use Rattle.std.proofs.Common.{◌≡◌, ◌∙◌, ◌==◌, ◌&&◌, ℕ, true, false, inl, inr, List, [], ◌∷◌, ◌++◌, Option, Some, None, codes, refl, sym, ap, subst, lit<}
+use Rattle.std.proofs.lemmas.Bool.{false≢true, true≢false}
+use Rattle.gix_url.specs.Value.{Protocol}
+use Rattle.gix_url.specs.Value.Protocol.{file, git, ssh}
+use Rattle.gix_url.specs.Bytes.{slash, colon, at_sign, left_bracket, right_bracket, FreeOf, Holds, begins_with, is_helper_name}
+use Rattle.gix_url.specs.Schemes.{protocol_of}
+use Rattle.gix_url.specs.Authority.{unless_empty}
+use Rattle.gix_url.specs.Arguments.{is_option_like}
+use Rattle.gix_url.specs.Git.{GitReading, on_this_machine, from_tilde, git_decode, host_mark, OpensHost, InBrackets, HostEnd, CutsPlace, BeforePort, HostAndPort, SecurePort, UserCut, ReachesSecure, OwnUrl, IsNoUrl, ReadsGiven, GitReads}
+use Rattle.gix_url.specs.GitRows.{by_ssh, by_git, GitUrlRows, GitTextRows, NoGitRows}
+use Rattle.gix_url.proofs.Texts.CutLemmas.{cut_unique, different_bytes, free-cons, held_free, not_free}
+use Rattle.gix_url.proofs.Examples.RowFormLemmas.{not_held, no_helper_at}
+use Rattle.gix_url.proofs.GitReadings.GitCutLemmas.{lacks_brackets, nothing_passed, place_cut, portless_free}
+use Rattle.gix_url.proofs.GitReadings.GitUniqueLemmas.{is_own, own_free, place_unique, remote_not_local}
+
+-- ---- cuts
+
+-- a bracket at the front opens the host
+at_front : (inside behind : List ℕ) → ¬ Holds host_mark (left_bracket ∷ (inside ++ right_bracket ∷ behind)) → FreeOf right_bracket inside → InBrackets (left_bracket ∷ (inside ++ right_bracket ∷ behind)) [] inside behind
+at_front inside behind none next = record { opened = OpensHost.at_front none refl refl; next = next }
+
+-- or the first one behind an `@`
+behind_at : (user inside behind : List ℕ) → ¬ Holds host_mark user → FreeOf right_bracket inside → InBrackets (user ++ (host_mark ++ (inside ++ right_bracket ∷ behind))) (user ++ at_sign ∷ []) inside behind
+behind_at user inside behind none next = record { opened = OpensHost.behind_at user none refl refl; next = next }
+
+-- the place goes to the first c behind the brackets
+bracket_cut : (c : ℕ) (t front inside between rest : List ℕ) → InBrackets t front inside (between ++ c ∷ rest) → (right_bracket == c) ≡ false → FreeOf c between → CutsPlace c t ((front ++ left_bracket ∷ inside) ++ right_bracket ∷ between) rest
+bracket_cut c t front inside between rest h other first = record {
+  passed = front ++ left_bracket ∷ inside;
+  between = right_bracket ∷ between;
+  end = HostEnd.brackets front inside (between ++ c ∷ rest) h refl refl;
+  first = free-cons c right_bracket between other first;
+  joined = refl;
+}
+
+-- ---- transports
+
+-- a URL whose rest is decoded to this
+url : (p : Protocol) (scheme spelled rest : List ℕ) → protocol_of scheme ≡ p → rest ≡ git_decode spelled → OwnUrl p (scheme ++ (codes "://" ++ spelled)) rest
+url p scheme spelled rest own decoded = record { scheme = scheme; spelled = spelled; own = own; joined = refl; decoded = decoded }
+
+-- what Secure Shell gets
+reached : (place path named word host : List ℕ) (found port : Option ℕ) (user : Option (List ℕ)) → HostAndPort place named found → SecurePort named found word port → UserCut word user host → is_option_like word ≡ false → is_option_like path ≡ false → ReachesSecure place path (by_ssh user (unless_empty host) port path)
+reached place path named word host found port user cut secure split first second = record {
+  named = named;
+  found = found;
+  word = word;
+  host = host;
+  user = user;
+  port = port;
+  cut = cut;
+  secure = secure;
+  word_safe = first;
+  path_safe = second;
+  split = split;
+  value = refl;
+}
+
+-- a word without colons and brackets, and no port
+plain_word : (word host path : List ℕ) (user : Option (List ℕ)) → FreeOf left_bracket word → FreeOf colon word → UserCut word user host → is_option_like word ≡ false → is_option_like path ≡ false → ReachesSecure word path (by_ssh user (unless_empty host) None path)
+plain_word word host path user unbracketed free split first second =
+    let portless = portless_free word free in
+    reached word path word word host None None user (HostAndPort.none (lacks_brackets word unbracketed) portless.before) portless.secure split first second
+
+-- a place in brackets, with nothing but the place's own rest behind them
+enclosed : (place front inside behind dropped : List ℕ) (found : Option ℕ) → InBrackets place front inside behind → BeforePort behind dropped found → HostAndPort place (front ++ inside) found
+enclosed place front inside behind dropped found h port = HostAndPort.brackets front inside behind dropped h refl port
+
+-- ---- URLs
+
+password_row : GitReads (codes "ssh://u:p@h:22/p") (by_ssh (Some (codes "u:p")) (Some (codes "h:22")) None (codes "/p"))
+password_row =
+    let place = codes "u:p@h:22" in
+    let word = reached place (codes "/p") place place (codes "h:22") None None (Some (codes "u:p")) (HostAndPort.none (lacks_brackets place refl) (BeforePort.unmarked (codes "u") (codes "p@h:22") refl refl (lit< tt) refl refl refl)) (SecurePort.unmarked (codes "u") (codes "p@h:22") refl refl refl refl refl refl) (UserCut.with_user (codes "u:p") refl refl refl) refl refl in
+    record { whole = refl; no_option = refl; reads = ReadsGiven.secure_url (codes "u:p@h:22/p") place (codes "p") (url ssh (codes "ssh") (codes "u:p@h:22/p") (codes "u:p@h:22/p") refl refl) (place_cut slash (codes "u:p@h:22/p") place (codes "p") refl refl refl) word }
+
+port_row : GitReads (codes "ssh://h: +022/p") (by_ssh None (Some (codes "h")) (Some 22) (codes "/p"))
+port_row =
+    let place = codes "h: +022" in
+    let word = reached place (codes "/p") (codes "h") (codes "h") (codes "h") (Some 22) (Some 22) None (HostAndPort.none (lacks_brackets place refl) (BeforePort.marked (codes " +022") 22 refl refl refl refl)) (SecurePort.behind 22 refl refl refl) (UserCut.host_alone refl refl refl) refl refl in
+    record { whole = refl; no_option = refl; reads = ReadsGiven.secure_url (codes "h: +022/p") place (codes "p") (url ssh (codes "ssh") (codes "h: +022/p") (codes "h: +022/p") refl refl) (place_cut slash (codes "h: +022/p") place (codes "p") refl refl refl) word }
+
+path_bracket_row : GitReads (codes "ssh://h/@[x]/p") (by_ssh (Some (codes "h/")) (Some (codes "x")) None (codes "/p"))
+path_bracket_row =
+    let place = codes "h/@[x]" in
+    let opened = behind_at (codes "h/") (codes "x") (codes "/p") (not_held host_mark (codes "h/") refl) refl in
+    let inner = behind_at (codes "h/") (codes "x") [] (not_held host_mark (codes "h/") refl) refl in
+    let word = reached place (codes "/p") (codes "h/@x") (codes "h/@x") (codes "x") None None (Some (codes "h/")) (enclosed place (codes "h/@") (codes "x") [] [] None inner (BeforePort.no_colon refl refl refl)) (SecurePort.no_colon refl refl refl refl) (UserCut.with_user (codes "h/") refl refl refl) refl refl in
+    record { whole = refl; no_option = refl; reads = ReadsGiven.secure_url (codes "h/@[x]/p") place (codes "p") (url ssh (codes "ssh") (codes "h/@[x]/p") (codes "h/@[x]/p") refl refl) (bracket_cut slash (codes "h/@[x]/p") (codes "h/@") (codes "x") [] (codes "p") opened refl refl) word }
+
+inner_port_row : GitReads (codes "ssh://[h:22]/p") (by_ssh None (Some (codes "h")) (Some 22) (codes "/p"))
+inner_port_row =
+    let place = codes "[h:22]" in
+    let opened = at_front (codes "h:22") (codes "/p") (not_held host_mark (codes "[h:22]/p") refl) refl in
+    let inner = at_front (codes "h:22") [] (not_held host_mark place refl) refl in
+    let word = reached place (codes "/p") (codes "h:22") (codes "h") (codes "h") None (Some 22) None (enclosed place [] (codes "h:22") [] [] None inner (BeforePort.no_colon refl refl refl)) (SecurePort.inside (codes "22") 22 refl refl refl refl refl) (UserCut.host_alone refl refl refl) refl refl in
+    record { whole = refl; no_option = refl; reads = ReadsGiven.secure_url (codes "[h:22]/p") place (codes "p") (url ssh (codes "ssh") (codes "[h:22]/p") (codes "[h:22]/p") refl refl) (bracket_cut slash (codes "[h:22]/p") [] (codes "h:22") [] (codes "p") opened refl refl) word }
+
+behind_bracket_row : GitReads (codes "ssh://[x]u@h/p") (by_ssh None (Some (codes "x")) None (codes "/p"))
+behind_bracket_row =
+    let place = codes "[x]u@h" in
+    let opened = at_front (codes "x") (codes "u@h/p") (not_held host_mark (codes "[x]u@h/p") refl) refl in
+    let inner = at_front (codes "x") (codes "u@h") (not_held host_mark place refl) refl in
+    let word = reached place (codes "/p") (codes "x") (codes "x") (codes "x") None None None (enclosed place [] (codes "x") (codes "u@h") (codes "u@h") None inner (BeforePort.no_colon refl refl refl)) (SecurePort.no_colon refl refl refl refl) (UserCut.host_alone refl refl refl) refl refl in
+    record { whole = refl; no_option = refl; reads = ReadsGiven.secure_url (codes "[x]u@h/p") place (codes "p") (url ssh (codes "ssh") (codes "[x]u@h/p") (codes "[x]u@h/p") refl refl) (bracket_cut slash (codes "[x]u@h/p") [] (codes "x") (codes "u@h") (codes "p") opened refl refl) word }
+
+no_host_row : GitReads (codes "ssh:///~") (by_ssh None None None (codes "~"))
+no_host_row = record {
+  whole = refl;
+  no_option = refl;
+  reads = ReadsGiven.secure_url (codes "/~") [] (codes "~") (url ssh (codes "ssh") (codes "/~") (codes "/~") refl refl) (place_cut slash (codes "/~") [] (codes "~") refl refl refl) (plain_word [] [] (codes "~") None refl refl (UserCut.host_alone refl refl refl) refl refl);
+}
+
+-- a place of Git's own protocol without brackets
+git_row : (spelled rest place path host : List ℕ) (port : Option ℕ) → rest ≡ git_decode spelled → FreeOf left_bracket rest → FreeOf slash place → rest ≡ place ++ slash ∷ path → FreeOf left_bracket place → BeforePort place host port → unless_empty host ≡ Some host → FreeOf 10 place → FreeOf 10 (from_tilde (slash ∷ path)) → FreeOf 0 (codes "git://" ++ spelled) → GitReads (codes "git://" ++ spelled) (by_git host port (from_tilde (slash ∷ path)))
+git_row spelled rest place path host port decoded unbracketed free cut inside before some line ended whole = record {
+  whole = whole;
+  no_option = refl;
+  reads = ReadsGiven.git_url rest place path (url git (codes "git") spelled rest refl decoded) (place_cut slash rest place path unbracketed free cut) record {
+    host = host;
+    port = port;
+    cut = HostAndPort.none (lacks_brackets place inside) before;
+    place_line = line;
+    path_line = ended;
+    value = ap (λ h. record { protocol = git; user = None; host = h; port = port; path = from_tilde (slash ∷ path) }) (sym some);
+  };
+}
+
+file_row : GitReads (codes "file://h/p") (on_this_machine (codes "/p"))
+file_row = record {
+  whole = refl;
+  no_option = refl;
+  reads = ReadsGiven.file_url (codes "h/p") (codes "h") (codes "p") (url file (codes "file") (codes "h/p") (codes "h/p") refl refl) (place_cut slash (codes "h/p") (codes "h") (codes "p") refl refl refl) refl;
+}
+
+pub git_url_rows : GitUrlRows
+git_url_rows = (
+  password_row,
+  port_row,
+  path_bracket_row,
+  inner_port_row,
+  behind_bracket_row,
+  no_host_row,
+  git_row (codes "h%2Fx/p") (codes "h/x/p") (codes "h") (codes "x/p") (codes "h") None refl refl refl refl refl (BeforePort.no_colon refl refl refl) refl refl refl refl,
+  git_row (codes "h/p%00q") (codes "h/p%00q") (codes "h") (codes "p%00q") (codes "h") None refl refl refl refl refl (BeforePort.no_colon refl refl refl) refl refl refl refl,
+  git_row (codes "u@h:22/p") (codes "u@h:22/p") (codes "u@h:22") (codes "p") (codes "u@h") (Some 22) refl refl refl refl refl (BeforePort.marked (codes "22") 22 refl refl refl refl) refl refl refl refl,
+  file_row,
+)
+
+-- ---- other texts
+
+-- a text with a colon that neither a helper's name nor `rsync` stands before
+no_url : (t front rest : List ℕ) → t ≡ front ++ colon ∷ rest → FreeOf colon front → ¬ Holds (codes "://") t → (is_helper_name front && begins_with colon rest) ≡ false → ¬ (front ≡ []) → ¬ (front ≡ codes "rsync") → IsNoUrl t
+no_url t front rest e free none other some apart = record {
+  no_mark = none;
+  no_helper = no_helper_at t front rest e free other;
+  no_empty_helper = λ more is. some (cut_unique colon front [] rest (colon ∷ more) free refl (sym e ∙ is)).0;
+  no_rsync = λ more is. apart (cut_unique colon front (codes "rsync") rest more free refl (sym e ∙ is)).0;
+}
+
+-- a text without a colon
+no_url_free : (t : List ℕ) → FreeOf colon t → IsNoUrl t
+no_url_free t free = record {
+  no_mark = held_free t free;
+  no_helper = λ (name, address, parts). not_free colon name (colon ∷ address) (subst (λ s. FreeOf colon s) parts.joined free);
+  no_empty_helper = λ more is. not_free colon [] (colon ∷ more) (subst (λ s. FreeOf colon s) is free);
+  no_rsync = λ more is. not_free colon (codes "rsync") more (subst (λ s. FreeOf colon s) is free);
+}
+
+user_bracket_row : GitReads (codes "[u@h]:p") (by_ssh (Some (codes "u")) (Some (codes "h")) None (codes "p"))
+user_bracket_row =
+    let place = codes "[u@h]" in
+    let none = not_held host_mark (codes "[u@h]:p") refl in
+    let word = reached place (codes "p") (codes "u@h") (codes "u@h") (codes "h") None None (Some (codes "u")) (enclosed place [] (codes "u@h") [] [] None (at_front (codes "u@h") [] (not_held host_mark place refl) refl) (BeforePort.no_colon refl refl refl)) (SecurePort.no_colon refl refl refl refl) (UserCut.with_user (codes "u") refl refl refl) refl refl in
+    record { whole = refl; no_option = refl; reads = ReadsGiven.scp_form place (codes "p") (no_url (codes "[u@h]:p") place (codes "p") refl refl (not_held (codes "://") (codes "[u@h]:p") refl) refl (λ e. cc) (λ e. different_bytes 91 114 refl e)) record { front = place; rest = codes "p"; joined = refl; no_slash = refl } (bracket_cut colon (codes "[u@h]:p") [] (codes "u@h") [] (codes "p") (at_front (codes "u@h") (codes ":p") none refl) refl refl) word }
+
+behind_colon_row : GitReads (codes "u:p@[h]:q") (by_ssh (Some (codes "u:p")) (Some (codes "h")) None (codes "q"))
+behind_colon_row =
+    let place = codes "u:p@[h]" in
+    let none = not_held host_mark (codes "u:p") refl in
+    let word = reached place (codes "q") (codes "u:p@h") (codes "u:p@h") (codes "h") None None (Some (codes "u:p")) (enclosed place (codes "u:p@") (codes "h") [] [] None (behind_at (codes "u:p") (codes "h") [] none refl) (BeforePort.no_colon refl refl refl)) (SecurePort.unmarked (codes "u") (codes "p@h") refl refl refl refl refl refl) (UserCut.with_user (codes "u:p") refl refl refl) refl refl in
+    record { whole = refl; no_option = refl; reads = ReadsGiven.scp_form place (codes "q") (no_url (codes "u:p@[h]:q") (codes "u") (codes "p@[h]:q") refl refl (not_held (codes "://") (codes "u:p@[h]:q") refl) refl (λ e. cc) (λ e. different_bytes 117 114 refl e)) record { front = codes "u"; rest = codes "p@[h]:q"; joined = refl; no_slash = refl } (bracket_cut colon (codes "u:p@[h]:q") (codes "u:p@") (codes "h") [] (codes "q") (behind_at (codes "u:p") (codes "h") (codes ":q") none refl) refl refl) word }
+
+tilde_row : GitReads (codes "h:a~u/p") (by_ssh None (Some (codes "h")) None (codes "~u/p"))
+tilde_row = record {
+  whole = refl;
+  no_option = refl;
+  reads = ReadsGiven.scp_form (codes "h") (codes "a~u/p") (no_url (codes "h:a~u/p") (codes "h") (codes "a~u/p") refl refl (not_held (codes "://") (codes "h:a~u/p") refl) refl (λ e. cc) (λ e. different_bytes 104 114 refl e)) record { front = codes "h"; rest = codes "a~u/p"; joined = refl; no_slash = refl } (place_cut colon (codes "h:a~u/p") (codes "h") (codes "a~u/p") refl refl refl) (plain_word (codes "h") (codes "h") (codes "~u/p") None refl refl (UserCut.host_alone refl refl refl) refl refl);
+}
+
+local_bracket_row : GitReads (codes "/srv/a@[b]/c") (on_this_machine (codes "]/c"))
+local_bracket_row = record {
+  whole = refl;
+  no_option = refl;
+  reads = ReadsGiven.local_path (codes "/srv/a@[b") (codes "]/c") (no_url_free (codes "/srv/a@[b]/c") refl) (inl refl) (HostEnd.brackets (codes "/srv/a@") (codes "b") (codes "/c") (behind_at (codes "/srv/a") (codes "b") (codes "/c") (not_held host_mark (codes "/srv/a") refl) refl) refl refl) (lit< tt) refl refl;
+}
+
+local_row : GitReads (codes "./a:b") (on_this_machine (codes "./a:b"))
+local_row = record {
+  whole = refl;
+  no_option = refl;
+  reads = ReadsGiven.local_path [] (codes "./a:b") (no_url (codes "./a:b") (codes "./a") (codes "b") refl refl (not_held (codes "://") (codes "./a:b") refl) refl (λ e. cc) (λ e. different_bytes 46 114 refl e)) (inr (codes ".", codes "a:b", refl, refl)) (nothing_passed (codes "./a:b") refl) (lit< tt) refl refl;
+}
+
+pub git_text_rows : GitTextRows
+git_text_rows = (user_bracket_row, behind_colon_row, tilde_row, local_bracket_row, local_row)
+
+-- ---- texts without a reading
+
+-- a text without `://` is no URL
+not_own : {A : Type 0} (p : Protocol) (t rest : List ℕ) → ¬ Holds (codes "://") t → OwnUrl p t rest → A
+not_own p t rest none h = absurd (none (h.scheme, h.spelled, h.joined))
+
+-- what is neither a URL nor another text that Git reads itself
+neither_read : (t : List ℕ) (reading : GitReading) → ¬ Holds (codes "://") t → ¬ IsNoUrl t → ReadsGiven t reading → ⊥
+neither_read t r none other (ReadsGiven.secure_url x place path u c h) = not_own ssh t x none u
+neither_read t r none other (ReadsGiven.git_url x place path u c h) = not_own git t x none u
+neither_read t r none other (ReadsGiven.file_url x place path u c h) = not_own file t x none u
+neither_read t r none other (ReadsGiven.scp_form place path n m c h) = other n
+neither_read t r none other (ReadsGiven.local_path p path n l e some safe is) = other n
+
+-- a URL of HTTP is none of a transport
+no_own : {A : Type 0} (p : Protocol) (rest : List ℕ) → is_own p ≡ true → OwnUrl p (codes "http://h/p") rest → A
+no_own p rest own h =
+    let same = (cut_unique colon h.scheme (codes "http") (slash ∷ slash ∷ h.spelled) (codes "//h/p") (own_free p h.scheme h.own own) refl (sym h.joined)).0 in
+    absurd (false≢true (ap (λ s. is_own (protocol_of s)) (sym same) ∙ ap is_own h.own ∙ own))
+
+web_row : (reading : GitReading) → ReadsGiven (codes "http://h/p") reading → ⊥
+web_row r (ReadsGiven.secure_url x place path u c h) = no_own ssh x refl u
+web_row r (ReadsGiven.git_url x place path u c h) = no_own git x refl u
+web_row r (ReadsGiven.file_url x place path u c h) = no_own file x refl u
+web_row r (ReadsGiven.scp_form place path n m c h) = n.no_mark (codes "http", codes "h/p", refl)
+web_row r (ReadsGiven.local_path p path n l e some safe is) = n.no_mark (codes "http", codes "h/p", refl)
+
+-- a path that begins with `-`
+dash_row : (reading : GitReading) → ReadsGiven (codes "u@h:-p") reading → ⊥
+dash_row r (ReadsGiven.secure_url x place path u c h) = not_own ssh (codes "u@h:-p") x (not_held (codes "://") (codes "u@h:-p") refl) u
+dash_row r (ReadsGiven.git_url x place path u c h) = not_own git (codes "u@h:-p") x (not_held (codes "://") (codes "u@h:-p") refl) u
+dash_row r (ReadsGiven.file_url x place path u c h) = not_own file (codes "u@h:-p") x (not_held (codes "://") (codes "u@h:-p") refl) u
+dash_row r (ReadsGiven.scp_form place path n m c h) =
+    let same = (place_unique colon (codes "u@h:-p") place path (codes "u@h") (codes "-p") c (place_cut colon (codes "u@h:-p") (codes "u@h") (codes "-p") refl refl refl)).1 in
+    true≢false (subst (λ p. is_option_like (from_tilde p) ≡ false) same h.path_safe)
+dash_row r (ReadsGiven.local_path p path n l e some safe is) =
+    remote_not_local (codes "u@h:-p") record { front = codes "u@h"; rest = codes "-p"; joined = refl; no_slash = refl } l
+
+pub no_git_rows : NoGitRows
+no_git_rows = (
+  λ reading h. true≢false h.no_option,
+  λ reading h. dash_row reading h.reads,
+  λ reading h. neither_read (codes "rsync:p") reading (not_held (codes "://") (codes "rsync:p") refl) (λ n. n.no_rsync (codes "p") refl) h.reads,
+  λ reading h. neither_read (codes "h::p") reading (not_held (codes "://") (codes "h::p") refl) (λ n. n.no_helper (codes "h", codes "p", record { named = refl; joined = refl })) h.reads,
+  λ reading h. web_row reading h.reads,
+)

@@ -1,0 +1,6 @@
+-- Paths as pieces, home folders, paths that a resolver answered.
+pub mod PathLemmas
+pub mod PathUniqueLemmas
+pub mod HomeLemmas
+pub mod HomeUniqueLemmas
+pub mod CanonicalLemmas

@@ -1,0 +1,200 @@
+-- Names and values that are lent: what was cut of a text stands for what the text stands for.
+use Rattle.std.proofs.Common.{◌≡◌, ◌∙◌, ◌≤◌, ◌+◌, ℕ, Bool, false, ◌==◌, List, [], ◌∷◌, ◌++◌, Option, Some, None, length, option_map, IfSome, All, filter, refl, sym, ap, subst, arith, append_assoc}
+use Rattle.std.specs.List.{slice_split}
+use Rattle.std.proofs.lemmas.List.{append-nil}
+use Rattle.std.proofs.lemmas.List.Elements.{All-nil, All-cons}
+use Rattle.std.proofs.lemmas.List.Splits.{slice_split_none, slice_split_at}
+use Rattle.gix_url.specs.declared.components.QueryText.{QueryText}
+use Rattle.gix_url.specs.declared.components.cuts.Spelled.{Spelled}
+use Rattle.gix_url.specs.Bytes.{number_sign, plus_sign, question_mark, FreeOf, space, ampersand}
+use Rattle.gix_url.specs.Components.{CutsPath, with_spaces}
+use Rattle.gix_url.specs.Meanings.{meant_by}
+use Rattle.gix_url.specs.ComponentPieces.{CutsAround, CutsOff, LendsFields, AddsPair, HasQuery, LendsQuery, is_field, one_field, field_count}
+use Rattle.gix_url.proofs.Texts.CutLemmas.{free_head_tail}
+use Rattle.gix_url.proofs.Parted.PartsLemmas.{CutsText, path_from_cuts}
+use Rattle.gix_url.proofs.Parted.MeaningLemmas.{Parts, meant_around, meant_around_plus, meant_spaces}
+
+-- ---- pieces and what they stand for
+
+-- what a piece stands for, by whether the escapes of the whole stand for their bytes
+pub meant_as : (piece : Spelled) (escaped : Bool) → piece.escaped ≡ escaped → piece.meant.now ≡ meant_by escaped piece.text.now
+meant_as piece escaped e = piece.meaning ∙ ap (λ b. meant_by b piece.text.now) e
+
+-- the parts around a delimiter stand for what is around it in what the whole stands for
+pub spelled_cut : (c : ℕ) (whole front behind : Spelled) → Parts c → CutsAround c whole front behind → whole.meant.now ≡ front.meant.now ++ c ∷ behind.meant.now
+spelled_cut c whole front behind parts cut =
+    let first = meant_as front whole.escaped cut.front_escaped in
+    let second = meant_as behind whole.escaped cut.behind_escaped in
+    whole.meaning ∙ ap (meant_by whole.escaped) cut.joined ∙ meant_around whole.escaped front.text.now behind.text.now c parts
+    ∙ ap (λ t. t ++ c ∷ meant_by whole.escaped behind.text.now) (sym first)
+    ∙ ap (λ t. front.meant.now ++ c ∷ t) (sym second)
+
+-- `+` parts a text
+pub plus_parts : Parts plus_sign
+plus_parts = record { digit = refl; percent = refl }
+
+-- ---- spaces
+
+-- what was made grows by what stands before the next `+`, and a space
+pub spaced_more : (escaped : Bool) (whole made rest front behind meant new : List ℕ) → FreeOf plus_sign front → rest ≡ front ++ plus_sign ∷ behind → meant ≡ meant_by escaped front → whole ≡ made ++ meant_by escaped (with_spaces rest) → new ≡ (made ++ meant) ++ space ∷ [] → whole ≡ new ++ meant_by escaped (with_spaces behind)
+spaced_more escaped whole made rest front behind meant new free cut is before grown =
+    let last = meant_by escaped (with_spaces behind) in
+    before
+    ∙ ap (λ t. made ++ meant_by escaped (with_spaces t)) cut
+    ∙ ap (λ t. made ++ t) (meant_around_plus escaped front behind free ∙ ap (λ t. t ++ space ∷ last) (sym is))
+    ∙ sym (append_assoc made meant (space ∷ last))
+    ∙ sym (append_assoc (made ++ meant) (space ∷ []) last)
+    ∙ ap (λ t. t ++ last) (sym grown)
+
+-- and is whole with what stands behind the last
+pub spaced_whole : (escaped : Bool) (whole made rest meant : List ℕ) → FreeOf plus_sign rest → meant ≡ meant_by escaped rest → whole ≡ made ++ meant_by escaped (with_spaces rest) → made ++ meant ≡ whole
+spaced_whole escaped whole made rest meant free is before =
+    ap (λ t. made ++ t) (is ∙ sym (meant_spaces escaped rest free)) ∙ sym before
+
+-- ---- counts of fields
+
+-- no byte of a text is one that it is free of
+none_equal : (c : ℕ) (xs : List ℕ) → FreeOf c xs → All (λ b. (b == c) ≡ false) xs
+none_equal c [] free = All-nil (λ b. (b == c) ≡ false)
+none_equal c (b ∷ xs) free =
+    let parts = free_head_tail c b xs free in
+    All-cons (λ d. (d == c) ≡ false) b xs parts.0 (none_equal c xs parts.1)
+
+-- a field counts for at most one
+pub one_field-small : (t : List ℕ) → one_field t ≤ 1
+one_field-small [] = omega arith
+one_field-small (b ∷ bs) = omega arith
+
+counted : (field : List ℕ) (fields : List (List ℕ)) → length (filter is_field (field ∷ fields)) ≡ one_field field + length (filter is_field fields)
+counted [] fields = omega arith
+counted (b ∷ bs) fields = omega arith
+
+-- a text counts for its first field and for the rest
+pub field_count_cut : (text field behind : List ℕ) → FreeOf ampersand field → text ≡ field ++ ampersand ∷ behind → field_count text ≡ one_field field + field_count behind
+field_count_cut text field behind free cut =
+    ap field_count cut
+    ∙ ap (λ fields. length (filter is_field fields)) (slice_split_at (λ b. b == ampersand) field ampersand behind (none_equal ampersand field free) refl)
+    ∙ counted field (slice_split (λ b. b == ampersand) behind)
+
+-- and where it is one field, for that
+pub field_count_last : (field : List ℕ) → FreeOf ampersand field → field_count field ≡ one_field field
+field_count_last field free =
+    let all = ap (λ fields. length (filter is_field fields)) (slice_split_none (λ b. b == ampersand) field (none_equal ampersand field free)) ∙ counted field [] in
+    omega (arith, all)
+
+-- ---- names and values of the fields
+
+-- names and values of the rest, behind those that a first field adds
+pub record Adds (escaped : Bool) (text : List ℕ) (old new : List (QueryText × QueryText)) : Type 0 where
+  pub whole : List (QueryText × QueryText)
+  pub lent : LendsFields escaped text whole
+  pub behind : new ≡ old ++ whole
+
+-- those of a first field and of the rest are those of the text
+pub adds_field : (escaped : Bool) (text field behind : List ℕ) (old new more : List (QueryText × QueryText)) → FreeOf ampersand field → text ≡ field ++ ampersand ∷ behind → AddsPair escaped field old new → LendsFields escaped behind more → Adds escaped text old (new ++ more)
+adds_field escaped text [] behind old new more free cut adds rest = record {
+  whole = more;
+  lent = record {
+    field = [];
+    fields = rest.field ∷ rest.fields;
+    cut = record {
+      each = All-cons (FreeOf ampersand) [] (rest.field ∷ rest.fields) free rest.cut.each;
+      joined = cut ∙ ap (λ t. ampersand ∷ t) rest.cut.joined;
+    };
+    lent = rest.lent;
+  };
+  behind = ap (λ t. t ++ more) adds;
+}
+adds_field escaped text (b ∷ bs) behind old new more free cut (pair, lends, grown) rest = record {
+  whole = pair ∷ more;
+  lent = record {
+    field = b ∷ bs;
+    fields = rest.field ∷ rest.fields;
+    cut = record {
+      each = All-cons (FreeOf ampersand) (b ∷ bs) (rest.field ∷ rest.fields) free rest.cut.each;
+      joined = cut ∙ ap (λ t. (b ∷ bs) ++ ampersand ∷ t) rest.cut.joined;
+    };
+    lent = (pair, more, lends, rest.lent, refl);
+  };
+  behind = ap (λ t. t ++ more) grown ∙ append_assoc old (pair ∷ []) more;
+}
+
+-- those of a text that is one field
+pub adds_last : (escaped : Bool) (field : List ℕ) (old new : List (QueryText × QueryText)) → FreeOf ampersand field → AddsPair escaped field old new → Adds escaped field old new
+adds_last escaped [] old new free adds = record {
+  whole = [];
+  lent = record { field = []; fields = []; cut = record { each = All-cons (FreeOf ampersand) [] [] free (All-nil (FreeOf ampersand)); joined = refl }; lent = refl };
+  behind = adds ∙ sym (append-nil old);
+}
+adds_last escaped (b ∷ bs) old new free (pair, lends, grown) = record {
+  whole = pair ∷ [];
+  lent = record {
+    field = b ∷ bs;
+    fields = [];
+    cut = record { each = All-cons (FreeOf ampersand) (b ∷ bs) [] free (All-nil (FreeOf ampersand)); joined = refl };
+    lent = (pair, [], lends, refl, refl);
+  };
+  behind = grown;
+}
+
+-- ---- the path, the query and the fragment
+
+-- the part before the first c, the part behind it, and that both are escaped as the whole is
+record CutsPiece (c : ℕ) (whole front : Spelled) (behind : Option Spelled) : Type 0 where
+  text : CutsText c whole.text.now front.text.now (option_map (λ p. p.text.now) behind)
+  front_escaped : front.escaped ≡ whole.escaped
+  behind_escaped : IfSome behind (λ p. p.escaped ≡ whole.escaped)
+
+cuts_piece : (c : ℕ) (whole front : Spelled) (behind : Option Spelled) → CutsOff c whole front behind → CutsPiece c whole front behind
+cuts_piece c whole front None (free, same, mode) = record { text = (free, same); front_escaped = mode; behind_escaped = tt }
+cuts_piece c whole front (Some behind) cut = record { text = (cut.free, cut.joined); front_escaped = cut.front_escaped; behind_escaped = cut.behind_escaped }
+
+-- a piece of a part is escaped as the whole is
+escaped_on : (piece : Option Spelled) (part whole : Bool) → part ≡ whole → IfSome piece (λ p. p.escaped ≡ part) → IfSome piece (λ p. p.escaped ≡ whole)
+escaped_on None part whole same mode = tt
+escaped_on (Some piece) part whole same mode = mode ∙ same
+
+-- what was cut off a text at `#`, and off its front at `?`
+pub record CutsTwice (whole front : Spelled) (query fragment : Option Spelled) : Type 0 where
+  pub cut : CutsPath whole.text.now front.text.now (option_map (λ p. p.text.now) query) (option_map (λ p. p.text.now) fragment)
+  pub front_escaped : front.escaped ≡ whole.escaped
+  pub query_escaped : IfSome query (λ p. p.escaped ≡ whole.escaped)
+  pub fragment_escaped : IfSome fragment (λ p. p.escaped ≡ whole.escaped)
+
+-- that is the front, the query and the fragment
+pub cuts_twice : (whole front path : Spelled) (query fragment : Option Spelled) → CutsOff number_sign whole front fragment → CutsOff question_mark front path query → CutsTwice whole path query fragment
+cuts_twice whole front path query fragment h k =
+    let first = cuts_piece number_sign whole front fragment h in
+    let second = cuts_piece question_mark front path query k in record {
+      cut = path_from_cuts whole.text.now front.text.now path.text.now (option_map (λ p. p.text.now) query) (option_map (λ p. p.text.now) fragment) first.text second.text;
+      front_escaped = second.front_escaped ∙ first.front_escaped;
+      query_escaped = escaped_on query front.escaped whole.escaped first.front_escaped second.behind_escaped;
+      fragment_escaped = first.behind_escaped;
+    }
+
+-- ---- what was handed out
+
+-- the meaning of a fragment, by whether the escapes of the whole stand for their bytes
+pub fragment_meant : (escaped : Bool) (fragment : Option Spelled) → IfSome fragment (λ p. p.escaped ≡ escaped) → option_map (λ p. p.meant.now) fragment ≡ option_map (meant_by escaped) (option_map (λ p. p.text.now) fragment)
+fragment_meant escaped None same = refl
+fragment_meant escaped (Some piece) same = ap Some (meant_as piece escaped same)
+
+-- a text that is cut at `?` has a query
+pub has_query : (whole front query : Spelled) (found fragment : Option Spelled) → CutsTwice whole front found fragment → found ≡ Some query → HasQuery whole.text.now
+has_query whole front query found fragment twice is = record {
+  front = front.text.now;
+  query = query.text.now;
+  fragment = option_map (λ p. p.text.now) fragment;
+  cut = subst (λ o. CutsPath whole.text.now front.text.now o (option_map (λ p. p.text.now) fragment)) (ap (option_map (λ (p : Spelled). p.text.now)) is) twice.cut;
+}
+
+-- no query, and no names and values
+pub query_absent : (escaped : Bool) (found : Option Spelled) (pairs : Option (List (QueryText × QueryText))) → found ≡ None → pairs ≡ None → LendsQuery escaped (option_map (λ p. p.text.now) found) pairs
+query_absent escaped found pairs is none = subst (λ o. LendsQuery escaped (option_map (λ (p : Spelled). p.text.now) o) pairs) (sym is) none
+
+-- a query, and the names and values of its fields
+pub query_present : (escaped : Bool) (found : Option Spelled) (pairs : Option (List (QueryText × QueryText))) (query : Spelled) (items : List (QueryText × QueryText)) → found ≡ Some query → IfSome found (λ p. p.escaped ≡ escaped) → pairs ≡ Some items → LendsFields query.escaped query.text.now items → LendsQuery escaped (option_map (λ p. p.text.now) found) pairs
+query_present escaped found pairs query items is same has lent =
+    let mode : query.escaped ≡ escaped = subst (λ o. IfSome o (λ (p : Spelled). p.escaped ≡ escaped)) is same in
+    subst (λ o. LendsQuery escaped (option_map (λ (p : Spelled). p.text.now) o) pairs) (sym is)
+    (subst (λ o. LendsQuery escaped (Some query.text.now) o) (sym has) (subst (λ b. LendsFields b query.text.now items) mode lent))

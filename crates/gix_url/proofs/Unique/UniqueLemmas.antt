@@ -1,0 +1,341 @@
+-- Bytes spell one location at most: inside each form the bytes determine the pieces, and the forms exclude one another.
+use Rattle.std.proofs.Common.{◌≡◌, ℕ, ◌==◌, ◌⊎◌, inl, inr, true, false, List, [], ◌∷◌, ◌++◌, Option, Some, None, refl, sym, ap, subst, ◌∙◌, append_assoc, codes}
+use Rattle.std.proofs.lemmas.Bool.{both_ways, false≢true, eq-eqb, eqb-false}
+use Rattle.std.proofs.lemmas.Option.{same_Some}
+use Rattle.percent_encoding.specs.Percent.{percent_decode}
+use Rattle.gix_url.specs.Value.{Protocol, Location, path_alone}
+use Rattle.gix_url.specs.Value.Protocol.{file, git, ssh, http, https, ext, helper, helper_url}
+use Rattle.gix_url.specs.Bytes.{percent_sign, slash, colon, at_sign, left_bracket, right_bracket, Lacks, FreeOf, begins_with, lowercase, is_path_start, StartsPath}
+use Rattle.gix_url.specs.Escapes.{escaped_percents}
+use Rattle.gix_url.specs.Addresses.{IsIpv6Text, Literal}
+use Rattle.gix_url.specs.Hosts.{Mode, Bracketed, IsAddressPiece, IsPlainHost, Names}
+use Rattle.gix_url.specs.Hosts.Mode.{bare}
+use Rattle.gix_url.specs.Schemes.{is_web_scheme, protocol_of, mode_of}
+use Rattle.gix_url.specs.Authority.{unless_empty, user_beside, Credentials, Authority}
+use Rattle.gix_url.specs.Grammar.{helper_protocol, SpellsHelper, UrlParts, SpellsParts, Peels, HostFor, path_for, retained_spelling, MeansByProtocol, MeansAs, SpellsUrl, SpellsFile, ScpFront, AddressedShape, ScpUser, Unbrackets, ScpHost, scp_location, SpellsScpBefore, SpellsScpAddressed, SpellsScp, Spells}
+use Rattle.gix_url.proofs.Readings.SchemeLemmas.{means_cases}
+use Rattle.gix_url.proofs.Texts.CutLemmas.{heads, tails, class_cut_unique, path_cut_unique, cut_unique, last_cut_unique, last_unique, scheme_text_free, helper_name_free, free-append, free_parts, free_head_tail, free_or_cut, not_free}
+use Rattle.gix_url.proofs.Addresses.AddressLemmas.{address_free, address_utf8, address-lowercase}
+use Rattle.gix_url.proofs.Texts.EscapeLemmas.{decode_kept, lacks_escaped_percents, escaped_percents_kept}
+use Rattle.gix_url.proofs.Readings.FormLemmas.{scheme_cut_unique, address_cut, addressed_joined, addressed_front_free, address_front_free, address_back_free, scp_neither, scp_shaped}
+use Rattle.gix_url.proofs.Readings.HostLemmas.{names_unique}
+use Rattle.gix_url.proofs.Readings.ShapeLemmas.{bracketed_joined, same_front, shape_of_file, shape_of_url, spelled_as_file, spelled_as_url, spelled_as_helper, spelled_as_scp, spelled_as_local}
+
+-- ---- remote helpers
+
+-- a remote helper's bytes spell one location in its form
+pub helper_unique : (b : List ℕ) (v w : Location) → SpellsHelper b v → SpellsHelper b w → v ≡ w
+helper_unique b v w h k =
+    let pieces = cut_unique colon h.name k.name (colon ∷ h.address) (colon ∷ k.address) (helper_name_free h.name colon h.parts.named refl) (helper_name_free k.name colon k.parts.named refl) (sym h.parts.joined ∙ k.parts.joined) in
+    h.value ∙ ap (λ n. path_alone (helper_protocol n) true h.address) pieces.0 ∙ ap (λ a. path_alone (helper_protocol k.name) true a) (tails pieces.1) ∙ sym k.value
+
+-- ---- URLs
+
+-- user information holds one user and one password
+pub credentials_unique : (text : List ℕ) (user other password second : Option (List ℕ)) → Credentials text user password → Credentials text other second → (user ≡ other) × (password ≡ second)
+credentials_unique text user other password second (Credentials.user_alone f u e n) (Credentials.user_alone g t k m) = (n ∙ sym m, e ∙ sym k)
+credentials_unique text user other password second (Credentials.user_alone f u e n) (Credentials.with_password x y g j t r k m) =
+    absurd (not_free colon x y (subst (λ s. FreeOf colon s) j f))
+credentials_unique text user other password second (Credentials.with_password x y g j t r k m) (Credentials.user_alone f u e n) =
+    absurd (not_free colon x y (subst (λ s. FreeOf colon s) j f))
+credentials_unique text user other password second (Credentials.with_password x y f i u s e n) (Credentials.with_password z q g j t r k m) =
+    let pieces = cut_unique colon x z y q f g (sym i ∙ j) in
+    let same = e ∙ ap (λ p. unless_empty (percent_decode p)) pieces.1 ∙ sym k in
+    (n ∙ ap (λ p. user_beside p (percent_decode x)) same ∙ ap (λ p. user_beside second (percent_decode p)) pieces.0 ∙ sym m, same)
+
+-- an authority holds one user, one password, one host and one port
+pub authority_unique : (mode : Mode) (text : List ℕ) (user other password second host place : Option (List ℕ)) (port last : Option ℕ) → Authority mode text user password host port → Authority mode text other second place last → (user ≡ other) × (password ≡ second) × (host ≡ place) × (port ≡ last)
+authority_unique mode text user other password second host place port last (Authority.host_alone f n u p) (Authority.host_alone g m t q) =
+    let same = names_unique mode text host place port last n m in
+    (u ∙ sym t, p ∙ sym q, same.0, same.1)
+authority_unique mode text user other password second host place port last (Authority.host_alone f n u p) (Authority.with_user i x g j c m s) =
+    absurd (not_free at_sign i x (subst (λ s. FreeOf at_sign s) j f))
+authority_unique mode text user other password second host place port last (Authority.with_user i x g j c m s) (Authority.host_alone f n u p) =
+    absurd (not_free at_sign i x (subst (λ s. FreeOf at_sign s) j f))
+authority_unique mode text user other password second host place port last (Authority.with_user i x f e c n s) (Authority.with_user k y g j d m t) =
+    let pieces = last_cut_unique at_sign i k x y f g (sym e ∙ j) in
+    let given = credentials_unique k user other password second (subst (λ z. Credentials z user password) pieces.0 c) d in
+    let named = names_unique mode y host place port last (subst (λ z. Names mode z host port) pieces.1 n) m in
+    (given.0, given.1, named.0, named.1)
+
+-- the text of a URL determines its parts
+pub parts_unique : (b : List ℕ) (p q : UrlParts) → SpellsParts b p → SpellsParts b q → p ≡ q
+parts_unique b p q h k =
+    let cut = scheme_cut_unique p.scheme q.scheme (h.authority ++ p.path) (k.authority ++ q.path) (scheme_text_free p.scheme colon h.scheme_text refl) (scheme_text_free q.scheme colon k.scheme_text refl) (sym h.joined ∙ k.joined) in
+    let scheme : p.scheme ≡ q.scheme = cut.0 in
+    let pieces = path_cut_unique (is_web_scheme q.scheme) h.authority k.authority p.path q.path (subst (λ s. Lacks (is_path_start (is_web_scheme s)) h.authority) scheme h.before_path) k.before_path (subst (λ s. StartsPath (is_web_scheme s) p.path) scheme h.path_starts) k.path_starts cut.1 in
+    let named : Authority (mode_of q.scheme) h.authority p.user p.password p.host p.port = subst (λ s. Authority (mode_of s) h.authority p.user p.password p.host p.port) scheme h.named in
+    let same = authority_unique (mode_of q.scheme) k.authority p.user q.user p.password q.password p.host q.host p.port q.port (subst (λ a. Authority (mode_of q.scheme) a p.user p.password p.host p.port) pieces.0 named) k.named in
+    λ i. record { scheme = scheme i; user = same.0 i; password = same.1 i; host = same.2 i; port = same.3 i; path = pieces.1 i }
+
+-- a text in brackets and one in brackets with a colon behind them are different
+brackets_apart : (x y : List ℕ) → left_bracket ∷ (x ++ right_bracket ∷ []) ≡ left_bracket ∷ (y ++ right_bracket ∷ (colon ∷ [])) → ⊥
+brackets_apart x y e =
+    let ends = last_unique x (y ++ right_bracket ∷ []) right_bracket colon (tails e ∙ sym (append_assoc y (right_bracket ∷ []) (colon ∷ []))) in
+    eqb-false right_bracket colon refl ends.1
+
+-- a text that begins with a bracket isn't one that doesn't, with something behind it
+begins_apart : (x y z : List ℕ) (c : ℕ) → begins_with left_bracket y ≡ false → left_bracket ∷ x ≡ y ++ c ∷ z → (c == left_bracket) ≡ false → ⊥
+begins_apart x [] z c f e other = both_ways (c == left_bracket) other (eq-eqb c left_bracket (sym (heads e)))
+begins_apart x (d ∷ y) z c f e other = both_ways (d == left_bracket) f (eq-eqb d left_bracket (sym (heads e)))
+
+-- Secure Shell takes one host out of a host
+pub peels_unique : (host x y : List ℕ) → Peels host x → Peels host y → x ≡ y
+peels_unique host x y (Peels.brackets e) (Peels.brackets f) = (last_unique x y right_bracket right_bracket (tails (sym e ∙ f))).0
+peels_unique host x y (Peels.brackets e) (Peels.brackets_colon f) = absurd (brackets_apart x y (sym e ∙ f))
+peels_unique host x y (Peels.brackets e) (Peels.last_colon free blank f) =
+    absurd (eqb-false right_bracket colon refl (last_unique (left_bracket ∷ x) y right_bracket colon (sym e ∙ f)).1)
+peels_unique host x y (Peels.brackets e) (Peels.same no_brackets no_colon no_end f) = absurd (no_brackets (x, e))
+peels_unique host x y (Peels.brackets_colon e) (Peels.brackets f) = absurd (brackets_apart y x (sym f ∙ e))
+peels_unique host x y (Peels.brackets_colon e) (Peels.brackets_colon f) =
+    let fronts : (x ++ right_bracket ∷ []) ++ colon ∷ [] ≡ (y ++ right_bracket ∷ []) ++ colon ∷ [] =
+    append_assoc x (right_bracket ∷ []) (colon ∷ []) ∙ tails (sym e ∙ f) ∙ sym (append_assoc y (right_bracket ∷ []) (colon ∷ [])) in
+    (last_unique x y right_bracket right_bracket (last_unique (x ++ right_bracket ∷ []) (y ++ right_bracket ∷ []) colon colon fronts).0).0
+peels_unique host x y (Peels.brackets_colon e) (Peels.last_colon free blank f) = absurd (begins_apart _ y [] colon blank (sym e ∙ f) refl)
+peels_unique host x y (Peels.brackets_colon e) (Peels.same no_brackets no_colon no_end f) = absurd (no_colon (x, e))
+peels_unique host x y (Peels.last_colon free blank e) (Peels.brackets f) =
+    absurd (eqb-false right_bracket colon refl (last_unique (left_bracket ∷ y) x right_bracket colon (sym f ∙ e)).1)
+peels_unique host x y (Peels.last_colon free blank e) (Peels.brackets_colon f) = absurd (begins_apart _ x [] colon blank (sym f ∙ e) refl)
+peels_unique host x y (Peels.last_colon free blank e) (Peels.last_colon also closed f) = (last_unique x y colon colon (sym e ∙ f)).0
+peels_unique host x y (Peels.last_colon free blank e) (Peels.same no_brackets no_colon no_end f) = absurd (no_end (x, free, blank, e))
+peels_unique host x y (Peels.same no_brackets no_colon no_end e) (Peels.brackets f) = absurd (no_brackets (y, f))
+peels_unique host x y (Peels.same no_brackets no_colon no_end e) (Peels.brackets_colon f) = absurd (no_colon (y, f))
+peels_unique host x y (Peels.same no_brackets no_colon no_end e) (Peels.last_colon free blank f) = absurd (no_end (y, free, blank, f))
+peels_unique host x y (Peels.same no_brackets no_colon no_end e) (Peels.same a b c f) = e ∙ sym f
+
+-- a location has one host for the host that its URL names
+pub host_for_unique : (protocol : Protocol) (named host other : Option (List ℕ)) → HostFor protocol named host → HostFor protocol named other → host ≡ other
+host_for_unique ssh None host other h k = h ∙ sym k
+host_for_unique ssh (Some named) host other (x, p, e) (y, q, f) = e ∙ ap (λ z. Some z) (peels_unique named x y p q) ∙ sym f
+host_for_unique file named host other h k = h ∙ sym k
+host_for_unique git named host other h k = h ∙ sym k
+host_for_unique http named host other h k = h ∙ sym k
+host_for_unique https named host other h k = h ∙ sym k
+host_for_unique ext named host other h k = h ∙ sym k
+host_for_unique (helper name) named host other h k = h ∙ sym k
+host_for_unique (helper_url name) named host other h k = h ∙ sym k
+
+-- what the parts of a URL mean with this host
+abbrev pub meant_with : Protocol → UrlParts → Option (List ℕ) → Location
+meant_with protocol parts host = record {
+  scheme = protocol;
+  user = parts.user;
+  password = parts.password;
+  host = host;
+  flag = false;
+  port = parts.port;
+  path = path_for protocol (percent_decode parts.path);
+  spelling = retained_spelling parts.path;
+}
+
+-- the parts of a URL mean one location by its protocol
+by_protocol_unique : (protocol : Protocol) (parts : UrlParts) (v w : Location) → MeansByProtocol protocol parts v → MeansByProtocol protocol parts w → v ≡ w
+by_protocol_unique protocol parts v w h k =
+    h.value ∙ ap (λ host. meant_with protocol parts host) (host_for_unique protocol parts.host h.host k.host h.hosted k.hosted) ∙ sym k.value
+
+-- the parts of a URL mean one location
+pub means_unique : (protocol : Protocol) (b : List ℕ) (parts : UrlParts) (v w : Location) → MeansAs protocol b parts v → MeansAs protocol b parts w → v ≡ w
+means_unique protocol b parts v w h k =
+    elim (means_cases protocol b parts v h) [
+      | inl m ↦
+          elim (means_cases protocol b parts w k) [ inl n ↦ m.1 ∙ sym n.1 | inr n ↦ absurd (n.0 m.0) ]
+      | inr m ↦
+          elim (means_cases protocol b parts w k) [ inl n ↦ absurd (m.0 n.0) | inr n ↦ by_protocol_unique protocol parts v w m.1 n.1 ]
+    ]
+
+-- a URL's bytes spell one location in its form
+pub url_unique : (b : List ℕ) (v w : Location) → SpellsUrl b v → SpellsUrl b w → v ≡ w
+url_unique b v w h k =
+    let same = parts_unique b h.parts k.parts h.spelled k.spelled in
+    means_unique (protocol_of k.parts.scheme) b k.parts v w (subst (λ p. MeansAs (protocol_of p.scheme) b p v) same h.means) k.means
+
+-- ---- file URLs
+
+-- a host and a path of a file URL
+abbrev file_location : List ℕ → List ℕ → Location
+file_location host path = record (path_alone file false path) { host = unless_empty host }
+
+-- a file URL's bytes spell one location in its form
+pub file_unique : (b : List ℕ) (v w : Location) → SpellsFile b v → SpellsFile b w → v ≡ w
+file_unique b v w h k =
+    let whole = scheme_cut_unique (codes "file") (codes "file") (h.host ++ h.path) (k.host ++ k.path) refl refl (sym h.joined ∙ k.joined) in
+    let pieces = class_cut_unique (λ d. d == slash) h.host k.host h.path k.path h.no_slash k.no_slash (inr h.rooted) (inr k.rooted) whole.1 in
+    h.value ∙ ap (λ x. file_location x h.path) pieces.0 ∙ ap (λ x. file_location k.host x) pieces.1 ∙ sym k.value
+
+-- ---- the scp form
+
+-- a front holds one user and one host free of `@`
+pub scp_user_unique : (front : List ℕ) (user other : Option (List ℕ)) (host second : List ℕ) → FreeOf at_sign host → FreeOf at_sign second → ScpUser front user host → ScpUser front other second → (user ≡ other) × (host ≡ second)
+scp_user_unique front user other host second f g (ScpUser.host_alone e n) (ScpUser.host_alone k m) = (n ∙ sym m, sym e ∙ k)
+scp_user_unique front user other host second f g (ScpUser.host_alone e n) (ScpUser.with_user u k m) =
+    absurd (not_free at_sign u second (subst (λ s. FreeOf at_sign s) (sym e ∙ k) f))
+scp_user_unique front user other host second f g (ScpUser.with_user u e n) (ScpUser.host_alone k m) =
+    absurd (not_free at_sign u host (subst (λ s. FreeOf at_sign s) (sym k ∙ e) g))
+scp_user_unique front user other host second f g (ScpUser.with_user u e n) (ScpUser.with_user y k m) =
+    let pieces = last_cut_unique at_sign u y host second f g (sym e ∙ k) in
+    (n ∙ ap (λ z. Some z) pieces.0 ∙ sym m, pieces.1)
+
+-- brackets are taken off in one way
+unbrackets_unique : (host x y : List ℕ) → Unbrackets host x → Unbrackets host y → x ≡ y
+unbrackets_unique host x y (Unbrackets.brackets e) (Unbrackets.brackets f) = (last_unique x y right_bracket right_bracket (tails (sym e ∙ f))).0
+unbrackets_unique host x y (Unbrackets.brackets e) (Unbrackets.same n f) = absurd (n (x, e))
+unbrackets_unique host x y (Unbrackets.same n e) (Unbrackets.brackets f) = absurd (n (y, f))
+unbrackets_unique host x y (Unbrackets.same n e) (Unbrackets.same m f) = e ∙ sym f
+
+-- a host in the scp form stands for one
+scp_host_unique : (host other x y : List ℕ) → host ≡ other → ScpHost host x → ScpHost other y → x ≡ y
+scp_host_unique host other x y same h k =
+    let names = names_unique bare (escaped_percents other) (Some h.named) (Some k.named) None None (subst (λ z. Names bare (escaped_percents z) (Some h.named) None) same h.names) k.names in
+    unbrackets_unique k.named x y (subst (λ z. Unbrackets z x) (same_Some h.named k.named names.0) h.unbracketed) k.unbracketed
+
+-- the value of the scp form
+scp_same : (user other : Option (List ℕ)) (host second path last : List ℕ) → user ≡ other → host ≡ second → path ≡ last → scp_location user host path ≡ scp_location other second last
+scp_same user other host second path last e f g = λ i. scp_location (e i) (f i) (g i)
+
+-- the scp form's bytes spell one location in it, where the shape `user@[address]:path` isn't used
+pub scp_before_unique : (b : List ℕ) (v w : Location) → SpellsScpBefore b v → SpellsScpBefore b w → v ≡ w
+scp_before_unique b v w h k =
+    let whole = same_front b h.front h.path k.front k.path h.shape.joined k.shape.joined h.shape.shape k.shape.shape in
+    let pieces = scp_user_unique k.front h.user k.user h.host k.host h.hosted.no_at k.hosted.no_at (subst (λ f. ScpUser f h.user h.host) whole.0 h.split) k.split in
+    h.value ∙ scp_same h.user k.user h.meant k.meant h.path k.path pieces.0 (scp_host_unique h.host k.host h.meant k.meant pieces.1 h.hosted k.hosted) whole.1 ∙ sym k.value
+
+-- ---- the shape `user@[address]:path`
+
+-- the text determines user, address and path of the shape
+pub addressed_unique : (b user other address second path last : List ℕ) → AddressedShape b user address path → AddressedShape b other second last → (user ≡ other) × (address ≡ second) × (path ≡ last)
+addressed_unique b user other address second path last h k =
+    let (x, y, f, e) = address_cut address h.cut.addressed in
+    let (z, q, g, j) = address_cut second k.cut.addressed in
+    let whole = sym (addressed_joined user address path x y e) ∙ sym h.cut.joined ∙ k.cut.joined ∙ addressed_joined other second last z q j in
+    let outer = cut_unique colon (user ++ at_sign ∷ (left_bracket ∷ x)) (other ++ at_sign ∷ (left_bracket ∷ z)) (y ++ right_bracket ∷ (colon ∷ path)) (q ++ right_bracket ∷ (colon ∷ last)) (addressed_front_free user x h.cut.no_colon f) (addressed_front_free other z k.cut.no_colon g) whole in
+    let fronts = last_cut_unique at_sign user other (left_bracket ∷ x) (left_bracket ∷ z) (address_front_free at_sign address x y refl h.cut.addressed e) (address_front_free at_sign second z q refl k.cut.addressed j) outer.0 in
+    let backs = cut_unique right_bracket y q (colon ∷ path) (colon ∷ last) (address_back_free right_bracket address x y refl h.cut.addressed e) (address_back_free right_bracket second z q refl k.cut.addressed j) outer.1 in
+    (fronts.0, e ∙ (λ i. tails fronts.1 i ++ colon ∷ backs.0 i) ∙ sym j, tails backs.1)
+
+-- the shape's bytes spell one location
+pub scp_addressed_unique : (b : List ℕ) (v w : Location) → SpellsScpAddressed b v → SpellsScpAddressed b w → v ≡ w
+scp_addressed_unique b v w h k =
+    let pieces = addressed_unique b h.user k.user h.address k.address h.path k.path h.shape k.shape in
+    h.value
+    ∙ scp_same (Some h.user) (Some k.user) (lowercase h.address) (lowercase k.address) h.path k.path (ap (λ z. Some z) pieces.0) (ap (λ z. lowercase z) pieces.1) pieces.2
+    ∙ sym k.value
+
+-- ---- the shape `user@[address]:path` in the earlier grammar
+
+-- a text that begins with a bracket doesn't pass as one that doesn't
+bracket_first : (x : List ℕ) → begins_with left_bracket (left_bracket ∷ x) ≡ false → ⊥
+bracket_first x h = false≢true (sym h)
+
+-- nor is it an address, with or without a colon behind it
+bracket_no_address : (x : List ℕ) → IsAddressPiece (left_bracket ∷ x) → ⊥
+bracket_no_address x (inl h) = false≢true (sym (free_head_tail left_bracket left_bracket x (address_free left_bracket (left_bracket ∷ x) refl h)).0)
+bracket_no_address x (inr (address, h, e)) =
+    let free : FreeOf left_bracket (left_bracket ∷ x) = subst (λ s. FreeOf left_bracket s) (sym e) (free-append left_bracket address (colon ∷ []) (address_free left_bracket address refl h) refl) in
+    false≢true (sym (free_head_tail left_bracket left_bracket x free).0)
+
+-- nor a host outside brackets with something behind it
+bracket_no_plain : (x text rest : List ℕ) → IsPlainHost text → left_bracket ∷ x ≡ text ++ colon ∷ rest → ⊥
+bracket_no_plain x text rest h e = begins_apart x text rest colon h.no_bracket e refl
+
+-- a bracket that nothing closes names no host
+open_bracket_unnamed : (x named : List ℕ) → FreeOf right_bracket x → Names bare (left_bracket ∷ x) (Some named) None → ⊥
+open_bracket_unnamed x named f (Names.nothing e h p) = let wrong : left_bracket ∷ x ≡ [] = e in cc
+open_bracket_unnamed x named f (Names.bracketed y inner g i e h p) = not_free right_bracket y [] (subst (λ s. FreeOf right_bracket s) (tails e) f)
+open_bracket_unnamed x named f (Names.bracketed_colon y inner g i e h p) = not_free right_bracket y (colon ∷ []) (subst (λ s. FreeOf right_bracket s) (tails e) f)
+open_bracket_unnamed x named f (Names.bracketed_port y inner digits number g i d e h p) = not_free right_bracket y (colon ∷ digits) (subst (λ s. FreeOf right_bracket s) (tails e) f)
+open_bracket_unnamed x named f (Names.unbracketed a h p) = bracket_no_address x a.1
+open_bracket_unnamed x named f (Names.plain y g i h p) = bracket_first x g.no_bracket
+open_bracket_unnamed x named f (Names.plain_colon text y g i e h p) = bracket_no_plain x text [] g e
+open_bracket_unnamed x named f (Names.plain_port text y digits number g i d e h p) = bracket_no_plain x text digits g e
+open_bracket_unnamed x named f (Names.colons y m a g i t h p) = bracket_first x g
+
+-- such a host isn't one of the scp form
+pub open_bracket_no_host : (host x meant : List ℕ) → host ≡ left_bracket ∷ x → FreeOf right_bracket x → ScpHost host meant → ⊥
+open_bracket_no_host host x meant e f h =
+    open_bracket_unnamed (escaped_percents x) h.named (lacks_escaped_percents (λ b. b == right_bracket) x refl refl refl f) (subst (λ z. Names bare (escaped_percents z) (Some h.named) None) e h.names)
+
+-- the lower case of an address has no escape
+lowercase_kept : (a : List ℕ) → IsIpv6Text a → percent_decode (lowercase a) ≡ lowercase a
+lowercase_kept a h = decode_kept (lowercase a) (address_free percent_sign (lowercase a) refl (address-lowercase a h))
+
+-- an address in brackets names itself in lower case
+pub bracketed_address_named : (a : List ℕ) → IsIpv6Text a → Names bare (left_bracket ∷ (a ++ right_bracket ∷ [])) (Some (left_bracket ∷ (lowercase a ++ right_bracket ∷ []))) None
+bracketed_address_named a h =
+    Names.bracketed a (lowercase a) (address_free right_bracket a refl h) (Bracketed.literal (lowercase a) (Literal.address h refl) (sym (lowercase_kept a h)) (address_utf8 (lowercase a) (address-lowercase a h))) refl refl refl
+
+-- such a host of the scp form stands for the address in lower case
+bracketed_address_host : (host a meant : List ℕ) → host ≡ left_bracket ∷ (a ++ right_bracket ∷ []) → IsIpv6Text a → ScpHost host meant → meant ≡ lowercase a
+bracketed_address_host host a meant e address h =
+    let free : FreeOf percent_sign (a ++ right_bracket ∷ []) = free-append percent_sign a (right_bracket ∷ []) (address_free percent_sign a refl address) refl in
+    let kept : escaped_percents host ≡ left_bracket ∷ (a ++ right_bracket ∷ []) = ap (λ z. escaped_percents z) e ∙ escaped_percents_kept (left_bracket ∷ (a ++ right_bracket ∷ [])) free in
+    let names = names_unique bare (left_bracket ∷ (a ++ right_bracket ∷ [])) (Some h.named) (Some (left_bracket ∷ (lowercase a ++ right_bracket ∷ []))) None None (subst (λ z. Names bare z (Some h.named) None) kept h.names) (bracketed_address_named a address) in
+    unbrackets_unique h.named meant (lowercase a) h.unbracketed (Unbrackets.brackets (same_Some h.named (left_bracket ∷ (lowercase a ++ right_bracket ∷ [])) names.0))
+
+-- what the front of such a text can be: it ends within the address, or behind its bracket
+abbrev pub FrontOf : List ℕ → List ℕ → List ℕ → List ℕ → List ℕ → List ℕ → Type 0
+FrontOf user address path x front second =
+    (front ≡ user ++ at_sign ∷ (left_bracket ∷ x)) ⊎ ((front ≡ user ++ at_sign ∷ (left_bracket ∷ (address ++ right_bracket ∷ []))) × (second ≡ path))
+
+-- a user without `]`: the brackets are those around the address
+closed_front : (user address path inside after front second : List ℕ) → FreeOf right_bracket user → FreeOf right_bracket address → FreeOf right_bracket inside → FreeOf colon after → front ≡ left_bracket ∷ (inside ++ right_bracket ∷ after) → left_bracket ∷ (inside ++ right_bracket ∷ (after ++ colon ∷ second)) ≡ user ++ at_sign ∷ (left_bracket ∷ (address ++ right_bracket ∷ (colon ∷ path))) → (front ≡ user ++ at_sign ∷ (left_bracket ∷ (address ++ right_bracket ∷ []))) × (second ≡ path)
+closed_front user address path inside after front second u a i n e whole =
+    let outer = cut_unique right_bracket (left_bracket ∷ inside) (user ++ at_sign ∷ (left_bracket ∷ address)) (after ++ colon ∷ second) (colon ∷ path) i (free-append right_bracket user (at_sign ∷ (left_bracket ∷ address)) u a) (whole ∙ sym (append_assoc user (at_sign ∷ (left_bracket ∷ address)) (right_bracket ∷ (colon ∷ path)))) in
+    let inner = cut_unique colon after [] second path n refl outer.1 in
+    (e ∙ (λ j. outer.0 j ++ right_bracket ∷ inner.0 j) ∙ append_assoc user (at_sign ∷ (left_bracket ∷ address)) (right_bracket ∷ []), inner.1)
+
+-- a user with `]`: its first one closes the brackets
+inner_front : (user x y z rest inside after front second : List ℕ) → user ≡ y ++ right_bracket ∷ z → FreeOf right_bracket y → FreeOf colon user → FreeOf colon x → FreeOf right_bracket inside → FreeOf colon after → front ≡ left_bracket ∷ (inside ++ right_bracket ∷ after) → left_bracket ∷ (inside ++ right_bracket ∷ (after ++ colon ∷ second)) ≡ (user ++ at_sign ∷ (left_bracket ∷ x)) ++ colon ∷ rest → front ≡ user ++ at_sign ∷ (left_bracket ∷ x)
+inner_front user x y z rest inside after front second cut f u c i n e whole =
+    let moved : (user ++ at_sign ∷ (left_bracket ∷ x)) ++ colon ∷ rest ≡ y ++ right_bracket ∷ ((z ++ at_sign ∷ (left_bracket ∷ x)) ++ colon ∷ rest) =
+    ap (λ s. (s ++ at_sign ∷ (left_bracket ∷ x)) ++ colon ∷ rest) cut
+    ∙ ap (λ s. s ++ colon ∷ rest) (append_assoc y (right_bracket ∷ z) (at_sign ∷ (left_bracket ∷ x)))
+    ∙ append_assoc y (right_bracket ∷ (z ++ at_sign ∷ (left_bracket ∷ x))) (colon ∷ rest) in
+    let outer = cut_unique right_bracket (left_bracket ∷ inside) y (after ++ colon ∷ second) ((z ++ at_sign ∷ (left_bracket ∷ x)) ++ colon ∷ rest) i f (whole ∙ moved) in
+    let behind : FreeOf colon z = (free_head_tail colon right_bracket z (free_parts colon y (right_bracket ∷ z) (subst (λ s. FreeOf colon s) cut u)).1).1 in
+    let inner = cut_unique colon after (z ++ at_sign ∷ (left_bracket ∷ x)) second rest n (addressed_front_free z x behind c) outer.1 in
+    e ∙ (λ j. outer.0 j ++ right_bracket ∷ inner.0 j) ∙ sym (append_assoc y (right_bracket ∷ z) (at_sign ∷ (left_bracket ∷ x))) ∙ ap (λ s. s ++ at_sign ∷ (left_bracket ∷ x)) (sym cut)
+
+-- the fronts of the scp form in a text with the shape
+pub front_of_addressed : (b user address path x y front second : List ℕ) → AddressedShape b user address path → FreeOf colon x → address ≡ x ++ colon ∷ y → b ≡ front ++ colon ∷ second → ScpFront b front → FrontOf user address path x front second
+front_of_addressed b user address path x y front second h f e j (ScpFront.plain g blank) =
+    inl (cut_unique colon front (user ++ at_sign ∷ (left_bracket ∷ x)) second (y ++ right_bracket ∷ (colon ∷ path)) g (addressed_front_free user x h.cut.no_colon f) (sym j ∙ h.cut.joined ∙ addressed_joined user address path x y e)).0
+front_of_addressed b user address path x y front second h f e j (ScpFront.bracketed inside after i n k) =
+    let whole = sym (bracketed_joined b front second inside after j k) ∙ h.cut.joined in
+    elim (free_or_cut right_bracket user) [
+      | inl u ↦ inr (closed_front user address path inside after front second u (address_free right_bracket address refl h.cut.addressed) i n k whole)
+      | inr (s, t, u, cut) ↦
+          inl (inner_front user x s t (y ++ right_bracket ∷ (colon ∷ path)) inside after front second cut u h.cut.no_colon f i n k (whole ∙ addressed_joined user address path x y e))
+    ]
+
+-- where both spell the bytes, they spell one location
+pub scp_forms_agree : (b : List ℕ) (v w : Location) → SpellsScpBefore b v → SpellsScpAddressed b w → v ≡ w
+scp_forms_agree b v w h k =
+    let (x, y, f, e) = address_cut k.address k.shape.cut.addressed in
+    elim (front_of_addressed b k.user k.address k.path x y h.front h.path k.shape f e h.shape.joined h.shape.shape) [
+      | inl within ↦
+          let pieces = scp_user_unique h.front h.user (Some k.user) h.host (left_bracket ∷ x) h.hosted.no_at (address_front_free at_sign k.address x y refl k.shape.cut.addressed e) h.split (ScpUser.with_user k.user within refl) in
+          absurd (open_bracket_no_host h.host x h.meant pieces.1 (address_front_free right_bracket k.address x y refl k.shape.cut.addressed e) h.hosted)
+      | inr (behind, paths) ↦
+          let free : FreeOf at_sign (k.address ++ right_bracket ∷ []) = free-append at_sign k.address (right_bracket ∷ []) (address_free at_sign k.address refl k.shape.cut.addressed) refl in
+          let pieces = scp_user_unique h.front h.user (Some k.user) h.host (left_bracket ∷ (k.address ++ right_bracket ∷ [])) h.hosted.no_at free h.split (ScpUser.with_user k.user behind refl) in
+          h.value
+          ∙ scp_same h.user (Some k.user) h.meant (lowercase k.address) h.path k.path pieces.0 (bracketed_address_host h.host k.address h.meant pieces.1 k.shape.cut.addressed h.hosted) paths
+          ∙ sym k.value
+    ]
+
+-- the scp form's bytes spell one location in it
+pub scp_unique : (b : List ℕ) (v w : Location) → SpellsScp b v → SpellsScp b w → v ≡ w
+scp_unique b v w (inl h) (inl k) = scp_before_unique b v w h k
+scp_unique b v w (inl h) (inr k) = scp_forms_agree b v w h k
+scp_unique b v w (inr h) (inl k) = sym (scp_forms_agree b w v k h)
+scp_unique b v w (inr h) (inr k) = scp_addressed_unique b v w h k
+
+-- ---- all forms
+
+-- bytes spell one location at most
+pub spells_unique : (b : List ℕ) (v w : Location) → Spells b v → Spells b w → v ≡ w
+spells_unique b v w (Spells.url h) k = url_unique b v w h (spelled_as_url b h.parts.scheme (h.spelled.authority ++ h.parts.path) (shape_of_url h) w k)
+spells_unique b v w (Spells.file_url h) k = file_unique b v w h (spelled_as_file b (h.host ++ h.path) (shape_of_file h) w k)
+spells_unique b v w (Spells.remote_helper h) k = helper_unique b v w h (spelled_as_helper b (h.name, h.address, h.parts) w k)
+spells_unique b v w (Spells.scp_form h) k = scp_unique b v w h (spelled_as_scp b (scp_neither h) (scp_shaped h) w k)
+spells_unique b v w (Spells.local_path h) k = h.value ∙ sym (spelled_as_local b h.neither h.no_scp w k).value
