@@ -1,6 +1,6 @@
 //! Ready texts: quick tests for texts that are written without an escape, as most are.
 //!
-//! It uses nothing of this crate but the sets of `escape`, and asks for no memory. Its contract: a text that passes is
+//! It uses nothing of this crate, and asks for no memory. Its contract, in the words of `escape`: a text that passes is
 //! written as it is. One that doesn't pass may be written so too.
 
 ghost use Rattle.std.specs.Prelude.{◌≡◌, IsTrue};
