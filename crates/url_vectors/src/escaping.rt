@@ -2,8 +2,11 @@
 
 use bstr::BString;
 use gix_url::Url;
+use std::alloc::Global;
 use std::fmt::Write;
+use std::process::Abort;
 use std::test::Fail;
+use told::unchecked;
 
 /// Bytes of ASCII, besides the controls, that a path is not written with.
 static PATH: [u8; 8] = *b" \"%<>`{}";
@@ -24,19 +27,36 @@ fn put(out: &mut String, escaped: &[u8], byte: u8) -> Result<(), Fail> {
     Ok(())
 }
 
+/// How a location of HTTP with this byte in its path is written.
+fn with_path(alloc: Global, byte: u8) -> Result<String, Fail> {
+    let mut text = String::from_str(alloc, "http://h/")?;
+    put(&mut text, PATH.as_slice(), byte)?;
+    Ok(text)
+}
+
+/// How a location of HTTP with this byte for its user and its password is written.
+fn with_names(alloc: Global, byte: u8) -> Result<String, Fail> {
+    let mut text = String::from_str(alloc, "http://")?;
+    put(&mut text, USER.as_slice(), byte)?;
+    text.push(':')?;
+    put(&mut text, PASSWORD.as_slice(), byte)?;
+    text.push_str("@h/")?;
+    Ok(text)
+}
+
+/// Checks the text of a location.
+fn is_written(rt: &impl Abort, alloc: Global, url: &Url, text: &str) -> Result<(), Fail> {
+    assert_eq!(rt; url.to_bstring(alloc)?.as_bytes(), text.as_bytes());
+    Ok(())
+}
+
 #[test]
 fn every_byte_in_a_path(rt: HostRuntime) -> Result<(), Fail> {
     let alloc = rt.alloc();
     let mut url = Url::from_text(alloc, "http://h/")?;
     for byte in 0..=255u8 {
         url.path = BString::from_slice(alloc, &[b'/', byte])?;
-        let mut expected = String::from_str(alloc, "http://h/")?;
-        put(&mut expected, PATH.as_slice(), byte)?;
-        assert_eq!(rt;
-            url.to_bstring(alloc)?.as_bytes(),
-            expected.as_bytes(),
-            "{byte}"
-        );
+        is_written(&rt, alloc, &url, with_path(alloc, byte)?.as_str())?;
     }
     Ok(())
 }
@@ -44,22 +64,11 @@ fn every_byte_in_a_path(rt: HostRuntime) -> Result<(), Fail> {
 #[test]
 fn every_byte_of_ascii_in_a_user_and_a_password(rt: HostRuntime) -> Result<(), Fail> {
     let alloc = rt.alloc();
-    let mut url = Url::from_text(alloc, "http://u:p@h/")?;
     for byte in 0..=127u8 {
-        let mut part = String::new(alloc);
-        part.push(char::from(byte))?;
-        url.password = Some(String::from_str(alloc, part.as_str())?);
-        url.user = Some(part);
-        let mut expected = String::from_str(alloc, "http://")?;
-        put(&mut expected, USER.as_slice(), byte)?;
-        expected.push(':')?;
-        put(&mut expected, PASSWORD.as_slice(), byte)?;
-        expected.push_str("@h/")?;
-        assert_eq!(rt;
-            url.to_bstring(alloc)?.as_bytes(),
-            expected.as_bytes(),
-            "{byte}"
-        );
+        let part = char::from(byte).to_string(alloc)?;
+        let (user, password, host) = (Some(part.as_str()), Some(part.as_str()), Some("h"));
+        let url = unchecked(alloc, "Http", user, password, host, None, b"/", false)?;
+        is_written(&rt, alloc, &url, with_names(alloc, byte)?.as_str())?;
     }
     Ok(())
 }

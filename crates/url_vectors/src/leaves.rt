@@ -11,6 +11,8 @@ struct Place(&'static str, &'static str);
 
 /// HTTP, whose hosts are read strictly.
 const WEB: Place = Place("http://", "/p");
+/// A path of HTTP.
+const WEB_PATH: Place = Place("http://h/", "");
 /// Git's own protocol.
 const GIT: Place = Place("git://", "/p");
 /// Any other scheme.
@@ -34,7 +36,8 @@ impl Place {
         rows: &[(&str, &str, Option<u16>)],
     ) -> Result<(), Fail> {
         for &(piece, host, port) in rows {
-            let url = Url::from_text(alloc, self.text(alloc, piece)?.as_str())?;
+            let text = self.text(alloc, piece)?;
+            let url = Url::from_text(alloc, text.as_str())?;
             assert_eq!(rt; url.host.as_deref(), Some(host), "the host of {piece}");
             assert_eq!(rt; url.port, port, "the port of {piece}");
         }
@@ -49,194 +52,211 @@ impl Place {
         fault: UrlFault,
         pieces: &[&str],
     ) -> Result<(), Fail> {
-        for piece in pieces {
-            match Url::from_text(alloc, self.text(alloc, piece)?.as_str()) {
-                Err(Error::BadUrl { fault: found, .. }) => {
-                    assert_eq!(rt; found, fault, "the fault of {piece}");
-                }
-                _ => assert!(rt; false, "{piece} is not refused so"),
-            }
+        for &piece in pieces {
+            let text = self.text(alloc, piece)?;
+            let found = fault_of(&Url::from_text(alloc, text.as_str()));
+            assert_eq!(rt; found, Some(fault), "the fault of {piece}");
         }
         Ok(())
     }
 }
 
+/// The fault that a text is refused with, if it is a fault of URLs.
+fn fault_of(outcome: &Result<Url, Error>) -> Option<UrlFault> {
+    match outcome {
+        Err(Error::BadUrl { fault, .. }) => Some(*fault),
+        _ => None,
+    }
+}
+
+/// What names a host and a port in HTTP.
+static WEB_HOSTS: [(&str, &str, Option<u16>); 11] = [
+    ("example.com", "example.com", None),
+    ("example.com:8080", "example.com", Some(8080)),
+    ("H:", "h:", None),
+    ("h:00080", "h", Some(80)),
+    ("h:65535", "h", Some(65535)),
+    ("H%41:", "H%41:", None),
+    ("A!b", "A!b", None),
+    ("[::1]", "[::1]", None),
+    ("[::1]:8080", "[::1]", Some(8080)),
+    ("[FE80::1%25Eth0]:", "[fe80::1%25Eth0]:", None),
+    ("[FE80::1%25a%25b]", "[fe80::1%25a%25b]", None),
+];
+
 #[test]
 fn hosts_of_the_web(rt: HostRuntime) -> Result<(), Fail> {
-    WEB.names(
-        &rt,
-        rt.alloc(),
-        &[
-            ("example.com", "example.com", None),
-            ("example.com:8080", "example.com", Some(8080)),
-            ("H:", "h:", None),
-            ("h:00080", "h", Some(80)),
-            ("h:65535", "h", Some(65535)),
-            ("H%41:", "H%41:", None),
-            ("A!b", "A!b", None),
-            ("[::1]", "[::1]", None),
-            ("[::1]:8080", "[::1]", Some(8080)),
-            ("[FE80::1%25Eth0]:", "[fe80::1%25Eth0]:", None),
-            ("[FE80::1%25a%25b]", "[fe80::1%25a%25b]", None),
-        ],
-    )
+    WEB.names(&rt, rt.alloc(), WEB_HOSTS.as_slice())
 }
+
+/// What HTTP refuses for its port.
+static WEB_PORTS: [&str; 7] = [
+    "example.com:65536",
+    "example.com:abc",
+    "h:0",
+    "h:65616",
+    "bücher:x",
+    "[::1]:x",
+    "[::1]:00",
+];
+
+/// What HTTP refuses for a character.
+static WEB_CHARACTERS: [&str; 12] = [
+    "foo:bar:baz",
+    "[not-ip]",
+    "[fe80::1%25]",
+    "[fe80::1%25eth!0]",
+    "[fe80::1%eth0]",
+    "bücher.example",
+    "bücher:0",
+    "::1",
+    ":80",
+    "[::1",
+    "[::1]x",
+    "[x]:y",
+];
 
 #[test]
 fn hosts_that_the_web_refuses(rt: HostRuntime) -> Result<(), Fail> {
+    let alloc = rt.alloc();
+    WEB.refuses(&rt, alloc, UrlFault::BadPort, WEB_PORTS.as_slice())?;
     WEB.refuses(
         &rt,
-        rt.alloc(),
-        UrlFault::BadPort,
-        &[
-            "example.com:65536",
-            "example.com:abc",
-            "h:0",
-            "h:65616",
-            "bücher:x",
-            "[::1]:x",
-            "[::1]:00",
-        ],
-    )?;
-    WEB.refuses(
-        &rt,
-        rt.alloc(),
+        alloc,
         UrlFault::BadCharacter,
-        &[
-            "foo:bar:baz",
-            "[not-ip]",
-            "[fe80::1%25]",
-            "[fe80::1%25eth!0]",
-            "[fe80::1%eth0]",
-            "bücher.example",
-            "bücher:0",
-            "::1",
-            ":80",
-            "[::1",
-            "[::1]x",
-            "[x]:y",
-        ],
+        WEB_CHARACTERS.as_slice(),
     )?;
-    WEB.refuses(&rt, rt.alloc(), UrlFault::HostRequired, &[""])
+    WEB.refuses(&rt, alloc, UrlFault::HostRequired, &[""])
 }
+
+/// What names a host and a port in Git's own protocol.
+static GIT_HOSTS: [(&str, &str, Option<u16>); 13] = [
+    ("::1", "::1", None),
+    ("FE80::1", "fe80::1", None),
+    ("FE80::1:", "fe80::1:", None),
+    ("h:0", "h", Some(0)),
+    ("H:", "h:", None),
+    ("a%3A", "a:", None),
+    (":80", ":80", None),
+    (":", ":", None),
+    ("%5Bx", "[x", None),
+    ("[::1]:22", "[::1]", Some(22)),
+    ("[]", "[]", None),
+    ("[fe80::A%25%C3%B6]", "[fe80::a%ö]", None),
+    ("[host%41]", "[hostA]", None),
+];
 
 #[test]
 fn hosts_of_git(rt: HostRuntime) -> Result<(), Fail> {
-    GIT.names(
-        &rt,
-        rt.alloc(),
-        &[
-            ("::1", "::1", None),
-            ("FE80::1", "fe80::1", None),
-            ("FE80::1:", "fe80::1:", None),
-            ("h:0", "h", Some(0)),
-            ("H:", "h:", None),
-            ("a%3A", "a:", None),
-            (":80", ":80", None),
-            (":", ":", None),
-            ("%5Bx", "[x", None),
-            ("[::1]:22", "[::1]", Some(22)),
-            ("[]", "[]", None),
-            ("[fe80::A%25%C3%B6]", "[fe80::a%ö]", None),
-            ("[host%41]", "[hostA]", None),
-        ],
-    )
+    GIT.names(&rt, rt.alloc(), GIT_HOSTS.as_slice())
 }
+
+/// What names a host and a port in any other scheme.
+static OTHER_HOSTS: [(&str, &str, Option<u16>); 5] = [
+    ("a:b:c", "a:b:c", None),
+    ("FE80::1", "FE80::1", None),
+    ("B%C3%BCcher", "Bücher", None),
+    ("%48", "h", None),
+    ("%48:1", "h", Some(1)),
+];
+
+/// What any other scheme refuses for a character.
+static OTHER_CHARACTERS: [&str; 4] = ["[%FF]", "%FF", ":%FF", "%FF:99999"];
 
 #[test]
 fn hosts_of_other_schemes(rt: HostRuntime) -> Result<(), Fail> {
-    OTHER.names(
-        &rt,
-        rt.alloc(),
-        &[
-            ("a:b:c", "a:b:c", None),
-            ("FE80::1", "FE80::1", None),
-            ("B%C3%BCcher", "Bücher", None),
-            ("%48", "h", None),
-            ("%48:1", "h", Some(1)),
-        ],
-    )?;
-    let empty = Url::from_text(rt.alloc(), "x:///p")?;
-    assert!(rt; empty.host.is_none());
+    let alloc = rt.alloc();
+    OTHER.names(&rt, alloc, OTHER_HOSTS.as_slice())?;
     OTHER.refuses(
         &rt,
-        rt.alloc(),
+        alloc,
         UrlFault::BadCharacter,
-        &["[%FF]", "%FF", ":%FF", "%FF:99999"],
+        OTHER_CHARACTERS.as_slice(),
     )?;
-    OTHER.refuses(&rt, rt.alloc(), UrlFault::BadPort, &["%FF:x"])
+    OTHER.refuses(&rt, alloc, UrlFault::BadPort, &["%FF:x"])
 }
 
 #[test]
+fn other_schemes_need_no_host(rt: HostRuntime) -> Result<(), Fail> {
+    let url = Url::from_text(rt.alloc(), "x:///p")?;
+    assert!(rt; url.host.is_none());
+    Ok(())
+}
+
+/// Users, passwords and paths, and the text of HTTP that they are written in.
+static WRITTEN: [(&str, &str, &str, &str); 3] = [
+    ("a@b:c", "a@b:c", "/", "https://a%40b%3Ac:a%40b:c@h/"),
+    ("ö", "ö", "/ö", "https://%C3%B6:%C3%B6@h/%C3%B6"),
+    ("u", "p", "/a b%?#", "https://u:p@h/a%20b%25?#"),
+];
+
+#[test]
 fn escapes_that_are_written(rt: HostRuntime) -> Result<(), Fail> {
-    let alloc = rt.alloc();
-    for (user, password, path, written) in [
-        ("a@b:c", "a@b:c", "/", "https://a%40b%3Ac:a%40b:c@h/"),
-        ("ö", "ö", "/ö", "https://%C3%B6:%C3%B6@h/%C3%B6"),
-        ("u", "p", "/a b%?#", "https://u:p@h/a%20b%25?#"),
-    ] {
+    for &(user, password, path, written) in WRITTEN.as_slice() {
+        let (user, password, path) = (Some(user), Some(password), path.as_bytes());
         let url = unchecked(
-            alloc,
+            rt.alloc(),
             "Https",
-            Some(user),
-            Some(password),
+            user,
+            password,
             Some("h"),
             None,
-            path.as_bytes(),
+            path,
             false,
         )?;
-        assert_eq!(rt; url.to_bstring(alloc)?.as_bytes(), written.as_bytes());
+        let text = url.to_bstring(rt.alloc())?;
+        assert_eq!(rt; text.as_bytes(), written.as_bytes());
     }
     Ok(())
 }
 
+/// Texts with escapes, and their paths.
+static READ: [(&str, &str); 6] = [
+    ("http://h/%2f%2F", "///"),
+    ("http://h/%2541", "/%41"),
+    ("http://h/my%20repo", "/my repo"),
+    ("http://h/%C3%B6ö", "/öö"),
+    ("http://h/%F0%9F%92%96", "/💖"),
+    ("http://h/a%00b", "/a\0b"),
+];
+
 #[test]
 fn escapes_that_are_read(rt: HostRuntime) -> Result<(), Fail> {
-    let alloc = rt.alloc();
-    for (text, path) in [
-        ("http://h/%2f%2F", "///"),
-        ("http://h/%2541", "/%41"),
-        ("http://h/my%20repo", "/my repo"),
-        ("http://h/%C3%B6ö", "/öö"),
-        ("http://h/%F0%9F%92%96", "/💖"),
-        ("http://h/a%00b", "/a\0b"),
-    ] {
-        let url = Url::from_text(alloc, text)?;
+    for &(text, path) in READ.as_slice() {
+        let url = Url::from_text(rt.alloc(), text)?;
         assert_eq!(rt; url.path.as_bytes(), path.as_bytes(), "the path of {text}");
     }
     Ok(())
 }
 
+/// Paths whose escapes are refused.
+static REFUSED: [&str; 20] = [
+    // `%` without two digits
+    "%",
+    "%4",
+    "a%2",
+    "%4g",
+    "%g4",
+    "%%41",
+    "%41%",
+    // what decodes to no UTF-8
+    "%FF",
+    "%C3",
+    "%C3b",
+    "%C3ö",
+    "%E2%82",
+    "abcd%F0%9F%92",
+    "%ED%A0%80",
+    "%C0%80",
+    // white space
+    "a b",
+    "\n",
+    "\u{a0}",
+    "a\u{2028}",
+    "\u{3000}b",
+];
+
 #[test]
 fn escapes_that_are_refused(rt: HostRuntime) -> Result<(), Fail> {
-    Place("http://h/", "").refuses(
-        &rt,
-        rt.alloc(),
-        UrlFault::BadCharacter,
-        &[
-            // `%` without two digits
-            "%",
-            "%4",
-            "a%2",
-            "%4g",
-            "%g4",
-            "%%41",
-            "%41%",
-            // what decodes to no UTF-8
-            "%FF",
-            "%C3",
-            "%C3b",
-            "%C3ö",
-            "%E2%82",
-            "abcd%F0%9F%92",
-            "%ED%A0%80",
-            "%C0%80",
-            // white space
-            "a b",
-            "\n",
-            "\u{a0}",
-            "a\u{2028}",
-            "\u{3000}b",
-        ],
-    )
+    WEB_PATH.refuses(&rt, rt.alloc(), UrlFault::BadCharacter, REFUSED.as_slice())
 }

@@ -6,6 +6,8 @@
 #![tactic(auto)]
 
 #[cfg(test)]
+mod edges;
+#[cfg(test)]
 mod escaping;
 #[cfg(test)]
 mod leaves;
@@ -16,7 +18,11 @@ mod making;
 #[cfg(test)]
 mod names;
 #[cfg(test)]
-mod reading;
+mod reading_short;
+#[cfg(test)]
+mod reading_transports;
+#[cfg(test)]
+mod reading_urls;
 #[cfg(test)]
 mod refusing;
 #[cfg(test)]

@@ -8,7 +8,7 @@ use std::test::Fail;
 use told::unchecked;
 
 /// The texts one behind another, each as often as it says.
-fn joined(alloc: Global, pieces: &[(&str, usize)]) -> Result<String, Fail> {
+pub fn joined(alloc: Global, pieces: &[(&str, usize)]) -> Result<String, Fail> {
     let mut out = String::new(alloc);
     for &(piece, count) in pieces {
         for _ in 0..count {
@@ -18,51 +18,42 @@ fn joined(alloc: Global, pieces: &[(&str, usize)]) -> Result<String, Fail> {
     Ok(out)
 }
 
-/// The location that is read, whose text has this length, and whether it is settled.
-fn reads(
-    rt: &impl Abort,
-    alloc: Global,
-    pieces: &[(&str, usize)],
-    length: u128,
-    settled: bool,
-) -> Result<Url, Fail> {
-    let url = Url::from_text(alloc, joined(alloc, pieces)?.as_str())?;
-    assert_eq!(rt; url.text_len(), Ok(length));
-    assert_eq!(rt; url.is_settled(), settled);
-    Ok(url)
-}
+/// Texts in pieces, the length of the text of what they are read as, and whether that is settled. The last is longer
+/// than what was read, and too long to be read again.
+static READ: [(&[(&str, usize)], u128, bool); 6] = [
+    (&[("http://", 1), ("a", 1024), ("/", 1)], 1032, true),
+    (&[("http://h?", 1), ("a", 1100)], 1109, true),
+    (&[("a", 1024), ("://h/p", 1)], 1030, true),
+    (&[("file://", 1), ("a", 3000), ("/p", 1)], 3009, true),
+    (&[("x:///", 1), ("a", 1023)], 1028, true),
+    (&[("http://", 1), ("ö", 400), ("@h/", 1)], 2410, false),
+];
 
 #[test]
 fn just_short_enough(rt: HostRuntime) -> Result<(), Fail> {
-    let alloc = rt.alloc();
-    reads(
-        &rt,
-        alloc,
-        &[("http://", 1), ("a", 1024), ("/", 1)],
-        1032,
-        true,
-    )?;
-    let query = reads(&rt, alloc, &[("http://h?", 1), ("a", 1100)], 1109, true)?;
-    assert_eq!(rt; query.host.as_deref(), Some("h"));
-    assert!(rt; query.path.as_bytes().starts_with(b"?aaa"));
-    reads(&rt, alloc, &[("a", 1024), ("://h/p", 1)], 1030, true)?;
-    reads(
-        &rt,
-        alloc,
-        &[("file://", 1), ("a", 3000), ("/p", 1)],
-        3009,
-        true,
-    )?;
-    let deep = reads(&rt, alloc, &[("x:///", 1), ("a", 1023)], 1028, true)?;
-    assert_eq!(rt; deep.host.is_none(), true);
-    // The text is longer than what was read, and too long to be read again.
-    reads(
-        &rt,
-        alloc,
-        &[("http://", 1), ("ö", 400), ("@h/", 1)],
-        2410,
-        false,
-    )?;
+    for &(pieces, length, settled) in READ.as_slice() {
+        let text = joined(rt.alloc(), pieces)?;
+        let url = Url::from_text(rt.alloc(), text.as_str())?;
+        assert_eq!(rt; url.text_len(), Ok(length));
+        assert_eq!(rt; url.is_settled(), settled, "{length}");
+    }
+    Ok(())
+}
+
+#[test]
+fn a_long_query(rt: HostRuntime) -> Result<(), Fail> {
+    let text = joined(rt.alloc(), &[("http://h?", 1), ("a", 1100)])?;
+    let url = Url::from_text(rt.alloc(), text.as_str())?;
+    assert_eq!(rt; url.host.as_deref(), Some("h"));
+    assert!(rt; url.path.as_bytes().starts_with(b"?aaa"));
+    Ok(())
+}
+
+#[test]
+fn a_long_path_without_a_host(rt: HostRuntime) -> Result<(), Fail> {
+    let text = joined(rt.alloc(), &[("x:///", 1), ("a", 1023)])?;
+    let url = Url::from_text(rt.alloc(), text.as_str())?;
+    assert!(rt; url.host.is_none());
     Ok(())
 }
 
@@ -73,16 +64,23 @@ fn is_settled_with(alloc: Global, host: &str, path: &str) -> Result<bool, Fail> 
     Ok(url.is_settled())
 }
 
-#[test]
-fn the_written_text_is_measured(rt: HostRuntime) -> Result<(), Fail> {
-    let alloc = rt.alloc();
-    let longest = joined(alloc, &[("a", 1024)])?;
-    let longer = joined(alloc, &[("a", 1025)])?;
+/// Checks whether locations with a host of so many bytes are settled.
+fn are_settled(rt: &impl Abort, alloc: Global, length: usize, settled: bool) -> Result<(), Fail> {
+    let host = joined(alloc, &[("a", length)])?;
     for path in ["/", "/b", "?b"] {
-        assert!(rt; is_settled_with(alloc, longest.as_str(), path)?);
-        assert!(rt; !is_settled_with(alloc, longer.as_str(), path)?);
+        assert_eq!(rt;
+            is_settled_with(alloc, host.as_str(), path)?,
+            settled,
+            "{path}"
+        );
     }
     Ok(())
+}
+
+#[test]
+fn the_written_text_is_measured(rt: HostRuntime) -> Result<(), Fail> {
+    are_settled(&rt, rt.alloc(), 1024, true)?;
+    are_settled(&rt, rt.alloc(), 1025, false)
 }
 
 /// Texts in pieces, and the error.

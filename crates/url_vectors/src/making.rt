@@ -1,6 +1,8 @@
 //! What is made of parts.
 
-use crate::values::Parts;
+use crate::edges::Parts;
+use std::alloc::Global;
+use std::process::Abort;
 use std::test::Fail;
 use told::{made, told_answer};
 
@@ -93,25 +95,27 @@ static MADE: [(Parts, &str); 18] = [
     (("File", None, None, None, None, "", true), "EmptyLocal"),
 ];
 
+/// Checks what is made of parts.
+fn is_made(rt: &impl Abort, alloc: Global, parts: &Parts, want: &str) -> Result<(), Fail> {
+    let &(scheme, user, password, host, port, path, flag) = parts;
+    let answer = made(
+        alloc,
+        scheme,
+        user,
+        password,
+        host,
+        port,
+        path.as_bytes(),
+        flag,
+    )?;
+    assert_eq!(rt; told_answer(alloc, answer)?.as_str(), want);
+    Ok(())
+}
+
 #[test]
 fn what_is_made_of_parts(rt: HostRuntime) -> Result<(), Fail> {
-    let alloc = rt.alloc();
-    for &((scheme, user, password, host, port, path, flag), want) in MADE.as_slice() {
-        let answer = made(
-            alloc,
-            scheme,
-            user,
-            password,
-            host,
-            port,
-            path.as_bytes(),
-            flag,
-        )?;
-        assert_eq!(rt;
-            told_answer(alloc, answer)?.as_str(),
-            want,
-            "{scheme} {path}"
-        );
+    for (parts, want) in MADE.as_slice() {
+        is_made(&rt, rt.alloc(), parts, want)?;
     }
     Ok(())
 }

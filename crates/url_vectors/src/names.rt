@@ -2,6 +2,8 @@
 
 use gix_url::Scheme;
 use gix_url::ipv6::is_ipv6;
+use std::alloc::Global;
+use std::process::Abort;
 use std::test::Fail;
 
 /// Texts that are addresses.
@@ -45,6 +47,10 @@ fn addresses(rt: HostRuntime) {
     for &text in ADDRESSES.as_slice() {
         assert!(rt; is_ipv6(text), "{text}");
     }
+}
+
+#[test]
+fn texts_that_are_no_addresses(rt: HostRuntime) {
     for &text in NO_ADDRESSES.as_slice() {
         assert!(rt; !is_ipv6(text), "{text}");
     }
@@ -65,19 +71,26 @@ static SCHEMES: [(&str, &str, Option<u16>); 11] = [
     ("", "", None),
 ];
 
+/// Checks the text of a scheme, and how it is shown.
+fn is_named(rt: &impl Abort, alloc: Global, scheme: &Scheme, name: &str) -> Result<(), Fail> {
+    assert_eq!(rt; scheme.as_str(), name);
+    assert_eq!(rt; scheme.to_string(alloc)?.as_str(), name);
+    Ok(())
+}
+
+/// Checks the port of the scheme that a text names, and whether the scheme has a variant of its own.
+fn is_told(rt: &impl Abort, scheme: &Scheme, text: &str, port: Option<u16>) {
+    let other = matches!(scheme, Scheme::HelperUrl(_));
+    assert_eq!(rt; scheme.default_port(), port, "{text}");
+    assert_eq!(rt; other, !known(text), "{text}");
+}
+
 #[test]
 fn schemes(rt: HostRuntime) -> Result<(), Fail> {
-    let alloc = rt.alloc();
     for &(text, name, port) in SCHEMES.as_slice() {
-        let scheme = Scheme::from_text(alloc, text)?;
-        assert_eq!(rt; scheme.as_str(), name);
-        assert_eq!(rt; scheme.to_string(alloc)?.as_str(), name);
-        assert_eq!(rt; scheme.default_port(), port, "{text}");
-        assert_eq!(rt;
-            matches!(scheme, Scheme::HelperUrl(_)),
-            !known(text),
-            "{text}"
-        );
+        let scheme = Scheme::from_text(rt.alloc(), text)?;
+        is_named(&rt, rt.alloc(), &scheme, name)?;
+        is_told(&rt, &scheme, text, port);
     }
     Ok(())
 }

@@ -187,17 +187,23 @@ fn the_earlier_check_names_its_flaw(rt: HostRuntime) -> Result<(), Fail> {
     refuse_all(&rt, rt.alloc(), ORDER.as_slice())
 }
 
+/// Bytes that are no text.
+static NO_TEXT: [(&[u8], &str); 9] = [
+    (b"http://h/\xff", "NotUtf8 Url"),
+    (b"1x:// \xff/", "NotUtf8 Url"),
+    (b"file://\xff/p", "NotUtf8 Url"),
+    (b"file://\xff", "NotUtf8 Url"),
+    (b"h:\xff", "NotUtf8 Scp"),
+    (b"\xff:", "NotUtf8 Scp"),
+    (b"a b:\xff", "NotUtf8 Scp"),
+    (b"user@[::1]:\xff", "NotUtf8 Scp"),
+    (b"\xff@[::1]:", "NotUtf8 Scp"),
+];
+
 #[test]
 fn bytes_that_are_no_text(rt: HostRuntime) -> Result<(), Fail> {
-    let alloc = rt.alloc();
-    refuses(&rt, alloc, b"http://h/\xff", "NotUtf8 Url")?;
-    refuses(&rt, alloc, b"1x:// \xff/", "NotUtf8 Url")?;
-    refuses(&rt, alloc, b"file://\xff/p", "NotUtf8 Url")?;
-    refuses(&rt, alloc, b"file://\xff", "NotUtf8 Url")?;
-    refuses(&rt, alloc, b"h:\xff", "NotUtf8 Scp")?;
-    refuses(&rt, alloc, b"\xff:", "NotUtf8 Scp")?;
-    refuses(&rt, alloc, b"a b:\xff", "NotUtf8 Scp")?;
-    refuses(&rt, alloc, b"user@[::1]:\xff", "NotUtf8 Scp")?;
-    refuses(&rt, alloc, b"\xff@[::1]:", "NotUtf8 Scp")?;
+    for &(bytes, error) in NO_TEXT.as_slice() {
+        refuses(&rt, rt.alloc(), bytes, error)?;
+    }
     Ok(())
 }

@@ -125,16 +125,28 @@ fn a_megabyte_a_byte_a_call(rt: HostRuntime) -> Result<(), Fail> {
     answers_slashes(&rt, rt.alloc(), &mut Trickle { left: count }, count)
 }
 
+/// A run whose reader, or whose writer, failed.
+fn failed(reads: bool) -> RunError {
+    let error = io::Error::from(ErrorKind::Other);
+    if reads {
+        RunError::Read(error)
+    } else {
+        RunError::Write(error)
+    }
+}
+
 #[test]
 fn faults_of_a_run(rt: HostRuntime) {
-    let read = RunError::Read(io::Error::from(ErrorKind::Other));
-    let write = RunError::Write(io::Error::from(ErrorKind::Other));
     assert_eq!(rt; fault_line(&RunError::Memory), "locations: out of memory");
-    assert_eq!(rt; fault_line(&read), "locations: cannot read");
-    assert_eq!(rt; fault_line(&write), "locations: cannot write");
+    assert_eq!(rt; fault_line(&failed(true)), "locations: cannot read");
+    assert_eq!(rt; fault_line(&failed(false)), "locations: cannot write");
+}
+
+#[test]
+fn the_status_of_a_run(rt: HostRuntime) {
     assert_eq!(rt; status(&Ok(true)), 0);
     assert_eq!(rt; status(&Ok(false)), 1);
     assert_eq!(rt; status(&Err(RunError::Memory)), 2);
-    assert_eq!(rt; status(&Err(read)), 2);
-    assert_eq!(rt; status(&Err(write)), 2);
+    assert_eq!(rt; status(&Err(failed(true))), 2);
+    assert_eq!(rt; status(&Err(failed(false))), 2);
 }
