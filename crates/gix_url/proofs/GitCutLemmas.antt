@@ -21,6 +21,7 @@ no_host_mark t free (front, rest, e) =
     let there : FreeOf left_bracket (front ++ (host_mark ++ rest)) = subst (λ x. FreeOf left_bracket x) e free in
     false≢true (sym (free_parts left_bracket front (host_mark ++ rest) there).1)
 
+-- so no host is in brackets
 pub lacks_brackets : (t : List ℕ) → FreeOf left_bracket t → LacksHostBrackets t
 lacks_brackets t free = LacksHostBrackets.unopened (no_host_mark t free) (free_begins left_bracket t free)
 
@@ -40,6 +41,7 @@ place_cut c t place rest free first e = record {
 
 -- ---- escapes
 
+-- no escape begins with another byte than `%`
 no_git_escape : (b high low : ℕ) → (b == percent_sign) ≡ false → is_git_escape b high low ≡ false
 no_git_escape b high low other = rw other refl
 
@@ -59,24 +61,29 @@ digits_colon : (x y : List ℕ) → list_all is_ascii_digit (x ++ colon ∷ y) �
 digits_colon [] y = refl
 digits_colon (b ∷ x) y = and_right (is_ascii_digit b) _ (digits_colon x y)
 
+-- so it is none without a sign
 digits_port_colon : (x y : List ℕ) → digits_port (x ++ colon ∷ y) ≡ None
 digits_port_colon [] y = refl
 digits_port_colon (b ∷ x) y = cond-false _ _ _ (and_left _ _ (digits_colon (b ∷ x) y))
 
+-- nor with one, whichever it is
 signed_by : (plus minus : Bool) (b : ℕ) (bs : List ℕ) → digits_port bs ≡ None → digits_port (b ∷ bs) ≡ None → (if plus then digits_port bs else (if minus then negative_port (digits_port bs) else digits_port (b ∷ bs))) ≡ None
 signed_by true minus b bs behind whole = behind
 signed_by false true b bs behind whole = ap negative_port behind
 signed_by false false b bs behind whole = whole
 
+-- nor with a sign
 signed_port_colon : (x y : List ℕ) → signed_port (x ++ colon ∷ y) ≡ None
 signed_port_colon [] y = refl
 signed_port_colon (b ∷ x) y =
     signed_by (b == plus_sign) (b == hyphen) b (x ++ colon ∷ y) (digits_port_colon x y) (digits_port_colon (b ∷ x) y)
 
+-- nor behind white space
 spaced_by : (space : Bool) (b : ℕ) (bs : List ℕ) → git_port bs ≡ None → signed_port (b ∷ bs) ≡ None → (if space then git_port bs else signed_port (b ∷ bs)) ≡ None
 spaced_by true b bs behind whole = behind
 spaced_by false b bs behind whole = whole
 
+-- so it is none for C's `strtol`
 git_port_colon : (x y : List ℕ) → git_port (x ++ colon ∷ y) ≡ None
 git_port_colon [] y = refl
 git_port_colon (b ∷ x) y = spaced_by (is_c_space b) b (x ++ colon ∷ y) (git_port_colon x y) (signed_port_colon (b ∷ x) y)
@@ -85,9 +92,11 @@ git_port_colon (b ∷ x) y = spaced_by (is_c_space b) b (x ++ colon ∷ y) (git_
 digit_begins : (b : ℕ) → is_ascii_digit b ≡ true → (is_c_space b ≡ false) × ((b == plus_sign) ≡ false) × ((b == hyphen) ≡ false)
 digit_begins b digit = (grind (arith, nat_tests), grind (arith, nat_tests), grind (arith, nat_tests))
 
+-- a number that is small enough passes the test
 small_value : (n : ℕ) → n ≤ 65535 → nat_le n 65535 ≡ true
 small_value n small = grind (arith, nat_tests)
 
+-- digits whose value is small enough are read as it
 git_port_digits : (t : List ℕ) → 0 < length t → list_all is_ascii_digit t ≡ true → digits_value 10 t ≤ 65535 → git_port t ≡ Some (digits_value 10 t)
 git_port_digits [] some digits small = absurd (omega arith)
 git_port_digits (b ∷ bs) some digits small =
@@ -123,6 +132,7 @@ some_behind : (p q : List ℕ) → 0 < length (p ++ colon ∷ q)
 some_behind [] q = omega arith
 some_behind (b ∷ p) q = omega arith
 
+-- a word with a colon behind its first one names no port
 portless_cut : (word host other p q : List ℕ) → FreeOf colon host → word ≡ host ++ colon ∷ other → other ≡ p ++ colon ∷ q → IsPortless word
 portless_cut word host other p q free e behind =
     let none : git_port other ≡ None = ap git_port behind ∙ git_port_colon p q in
@@ -131,6 +141,7 @@ portless_cut word host other p q free e behind =
       secure = SecurePort.unmarked host other refl free e none refl refl;
     }
 
+-- nor does a front with such a host
 pub portless_coloned : (front host : List ℕ) → FreeOf colon front → HoldsTwoColons host → IsPortless (front ++ host)
 portless_coloned front host free (x, y, z, e) =
     elim (free_or_cut colon host) [

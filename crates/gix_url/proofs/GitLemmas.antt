@@ -30,6 +30,7 @@ file_url_reads : (path rest : List ℕ) → path ≡ slash ∷ rest → IsUncont
 file_url_reads path rest e plain =
     ReadsGiven.file_url path [] rest (own_url file (codes "file") path refl plain.percent) (place_cut slash path [] rest plain.left refl e) (ap on_this_machine e)
 
+-- a settled file URL without a host
 file_url_alike : (v : Location) → v.scheme ≡ file → AgreesWithGit v → v.host ≡ None → IsSettledFile v → IsReadAlike v
 file_url_alike v e a none h =
     let (rest, rooted) = begins_cut slash v.path h.rooted in
@@ -43,6 +44,7 @@ unshaped : (t front rest : List ℕ) → IsUncontested t → IsNeither t → ¬ 
 unshaped t front rest plain neither no_scp first e free =
     no_scp (inl (front, rest, record { joined = e; neither = neither; no_slash = free; shape = ScpFront.plain first (inr plain.right) }))
 
+-- so it has no colon, or a `/` before it
 local_text : (t : List ℕ) → IsUncontested t → IsNeither t → ¬ IsScpShaped t → IsLocal t
 local_text t plain neither no_scp =
     elim (free_or_cut colon t) [
@@ -64,6 +66,7 @@ local_no_url t plain neither no_scp = record {
   no_rsync = λ rest e. unshaped t (codes "rsync") rest plain neither no_scp refl e refl;
 }
 
+-- a settled local path
 local_alike : (v : Location) → v.scheme ≡ file → AgreesWithGit v → IsSettledLocal v → IsReadAlike v
 local_alike v e a h =
     let (t, has, lacks) = a.plain in
@@ -100,6 +103,7 @@ user_free : (c : ℕ) (user : Option (List ℕ)) → FreeOf c (at_sign ∷ []) �
 user_free c None mark free = refl
 user_free c (Some u) mark free = free-append c u (at_sign ∷ []) free mark
 
+-- these are its pieces, where the host goes without brackets
 scp_pieces : (v : Location) (host : List ℕ) → IsSettledScp v → v.host ≡ Some host → raw_host (Some host) ≡ host → IsScpName host → FreeOf colon host → IsNeither (raw_user v.user ++ (raw_host (Some host) ++ colon ∷ v.path)) → text v ≡ Ok (raw_user v.user ++ (raw_host (Some host) ++ colon ∷ v.path)) → IsScpText v host
 scp_pieces v host h there same name free neither has =
     let joined = ap (λ x. raw_user v.user ++ (x ++ colon ∷ v.path)) same ∙ sym (append_assoc (raw_user v.user) host (colon ∷ v.path)) in record {
@@ -112,6 +116,7 @@ scp_pieces v host h there same name free neither has =
       written = has ∙ ap Ok joined;
     }
 
+-- and it goes without them where the text has none
 scp_text : (v : Location) (host : List ℕ) → v.scheme ≡ ssh → IsValue v → AgreesWithGit v → IsSettledScp v → v.host ≡ Some host → IsScpName host ⊎ IsNormalAddress host → ¬ LooksLikeHelper v host → IsScpText v host
 scp_text v host e is a h there kind other =
     let whole = raw_user v.user ++ (raw_host (Some host) ++ colon ∷ v.path) in
@@ -134,6 +139,7 @@ rsync_word None host e = (refl, e)
 rsync_word (Some u) host e =
     absurd (not_free at_sign u host (subst (λ t. FreeOf at_sign t) (sym (sym (append_assoc u (at_sign ∷ []) host) ∙ e)) refl))
 
+-- so the text is neither a URL nor for a remote helper nor for `rsync`
 scp_no_url : (v : Location) (host : List ℕ) → IsSettledScp v → IsScpText v host → ¬ IsRsync v → IsNoUrl (word_of v.user host ++ colon ∷ v.path)
 scp_no_url v host h t other = record {
   no_mark = t.neither.no_mark;
@@ -146,6 +152,7 @@ scp_no_url v host h t other = record {
       other record { scp = h.flagged; no_user = none; host = t.there ∙ ap Some same };
 }
 
+-- Git reads in it what the location holds
 scp_reads : (v : Location) (host : List ℕ) → IsSettledScp v → (t : IsScpText v host) → AgreesWithGit v → is_tilde_second v.path ≡ false → ¬ IsRsync v → FreeOf left_bracket (word_of v.user host ++ colon ∷ v.path) → ReadsGiven (word_of v.user host ++ colon ∷ v.path) (secure_reading v.user (Some host) None v.path)
 scp_reads v host h t a second other free =
     let word = word_of v.user host in
@@ -161,6 +168,7 @@ word_option None (b ∷ host) path some first second = second
 word_option (Some []) host path some first second = refl
 word_option (Some (b ∷ u)) host path some first second = first
 
+-- a settled location in the scp form
 scp_alike : (v : Location) → v.scheme ≡ ssh → IsValue v → AgreesWithGit v → (is_tilde_second v.path ≡ false) × ¬ IsRsync v → IsSettledScp v → IsReadAlike v
 scp_alike v e is a suits h =
     let (host, there, kind, other) = h.host in
@@ -172,6 +180,7 @@ scp_alike v e is a suits h =
 
 -- ---- all kinds
 
+-- by protocol
 alike_by : (p : Protocol) (v : Location) → v.scheme ≡ p → IsValue v → AgreesWithGit v → SuitsTransport p v → IsSettledBy p v → IsReadAlike v
 alike_by file v e is a suits (inl h) = local_alike v e a h
 alike_by file v e is a suits (inr h) = file_url_alike v e a suits h

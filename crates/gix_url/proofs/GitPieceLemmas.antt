@@ -56,6 +56,7 @@ pub record IsUserRaw (user : Option (List ℕ)) : Type 0 where
   pub no_colon : FreeOf colon (raw_user user)
   pub no_slash : FreeOf slash (raw_user user)
 
+-- it does where no `%` is written
 pub user_raw : (user : Option (List ℕ)) → FreeOf percent_sign (user_information user None) → IsUserRaw user
 user_raw None free = record { written = refl; no_colon = refl; no_slash = refl }
 user_raw (Some u) free =
@@ -86,6 +87,7 @@ encoded_raw v host set unmarked at_in slash_in line_in e free =
       no_line = kept_free set host newline plain (encode_free set host newline line_in refl);
     }
 
+-- it does where neither `%` nor `[` is written
 pub host_raw : (v : Location) (host : List ℕ) → keeps_host v.scheme ≡ false → FreeOf percent_sign (canonical_host v host) → FreeOf left_bracket (canonical_host v host) → IsHostRaw v host
 host_raw v host escapes free unbracketed = ⊎_elim
     (λ marked. absurd (false≢true (sym (subst (λ t. FreeOf left_bracket t) (cond-true _ _ _ marked) unbracketed))))
@@ -103,9 +105,11 @@ unwanted_by false bracket front unwanted = refl
 unwanted_by true false front unwanted = unwanted
 unwanted_by true true front unwanted = absurd (true≢false front)
 
+-- so it is with a host that has no bracket at its front
 pub unwanted_free : (host : List ℕ) → FreeOf left_bracket host → wants_brackets host ≡ false → FreeOf colon host
 unwanted_free host free unwanted = unwanted_by (has_colon host) (begins_with left_bracket host) (free_begins left_bracket host free) unwanted
 
+-- what fails beside `true` fails
 only_first : (wanted : Bool) → (wanted && true) ≡ false → wanted ≡ false
 only_first false h = refl
 only_first true h = h
@@ -161,9 +165,11 @@ homeless_second : (rest : List ℕ) → begins_at_home (slash ∷ rest) ≡ fals
 homeless_second [] other = refl
 homeless_second (b ∷ rest) other = other
 
+-- what begins with `~` doesn't begin with `/`
 unrooted_tilde : (path rest : List ℕ) → path ≡ tilde ∷ rest → begins_with slash path ≡ false
 unrooted_tilde path rest e = ap (begins_with slash) e
 
+-- it does where the path is written as it is
 path_raw_by : (v : Location) → roots_path v.scheme ≡ true → matching_or v.spelling v.path (plain_path v.scheme v.path) ≡ v.path → IsTransportPath v → IsPathRaw v
 path_raw_by v roots same (inl (rooted, homeless)) =
     let (rest, e) = begins_cut slash v.path rooted in
@@ -187,10 +193,12 @@ record HasPlainPaths (p : Protocol) : Type 0 where
   roots : roots_path p ≡ true
   plain : (path : List ℕ) → plain_path p path ≡ path
 
+-- the one and the other
 plain_paths : (v : Location) → (v.scheme ≡ ssh) ⊎ (v.scheme ≡ git) → HasPlainPaths v.scheme
 plain_paths v (inl e) = subst HasPlainPaths (sym e) record { roots = refl; plain = λ path. refl }
 plain_paths v (inr e) = subst HasPlainPaths (sym e) record { roots = refl; plain = λ path. refl }
 
+-- it does where no `%` is written
 pub path_raw : (v : Location) → (v.scheme ≡ ssh) ⊎ (v.scheme ≡ git) → HasFairSpelling v → IsTransportPath v → FreeOf percent_sign (canonical_path v) → IsPathRaw v
 path_raw v transport fair path free =
     let facts = plain_paths v transport in

@@ -23,12 +23,14 @@ use Rattle.gix_url.proofs.GitPieceLemmas.{IsHostRaw, IsPathRaw, IsUserRaw, besid
 
 -- ---- texts without contested bytes
 
+-- the text has no byte by which Git cuts it otherwise
 pub record IsUncontested (t : List ℕ) : Type 0 where
   pub zero_free : FreeOf 0 t
   pub percent : FreeOf percent_sign t
   pub left : FreeOf left_bracket t
   pub right : FreeOf right_bracket t
 
+-- what lacks them all is free of each
 uncontested : (t : List ℕ) → Lacks is_contested t → IsUncontested t
 uncontested t h = record {
   zero_free = free_of_lacked is_contested 0 t h refl;
@@ -75,6 +77,7 @@ word_split (Some u) host free = UserCut.with_user u free (append_assoc u (at_sig
 nonempty_kept : (t : List ℕ) → 0 < length t → unless_empty t ≡ Some t
 nonempty_kept t some = some_kept t (λ e. absurd (omega (arith, ap length e, some)))
 
+-- it is reached where user and host are one word
 pub secure_reached : (user : Option (List ℕ)) (host : List ℕ) (port : Option ℕ) (place path : List ℕ) → HostAndPort place (word_of user host) port → SecurePort (word_of user host) port (word_of user host) port → FreeOf at_sign host → 0 < length host → IfSome user (λ u. is_option_like u ≡ false) → is_option_like host ≡ false → is_option_like path ≡ false → ReachesSecure place path (secure_reading user (Some host) port path)
 secure_reached user host port place path cut secure free some user_safe host_safe path_safe = record {
   named = word_of user host;
@@ -130,6 +133,7 @@ authority_given : (v : Location) (host : List ℕ) → v.host ≡ Some host → 
 authority_given v host there none =
     ap (λ o. user_information v.user o ++ (host_part v v.host ++ port_part v.port)) none ∙ ap (λ o. user_information v.user None ++ (host_part v o ++ port_part v.port)) there
 
+-- and as they are where they are written so
 authority_raw : (v : Location) (host : List ℕ) → HasHostGiven v host → IsUserRaw v.user → IsHostRaw v host → authority_text v ≡ word_of v.user host ++ port_part v.port
 authority_raw v host h user hosted =
     authority_given v host h.there h.no_password
@@ -143,6 +147,7 @@ record HasFreePieces (c : ℕ) (v : Location) (host : List ℕ) : Type 0 where
   hosted : FreeOf c (canonical_host v host)
   path : FreeOf c (canonical_path v)
 
+-- it is free of what the whole is free of
 free_pieces : (c : ℕ) (v : Location) (host : List ℕ) → v.host ≡ Some host → v.password ≡ None → FreeOf c (authority_text v ++ canonical_path v) → HasFreePieces c v host
 free_pieces c v host there none free =
     let both = free_parts c (authority_text v) (canonical_path v) free in
@@ -150,6 +155,7 @@ free_pieces c v host there none free =
     let behind = free_parts c (user_information v.user None) (canonical_host v host ++ port_part v.port) front in
     record { user = behind.0; hosted = (free_parts c (canonical_host v host) (port_part v.port) behind.1).0; path = both.1 }
 
+-- this is the text, where it has no contested byte
 transport_text : (v : Location) (host : List ℕ) → HasHostGiven v host → IsUncontested (authority_text v ++ canonical_path v) → IsTransportText v host
 transport_text v host h plain =
     let whole = free_pieces percent_sign v host h.there h.no_password plain.percent in
@@ -178,6 +184,7 @@ place_free v host small user hosted =
 place_open : (v : Location) (host : List ℕ) → (t : IsTransportText v host) → FreeOf left_bracket (word_of v.user host ++ port_part v.port)
 place_open v host t = (free_parts left_bracket (word_of v.user host ++ port_part v.port) (slash ∷ t.pathed.rest) t.plain.left).0
 
+-- nor in the host
 host_open : (v : Location) (host : List ℕ) → (t : IsTransportText v host) → FreeOf left_bracket host
 host_open v host t = (free_parts left_bracket (raw_user v.user) host (free_parts left_bracket (word_of v.user host) (port_part v.port) (place_open v host t)).0).1
 
@@ -224,6 +231,7 @@ coloned_nonempty : (x y : List ℕ) → 0 < length (x ++ colon ∷ y)
 coloned_nonempty [] y = omega arith
 coloned_nonempty (b ∷ x) y = omega arith
 
+-- nor is any settled host of Secure Shell
 bare_nonempty : (host : List ℕ) → IsBareHost host → 0 < length host
 bare_nonempty host (inl name) = name.unbracketed.nonempty
 bare_nonempty host (inr address) =
@@ -235,6 +243,7 @@ bare_portless : (front host : List ℕ) → FreeOf colon front → IsBareHost ho
 bare_portless front host free (inl name) = portless_free (front ++ host) (free-append colon front host free name.unbracketed.no_colon)
 bare_portless front host free (inr address) = portless_coloned front host free (address_two_colons host address.address)
 
+-- Git reads in the text what the location holds
 secure_url_reads : (v : Location) (host : List ℕ) → IsValue v → (t : IsTransportText v host) → IsBareHost host → HasNoOption v → v.host ≡ Some host → ReadsGiven (codes "ssh://" ++ ((word_of v.user host ++ port_part v.port) ++ slash ∷ t.pathed.rest)) (secure_reading v.user (Some host) v.port v.path)
 secure_url_reads v host is t kind safe there =
     let place = word_of v.user host ++ port_part v.port in
@@ -270,10 +279,12 @@ open_name host free (inr (address, normal, e)) = absurd (false≢true (sym (subs
 raw_lines : (v : Location) → IsRawPath v → IsUtf8 v.path → ¬ HasMatch v → FreeOf newline v.path
 raw_lines v raw is_text none = no_line v.path is_text (raw none).1
 
+-- without a user the place has no end of a line
 git_place_line : (v : Location) (host : List ℕ) → IfSome v.port (λ p. p < 65536) → v.user ≡ None → IsHostRaw v host → FreeOf newline (word_of v.user host ++ port_part v.port)
 git_place_line v host small none hosted =
     subst (λ o. FreeOf newline (word_of o host ++ port_part v.port)) (sym none) (free-append newline host (port_part v.port) hosted.no_line (port_free newline v.port refl refl small))
 
+-- Git reads in the text what the location holds
 git_url_reads : (v : Location) (host : List ℕ) → IsValue v → (t : IsTransportText v host) → IsBracketedHost host → v.user ≡ None → FreeOf newline v.path → ReadsGiven (codes "git://" ++ ((word_of v.user host ++ port_part v.port) ++ slash ∷ t.pathed.rest)) (git_reading None (Some host) v.port v.path)
 git_url_reads v host is t kind none path_line =
     let place = word_of v.user host ++ port_part v.port in

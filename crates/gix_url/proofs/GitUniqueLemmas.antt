@@ -25,6 +25,7 @@ mark_no_overlap b [] x y h e = different_bytes 91 64 refl (tails e)
 mark_no_overlap b (c ∷ bs) x y h e =
     h ([], bs, ap (λ z. z ∷ c ∷ bs) (sym (heads e)) ∙ ap (λ z. 64 ∷ z ∷ bs) (sym (heads (tails e))))
 
+-- the pieces around the first mark
 mark_unique : (a b x y : List ℕ) → ¬ Holds host_mark a → ¬ Holds host_mark b → a ++ (host_mark ++ x) ≡ b ++ (host_mark ++ y) → (a ≡ b) × (x ≡ y)
 mark_unique [] [] x y f g e = (refl, tails (tails e))
 mark_unique [] (d ∷ b) x y f g e = absurd (mark_no_overlap d b x y g e)
@@ -55,12 +56,14 @@ opened_not_lacked : (t front rest : List ℕ) → OpensHost t front rest → ¬ 
 opened_not_lacked t front rest (OpensHost.behind_at user none is e) lacks begins = lacks (user, rest, e)
 opened_not_lacked t front rest (OpensHost.at_front none is e) lacks begins = both_ways _ begins (ap (begins_with left_bracket) e)
 
+-- so it is with brackets that are closed
 brackets_not_lacked : (t front inside behind : List ℕ) → InBrackets t front inside behind → LacksHostBrackets t → ⊥
 brackets_not_lacked t front inside behind h (LacksHostBrackets.unopened none begins) = opened_not_lacked t front (inside ++ right_bracket ∷ behind) h.opened none begins
 brackets_not_lacked t front inside behind h (LacksHostBrackets.unclosed other rest opened free) =
     let same = opens_unique t front (inside ++ right_bracket ∷ behind) other rest h.opened opened in
     not_free right_bracket inside behind (subst (λ s. FreeOf right_bracket s) (sym same.1) free)
 
+-- one front is passed over
 host_end_unique : (t passed rest other more : List ℕ) → HostEnd t passed rest → HostEnd t other more → (passed ≡ other) × (rest ≡ more)
 host_end_unique t passed rest other more (HostEnd.brackets f i b h p r) (HostEnd.brackets f' i' b' h' p' r') =
     let same = brackets_unique t f i b f' i' b' h h' in
@@ -69,6 +72,7 @@ host_end_unique t passed rest other more (HostEnd.brackets f i b h p r) (HostEnd
 host_end_unique t passed rest other more (HostEnd.none lacks p r) (HostEnd.brackets f i b h p' r') = absurd (brackets_not_lacked t f i b h lacks)
 host_end_unique t passed rest other more (HostEnd.none lacks p r) (HostEnd.none lacks' p' r') = (p ∙ sym p', r ∙ sym r')
 
+-- so the text is cut at one place
 pub place_unique : (c : ℕ) (t place rest other more : List ℕ) → CutsPlace c t place rest → CutsPlace c t other more → (place ≡ other) × (rest ≡ more)
 place_unique c t place rest other more h k =
     let ends = host_end_unique t h.passed (h.between ++ c ∷ rest) k.passed (k.between ++ c ∷ more) h.end k.end in
@@ -100,13 +104,16 @@ record ComesOfNone (t front : List ℕ) (port : Option ℕ) : Type 0 where
   free : FreeOf colon t
   value : both front port ≡ both t None
 
+-- what is no port leaves the text as it is
 unmarked_outcome : (t front behind : List ℕ) → 0 < length behind → outcome t front behind None ≡ both t None
 unmarked_outcome t front [] some = absurd (omega arith)
 unmarked_outcome t front (b ∷ bs) some = refl
 
+-- equal texts and equal ports
 pair : (a b : List ℕ) (p q : Option ℕ) → a ≡ b → p ≡ q → both a p ≡ both b q
 pair a b p q e f = λ i. (e i, f i)
 
+-- one or the other comes of a text
 before_comes : (t front : List ℕ) (port : Option ℕ) → BeforePort t front port → ComesOfCut t front port ⊎ ComesOfNone t front port
 before_comes t front port (BeforePort.marked digits number first e is p) = inl record {
   before = front;
@@ -125,6 +132,7 @@ before_comes t front port (BeforePort.unmarked host other first e some is whole 
 }
 before_comes t front port (BeforePort.no_colon free whole p) = inr record { free = free; value = pair front t port None whole p }
 
+-- and one outcome
 comes_unique : (t front other : List ℕ) (port number : Option ℕ) → ComesOfCut t front port ⊎ ComesOfNone t front port → ComesOfCut t other number ⊎ ComesOfNone t other number → both front port ≡ both other number
 comes_unique t front other port number (inl h) (inl k) =
     let same = cut_unique colon h.before k.before h.behind k.behind h.first k.first (sym h.joined ∙ k.joined) in
@@ -133,11 +141,13 @@ comes_unique t front other port number (inl h) (inr k) = absurd (not_free colon 
 comes_unique t front other port number (inr h) (inl k) = absurd (not_free colon k.before k.behind (subst (λ s. FreeOf colon s) k.joined h.free))
 comes_unique t front other port number (inr h) (inr k) = h.value ∙ sym k.value
 
+-- so one port stands behind one front
 before_unique : (t front other : List ℕ) (port number : Option ℕ) → BeforePort t front port → BeforePort t other number → (front ≡ other) × (port ≡ number)
 before_unique t front other port number h k =
     let same = comes_unique t front other port number (before_comes t front port h) (before_comes t other number k) in
     (ap (λ p. p.0) same, ap (λ p. p.1) same)
 
+-- a place has one host and one port
 host_unique : (place host other : List ℕ) (port number : Option ℕ) → HostAndPort place host port → HostAndPort place other number → (host ≡ other) × (port ≡ number)
 host_unique place host other port number (HostAndPort.brackets f i b d h is p) (HostAndPort.brackets f' i' b' d' h' is' p') =
     let same = brackets_unique place f i b f' i' b' h h' in
@@ -153,12 +163,14 @@ abbrev secure_outcome : List ℕ → List ℕ → Option ℕ → List ℕ × Opt
 secure_outcome named front (Some number) = (front, Some number)
 secure_outcome named front None = (named, None)
 
+-- what comes of what was in brackets
 data SecureComes (named : List ℕ) (found : Option ℕ) (word : List ℕ) (port : Option ℕ) : Type 0 where
   of_found : (number : ℕ) → found ≡ Some number → both word port ≡ both named found → SecureComes named found word port
   of_cut : (front digits : List ℕ) → found ≡ None → FreeOf colon front → named ≡ front ++ colon ∷ digits
       → both word port ≡ secure_outcome named front (git_port digits) → SecureComes named found word port
   of_none : found ≡ None → FreeOf colon named → both word port ≡ both named None → SecureComes named found word port
 
+-- this comes of it
 secure_comes : (named : List ℕ) (found : Option ℕ) (word : List ℕ) (port : Option ℕ) → SecurePort named found word port → SecureComes named found word port
 secure_comes named found word port (SecurePort.behind n is w p) = SecureComes.of_found n is (pair word named port found w p)
 secure_comes named found word port (SecurePort.inside d n none first e is p) =
@@ -167,9 +179,11 @@ secure_comes named found word port (SecurePort.unmarked h o none first e is w p)
     SecureComes.of_cut h o none first e (pair word named port None w p ∙ ap (secure_outcome named h) (sym is))
 secure_comes named found word port (SecurePort.no_colon none free w p) = SecureComes.of_none none free (pair word named port None w p)
 
+-- what was found is there
 found_not_none : {A : Type 0} (found : Option ℕ) (n : ℕ) → found ≡ Some n → found ≡ None → A
 found_not_none found n is none = absurd (none-some n (sym none ∙ is))
 
+-- one outcome comes of it
 secure_same : (named : List ℕ) (found : Option ℕ) (word other : List ℕ) (port number : Option ℕ) → SecureComes named found word port → SecureComes named found other number → both word port ≡ both other number
 secure_same named found word other port number (SecureComes.of_found n is e) (SecureComes.of_found n' is' e') = e ∙ sym e'
 secure_same named found word other port number (SecureComes.of_found n is e) (SecureComes.of_cut f d none first cut e') = found_not_none found n is none
@@ -183,6 +197,7 @@ secure_same named found word other port number (SecureComes.of_none none free e)
 secure_same named found word other port number (SecureComes.of_none none free e) (SecureComes.of_cut f d none' first cut e') = absurd (not_free colon f d (subst (λ s. FreeOf colon s) cut free))
 secure_same named found word other port number (SecureComes.of_none none free e) (SecureComes.of_none none' free' e') = e ∙ sym e'
 
+-- so there is one word, and one port
 secure_unique : (named : List ℕ) (found : Option ℕ) (word other : List ℕ) (port number : Option ℕ) → SecurePort named found word port → SecurePort named found other number → (word ≡ other) × (port ≡ number)
 secure_unique named found word other port number h k =
     let same = secure_same named found word other port number (secure_comes named found word port h) (secure_comes named found other number k) in
@@ -198,18 +213,23 @@ user_unique word host other user name (UserCut.with_user u free e some) (UserCut
 
 -- ---- transports
 
+-- what is reached by Secure Shell, by its parts
 abbrev secure_of : List ℕ → Option (List ℕ) → List ℕ → Option ℕ → GitReading
 secure_of whole name place number = record { protocol = ssh; user = name; host = unless_empty place; port = number; path = whole }
 
+-- equal parts make equal readings
 same_secure : (path : List ℕ) (user name : Option (List ℕ)) (host other : List ℕ) (port number : Option ℕ) → user ≡ name → host ≡ other → port ≡ number → secure_of path user host port ≡ secure_of path name other number
 same_secure path user name host other port number e f g = λ i. secure_of path (e i) (f i) (g i)
 
+-- what is reached by Git's own protocol, by its parts
 abbrev git_of : List ℕ → List ℕ → Option ℕ → GitReading
 git_of whole place number = record { protocol = git; user = None; host = unless_empty place; port = number; path = whole }
 
+-- equal parts make equal readings
 same_git : (path host other : List ℕ) (port number : Option ℕ) → host ≡ other → port ≡ number → git_of path host port ≡ git_of path other number
 same_git path host other port number f g = λ i. git_of path (f i) (g i)
 
+-- Secure Shell reaches one place
 secure_reading_unique : (place path : List ℕ) (reading other : GitReading) → ReachesSecure place path reading → ReachesSecure place path other → reading ≡ other
 secure_reading_unique place path reading other h k =
     let hosts = host_unique place h.named k.named h.found k.found h.cut k.cut in
@@ -218,6 +238,7 @@ secure_reading_unique place path reading other h k =
     let users = user_unique k.word h.host k.host h.user k.user (subst (λ w. UserCut w h.user h.host) words.0 h.split) k.split in
     h.value ∙ same_secure path h.user k.user h.host k.host h.port k.port users.0 users.1 words.1 ∙ sym k.value
 
+-- so does Git's own protocol
 git_reading_unique : (place path : List ℕ) (reading other : GitReading) → ReachesGit place path reading → ReachesGit place path other → reading ≡ other
 git_reading_unique place path reading other h k =
     let hosts = host_unique place h.host k.host h.port k.port h.cut k.cut in
@@ -268,6 +289,7 @@ not_both_first [] y (b ∷ p) q f g e = both_ways (b == colon) (free_head_tail c
 not_both_first (a ∷ x) y [] q f g e = both_ways (a == slash) (free_head_tail slash a x f).0 (eq-eqb a slash (heads e))
 not_both_first (a ∷ x) y (b ∷ p) q f g e = not_both_first x y p q (free_head_tail slash a x f).1 (free_head_tail colon b p g).1 (tails e)
 
+-- no text is both the scp form and a local path
 pub remote_not_local : {A : Type 0} (t : List ℕ) → IsRemote t → IsLocal t → A
 remote_not_local t h (inl free) = absurd (not_free colon h.front h.rest (subst (λ s. FreeOf colon s) h.joined free))
 remote_not_local t h (inr (p, q, free, e)) = absurd (not_both_first h.front h.rest p q h.no_slash free (sym h.joined ∙ e))
@@ -282,10 +304,12 @@ url_cut_unique p t rest other place name path more own h k c d =
 apart : {A : Type 0} (p q : Protocol) (t rest other : List ℕ) → is_own p ≡ true → is_own q ≡ true → ¬ (p ≡ q) → OwnUrl p t rest → OwnUrl q t other → A
 apart p q t rest other first second differ h k = absurd (differ (own_unique p q t rest other first second h k).0)
 
+-- equal places and paths are reached alike by Secure Shell
 secure_paths : (place name path more : List ℕ) (reading other : GitReading) → place ≡ name → path ≡ more → ReachesSecure place path reading → ReachesSecure name more other → reading ≡ other
 secure_paths place name path more reading other e f h k =
     secure_reading_unique name more reading other (subst (λ p. ReachesSecure name p reading) f (subst (λ n. ReachesSecure n path reading) e h)) k
 
+-- and by Git's own protocol
 git_paths : (place name path more : List ℕ) (reading other : GitReading) → place ≡ name → path ≡ more → ReachesGit place path reading → ReachesGit name more other → reading ≡ other
 git_paths place name path more reading other e f h k =
     git_reading_unique name more reading other (subst (λ p. ReachesGit name p reading) f (subst (λ n. ReachesGit n path reading) e h)) k

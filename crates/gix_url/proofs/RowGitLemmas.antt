@@ -69,18 +69,21 @@ enclosed place front inside behind dropped found h port = HostAndPort.brackets f
 
 -- ---- URLs
 
+-- a password belongs to the user, and the port to the host
 password_row : GitReads (codes "ssh://u:p@h:22/p") (by_ssh (Some (codes "u:p")) (Some (codes "h:22")) None (codes "/p"))
 password_row =
     let place = codes "u:p@h:22" in
     let word = reached place (codes "/p") place place (codes "h:22") None None (Some (codes "u:p")) (HostAndPort.none (lacks_brackets place refl) (BeforePort.unmarked (codes "u") (codes "p@h:22") refl refl (lit< tt) refl refl refl)) (SecurePort.unmarked (codes "u") (codes "p@h:22") refl refl refl refl refl refl) (UserCut.with_user (codes "u:p") refl refl refl) refl refl in
     record { whole = refl; no_option = refl; reads = ReadsGiven.secure_url (codes "u:p@h:22/p") place (codes "p") (url ssh (codes "ssh") (codes "u:p@h:22/p") (codes "u:p@h:22/p") refl refl) (place_cut slash (codes "u:p@h:22/p") place (codes "p") refl refl refl) word }
 
+-- white space, a sign and zeros before a port
 port_row : GitReads (codes "ssh://h: +022/p") (by_ssh None (Some (codes "h")) (Some 22) (codes "/p"))
 port_row =
     let place = codes "h: +022" in
     let word = reached place (codes "/p") (codes "h") (codes "h") (codes "h") (Some 22) (Some 22) None (HostAndPort.none (lacks_brackets place refl) (BeforePort.marked (codes " +022") 22 refl refl refl refl)) (SecurePort.behind 22 refl refl refl) (UserCut.host_alone refl refl refl) refl refl in
     record { whole = refl; no_option = refl; reads = ReadsGiven.secure_url (codes "h: +022/p") place (codes "p") (url ssh (codes "ssh") (codes "h: +022/p") (codes "h: +022/p") refl refl) (place_cut slash (codes "h: +022/p") place (codes "p") refl refl refl) word }
 
+-- a bracket in the path opens the host
 path_bracket_row : GitReads (codes "ssh://h/@[x]/p") (by_ssh (Some (codes "h/")) (Some (codes "x")) None (codes "/p"))
 path_bracket_row =
     let place = codes "h/@[x]" in
@@ -89,6 +92,7 @@ path_bracket_row =
     let word = reached place (codes "/p") (codes "h/@x") (codes "h/@x") (codes "x") None None (Some (codes "h/")) (enclosed place (codes "h/@") (codes "x") [] [] None inner (BeforePort.no_colon refl refl refl)) (SecurePort.no_colon refl refl refl refl) (UserCut.with_user (codes "h/") refl refl refl) refl refl in
     record { whole = refl; no_option = refl; reads = ReadsGiven.secure_url (codes "h/@[x]/p") place (codes "p") (url ssh (codes "ssh") (codes "h/@[x]/p") (codes "h/@[x]/p") refl refl) (bracket_cut slash (codes "h/@[x]/p") (codes "h/@") (codes "x") [] (codes "p") opened refl refl) word }
 
+-- a port in brackets
 inner_port_row : GitReads (codes "ssh://[h:22]/p") (by_ssh None (Some (codes "h")) (Some 22) (codes "/p"))
 inner_port_row =
     let place = codes "[h:22]" in
@@ -97,6 +101,7 @@ inner_port_row =
     let word = reached place (codes "/p") (codes "h:22") (codes "h") (codes "h") None (Some 22) None (enclosed place [] (codes "h:22") [] [] None inner (BeforePort.no_colon refl refl refl)) (SecurePort.inside (codes "22") 22 refl refl refl refl refl) (UserCut.host_alone refl refl refl) refl refl in
     record { whole = refl; no_option = refl; reads = ReadsGiven.secure_url (codes "[h:22]/p") place (codes "p") (url ssh (codes "ssh") (codes "[h:22]/p") (codes "[h:22]/p") refl refl) (bracket_cut slash (codes "[h:22]/p") [] (codes "h:22") [] (codes "p") opened refl refl) word }
 
+-- what stands behind a bracket is dropped
 behind_bracket_row : GitReads (codes "ssh://[x]u@h/p") (by_ssh None (Some (codes "x")) None (codes "/p"))
 behind_bracket_row =
     let place = codes "[x]u@h" in
@@ -105,6 +110,7 @@ behind_bracket_row =
     let word = reached place (codes "/p") (codes "x") (codes "x") (codes "x") None None None (enclosed place [] (codes "x") (codes "u@h") (codes "u@h") None inner (BeforePort.no_colon refl refl refl)) (SecurePort.no_colon refl refl refl refl) (UserCut.host_alone refl refl refl) refl refl in
     record { whole = refl; no_option = refl; reads = ReadsGiven.secure_url (codes "[x]u@h/p") place (codes "p") (url ssh (codes "ssh") (codes "[x]u@h/p") (codes "[x]u@h/p") refl refl) (bracket_cut slash (codes "[x]u@h/p") [] (codes "x") (codes "u@h") (codes "p") opened refl refl) word }
 
+-- no host, and a home folder
 no_host_row : GitReads (codes "ssh:///~") (by_ssh None None None (codes "~"))
 no_host_row = record {
   whole = refl;
@@ -127,6 +133,7 @@ git_row spelled rest place path host port decoded unbracketed free cut inside be
   };
 }
 
+-- the host of a file URL is passed over
 file_row : GitReads (codes "file://h/p") (on_this_machine (codes "/p"))
 file_row = record {
   whole = refl;
@@ -134,6 +141,7 @@ file_row = record {
   reads = ReadsGiven.file_url (codes "h/p") (codes "h") (codes "p") (url file (codes "file") (codes "h/p") (codes "h/p") refl refl) (place_cut slash (codes "h/p") (codes "h") (codes "p") refl refl refl) refl;
 }
 
+-- URLs
 pub git_url_rows : GitUrlRows
 git_url_rows = (
   password_row,
@@ -175,6 +183,7 @@ user_bracket_row =
     let word = reached place (codes "p") (codes "u@h") (codes "u@h") (codes "h") None None (Some (codes "u")) (enclosed place [] (codes "u@h") [] [] None (at_front (codes "u@h") [] (not_held host_mark place refl) refl) (BeforePort.no_colon refl refl refl)) (SecurePort.no_colon refl refl refl refl) (UserCut.with_user (codes "u") refl refl refl) refl refl in
     record { whole = refl; no_option = refl; reads = ReadsGiven.scp_form place (codes "p") (no_url (codes "[u@h]:p") place (codes "p") refl refl (not_held (codes "://") (codes "[u@h]:p") refl) refl (λ e. cc) (λ e. different_bytes 91 114 refl e)) record { front = place; rest = codes "p"; joined = refl; no_slash = refl } (bracket_cut colon (codes "[u@h]:p") [] (codes "u@h") [] (codes "p") (at_front (codes "u@h") (codes ":p") none refl) refl refl) word }
 
+-- brackets behind a colon
 behind_colon_row : GitReads (codes "u:p@[h]:q") (by_ssh (Some (codes "u:p")) (Some (codes "h")) None (codes "q"))
 behind_colon_row =
     let place = codes "u:p@[h]" in
@@ -182,6 +191,7 @@ behind_colon_row =
     let word = reached place (codes "q") (codes "u:p@h") (codes "u:p@h") (codes "h") None None (Some (codes "u:p")) (enclosed place (codes "u:p@") (codes "h") [] [] None (behind_at (codes "u:p") (codes "h") [] none refl) (BeforePort.no_colon refl refl refl)) (SecurePort.unmarked (codes "u") (codes "p@h") refl refl refl refl refl refl) (UserCut.with_user (codes "u:p") refl refl refl) refl refl in
     record { whole = refl; no_option = refl; reads = ReadsGiven.scp_form place (codes "q") (no_url (codes "u:p@[h]:q") (codes "u") (codes "p@[h]:q") refl refl (not_held (codes "://") (codes "u:p@[h]:q") refl) refl (λ e. cc) (λ e. different_bytes 117 114 refl e)) record { front = codes "u"; rest = codes "p@[h]:q"; joined = refl; no_slash = refl } (bracket_cut colon (codes "u:p@[h]:q") (codes "u:p@") (codes "h") [] (codes "q") (behind_at (codes "u:p") (codes "h") (codes ":q") none refl) refl refl) word }
 
+-- a byte before `~` is lost
 tilde_row : GitReads (codes "h:a~u/p") (by_ssh None (Some (codes "h")) None (codes "~u/p"))
 tilde_row = record {
   whole = refl;
@@ -189,6 +199,7 @@ tilde_row = record {
   reads = ReadsGiven.scp_form (codes "h") (codes "a~u/p") (no_url (codes "h:a~u/p") (codes "h") (codes "a~u/p") refl refl (not_held (codes "://") (codes "h:a~u/p") refl) refl (λ e. cc) (λ e. different_bytes 104 114 refl e)) record { front = codes "h"; rest = codes "a~u/p"; joined = refl; no_slash = refl } (place_cut colon (codes "h:a~u/p") (codes "h") (codes "a~u/p") refl refl refl) (plain_word (codes "h") (codes "h") (codes "~u/p") None refl refl (UserCut.host_alone refl refl refl) refl refl);
 }
 
+-- a local path with brackets
 local_bracket_row : GitReads (codes "/srv/a@[b]/c") (on_this_machine (codes "]/c"))
 local_bracket_row = record {
   whole = refl;
@@ -196,6 +207,7 @@ local_bracket_row = record {
   reads = ReadsGiven.local_path (codes "/srv/a@[b") (codes "]/c") (no_url_free (codes "/srv/a@[b]/c") refl) (inl refl) (HostEnd.brackets (codes "/srv/a@") (codes "b") (codes "/c") (behind_at (codes "/srv/a") (codes "b") (codes "/c") (not_held host_mark (codes "/srv/a") refl) refl) refl refl) (lit< tt) refl refl;
 }
 
+-- a local path with a colon
 local_row : GitReads (codes "./a:b") (on_this_machine (codes "./a:b"))
 local_row = record {
   whole = refl;
@@ -203,6 +215,7 @@ local_row = record {
   reads = ReadsGiven.local_path [] (codes "./a:b") (no_url (codes "./a:b") (codes "./a") (codes "b") refl refl (not_held (codes "://") (codes "./a:b") refl) refl (λ e. cc) (λ e. different_bytes 46 114 refl e)) (inr (codes ".", codes "a:b", refl, refl)) (nothing_passed (codes "./a:b") refl) (lit< tt) refl refl;
 }
 
+-- other texts
 pub git_text_rows : GitTextRows
 git_text_rows = (user_bracket_row, behind_colon_row, tilde_row, local_bracket_row, local_row)
 
@@ -226,6 +239,7 @@ no_own p rest own h =
     let same = (cut_unique colon h.scheme (codes "http") (slash ∷ slash ∷ h.spelled) (codes "//h/p") (own_free p h.scheme h.own own) refl (sym h.joined)).0 in
     absurd (false≢true (ap (λ s. is_own (protocol_of s)) (sym same) ∙ ap is_own h.own ∙ own))
 
+-- nor is it another text that Git reads itself
 web_row : (reading : GitReading) → ReadsGiven (codes "http://h/p") reading → ⊥
 web_row r (ReadsGiven.secure_url x place path u c h) = no_own ssh x refl u
 web_row r (ReadsGiven.git_url x place path u c h) = no_own git x refl u
@@ -244,6 +258,7 @@ dash_row r (ReadsGiven.scp_form place path n m c h) =
 dash_row r (ReadsGiven.local_path p path n l e some safe is) =
     remote_not_local (codes "u@h:-p") record { front = codes "u@h"; rest = codes "-p"; joined = refl; no_slash = refl } l
 
+-- texts without a reading
 pub no_git_rows : NoGitRows
 no_git_rows = (
   λ reading h. true≢false h.no_option,

@@ -5,6 +5,8 @@ ghost use Rattle.bstr.specs.BStr.{bstr_bytes};
 ghost use Rattle.bstr.specs.Owned.{bstring_bytes};
 ghost use Rattle.gix_url.specs.declared.error.Error.TheVariants as error;
 ghost use Rattle.gix_url.specs.Arguments.{is_option_like};
+ghost use Rattle.gix_url.specs.Git.{GitReads};
+ghost use Rattle.gix_url.specs.GitClass.{own_reading};
 ghost use Rattle.gix_url.specs.Grammar.{Spells};
 ghost use Rattle.gix_url.specs.Readings.{IsAgain, Refuses};
 ghost use Rattle.gix_url.specs.Settled.{IsSettled};
@@ -13,7 +15,7 @@ ghost use Rattle.gix_url.specs.Value.{Location, fields};
 ghost use Rattle.gix_url.specs.Value.Protocol.{ssh};
 
 use bstr::{BStr, BString};
-use gix_url::laws::{law_separation, law_value};
+use gix_url::laws::{law_git, law_separation, law_value};
 use gix_url::{Error, Scheme, Url};
 use std::alloc::Global;
 use std::test::Fail;
@@ -89,6 +91,19 @@ fn read_back(alloc: Global, url: &Url) -> Result<Option<Url>, Error>
     Ok(Some(back))
 }
 
+/// The text of a location for Git, if Git reads in it the location's own protocol, user, host, port and path.
+fn text_for_git(alloc: Global, url: &Url) -> Result<Option<BString>, Error>
+    ensures { IfOk result (λ new. IfSome new (λ t. GitReads (bstring_bytes t) (own_reading url.now))) }
+{
+    if !url.agrees_with_git() {
+        return Ok(None);
+    }
+    law_value(url);
+    law_git();
+    let written = url.to_bstring(alloc)?;
+    Ok(Some(written))
+}
+
 #[test]
 fn hosts_that_come_back(rt: HostRuntime) -> Result<(), Fail> {
     let named = host_of(rt.alloc(), "ssh://git@example.com/gitoxide")?;
@@ -123,6 +138,21 @@ fn remotes_by_their_texts(rt: HostRuntime) -> Result<(), Fail> {
     assert!(rt; !are_alike(alloc, &one, &port)?);
     let unsettled = Url::from_text(alloc, "[host]::path")?;
     assert!(rt; !are_alike(alloc, &unsettled, &unsettled)?);
+    Ok(())
+}
+
+#[test]
+fn texts_for_git(rt: HostRuntime) -> Result<(), Fail> {
+    let alloc = rt.alloc();
+    let url = Url::from_text(alloc, "ssh+git://u@H:022/p")?;
+    match text_for_git(alloc, &url)? {
+        Some(text) => assert_eq!(rt; text.as_bytes(), b"ssh://u@h:22/p".as_slice()),
+        None => assert!(rt; false, "Git reads it alike"),
+    }
+    for text in ["ssh://u:p@h/p", "git://u@h/p", "https://h/p"] {
+        let url = Url::from_text(alloc, text)?;
+        assert!(rt; text_for_git(alloc, &url)?.is_none(), "{text}");
+    }
     Ok(())
 }
 
