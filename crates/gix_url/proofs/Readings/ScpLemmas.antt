@@ -1,5 +1,5 @@
 -- The scp form: its colons, the piece that its host is read from, and what is refused.
-use Rattle.std.proofs.Common.{◌≡◌, ℕ, false, ◌==◌, ◌⊎◌, inl, inr, List, [], ◌∷◌, ◌++◌, length, Option, Some, None, refl, sym, ap, subst, ◌∙◌, arith, append_assoc, eq-eqb, IsUtf8, IfSome, option_map, Bor}
+use Rattle.std.proofs.Common.{◌≡◌, ℕ, false, ◌==◌, ◌⊎◌, inl, inr, List, [], ◌∷◌, ◌++◌, length, Option, Some, None, true, refl, sym, ap, subst, ◌∙◌, arith, append_assoc, eq-eqb, IsUtf8, IfSome, option_map, Bor}
 use Rattle.std.proofs.lemmas.Bool.{both_ways, cases_Bool}
 use Rattle.std.proofs.lemmas.Option.{same_Some}
 use Rattle.std.specs.Char.{is_ascii_digit}
@@ -9,7 +9,7 @@ use Rattle.gix_url.specs.declared.parse.scp.HostRefusal.{HostRefusal}
 use Rattle.gix_url.specs.declared.parse.scp.HostRefusal.TheVariants as refusal
 use Rattle.gix_url.specs.Value.{Location}
 use Rattle.gix_url.specs.Bytes.{percent_sign, colon, at_sign, left_bracket, backslash, right_bracket, FreeOf, LacksWhiteSpace}
-use Rattle.gix_url.specs.Escapes.{escaped_percents}
+use Rattle.gix_url.specs.Escapes.{escaped_percents, is_plain}
 use Rattle.gix_url.specs.Hosts.{IsDigits, Names}
 use Rattle.gix_url.specs.Hosts.Mode.{bare}
 use Rattle.gix_url.specs.Shapes.{PlainScp}
@@ -20,6 +20,7 @@ use Rattle.gix_url.specs.Flaws.{NameFlaw, ScpHostFlaw}
 use Rattle.gix_url.specs.ScpPieces.{ColonsInside, NamesNoPort, NamesHost, PieceFlaw, RefusesPiece, RefusesHost, RefusesScp}
 use Rattle.gix_url.proofs.Texts.CutLemmas.{heads, tails, not_free, free_parts, free_head_tail, free_of_all}
 use Rattle.gix_url.proofs.Texts.EscapeLemmas.{lacks_escaped_percents, escaped_percents-append, utf8_parts}
+use Rattle.gix_url.proofs.Texts.PlainLemmas.{plain_parts}
 use Rattle.gix_url.proofs.Readings.HostLemmas.{names_unique}
 use Rattle.gix_url.proofs.Readings.ShapeLemmas.{same_front}
 use Rattle.gix_url.proofs.Readings.FormLemmas.{address_cut, address_front_free}
@@ -188,6 +189,15 @@ front_utf8 b front path h text = (utf8_parts front path colon (subst IsUtf8 h.jo
 pub scp_host_utf8 : (b front path : List ℕ) (user : Option (List ℕ)) (host : List ℕ) → ScpShape b front path → IsUtf8 b → ScpUser front user host → IsUtf8 host
 scp_host_utf8 b front path user host h text (host_alone e _) = subst IsUtf8 e (front_utf8 b front path h text)
 scp_host_utf8 b front path user host h text (with_user u e _) = (utf8_parts u host at_sign (subst IsUtf8 e (front_utf8 b front path h text)) (omega arith)).1
+
+-- and plain where the text is
+pub scp_host_plain : (b front path : List ℕ) (user : Option (List ℕ)) (host : List ℕ) → ScpShape b front path → is_plain b ≡ true → ScpUser front user host → is_plain host ≡ true
+scp_host_plain b front path user host h all split =
+    let whole = (plain_parts front (colon ∷ path) (subst (λ t. is_plain t ≡ true) h.joined all)).0 in
+    elim split [
+      | host_alone e _ ↦ subst (λ t. is_plain t ≡ true) e whole
+      | with_user u e _ ↦ (plain_parts u (at_sign ∷ host) (subst (λ t. is_plain t ≡ true) e whole)).1
+    ]
 
 -- and its user
 pub scp_user_utf8 : (b front path : List ℕ) (user : Option (Bor (List ℕ))) (host : List ℕ) → ScpShape b front path → IsUtf8 b → ScpUser front (option_map (λ u. u.now) user) host → IfSome user (λ u. IsUtf8 u.now)

@@ -3,8 +3,7 @@
 //! It may use `bytes`, `text`, `copies` and `made`. Its contract: each form is read exactly where the definitions
 //! spell it, and each refusal has its flaw.
 
-ghost use Rattle.std.specs.Prelude.{◌≡◌, true, IfErr, IfOk, codes, option_map, string_bytes};
-ghost use Rattle.bstr.specs.Owned.{bstring_bytes};
+ghost use Rattle.std.specs.Prelude.{◌≡◌, true, IfErr, IfOk, codes};
 ghost use Rattle.gix_url.specs.Bytes.{is_helper_name};
 ghost use Rattle.gix_url.specs.Flaws.{Flaw, UrlShape};
 ghost use Rattle.gix_url.specs.Grammar.{HelperCut, SpellsFile, SpellsHelper, SpellsLocal, helper_protocol};

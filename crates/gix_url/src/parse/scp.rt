@@ -4,7 +4,7 @@
 //! the definitions spell one, and each refusal has its flaw. An escape in the host is no escape: the host is read
 //! with each `%` escaped, so that it decodes to what stands there.
 
-ghost use Rattle.std.specs.Prelude.{◌≡◌, ◌↔◌, IfErr, IfOk, IfSome, IsTrue, IsUtf8, option_map, string_bytes};
+ghost use Rattle.std.specs.Prelude.{◌≡◌, ◌↔◌, IfErr, IfOk, IfSome, IsTrue, IsUtf8, option_map, string_bytes, true};
 ghost use Rattle.gix_url.specs.Bytes.{FreeOf, LacksWhiteSpace, at_sign};
 ghost use Rattle.gix_url.specs.Escapes as spec;
 ghost use Rattle.gix_url.specs.Flaws.{Flaw};
@@ -40,17 +40,26 @@ pub(super) fn read_scp(alloc: Global, input: &[u8], front: &[u8], path: &[u8]) -
     ensures refused { IfErr result (λ e. NoneBut (SpellsScpBefore input.now) e) }
     ensures flaw { IfErr result (λ e. Flaw input.now e) }
 {
-    if !is_text(input) {
+    let plain = is_plain(input);
+    if !is_utf8(plain, input) {
         return Err(not_utf8(alloc, UrlKind::Scp, input));
     }
     if path.is_empty() {
         return Err(missing_path(alloc, UrlKind::Scp, input));
     }
     let (user, host) = cut_front_user(front);
-    match read_scp_host(alloc, host) {
+    match read_scp_host(alloc, plain, host) {
         Ok(host) => Ok(scp_location(alloc, user, host, path)?),
         Err(refusal) => Err(host_error(alloc, refusal, input)),
     }
+}
+
+/// Whether the text is UTF-8, as a plain one is.
+fn is_utf8(plain: bool, text: &[u8]) -> bool
+    requires { plain ≡ true → spec.is_plain text.now ≡ true }
+    ensures { IsTrue result ↔ IsUtf8 text.now }
+{
+    plain || str::from_utf8(text).is_ok()
 }
 
 /// The error of a text whose host was refused.
@@ -127,15 +136,16 @@ fn cut_front_user(front: &[u8]) -> (Option<&[u8]>, &[u8])
     }
 }
 
-/// The host of the scp form.
-fn read_scp_host(alloc: Global, host: &[u8]) -> Result<String, HostRefusal>
+/// The host of the scp form. What is known to be plain isn't looked at again for white space.
+fn read_scp_host(alloc: Global, plain: bool, host: &[u8]) -> Result<String, HostRefusal>
+    requires plain { plain ≡ true → spec.is_plain host.now ≡ true }
     requires text { IsUtf8 host.now }
     requires no_at { FreeOf at_sign host.now }
     requires colons { ColonsInside host.now }
     ensures found { IfOk result (λ meant. ScpHost host.now (string_bytes meant)) }
     ensures refused { IfErr result (λ refusal. RefusesHost host.now refusal) }
 {
-    if !has_no_white_space(host) {
+    if !has_no_white_space(plain, host) {
         return Err(HostRefusal::Fault(UrlFault::BadCharacter));
     }
     if !is_free_of(host, b'\\') {
@@ -150,12 +160,13 @@ fn read_scp_host(alloc: Global, host: &[u8]) -> Result<String, HostRefusal>
     }
 }
 
-/// Whether the text holds no white space.
-fn has_no_white_space(text: &[u8]) -> bool
-    requires { IsUtf8 text.now }
+/// Whether the text holds no white space, as a plain one doesn't.
+fn has_no_white_space(plain: bool, text: &[u8]) -> bool
+    requires plain { plain ≡ true → spec.is_plain text.now ≡ true }
+    requires text { IsUtf8 text.now }
     ensures { IsTrue result ↔ LacksWhiteSpace text.now }
 {
-    is_plain(text) || lacks_white_space(as_text(text))
+    plain || lacks_white_space(as_text(text))
 }
 
 /// The text with each `%` written as its own escape.

@@ -3,7 +3,7 @@
 //! It may use `bytes`, `escape`, `host` and `rules`. Its contract: the parts are read exactly where the definitions
 //! spell a URL with them, and each refusal has its flaw. It takes no memory and copies nothing.
 
-ghost use Rattle.std.specs.Prelude.{◌≡◌, ◌↔◌, Bool, IfErr, IfOk, IsTrue, IsUtf8, MatchOption, true};
+ghost use Rattle.std.specs.Prelude.{◌≡◌, ◌↔◌, IfErr, IfOk, IsTrue, IsUtf8, MatchOption, true};
 ghost use Rattle.percent_encoding.specs.Percent.{percent_decode};
 ghost use Rattle.gix_url.specs.Authority as authority;
 ghost use Rattle.gix_url.specs.Authority.{Fits};
@@ -14,7 +14,7 @@ ghost use Rattle.gix_url.specs.Grammar.{SpellsParts, UrlParts};
 ghost use Rattle.gix_url.specs.HostPieces.{strictness};
 ghost use Rattle.gix_url.specs.SchemeRules.{AreRulesOf};
 ghost use Rattle.gix_url.specs.Bytes.{FreeOf, LacksWhiteSpace, at_sign, colon};
-ghost use Rattle.gix_url.specs.UrlPieces.{CutsRest, HasNoText, HoldsCredentials, HoldsParts, IsNoAuthority, decoded_option, parts_of};
+ghost use Rattle.gix_url.specs.UrlPieces.{HasNoText, HoldsCredentials, HoldsParts, IsNoAuthority, decoded_option, parts_of};
 
 use super::host::{Mode, NamedHost, read_host};
 use super::rules::Rules;

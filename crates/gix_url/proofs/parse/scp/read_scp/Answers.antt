@@ -1,10 +1,10 @@
 -- What is read of the scp form, and what is refused.
-use Rattle.std.proofs.Common.{refl, subst, option_map, string_bytes}
+use Rattle.std.proofs.Common.{refl, sym, subst, ◌∙◌, option_map, string_bytes}
 use Rattle.gix_url.specs.Grammar.{ScpShape, SpellsScpBefore}
 use Rattle.gix_url.specs.Flaws.MissesPath.{in_scp}
 use Rattle.gix_url.proofs.Readings.HostLemmas.{some_tested}
 use Rattle.gix_url.proofs.Readings.ShapeLemmas.{none_but, nil_tested}
-use Rattle.gix_url.proofs.Readings.ScpLemmas.{scp_no_path, scp_refused, scp_host_utf8, scp_user_utf8, colons_inside_front, colons_inside_host}
+use Rattle.gix_url.proofs.Readings.ScpLemmas.{scp_no_path, scp_refused, scp_host_plain, scp_host_utf8, scp_user_utf8, colons_inside_front, colons_inside_host}
 use Rattle.gix_url.proofs.parse.scp.read_scp.Goals as goal
 
 pub missing_path-requires : goal.missing_path-requires
@@ -17,9 +17,13 @@ returns-then-is_empty-clause-refused c =
     (scp_no_path c.args.input.now c.args.front.now (subst (λ p. ScpShape c.args.input.now c.args.front.now p) (nil_tested c.args.path.now c.if-is_empty.ensures) c.requires.shape))
     c.missing_path.result
 
+pub read_scp_host-requires-clause-plain : goal.read_scp_host-requires-clause-plain
+read_scp_host-requires-clause-plain c = λ yes.
+    scp_host_plain c.args.input.now c.args.front.now c.args.path.now _ c.cut_front_user.result.1.now c.requires.shape (sym c.is_plain-plain.ensures ∙ yes) c.cut_front_user.ensures.split
+
 pub read_scp_host-requires-clause-text : goal.read_scp_host-requires-clause-text
 read_scp_host-requires-clause-text c =
-    scp_host_utf8 c.args.input.now c.args.front.now c.args.path.now _ c.cut_front_user.result.1.now c.requires.shape (c.if-not-is_text.ensures.0 refl) c.cut_front_user.ensures.split
+    scp_host_utf8 c.args.input.now c.args.front.now c.args.path.now _ c.cut_front_user.result.1.now c.requires.shape (c.if-not-is_utf8.ensures.0 refl) c.cut_front_user.ensures.split
 
 pub read_scp_host-requires-clause-colons : goal.read_scp_host-requires-clause-colons
 read_scp_host-requires-clause-colons c =
@@ -27,7 +31,7 @@ read_scp_host-requires-clause-colons c =
 
 pub scp_location-requires : goal.scp_location-requires
 scp_location-requires c =
-    scp_user_utf8 c.args.input.now c.args.front.now c.args.path.now c.cut_front_user.result.0 c.cut_front_user.result.1.now c.requires.shape (c.if-not-is_text.ensures.0 refl) c.cut_front_user.ensures.split
+    scp_user_utf8 c.args.input.now c.args.front.now c.args.path.now c.cut_front_user.result.0 c.cut_front_user.result.1.now c.requires.shape (c.if-not-is_utf8.ensures.0 refl) c.cut_front_user.ensures.split
 
 pub host_error-requires : goal.host_error-requires
 host_error-requires c =
@@ -41,7 +45,7 @@ returns-in_ok-scp_location-in-Ok-clause-found c = record {
   host = c.cut_front_user.result.1.now;
   meant = string_bytes c.in-Ok.host;
   shape = c.requires.shape;
-  text = c.if-not-is_text.ensures.0 refl;
+  text = c.if-not-is_utf8.ensures.0 refl;
   pathed = some_tested c.args.path.now c.if-is_empty.ensures;
   split = c.cut_front_user.ensures.split;
   hosted = c.in-Ok.ensures.found;
