@@ -3,6 +3,7 @@
 use gix_url::{ArgumentSafety, Url};
 use std::alloc::Global;
 use std::fmt::Write;
+use std::process::Abort;
 use std::test::Fail;
 
 /// Texts, and what the user, the host and the path of each are to a command line.
@@ -65,13 +66,18 @@ fn hands_out(url: &Url) -> bool {
         && url.host_argument_safe() == usable(url.host_as_argument())
 }
 
+/// Checks what the parts of a location are to a command line.
+fn is_judged(rt: &impl Abort, alloc: Global, url: &Url, parts: &str) -> Result<(), Fail> {
+    assert_eq!(rt; told(alloc, url)?.as_str(), parts);
+    assert!(rt; hands_out(url), "{parts}");
+    Ok(())
+}
+
 #[test]
 fn parts_as_arguments(rt: HostRuntime) -> Result<(), Fail> {
-    let alloc = rt.alloc();
     for &(text, parts) in JUDGED.as_slice() {
-        let url = Url::from_text(alloc, text)?;
-        assert_eq!(rt; told(alloc, &url)?.as_str(), parts, "the parts of {text}");
-        assert!(rt; hands_out(&url), "the parts of {text}");
+        let url = Url::from_text(rt.alloc(), text)?;
+        is_judged(&rt, rt.alloc(), &url, parts)?;
     }
     Ok(())
 }

@@ -64,19 +64,39 @@ fn hash_of<T: Hash>(value: &T) -> u64 {
     state.finish()
 }
 
+/// Checks how two locations compare, by their places in the order.
+fn compare(rt: &impl Abort, one: (usize, &Url), other: (usize, &Url)) {
+    let order = one.0.cmp(&other.0);
+    assert_eq!(rt; one.1.cmp(other.1), order, "{} and {}", one.0, other.0);
+    assert_eq!(rt;
+        one.1.partial_cmp(other.1),
+        Some(order),
+        "{} and {}",
+        one.0,
+        other.0
+    );
+}
+
+/// Checks that two locations are equal, and hashed alike, where their places are the same.
+fn equal(rt: &impl Abort, one: (usize, &Url), other: (usize, &Url)) {
+    let same = one.0 == other.0;
+    assert_eq!(rt; one.1 == other.1, same, "{} and {}", one.0, other.0);
+    assert_eq!(rt;
+        hash_of(one.1) == hash_of(other.1),
+        same,
+        "{} and {}",
+        one.0,
+        other.0
+    );
+}
+
 #[test]
 fn each_pair_by_its_first_difference(rt: HostRuntime) -> Result<(), Fail> {
     let urls = read_all(rt.alloc(), IN_ORDER.as_slice())?;
-    for (i, url) in urls.iter().enumerate() {
-        for (j, other) in urls.iter().enumerate() {
-            assert_eq!(rt; url.cmp(other), i.cmp(&j), "{url} and {other}");
-            assert_eq!(rt;
-                url.partial_cmp(other),
-                Some(i.cmp(&j)),
-                "{url} and {other}"
-            );
-            assert_eq!(rt; url == other, i == j, "{url} and {other}");
-            assert_eq!(rt; hash_of(url) == hash_of(other), i == j, "{url} and {other}");
+    for one in urls.iter().enumerate() {
+        for other in urls.iter().enumerate() {
+            compare(&rt, one, other);
+            equal(&rt, one, other);
         }
     }
     Ok(())
@@ -122,73 +142,110 @@ fn numbered_by_hash<K: Eq + Hash + Drop>(
     Ok(numbers)
 }
 
-#[test]
-fn locations_are_keys(rt: HostRuntime) -> Result<(), Fail> {
-    let alloc = rt.alloc();
-    let by_order = numbered(alloc, read_all(alloc, IN_ORDER.as_slice())?)?;
-    let by_hash = numbered_by_hash(alloc, read_all(alloc, IN_ORDER.as_slice())?)?;
-    for (number, &text) in IN_ORDER.as_slice().iter().enumerate() {
-        let url = Url::from_text(alloc, text)?;
-        assert_eq!(rt; by_order.get(&url).copied(), Some(number), "{text}");
-        assert_eq!(rt; by_hash.get(&url).copied(), Some(number), "{text}");
-    }
-    let other = Url::from_text(alloc, "http://h/%61?")?;
-    assert_eq!(rt; by_order.get(&other).copied(), None);
-    assert_eq!(rt; by_hash.get(&other).copied(), None);
+/// Checks the number of a text's location, if it has one, by order and by hash.
+fn is_numbered(
+    rt: &impl Abort,
+    alloc: Global,
+    by_order: &BTreeMap<Url, usize>,
+    by_hash: &HashMap<Url, usize>,
+    text: &str,
+    number: Option<usize>,
+) -> Result<(), Fail> {
+    let url = Url::from_text(alloc, text)?;
+    assert_eq!(rt; by_order.get(&url).copied(), number, "{text}");
+    assert_eq!(rt; by_hash.get(&url).copied(), number, "{text}");
     Ok(())
 }
 
 #[test]
+fn locations_are_keys(rt: HostRuntime) -> Result<(), Fail> {
+    let by_order = numbered(rt.alloc(), read_all(rt.alloc(), IN_ORDER.as_slice())?)?;
+    let by_hash = numbered_by_hash(rt.alloc(), read_all(rt.alloc(), IN_ORDER.as_slice())?)?;
+    for (number, &text) in IN_ORDER.as_slice().iter().enumerate() {
+        is_numbered(&rt, rt.alloc(), &by_order, &by_hash, text, Some(number))?;
+    }
+    is_numbered(&rt, rt.alloc(), &by_order, &by_hash, "http://h/%61?", None)
+}
+
+/// Checks that a scheme comes before another.
+fn comes_before(rt: &impl Abort, scheme: &Scheme, next: &Scheme) {
+    assert_eq!(rt; scheme.cmp(next), Ordering::Less, "{scheme} and {next}");
+    assert!(rt; scheme < next, "{scheme} and {next}");
+}
+
+#[test]
 fn schemes_by_kind_and_name(rt: HostRuntime) -> Result<(), Fail> {
-    let alloc = rt.alloc();
-    let last_helper = Scheme::Helper(String::from_str(alloc, "z")?);
-    let first_url = Scheme::HelperUrl(String::from_str(alloc, "a")?);
-    assert_eq!(rt; last_helper.cmp(&first_url), Ordering::Less);
-    assert!(rt; last_helper < first_url);
-    assert!(rt; Scheme::Ext < last_helper);
-    assert!(rt; Scheme::File < Scheme::Git);
-    let same = Scheme::Helper(String::from_str(alloc, "z")?);
-    assert!(rt; last_helper == same);
-    assert_eq!(rt; hash_of(&last_helper), hash_of(&same));
-    let ext = Scheme::Helper(String::from_str(alloc, "ext")?);
-    assert!(rt; ext != Scheme::Ext);
-    let shorter = Scheme::HelperUrl(String::new(alloc));
-    assert!(rt; shorter < first_url);
+    let helper = Scheme::Helper(String::from_str(rt.alloc(), "z")?);
+    let nameless = Scheme::HelperUrl(String::new(rt.alloc()));
+    let url = Scheme::HelperUrl(String::from_str(rt.alloc(), "a")?);
+    comes_before(&rt, &Scheme::File, &Scheme::Git);
+    comes_before(&rt, &Scheme::Ext, &helper);
+    comes_before(&rt, &helper, &nameless);
+    comes_before(&rt, &helper, &url);
+    comes_before(&rt, &nameless, &url);
     Ok(())
+}
+
+#[test]
+fn schemes_of_one_kind_and_name(rt: HostRuntime) -> Result<(), Fail> {
+    let helper = Scheme::Helper(String::from_str(rt.alloc(), "ext")?);
+    let same = Scheme::Helper(String::from_str(rt.alloc(), "ext")?);
+    assert!(rt; helper == same);
+    assert_eq!(rt; hash_of(&helper), hash_of(&same));
+    assert!(rt; helper != Scheme::Ext);
+    Ok(())
+}
+
+/// Checks that a copy is equal to the original until it is changed.
+fn changes_alone(rt: &impl Abort, alloc: Global, url: &Url) -> Result<(), Fail> {
+    let mut changed = url.clone(alloc)?;
+    assert!(rt; changed == *url, "{url}");
+    assert_eq!(rt; hash_of(&changed), hash_of(url), "{url}");
+    changed.path = BString::from_slice(alloc, b"another")?;
+    assert!(rt; changed != *url, "{url}");
+    Ok(())
+}
+
+/// A copy of what the text is read as, which is there no more.
+fn copy_of(alloc: Global, text: &str) -> Result<Url, Error> {
+    Url::from_text(alloc, text)?.clone(alloc)
 }
 
 /// Checks that a copy is equal to the original, and that neither notices what becomes of the other.
 fn copies(rt: &impl Abort, alloc: Global, text: &str) -> Result<(), Fail> {
     let url = Url::from_text(alloc, text)?;
-    let kept = url.clone(alloc)?;
-    let mut changed = url.clone(alloc)?;
-    assert!(rt; changed == url, "{text}");
-    assert_eq!(rt; hash_of(&changed), hash_of(&url), "{text}");
-    changed.path = BString::from_slice(alloc, b"another")?;
-    assert!(rt; changed != url, "{text}");
-    drop(url);
-    assert!(rt; kept == Url::from_text(alloc, text)?, "{text}");
+    changes_alone(rt, alloc, &url)?;
+    assert!(rt; copy_of(alloc, text)? == url, "{text}");
     Ok(())
 }
 
 #[test]
 fn copies_stand_alone(rt: HostRuntime) -> Result<(), Fail> {
-    let alloc = rt.alloc();
     for &text in IN_ORDER.as_slice() {
-        copies(&rt, alloc, text)?;
+        copies(&rt, rt.alloc(), text)?;
     }
-    copies(&rt, alloc, "https://user%40name:p%3A%2F@h:8080/a%20b?c#d")
+    copies(
+        &rt,
+        rt.alloc(),
+        "https://user%40name:p%3A%2F@h:8080/a%20b?c#d",
+    )
 }
 
 #[test]
-fn copies_of_schemes_and_of_bytes(rt: HostRuntime) -> Result<(), Fail> {
-    let alloc = rt.alloc();
+fn copies_of_schemes(rt: HostRuntime) -> Result<(), Fail> {
     for &text in IN_ORDER.as_slice() {
-        let url = Url::from_text(alloc, text)?;
-        assert!(rt; url.scheme.clone(alloc)? == url.scheme, "{text}");
+        let url = Url::from_text(rt.alloc(), text)?;
+        let copy = url.scheme.clone(rt.alloc())?;
+        assert!(rt; copy == url.scheme, "{text}");
     }
-    let url = Url::from_bytes(alloc, BStr::new(b"/\xff"))?;
-    assert!(rt; url.clone(alloc)? == url);
+    Ok(())
+}
+
+#[test]
+fn copies_of_bytes(rt: HostRuntime) -> Result<(), Fail> {
+    let url = Url::from_bytes(rt.alloc(), BStr::new(b"/\xff"))?;
+    let copy = url.clone(rt.alloc())?;
+    assert!(rt; copy == url);
     Ok(())
 }
 

@@ -89,18 +89,20 @@ fn no_user(rt: HostRuntime) -> Result<(), Fail> {
     written(&rt, alloc, &url, "settled ssh://example.com/gitoxide")
 }
 
+/// Exchanges the password of a location, and checks the one before.
+fn exchanges(rt: &impl Abort, url: &mut Url, password: Option<String>, before: &str) {
+    let kept = url.set_password(password);
+    is(rt, kept.as_deref(), Some(before));
+}
+
 #[test]
 fn another_password(rt: HostRuntime) -> Result<(), Fail> {
-    let alloc = rt.alloc();
-    let password = "n:w".to_string(alloc)?;
-    let mut url = Url::from_text(alloc, "https://u:old@h:8080/a%20b")?;
-    let before = url.set_password(Some(password));
-    is(&rt, before.as_deref(), Some("old"));
+    let mut url = Url::from_text(rt.alloc(), "https://u:old@h:8080/a%20b")?;
+    exchanges(&rt, &mut url, Some("n:w".to_string(rt.alloc())?), "old");
     is(&rt, url.password(), Some("n:w"));
-    written(&rt, alloc, &url, "settled https://u:n:w@h:8080/a%20b")?;
-    let before = url.set_password(None);
-    is(&rt, before.as_deref(), Some("n:w"));
-    written(&rt, alloc, &url, "settled https://u@h:8080/a%20b")
+    written(&rt, rt.alloc(), &url, "settled https://u:n:w@h:8080/a%20b")?;
+    exchanges(&rt, &mut url, None, "n:w");
+    written(&rt, rt.alloc(), &url, "settled https://u@h:8080/a%20b")
 }
 
 /// Texts, whether the form that is no URL is asked for, and how the location is written then.

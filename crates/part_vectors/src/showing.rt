@@ -106,23 +106,44 @@ fn no_password_is_shown(rt: HostRuntime) -> Result<(), Fail> {
     Ok(())
 }
 
+/// Schemes, and what is shown of a location with a password and the host `h` alone.
+static USERLESS: [(&str, &str); 5] = [
+    ("File", "file://h/p"),
+    ("Git", "git://h/p"),
+    ("Ssh", "ssh://h/p"),
+    ("Http", "http://h/p"),
+    ("HelperUrl x", "x://h/p"),
+];
+
 #[test]
 fn a_password_without_a_user_is_not_shown(rt: HostRuntime) -> Result<(), Fail> {
-    let alloc = rt.alloc();
-    for (scheme, shown) in [
-        ("File", "file://h/p"),
-        ("Git", "git://h/p"),
-        ("Ssh", "ssh://h/p"),
-        ("Http", "http://h/p"),
-        ("HelperUrl x", "x://h/p"),
-    ] {
-        let url = with_password(alloc, scheme, None, Some("h"), b"/p", false, "secret")?;
-        shows(&rt, alloc, &url, shown)?;
+    for &(scheme, shown) in USERLESS.as_slice() {
+        let (host, password) = (Some("h"), "secret");
+        let url = with_password(rt.alloc(), scheme, None, host, b"/p", false, password)?;
+        shows(&rt, rt.alloc(), &url, shown)?;
     }
     Ok(())
 }
 
-/// How many calls it takes to show the location: a formatter that fails at one of them was handed a front of it.
+/// Shows the location to a formatter that fails behind so many calls, and which has to be handed a front of it. Answers
+/// whether the formatter was handed all.
+fn is_shown_whole(
+    rt: &impl Abort,
+    alloc: Global,
+    url: &Url,
+    way: usize,
+    calls: usize,
+    shown: &str,
+) -> bool {
+    let mut out = empty_keeper(alloc, calls);
+    let is_whole = show(&mut out, url, way).is_ok();
+    let kept = out.kept.as_str();
+    assert!(rt; shown.starts_with(kept), "{kept} is no front of {shown}");
+    assert!(rt; !is_whole || kept == shown, "{kept} for {shown}, way {way}");
+    is_whole
+}
+
+/// How many calls it takes to show the location.
 fn calls_taken(
     rt: &impl Abort,
     alloc: Global,
@@ -131,12 +152,7 @@ fn calls_taken(
     shown: &str,
 ) -> Option<usize> {
     for calls in 0..100 {
-        let mut out = empty_keeper(alloc, calls);
-        let outcome = show(&mut out, url, way);
-        let kept = out.kept.as_str();
-        assert!(rt; shown.starts_with(kept), "{kept} is no front of {shown}");
-        if outcome.is_ok() {
-            assert_eq!(rt; kept, shown, "way {way}");
+        if is_shown_whole(rt, alloc, url, way, calls, shown) {
             return Some(calls);
         }
     }
@@ -175,17 +191,21 @@ static TEXTLESS: [(&str, Option<&str>, Option<&str>, &[u8]); 9] = [
     ("HelperUrl x", Some("u"), None, b"/p"),
 ];
 
+/// Checks that nothing is shown of a location in any way to ask.
+fn shows_nothing(rt: &impl Abort, alloc: Global, url: &Url) {
+    for way in 0..WAYS {
+        let mut out = empty_keeper(alloc, 1000);
+        assert!(rt; show(&mut out, url, way).is_err(), "way {way}");
+        assert_eq!(rt; out.kept.as_str(), "", "way {way}");
+    }
+}
+
 #[test]
 fn nothing_is_shown_where_there_is_no_text(rt: HostRuntime) -> Result<(), Fail> {
-    let alloc = rt.alloc();
     for &(scheme, user, host, path) in TEXTLESS.as_slice() {
         for flag in [false, true] {
-            let url = with_password(alloc, scheme, user, host, path, flag, "secret")?;
-            for way in 0..WAYS {
-                let mut out = empty_keeper(alloc, 1000);
-                assert!(rt; show(&mut out, &url, way).is_err(), "{scheme} is shown");
-                assert_eq!(rt; out.kept.as_str(), "", "something of {scheme} is shown");
-            }
+            let url = with_password(rt.alloc(), scheme, user, host, path, flag, "secret")?;
+            shows_nothing(&rt, rt.alloc(), &url);
         }
     }
     Ok(())

@@ -47,46 +47,46 @@ static REFUSED: [(&[u8], &str); 20] = [
     ),
 ];
 
-#[test]
-fn refused_texts_in_words(rt: HostRuntime) -> Result<(), Fail> {
-    let alloc = rt.alloc();
-    for &(bytes, words) in REFUSED.as_slice() {
-        let input = BStr::new(bytes);
-        match parse(alloc, input) {
-            Ok(_) => assert!(rt; false, "{input} is read"),
-            Err(error) => {
-                assert_eq!(rt;
-                    error.to_string(alloc)?.as_str(),
-                    words,
-                    "the words for {input}"
-                )
-            }
-        }
-    }
-    Ok(())
-}
-
-#[test]
-fn what_is_too_long(rt: HostRuntime) -> Result<(), Fail> {
-    let alloc = rt.alloc();
-    let mut text = "http://u:secret@".to_string(alloc)?;
-    for _ in 0..2000 {
-        text.push('h')?;
-    }
-    match Url::from_text(alloc, text.as_str()) {
-        Ok(_) => assert!(rt; false, "a long host is read"),
-        Err(error) => assert_eq!(rt;
-            error.to_string(alloc)?.as_str(),
-            "the scheme or the authority of the URL is longer than 1024 bytes, in a text of 2016 bytes"
-        ),
-    }
-    Ok(())
-}
-
 /// Checks the words of an error.
 fn says(rt: &impl Abort, alloc: Global, error: &Error, words: &str) -> Result<(), Fail> {
     assert_eq!(rt; error.to_string(alloc)?.as_str(), words);
     Ok(())
+}
+
+/// Checks that there is no location, and the words that this is said with.
+fn refuses(
+    rt: &impl Abort,
+    alloc: Global,
+    read: &Result<Url, Error>,
+    words: &str,
+) -> Result<(), Fail> {
+    match read {
+        Ok(url) => assert!(rt; false, "{url} is read"),
+        Err(error) => says(rt, alloc, error, words)?,
+    }
+    Ok(())
+}
+
+#[test]
+fn refused_texts_in_words(rt: HostRuntime) -> Result<(), Fail> {
+    for &(bytes, words) in REFUSED.as_slice() {
+        refuses(&rt, rt.alloc(), &parse(rt.alloc(), BStr::new(bytes)), words)?;
+    }
+    Ok(())
+}
+
+/// The words for a text that is too long.
+static TOO_LONG: &str =
+    "the scheme or the authority of the URL is longer than 1024 bytes, in a text of 2016 bytes";
+
+#[test]
+fn what_is_too_long(rt: HostRuntime) -> Result<(), Fail> {
+    let mut text = "http://u:secret@".to_string(rt.alloc())?;
+    for _ in 0..2000 {
+        text.push('h')?;
+    }
+    let read = Url::from_text(rt.alloc(), text.as_str());
+    refuses(&rt, rt.alloc(), &read, TOO_LONG)
 }
 
 /// Forms in words.
@@ -110,37 +110,73 @@ static FAULTS: [(UrlFault, &str); 4] = [
 /// Texts that an error may keep, none of which changes its words.
 static KEPT: [&[u8]; 4] = [b"", b"http://u:secret@h/\xff", b"{input}", b"h:"];
 
+/// Checks what is said of a form without a path.
+fn lacks_a_path(
+    rt: &impl Abort,
+    alloc: Global,
+    text: &[u8],
+    kind: UrlKind,
+    form: &str,
+) -> Result<(), Fail> {
+    let input = BString::from_slice(alloc, text)?;
+    let words = format!(in alloc; "the {form} has no path")?;
+    says(
+        rt,
+        alloc,
+        &Error::MissingPath { kind, input },
+        words.as_str(),
+    )
+}
+
+/// Checks what is said of a form that is no text.
+fn is_no_text(
+    rt: &impl Abort,
+    alloc: Global,
+    text: &[u8],
+    kind: UrlKind,
+    form: &str,
+) -> Result<(), Fail> {
+    let input = BString::from_slice(alloc, text)?;
+    let words = format!(in alloc; "the {form} is not UTF-8")?;
+    says(rt, alloc, &Error::NotUtf8 { kind, input }, words.as_str())
+}
+
 #[test]
 fn no_text_changes_the_words_of_a_refusal(rt: HostRuntime) -> Result<(), Fail> {
-    let alloc = rt.alloc();
     for &text in KEPT.as_slice() {
         for &(kind, form) in KINDS.as_slice() {
-            let input = BString::from_slice(alloc, text)?;
-            let words = format!(in alloc; "the {form} has no path")?;
-            says(
-                &rt,
-                alloc,
-                &Error::MissingPath { kind, input },
-                words.as_str(),
-            )?;
-            let input = BString::from_slice(alloc, text)?;
-            let words = format!(in alloc; "the {form} is not UTF-8")?;
-            says(&rt, alloc, &Error::NotUtf8 { kind, input }, words.as_str())?;
+            lacks_a_path(&rt, rt.alloc(), text, kind, form)?;
+            is_no_text(&rt, rt.alloc(), text, kind, form)?;
         }
     }
     Ok(())
 }
 
+/// Checks what is said of a form and a fault, by their words.
+fn is_at_fault(
+    rt: &impl Abort,
+    alloc: Global,
+    text: &[u8],
+    form: (UrlKind, &str),
+    fault: (UrlFault, &str),
+) -> Result<(), Fail> {
+    let input = BString::from_slice(alloc, text)?;
+    let words = format!(in alloc; "the {} has {}", form.1, fault.1)?;
+    let (kind, fault) = (form.0, fault.0);
+    says(
+        rt,
+        alloc,
+        &Error::BadUrl { kind, fault, input },
+        words.as_str(),
+    )
+}
+
 #[test]
 fn no_text_changes_the_words_of_a_fault(rt: HostRuntime) -> Result<(), Fail> {
-    let alloc = rt.alloc();
     for &text in KEPT.as_slice() {
-        for &(kind, form) in KINDS.as_slice() {
-            for &(fault, wrong) in FAULTS.as_slice() {
-                let input = BString::from_slice(alloc, text)?;
-                let error = Error::BadUrl { kind, fault, input };
-                let words = format!(in alloc; "the {form} has {wrong}")?;
-                says(&rt, alloc, &error, words.as_str())?;
+        for &form in KINDS.as_slice() {
+            for &fault in FAULTS.as_slice() {
+                is_at_fault(&rt, rt.alloc(), text, form, fault)?;
             }
         }
     }
@@ -148,37 +184,63 @@ fn no_text_changes_the_words_of_a_fault(rt: HostRuntime) -> Result<(), Fail> {
 }
 
 #[test]
-fn no_text_changes_other_words(rt: HostRuntime) -> Result<(), Fail> {
-    let alloc = rt.alloc();
+fn no_text_changes_the_words_for_too_long(rt: HostRuntime) -> Result<(), Fail> {
     for &text in KEPT.as_slice() {
-        let shown = BString::from_slice(alloc, text)?;
-        let words =
-            "the scheme or the authority of the URL is longer than 1024 bytes, in a text of 2016 bytes";
-        says(&rt, alloc, &Error::TooLong { shown, total: 2016 }, words)?;
-        let name = BString::from_slice(alloc, text)?;
-        let words = "the remote helper has no valid name";
-        says(&rt, alloc, &Error::HelperName { name }, words)?;
-        let user = ForUser::Name(BString::from_slice(alloc, text)?);
-        let words = "no home folder is known for the user";
-        says(&rt, alloc, &Error::NoHome(user), words)?;
+        let shown = BString::from_slice(rt.alloc(), text)?;
+        says(
+            &rt,
+            rt.alloc(),
+            &Error::TooLong { shown, total: 2016 },
+            TOO_LONG,
+        )?;
     }
     Ok(())
 }
 
 #[test]
+fn no_text_changes_the_words_of_a_helper(rt: HostRuntime) -> Result<(), Fail> {
+    let words = "the remote helper has no valid name";
+    for &text in KEPT.as_slice() {
+        let name = BString::from_slice(rt.alloc(), text)?;
+        says(&rt, rt.alloc(), &Error::HelperName { name }, words)?;
+    }
+    Ok(())
+}
+
+#[test]
+fn no_text_changes_the_words_of_a_user(rt: HostRuntime) -> Result<(), Fail> {
+    let words = "no home folder is known for the user";
+    for &text in KEPT.as_slice() {
+        let user = ForUser::Name(BString::from_slice(rt.alloc(), text)?);
+        says(&rt, rt.alloc(), &Error::NoHome(user), words)?;
+    }
+    Ok(())
+}
+
+/// The errors that keep no text, numbered as in [`TEXTLESS`].
+fn textless(number: usize) -> Error {
+    match number {
+        0 => Error::Memory,
+        1 => Error::EmptyLocal,
+        2 => Error::NoHome(ForUser::Current),
+        3 => Error::PathNotUtf8,
+        _ => Error::Unresolved,
+    }
+}
+
+/// The errors that keep no text, in words.
+static TEXTLESS: [&str; 5] = [
+    "out of memory",
+    "the location is empty",
+    "no home folder is known for the user",
+    "the path isn't UTF-8",
+    "the path can't be resolved",
+];
+
+#[test]
 fn errors_without_a_text_in_words(rt: HostRuntime) -> Result<(), Fail> {
-    let alloc = rt.alloc();
-    for (error, words) in [
-        (Error::Memory, "out of memory"),
-        (Error::EmptyLocal, "the location is empty"),
-        (
-            Error::NoHome(ForUser::Current),
-            "no home folder is known for the user",
-        ),
-        (Error::PathNotUtf8, "the path isn't UTF-8"),
-        (Error::Unresolved, "the path can't be resolved"),
-    ] {
-        says(&rt, alloc, &error, words)?;
+    for (number, words) in TEXTLESS.as_slice().iter().enumerate() {
+        says(&rt, rt.alloc(), &textless(number), words)?;
     }
     Ok(())
 }
@@ -200,51 +262,63 @@ static UNWRITABLE: [(WriteFault, &str); 4] = [
     (WriteFault::UserWithoutHost, "a user comes without a host"),
 ];
 
+/// Checks the words of a fault of writing, alone and in both errors that tell it.
+fn is_said(rt: &impl Abort, alloc: Global, fault: WriteFault, words: &str) -> Result<(), Fail> {
+    assert_eq!(rt; fault.to_string(alloc)?.as_str(), words);
+    let told = format!(in alloc; "the location can't be written: {words}")?;
+    says(rt, alloc, &Error::Unwritable(fault), told.as_str())?;
+    writer_says(rt, alloc, &WriteError::Fault(fault), told.as_str())
+}
+
+/// Checks the words of an error of writing.
+fn writer_says(
+    rt: &impl Abort,
+    alloc: Global,
+    error: &WriteError,
+    words: &str,
+) -> Result<(), Fail> {
+    assert_eq!(rt; error.to_string(alloc)?.as_str(), words);
+    Ok(())
+}
+
 #[test]
 fn faults_of_writing_in_words(rt: HostRuntime) -> Result<(), Fail> {
-    let alloc = rt.alloc();
     for &(fault, words) in UNWRITABLE.as_slice() {
-        assert_eq!(rt; fault.to_string(alloc)?.as_str(), words);
-        let told = format!(in alloc; "the location can't be written: {words}")?;
-        let error = Error::Unwritable(fault);
-        assert_eq!(rt; error.to_string(alloc)?.as_str(), told.as_str());
-        let error = WriteError::Fault(fault);
-        assert_eq!(rt; error.to_string(alloc)?.as_str(), told.as_str());
+        is_said(&rt, rt.alloc(), fault, words)?;
     }
     Ok(())
 }
 
 #[test]
 fn a_fault_of_a_location_in_words(rt: HostRuntime) -> Result<(), Fail> {
-    let alloc = rt.alloc();
-    let url = unchecked(
-        alloc,
-        "Ssh",
-        Some("u"),
-        Some("secret"),
-        None,
-        None,
-        b"/p",
-        false,
-    )?;
-    match url.to_bstring(alloc) {
+    let (user, password) = (Some("u"), Some("secret"));
+    let url = unchecked(rt.alloc(), "Ssh", user, password, None, None, b"/p", false)?;
+    match &url.to_bstring(rt.alloc()) {
         Ok(_) => assert!(rt; false, "a user without a host is written"),
-        Err(error) => assert_eq!(rt;
-            error.to_string(alloc)?.as_str(),
-            "the location can't be written: a user comes without a host"
-        ),
+        Err(error) => says(
+            &rt,
+            rt.alloc(),
+            error,
+            "the location can't be written: a user comes without a host",
+        )?,
     }
     Ok(())
 }
 
 #[test]
-fn forms_and_faults_in_words(rt: HostRuntime) -> Result<(), Fail> {
-    let alloc = rt.alloc();
+fn forms_in_words(rt: HostRuntime) -> Result<(), Fail> {
     for &(kind, words) in KINDS.as_slice() {
-        assert_eq!(rt; kind.to_string(alloc)?.as_str(), words);
+        let told = kind.to_string(rt.alloc())?;
+        assert_eq!(rt; told.as_str(), words);
     }
+    Ok(())
+}
+
+#[test]
+fn faults_in_words(rt: HostRuntime) -> Result<(), Fail> {
     for &(fault, words) in FAULTS.as_slice() {
-        assert_eq!(rt; fault.to_string(alloc)?.as_str(), words);
+        let told = fault.to_string(rt.alloc())?;
+        assert_eq!(rt; told.as_str(), words);
     }
     Ok(())
 }
@@ -256,21 +330,43 @@ static CAUSES: [(ErrorKind, &str); 3] = [
     (ErrorKind::StorageFull, "no room is left"),
 ];
 
+/// Checks the words of an error of a run, and the cause behind them.
+fn run_says(
+    rt: &impl Abort,
+    alloc: Global,
+    error: &RunError,
+    words: &str,
+    cause: &str,
+) -> Result<(), Fail> {
+    let told = format!(in alloc; "{words}: {cause}")?;
+    assert_eq!(rt; error.to_string(alloc)?.as_str(), told.as_str());
+    Ok(())
+}
+
 #[test]
-fn failing_ends_in_words(rt: HostRuntime) -> Result<(), Fail> {
-    let alloc = rt.alloc();
+fn failing_ends_of_a_run_in_words(rt: HostRuntime) -> Result<(), Fail> {
     for &(kind, cause) in CAUSES.as_slice() {
-        let told = WriteError::Io(io::Error::new(kind, cause)).to_string(alloc)?;
-        let words = format!(in alloc; "the writer failed: {cause}")?;
-        assert_eq!(rt; told.as_str(), words.as_str());
-        let told = RunError::Read(io::Error::new(kind, cause)).to_string(alloc)?;
-        let words = format!(in alloc; "cannot read: {cause}")?;
-        assert_eq!(rt; told.as_str(), words.as_str());
-        let told = RunError::Write(io::Error::new(kind, cause)).to_string(alloc)?;
-        let words = format!(in alloc; "cannot write: {cause}")?;
-        assert_eq!(rt; told.as_str(), words.as_str());
+        let error = RunError::Read(io::Error::new(kind, cause));
+        run_says(&rt, rt.alloc(), &error, "cannot read", cause)?;
+        let error = RunError::Write(io::Error::new(kind, cause));
+        run_says(&rt, rt.alloc(), &error, "cannot write", cause)?;
     }
-    let told = RunError::Memory.to_string(alloc)?;
+    Ok(())
+}
+
+#[test]
+fn failing_writers_in_words(rt: HostRuntime) -> Result<(), Fail> {
+    for &(kind, cause) in CAUSES.as_slice() {
+        let words = format!(in rt.alloc(); "the writer failed: {cause}")?;
+        let error = WriteError::Io(io::Error::new(kind, cause));
+        writer_says(&rt, rt.alloc(), &error, words.as_str())?;
+    }
+    Ok(())
+}
+
+#[test]
+fn a_run_without_memory_in_words(rt: HostRuntime) -> Result<(), Fail> {
+    let told = RunError::Memory.to_string(rt.alloc())?;
     assert_eq!(rt; told.as_str(), "out of memory");
     Ok(())
 }

@@ -47,44 +47,55 @@ fn in_a_copy(
     Ok((outcome, calls))
 }
 
-/// The same in place.
+/// What becomes of a location: it takes the answer, or stays for this error.
+fn told(error: Option<&Error>) -> &'static str {
+    match error {
+        None => "taken",
+        Some(Error::PathNotUtf8) => "not UTF-8",
+        Some(Error::Unresolved) => "unresolved",
+        Some(_) => "another error",
+    }
+}
+
+/// The same in place, with the outcome told.
 fn in_place(
     alloc: Global,
     url: &mut Url,
     answer: Option<&str>,
-) -> Result<(Result<(), Error>, u8), Fail> {
+) -> Result<(&'static str, u8), Fail> {
     let mut calls = 0u8;
     let given = text(alloc, answer)?;
     let outcome = url.canonicalize(|_| {
         calls = calls.saturating_add(1);
         given
     });
-    Ok((outcome, calls))
+    Ok((told(outcome.as_ref().err()), calls))
 }
 
-/// Whether a copy is the location that was canonicalized in place, or both were refused alike.
-fn agree(copy: &Result<Url, Error>, outcome: &Result<(), Error>, url: &Url) -> bool {
-    match (copy, outcome) {
-        (Ok(copy), Ok(())) => copy == url,
-        (Err(Error::PathNotUtf8), Err(Error::PathNotUtf8)) => true,
-        (Err(Error::Unresolved), Err(Error::Unresolved)) => true,
-        _ => false,
+/// Whether this outcome is that of the copy, and a copy is the location that was canonicalized in place.
+fn agree(copy: &Result<Url, Error>, outcome: &str, url: &Url) -> bool {
+    match copy {
+        Ok(copy) => outcome == told(None) && copy == url,
+        Err(error) => outcome == told(Some(error)),
     }
 }
 
-/// Canonicalizes a location by a resolver that answers this, in place and in a copy, which have to agree. Answers the
-/// outcome and how often the resolver was called.
+/// Canonicalizes a location by a resolver that answers this, in place and in a copy, which have to agree. Checks the
+/// outcome, and how often the resolver is called.
 fn canonicalize(
     rt: &impl Abort,
     alloc: Global,
     url: &mut Url,
     answer: Option<&str>,
-) -> Result<(Result<(), Error>, u8), Fail> {
+    wanted: (&str, u8),
+) -> Result<(), Fail> {
     let (copy, copied) = in_a_copy(rt, alloc, url, answer)?;
     let (outcome, calls) = in_place(alloc, url, answer)?;
-    assert_eq!(rt; calls, copied, "calls in place and of the copy");
-    assert!(rt; agree(&copy, &outcome, url), "the copy differs");
-    Ok((outcome, calls))
+    assert!(rt; agree(&copy, outcome, url), "the copy differs");
+    assert_eq!(rt; outcome, wanted.0);
+    assert_eq!(rt; calls, wanted.1, "calls in place");
+    assert_eq!(rt; copied, wanted.1, "calls for the copy");
+    Ok(())
 }
 
 /// A text of its own.
@@ -104,9 +115,7 @@ fn takes(
     written: &str,
 ) -> Result<(), Fail> {
     let mut url = Url::from_text(alloc, text)?;
-    let (outcome, calls) = canonicalize(rt, alloc, &mut url, Some(answer))?;
-    outcome?;
-    assert_eq!(rt; calls, 1, "calls");
+    canonicalize(rt, alloc, &mut url, Some(answer), ("taken", 1))?;
     assert_eq!(rt; url.path.as_bytes(), answer.as_bytes());
     assert_eq!(rt; url.to_bstring(alloc)?.as_bytes(), written.as_bytes());
     Ok(())
@@ -139,12 +148,7 @@ fn what_the_resolver_is_asked(rt: HostRuntime) -> Result<(), Fail> {
 fn a_path_that_is_no_text_stays(rt: HostRuntime) -> Result<(), Fail> {
     let mut url = Url::from_text(rt.alloc(), "/")?;
     url.path.push(0xff)?;
-    let (outcome, calls) = canonicalize(&rt, rt.alloc(), &mut url, Some("/b"))?;
-    assert!(&rt;
-        matches!(&outcome, Err(Error::PathNotUtf8)),
-        "the path is no text"
-    );
-    assert_eq!(&rt; calls, 0, "the resolver is called");
+    canonicalize(&rt, rt.alloc(), &mut url, Some("/b"), ("not UTF-8", 0))?;
     assert_eq!(&rt; url.path.as_bytes(), b"/\xff".as_slice());
     Ok(())
 }
@@ -152,9 +156,7 @@ fn a_path_that_is_no_text_stays(rt: HostRuntime) -> Result<(), Fail> {
 #[test]
 fn a_refusal_leaves_the_path(rt: HostRuntime) -> Result<(), Fail> {
     let mut url = Url::from_text(rt.alloc(), "/a")?;
-    let (outcome, calls) = canonicalize(&rt, rt.alloc(), &mut url, None)?;
-    assert!(&rt; matches!(&outcome, Err(Error::Unresolved)), "no answer");
-    assert_eq!(&rt; calls, 1, "calls");
+    canonicalize(&rt, rt.alloc(), &mut url, None, ("unresolved", 1))?;
     assert_eq!(&rt; url.path.as_bytes(), b"/a".as_slice());
     Ok(())
 }
@@ -162,9 +164,7 @@ fn a_refusal_leaves_the_path(rt: HostRuntime) -> Result<(), Fail> {
 /// Checks that a location stays as it is, and that the resolver isn't asked.
 fn stays(rt: &impl Abort, alloc: Global, text: &str) -> Result<(), Fail> {
     let mut url = Url::from_text(alloc, text)?;
-    let (outcome, calls) = canonicalize(rt, alloc, &mut url, Some("/b"))?;
-    outcome?;
-    assert_eq!(rt; calls, 0, "the resolver is called for {text}");
+    canonicalize(rt, alloc, &mut url, Some("/b"), ("taken", 0))?;
     assert!(rt; url == Url::from_text(alloc, text)?, "{text} changes");
     Ok(())
 }
