@@ -2,6 +2,7 @@
 
 use bstr::BStr;
 use gix_url::{ArgumentSafety, Url};
+use std::process::Abort;
 use std::test::Fail;
 
 /// A user that may not be handed to a command.
@@ -47,26 +48,40 @@ static ROWS: [(&str, bool, bool, bool, &str); 5] = [
     ("/repo", false, false, false, "git"),
 ];
 
+/// Checks whether the user and the host of a location are refused.
+fn keeps_out(rt: &impl Abort, url: &Url, user: bool, host: bool) {
+    assert_eq!(rt; is_refused(url), user);
+    assert_eq!(rt; ssh_user(url).is_err(), user);
+    assert_eq!(rt; is_refused_host(url), host);
+}
+
+/// Checks whether a command can connect, and the user that it gets.
+fn hands_over(rt: &impl Abort, url: &Url, reached: bool, handed: &str) {
+    assert_eq!(rt; can_connect(url), reached);
+    assert_eq!(rt; user_or_git(url), handed);
+}
+
 #[test]
 fn options_are_kept_out(rt: HostRuntime) -> Result<(), Fail> {
-    for (text, user, host, reached, handed) in ROWS {
+    for &(text, user, host, reached, handed) in ROWS.as_slice() {
         let url = Url::from_text(rt.alloc(), text)?;
-        assert_eq!(rt; is_refused(&url), user, "{text}");
-        assert_eq!(rt; ssh_user(&url).is_err(), user, "{text}");
-        assert_eq!(rt; is_refused_host(&url), host, "{text}");
-        assert_eq!(rt; can_connect(&url), reached, "{text}");
-        assert_eq!(rt; user_or_git(&url), handed, "{text}");
+        keeps_out(&rt, &url, user, host);
+        hands_over(&rt, &url, reached, handed);
     }
     Ok(())
 }
 
 #[test]
 fn a_path_is_served(rt: HostRuntime) -> Result<(), Fail> {
-    let alloc = rt.alloc();
-    let url = Url::from_text(alloc, "ssh://host/repo")?;
+    let url = Url::from_text(rt.alloc(), "ssh://host/repo")?;
     let path = served(&url).ok_or("a path")?;
     assert_eq!(rt; path.as_bytes(), b"/repo".as_slice());
-    let url = Url::from_text(alloc, "ssh://host/-repo")?;
+    Ok(())
+}
+
+#[test]
+fn an_option_is_not_served(rt: HostRuntime) -> Result<(), Fail> {
+    let url = Url::from_text(rt.alloc(), "ssh://host/-repo")?;
     assert!(rt; served(&url).is_none());
     Ok(())
 }

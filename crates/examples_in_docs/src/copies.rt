@@ -38,32 +38,46 @@ fn url_of(alloc: Global, json: &str) -> Option<Url> {
 
 #[test]
 fn copies_are_equal(rt: HostRuntime) -> Result<(), Fail> {
-    let alloc = rt.alloc();
-    let (one, other) = twice(alloc, Scheme::from_text(alloc, "x")?)?;
+    let (one, other) = twice(rt.alloc(), Scheme::from_text(rt.alloc(), "x")?)?;
     assert!(rt; one == other);
-    let url = Url::from_text(alloc, "https://h/p")?;
-    let copy = mirror(alloc, &url, String::from_str(alloc, "m")?)?;
-    assert_eq!(rt;
-        copy.to_bstring(alloc)?.as_bytes(),
-        b"https://m/p".as_slice()
-    );
     Ok(())
 }
 
 #[test]
-fn remotes_are_put_into_order(rt: HostRuntime) -> Result<(), Fail> {
-    let alloc = rt.alloc();
+fn a_copy_is_changed(rt: HostRuntime) -> Result<(), Fail> {
+    let host = String::from_str(rt.alloc(), "m")?;
+    let url = Url::from_text(rt.alloc(), "https://h/p")?;
+    let copy = mirror(rt.alloc(), &url, host)?;
+    let text = copy.to_bstring(rt.alloc())?;
+    assert_eq!(rt; text.as_bytes(), b"https://m/p".as_slice());
+    Ok(())
+}
+
+/// Three remotes in order.
+fn remotes(alloc: Global) -> Result<Vec<Url>, Fail> {
     let mut remotes = Vec::new(alloc);
     for text in ["ssh://h/p", "/p", "git://h/p"] {
         remotes.push(Url::from_text(alloc, text)?)?;
     }
     sort(&mut remotes)?;
-    let first = remotes.first().ok_or("a remote")?;
-    assert_eq!(rt; first.scheme.as_str(), "file");
-    let known = Url::from_text(alloc, "git://h/p")?;
-    assert!(rt; is_known(remotes.as_slice(), &known));
-    let other = Url::from_text(alloc, "git://h/q")?;
-    assert!(rt; !is_known(remotes.as_slice(), &other));
+    Ok(remotes)
+}
+
+#[test]
+fn remotes_are_put_into_order(rt: HostRuntime) -> Result<(), Fail> {
+    let remotes = remotes(rt.alloc())?;
+    let first = remotes.first().map(|remote| remote.scheme.as_str());
+    assert_eq!(rt; first, Some("file"));
+    Ok(())
+}
+
+#[test]
+fn remotes_are_known(rt: HostRuntime) -> Result<(), Fail> {
+    let remotes = remotes(rt.alloc())?;
+    for (text, known) in [("git://h/p", true), ("git://h/q", false)] {
+        let remote = Url::from_text(rt.alloc(), text)?;
+        assert_eq!(rt; is_known(remotes.as_slice(), &remote), known);
+    }
     Ok(())
 }
 
@@ -73,11 +87,16 @@ static RECORD: &str =
 
 #[test]
 fn a_location_is_stored(rt: HostRuntime) -> Result<(), Fail> {
-    let alloc = rt.alloc();
-    let url = Url::from_text(alloc, "https://h/a%2Fb")?;
-    let json = json_of(alloc, &url).ok_or("a record")?;
-    assert_eq!(rt; json.as_str(), RECORD);
-    let again = url_of(alloc, RECORD).ok_or("a location")?;
+    let url = Url::from_text(rt.alloc(), "https://h/a%2Fb")?;
+    let json = json_of(rt.alloc(), &url);
+    assert_eq!(rt; json.as_deref(), Some(RECORD));
+    Ok(())
+}
+
+#[test]
+fn a_location_is_restored(rt: HostRuntime) -> Result<(), Fail> {
+    let url = Url::from_text(rt.alloc(), "https://h/a%2Fb")?;
+    let again = url_of(rt.alloc(), RECORD).ok_or("a location")?;
     assert!(rt; again == url);
     Ok(())
 }

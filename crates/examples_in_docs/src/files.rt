@@ -26,11 +26,16 @@ fn real<R: Files + AllocGlobal>(rt: &R, url: &Url) -> Result<Url, Error> {
 
 #[test]
 fn the_root_is_where_it_is(rt: HostRuntime) -> Result<(), Fail> {
-    let alloc = rt.alloc();
-    let mut url = Url::from_text(alloc, "/./")?;
-    let other = real(&rt, &url)?;
-    assert_eq!(rt; other.path.as_bytes(), b"/".as_slice());
+    let mut url = Url::from_text(rt.alloc(), "/./")?;
     resolve(&rt, &mut url)?;
     assert_eq!(rt; url.path.as_bytes(), b"/".as_slice());
+    Ok(())
+}
+
+#[test]
+fn the_real_root_is_where_it_is(rt: HostRuntime) -> Result<(), Fail> {
+    let url = Url::from_text(rt.alloc(), "/./")?;
+    let other = real(&rt, &url)?;
+    assert_eq!(rt; other.path.as_bytes(), b"/".as_slice());
     Ok(())
 }

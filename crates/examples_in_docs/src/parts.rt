@@ -3,6 +3,7 @@
 use bstr::BString;
 use gix_url::{Error, Url};
 use std::alloc::{AllocError, Global};
+use std::process::Abort;
 use std::test::Fail;
 
 fn at_host(alloc: Global, host: String) -> Url {
@@ -55,46 +56,66 @@ static ROWS: [(&str, bool, bool, bool, bool); 5] = [
     ("git://[::1]/repo", false, false, false, true),
 ];
 
+/// Checks the user and the password of a location.
+fn names(rt: &impl Abort, url: &Url, git: bool, asks: bool) {
+    assert_eq!(rt; is_git(url), git);
+    assert_eq!(rt; asks_for_password(url), asks);
+}
+
+/// Checks where a location leads.
+fn leads(rt: &impl Abort, url: &Url, here: bool, repository: bool) {
+    assert_eq!(rt; is_here(url), here);
+    assert_eq!(rt; names_a_repository(url), repository);
+}
+
 #[test]
 fn parts_are_looked_at(rt: HostRuntime) -> Result<(), Fail> {
-    for (text, git, asks, here, names) in ROWS {
+    for &(text, git, asks, here, repository) in ROWS.as_slice() {
         let url = Url::from_text(rt.alloc(), text)?;
-        assert_eq!(rt; is_git(&url), git, "{text}");
-        assert_eq!(rt; asks_for_password(&url), asks, "{text}");
-        assert_eq!(rt; is_here(&url), here, "{text}");
-        assert_eq!(rt; names_a_repository(&url), names, "{text}");
+        names(&rt, &url, git, asks);
+        leads(&rt, &url, here, repository);
     }
     Ok(())
 }
 
 #[test]
 fn services_are_told_apart(rt: HostRuntime) -> Result<(), Fail> {
-    let alloc = rt.alloc();
-    let one = Url::from_text(alloc, "https://host/repo")?;
+    let one = Url::from_text(rt.alloc(), "https://host/repo")?;
     for (text, same) in [("https://host:443/repo", true), ("http://host/repo", false)] {
-        let other = Url::from_text(alloc, text)?;
-        assert_eq!(rt; is_same_service(&one, &other), same, "{text}");
+        let other = Url::from_text(rt.alloc(), text)?;
+        assert_eq!(rt; is_same_service(&one, &other), same);
     }
     Ok(())
 }
 
 #[test]
-fn parts_are_exchanged(rt: HostRuntime) -> Result<(), Fail> {
-    let alloc = rt.alloc();
-    let mut url = Url::from_text(alloc, "https://user:x@host/p")?;
+fn a_password_is_taken_away(rt: HostRuntime) -> Result<(), Fail> {
+    let mut url = Url::from_text(rt.alloc(), "https://user:x@host/p")?;
     without_password(&mut url);
     assert_eq!(rt; url.password(), None);
-    let before = as_git(alloc, &mut url)?;
+    Ok(())
+}
+
+#[test]
+fn a_user_is_exchanged(rt: HostRuntime) -> Result<(), Fail> {
+    let mut url = Url::from_text(rt.alloc(), "https://user:x@host/p")?;
+    let before = as_git(rt.alloc(), &mut url)?;
     assert_eq!(rt; before.as_deref(), Some("user"));
     assert_eq!(rt; url.user(), Some("git"));
     Ok(())
 }
 
 #[test]
-fn locations_are_made(rt: HostRuntime) -> Result<(), Fail> {
-    let alloc = rt.alloc();
-    let url = at_host(alloc, String::from_str(alloc, "h")?);
-    assert_eq!(rt; url.to_bstring(alloc)?.as_bytes(), b"ssh://h/".as_slice());
-    assert_eq!(rt; as_path(alloc)?.as_bytes(), b"/path".as_slice());
+fn a_location_is_made(rt: HostRuntime) -> Result<(), Fail> {
+    let url = at_host(rt.alloc(), String::from_str(rt.alloc(), "h")?);
+    let text = url.to_bstring(rt.alloc())?;
+    assert_eq!(rt; text.as_bytes(), b"ssh://h/".as_slice());
+    Ok(())
+}
+
+#[test]
+fn a_location_becomes_a_path(rt: HostRuntime) -> Result<(), Fail> {
+    let path = as_path(rt.alloc())?;
+    assert_eq!(rt; path.as_bytes(), b"/path".as_slice());
     Ok(())
 }

@@ -53,30 +53,36 @@ fn expand(rt: &(impl Env + AllocGlobal), path: BStr<'_>) -> Result<String, Error
 
 #[test]
 fn a_query_is_searched(rt: HostRuntime) -> Result<(), Fail> {
-    let alloc = rt.alloc();
-    let url = Url::from_text(alloc, "https://h/info/refs?service=git-upload-pack")?;
-    assert!(rt; asks_for(alloc, &url, b"git-upload-pack")?);
-    assert!(rt; !asks_for(alloc, &url, b"git-receive-pack")?);
+    let url = Url::from_text(rt.alloc(), "https://h/info/refs?service=git-upload-pack")?;
+    assert!(rt; asks_for(rt.alloc(), &url, b"git-upload-pack")?);
+    assert!(rt; !asks_for(rt.alloc(), &url, b"git-receive-pack")?);
     Ok(())
 }
 
 #[test]
 fn a_home_folder_is_named(rt: HostRuntime) -> Result<(), Fail> {
-    let alloc = rt.alloc();
-    assert!(rt; is_own(alloc, BStr::new(b"/~/repo"))?);
-    assert!(rt; !is_own(alloc, BStr::new(b"/~bob/repo"))?);
-    let url = Url::from_text(alloc, "/~bob/repo")?;
-    let text = remote_path(alloc, url)?;
+    assert!(rt; is_own(rt.alloc(), BStr::new(b"/~/repo"))?);
+    assert!(rt; !is_own(rt.alloc(), BStr::new(b"/~bob/repo"))?);
+    Ok(())
+}
+
+#[test]
+fn a_path_goes_to_a_shell(rt: HostRuntime) -> Result<(), Fail> {
+    let text = remote_path(rt.alloc(), Url::from_text(rt.alloc(), "/~bob/repo")?)?;
     assert_eq!(rt; text.as_bytes(), b"~bob/repo".as_slice());
     Ok(())
 }
 
 #[test]
 fn a_home_folder_is_entered(rt: HostRuntime) -> Result<(), Fail> {
-    let alloc = rt.alloc();
-    let (user, below) = expand_path::parse(alloc, BStr::new(b"/~bob/repo"))?;
-    let path = in_home(alloc, user.as_ref(), below.as_bstr())?;
+    let (user, below) = expand_path::parse(rt.alloc(), BStr::new(b"/~bob/repo"))?;
+    let path = in_home(rt.alloc(), user.as_ref(), below.as_bstr())?;
     assert_eq!(rt; path.as_str(), "/home/bob/repo");
+    Ok(())
+}
+
+#[test]
+fn no_home_folder_is_entered(rt: HostRuntime) -> Result<(), Fail> {
     // Without a user the environment isn't asked for anything that counts.
     let path = expand(&rt, BStr::new(b"/srv/repo"))?;
     assert_eq!(rt; path.as_str(), "/srv/repo");

@@ -3,6 +3,7 @@
 use bstr::BString;
 use gix_url::{Error, Scheme, Url};
 use std::alloc::Global;
+use std::process::Abort;
 use std::test::Fail;
 
 /// The host that a text names, if the location can be written and read again.
@@ -34,38 +35,41 @@ fn remote(alloc: Global, user: String, host: String, path: BString) -> Result<Ur
     )
 }
 
+/// Checks the host that a text names.
+fn names(rt: &impl Abort, alloc: Global, text: &str, wanted: Option<&str>) -> Result<(), Fail> {
+    let host = host_of(alloc, text)?;
+    assert_eq!(rt; host.as_deref(), wanted);
+    Ok(())
+}
+
 #[test]
 fn a_host_is_named_by_what_comes_back(rt: HostRuntime) -> Result<(), Fail> {
-    let alloc = rt.alloc();
-    let host = host_of(alloc, "ssh://git@example.com/gitoxide")?;
-    assert_eq!(rt; host.as_deref(), Some("example.com"));
-    let host = host_of(alloc, "[host]::path")?;
-    assert_eq!(rt; host.as_deref(), None);
-    Ok(())
+    let text = "ssh://git@example.com/gitoxide";
+    names(&rt, rt.alloc(), text, Some("example.com"))?;
+    names(&rt, rt.alloc(), "[host]::path", None)
 }
 
 #[test]
 fn the_host_of_another_text(rt: HostRuntime) -> Result<(), Fail> {
-    let alloc = rt.alloc();
     for (text, same) in [("http://h/p", true), ("file://x:%20/p", false)] {
-        let url = Url::from_text(alloc, text)?;
-        assert_eq!(rt; names_the_same_host(alloc, &url)?, same, "{text}");
+        let url = Url::from_text(rt.alloc(), text)?;
+        assert_eq!(rt; names_the_same_host(rt.alloc(), &url)?, same);
     }
     Ok(())
 }
 
+/// A remote of `git` on the host `h`.
+fn remote_of_git(alloc: Global) -> Result<Url, Fail> {
+    let user = String::from_str(alloc, "git")?;
+    let host = String::from_str(alloc, "h")?;
+    let path = BString::from_slice(alloc, b"/p")?;
+    Ok(remote(alloc, user, host, path)?)
+}
+
 #[test]
 fn a_remote_of_parts(rt: HostRuntime) -> Result<(), Fail> {
-    let alloc = rt.alloc();
-    let url = remote(
-        alloc,
-        String::from_str(alloc, "git")?,
-        String::from_str(alloc, "h")?,
-        BString::from_slice(alloc, b"/p")?,
-    )?;
-    assert_eq!(rt;
-        url.to_bstring(alloc)?.as_bytes(),
-        b"ssh://git@h/p".as_slice()
-    );
+    let url = remote_of_git(rt.alloc())?;
+    let text = url.to_bstring(rt.alloc())?;
+    assert_eq!(rt; text.as_bytes(), b"ssh://git@h/p".as_slice());
     Ok(())
 }

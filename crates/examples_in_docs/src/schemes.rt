@@ -5,6 +5,7 @@ use gix_url::expand_path::ForUser;
 use gix_url::ipv6::is_ipv6;
 use gix_url::{Error, PathComponents, QueryText, Scheme, Url};
 use std::alloc::Global;
+use std::process::Abort;
 use std::test::Fail;
 
 fn is_web(alloc: Global, name: &str) -> Result<bool, Error> {
@@ -39,17 +40,25 @@ fn fragment_of<'a>(parts: &PathComponents<'a>) -> Option<BStr<'a>> {
 
 #[test]
 fn schemes_are_told_apart(rt: HostRuntime) -> Result<(), Fail> {
-    let alloc = rt.alloc();
     for (name, is) in [("https", true), ("HTTPS", false)] {
-        assert_eq!(rt; is_web(alloc, name)?, is, "{name}");
+        assert_eq!(rt; is_web(rt.alloc(), name)?, is, "{name}");
     }
+    Ok(())
+}
+
+#[test]
+fn protocols_are_told(rt: HostRuntime) -> Result<(), Fail> {
     for text in ["git@host:repo", "ssh+git://host/repo"] {
-        let url = Url::from_text(alloc, text)?;
+        let url = Url::from_text(rt.alloc(), text)?;
         assert_eq!(rt; protocol_of(&url), "ssh", "{text}");
     }
+    Ok(())
+}
+
+#[test]
+fn ports_are_told(rt: HostRuntime) {
     assert_eq!(rt; port_of(&Scheme::Git), 9418);
     assert_eq!(rt; port_of(&Scheme::File), 0);
-    Ok(())
 }
 
 #[test]
@@ -60,16 +69,25 @@ fn addresses_are_told_apart(rt: HostRuntime) {
 }
 
 #[test]
-fn parts_of_answers(rt: HostRuntime) -> Result<(), Fail> {
-    let alloc = rt.alloc();
-    let (one, other) = two_of(alloc, ForUser::Current)?;
+fn a_user_is_copied(rt: HostRuntime) -> Result<(), Fail> {
+    let (one, other) = two_of(rt.alloc(), ForUser::Current)?;
     assert!(rt; one == other);
-    let url = Url::from_text(alloc, "http://h/?a#b")?;
-    let parts = url.path_query_fragment(alloc)?;
-    let fragment = fragment_of(&parts).ok_or("a fragment")?;
-    assert_eq!(rt; fragment.as_bytes(), b"b".as_slice());
+    Ok(())
+}
+
+/// Checks the value of the first field.
+fn begins_with_nothing(rt: &impl Abort, parts: &PathComponents<'_>) -> Result<(), Fail> {
     let pairs = parts.query.as_ref().ok_or("a query")?;
     let (_, value) = pairs.first().ok_or("a field")?;
     assert!(rt; is_empty(value));
     Ok(())
+}
+
+#[test]
+fn parts_of_answers(rt: HostRuntime) -> Result<(), Fail> {
+    let url = Url::from_text(rt.alloc(), "http://h/?a#b")?;
+    let parts = url.path_query_fragment(rt.alloc())?;
+    let fragment = fragment_of(&parts).ok_or("a fragment")?;
+    assert_eq!(rt; fragment.as_bytes(), b"b".as_slice());
+    begins_with_nothing(&rt, &parts)
 }

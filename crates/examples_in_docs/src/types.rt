@@ -5,6 +5,7 @@ use gix_url::lines::{self, RunError};
 use gix_url::parse::UrlKind;
 use gix_url::{Error, PathComponents, QueryText, Scheme, Url, UrlFault, WriteError, WriteFault};
 use std::alloc::Global;
+use std::process::Abort;
 use std::test::Fail;
 
 /// Whether the same text can be read at another time: nothing is wrong with it.
@@ -72,16 +73,19 @@ static REFUSED: [(&str, bool, bool); 3] = [
     ("ssh://h", false, false),
 ];
 
+/// Checks what a text is refused for.
+fn tells(rt: &impl Abort, error: &Error, port: bool, scp: bool) {
+    assert_eq!(rt; has_bad_port(error), port);
+    assert_eq!(rt; is_scp(error), scp);
+    assert!(rt; !is_passing(error));
+}
+
 #[test]
 fn refusals_are_told_apart(rt: HostRuntime) -> Result<(), Fail> {
-    for (text, port, scp) in REFUSED {
-        match Url::from_text(rt.alloc(), text) {
+    for &(text, port, scp) in REFUSED.as_slice() {
+        match &Url::from_text(rt.alloc(), text) {
             Ok(_) => assert!(rt; false, "{text} is read"),
-            Err(error) => {
-                assert_eq!(rt; has_bad_port(&error), port, "{text}");
-                assert_eq!(rt; is_scp(&error), scp, "{text}");
-                assert!(rt; !is_passing(&error), "{text}");
-            }
+            Err(error) => tells(&rt, error, port, scp),
         }
     }
     Ok(())
@@ -89,37 +93,47 @@ fn refusals_are_told_apart(rt: HostRuntime) -> Result<(), Fail> {
 
 #[test]
 fn what_has_no_text_is_told(rt: HostRuntime) -> Result<(), Fail> {
-    let alloc = rt.alloc();
-    let mut url = Url::from_text(alloc, "https://u@h/p")?;
+    let mut out = Vec::new(rt.alloc());
+    let mut url = Url::from_text(rt.alloc(), "https://u@h/p")?;
     url.host = None;
-    let mut out = Vec::new(alloc);
-    match url.write_to(&mut out) {
+    match &url.write_to(&mut out) {
         Ok(()) => assert!(rt; false, "it is written"),
-        Err(error) => assert!(rt; lacks_host(&error)),
+        Err(error) => assert!(rt; lacks_host(error)),
     }
     Ok(())
 }
 
 #[test]
-fn variants_are_told_apart(rt: HostRuntime) -> Result<(), Fail> {
-    let alloc = rt.alloc();
-    assert!(rt; is_encrypted(&Scheme::Ssh) && !is_encrypted(&Scheme::Http));
+fn variants_are_told_apart(rt: HostRuntime) {
+    assert!(rt; is_encrypted(&Scheme::Ssh));
+    assert!(rt; !is_encrypted(&Scheme::Http));
     assert!(rt; is_current(&ForUser::Current));
-    for (text, is) in [("ssh://h:22/p", true), ("h:22/p", false)] {
-        assert_eq!(rt; names_port(&Url::from_text(alloc, text)?), is, "{text}");
-    }
     assert_eq!(rt; ended(&rt, &Ok(false)), 1);
+}
+
+#[test]
+fn ports_are_named(rt: HostRuntime) -> Result<(), Fail> {
+    for (text, is) in [("ssh://h:22/p", true), ("h:22/p", false)] {
+        let url = Url::from_text(rt.alloc(), text)?;
+        assert_eq!(rt; names_port(&url), is);
+    }
+    Ok(())
+}
+
+/// Checks that the name of the first field is copied.
+fn keeps(rt: &impl Abort, alloc: Global, parts: &PathComponents<'_>) -> Result<(), Fail> {
+    let pairs = parts.query.as_ref().ok_or("a query")?;
+    let (name, _) = pairs.first().ok_or("a field")?;
+    let copy = kept(alloc, name)?;
+    assert!(rt; copy == *name);
     Ok(())
 }
 
 #[test]
 fn components_are_copied(rt: HostRuntime) -> Result<(), Fail> {
-    let alloc = rt.alloc();
-    let url = Url::from_text(alloc, "http://h/?a+b=c")?;
-    let parts = url.path_query_fragment(alloc)?;
-    assert!(rt; both(alloc, &parts)? == parts);
-    let pairs = parts.query.as_ref().ok_or("a query")?;
-    let (name, _) = pairs.first().ok_or("a field")?;
-    assert!(rt; kept(alloc, name)? == *name);
-    Ok(())
+    let url = Url::from_text(rt.alloc(), "http://h/?a+b=c")?;
+    let parts = url.path_query_fragment(rt.alloc())?;
+    let copy = both(rt.alloc(), &parts)?;
+    assert!(rt; copy == parts);
+    keeps(&rt, rt.alloc(), &parts)
 }

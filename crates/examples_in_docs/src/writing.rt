@@ -6,6 +6,7 @@ use gix_url::parse::parse;
 use gix_url::testing::TestUrlExtension;
 use gix_url::{Error, Scheme, Url, WriteError};
 use std::alloc::{AllocError, Global};
+use std::process::Abort;
 use std::test::Fail;
 
 /// Whether bytes that somebody sent spell a location.
@@ -84,43 +85,66 @@ fn without_host(path: BString) -> Url {
 }
 
 #[test]
-fn bytes_are_read(rt: HostRuntime) -> Result<(), Fail> {
-    let alloc = rt.alloc();
+fn bytes_are_told_apart(rt: HostRuntime) -> Result<(), Fail> {
     for (bytes, is) in [(b"h:p".as_slice(), true), (b"h:".as_slice(), false)] {
-        assert_eq!(rt; is_location(alloc, bytes)?, is);
+        assert_eq!(rt; is_location(rt.alloc(), bytes)?, is);
     }
-    assert_eq!(rt; of_line(alloc, b"/srv/repo")?.scheme.as_str(), "file");
+    Ok(())
+}
+
+#[test]
+fn bytes_are_read(rt: HostRuntime) -> Result<(), Fail> {
+    let url = of_line(rt.alloc(), b"/srv/repo")?;
+    assert_eq!(rt; url.scheme.as_str(), "file");
+    Ok(())
+}
+
+#[test]
+fn ports_are_read(rt: HostRuntime) -> Result<(), Fail> {
     for (text, port) in [("ssh://h:22/p", Some(22)), ("h:22/p", None)] {
-        assert_eq!(rt; port_of(alloc, text)?, port, "{text}");
+        assert_eq!(rt; port_of(rt.alloc(), text)?, port);
     }
+    Ok(())
+}
+
+#[test]
+fn a_text_is_written_anew(rt: HostRuntime) -> Result<(), Fail> {
+    let text = rewritten(rt.alloc(), "ssh://H:/p")?;
+    assert_eq!(rt; text.as_bytes(), b"ssh://h/p".as_slice());
     Ok(())
 }
 
 #[test]
 fn locations_are_written(rt: HostRuntime) -> Result<(), Fail> {
-    let alloc = rt.alloc();
-    assert_eq!(rt;
-        rewritten(alloc, "ssh://H:/p")?.as_bytes(),
-        b"ssh://h/p".as_slice()
-    );
-    let url = Url::from_text(alloc, "https://host/my%20repo")?;
-    let mut out = Vec::new(alloc);
+    let mut out = Vec::new(rt.alloc());
+    let url = Url::from_text(rt.alloc(), "https://host/my%20repo")?;
     append(&mut out, &url)?;
     assert_eq!(rt; out.as_slice(), b"https://host/my%20repo".as_slice());
-    assert!(rt; fits(&url, 22) && !fits(&url, 21));
+    Ok(())
+}
+
+#[test]
+fn locations_are_measured(rt: HostRuntime) -> Result<(), Fail> {
+    let url = Url::from_text(rt.alloc(), "https://host/my%20repo")?;
+    assert!(rt; fits(&url, 22));
+    assert!(rt; !fits(&url, 21));
     assert_eq!(rt; spelled(&url).as_bytes(), b"/my%20repo".as_slice());
+    Ok(())
+}
+
+/// Checks whether there is a text to store for a location.
+fn is_stored(rt: &impl Abort, alloc: Global, url: &Url, stored: bool) -> Result<(), Fail> {
+    let text = to_store(alloc, url)?;
+    assert_eq!(rt; text.is_some(), stored);
     Ok(())
 }
 
 #[test]
 fn what_comes_back_is_stored(rt: HostRuntime) -> Result<(), Fail> {
-    let alloc = rt.alloc();
-    for (text, is) in [("http://h/p", true), ("[host]::path", false)] {
-        let url = Url::from_text(alloc, text)?;
-        assert_eq!(rt; to_store(alloc, &url)?.is_some(), is, "{text}");
+    for (text, stored) in [("http://h/p", true), ("[host]::path", false)] {
+        let url = Url::from_text(rt.alloc(), text)?;
+        is_stored(&rt, rt.alloc(), &url, stored)?;
     }
-    let url = without_host(BString::from_slice(alloc, b"/p")?);
-    assert!(rt; to_store(alloc, &url)?.is_none());
     Ok(())
 }
 
@@ -140,14 +164,22 @@ fn what_git_reads_alike_is_handed_on(rt: HostRuntime) -> Result<(), Fail> {
 }
 
 #[test]
+fn what_has_no_host_is_not_stored(rt: HostRuntime) -> Result<(), Fail> {
+    let url = without_host(BString::from_slice(rt.alloc(), b"/p")?);
+    is_stored(&rt, rt.alloc(), &url, false)
+}
+
+#[test]
 fn people_are_shown_no_password(rt: HostRuntime) -> Result<(), Fail> {
-    let alloc = rt.alloc();
-    let url = Url::from_text(alloc, "ssh://u:secret@h/p")?;
-    assert_eq!(rt;
-        log_line(alloc, &url)?.as_str(),
-        "fetching ssh://u:redacted@h/p"
-    );
-    let answered = answers(alloc, b"/a\nssh+git:///p\n\n")?;
+    let url = Url::from_text(rt.alloc(), "ssh://u:secret@h/p")?;
+    let line = log_line(rt.alloc(), &url)?;
+    assert_eq!(rt; line.as_str(), "fetching ssh://u:redacted@h/p");
+    Ok(())
+}
+
+#[test]
+fn lines_are_answered(rt: HostRuntime) -> Result<(), Fail> {
+    let answered = answers(rt.alloc(), b"/a\nssh+git:///p\n\n")?;
     let wanted = b"settled\t/a\nunsettled\tssh\nrefused\tEmptyLocal\n";
     assert_eq!(rt; answered.as_slice(), wanted.as_slice());
     Ok(())
