@@ -90,13 +90,24 @@ pub(crate) fn read_simple_url<'a>(
         return Err(UrlFault::BadCharacter);
     }
     let parts = read_authority(rules.mode, rules.needs_host, authority)?;
-    Ok(ParsedUrl {
+    Ok(parsed(scheme, parts, path))
+}
+
+/// The parts of a URL, from those of its authority.
+fn parsed<'a>(scheme: &'a [u8], parts: AuthorityParts<'a>, path: &'a [u8]) -> ParsedUrl<'a>
+    ensures scheme { result.scheme.now ≡ scheme.now }
+    ensures user { result.user ≡ parts.entry.credentials.user }
+    ensures password { result.password ≡ parts.entry.credentials.password }
+    ensures host { result.host ≡ parts.entry.host }
+    ensures path { result.path.now ≡ path.now }
+{
+    ParsedUrl {
         scheme,
         user: parts.credentials.user,
         password: parts.credentials.password,
         host: parts.host,
         path,
-    })
+    }
 }
 
 /// Whether no character of the text is white space, as in a plain one.

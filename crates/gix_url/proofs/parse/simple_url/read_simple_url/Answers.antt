@@ -74,4 +74,4 @@ returns-clause-read c =
     let sound = c.if-not-has_sound_escapes.ensures in
     let fits = subst (λ rest. Fits c.args.scheme.now rest) c.cut_before_path.ensures.joined c.requires.fits in
     let held = rw (c.requires.rules.mode, c.requires.rules.host) at c.in_ok-parts.ensures.read in
-    spelled cut c.utf8.text (c.if-not-has_no_white_space.ensures.0 refl) sound (c.if-not-is_free_of.ensures.0 refl) fits held (c.if-not-means_text.ensures.0 refl)
+    rw (c.parsed.ensures.scheme, c.parsed.ensures.user, c.parsed.ensures.password, c.parsed.ensures.host, c.parsed.ensures.path) (spelled cut c.utf8.text (c.if-not-has_no_white_space.ensures.0 refl) sound (c.if-not-is_free_of.ensures.0 refl) fits held (c.if-not-means_text.ensures.0 refl))
