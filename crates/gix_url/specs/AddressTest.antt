@@ -36,7 +36,10 @@ is_group g = nat_lt 0 (length g) && (nat_le (length g) 4 && list_all is_hexadeci
 -- whether the text is a number from 0 to 255 in decimal, without leading zeros
 abbrev pub is_octet : List ℕ → Bool
 is_octet t =
-    nat_lt 0 (length t) && (list_all is_ascii_digit t && ((length t == 1 || not (begins_with digit_zero t)) && nat_le (digits_value 10 t) 255))
+    nat_lt 0 (length t) &&
+    (list_all is_ascii_digit t
+    && ((length t == 1 || not (begins_with digit_zero t))
+    && nat_le (digits_value 10 t) 255))
 
 -- whether the text is an IPv4 text
 abbrev pub is_ipv4_text : List ℕ → Bool
@@ -46,7 +49,8 @@ is_ipv4_text t = any_cut dot is_octet (any_cut dot is_octet (any_cut dot is_octe
 abbrev pub are_items : Bool → ℕ → List ℕ → Bool
 are_items ending zero t = is_empty_text t
 are_items ending (suc zero) t = is_group t
-are_items ending (suc (suc n)) t = any_cut colon is_group (are_items ending (suc n)) t || (n == 0 && (ending && is_ipv4_text t))
+are_items ending (suc (suc n)) t = any_cut colon is_group (are_items ending (suc n)) t
+    || (n == 0 && (ending && is_ipv4_text t))
 
 -- whether the text is eight groups
 abbrev pub is_full_address : List ℕ → Bool
@@ -55,7 +59,8 @@ is_full_address t = are_items true 8 t
 -- whether the text is two lists of groups around `::`, of at most seven
 abbrev pub is_short_address : List ℕ → Bool
 is_short_address t =
-    any_up_to (λ m. any_cut colon (are_items false m) (follows_byte colon (λ y. any_up_to (λ n. are_items true n y) (7 - m))) t) 7
+    any_up_to (λ m. any_cut colon (are_items false m)
+    (follows_byte colon (λ y. any_up_to (λ n. are_items true n y) (7 - m))) t) 7
 
 -- whether the text is an IPv6 text
 unfoldable pub is_ipv6_text : List ℕ → Bool

@@ -53,7 +53,8 @@ IsIpv6Text t = IsFullAddress t ⊎ IsShortAddress t
 
 -- a byte of a zone: a letter, a digit, `-`, `.`, `_`, `~`, or the `%` of an escape
 abbrev pub is_zone_byte : ℕ → Bool
-is_zone_byte b = is_ascii_alphanumeric b || (b == hyphen || (b == dot || (b == underscore || (b == tilde || b == percent_sign))))
+is_zone_byte b = is_ascii_alphanumeric b
+    || (b == hyphen || (b == dot || (b == underscore || (b == tilde || b == percent_sign))))
 
 -- a zone
 pub record IsZone (z : List ℕ) : Type 0 where
@@ -65,4 +66,5 @@ pub record IsZone (z : List ℕ) : Type 0 where
 -- a literal and its normal form: an address, which is lowercased, or an address, `%25` and a zone, which stays
 pub data Literal (t : List ℕ) (normal : List ℕ) : Type 0 where
   address : IsIpv6Text t → normal ≡ lowercase t → Literal t normal
-  zoned : (a z : List ℕ) → IsIpv6Text a → IsZone z → t ≡ a ++ (codes "%25" ++ z) → normal ≡ lowercase a ++ (codes "%25" ++ z) → Literal t normal
+  zoned : (a z : List ℕ) → IsIpv6Text a → IsZone z → t ≡ a ++ (codes "%25" ++ z)
+      → normal ≡ lowercase a ++ (codes "%25" ++ z) → Literal t normal

@@ -71,10 +71,12 @@ pub data IsAnswer (line answer : List ℕ) (good : Bool) : Type 0 where
       → answer ≡ told_line (codes "settled") t → good ≡ true → IsAnswer line answer good
   -- another that has a text: its scheme
   unsettled : (v : Location) (t : List ℕ) → Spells line v → text v ≡ Ok t → ¬ IsSettled v
-      → answer ≡ told_line (codes "unsettled") (protocol_text v.scheme) → good ≡ false → IsAnswer line answer good
+      → answer ≡ told_line (codes "unsettled") (protocol_text v.scheme) → good ≡ false
+      → IsAnswer line answer good
   -- a location without a text: its scheme
   unwritable : (v : Location) (f : WriteFault) → Spells line v → text v ≡ Err f
-      → answer ≡ told_line (codes "unwritable") (protocol_text v.scheme) → good ≡ false → IsAnswer line answer good
+      → answer ≡ told_line (codes "unwritable") (protocol_text v.scheme) → good ≡ false
+      → IsAnswer line answer good
   -- a text that spells no location: an error whose flaw stands in it
   refused : (e : Error) → IsRefusal e → ((v : Location) → ¬ Spells line v) → Flaw line e
       → answer ≡ told_line (codes "refused") (refusal e) → good ≡ false → IsAnswer line answer good
@@ -84,27 +86,32 @@ abbrev pub AnswersEach : List (List ℕ) → List ℕ → Bool → Type 0
 AnswersEach [] out good = (out ≡ []) × (good ≡ true)
 AnswersEach (line ∷ lines) out good =
     (answer : List ℕ) × (more : List ℕ) × (first : Bool) × (others : Bool)
-    × IsAnswer line answer first × AnswersEach lines more others × (out ≡ answer ++ more) × (good ≡ (first && others))
+    × IsAnswer line answer first × AnswersEach lines more others × (out ≡ answer ++ more)
+    × (good ≡ (first && others))
 
 -- the answers to all lines of a text
 abbrev pub Answers : List ℕ → List ℕ → Bool → Type 0
 Answers b out good = (lines : List (List ℕ)) × SplitsLines b lines × AnswersEach lines out good
 
 -- what a run left: on `Ok` all of the input is answered; where memory or the reader failed nothing is written
-abbrev pub Ran : {W : Type 0} → (W → Option (List ℕ)) → Option (List ℕ) → W → W → Result Bool RunError → Type 0
-Ran contents input old new (Ok good) = IfSome input (λ b. (out : List ℕ) × Answers b out good × Appends (contents old) (contents new) out)
+abbrev pub Ran : {W : Type 0} → (W → Option (List ℕ)) → Option (List ℕ) → W → W
+    → Result Bool RunError → Type 0
+Ran contents input old new (Ok good) = IfSome input
+    (λ b. (out : List ℕ) × Answers b out good × Appends (contents old) (contents new) out)
 Ran contents input old new (Err run.Memory) = new ≡ old
 Ran contents input old new (Err (run.Read e)) = new ≡ old
 Ran contents input old new (Err (run.Write e)) = Unit {0}
 
 -- the call appended the answer to the line, and told whether it is settled
 abbrev pub AppendsAnswer : List ℕ → List ℕ → List ℕ → Result Bool RunError → Type 0
-AppendsAnswer line old new (Ok good) = (answer : List ℕ) × IsAnswer line answer good × (new ≡ old ++ answer)
+AppendsAnswer line old new (Ok good) = (answer : List ℕ) × IsAnswer line answer good
+    × (new ≡ old ++ answer)
 AppendsAnswer line old new (Err fault) = Unit {0}
 
 -- the call appended the answer to a line that spells this location, and told whether it is settled
 abbrev pub Tells : Location → List ℕ → List ℕ → Result Bool RunError → Type 0
-Tells v old new (Ok good) = (answer : List ℕ) × ((line : List ℕ) → Spells line v → IsAnswer line answer good) × (new ≡ old ++ answer)
+Tells v old new (Ok good) = (answer : List ℕ)
+    × ((line : List ℕ) → Spells line v → IsAnswer line answer good) × (new ≡ old ++ answer)
 Tells v old new (Err fault) = Unit {0}
 
 -- the word for an error, if it is a refusal
@@ -114,7 +121,8 @@ NamesRefusal e (Some name) = IsRefusal e × (name.now ≡ refusal e)
 
 -- the call appended the answer to a line that is refused with this error
 abbrev pub TellsRefusal : Error → List ℕ → List ℕ → Result Bool RunError → Type 0
-TellsRefusal e old new (Ok good) = IsRefusal e × (good ≡ false) × (new ≡ old ++ told_line (codes "refused") (refusal e))
+TellsRefusal e old new (Ok good) = IsRefusal e × (good ≡ false)
+    × (new ≡ old ++ told_line (codes "refused") (refusal e))
 TellsRefusal e old new (Err fault) = Unit {0}
 
 -- what the program says of a fault

@@ -25,15 +25,20 @@ pub data Credentials (text : List ℕ) (user password : Option (List ℕ)) : Typ
   -- `user:password`
   with_password : (u w : List ℕ) → FreeOf colon u → text ≡ u ++ colon ∷ w
       → IsUtf8 (percent_decode u) → IsUtf8 (percent_decode w)
-      → password ≡ unless_empty (percent_decode w) → user ≡ user_beside password (percent_decode u) → Credentials text user password
+      → password ≡ unless_empty (percent_decode w) → user ≡ user_beside password (percent_decode u)
+      → Credentials text user password
 
 -- an authority holds a user, a password, a host and a port
-pub data Authority (mode : Mode) (text : List ℕ) (user password host : Option (List ℕ)) (port : Option ℕ) : Type 0 where
+pub data Authority (mode : Mode) (text : List ℕ) (user password host : Option (List ℕ))
+    (port : Option ℕ) : Type 0 where
   -- without user information
-  host_alone : FreeOf at_sign text → Names mode text host port → user ≡ None → password ≡ None → Authority mode text user password host port
+  host_alone : FreeOf at_sign text → Names mode text host port → user ≡ None → password ≡ None
+      → Authority mode text user password host port
   -- user information ends at the last `@`, and comes with a host
-  with_user : (information piece : List ℕ) → FreeOf at_sign piece → text ≡ information ++ at_sign ∷ piece
-      → Credentials information user password → Names mode piece host port → IsSome host → Authority mode text user password host port
+  with_user : (information piece : List ℕ) → FreeOf at_sign piece
+      → text ≡ information ++ at_sign ∷ piece
+      → Credentials information user password → Names mode piece host port → IsSome host
+      → Authority mode text user password host port
 
 -- the text without the white space of ASCII
 abbrev pub without_white_space : List ℕ → List ℕ

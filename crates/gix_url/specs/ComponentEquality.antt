@@ -23,7 +23,8 @@ fragment_eq = option_eq bytes_eq
 
 -- components are equal where path, query and fragment are
 abbrev pub components_eq : Components → Components → Bool
-components_eq c d = bytes_eq c.path d.path && (query_eq c.query d.query && fragment_eq c.fragment d.fragment)
+components_eq c d = bytes_eq c.path d.path
+    && (query_eq c.query d.query && fragment_eq c.fragment d.fragment)
 
 -- ---- what is equal is one value
 
@@ -33,7 +34,8 @@ pair_decides p q = (
       let name = (bytes_decides p.0 q.0).0 (first_so (bytes_eq p.0 q.0) (bytes_eq p.1 q.1) h) in
       let value = (bytes_decides p.1 q.1).0 (second_so (bytes_eq p.0 q.0) (bytes_eq p.1 q.1) h) in
       λ i. (name i, value i),
-  λ e. both_pass (bytes_eq p.0 q.0) (bytes_eq p.1 q.1) ((bytes_decides p.0 q.0).1 (λ i. (e i).0)) ((bytes_decides p.1 q.1).1 (λ i. (e i).1)),
+  λ e. both_pass (bytes_eq p.0 q.0) (bytes_eq p.1 q.1) ((bytes_decides p.0 q.0).1 (λ i. (e i).0))
+      ((bytes_decides p.1 q.1).1 (λ i. (e i).1)),
 )
 
 -- what a list begins with, or something else where it is empty
@@ -52,7 +54,8 @@ is_nil [] = true
 is_nil (x ∷ xs) = false
 
 -- lists are equal where their elements are
-lists_decide : {K : Type 0} (E : K → K → Bool) → ((x y : K) → Decides (E x y) (x ≡ y)) → (xs ys : List K) → Decides (pointwise E xs ys) (xs ≡ ys)
+lists_decide : {K : Type 0} (E : K → K → Bool) → ((x y : K) → Decides (E x y) (x ≡ y))
+    → (xs ys : List K) → Decides (pointwise E xs ys) (xs ≡ ys)
 unfolding first_or others is_nil
 lists_decide E d [] [] = (λ e. refl, λ e. refl)
 lists_decide E d [] (y ∷ ys) = (λ e. absurd (true≢false (sym e)), λ e. sym (ap is_nil e))
@@ -63,7 +66,8 @@ lists_decide E d (x ∷ xs) (y ∷ ys) =
           let first = (d x y).0 (first_so (E x y) (pointwise E xs ys) h) in
           let last = rest.0 (second_so (E x y) (pointwise E xs ys) h) in
           λ i. first i ∷ last i,
-      λ e. both_pass (E x y) (pointwise E xs ys) ((d x y).1 (ap (first_or x) e)) (rest.1 (ap others e)),
+      λ e. both_pass (E x y) (pointwise E xs ys) ((d x y).1 (ap (first_or x) e))
+          (rest.1 (ap others e)),
     )
 
 query_decides : (p q : Option (List (List ℕ × List ℕ))) → Decides (query_eq p q) (p ≡ q)
@@ -75,10 +79,15 @@ fragment_decides = options_decide bytes_eq bytes_decides
 -- equal components are one value
 components_same : (c d : Components) → components_eq c d ≡ true → c ≡ d
 components_same c d h =
-    let rest = second_so (bytes_eq c.path d.path) (query_eq c.query d.query && fragment_eq c.fragment d.fragment) h in
-    let path = (bytes_decides c.path d.path).0 (first_so (bytes_eq c.path d.path) (query_eq c.query d.query && fragment_eq c.fragment d.fragment) h) in
-    let query = (query_decides c.query d.query).0 (first_so (query_eq c.query d.query) (fragment_eq c.fragment d.fragment) rest) in
-    let fragment = (fragment_decides c.fragment d.fragment).0 (second_so (query_eq c.query d.query) (fragment_eq c.fragment d.fragment) rest) in
+    let rest = second_so (bytes_eq c.path d.path)
+    (query_eq c.query d.query && fragment_eq c.fragment d.fragment) h in
+    let path = (bytes_decides c.path d.path).0
+    (first_so (bytes_eq c.path d.path)
+    (query_eq c.query d.query && fragment_eq c.fragment d.fragment) h) in
+    let query = (query_decides c.query d.query).0
+    (first_so (query_eq c.query d.query) (fragment_eq c.fragment d.fragment) rest) in
+    let fragment = (fragment_decides c.fragment d.fragment).0
+    (second_so (query_eq c.query d.query) (fragment_eq c.fragment d.fragment) rest) in
     λ i. record { path = path i; query = query i; fragment = fragment i }
 
 -- and one value is equal to itself

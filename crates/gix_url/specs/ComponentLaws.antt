@@ -6,7 +6,9 @@ use Rattle.gix_url.specs.ComponentEquality.{components_eq}
 
 -- every location has components, and no two
 abbrev pub OneComponents : Type 0
-OneComponents = (v : Location) → (components : Components) × PartsOf v components × ((others : Components) → PartsOf v others → others ≡ components)
+OneComponents = (v : Location)
+    → (components : Components) × PartsOf v components
+    × ((others : Components) → PartsOf v others → others ≡ components)
 
 -- components that compare equal are one value, and one value compares equal to itself
 abbrev pub EqualComponents : Type 0

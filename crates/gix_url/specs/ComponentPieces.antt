@@ -17,7 +17,8 @@ use Rattle.gix_url.specs.Meanings.{meant_by}
 
 -- the original path of a location, and what it stands for
 abbrev pub SpellsPath : Location → Spelled → Type 0
-SpellsPath v whole = (whole.text.now ≡ original_path v) × (whole.meant.now ≡ v.path) × (whole.escaped ≡ matches v.spelling v.path)
+SpellsPath v whole = (whole.text.now ≡ original_path v) × (whole.meant.now ≡ v.path)
+    × (whole.escaped ≡ matches v.spelling v.path)
 
 -- the parts of a text around the first c, escaped as the text is
 pub record CutsAround (c : ℕ) (whole front behind : Spelled) : Type 0 where
@@ -28,19 +29,23 @@ pub record CutsAround (c : ℕ) (whole front behind : Spelled) : Type 0 where
 
 -- the parts around the first c, or none where the text is free of it
 abbrev pub CutsSpelled : ℕ → Spelled → Option (Spelled × Spelled) → Type 0
-CutsSpelled c whole parts = MatchOption parts (FreeOf c whole.text.now) (λ p. CutsAround c whole p.0 p.1)
+CutsSpelled c whole parts = MatchOption parts (FreeOf c whole.text.now)
+    (λ p. CutsAround c whole p.0 p.1)
 
 -- the part before the first c, and the part behind it where there is one
 abbrev pub CutsOff : ℕ → Spelled → Spelled → Option Spelled → Type 0
-CutsOff c whole front None = FreeOf c whole.text.now × (front.text.now ≡ whole.text.now) × (front.escaped ≡ whole.escaped)
+CutsOff c whole front None = FreeOf c whole.text.now × (front.text.now ≡ whole.text.now)
+    × (front.escaped ≡ whole.escaped)
 CutsOff c whole front (Some behind) = CutsAround c whole front behind
 
 -- ---- the query
 
 -- a name or a value is what its piece stands for, lent where no raw `+` stands in it
 abbrev pub LendsTerm : Bool → List ℕ → QueryText → Type 0
-LendsTerm escaped piece (Borrowed text) = FreeOf plus_sign piece × (bstr_bytes text ≡ meant_by escaped piece)
-LendsTerm escaped piece (Owned text) = (¬ FreeOf plus_sign piece) × (bstring_bytes text ≡ meant_by escaped (with_spaces piece))
+LendsTerm escaped piece (Borrowed text) = FreeOf plus_sign piece
+    × (bstr_bytes text ≡ meant_by escaped piece)
+LendsTerm escaped piece (Owned text) = (¬ FreeOf plus_sign piece)
+    × (bstring_bytes text ≡ meant_by escaped (with_spaces piece))
 
 -- a name and its value are what the two parts of a field stand for
 pub record LendsPair (escaped : Bool) (field : List ℕ) (pair : QueryText × QueryText) : Type 0 where
@@ -59,7 +64,8 @@ LendsPairs escaped ((b ∷ bs) ∷ fields) pairs =
     × LendsPair escaped (b ∷ bs) pair × LendsPairs escaped fields others × (pairs ≡ pair ∷ others)
 
 -- these names and values are what the fields of a text stand for, of which there is at least one
-pub record LendsFields (escaped : Bool) (text : List ℕ) (pairs : List (QueryText × QueryText)) : Type 0 where
+pub record LendsFields (escaped : Bool) (text : List ℕ)
+    (pairs : List (QueryText × QueryText)) : Type 0 where
   pub field : List ℕ
   pub fields : List (List ℕ)
   pub cut : CutsFields text (field ∷ fields)
@@ -80,9 +86,11 @@ abbrev pub field_count : List ℕ → ℕ
 field_count text = length (filter is_field (slice_split (λ b. b == ampersand) text))
 
 -- the name and the value of a field stand behind those that were there, unless it is empty
-abbrev pub AddsPair : Bool → List ℕ → List (QueryText × QueryText) → List (QueryText × QueryText) → Type 0
+abbrev pub AddsPair : Bool → List ℕ → List (QueryText × QueryText) → List (QueryText × QueryText)
+    → Type 0
 AddsPair escaped [] old new = new ≡ old
-AddsPair escaped (b ∷ bs) old new = (pair : QueryText × QueryText) × LendsPair escaped (b ∷ bs) pair × (new ≡ old ++ pair ∷ [])
+AddsPair escaped (b ∷ bs) old new = (pair : QueryText × QueryText) × LendsPair escaped (b ∷ bs) pair
+    × (new ≡ old ++ pair ∷ [])
 
 -- ---- the whole
 

@@ -43,8 +43,10 @@ abbrev pub LentPairs : Location → List (List ℕ) → List (QueryText × Query
 LentPairs v [] pairs = pairs ≡ []
 LentPairs v ([] ∷ fields) pairs = LentPairs v fields pairs
 LentPairs v ((b ∷ bs) ∷ fields) pairs =
-    (name : List ℕ) × (value : List ℕ) × (pair : QueryText × QueryText) × (others : List (QueryText × QueryText))
-    × SplitsField (b ∷ bs) name value × LentTerm v name pair.0 × LentTerm v value pair.1 × LentPairs v fields others × (pairs ≡ pair ∷ others)
+    (name : List ℕ) × (value : List ℕ) × (pair : QueryText × QueryText)
+    × (others : List (QueryText × QueryText))
+    × SplitsField (b ∷ bs) name value × LentTerm v name pair.0 × LentTerm v value pair.1
+    × LentPairs v fields others × (pairs ≡ pair ∷ others)
 
 -- the names and values of the query of a location's original path
 pub record LentFields (v : Location) (pairs : List (QueryText × QueryText)) : Type 0 where

@@ -27,12 +27,15 @@ IsFront text = FreeOf question_mark text × FreeOf number_sign text
 
 -- a text is a front, with or without a query behind `?` and a fragment behind `#`
 pub data CutsPath (text front : List ℕ) (query fragment : Option (List ℕ)) : Type 0 where
-  front_alone : IsFront front → text ≡ front → query ≡ None → fragment ≡ None → CutsPath text front query fragment
-  with_query : (q : List ℕ) → IsFront front → FreeOf number_sign q → text ≡ front ++ question_mark ∷ q
+  front_alone : IsFront front → text ≡ front → query ≡ None → fragment ≡ None
+      → CutsPath text front query fragment
+  with_query : (q : List ℕ) → IsFront front → FreeOf number_sign q
+      → text ≡ front ++ question_mark ∷ q
       → query ≡ Some q → fragment ≡ None → CutsPath text front query fragment
   with_fragment : (f : List ℕ) → IsFront front → text ≡ front ++ number_sign ∷ f
       → query ≡ None → fragment ≡ Some f → CutsPath text front query fragment
-  with_both : (q f : List ℕ) → IsFront front → FreeOf number_sign q → text ≡ front ++ question_mark ∷ (q ++ number_sign ∷ f)
+  with_both : (q f : List ℕ) → IsFront front → FreeOf number_sign q
+      → text ≡ front ++ question_mark ∷ (q ++ number_sign ∷ f)
       → query ≡ Some q → fragment ≡ Some f → CutsPath text front query fragment
 
 -- the text is fields free of `&`, joined by `&`
@@ -43,7 +46,8 @@ pub record CutsFields (text : List ℕ) (fields : List (List ℕ)) : Type 0 wher
 -- a field is a name, or a name, `=` and a value
 pub data SplitsField (field name value : List ℕ) : Type 0 where
   name_alone : FreeOf equals_sign field → name ≡ field → value ≡ [] → SplitsField field name value
-  with_value : FreeOf equals_sign name → field ≡ name ++ equals_sign ∷ value → SplitsField field name value
+  with_value : FreeOf equals_sign name → field ≡ name ++ equals_sign ∷ value
+      → SplitsField field name value
 
 -- ---- what the pieces stand for
 
@@ -61,13 +65,15 @@ PairsOf v [] pairs = pairs ≡ []
 PairsOf v ([] ∷ fields) pairs = PairsOf v fields pairs
 PairsOf v ((b ∷ bs) ∷ fields) pairs =
     (name : List ℕ) × (value : List ℕ) × (others : List (List ℕ × List ℕ))
-    × SplitsField (b ∷ bs) name value × PairsOf v fields others × (pairs ≡ (term_of v name, term_of v value) ∷ others)
+    × SplitsField (b ∷ bs) name value × PairsOf v fields others
+    × (pairs ≡ (term_of v name, term_of v value) ∷ others)
 
 -- the query, where there is one, stands for these names and values
 abbrev pub QueryOf : Location → Option (List ℕ) → Option (List (List ℕ × List ℕ)) → Type 0
 QueryOf v None query = query ≡ None
 QueryOf v (Some text) query =
-    (fields : List (List ℕ)) × (pairs : List (List ℕ × List ℕ)) × CutsFields text fields × PairsOf v fields pairs × (query ≡ Some pairs)
+    (fields : List (List ℕ)) × (pairs : List (List ℕ × List ℕ)) × CutsFields text fields
+    × PairsOf v fields pairs × (query ≡ Some pairs)
 
 -- ---- the components
 

@@ -17,7 +17,8 @@ CutsAtLast c b r = MatchOption r (FreeOf c b) (λ p. FreeOf c p.1.now × (b ≡ 
 
 -- the pieces around the first `://`, or none where it stands nowhere
 abbrev pub CutsAtMark : List ℕ → Option (Bor (List ℕ) × Bor (List ℕ)) → Type 0
-CutsAtMark b r = MatchOption r (¬ Holds url_mark b) (λ p. (¬ Holds url_mark p.0.now) × (b ≡ p.0.now ++ (url_mark ++ p.1.now)))
+CutsAtMark b r = MatchOption r (¬ Holds url_mark b)
+    (λ p. (¬ Holds url_mark p.0.now) × (b ≡ p.0.now ++ (url_mark ++ p.1.now)))
 
 -- what follows a first c, or none where the first byte is no c
 abbrev pub StripsFirst : ℕ → List ℕ → Option (Bor (List ℕ)) → Type 0
@@ -25,4 +26,5 @@ StripsFirst c b r = MatchOption r (begins_with c b ≡ false) (λ rest. b ≡ c 
 
 -- what stands before a last c, or none where the last byte is no c
 abbrev pub StripsLast : ℕ → List ℕ → Option (Bor (List ℕ)) → Type 0
-StripsLast c b r = MatchOption r ((front : List ℕ) → ¬ (b ≡ front ++ c ∷ [])) (λ front. b ≡ front.now ++ c ∷ [])
+StripsLast c b r = MatchOption r ((front : List ℕ) → ¬ (b ≡ front ++ c ∷ []))
+    (λ front. b ≡ front.now ++ c ∷ [])

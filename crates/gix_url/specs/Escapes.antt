@@ -14,7 +14,8 @@ is_sound [] = true
 is_sound (b ∷ []) = not (b == percent_sign)
 is_sound (b ∷ c ∷ []) = not (b == percent_sign) && not (c == percent_sign)
 is_sound (b ∷ high ∷ low ∷ rest) =
-    if b == percent_sign then is_hexadecimal high && (is_hexadecimal low && is_sound rest) else is_sound (high ∷ low ∷ rest)
+    if b == percent_sign then is_hexadecimal high && (is_hexadecimal low && is_sound rest)
+    else is_sound (high ∷ low ∷ rest)
 
 -- the text begins with two hexadecimal digits
 abbrev pub begins_with_digits : List ℕ → Bool
@@ -48,13 +49,15 @@ is_plain bs = list_all is_plain_byte bs
 -- a byte that a path of an HTTP location is not written with: a control, a space, `"`, `%`, `<`, `>`, `` ` ``, `{` or `}`
 abbrev pub is_path_escaped : ℕ → Bool
 is_path_escaped b =
-    nat_le b space || b == delete || b == quotation_mark || b == percent_sign || b == less_than_sign || b == greater_than_sign
+    nat_le b space || b == delete || b == quotation_mark || b == percent_sign || b == less_than_sign
+    || b == greater_than_sign
     || b == grave_accent || b == left_brace || b == right_brace
 
 -- a byte that a password is not written with: those of the path, and `#`, `/`, `?`, `@`, `[`, `\`, `]`, `^`, `|`
 abbrev pub is_password_escaped : ℕ → Bool
 is_password_escaped b =
-    is_path_escaped b || b == number_sign || b == slash || b == question_mark || b == at_sign || b == left_bracket
+    is_path_escaped b || b == number_sign || b == slash || b == question_mark || b == at_sign
+    || b == left_bracket
     || b == backslash || b == right_bracket || b == circumflex || b == vertical_bar
 
 -- a byte that a user is not written with: those of the password, and `:`
@@ -91,4 +94,5 @@ HoldsExactly set test = (b : ℕ) → b < 128 → contains set b ≡ test b
 -- the text with each `%` written as the escape of `%`
 abbrev pub escaped_percents : List ℕ → List ℕ
 escaped_percents [] = []
-escaped_percents (b ∷ bs) = if b == percent_sign then codes "%25" ++ escaped_percents bs else b ∷ escaped_percents bs
+escaped_percents (b ∷ bs) = if b == percent_sign then codes "%25" ++ escaped_percents bs
+    else b ∷ escaped_percents bs

@@ -25,9 +25,12 @@ IsNoPort mode text = (0 < length text) × ((port : ℕ) → ¬ Number mode text 
 -- something stands in a port's place that is no port
 pub data HasBadPort (mode : Mode) (piece : List ℕ) : Type 0 where
   -- behind a host outside brackets
-  plain : (text digits : List ℕ) → IsPlainHost text → FreeOf colon digits → piece ≡ text ++ colon ∷ digits → IsNoPort mode digits → HasBadPort mode piece
+  plain : (text digits : List ℕ) → IsPlainHost text → FreeOf colon digits
+      → piece ≡ text ++ colon ∷ digits → IsNoPort mode digits → HasBadPort mode piece
   -- behind brackets
-  bracketed : (x digits : List ℕ) → FreeOf right_bracket x → piece ≡ left_bracket ∷ (x ++ right_bracket ∷ (colon ∷ digits)) → IsNoPort mode digits → HasBadPort mode piece
+  bracketed : (x digits : List ℕ) → FreeOf right_bracket x
+      → piece ≡ left_bracket ∷ (x ++ right_bracket ∷ (colon ∷ digits)) → IsNoPort mode digits
+      → HasBadPort mode piece
 
 -- nothing follows, or a colon and what is free of colons
 abbrev pub IsPortPlace : List ℕ → Type 0
@@ -50,15 +53,20 @@ pub record BracketsAround (piece x rest : List ℕ) : Type 0 where
 -- a byte or an escape in the host's place is not allowed
 pub data HasBadHost (mode : Mode) (piece : List ℕ) : Type 0 where
   -- the text before the port's place stands for no host
-  plain : (text rest : List ℕ) → IsPlainHost text → IsPortPlace rest → piece ≡ text ++ rest → IsNoHost mode text → HasBadHost mode piece
+  plain : (text rest : List ℕ) → IsPlainHost text → IsPortPlace rest → piece ≡ text ++ rest
+      → IsNoHost mode text → HasBadHost mode piece
   -- colons that mark no port are refused by HTTP
-  colons_on_the_web : mode ≡ strict → begins_with left_bracket piece ≡ false → IsManyColoned piece → HasBadHost mode piece
+  colons_on_the_web : mode ≡ strict → begins_with left_bracket piece ≡ false → IsManyColoned piece
+      → HasBadHost mode piece
   -- a piece with such colons stands for no host
-  colons : ¬ (mode ≡ strict) → ¬ ReadsAddress mode piece → begins_with left_bracket piece ≡ false → IsManyColoned piece → IsNoHost mode piece → HasBadHost mode piece
+  colons : ¬ (mode ≡ strict) → ¬ ReadsAddress mode piece → begins_with left_bracket piece ≡ false
+      → IsManyColoned piece → IsNoHost mode piece → HasBadHost mode piece
   -- a bracket is not closed, or followed by another byte than a colon
-  open_bracket : begins_with left_bracket piece ≡ true → ((x rest : List ℕ) → ¬ BracketsAround piece x rest) → HasBadHost mode piece
+  open_bracket : begins_with left_bracket piece ≡ true
+      → ((x rest : List ℕ) → ¬ BracketsAround piece x rest) → HasBadHost mode piece
   -- the text between brackets stands for nothing
-  brackets : (x rest : List ℕ) → BracketsAround piece x rest → IsNoInner mode x → HasBadHost mode piece
+  brackets : (x rest : List ℕ) → BracketsAround piece x rest → IsNoInner mode x
+      → HasBadHost mode piece
 
 -- what is wrong with the piece behind the user information
 abbrev pub NameFlaw : Mode → List ℕ → UrlFault → Type 0
@@ -72,29 +80,39 @@ NameFlaw mode piece fault.HostRequired = ⊥
 -- the piece of an authority behind the user information
 pub data PieceOf (authority piece : List ℕ) : Type 0 where
   whole : FreeOf at_sign authority → piece ≡ authority → PieceOf authority piece
-  behind : (information : List ℕ) → FreeOf at_sign piece → authority ≡ information ++ at_sign ∷ piece → PieceOf authority piece
+  behind : (information : List ℕ) → FreeOf at_sign piece
+      → authority ≡ information ++ at_sign ∷ piece → PieceOf authority piece
 
 -- a part of user information that decodes to no text
 pub data HasBadUser (authority : List ℕ) : Type 0 where
   -- user information without a colon is the user
-  user : (u piece : List ℕ) → FreeOf at_sign piece → FreeOf colon u → authority ≡ u ++ at_sign ∷ piece → ¬ IsUtf8 (percent_decode u) → HasBadUser authority
+  user : (u piece : List ℕ) → FreeOf at_sign piece → FreeOf colon u
+      → authority ≡ u ++ at_sign ∷ piece → ¬ IsUtf8 (percent_decode u) → HasBadUser authority
   -- what stands before its first colon is
-  user_before_password : (u w piece : List ℕ) → FreeOf at_sign piece → FreeOf colon u → authority ≡ (u ++ colon ∷ w) ++ at_sign ∷ piece → ¬ IsUtf8 (percent_decode u) → HasBadUser authority
+  user_before_password : (u w piece : List ℕ) → FreeOf at_sign piece → FreeOf colon u
+      → authority ≡ (u ++ colon ∷ w) ++ at_sign ∷ piece → ¬ IsUtf8 (percent_decode u)
+      → HasBadUser authority
   -- what stands behind that colon is the password
-  password : (u w piece : List ℕ) → FreeOf at_sign piece → FreeOf colon u → authority ≡ (u ++ colon ∷ w) ++ at_sign ∷ piece → ¬ IsUtf8 (percent_decode w) → HasBadUser authority
+  password : (u w piece : List ℕ) → FreeOf at_sign piece → FreeOf colon u
+      → authority ≡ (u ++ colon ∷ w) ++ at_sign ∷ piece → ¬ IsUtf8 (percent_decode w)
+      → HasBadUser authority
 
 -- what is wrong with an authority, for a scheme that needs a host or doesn't
 pub data AuthorityFlaw (mode : Mode) (needed : Bool) (authority : List ℕ) : UrlFault → Type 0 where
   -- a backslash
-  holds_backslash : ¬ FreeOf backslash authority → AuthorityFlaw mode needed authority fault.BadCharacter
+  holds_backslash : ¬ FreeOf backslash authority
+      → AuthorityFlaw mode needed authority fault.BadCharacter
   -- a user or a password that is no text
   bad_user : HasBadUser authority → AuthorityFlaw mode needed authority fault.BadCharacter
   -- the piece behind the user information
-  bad_name : (piece : List ℕ) (named : UrlFault) → PieceOf authority piece → NameFlaw mode piece named → AuthorityFlaw mode needed authority named
+  bad_name : (piece : List ℕ) (named : UrlFault) → PieceOf authority piece
+      → NameFlaw mode piece named → AuthorityFlaw mode needed authority named
   -- user information without a host
-  no_host : (information : List ℕ) → authority ≡ information ++ at_sign ∷ [] → AuthorityFlaw mode needed authority fault.BadCharacter
+  no_host : (information : List ℕ) → authority ≡ information ++ at_sign ∷ []
+      → AuthorityFlaw mode needed authority fault.BadCharacter
   -- nothing where a host is needed
-  host_required : needed ≡ true → authority ≡ [] → AuthorityFlaw mode needed authority fault.HostRequired
+  host_required : needed ≡ true → authority ≡ []
+      → AuthorityFlaw mode needed authority fault.HostRequired
 
 -- ---- URLs
 
@@ -119,14 +137,19 @@ pub record UrlCut (b scheme authority path : List ℕ) : Type 0 where
 -- what is wrong with a URL
 pub data UrlFlaw (b : List ℕ) : UrlFault → Type 0 where
   -- what stands before `://` is no scheme
-  no_scheme : (front rest : List ℕ) → OtherShape b front rest → is_scheme_text front ≡ false → UrlFlaw b fault.NoScheme
+  no_scheme : (front rest : List ℕ) → OtherShape b front rest → is_scheme_text front ≡ false
+      → UrlFlaw b fault.NoScheme
   -- white space, or a `%` that begins no escape
-  white_space : (front rest : List ℕ) → OtherShape b front rest → IsUtf8 b → ¬ LacksWhiteSpace b → UrlFlaw b fault.BadCharacter
-  unsound : (front rest : List ℕ) → OtherShape b front rest → is_sound b ≡ false → UrlFlaw b fault.BadCharacter
+  white_space : (front rest : List ℕ) → OtherShape b front rest → IsUtf8 b → ¬ LacksWhiteSpace b
+      → UrlFlaw b fault.BadCharacter
+  unsound : (front rest : List ℕ) → OtherShape b front rest → is_sound b ≡ false
+      → UrlFlaw b fault.BadCharacter
   -- the path decodes to no text
-  bad_path : (scheme authority path : List ℕ) → UrlCut b scheme authority path → ¬ IsUtf8 (percent_decode path) → UrlFlaw b fault.BadCharacter
+  bad_path : (scheme authority path : List ℕ) → UrlCut b scheme authority path
+      → ¬ IsUtf8 (percent_decode path) → UrlFlaw b fault.BadCharacter
   -- the authority
-  bad_authority : (scheme authority path : List ℕ) (named : UrlFault) → UrlCut b scheme authority path
+  bad_authority : (scheme authority path : List ℕ) (named : UrlFault)
+      → UrlCut b scheme authority path
       → AuthorityFlaw (mode_of scheme) (requires_host scheme) authority named → UrlFlaw b named
 
 -- ---- the scp form
@@ -139,7 +162,8 @@ pub data ScpHostFlaw (host : List ℕ) : UrlFault → Type 0 where
   holds_backslash : ¬ FreeOf backslash host → ScpHostFlaw host fault.BadCharacter
   white_space : IsUtf8 host → ¬ LacksWhiteSpace host → ScpHostFlaw host fault.BadCharacter
   -- it names none where each `%` is read as its own escape
-  bad_name : (named : UrlFault) → NameFlaw bare (escaped_percents host) named → ScpHostFlaw host named
+  bad_name : (named : UrlFault) → NameFlaw bare (escaped_percents host) named
+      → ScpHostFlaw host named
 
 -- what is wrong with the scp form, where it isn't `user@[address]:path`
 pub record ScpFlaw (b : List ℕ) (named : UrlFault) : Type 0 where
@@ -158,13 +182,16 @@ pub record ScpFlaw (b : List ℕ) (named : UrlFault) : Type 0 where
 -- a path is missing
 pub data MissesPath (b : List ℕ) : UrlKind → Type 0 where
   -- no `/` stands behind the mark of a file URL
-  in_file : (host : List ℕ) → FreeOf slash host → b ≡ codes "file://" ++ host → MissesPath b kind.Url
+  in_file : (host : List ℕ) → FreeOf slash host → b ≡ codes "file://" ++ host
+      → MissesPath b kind.Url
   -- nor behind that of a URL of Git's own transports
-  in_url : (scheme authority : List ℕ) → requires_path (protocol_of scheme) ≡ true → FreeOf slash authority → b ≡ scheme ++ (codes "://" ++ authority) → MissesPath b kind.Url
+  in_url : (scheme authority : List ℕ) → requires_path (protocol_of scheme) ≡ true
+      → FreeOf slash authority → b ≡ scheme ++ (codes "://" ++ authority) → MissesPath b kind.Url
   -- nothing stands behind the colon of the scp form
   in_scp : (front : List ℕ) → ScpShape b front [] → MissesPath b kind.Scp
   -- nor behind an address between brackets
-  behind_address : (user address : List ℕ) → AddressedShape b user address [] → MissesPath b kind.Scp
+  behind_address : (user address : List ℕ) → AddressedShape b user address []
+      → MissesPath b kind.Scp
 
 -- the bytes have the shape of this kind
 abbrev pub HasShape : List ℕ → UrlKind → Type 0

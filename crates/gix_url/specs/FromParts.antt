@@ -13,7 +13,8 @@ use Rattle.gix_url.specs.Settled.{IsSettled}
 use Rattle.gix_url.specs.Readings.{Reads, ReadsAgain}
 
 -- the location with these parts, and no spelling
-abbrev pub of_parts : Protocol → Option (List ℕ) → Option (List ℕ) → Option (List ℕ) → Option ℕ → List ℕ → Bool → Location
+abbrev pub of_parts : Protocol → Option (List ℕ) → Option (List ℕ) → Option (List ℕ) → Option ℕ
+    → List ℕ → Bool → Location
 of_parts named user password host port path flag = record {
   scheme = named;
   user = user;
@@ -62,15 +63,18 @@ keeping (helper_url name) path read = read
 
 -- what reading the text of parts answers, with their path where it is kept
 abbrev pub ReadsKept : Location → List ℕ → Result Location Error → Type 0
-ReadsKept given b (Ok v) = (read : Location) × Reads b (Ok read) × (v ≡ keeping given.scheme given.path read)
+ReadsKept given b (Ok v) = (read : Location) × Reads b (Ok read)
+    × (v ≡ keeping given.scheme given.path read)
 ReadsKept given b (Err e) = Reads b (Err e)
 
 -- what making a location of parts answers
 pub record MadeOf (given : Location) (result : Result Location Error) : Type 0 where
   -- a name that no remote helper can have is refused, and told
-  pub helper_name : (name : List ℕ) → invalid_name given.scheme ≡ Some name → (e : Error) × (result ≡ Err e) × TellsName name e
+  pub helper_name : (name : List ℕ) → invalid_name given.scheme ≡ Some name
+      → (e : Error) × (result ≡ Err e) × TellsName name e
   -- else a fault of their text
-  pub fault : invalid_name given.scheme ≡ None → (f : WriteFault) → text given ≡ Err f → result ≡ Err (error.Unwritable f)
+  pub fault : invalid_name given.scheme ≡ None → (f : WriteFault) → text given ≡ Err f
+      → result ≡ Err (error.Unwritable f)
   -- else their text is read
   pub read : (t : List ℕ) → text given ≡ Ok t → ReadsKept given t result
   -- settled parts come back as they are

@@ -23,7 +23,13 @@ pub record GitReading : Type 0 where
 
 -- a place on this machine
 abbrev pub on_this_machine : List ℕ → GitReading
-on_this_machine whole = record { protocol = file; user = None; host = None; port = None; path = whole }
+on_this_machine whole = record {
+  protocol = file;
+  user = None;
+  host = None;
+  port = None;
+  path = whole;
+}
 
 -- ---- escapes
 
@@ -41,7 +47,8 @@ git_decode [] = []
 git_decode (b ∷ []) = b ∷ []
 git_decode (b ∷ c ∷ []) = b ∷ c ∷ []
 git_decode (b ∷ high ∷ low ∷ rest) =
-    if is_git_escape b high low then escaped_byte high low ∷ git_decode rest else b ∷ git_decode (high ∷ low ∷ rest)
+    if is_git_escape b high low then escaped_byte high low ∷ git_decode rest
+    else b ∷ git_decode (high ∷ low ∷ rest)
 
 -- ---- brackets
 
@@ -51,7 +58,8 @@ host_mark = codes "@["
 
 -- a bracket opens a host: behind the first `@` that stands before one, or else at the front
 pub data OpensHost (t front rest : List ℕ) : Type 0 where
-  behind_at : (user : List ℕ) → ¬ Holds host_mark user → front ≡ user ++ at_sign ∷ [] → t ≡ user ++ (host_mark ++ rest) → OpensHost t front rest
+  behind_at : (user : List ℕ) → ¬ Holds host_mark user → front ≡ user ++ at_sign ∷ []
+      → t ≡ user ++ (host_mark ++ rest) → OpensHost t front rest
   at_front : ¬ Holds host_mark t → front ≡ [] → t ≡ left_bracket ∷ rest → OpensHost t front rest
 
 -- such a bracket is closed by the next `]`
@@ -62,12 +70,14 @@ pub record InBrackets (t front inside behind : List ℕ) : Type 0 where
 -- no bracket opens a host, or none closes it
 pub data LacksHostBrackets (t : List ℕ) : Type 0 where
   unopened : ¬ Holds host_mark t → begins_with left_bracket t ≡ false → LacksHostBrackets t
-  unclosed : (front rest : List ℕ) → OpensHost t front rest → FreeOf right_bracket rest → LacksHostBrackets t
+  unclosed : (front rest : List ℕ) → OpensHost t front rest → FreeOf right_bracket rest
+      → LacksHostBrackets t
 
 -- the text without what Git passes over to find the host's end: what stands before the closing `]`
 pub data HostEnd (t passed rest : List ℕ) : Type 0 where
   brackets : (front inside behind : List ℕ) → InBrackets t front inside behind
-      → passed ≡ front ++ left_bracket ∷ inside → rest ≡ right_bracket ∷ behind → HostEnd t passed rest
+      → passed ≡ front ++ left_bracket ∷ inside → rest ≡ right_bracket ∷ behind
+      → HostEnd t passed rest
   none : LacksHostBrackets t → passed ≡ [] → rest ≡ t → HostEnd t passed rest
 
 -- the text is cut at the first c that isn't passed over
@@ -88,7 +98,8 @@ is_c_space b = b == space || (nat_le tab b && nat_le b 13)
 abbrev pub digits_port : List ℕ → Option ℕ
 digits_port [] = None
 digits_port (b ∷ bs) =
-    if list_all is_ascii_digit (b ∷ bs) && nat_le (digits_value 10 (b ∷ bs)) 65535 then Some (digits_value 10 (b ∷ bs)) else None
+    if list_all is_ascii_digit (b ∷ bs) && nat_le (digits_value 10 (b ∷ bs)) 65535
+    then Some (digits_value 10 (b ∷ bs)) else None
 
 -- of the numbers below zero only `-0` is a port
 abbrev pub negative_port : Option ℕ → Option ℕ
@@ -100,7 +111,8 @@ negative_port (Some (suc n)) = None
 abbrev pub signed_port : List ℕ → Option ℕ
 signed_port [] = None
 signed_port (b ∷ bs) =
-    if b == plus_sign then digits_port bs else (if b == hyphen then negative_port (digits_port bs) else digits_port (b ∷ bs))
+    if b == plus_sign then digits_port bs
+    else (if b == hyphen then negative_port (digits_port bs) else digits_port (b ∷ bs))
 
 -- the port that a text writes for C's `strtol`, if there is one
 abbrev pub git_port : List ℕ → Option ℕ
@@ -109,9 +121,11 @@ git_port (b ∷ bs) = if is_c_space b then git_port bs else signed_port (b ∷ b
 
 -- what stands before a port, and the port: the first colon alone may mark one
 pub data BeforePort (t front : List ℕ) (port : Option ℕ) : Type 0 where
-  marked : (digits : List ℕ) (number : ℕ) → FreeOf colon front → t ≡ front ++ colon ∷ digits → git_port digits ≡ Some number → port ≡ Some number → BeforePort t front port
+  marked : (digits : List ℕ) (number : ℕ) → FreeOf colon front → t ≡ front ++ colon ∷ digits
+      → git_port digits ≡ Some number → port ≡ Some number → BeforePort t front port
   colon_alone : FreeOf colon front → t ≡ front ++ colon ∷ [] → port ≡ None → BeforePort t front port
-  unmarked : (host other : List ℕ) → FreeOf colon host → t ≡ host ++ colon ∷ other → 0 < length other → git_port other ≡ None → front ≡ t → port ≡ None → BeforePort t front port
+  unmarked : (host other : List ℕ) → FreeOf colon host → t ≡ host ++ colon ∷ other
+      → 0 < length other → git_port other ≡ None → front ≡ t → port ≡ None → BeforePort t front port
   no_colon : FreeOf colon t → front ≡ t → port ≡ None → BeforePort t front port
 
 -- the place's host without its brackets, and the port behind it; what else stands behind a `]` is dropped
@@ -129,18 +143,24 @@ from_tilde (a ∷ []) = a ∷ []
 from_tilde (a ∷ b ∷ rest) = if b == tilde then b ∷ rest else a ∷ b ∷ rest
 
 -- where no port stood behind the host, one may stand in what was in its brackets
-pub data SecurePort (named : List ℕ) (found : Option ℕ) (word : List ℕ) (port : Option ℕ) : Type 0 where
-  behind : (number : ℕ) → found ≡ Some number → word ≡ named → port ≡ found → SecurePort named found word port
-  inside : (digits : List ℕ) (number : ℕ) → found ≡ None → FreeOf colon word → named ≡ word ++ colon ∷ digits
+pub data SecurePort (named : List ℕ) (found : Option ℕ) (word : List ℕ)
+    (port : Option ℕ) : Type 0 where
+  behind : (number : ℕ) → found ≡ Some number → word ≡ named → port ≡ found
+      → SecurePort named found word port
+  inside : (digits : List ℕ) (number : ℕ) → found ≡ None → FreeOf colon word
+      → named ≡ word ++ colon ∷ digits
       → git_port digits ≡ Some number → port ≡ Some number → SecurePort named found word port
-  unmarked : (host other : List ℕ) → found ≡ None → FreeOf colon host → named ≡ host ++ colon ∷ other → git_port other ≡ None
+  unmarked : (host other : List ℕ) → found ≡ None → FreeOf colon host
+      → named ≡ host ++ colon ∷ other → git_port other ≡ None
       → word ≡ named → port ≡ None → SecurePort named found word port
-  no_colon : found ≡ None → FreeOf colon named → word ≡ named → port ≡ None → SecurePort named found word port
+  no_colon : found ≡ None → FreeOf colon named → word ≡ named → port ≡ None
+      → SecurePort named found word port
 
 -- Secure Shell cuts its word at the last `@`
 pub data UserCut (word : List ℕ) (user : Option (List ℕ)) (host : List ℕ) : Type 0 where
   host_alone : FreeOf at_sign word → user ≡ None → host ≡ word → UserCut word user host
-  with_user : (name : List ℕ) → FreeOf at_sign host → word ≡ name ++ at_sign ∷ host → user ≡ Some name → UserCut word user host
+  with_user : (name : List ℕ) → FreeOf at_sign host → word ≡ name ++ at_sign ∷ host
+      → user ≡ Some name → UserCut word user host
 
 -- what Secure Shell reaches: it gets a word, a port and a path, and neither word nor path may be an option
 pub record ReachesSecure (place path : List ℕ) (reading : GitReading) : Type 0 where
@@ -155,7 +175,13 @@ pub record ReachesSecure (place path : List ℕ) (reading : GitReading) : Type 0
   pub word_safe : is_option_like word ≡ false
   pub path_safe : is_option_like path ≡ false
   pub split : UserCut word user host
-  pub value : reading ≡ record { protocol = ssh; user = user; host = unless_empty host; port = port; path = path }
+  pub value : reading ≡ record {
+    protocol = ssh;
+    user = user;
+    host = unless_empty host;
+    port = port;
+    path = path;
+  }
 
 -- what Git's own protocol reaches: it has no user, and lines end its words
 pub record ReachesGit (place path : List ℕ) (reading : GitReading) : Type 0 where
@@ -164,7 +190,13 @@ pub record ReachesGit (place path : List ℕ) (reading : GitReading) : Type 0 wh
   pub cut : HostAndPort place host port
   pub place_line : FreeOf newline place
   pub path_line : FreeOf newline path
-  pub value : reading ≡ record { protocol = git; user = None; host = unless_empty host; port = port; path = path }
+  pub value : reading ≡ record {
+    protocol = git;
+    user = None;
+    host = unless_empty host;
+    port = port;
+    path = path;
+  }
 
 -- ---- texts
 
@@ -192,7 +224,8 @@ pub record IsRemote (t : List ℕ) : Type 0 where
 
 -- the text has no colon, or a `/` before it
 abbrev pub IsLocal : List ℕ → Type 0
-IsLocal t = FreeOf colon t ⊎ ((front : List ℕ) × (rest : List ℕ) × FreeOf colon front × (t ≡ front ++ slash ∷ rest))
+IsLocal t = FreeOf colon t
+    ⊎ ((front : List ℕ) × (rest : List ℕ) × FreeOf colon front × (t ≡ front ++ slash ∷ rest))
 
 -- what Git reads in a text that it gets whole and takes for no option
 pub data ReadsGiven (t : List ℕ) (reading : GitReading) : Type 0 where
@@ -205,7 +238,8 @@ pub data ReadsGiven (t : List ℕ) (reading : GitReading) : Type 0 where
   scp_form : (place path : List ℕ) → IsNoUrl t → IsRemote t → CutsPlace colon t place path
       → ReachesSecure place (from_tilde path) reading → ReadsGiven t reading
   local_path : (passed path : List ℕ) → IsNoUrl t → IsLocal t → HostEnd t passed path
-      → 0 < length path → is_option_like path ≡ false → reading ≡ on_this_machine path → ReadsGiven t reading
+      → 0 < length path → is_option_like path ≡ false → reading ≡ on_this_machine path
+      → ReadsGiven t reading
 
 -- what Git reads in a text: byte 0 ends what it gets, and a text that begins with `-` is an option
 pub record GitReads (t : List ℕ) (reading : GitReading) : Type 0 where
@@ -215,4 +249,5 @@ pub record GitReads (t : List ℕ) (reading : GitReading) : Type 0 where
 
 -- Git reads one thing in a text
 abbrev pub OneReading : Type 0
-OneReading = (t : List ℕ) (reading other : GitReading) → GitReads t reading → GitReads t other → reading ≡ other
+OneReading = (t : List ℕ) (reading other : GitReading) → GitReads t reading → GitReads t other
+    → reading ≡ other

@@ -53,7 +53,13 @@ pub record AgreesWithGit (v : Location) : Type 0 where
 
 -- the location's own protocol, user, host, port and path
 abbrev pub own_reading : Location → GitReading
-own_reading v = record { protocol = v.scheme; user = v.user; host = v.host; port = v.port; path = v.path }
+own_reading v = record {
+  protocol = v.scheme;
+  user = v.user;
+  host = v.host;
+  port = v.port;
+  path = v.path;
+}
 
 -- the location has a text, and Git reads it as the location's own parts
 pub record IsReadAlike (v : Location) : Type 0 where

@@ -58,7 +58,8 @@ pub record SpellsParts (b : List ℕ) (parts : UrlParts) : Type 0 where
   pub sound : is_sound b ≡ true
   pub no_white_space : LacksWhiteSpace b
   pub fits : Fits parts.scheme (authority ++ parts.path)
-  pub named : Authority (mode_of parts.scheme) authority parts.user parts.password parts.host parts.port
+  pub named : Authority
+      (mode_of parts.scheme) authority parts.user parts.password parts.host parts.port
   pub hosted : requires_host parts.scheme ≡ true → IsSome parts.host
   pub path_text : IsUtf8 (percent_decode parts.path)
 
@@ -68,18 +69,23 @@ IsBracketed text = (inner : List ℕ) × (text ≡ left_bracket ∷ (inner ++ ri
 
 -- the text is brackets around another, and a colon behind them
 abbrev pub IsBracketedColon : List ℕ → Type 0
-IsBracketedColon text = (inner : List ℕ) × (text ≡ left_bracket ∷ (inner ++ right_bracket ∷ (colon ∷ [])))
+IsBracketedColon text = (inner : List ℕ)
+    × (text ≡ left_bracket ∷ (inner ++ right_bracket ∷ (colon ∷ [])))
 
 -- the text is free of `:`, but for one at its end, and has no bracket at its front
 abbrev pub EndsInColon : List ℕ → Type 0
-EndsInColon text = (front : List ℕ) × FreeOf colon front × (begins_with left_bracket front ≡ false) × (text ≡ front ++ colon ∷ [])
+EndsInColon text = (front : List ℕ) × FreeOf colon front × (begins_with left_bracket front ≡ false)
+    × (text ≡ front ++ colon ∷ [])
 
 -- what Secure Shell takes for the host: without brackets around it, and without a colon behind it
 pub data Peels (host peeled : List ℕ) : Type 0 where
   brackets : host ≡ left_bracket ∷ (peeled ++ right_bracket ∷ []) → Peels host peeled
-  brackets_colon : host ≡ left_bracket ∷ (peeled ++ right_bracket ∷ (colon ∷ [])) → Peels host peeled
-  last_colon : FreeOf colon peeled → begins_with left_bracket peeled ≡ false → host ≡ peeled ++ colon ∷ [] → Peels host peeled
-  same : ¬ IsBracketed host → ¬ IsBracketedColon host → ¬ EndsInColon host → peeled ≡ host → Peels host peeled
+  brackets_colon : host ≡ left_bracket ∷ (peeled ++ right_bracket ∷ (colon ∷ []))
+      → Peels host peeled
+  last_colon : FreeOf colon peeled → begins_with left_bracket peeled ≡ false
+      → host ≡ peeled ++ colon ∷ [] → Peels host peeled
+  same : ¬ IsBracketed host → ¬ IsBracketedColon host → ¬ EndsInColon host → peeled ≡ host
+      → Peels host peeled
 
 -- the host of a location, by its protocol, for the host that its URL names
 abbrev pub HostFor : Protocol → Option (List ℕ) → Option (List ℕ) → Type 0
@@ -171,7 +177,8 @@ pub record SpellsFile (b : List ℕ) (v : Location) : Type 0 where
 
 -- a front before a colon that may be a user and a host: it is free of `:`, or its colons stand between brackets
 pub data ScpFront (b front : List ℕ) : Type 0 where
-  plain : FreeOf colon front → (begins_with left_bracket front ≡ false) ⊎ FreeOf right_bracket b → ScpFront b front
+  plain : FreeOf colon front → (begins_with left_bracket front ≡ false) ⊎ FreeOf right_bracket b
+      → ScpFront b front
   bracketed : (inside after : List ℕ) → FreeOf right_bracket inside → FreeOf colon after
       → front ≡ left_bracket ∷ (inside ++ right_bracket ∷ after) → ScpFront b front
 
@@ -201,7 +208,8 @@ pub record AddressedShape (b user address path : List ℕ) : Type 0 where
 
 -- the text has the shape `user@[address]:path`
 abbrev pub IsAddressed : List ℕ → Type 0
-IsAddressed b = (user : List ℕ) × (address : List ℕ) × (path : List ℕ) × AddressedShape b user address path
+IsAddressed b = (user : List ℕ) × (address : List ℕ) × (path : List ℕ)
+    × AddressedShape b user address path
 
 -- the text has a shape of the scp form
 abbrev pub IsScpShaped : List ℕ → Type 0
@@ -229,7 +237,8 @@ pub record ScpHost (host meant : List ℕ) : Type 0 where
 
 -- a location that only Secure Shell reaches, in the scp form
 abbrev pub scp_location : Option (List ℕ) → List ℕ → List ℕ → Location
-scp_location user host path = record (path_alone ssh true (from_home path)) { user = user; host = Some host }
+scp_location user host path = record
+    (path_alone ssh true (from_home path)) { user = user; host = Some host }
 
 -- the scp form without the shape `user@[address]:path`
 pub record SpellsScpBefore (b : List ℕ) (v : Location) : Type 0 where

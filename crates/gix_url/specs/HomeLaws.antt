@@ -9,7 +9,8 @@ ExactlyOne {A} fits = ((x : A) × fits x) × ((x y : A) → fits x → fits y �
 
 -- a path has one home split: whose home folder it begins in, if any, and what is left
 abbrev pub OneSplit : Type 0
-OneSplit = (path : List ℕ) → ExactlyOne {A = Option HomeUser × List ℕ} (λ split. SplitsHome path split.0 split.1)
+OneSplit = (path : List ℕ)
+    → ExactlyOne {A = Option HomeUser × List ℕ} (λ split. SplitsHome path split.0 split.1)
 
 -- and one reading for a shell
 abbrev pub OneReading : Type 0
@@ -33,4 +34,5 @@ OneFolder = (home : Option (List ℕ)) (user : HomeUser) → ExactlyOne (HomeFol
 
 -- a path is expanded in one way
 abbrev pub OneExpansion : Type 0
-OneExpansion = (home : Option (List ℕ)) (user : Option HomeUser) (path : List ℕ) → ExactlyOne (Expands home user path)
+OneExpansion = (home : Option (List ℕ)) (user : Option HomeUser) (path : List ℕ)
+    → ExactlyOne (Expands home user path)

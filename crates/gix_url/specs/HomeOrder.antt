@@ -42,8 +42,12 @@ user_itself (named name) = refl
 
 -- what is equal is one user
 pub user_decides : (u v : HomeUser) → Decides (user_eq u v) (u ≡ v)
-user_decides u v =
-    (λ e. sym (user_itself u) ∙ (ap user_at ((text_decides (user_name u) (user_name v)).0 e) ∙ user_itself v), λ e. (text_decides (user_name u) (user_name v)).1 (ap user_name e))
+user_decides u v = (
+  λ e. sym (user_itself u) ∙
+      (ap user_at ((text_decides (user_name u) (user_name v)).0 e) ∙ user_itself v),
+  λ e.
+      (text_decides (user_name u) (user_name v)).1 (ap user_name e),
+)
 
 pub user_equiv : IsEquivalence user_eq
 user_equiv = decided user_eq user_decides

@@ -20,16 +20,19 @@ user_of (Name name) = named (bstring_bytes name)
 
 -- the path is `/~` and a name, with nothing below, or `/~`, a name, `/` and what lies below
 abbrev pub HomePath : List ℕ → List ℕ → List ℕ → Type 0
-HomePath path name below = ((path ≡ slash ∷ (tilde ∷ name)) × (below ≡ [])) ⊎ (path ≡ slash ∷ (tilde ∷ (name ++ slash ∷ below)))
+HomePath path name below = ((path ≡ slash ∷ (tilde ∷ name)) × (below ≡ []))
+    ⊎ (path ≡ slash ∷ (tilde ∷ (name ++ slash ∷ below)))
 
 -- the name of a user and what lies below the home folder, or none where the path doesn't begin with `/~`
 abbrev pub CutsHome : List ℕ → Option (Bor (List ℕ) × Bor (List ℕ)) → Type 0
-CutsHome path r = MatchOption r (begins_at_home path ≡ false) (λ p. FreeOf slash p.0.now × HomePath path p.0.now p.1.now)
+CutsHome path r = MatchOption r (begins_at_home path ≡ false)
+    (λ p. FreeOf slash p.0.now × HomePath path p.0.now p.1.now)
 
 -- the first segment of a text, and what stands behind the `/` that ends it, if one does
 abbrev pub CutsSegment : List ℕ → Bor (List ℕ) → Option (Bor (List ℕ)) → Type 0
 CutsSegment text segment behind =
-    FreeOf slash segment.now × MatchOption behind (text ≡ segment.now) (λ more. text ≡ segment.now ++ slash ∷ more.now)
+    FreeOf slash segment.now
+    × MatchOption behind (text ≡ segment.now) (λ more. text ≡ segment.now ++ slash ∷ more.now)
 
 -- the front of a text that ends with its last piece; it is empty where there is none
 pub record UpToLast (text front : List ℕ) : Type 0 where
@@ -39,8 +42,10 @@ pub record UpToLast (text front : List ℕ) : Type 0 where
   pub last : EndsInPiece front ⊎ (front ≡ [])
 
 -- what an expansion answers for a user: the path below a home folder that is the user's, or that none is known
-abbrev pub Expansion : (Option (List ℕ) → Type 0) → HomeUser → List ℕ → Result (String Global) Error → Type 0
-Expansion is_home user path (Ok text) = (folder : List ℕ) × is_home (Some folder) × LiesBelow folder path (string_bytes text)
+abbrev pub Expansion : (Option (List ℕ) → Type 0) → HomeUser → List ℕ → Result (String Global) Error
+    → Type 0
+Expansion is_home user path (Ok text) = (folder : List ℕ) × is_home (Some folder)
+    × LiesBelow folder path (string_bytes text)
 Expansion is_home user path (Err error.Memory) = Unit {0}
 Expansion is_home user path (Err (error.NoHome who)) = is_home None × (user_of who ≡ user)
 Expansion is_home user path (Err _) = ⊥

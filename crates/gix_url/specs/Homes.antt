@@ -22,7 +22,8 @@ pub data SplitsHome (path : List ℕ) (user : Option HomeUser) (rest : List ℕ)
   home_alone : (name : List ℕ) → FreeOf slash name → path ≡ slash ∷ (tilde ∷ name)
       → user ≡ Some (home_user name) → rest ≡ slash ∷ [] → SplitsHome path user rest
   -- `/~name/below`
-  below_home : (name below : List ℕ) → FreeOf slash name → path ≡ slash ∷ (tilde ∷ (name ++ slash ∷ below))
+  below_home : (name below : List ℕ) → FreeOf slash name
+      → path ≡ slash ∷ (tilde ∷ (name ++ slash ∷ below))
       → user ≡ Some (home_user name) → rest ≡ slash ∷ lossy_text below → SplitsHome path user rest
   -- any other path
   no_home : begins_at_home path ≡ false → user ≡ None → rest ≡ path → SplitsHome path user rest
@@ -43,20 +44,27 @@ pub record ForShell (path result : List ℕ) : Type 0 where
 -- ---- which folder
 
 -- the home folder of a user, if it is known, by that of the current user
-pub data HomeFolder (home : Option (List ℕ)) (user : HomeUser) (folder : Option (List ℕ)) : Type 0 where
+pub data HomeFolder (home : Option (List ℕ)) (user : HomeUser)
+    (folder : Option (List ℕ)) : Type 0 where
   -- the current user's own
   own : user ≡ current → folder ≡ home → HomeFolder home user folder
   -- another's lies beside it, in its parent
-  beside : (name own parent other : List ℕ) → user ≡ named name → home ≡ Some own → IsParent own (Some parent)
+  beside : (name own parent other : List ℕ) → user ≡ named name → home ≡ Some own
+      → IsParent own (Some parent)
       → Joins parent (lossy_text name) other → folder ≡ Some other → HomeFolder home user folder
   -- a folder without a parent has none beside it
-  topmost : (name own : List ℕ) → user ≡ named name → home ≡ Some own → IsParent own None → folder ≡ None → HomeFolder home user folder
+  topmost : (name own : List ℕ) → user ≡ named name → home ≡ Some own → IsParent own None
+      → folder ≡ None → HomeFolder home user folder
   -- and none is known beside none
-  unknown : (name : List ℕ) → user ≡ named name → home ≡ None → folder ≡ None → HomeFolder home user folder
+  unknown : (name : List ℕ) → user ≡ named name → home ≡ None → folder ≡ None
+      → HomeFolder home user folder
 
 -- a path as it is without a user, or below the home folder of its user; none where none is known
-pub data Expands (home : Option (List ℕ)) (user : Option HomeUser) (path : List ℕ) (result : Option (List ℕ)) : Type 0 where
+pub data Expands (home : Option (List ℕ)) (user : Option HomeUser) (path : List ℕ)
+    (result : Option (List ℕ)) : Type 0 where
   userless : user ≡ None → result ≡ Some path → Expands home user path result
-  at_home : (who : HomeUser) (folder whole : List ℕ) → user ≡ Some who → HomeFolder home who (Some folder)
+  at_home : (who : HomeUser) (folder whole : List ℕ) → user ≡ Some who
+      → HomeFolder home who (Some folder)
       → LiesBelow folder path whole → result ≡ Some whole → Expands home user path result
-  homeless : (who : HomeUser) → user ≡ Some who → HomeFolder home who None → result ≡ None → Expands home user path result
+  homeless : (who : HomeUser) → user ≡ Some who → HomeFolder home who None → result ≡ None
+      → Expands home user path result

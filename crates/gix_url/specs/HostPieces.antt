@@ -27,7 +27,8 @@ in_brackets inner = left_bracket ∷ (inner ++ right_bracket ∷ [])
 -- in lower case up to the first `%`
 abbrev pub lowercase_address : List ℕ → List ℕ
 lowercase_address [] = []
-lowercase_address (b ∷ bs) = if b == percent_sign then b ∷ bs else to_ascii_lowercase b ∷ lowercase_address bs
+lowercase_address (b ∷ bs) = if b == percent_sign then b ∷ bs
+    else to_ascii_lowercase b ∷ lowercase_address bs
 
 -- the host that a piece stands for
 abbrev pub meant_host : HostPiece → List ℕ
@@ -76,7 +77,8 @@ is_bracketed (Bracketed text) = true
 
 -- the host that was named, with the colon that stays with it
 abbrev pub named_text : NamedHost → List ℕ
-named_text named = if named.keeps_colon then meant_host named.piece ++ colon ∷ [] else meant_host named.piece
+named_text named = if named.keeps_colon then meant_host named.piece ++ colon ∷ []
+    else meant_host named.piece
 
 -- the host and the port of what was read
 abbrev pub host_of : Option NamedHost → Option (List ℕ)
@@ -105,10 +107,13 @@ abbrev pub IsInner : Mode → List ℕ → List ℕ → Type 0
 IsInner mode text host = (inner : List ℕ) × Inner mode text inner × (host ≡ in_brackets inner)
 
 -- nothing follows a host, or a colon that stays with it, or a colon and a port
-pub data Follows (mode : Mode) (base rest : List ℕ) (host : Option (List ℕ)) (port : Option ℕ) : Type 0 where
+pub data Follows (mode : Mode) (base rest : List ℕ) (host : Option (List ℕ))
+    (port : Option ℕ) : Type 0 where
   nothing : rest ≡ [] → host ≡ Some base → port ≡ None → Follows mode base rest host port
-  lone_colon : rest ≡ colon ∷ [] → host ≡ Some (base ++ colon ∷ []) → port ≡ None → Follows mode base rest host port
-  number : (digits : List ℕ) (n : ℕ) → Number mode digits n → rest ≡ colon ∷ digits → host ≡ Some base → port ≡ Some n → Follows mode base rest host port
+  lone_colon : rest ≡ colon ∷ [] → host ≡ Some (base ++ colon ∷ []) → port ≡ None
+      → Follows mode base rest host port
+  number : (digits : List ℕ) (n : ℕ) → Number mode digits n → rest ≡ colon ∷ digits
+      → host ≡ Some base → port ≡ Some n → Follows mode base rest host port
 
 -- a colon and something that is no port
 abbrev pub HasNoPort : Mode → List ℕ → Type 0
@@ -116,4 +121,6 @@ HasNoPort mode rest = (digits : List ℕ) × IsNoPort mode digits × (rest ≡ c
 
 -- what was read from a piece that isn't empty: the host and the port that it names, or a flaw of it
 abbrev pub ReadsName : Mode → List ℕ → Result NamedHost UrlFault → Type 0
-ReadsName mode piece result = MatchResult result (λ named. Names mode piece (Some (named_text named)) named.port) (λ fault. NameFlaw mode piece fault)
+ReadsName mode piece result = MatchResult result
+    (λ named. Names mode piece (Some (named_text named)) named.port)
+    (λ fault. NameFlaw mode piece fault)

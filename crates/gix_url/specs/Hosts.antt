@@ -15,12 +15,16 @@ pub data Mode : Type 0 where
 
 -- a byte that looks like a part of a domain name: a letter, a digit, `-`, `.`, `_` or `*`
 abbrev pub is_dns_byte : ℕ → Bool
-is_dns_byte b = is_ascii_alphanumeric b || (b == hyphen || (b == dot || (b == underscore || b == asterisk)))
+is_dns_byte b = is_ascii_alphanumeric b
+    || (b == hyphen || (b == dot || (b == underscore || b == asterisk)))
 
 -- a byte that the host of an HTTP location may hold: a letter, a digit or one of `-._~!$&'()*+,;=%`, of which those from
 -- `$` to `.` stand side by side
 abbrev pub is_http_host_byte : ℕ → Bool
-is_http_host_byte b = is_ascii_alphanumeric b || ((nat_le dollar_sign b && nat_le b dot) || (b == exclamation_mark || (b == semicolon || (b == equals_sign || (b == underscore || b == tilde)))))
+is_http_host_byte b = is_ascii_alphanumeric b
+    || ((nat_le dollar_sign b && nat_le b dot)
+    || (b == exclamation_mark
+    || (b == semicolon || (b == equals_sign || (b == underscore || b == tilde)))))
 
 -- the normal form of a host: in lower case where it looks like a domain name
 abbrev pub normal_host : List ℕ → List ℕ
@@ -38,7 +42,8 @@ IsLiteral text = (normal : List ℕ) × Literal text normal
 
 -- a text between brackets stands for another, outside HTTP: a literal for its decoded normal form, any other for its decoding
 pub data Bracketed (text : List ℕ) (inner : List ℕ) : Type 0 where
-  literal : (normal : List ℕ) → Literal text normal → inner ≡ percent_decode normal → IsUtf8 inner → Bracketed text inner
+  literal : (normal : List ℕ) → Literal text normal → inner ≡ percent_decode normal → IsUtf8 inner
+      → Bracketed text inner
   other : ¬ IsLiteral text → inner ≡ percent_decode text → IsUtf8 inner → Bracketed text inner
 
 -- a text between brackets stands for another
@@ -66,7 +71,8 @@ pub record Number (mode : Mode) (text : List ℕ) (port : ℕ) : Type 0 where
 
 -- an IPv6 text without brackets, or one with a colon behind it
 abbrev pub IsAddressPiece : List ℕ → Type 0
-IsAddressPiece piece = IsIpv6Text piece ⊎ ((address : List ℕ) × IsIpv6Text address × (piece ≡ address ++ colon ∷ []))
+IsAddressPiece piece = IsIpv6Text piece
+    ⊎ ((address : List ℕ) × IsIpv6Text address × (piece ≡ address ++ colon ∷ []))
 
 -- such a piece, where an address needs no brackets
 abbrev pub ReadsAddress : Mode → List ℕ → Type 0
@@ -74,7 +80,8 @@ ReadsAddress mode piece = (mode ≡ bare) × IsAddressPiece piece
 
 -- the text holds two colons or more
 abbrev pub HoldsTwoColons : List ℕ → Type 0
-HoldsTwoColons piece = (x : List ℕ) × (y : List ℕ) × (z : List ℕ) × (piece ≡ x ++ colon ∷ (y ++ colon ∷ z))
+HoldsTwoColons piece = (x : List ℕ) × (y : List ℕ) × (z : List ℕ)
+    × (piece ≡ x ++ colon ∷ (y ++ colon ∷ z))
 
 -- the colons of the piece are no mark of a port
 abbrev pub IsManyColoned : List ℕ → Type 0
@@ -87,32 +94,42 @@ pub record IsPlainHost (text : List ℕ) : Type 0 where
   pub no_bracket : begins_with left_bracket text ≡ false
 
 -- what stands behind the user information names a host and a port
-pub data Names (mode : Mode) (piece : List ℕ) (host : Option (List ℕ)) (port : Option ℕ) : Type 0 where
+pub data Names (mode : Mode) (piece : List ℕ) (host : Option (List ℕ))
+    (port : Option ℕ) : Type 0 where
   -- nothing
   nothing : piece ≡ [] → host ≡ None → port ≡ None → Names mode piece host port
   -- `[x]`
   bracketed : (x inner : List ℕ) → FreeOf right_bracket x → Inner mode x inner
       → piece ≡ left_bracket ∷ (x ++ right_bracket ∷ [])
-      → host ≡ Some (left_bracket ∷ (inner ++ right_bracket ∷ [])) → port ≡ None → Names mode piece host port
+      → host ≡ Some (left_bracket ∷ (inner ++ right_bracket ∷ [])) → port ≡ None
+      → Names mode piece host port
   -- `[x]:`, where the colon stays with the host
   bracketed_colon : (x inner : List ℕ) → FreeOf right_bracket x → Inner mode x inner
       → piece ≡ left_bracket ∷ (x ++ right_bracket ∷ (colon ∷ []))
-      → host ≡ Some (left_bracket ∷ (inner ++ right_bracket ∷ (colon ∷ []))) → port ≡ None → Names mode piece host port
+      → host ≡ Some (left_bracket ∷ (inner ++ right_bracket ∷ (colon ∷ []))) → port ≡ None
+      → Names mode piece host port
   -- `[x]:port`
-  bracketed_port : (x inner digits : List ℕ) (number : ℕ) → FreeOf right_bracket x → Inner mode x inner → Number mode digits number
+  bracketed_port : (x inner digits : List ℕ) (number : ℕ) → FreeOf right_bracket x
+      → Inner mode x inner → Number mode digits number
       → piece ≡ left_bracket ∷ (x ++ right_bracket ∷ (colon ∷ digits))
-      → host ≡ Some (left_bracket ∷ (inner ++ right_bracket ∷ [])) → port ≡ Some number → Names mode piece host port
+      → host ≡ Some (left_bracket ∷ (inner ++ right_bracket ∷ [])) → port ≡ Some number
+      → Names mode piece host port
   -- an address without brackets, where Git's own transports read one
-  unbracketed : ReadsAddress mode piece → host ≡ Some (lowercase piece) → port ≡ None → Names mode piece host port
+  unbracketed : ReadsAddress mode piece → host ≡ Some (lowercase piece) → port ≡ None
+      → Names mode piece host port
   -- `host`
   plain : (named : List ℕ) → IsPlainHost piece → HostText mode piece named
       → host ≡ Some named → port ≡ None → Names mode piece host port
   -- `host:`, where the colon stays with the host
   plain_colon : (text named : List ℕ) → IsPlainHost text → HostText mode text named
-      → piece ≡ text ++ colon ∷ [] → host ≡ Some (named ++ colon ∷ []) → port ≡ None → Names mode piece host port
+      → piece ≡ text ++ colon ∷ [] → host ≡ Some (named ++ colon ∷ []) → port ≡ None
+      → Names mode piece host port
   -- `host:port`
-  plain_port : (text named digits : List ℕ) (number : ℕ) → IsPlainHost text → HostText mode text named → Number mode digits number
-      → piece ≡ text ++ colon ∷ digits → host ≡ Some named → port ≡ Some number → Names mode piece host port
+  plain_port : (text named digits : List ℕ) (number : ℕ) → IsPlainHost text
+      → HostText mode text named → Number mode digits number
+      → piece ≡ text ++ colon ∷ digits → host ≡ Some named → port ≡ Some number
+      → Names mode piece host port
   -- colons that mark no port, outside HTTP: the whole piece is the host
-  colons : (named : List ℕ) → ¬ (mode ≡ strict) → ¬ ReadsAddress mode piece → begins_with left_bracket piece ≡ false → IsManyColoned piece → HostText mode piece named
+  colons : (named : List ℕ) → ¬ (mode ≡ strict) → ¬ ReadsAddress mode piece
+      → begins_with left_bracket piece ≡ false → IsManyColoned piece → HostText mode piece named
       → host ≡ Some named → port ≡ None → Names mode piece host port

@@ -11,4 +11,5 @@ is_ready_in_path b = is_between 38 59 b || is_between 63 95 b || is_between 97 1
 
 -- a byte from `&` to `.`, a digit or a letter
 abbrev pub is_ready_in_user : ℕ → Bool
-is_ready_in_user b = is_between 38 46 b || is_between 48 57 b || is_between 65 90 b || is_between 97 122 b
+is_ready_in_user b = is_between 38 46 b || is_between 48 57 b || is_between 65 90 b
+    || is_between 97 122 b

@@ -32,15 +32,18 @@ pub record ComesBack (v : Location) : Type 0 where
 
 -- a settled location comes back as a settled one
 abbrev pub SettledAgain : Type 0
-SettledAgain = (v : Location) → IsValue v → IsSettled v → (back : ComesBack v) × IsSettled back.reread
+SettledAgain = (v : Location) → IsValue v → IsSettled v
+    → (back : ComesBack v) × IsSettled back.reread
 
 -- settled locations with one text have the same fields
 abbrev pub TextDecides : Type 0
-TextDecides = (v w : Location) → IsValue v → IsValue w → IsSettled v → IsSettled w → text v ≡ text w → fields v ≡ fields w
+TextDecides = (v w : Location) → IsValue v → IsValue w → IsSettled v → IsSettled w → text v ≡ text w
+    → fields v ≡ fields w
 
 -- what is read of a settled location of HTTP has the same components
 abbrev pub SameComponents : Type 0
-SameComponents = (v w : Location) (t : List ℕ) → IsValue v → IsWeb v → IsSettled v → text v ≡ Ok t → Spells t w
+SameComponents = (v w : Location) (t : List ℕ) → IsValue v → IsWeb v → IsSettled v → text v ≡ Ok t
+    → Spells t w
     → (components : Components) → PartsOf w components ↔ PartsOf v components
 
 -- ---- closure
@@ -59,17 +62,20 @@ is_closed (helper_url name) = false
 -- the corners: hosts that would be written in brackets, and texts that are too long to be read again
 pub data IsCorner (v : Location) : Type 0 where
   -- a host of a file URL with `:` and `%` that doesn't begin with `[`
-  file_host : (host : List ℕ) → v.scheme ≡ file → v.host ≡ Some host → begins_with left_bracket host ≡ false
+  file_host : (host : List ℕ) → v.scheme ≡ file → v.host ≡ Some host
+      → begins_with left_bracket host ≡ false
       → has_colon host ≡ true → has_percent host ≡ true → IsCorner v
   -- a host of HTTP with `%` and a `:` at its end that doesn't begin with `[`
-  web_host : (front : List ℕ) → IsWeb v → v.host ≡ Some (front ++ colon ∷ []) → begins_with left_bracket (front ++ colon ∷ []) ≡ false
+  web_host : (front : List ℕ) → IsWeb v → v.host ≡ Some (front ++ colon ∷ [])
+      → begins_with left_bracket (front ++ colon ∷ []) ≡ false
       → has_percent (front ++ colon ∷ []) ≡ true → IsCorner v
   -- a location of HTTP whose text is too long
   web_length : IsWeb v → ¬ HasFittingText v → IsCorner v
 
 -- what is spelled is settled, or stands in a corner
 abbrev pub Closed : Type 0
-Closed = (b : List ℕ) (v : Location) → Spells b v → is_closed v.scheme ≡ true → IsSettled v ⊎ IsCorner v
+Closed = (b : List ℕ) (v : Location) → Spells b v → is_closed v.scheme ≡ true
+    → IsSettled v ⊎ IsCorner v
 
 -- no location in a corner is settled
 abbrev pub Apart : Type 0
@@ -77,7 +83,8 @@ Apart = (v : Location) → IsCorner v → ¬ IsSettled v
 
 -- what comes back is settled, and nothing else: of values whose spelling isn't their path
 abbrev pub Exact : Type 0
-Exact = (v : Location) → IsValue v → is_closed v.scheme ≡ true → ¬ (v.spelling ≡ Some v.path) → IsSettled v ↔ ComesBack v
+Exact = (v : Location) → IsValue v → is_closed v.scheme ≡ true → ¬ (v.spelling ≡ Some v.path)
+    → IsSettled v ↔ ComesBack v
 
 -- ---- kinds that keep every byte
 
@@ -98,17 +105,20 @@ KeepsBytes v = keeps_bytes v.scheme v.flag ≡ true
 
 -- what is not settled has the fields of nothing that is spelled
 abbrev pub ExactByFields : Type 0
-ExactByFields = (v : Location) → KeepsBytes v → (b : List ℕ) (w : Location) → Spells b w → fields w ≡ fields v → IsSettled v
+ExactByFields = (v : Location) → KeepsBytes v → (b : List ℕ) (w : Location) → Spells b w
+    → fields w ≡ fields v → IsSettled v
 
 -- what a remote helper's form or a local path spells is settled, and is written as the bytes that it was read from
 abbrev pub Unchanged : Type 0
-Unchanged = (b : List ℕ) (v : Location) → SpellsHelper b v ⊎ SpellsLocal b v → IsSettled v × (text v ≡ Ok b)
+Unchanged = (b : List ℕ) (v : Location) → SpellsHelper b v ⊎ SpellsLocal b v
+    → IsSettled v × (text v ≡ Ok b)
 
 -- ---- what is read
 
 -- what is spelled has a text, and is itself when it was stored: its spelling isn't its path
 abbrev pub Writable : Type 0
-Writable = (b : List ℕ) (v : Location) → Spells b v → ((t : List ℕ) × (text v ≡ Ok t)) × ¬ (v.spelling ≡ Some v.path) × (migrated v ≡ v)
+Writable = (b : List ℕ) (v : Location) → Spells b v
+    → ((t : List ℕ) × (text v ≡ Ok t)) × ¬ (v.spelling ≡ Some v.path) × (migrated v ≡ v)
 
 -- ---- the earlier grammar
 
@@ -129,7 +139,8 @@ pub data SpellsBefore (b : List ℕ) (v : Location) : Type 0 where
 
 -- what the earlier grammar spelled is spelled; bytes without the shape spell nothing else
 abbrev pub KeepsEarlier : Type 0
-KeepsEarlier = (b : List ℕ) (v : Location) → (SpellsBefore b v → Spells b v) × (¬ IsAddressed b → Spells b v → SpellsBefore b v)
+KeepsEarlier = (b : List ℕ) (v : Location)
+    → (SpellsBefore b v → Spells b v) × (¬ IsAddressed b → Spells b v → SpellsBefore b v)
 
 -- ---- equality, order and hash
 
@@ -147,7 +158,8 @@ FedAlike {K} equal fed = (x y : K) → IsTrue (equal x y) → fed x ≡ fed y
 
 -- what is fed to a hasher alike is one location
 abbrev pub LocationsFedApart : Type 0
-LocationsFedApart = (v w : Location) → IsValue v → IsValue w → fed_location v ≡ fed_location w → v ≡ w
+LocationsFedApart = (v w : Location) → IsValue v → IsValue w → fed_location v ≡ fed_location w
+    → v ≡ w
 
 -- what is fed to a hasher alike is one protocol
 abbrev pub ProtocolsFedApart : Type 0
@@ -155,4 +167,6 @@ ProtocolsFedApart = (p q : Protocol) → fed_protocol p ≡ fed_protocol q → p
 
 -- the public fields decide the order, and the spelling only where they are equal
 abbrev pub SpellingLast : Type 0
-SpellingLast = (v w : Location) → location_cmp v w ≡ ordering_then (location_cmp (fields v) (fields w)) (text_cmp v.spelling w.spelling)
+SpellingLast = (v w : Location)
+    → location_cmp v w ≡ ordering_then (location_cmp (fields v) (fields w))
+    (text_cmp v.spelling w.spelling)

@@ -45,8 +45,11 @@ protocol_eq p q = nat_eq (rank p) (rank q) && text_eq (held_name p) (held_name q
 -- locations are equal where all eight parts are
 abbrev pub location_eq : Location → Location → Bool
 location_eq v w =
-    protocol_eq v.scheme w.scheme && (text_eq v.user w.user && (text_eq v.password w.password && (text_eq v.host w.host
-    && (beq v.flag w.flag && (option_eq nat_eq v.port w.port && (bytes_eq v.path w.path && text_eq v.spelling w.spelling))))))
+    protocol_eq v.scheme w.scheme
+    && (text_eq v.user w.user && (text_eq v.password w.password && (text_eq v.host w.host
+    && (beq v.flag w.flag
+    && (option_eq nat_eq v.port w.port
+    && (bytes_eq v.path w.path && text_eq v.spelling w.spelling))))))
 
 -- ---- order
 
@@ -65,8 +68,10 @@ protocol_cmp = then_cmp (on rank nat_cmp) (on held_name text_cmp)
 -- locations are ordered by the first part that differs, in declared order, the retained spelling last
 abbrev pub location_cmp : Location → Location → Ordering
 location_cmp =
-    then_cmp (on (λ v. v.scheme) protocol_cmp) (then_cmp (on (λ v. v.user) text_cmp) (then_cmp (on (λ v. v.password) text_cmp)
-    (then_cmp (on (λ v. v.host) text_cmp) (then_cmp (on (λ v. v.flag) bool_cmp) (then_cmp (on (λ v. v.port) (option_cmp nat_cmp))
+    then_cmp (on (λ v. v.scheme) protocol_cmp)
+    (then_cmp (on (λ v. v.user) text_cmp) (then_cmp (on (λ v. v.password) text_cmp)
+    (then_cmp (on (λ v. v.host) text_cmp)
+    (then_cmp (on (λ v. v.flag) bool_cmp) (then_cmp (on (λ v. v.port) (option_cmp nat_cmp))
     (then_cmp (on (λ v. v.path) bytes_cmp) (on (λ v. v.spelling) text_cmp)))))))
 
 -- ---- hash
@@ -88,4 +93,5 @@ fed_protocol p = fed.u8 (rank p) ++ fed_text (held_name p)
 abbrev pub fed_location : Location → HashWrites
 fed_location v =
     fed_protocol v.scheme ++ (fed_text v.user ++ (fed_text v.password ++ (fed_text v.host
-    ++ (fed.bool v.flag ++ (fed.option fed.u16 v.port ++ (fed_bytes v.path ++ fed_text v.spelling))))))
+    ++ (fed.bool v.flag ++
+    (fed.option fed.u16 v.port ++ (fed_bytes v.path ++ fed_text v.spelling))))))

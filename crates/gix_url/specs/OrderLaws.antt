@@ -15,11 +15,13 @@ use Rattle.gix_url.specs.Order.{rank, held_name, text_eq, protocol_eq, location_
 -- ---- what is equal is one value
 
 -- a test that decides equality does so of what may be missing, too
-pub options_decide : {K : Type 0} (E : K → K → Bool) → ((x y : K) → Decides (E x y) (x ≡ y)) → (p q : Option K) → Decides (option_eq E p q) (p ≡ q)
+pub options_decide : {K : Type 0} (E : K → K → Bool) → ((x y : K) → Decides (E x y) (x ≡ y))
+    → (p q : Option K) → Decides (option_eq E p q) (p ≡ q)
 options_decide E d None None = (λ e. refl, λ e. refl)
 options_decide E d None (Some y) = (λ e. absurd (true≢false (sym e)), λ e. sym (ap is_none e))
 options_decide E d (Some x) None = (λ e. absurd (true≢false (sym e)), λ e. ap is_none e)
-options_decide E d (Some x) (Some y) = (λ e. ap Some ((d x y).0 e), λ e. (d x y).1 (ap (λ p. unwrap_or p x) e))
+options_decide E d (Some x) (Some y) =
+    (λ e. ap Some ((d x y).0 e), λ e. (d x y).1 (ap (λ p. unwrap_or p x) e))
 
 pub text_decides : (p q : Option (List ℕ)) → Decides (text_eq p q) (p ≡ q)
 text_decides = options_decide bytes_eq bytes_decides
@@ -49,7 +51,8 @@ at_itself (helper_url name) = refl
 
 -- protocols of one kind and one name are one
 pub kind_and_name : (p q : Protocol) → rank p ≡ rank q → held_name p ≡ held_name q → p ≡ q
-kind_and_name p q kinds names = sym (at_itself p) ∙ ((λ i. protocol_at (kinds i) (names i)) ∙ at_itself q)
+kind_and_name p q kinds names = sym (at_itself p) ∙
+    ((λ i. protocol_at (kinds i) (names i)) ∙ at_itself q)
 
 -- two tests that pass, pass together
 pub both_pass : (s t : Bool) → s ≡ true → t ≡ true → (s && t) ≡ true
@@ -57,15 +60,20 @@ both_pass s t p q = λ i. p i && q i
 
 protocol_same : (p q : Protocol) → protocol_eq p q ≡ true → p ≡ q
 protocol_same p q h =
-    let kinds = (unsigned_Decides (rank p) (rank q)).0 (first_so (nat_eq (rank p) (rank q)) (text_eq (held_name p) (held_name q)) h) in
-    let names = (text_decides (held_name p) (held_name q)).0 (second_so (nat_eq (rank p) (rank q)) (text_eq (held_name p) (held_name q)) h) in
+    let kinds = (unsigned_Decides (rank p) (rank q)).0
+    (first_so (nat_eq (rank p) (rank q)) (text_eq (held_name p) (held_name q)) h) in
+    let names = (text_decides (held_name p) (held_name q)).0
+    (second_so (nat_eq (rank p) (rank q)) (text_eq (held_name p) (held_name q)) h) in
     kind_and_name p q kinds names
 
 protocol_itself : (p : Protocol) → protocol_eq p p ≡ true
-protocol_itself p = both_pass (nat_eq (rank p) (rank p)) (text_eq (held_name p) (held_name p)) ((unsigned_Decides (rank p) (rank p)).1 refl) ((text_decides (held_name p) (held_name p)).1 refl)
+protocol_itself p = both_pass (nat_eq (rank p) (rank p)) (text_eq (held_name p) (held_name p))
+    ((unsigned_Decides (rank p) (rank p)).1 refl)
+    ((text_decides (held_name p) (held_name p)).1 refl)
 
 pub protocol_decides : (p q : Protocol) → Decides (protocol_eq p q) (p ≡ q)
-protocol_decides p q = (protocol_same p q, λ e. subst (λ r. protocol_eq p r ≡ true) e (protocol_itself p))
+protocol_decides p q =
+    (protocol_same p q, λ e. subst (λ r. protocol_eq p r ≡ true) e (protocol_itself p))
 
 pub protocol_equiv : IsEquivalence protocol_eq
 protocol_equiv = decided protocol_eq protocol_decides
@@ -82,7 +90,8 @@ record AllPass (a b c d e f g h : Bool) : Type 0 where
   spelling : h ≡ true
 
 -- eight tests that pass one behind the other
-all_pass : (a b c d e f g h : Bool) → (a && (b && (c && (d && (e && (f && (g && h))))))) ≡ true → AllPass a b c d e f g h
+all_pass : (a b c d e f g h : Bool) → (a && (b && (c && (d && (e && (f && (g && h))))))) ≡ true
+    → AllPass a b c d e f g h
 all_pass a b c d e f g h whole =
     let from_b = second_so a (b && (c && (d && (e && (f && (g && h)))))) whole in
     let from_c = second_so b (c && (d && (e && (f && (g && h))))) from_b in
@@ -103,7 +112,10 @@ all_pass a b c d e f g h whole =
 
 location_same : (v w : Location) → location_eq v w ≡ true → v ≡ w
 location_same v w h =
-    let told = all_pass (protocol_eq v.scheme w.scheme) (text_eq v.user w.user) (text_eq v.password w.password) (text_eq v.host w.host) (beq v.flag w.flag) (option_eq nat_eq v.port w.port) (bytes_eq v.path w.path) (text_eq v.spelling w.spelling) h in
+    let told = all_pass (protocol_eq v.scheme w.scheme) (text_eq v.user w.user)
+    (text_eq v.password w.password) (text_eq v.host w.host) (beq v.flag w.flag)
+    (option_eq nat_eq v.port w.port) (bytes_eq v.path w.path)
+    (text_eq v.spelling w.spelling) h in
     let scheme = protocol_same v.scheme w.scheme told.scheme in
     let user = (text_decides v.user w.user).0 told.user in
     let password = (text_decides v.password w.password).0 told.password in
@@ -133,10 +145,12 @@ location_itself v =
     let port = (options_decide nat_eq unsigned_Decides v.port v.port).1 refl in
     let path = (bytes_decides v.path v.path).1 refl in
     let spelling = (text_decides v.spelling v.spelling).1 refl in
-    λ i. scheme i && (user i && (password i && (host i && (flag i && (port i && (path i && spelling i))))))
+    λ i. scheme i && (user i
+    && (password i && (host i && (flag i && (port i && (path i && spelling i))))))
 
 pub location_decides : (v w : Location) → Decides (location_eq v w) (v ≡ w)
-location_decides v w = (location_same v w, λ e. subst (λ u. location_eq v u ≡ true) e (location_itself v))
+location_decides v w =
+    (location_same v w, λ e. subst (λ u. location_eq v u ≡ true) e (location_itself v))
 
 pub location_equiv : IsEquivalence location_eq
 location_equiv = decided location_eq location_decides
@@ -151,14 +165,21 @@ protocol_total = then_total (on_total rank nat_cmp_total) (on_total held_name te
 
 pub location_total : IsTotalOrder location_cmp
 location_total =
-    then_total (on_total (λ v. v.scheme) protocol_total) (then_total (on_total (λ v. v.user) text_total) (then_total (on_total (λ v. v.password) text_total)
-    (then_total (on_total (λ v. v.host) text_total) (then_total (on_total (λ v. v.flag) bool_cmp_total) (then_total (on_total (λ v. v.port) (options_total nat_cmp_total))
-    (then_total (on_total (λ v. v.path) nat_list_cmp_total) (on_total (λ v. v.spelling) text_total)))))))
+    then_total (on_total (λ v. v.scheme) protocol_total)
+    (then_total (on_total (λ v. v.user) text_total)
+    (then_total (on_total (λ v. v.password) text_total)
+    (then_total (on_total (λ v. v.host) text_total)
+    (then_total (on_total (λ v. v.flag) bool_cmp_total)
+    (then_total (on_total (λ v. v.port) (options_total nat_cmp_total))
+    (then_total (on_total (λ v. v.path) nat_list_cmp_total)
+    (on_total (λ v. v.spelling) text_total)))))))
 
 -- ---- what is equal is what the order doesn't tell apart
 
 -- of what may be missing, too
-options_tie : {K : Type 0} (E : K → K → Bool) (R : K → K → Ordering) → ((x y : K) → E x y ≡ eq_by_cmp R x y) → (p q : Option K) → option_eq E p q ≡ eq_by_cmp (option_cmp R) p q
+options_tie : {K : Type 0} (E : K → K → Bool) (R : K → K → Ordering)
+    → ((x y : K) → E x y ≡ eq_by_cmp R x y) → (p q : Option K)
+    → option_eq E p q ≡ eq_by_cmp (option_cmp R) p q
 options_tie E R t None None = refl
 options_tie E R t None (Some y) = refl
 options_tie E R t (Some x) None = refl
@@ -174,12 +195,17 @@ flag_ties true false = refl
 flag_ties true true = refl
 
 pub protocol_ties : (p q : Protocol) → protocol_eq p q ≡ eq_by_cmp protocol_cmp p q
-protocol_ties p q = both_tied _ _ _ _ (unsigned_ties (rank p) (rank q)) (text_ties (held_name p) (held_name q))
+protocol_ties p q = both_tied _ _ _ _ (unsigned_ties (rank p) (rank q))
+    (text_ties (held_name p) (held_name q))
 
 pub location_ties : (v w : Location) → location_eq v w ≡ eq_by_cmp location_cmp v w
 location_ties v w =
-    both_tied _ _ _ _ (protocol_ties v.scheme w.scheme) (both_tied _ _ _ _ (text_ties v.user w.user) (both_tied _ _ _ _ (text_ties v.password w.password)
-    (both_tied _ _ _ _ (text_ties v.host w.host) (both_tied _ _ _ _ (flag_ties v.flag w.flag) (both_tied _ _ _ _ (options_tie nat_eq nat_cmp unsigned_ties v.port w.port)
+    both_tied _ _ _ _ (protocol_ties v.scheme w.scheme)
+    (both_tied _ _ _ _ (text_ties v.user w.user)
+    (both_tied _ _ _ _ (text_ties v.password w.password)
+    (both_tied _ _ _ _ (text_ties v.host w.host)
+    (both_tied _ _ _ _ (flag_ties v.flag w.flag)
+    (both_tied _ _ _ _ (options_tie nat_eq nat_cmp unsigned_ties v.port w.port)
     (both_tied _ _ _ _ (texts_ties v.path w.path) (text_ties v.spelling w.spelling)))))))
 
 pub protocol_po : IsPartialOrder protocol_eq (λ p q. Some (protocol_cmp p q))

@@ -21,13 +21,15 @@ behind_slashes segments = flat_map (λ segment. slash ∷ segment) segments
 
 -- segments that don't count, each behind a `/`: what may stand between two pieces, and behind the last
 abbrev pub IsIdle : List ℕ → Type 0
-IsIdle text = (segments : List (List ℕ)) × (list_any counts segments ≡ false) × (text ≡ behind_slashes segments)
+IsIdle text = (segments : List (List ℕ)) × (list_any counts segments ≡ false)
+    × (text ≡ behind_slashes segments)
 
 -- the text is these pieces in order, each behind a `/`, and nothing else that counts
 abbrev pub HoldsPieces : List (List ℕ) → List ℕ → Type 0
 HoldsPieces [] text = IsIdle text
 HoldsPieces (piece ∷ others) text =
-    (gap : List ℕ) × (rest : List ℕ) × IsIdle gap × IsPiece piece × HoldsPieces others rest × (text ≡ gap ++ (slash ∷ (piece ++ rest)))
+    (gap : List ℕ) × (rest : List ℕ) × IsIdle gap × IsPiece piece × HoldsPieces others rest
+    × (text ≡ gap ++ (slash ∷ (piece ++ rest)))
 
 -- a text is its first segment, which is empty where the text begins with `/`, and the pieces behind it
 pub record HasPieces (text first : List ℕ) (pieces : List (List ℕ)) : Type 0 where
@@ -38,14 +40,16 @@ pub record HasPieces (text first : List ℕ) (pieces : List (List ℕ)) : Type 0
 
 -- a text without its first component, which is the root or the first segment: the pieces behind, with a `/` between each two
 abbrev pub WithoutFirst : List ℕ → List ℕ → Type 0
-WithoutFirst text rest = (first : List ℕ) × (pieces : List (List ℕ)) × HasPieces text first pieces × (rest ≡ join_with_byte slash pieces)
+WithoutFirst text rest = (first : List ℕ) × (pieces : List (List ℕ)) × HasPieces text first pieces
+    × (rest ≡ join_with_byte slash pieces)
 
 -- ---- joined paths
 
 -- a folder, and the same ready for what is in it: with a `/` at its end, unless it is empty
 pub data Opens (folder ready : List ℕ) : Type 0 where
   empty_folder : folder ≡ [] → ready ≡ [] → Opens folder ready
-  behind_slash : (front : List ℕ) → folder ≡ front ++ slash ∷ [] → ready ≡ folder → Opens folder ready
+  behind_slash : (front : List ℕ) → folder ≡ front ++ slash ∷ [] → ready ≡ folder
+      → Opens folder ready
   behind_name : (front : List ℕ) (last : ℕ) → (last == slash) ≡ false → folder ≡ front ++ last ∷ []
       → ready ≡ folder ++ slash ∷ [] → Opens folder ready
 
@@ -54,7 +58,8 @@ pub data Joins (folder path whole : List ℕ) : Type 0 where
   -- a path that begins with `/` stands alone
   alone : begins_with slash path ≡ true → whole ≡ path → Joins folder path whole
   -- any other stands in the folder
-  within : begins_with slash path ≡ false → (ready : List ℕ) → Opens folder ready → whole ≡ ready ++ path → Joins folder path whole
+  within : begins_with slash path ≡ false → (ready : List ℕ) → Opens folder ready
+      → whole ≡ ready ++ path → Joins folder path whole
 
 -- what lies below a folder: the path, without its first component, joined to it
 abbrev pub LiesBelow : List ℕ → List ℕ → List ℕ → Type 0
@@ -64,14 +69,17 @@ LiesBelow folder path whole = (rest : List ℕ) × WithoutFirst path rest × Joi
 
 -- the text ends in a piece, which stands behind a `/` or is the first segment
 pub data EndsInPiece (text : List ℕ) : Type 0 where
-  last_piece : (front piece : List ℕ) → IsPiece piece → text ≡ front ++ slash ∷ piece → EndsInPiece text
+  last_piece : (front piece : List ℕ) → IsPiece piece → text ≡ front ++ slash ∷ piece
+      → EndsInPiece text
   lone_piece : FreeOf slash text → 0 < length text → EndsInPiece text
 
 -- the parent of a text: the front that ends with the last piece but one, or what stands for it
 pub data IsParent (text : List ℕ) (parent : Option (List ℕ)) : Type 0 where
   -- another piece stands before the last
-  above_last : (front gap piece tail : List ℕ) → EndsInPiece front → IsIdle gap → IsPiece piece → IsIdle tail
-      → text ≡ front ++ (gap ++ (slash ∷ (piece ++ tail))) → parent ≡ Some front → IsParent text parent
+  above_last : (front gap piece tail : List ℕ) → EndsInPiece front → IsIdle gap → IsPiece piece
+      → IsIdle tail
+      → text ≡ front ++ (gap ++ (slash ∷ (piece ++ tail))) → parent ≡ Some front
+      → IsParent text parent
   -- the only piece stands in the root
   in_root : (gap piece tail : List ℕ) → IsIdle gap → IsPiece piece → IsIdle tail
       → text ≡ gap ++ (slash ∷ (piece ++ tail)) → parent ≡ Some (slash ∷ []) → IsParent text parent

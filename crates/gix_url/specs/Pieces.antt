@@ -40,7 +40,8 @@ scheme_text (scheme.Marked name mark) = name.now ++ mark.now
 abbrev pub user_text : UserPieces → List ℕ
 user_text user.None = []
 user_text (user.User name) = piece_text name ++ at_sign ∷ []
-user_text (user.Both name password) = piece_text name ++ (colon ∷ (piece_text password ++ at_sign ∷ []))
+user_text (user.Both name password) = piece_text name
+    ++ (colon ∷ (piece_text password ++ at_sign ∷ []))
 
 -- the host
 abbrev pub host_text : HostPieces → List ℕ
@@ -60,7 +61,8 @@ path_end_text (path.Escaped mark bytes) = mark.now ++ percent_encode PATH bytes.
 
 -- the text of all pieces
 abbrev pub pieces_text : Pieces → List ℕ
-pieces_text p = scheme_text p.scheme ++ (user_text p.user ++ (host_text p.host ++ (port_text p.port ++ path_end_text p.path)))
+pieces_text p = scheme_text p.scheme
+    ++ (user_text p.user ++ (host_text p.host ++ (port_text p.port ++ path_end_text p.path)))
 
 -- ---- forms
 

@@ -58,7 +58,8 @@ ReadsAgain v (Err e) = e ≡ error.Memory
 
 -- what a call left that wrote a text to a writer: on `Ok` the text is appended; where there is none the fault is
 -- told and the writer is as it was
-abbrev pub Written : {W : Type 0} → (W → Option (List ℕ)) → W → W → Result (List ℕ) WriteFault → Result (Unit {0}) WriteError → Type 0
+abbrev pub Written : {W : Type 0} → (W → Option (List ℕ)) → W → W → Result (List ℕ) WriteFault
+    → Result (Unit {0}) WriteError → Type 0
 Written contents old new (Ok t) (Ok u) = Appends (contents old) (contents new) t
 Written contents old new (Ok t) (Err (Fault f)) = ⊥
 Written contents old new (Ok t) (Err (Io e)) = Unit {0}

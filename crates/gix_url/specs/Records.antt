@@ -19,7 +19,8 @@ begins_escape b behind = b == percent_sign && begins_with_digits behind
 -- the path is escapes and other bytes, and the spelling has the same escapes, and those bytes as they are written in a path
 pub data Respells : List ℕ → List ℕ → Type 0 where
   nothing : Respells [] []
-  escape : (high low : ℕ) (path spelling : List ℕ) → is_hexadecimal high ≡ true → is_hexadecimal low ≡ true → Respells path spelling
+  escape : (high low : ℕ) (path spelling : List ℕ) → is_hexadecimal high ≡ true
+      → is_hexadecimal low ≡ true → Respells path spelling
       → Respells (percent_sign ∷ high ∷ low ∷ path) (percent_sign ∷ high ∷ low ∷ spelling)
   other : (b : ℕ) (path spelling : List ℕ) → begins_escape b path ≡ false → Respells path spelling
       → Respells (b ∷ path) (written_in_path b ++ spelling)
@@ -27,7 +28,8 @@ pub data Respells : List ℕ → List ℕ → Type 0 where
 -- the path with each `%` that begins an escape as it is, and every other byte as it is written in a path
 abbrev pub new_spelling : List ℕ → List ℕ
 new_spelling [] = []
-new_spelling (b ∷ path) = (if begins_escape b path then b ∷ [] else written_in_path b) ++ new_spelling path
+new_spelling (b ∷ path) = (if begins_escape b path then b ∷ [] else written_in_path b)
+    ++ new_spelling path
 
 -- ---- migration
 
@@ -64,12 +66,14 @@ RespelledOnce = (path spelling : List ℕ) → Respells path spelling ↔ (spell
 
 -- a path in its new spelling stands for the same bytes
 abbrev pub KeepsMeaning : Type 0
-KeepsMeaning = (path spelling : List ℕ) → All (λ b. b < 256) path → Respells path spelling → percent_decode spelling ≡ percent_decode path
+KeepsMeaning = (path spelling : List ℕ) → All (λ b. b < 256) path → Respells path spelling
+    → percent_decode spelling ≡ percent_decode path
 
 -- a record of the legacy form stands for the location with its path decoded and its new spelling, and any other for itself
 abbrev pub Migrates : Type 0
 Migrates = (v : Location)
-    → ((spelling : List ℕ) → IsLegacy v → Respells v.path spelling → migrated v ≡ record v { path = percent_decode v.path; spelling = Some spelling })
+    → ((spelling : List ℕ) → IsLegacy v → Respells v.path spelling
+    → migrated v ≡ record v { path = percent_decode v.path; spelling = Some spelling })
     × (¬ IsLegacy v → migrated v ≡ v)
 
 -- a location that was migrated stands for itself when it is stored

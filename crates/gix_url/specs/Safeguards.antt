@@ -11,15 +11,18 @@ use Rattle.gix_url.specs.Display.{display}
 
 -- locations that differ in nothing but what their passwords are look alike
 abbrev pub HidesPassword : Type 0
-HidesPassword = (v : Location) (p q : List ℕ) → display (record v { password = Some p }) ≡ display (record v { password = Some q })
+HidesPassword = (v : Location) (p q : List ℕ)
+    → display (record v { password = Some p }) ≡ display (record v { password = Some q })
 
 -- what is judged usable doesn't begin with `-`, and is the part itself
 abbrev pub UsableIsNoOption : Type 0
-UsableIsNoOption = (part : Option (List ℕ)) (text : List ℕ) → judgement_of part ≡ usable text → (part ≡ Some text) × (is_option_like text ≡ false)
+UsableIsNoOption = (part : Option (List ℕ)) (text : List ℕ) → judgement_of part ≡ usable text
+    → (part ≡ Some text) × (is_option_like text ≡ false)
 
 -- the path that is handed over doesn't begin with `-`, and is the path itself
 abbrev pub PathIsNoOption : Type 0
-PathIsNoOption = (path text : List ℕ) → path_argument path ≡ Some text → (path ≡ text) × (is_option_like text ≡ false)
+PathIsNoOption = (path text : List ℕ) → path_argument path ≡ Some text
+    → (path ≡ text) × (is_option_like text ≡ false)
 
 -- the code's set of the path is the documented one, and holds the documented bytes of ASCII
 abbrev pub PathSet : Type 0

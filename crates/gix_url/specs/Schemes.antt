@@ -7,7 +7,8 @@ use Rattle.gix_url.specs.Hosts.Mode.{strict, bare, loose}
 
 -- the scheme is one of Secure Shell's names
 abbrev pub is_ssh_scheme : List ℕ → Bool
-is_ssh_scheme s = bytes_eq s (codes "ssh") || (bytes_eq s (codes "ssh+git") || bytes_eq s (codes "git+ssh"))
+is_ssh_scheme s = bytes_eq s (codes "ssh")
+    || (bytes_eq s (codes "ssh+git") || bytes_eq s (codes "git+ssh"))
 
 -- the scheme is HTTP's, with or without encryption
 abbrev pub is_web_scheme : List ℕ → Bool
@@ -48,12 +49,17 @@ default_port_of (helper_url name) = None
 
 -- how the host of a URL with this scheme is read
 abbrev pub mode_of : List ℕ → Mode
-mode_of s = if is_web_scheme s then strict else (if is_ssh_scheme s || bytes_eq s (codes "git") then bare else loose)
+mode_of s = if is_web_scheme s then strict
+    else (if is_ssh_scheme s || bytes_eq s (codes "git") then bare else loose)
 
 -- a URL with this scheme needs a host
 abbrev pub requires_host : List ℕ → Bool
-requires_host s = is_web_scheme s || (bytes_eq s (codes "git") || (bytes_eq s (codes "ssh") || (bytes_eq s (codes "ftp") || bytes_eq s (codes "ftps"))))
+requires_host s = is_web_scheme s
+    || (bytes_eq s (codes "git")
+    || (bytes_eq s (codes "ssh") || (bytes_eq s (codes "ftp") || bytes_eq s (codes "ftps"))))
 
 -- the scheme is one that has a name of its own
 abbrev pub is_known_scheme : List ℕ → Bool
-is_known_scheme s = is_ssh_scheme s || (is_web_scheme s || (bytes_eq s (codes "file") || (bytes_eq s (codes "git") || bytes_eq s (codes "ext"))))
+is_known_scheme s = is_ssh_scheme s
+    || (is_web_scheme s ||
+    (bytes_eq s (codes "file") || (bytes_eq s (codes "git") || bytes_eq s (codes "ext"))))

@@ -20,7 +20,9 @@ pub record CutsUser (front : List ℕ) (user : Option (Bor (List ℕ))) (host : 
 
 -- each colon of the text stands before a closing bracket
 abbrev pub ColonsInside : List ℕ → Type 0
-ColonsInside text = FreeOf colon text ⊎ ((inside : List ℕ) × (rest : List ℕ) × FreeOf colon rest × (text ≡ inside ++ right_bracket ∷ rest))
+ColonsInside text = FreeOf colon text
+    ⊎ ((inside : List ℕ) × (rest : List ℕ) × FreeOf colon rest
+    × (text ≡ inside ++ right_bracket ∷ rest))
 
 -- no port is read from the piece
 abbrev pub NamesNoPort : List ℕ → Type 0
@@ -40,12 +42,14 @@ pub data PieceFlaw (piece : List ℕ) : UrlFault → Type 0 where
 -- the piece names no host, unless memory ran out
 abbrev pub RefusesPiece : List ℕ → HostRefusal → Type 0
 RefusesPiece piece refusal.Memory = Unit {0}
-RefusesPiece piece (refusal.Fault named) = ((meant : List ℕ) → ¬ NamesHost piece meant) × PieceFlaw piece named
+RefusesPiece piece (refusal.Fault named) = ((meant : List ℕ) → ¬ NamesHost piece meant)
+    × PieceFlaw piece named
 
 -- the host of the scp form stands for none, unless memory ran out
 abbrev pub RefusesHost : List ℕ → HostRefusal → Type 0
 RefusesHost host refusal.Memory = Unit {0}
-RefusesHost host (refusal.Fault named) = ((meant : List ℕ) → ¬ ScpHost host meant) × ScpHostFlaw host named
+RefusesHost host (refusal.Fault named) = ((meant : List ℕ) → ¬ ScpHost host meant)
+    × ScpHostFlaw host named
 
 -- the text spells nothing in the scp form for its host, unless memory ran out
 abbrev pub RefusesScp : List ℕ → HostRefusal → Type 0

@@ -84,10 +84,13 @@ pub record IsWebName (host : List ℕ) : Type 0 where
 
 -- a settled host of HTTP: a literal in brackets or a name, and a colon behind it only without a port
 pub data IsWebHost (port : Option ℕ) (host : List ℕ) : Type 0 where
-  literal : (n : List ℕ) → Literal n n → host ≡ left_bracket ∷ (n ++ right_bracket ∷ []) → IsWebHost port host
-  literal_colon : (n : List ℕ) → Literal n n → port ≡ None → host ≡ left_bracket ∷ (n ++ right_bracket ∷ (colon ∷ [])) → IsWebHost port host
+  literal : (n : List ℕ) → Literal n n → host ≡ left_bracket ∷ (n ++ right_bracket ∷ [])
+      → IsWebHost port host
+  literal_colon : (n : List ℕ) → Literal n n → port ≡ None
+      → host ≡ left_bracket ∷ (n ++ right_bracket ∷ (colon ∷ [])) → IsWebHost port host
   named : IsWebName host → IsWebHost port host
-  named_colon : (n : List ℕ) → IsWebName n → has_percent n ≡ false → port ≡ None → host ≡ n ++ colon ∷ [] → IsWebHost port host
+  named_colon : (n : List ℕ) → IsWebName n → has_percent n ≡ false → port ≡ None
+      → host ≡ n ++ colon ∷ [] → IsWebHost port host
 
 -- a settled location of HTTP
 pub record IsSettledWeb (v : Location) : Type 0 where
@@ -114,7 +117,9 @@ IsBareHost host = IsNormalName host ⊎ IsNormalAddress host
 
 -- a settled host with brackets around an address
 abbrev pub IsBracketedHost : List ℕ → Type 0
-IsBracketedHost host = IsNormalName host ⊎ ((address : List ℕ) × IsNormalAddress address × (host ≡ left_bracket ∷ (address ++ right_bracket ∷ [])))
+IsBracketedHost host = IsNormalName host
+    ⊎ ((address : List ℕ) × IsNormalAddress address
+    × (host ≡ left_bracket ∷ (address ++ right_bracket ∷ [])))
 
 -- the path, which is UTF-8, is written raw where no spelling matches it
 abbrev pub IsRawPath : Location → Type 0
@@ -128,7 +133,8 @@ begins_at_home (a ∷ b ∷ rest) = a == slash && b == tilde
 
 -- a rooted path, or one below a home folder, which has no spelling that matches
 abbrev pub IsTransportPath : Location → Type 0
-IsTransportPath v = ((begins_with slash v.path ≡ true) × (begins_at_home v.path ≡ false)) ⊎ ((begins_with tilde v.path ≡ true) × (¬ HasMatch v))
+IsTransportPath v = ((begins_with slash v.path ≡ true) × (begins_at_home v.path ≡ false))
+    ⊎ ((begins_with tilde v.path ≡ true) × (¬ HasMatch v))
 
 -- a settled URL of Secure Shell
 pub record IsSettledSecure (v : Location) : Type 0 where
@@ -164,7 +170,8 @@ pub record IsSettledHelperUrl (name : List ℕ) (v : Location) : Type 0 where
 pub record IsFileHost (host : List ℕ) : Type 0 where
   pub nonempty : 0 < length host
   pub no_slash : FreeOf slash host
-  pub unbracketed : (begins_with left_bracket host ≡ true) ⊎ (FreeOf colon host ⊎ (has_percent host ≡ false))
+  pub unbracketed : (begins_with left_bracket host ≡ true)
+      ⊎ (FreeOf colon host ⊎ (has_percent host ≡ false))
 
 -- a settled file URL
 pub record IsSettledFile (v : Location) : Type 0 where
@@ -208,7 +215,8 @@ begins_with_slashes (a ∷ b ∷ rest) = a == slash && b == slash
 
 -- without a user the text of host and path would be that of a remote helper
 abbrev pub LooksLikeHelper : Location → List ℕ → Type 0
-LooksLikeHelper v host = (v.user ≡ None) × (is_helper_name host ≡ true) × (begins_with colon v.path ≡ true)
+LooksLikeHelper v host = (v.user ≡ None) × (is_helper_name host ≡ true)
+    × (begins_with colon v.path ≡ true)
 
 -- a settled location in the scp form
 pub record IsSettledScp (v : Location) : Type 0 where
@@ -221,7 +229,8 @@ pub record IsSettledScp (v : Location) : Type 0 where
   pub not_slashes : begins_with_slashes v.path ≡ false
   pub no_mark : ¬ Holds (codes "://") v.path
   pub user : IfSome v.user IsScpUser
-  pub host : (h : List ℕ) × (v.host ≡ Some h) × (IsScpName h ⊎ IsNormalAddress h) × ¬ LooksLikeHelper v h
+  pub host : (h : List ℕ) × (v.host ≡ Some h) × (IsScpName h ⊎ IsNormalAddress h)
+      × ¬ LooksLikeHelper v h
 
 -- ---- remote helpers
 

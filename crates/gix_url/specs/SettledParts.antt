@@ -56,15 +56,19 @@ IsNormalLiteral text = Literal text text
 
 -- brackets around such a literal
 abbrev pub IsBracketedLiteral : List ℕ → Type 0
-IsBracketedLiteral host = (n : List ℕ) × Literal n n × (host ≡ left_bracket ∷ (n ++ right_bracket ∷ []))
+IsBracketedLiteral host = (n : List ℕ) × Literal n n
+    × (host ≡ left_bracket ∷ (n ++ right_bracket ∷ []))
 
 -- brackets around a lowercase IPv6 text
 abbrev pub IsBracketedAddress : List ℕ → Type 0
-IsBracketedAddress host = (address : List ℕ) × IsNormalAddress address × (host ≡ left_bracket ∷ (address ++ right_bracket ∷ []))
+IsBracketedAddress host = (address : List ℕ) × IsNormalAddress address
+    × (host ≡ left_bracket ∷ (address ++ right_bracket ∷ []))
 
 -- what stands between brackets, or none where the text isn't in brackets
 abbrev pub StripsBrackets : List ℕ → Option (Bor (List ℕ)) → Type 0
-StripsBrackets host r = MatchOption r ((inner : List ℕ) → ¬ (host ≡ left_bracket ∷ (inner ++ right_bracket ∷ []))) (λ inner. host ≡ left_bracket ∷ (inner.now ++ right_bracket ∷ []))
+StripsBrackets host r = MatchOption r
+    ((inner : List ℕ) → ¬ (host ≡ left_bracket ∷ (inner ++ right_bracket ∷ [])))
+    (λ inner. host ≡ left_bracket ∷ (inner.now ++ right_bracket ∷ []))
 
 -- a host of HTTP that may have a colon behind it
 abbrev pub IsClosedHost : List ℕ → Type 0
@@ -98,7 +102,8 @@ pub record IsEscapedText (spelling : List ℕ) : Type 0 where
 
 -- a matching spelling is fair
 abbrev pub HasFairSpelling : Location → Type 0
-HasFairSpelling v = (s : List ℕ) → v.spelling ≡ Some s → DecodesTo s v.path → IsFairSpelling s v.path
+HasFairSpelling v = (s : List ℕ) → v.spelling ≡ Some s → DecodesTo s v.path
+    → IsFairSpelling s v.path
 
 -- the path is text, and a matching spelling is fair
 pub record HasUrlPath (v : Location) : Type 0 where
@@ -169,7 +174,8 @@ IsOtherForm name v = IsOtherScheme name × IsOtherTarget name v
 
 -- the scheme is short enough, and so is what follows it and its mark in the text
 abbrev pub IsPiecesShort : List ℕ → List ℕ → Type 0
-IsPiecesShort scheme whole = (length scheme ≤ 1024) × (is_walk_short (text_walk_past (text_walk_for scheme) whole).walk ≡ true)
+IsPiecesShort scheme whole = (length scheme ≤ 1024)
+    × (is_walk_short (text_walk_past (text_walk_for scheme) whole).walk ≡ true)
 
 -- a settled remote helper of another name than `ext`
 abbrev pub IsSettledNamed : List ℕ → Location → Type 0

@@ -39,7 +39,8 @@ HasScpCut b = (front : List ℕ) × (path : List ℕ) × ScpCut b front path
 
 -- the text is `user@[address]:path`
 abbrev pub HasAddressedCut : List ℕ → Type 0
-HasAddressedCut b = (user : List ℕ) × (address : List ℕ) × (path : List ℕ) × AddressedCut b user address path
+HasAddressedCut b = (user : List ℕ) × (address : List ℕ) × (path : List ℕ)
+    × AddressedCut b user address path
 
 -- a user, `@[` and what stands behind it
 abbrev pub addressed_text : List ℕ → List ℕ → List ℕ
@@ -49,7 +50,8 @@ addressed_text user behind = user ++ at_sign ∷ (left_bracket ∷ behind)
 pub record AddressedFront (b user behind : List ℕ) : Type 0 where
   pub joined : b ≡ user ++ at_sign ∷ (left_bracket ∷ behind)
   pub no_colon : FreeOf colon user
-  pub only : (u a p : List ℕ) → AddressedCut b u a p → (u ≡ user) × (behind ≡ a ++ right_bracket ∷ (colon ∷ p))
+  pub only : (u a p : List ℕ) → AddressedCut b u a p
+      → (u ≡ user) × (behind ≡ a ++ right_bracket ∷ (colon ∷ p))
 
 -- the text has the shape of the scp form with this front and this path, and not the shape `user@[address]:path`
 pub record PlainScp (b front path : List ℕ) : Type 0 where

@@ -17,14 +17,17 @@ module _ {A : Type 0} (items : A → List ℕ) (len capacity : A → ℕ) where
   -- memory with room for a text and for what comes behind it has the text appended, and still has that room
   abbrev pub AppendsWithin : A → List ℕ → A → Type 0
   AppendsWithin old text new =
-      (behind : List ℕ) → len old + length (text ++ behind) ≤ capacity old → (items new ≡ items old ++ text) × (len new + length behind ≤ capacity new)
+      (behind : List ℕ) → len old + length (text ++ behind) ≤ capacity old
+      → (items new ≡ items old ++ text) × (len new + length behind ≤ capacity new)
 
   pub appends_nothing : (a : A) → AppendsWithin a [] a
   appends_nothing a behind room = (sym (append-nil (items a)), room)
 
-  pub appends_joined : (a b c : A) (x y : List ℕ) → AppendsWithin a x b → AppendsWithin b y c → AppendsWithin a (x ++ y) c
+  pub appends_joined : (a b c : A) (x y : List ℕ) → AppendsWithin a x b → AppendsWithin b y c
+      → AppendsWithin a (x ++ y) c
   appends_joined a b c x y first second behind room =
-      let one = first (y ++ behind) (subst (λ z. len a + length z ≤ capacity a) (append_assoc x y behind) room) in
+      let one = first (y ++ behind)
+      (subst (λ z. len a + length z ≤ capacity a) (append_assoc x y behind) room) in
       let two = second behind one.1 in
       (two.0 ∙ ap (λ z. z ++ y) one.0 ∙ append_assoc (items a) x y, two.1)
 
@@ -34,7 +37,8 @@ module _ {W : Type 0} (took : W → List ℕ → W → Type 0) where
   -- a formatter that indents nothing took a text that is shown as it is, whatever comes behind it, and whatever its options
   abbrev pub ShowsText : Formatter W → List ℕ → Formatter W → Type 0
   ShowsText old text new =
-      ((behind : List ℕ) → lossy_text (text ++ behind) ≡ text ++ lossy_text behind) × (IsFlush old → HasWrittenStyled took old text new)
+      ((behind : List ℕ) → lossy_text (text ++ behind) ≡ text ++ lossy_text behind)
+      × (IsFlush old → HasWrittenStyled took old text new)
 
   -- it took the end of a text, which may be any bytes
   abbrev pub ShowsEnd : Formatter W → List ℕ → Formatter W → Type 0
@@ -42,45 +46,87 @@ module _ {W : Type 0} (took : W → List ℕ → W → Type 0) where
 
   -- the formatter without options
   abbrev plain : Formatter W → Formatter W
-  plain f = record f { spec = record f.spec { width = 0; precision = 2 ^ 64 - 1; plus = false; alternate = false }; depth = 0 }
+  plain f = record f {
+    spec = record f.spec {
+      width = 0;
+      precision = 2 ^ 64 - 1;
+      plus = false;
+      alternate = false;
+    };
+    depth = 0;
+  }
 
   is_plain : (f : Formatter W) → IsPlainFormatter (plain f)
-  is_plain f = record { bare = record { width = refl; precision = refl; plus = refl; alternate = refl }; flush = refl }
+  is_plain f = record {
+    bare = record {
+      width = refl;
+      precision = refl;
+      plus = refl;
+      alternate = refl;
+    };
+    flush = refl;
+  }
 
   -- two texts that were written, one behind the other
-  written_joined : (a b c : Formatter W) (x y : List ℕ) → WritesInCalls took a.writer x b.writer → WritesInCalls took b.writer y c.writer → WritesInCalls took a.writer (x ++ y) c.writer
+  written_joined : (a b c : Formatter W) (x y : List ℕ) → WritesInCalls took a.writer x b.writer
+      → WritesInCalls took b.writer y c.writer → WritesInCalls took a.writer (x ++ y) c.writer
   written_joined a b c x y first second =
-      (put_two took (plain a) (plain b) (plain c) x y (x ++ y) (record { wrote = first; plain = is_plain b }) (record { wrote = second; plain = is_plain c }) refl).wrote
+      (put_two took (plain a) (plain b) (plain c) x y (x ++ y)
+      (record { wrote = first; plain = is_plain b })
+      (record { wrote = second; plain = is_plain c }) refl).wrote
 
-  joined : (a b c : Formatter W) (x y : List ℕ) → HasWrittenStyled took a x b → HasWrittenStyled took b y c → HasWrittenStyled took a (x ++ y) c
-  joined a b c x y first second = record { wrote = written_joined a b c x y first.wrote second.wrote; spec = second.spec ∙ first.spec; flush = second.flush }
+  joined : (a b c : Formatter W) (x y : List ℕ) → HasWrittenStyled took a x b
+      → HasWrittenStyled took b y c → HasWrittenStyled took a (x ++ y) c
+  joined a b c x y first second = record {
+    wrote = written_joined a b c x y first.wrote second.wrote;
+    spec = second.spec ∙ first.spec;
+    flush = second.flush;
+  }
 
   pub shows_nothing : (a : Formatter W) → ShowsText a [] a
-  shows_nothing a = (λ behind. refl, λ flush. record { wrote = record { parts = []; calls = refl; whole = refl }; spec = refl; flush = flush })
+  shows_nothing a = (
+    λ behind. refl,
+    λ flush. record {
+      wrote = record {
+        parts = [];
+        calls = refl;
+        whole = refl;
+      };
+      spec = refl;
+      flush = flush;
+    },
+  )
 
-  pub shows_joined : (a b c : Formatter W) (x y : List ℕ) → ShowsText a x b → ShowsText b y c → ShowsText a (x ++ y) c
+  pub shows_joined : (a b c : Formatter W) (x y : List ℕ) → ShowsText a x b → ShowsText b y c
+      → ShowsText a (x ++ y) c
   shows_joined a b c x y first second = (
     λ behind.
-        ap lossy_text (append_assoc x y behind) ∙ first.0 (y ++ behind) ∙ ap (λ z. x ++ z) (second.0 behind) ∙ sym (append_assoc x y (lossy_text behind)),
+        ap lossy_text (append_assoc x y behind) ∙ first.0 (y ++ behind) ∙ ap
+        (λ z. x ++ z) (second.0 behind) ∙ sym (append_assoc x y (lossy_text behind)),
     λ flush. let before = first.1 flush in joined a b c x y before (second.1 before.flush),
   )
 
-  pub shows_to_end : (a b c : Formatter W) (x y : List ℕ) → ShowsText a x b → ShowsEnd b y c → ShowsEnd a (x ++ y) c
+  pub shows_to_end : (a b c : Formatter W) (x y : List ℕ) → ShowsText a x b → ShowsEnd b y c
+      → ShowsEnd a (x ++ y) c
   shows_to_end a b c x y first second flush =
       let before = first.1 flush in
-      subst (λ t. HasWrittenStyled took a t c) (sym (first.0 y)) (joined a b c x (lossy_text y) before (second before.flush))
+      subst (λ t. HasWrittenStyled took a t c) (sym (first.0 y))
+      (joined a b c x (lossy_text y) before (second before.flush))
 
 -- ---- a walk
 
 -- a walk past a text leads where it leads with the text before it, whatever comes behind
 abbrev pub WalksPast : TextWalk → List ℕ → TextWalk → Type 0
-WalksPast old text new = (behind : List ℕ) → text_walk_past old (text ++ behind) ≡ text_walk_past new behind
+WalksPast old text new = (behind : List ℕ)
+    → text_walk_past old (text ++ behind) ≡ text_walk_past new behind
 
 pub walks_nothing : (a : TextWalk) → WalksPast a [] a
 walks_nothing a behind = refl
 
-pub walks_joined : (a b c : TextWalk) (x y : List ℕ) → WalksPast a x b → WalksPast b y c → WalksPast a (x ++ y) c
-walks_joined a b c x y first second behind = ap (text_walk_past a) (append_assoc x y behind) ∙ first (y ++ behind) ∙ second behind
+pub walks_joined : (a b c : TextWalk) (x y : List ℕ) → WalksPast a x b → WalksPast b y c
+    → WalksPast a (x ++ y) c
+walks_joined a b c x y first second behind = ap (text_walk_past a) (append_assoc x y behind) ∙ first
+    (y ++ behind) ∙ second behind
 
 -- ---- a note
 
@@ -92,6 +138,8 @@ pub notes_nothing : (test : ℕ → Bool) (a : Bool) → Notes test a [] a
 notes_nothing test false = refl
 notes_nothing test true = refl
 
-pub notes_joined : (test : ℕ → Bool) (a b c : Bool) (x y : List ℕ) → Notes test a x b → Notes test b y c → Notes test a (x ++ y) c
-notes_joined test false b c x y first second = second ∙ ap (λ n. n || list_any test y) first ∙ sym (list_any-append test x y)
+pub notes_joined : (test : ℕ → Bool) (a b c : Bool) (x y : List ℕ) → Notes test a x b
+    → Notes test b y c → Notes test a (x ++ y) c
+notes_joined test false b c x y first second = second ∙ ap
+    (λ n. n || list_any test y) first ∙ sym (list_any-append test x y)
 notes_joined test true b c x y first second = second ∙ ap (λ n. n || list_any test y) first

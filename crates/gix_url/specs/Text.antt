@@ -28,7 +28,8 @@ has_authority v = is_some v.user || (is_some v.password || (is_some v.host || is
 
 -- the form of a remote helper of this name
 abbrev pub helper_choice : List ℕ → Location → Result Form WriteFault
-helper_choice name v = if is_helper_name name then (if has_authority v then Err HelperParts else Ok helper_form) else Err HelperName
+helper_choice name v = if is_helper_name name
+    then (if has_authority v then Err HelperParts else Ok helper_form) else Err HelperName
 
 -- the location asks for the form that is no URL, and can have it
 abbrev pub is_alternative : Location → Bool
@@ -43,7 +44,8 @@ is_relative (b ∷ bs) = not (b == slash) && not (b == tilde)
 abbrev pub ssh_choice : Location → Result Form WriteFault
 ssh_choice v =
     if is_relative v.path
-    then (if is_some v.host && (is_none v.password && is_none v.port) then Ok scp_form else Err RelativeSsh)
+    then (if is_some v.host && (is_none v.password && is_none v.port) then Ok scp_form
+    else Err RelativeSsh)
     else (if is_alternative v then with_host v scp_form else with_host v canonical_form)
 
 -- the form of a location, by its protocol
@@ -83,7 +85,8 @@ raw_user (Some user) = user ++ at_sign ∷ []
 -- the host, raw, in brackets where it wants them
 abbrev pub raw_host : Option (List ℕ) → List ℕ
 raw_host None = []
-raw_host (Some host) = if wants_brackets host then left_bracket ∷ (host ++ right_bracket ∷ []) else host
+raw_host (Some host) = if wants_brackets host then left_bracket ∷ (host ++ right_bracket ∷ [])
+    else host
 
 abbrev pub path_form_text : Location → List ℕ
 path_form_text v = raw_user v.user ++ (raw_host v.host ++ v.path)
@@ -101,7 +104,8 @@ escaped_password (Some password) = colon ∷ percent_encode password_set passwor
 -- the user information and `@`, escaped: a password without a user is left out
 abbrev pub user_information : Option (List ℕ) → Option (List ℕ) → List ℕ
 user_information None password = []
-user_information (Some user) password = percent_encode user_set user ++ (escaped_password password ++ at_sign ∷ [])
+user_information (Some user) password = percent_encode user_set user
+    ++ (escaped_password password ++ at_sign ∷ [])
 
 -- the protocol's hosts are written as they are
 abbrev pub keeps_host : Protocol → Bool
@@ -116,7 +120,9 @@ keeps_host (helper_url name) = false
 
 -- a host outside brackets: as it is, or escaped, but for the colons of an address
 abbrev pub open_host : Protocol → List ℕ → List ℕ
-open_host protocol host = if keeps_host protocol then host else (if is_ipv6_text host then percent_encode password_set host else percent_encode user_set host)
+open_host protocol host = if keeps_host protocol then host
+    else (if is_ipv6_text host then percent_encode password_set host
+    else percent_encode user_set host)
 
 -- the host goes between brackets: it wants them, and a port or an escape would mislead without
 abbrev pub needs_brackets : Option ℕ → List ℕ → Bool
@@ -124,7 +130,8 @@ needs_brackets port host = wants_brackets host && (is_some port || has_percent h
 
 -- the host of a URL
 abbrev pub canonical_host : Location → List ℕ → List ℕ
-canonical_host v host = if needs_brackets v.port host then left_bracket ∷ (escaped_percents host ++ right_bracket ∷ []) else open_host v.scheme host
+canonical_host v host = if needs_brackets v.port host
+    then left_bracket ∷ (escaped_percents host ++ right_bracket ∷ []) else open_host v.scheme host
 
 abbrev pub host_part : Location → Option (List ℕ) → List ℕ
 host_part v None = []
@@ -175,7 +182,9 @@ abbrev pub canonical_path : Location → List ℕ
 canonical_path v = root_part v ++ matching_or v.spelling v.path (plain_path v.scheme v.path)
 
 abbrev pub canonical_text : Location → List ℕ
-canonical_text v = protocol_text v.scheme ++ (codes "://" ++ (user_information v.user v.password ++ (host_part v v.host ++ (port_part v.port ++ canonical_path v))))
+canonical_text v = protocol_text v.scheme
+    ++ (codes "://" ++ (user_information v.user v.password
+    ++ (host_part v v.host ++ (port_part v.port ++ canonical_path v))))
 
 -- ---- the text
 

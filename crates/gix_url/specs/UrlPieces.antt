@@ -39,28 +39,34 @@ pub record CutsRest (scheme rest authority path : List ℕ) : Type 0 where
 
 -- user information holds the user and the password that were read of it
 abbrev pub HoldsCredentials : List ℕ → CredentialParts → Type 0
-HoldsCredentials information parts = Credentials information (decoded_option parts.user) (decoded_option parts.password)
+HoldsCredentials information parts = Credentials information (decoded_option parts.user)
+    (decoded_option parts.password)
 
 -- a part of user information decodes to no text
 pub data HasNoText (information : List ℕ) : Type 0 where
   user : FreeOf colon information → ¬ IsUtf8 (percent_decode information) → HasNoText information
-  user_before_password : (u w : List ℕ) → FreeOf colon u → information ≡ u ++ colon ∷ w → ¬ IsUtf8 (percent_decode u) → HasNoText information
-  password : (u w : List ℕ) → FreeOf colon u → information ≡ u ++ colon ∷ w → ¬ IsUtf8 (percent_decode w) → HasNoText information
+  user_before_password : (u w : List ℕ) → FreeOf colon u → information ≡ u ++ colon ∷ w
+      → ¬ IsUtf8 (percent_decode u) → HasNoText information
+  password : (u w : List ℕ) → FreeOf colon u → information ≡ u ++ colon ∷ w
+      → ¬ IsUtf8 (percent_decode w) → HasNoText information
 
 -- an authority holds these, and a host where one is needed
-pub record HoldsHosted (mode : Mode) (needed : Bool) (authority : List ℕ) (user password host : Option (List ℕ)) (port : Option ℕ) : Type 0 where
+pub record HoldsHosted (mode : Mode) (needed : Bool) (authority : List ℕ)
+    (user password host : Option (List ℕ)) (port : Option ℕ) : Type 0 where
   pub named : Authority mode authority user password host port
   pub hosted : needed ≡ true → IsSome host
 
 -- an authority holds the parts that were read of it
 abbrev pub HoldsParts : Mode → Bool → List ℕ → AuthorityParts → Type 0
 HoldsParts mode needed authority parts =
-    HoldsHosted mode needed authority (decoded_option parts.credentials.user) (decoded_option parts.credentials.password) (host_of parts.host) (port_of parts.host)
+    HoldsHosted mode needed authority (decoded_option parts.credentials.user)
+    (decoded_option parts.credentials.password) (host_of parts.host) (port_of parts.host)
 
 -- an authority holds nothing, or not the host that is needed
 abbrev pub IsNoAuthority : Mode → Bool → List ℕ → Type 0
 IsNoAuthority mode needed authority =
-    (user password host : Option (List ℕ)) (port : Option ℕ) → ¬ HoldsHosted mode needed authority user password host port
+    (user password host : Option (List ℕ)) (port : Option ℕ)
+    → ¬ HoldsHosted mode needed authority user password host port
 
 -- the user, the password and the host are UTF-8
 pub record AreTexts (parts : UrlParts) : Type 0 where
@@ -71,7 +77,8 @@ pub record AreTexts (parts : UrlParts) : Type 0 where
 -- the text is brackets around another, with nothing or a colon behind them
 abbrev pub InBrackets : List ℕ → List ℕ → Type 0
 InBrackets text inside =
-    (text ≡ left_bracket ∷ (inside ++ right_bracket ∷ [])) ⊎ (text ≡ left_bracket ∷ (inside ++ right_bracket ∷ (colon ∷ [])))
+    (text ≡ left_bracket ∷ (inside ++ right_bracket ∷ []))
+    ⊎ (text ≡ left_bracket ∷ (inside ++ right_bracket ∷ (colon ∷ [])))
 
 -- the text without a last c, where it ends in one, and else the text
 pub data DropsLast (c : ℕ) (text rest : List ℕ) : Type 0 where

@@ -51,7 +51,11 @@ is_walk_short walk = nat_le (counted_at walk.stage walk.whole) 1024
 
 -- a walk over a text past more bytes: what is left of the scheme and its mark is left out
 abbrev pub text_walk_past : TextWalk → List ℕ → TextWalk
-text_walk_past text bs = record { left = text.left - length bs; walk = walk_past_all text.walk (drop text.left bs) }
+text_walk_past text bs = record {
+  left = text.left - length bs;
+  walk = walk_past_all text.walk
+      (drop text.left bs);
+}
 
 -- a walk over the text of a URL with this scheme, before its first byte
 abbrev pub text_walk_for : List ℕ → TextWalk

@@ -41,7 +41,8 @@ impl Url {
         &mut self,
         resolve: F,
     ) -> Result<(), Error>
-        requires { self.old.scheme ≡ file → IsUtf8 self.old.path → FnOnceTakesAt F.FnOnce resolve self.old.path }
+        requires { self.old.scheme ≡ file → IsUtf8 self.old.path
+            → FnOnceTakesAt F.FnOnce resolve self.old.path }
         ensures elsewhere { ¬ (self.old.scheme ≡ file) → (result ≡ Ok tt) × (self.new ≡ self.old) }
         ensures no_text { self.old.scheme ≡ file → ¬ IsUtf8 self.old.path
             → (result ≡ Err Error.PathNotUtf8) × (self.new ≡ self.old) }
@@ -89,7 +90,8 @@ impl Url {
         alloc: Global,
         resolve: F,
     ) -> Result<Url, Error>
-        requires { self.now.scheme ≡ file → IsUtf8 self.now.path → FnOnceTakesAt F.FnOnce resolve self.now.path }
+        requires { self.now.scheme ≡ file → IsUtf8 self.now.path
+            → FnOnceTakesAt F.FnOnce resolve self.now.path }
         ensures elsewhere { ¬ (self.now.scheme ≡ file)
             → MatchResult result (λ v. v ≡ self.now) (λ e. e ≡ Error.Memory) }
         ensures no_text { self.now.scheme ≡ file → ¬ IsUtf8 self.now.path

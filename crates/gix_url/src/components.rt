@@ -101,9 +101,11 @@ impl Url {
     /// ```
     pub fn path_query_fragment(&self, alloc: Global) -> Result<PathComponents<'_>, Error>
         ensures parts { IfOk result (λ c. PartsOf self.now (components c)) }
-        ensures path { IfOk result (λ c. Holds (bstr_bytes c.path) self.now.path ⊎ (bstr_bytes c.path ≡ slash ∷ [])) }
+        ensures path { IfOk result
+            (λ c. Holds (bstr_bytes c.path) self.now.path ⊎ (bstr_bytes c.path ≡ slash ∷ [])) }
         ensures query { IfOk result (λ c. LentQuery self.now (option_map (λ q. q.items) c.query)) }
-        ensures fragment { IfOk result (λ c. IfSome c.fragment (λ f. Holds (bstr_bytes f) self.now.path)) }
+        ensures fragment { IfOk result
+            (λ c. IfSome c.fragment (λ f. Holds (bstr_bytes f) self.now.path)) }
         ensures memory { IfErr result (λ e. e ≡ Error.Memory) }
         ensures no_query { (c : Components) → PartsOf self.now c → c.query ≡ None → IsOk result }
     {

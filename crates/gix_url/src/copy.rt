@@ -85,7 +85,8 @@ impl Url {
 
 /// A copy of a text that may be missing.
 pub(crate) fn copy_text(alloc: Global, text: &Option<String>) -> Result<Option<String>, AllocError>
-    ensures { IfOk result (λ copy. option_map string_bytes copy ≡ option_map string_bytes text.now) }
+    ensures { IfOk result
+        (λ copy. option_map string_bytes copy ≡ option_map string_bytes text.now) }
 {
     match text {
         None => Ok(None),
@@ -105,7 +106,8 @@ pub(crate) fn copy_spelling(
     alloc: Global,
     spelling: &Option<BString>,
 ) -> Result<Option<BString>, AllocError>
-    ensures { IfOk result (λ copy. option_map bstring_bytes copy ≡ option_map bstring_bytes spelling.now) }
+    ensures { IfOk result
+        (λ copy. option_map bstring_bytes copy ≡ option_map bstring_bytes spelling.now) }
 {
     match spelling {
         None => Ok(None),

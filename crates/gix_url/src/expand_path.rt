@@ -94,7 +94,8 @@ impl From<ForUser> for Option<BString> {
 /// }
 /// ```
 pub fn parse(alloc: Global, path: BStr<'_>) -> Result<(Option<ForUser>, BString), Error>
-    ensures split { IfOk result (λ p. SplitsHome (bstr_bytes path.entry) (option_map user_of p.0) (bstring_bytes p.1)) }
+    ensures split { IfOk result
+        (λ p. SplitsHome (bstr_bytes path.entry) (option_map user_of p.0) (bstring_bytes p.1)) }
     ensures memory { IfErr result (λ e. e ≡ Error.Memory) }
 {
     match cut_home(path.as_bytes()) {
@@ -177,11 +178,14 @@ pub fn with<F: FnOnce(&ForUser) -> Option<String> + Drop>(
 ) -> Result<String, Error>
     requires { IsUtf8 (bstr_bytes path) → IfSome user (λ u. F.pre home u) }
     ensures no_text { ¬ IsUtf8 (bstr_bytes path.entry) → result ≡ Err Error.PathNotUtf8 }
-    ensures userless { user.entry ≡ None → IfOk result (λ s. string_bytes s ≡ bstr_bytes path.entry) }
-    ensures refused { IsUtf8 (bstr_bytes path.entry) → user.entry ≡ None → IfErr result (λ e. e ≡ Error.Memory) }
+    ensures userless { user.entry ≡ None
+        → IfOk result (λ s. string_bytes s ≡ bstr_bytes path.entry) }
+    ensures refused { IsUtf8 (bstr_bytes path.entry) → user.entry ≡ None
+        → IfErr result (λ e. e ≡ Error.Memory) }
     ensures at_home { IsUtf8 (bstr_bytes path.entry) → IfSome user.entry (λ u. (answer : _)
         × FnOnceReturnsAt F.FnOnce home u.now answer
-        × Expansion (λ folder. option_map string_bytes answer ≡ folder) (user_of u.now) (bstr_bytes path.entry) result) }
+        × Expansion (λ folder. option_map string_bytes answer ≡ folder) (user_of u.now)
+        (bstr_bytes path.entry) result) }
 {
     let Ok(text) = path.as_bytes().to_str() else {
         return Err(Error::PathNotUtf8);
@@ -220,10 +224,13 @@ pub fn expand_path(
     home: Option<&str>,
 ) -> Result<String, Error>
     ensures no_text { ¬ IsUtf8 (bstr_bytes path.entry) → result ≡ Err Error.PathNotUtf8 }
-    ensures userless { user.entry ≡ None → IfOk result (λ s. string_bytes s ≡ bstr_bytes path.entry) }
-    ensures refused { IsUtf8 (bstr_bytes path.entry) → user.entry ≡ None → IfErr result (λ e. e ≡ Error.Memory) }
+    ensures userless { user.entry ≡ None
+        → IfOk result (λ s. string_bytes s ≡ bstr_bytes path.entry) }
+    ensures refused { IsUtf8 (bstr_bytes path.entry) → user.entry ≡ None
+        → IfErr result (λ e. e ≡ Error.Memory) }
     ensures at_home { IsUtf8 (bstr_bytes path.entry) → IfSome user.entry (λ u.
-        Expansion (HomeFolder (option_copied home.entry) (user_of u.now)) (user_of u.now) (bstr_bytes path.entry) result) }
+        Expansion (HomeFolder (option_copied home.entry) (user_of u.now)) (user_of u.now)
+        (bstr_bytes path.entry) result) }
 {
     let Ok(text) = path.as_bytes().to_str() else {
         return Err(Error::PathNotUtf8);
@@ -239,7 +246,8 @@ pub fn expand_path(
 
 /// The path below a home folder, which is changed in place, or the error that there is none for the user.
 fn entered(alloc: Global, home: Option<String>, user: &ForUser, path: &str) -> Result<String, Error>
-    ensures { Expansion (λ folder. option_map string_bytes home ≡ folder) (user_of user.now) path.now result }
+    ensures { Expansion (λ folder. option_map string_bytes home ≡ folder)
+        (user_of user.now) path.now result }
 {
     match home {
         Some(mut folder) => {
@@ -256,7 +264,9 @@ fn home_folder(
     user: &ForUser,
     home: Option<&str>,
 ) -> Result<Option<String>, AllocError>
-    ensures { IfOk result (λ r. HomeFolder (option_copied home.entry) (user_of user.now) (option_map string_bytes r)) }
+    ensures { IfOk result
+        (λ r. HomeFolder (option_copied home.entry) (user_of user.now)
+        (option_map string_bytes r)) }
 {
     let Some(home) = home else {
         return Ok(None);
@@ -269,7 +279,8 @@ fn home_folder(
 
 /// The folder of this name beside another.
 fn folder_beside(alloc: Global, home: &str, name: &[u8]) -> Result<Option<String>, AllocError>
-    ensures { IfOk result (λ r. HomeFolder (Some home.now) (named name.now) (option_map string_bytes r)) }
+    ensures { IfOk result
+        (λ r. HomeFolder (Some home.now) (named name.now) (option_map string_bytes r)) }
 {
     let Some(parent) = parent(home) else {
         return Ok(None);

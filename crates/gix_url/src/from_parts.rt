@@ -55,7 +55,8 @@ impl Url {
         path: BString,
         serialize_alternative_form: bool,
     ) -> Result<Url, Error>
-        ensures { let given = of_parts (protocol scheme) (option_map string_bytes user) (option_map string_bytes password)
+        ensures { let given = of_parts (protocol scheme) (option_map string_bytes user)
+            (option_map string_bytes password)
             (option_map string_bytes host) port (bstring_bytes path) serialize_alternative_form in
             MadeOf given result }
     {
@@ -78,7 +79,8 @@ impl Url {
 fn checked(scheme: Scheme) -> Result<Scheme, Error>
     ensures ok { IfOk result (λ s. s ≡ scheme) }
     ensures valid { IfOk result (λ s. invalid_name (protocol s) ≡ None) }
-    ensures named { IfErr result (λ e. (name : _) × (invalid_name (protocol scheme) ≡ Some name) × TellsName name e) }
+    ensures named { IfErr result
+        (λ e. (name : _) × (invalid_name (protocol scheme) ≡ Some name) × TellsName name e) }
 {
     match scheme {
         Scheme::Helper(name) => {

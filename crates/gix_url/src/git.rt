@@ -62,7 +62,8 @@ fn has_no_option(url: &Url) -> bool
 
 /// Whether the text, where there is one, doesn't begin with `-`.
 fn is_no_option(part: &Option<String>) -> bool
-    ensures { IsTrue result ↔ IfSome (option_map string_bytes part.now) (λ t. is_option_like t ≡ false) }
+    ensures { IsTrue result
+        ↔ IfSome (option_map string_bytes part.now) (λ t. is_option_like t ≡ false) }
 {
     match part {
         None => true,

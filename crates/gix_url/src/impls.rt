@@ -31,7 +31,8 @@ impl fmt::Display for Url {
     /// ```
     fn fmt<W: fmt::Write>(&self, f: &mut fmt::Formatter<W>) -> fmt::Result
         ensures writes { DisplaysOnOk W.write_str_gives f.old result (display self.now) f.new }
-        ensures styled { DisplaysStyledOnOk W.write_str_gives f.old result (display self.now) f.new }
+        ensures styled { DisplaysStyledOnOk W.write_str_gives f.old result
+            (display self.now) f.new }
         ensures fault { display self.now ≡ None → IsErr result }
         ensures untouched { display self.now ≡ None → f.new ≡ f.old }
     {
@@ -46,7 +47,8 @@ impl fmt::Display for Url {
 
 /// What is shown in place of a password.
 pub(crate) fn hidden_password(password: &Option<String>) -> Option<&str>
-    ensures { option_map (λ p. p.now) result ≡ hidden_password (option_map string_bytes password.now) }
+    ensures { option_map (λ p. p.now) result
+        ≡ hidden_password (option_map string_bytes password.now) }
 {
     match password {
         None => None,

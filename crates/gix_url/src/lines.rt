@@ -130,9 +130,11 @@ fn read_all<R: Read>(alloc: Global, input: &mut R) -> Result<Vec<u8>, RunError>
 
 /// All bytes of a reader, or none where it hasn't ended after the most reads, each of which gave a byte at least.
 fn read_to_end<R: Read>(alloc: Global, input: &mut R) -> Result<Option<Vec<u8>>, RunError>
-    ensures bytes { IfOk result (λ found. IfSome found (λ all. IfSome (R.remaining input.old) (λ b. all.items ≡ b))) }
+    ensures bytes { IfOk result
+        (λ found. IfSome found (λ all. IfSome (R.remaining input.old) (λ b. all.items ≡ b))) }
     ensures end { IfOk result (λ found. IfSome found (λ _. IsAtEnd (R.remaining input.new))) }
-    ensures given_up { IfOk result (λ found. found ≡ None → IfSome (R.remaining input.old) (λ b. 2 ^ 40 ≤ length b)) }
+    ensures given_up { IfOk result
+        (λ found. found ≡ None → IfSome (R.remaining input.old) (λ b. 2 ^ 40 ≤ length b)) }
 {
     let mut all = Vec::new(alloc);
     let mut buffer = [0u8; 4096];
@@ -246,7 +248,8 @@ fn bad_url_name(fault: UrlFault) -> &'static str
 
 /// Appends the line of a location that isn't settled: a word and the scheme.
 fn put_scheme(out: &mut Vec<u8>, word: &str, url: &Url) -> Result<(), RunError>
-    ensures { OnOk result (out.new.items ≡ out.old.items ++ told_line word.now (protocol_text url.now.scheme)) }
+    ensures { OnOk result
+        (out.new.items ≡ out.old.items ++ told_line word.now (protocol_text url.now.scheme)) }
 {
     put_line(out, word, url.scheme.as_str().as_bytes())
 }
@@ -264,7 +267,8 @@ fn put_line(out: &mut Vec<u8>, word: &str, of_what: &[u8]) -> Result<(), RunErro
 
 /// Appends the line of a settled location: the text that its pieces make up.
 fn put_text(out: &mut Vec<u8>, pieces: &Pieces<'_>) -> Result<(), RunError>
-    ensures { OnOk result (out.new.items ≡ out.old.items ++ told_line (codes "settled") (pieces_text pieces.now)) }
+    ensures { OnOk result
+        (out.new.items ≡ out.old.items ++ told_line (codes "settled") (pieces_text pieces.now)) }
 {
     out.extend_from_slice(b"settled\t")?;
     match pieces.put::<Vec<u8>, Output>(out) {

@@ -227,7 +227,8 @@ pub(crate) fn texts_equal(a: Option<&[u8]>, b: Option<&[u8]>) -> bool
 
 /// The order of two texts: one that is missing comes first.
 pub(crate) fn compare_texts(a: Option<&[u8]>, b: Option<&[u8]>) -> Ordering
-    ensures { result ≡ text_cmp (option_map (λ t. t.now) a.entry) (option_map (λ t. t.now) b.entry) }
+    ensures { result ≡ text_cmp (option_map (λ t. t.now) a.entry)
+        (option_map (λ t. t.now) b.entry) }
 {
     match a {
         None => match b {

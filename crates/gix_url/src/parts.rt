@@ -152,7 +152,8 @@ impl Url {
     /// }
     /// ```
     pub fn set_password(&mut self, password: Option<String>) -> Option<String>
-        ensures stored { self.new ≡ record self.old { password = option_map string_bytes password } }
+        ensures stored { self.new
+            ≡ record self.old { password = option_map string_bytes password } }
         ensures before { option_map string_bytes result ≡ self.old.password }
     {
         mem::replace(&mut self.password, password)

@@ -40,7 +40,8 @@ impl Url {
     /// is refused, and for a settled location no other.
     pub fn reread(&self, alloc: Global) -> Result<Url, Error>
         ensures read { (t : List ℕ) → text self.now ≡ Ok t → Reads t result }
-        ensures fault { (f : WriteFault) → text self.now ≡ Err f → result ≡ Err (Error.Unwritable f) }
+        ensures fault { (f : WriteFault) → text self.now ≡ Err f → result
+            ≡ Err (Error.Unwritable f) }
         ensures settled { IsSettled self.now → ReadsAgain self.now result }
     {
         match self.to_bstring(alloc) {

@@ -95,7 +95,8 @@ impl Url {
     /// where the text is longer than any memory; for a settled location no other.
     pub fn to_bstring(&self, alloc: Global) -> Result<BString, Error>
         ensures text { IfOk result (λ s. text self.now ≡ Ok (bstring_bytes s)) }
-        ensures fault { (f : WriteFault) → text self.now ≡ Err f → result ≡ Err (Error.Unwritable f) }
+        ensures fault { (f : WriteFault) → text self.now ≡ Err f → result
+            ≡ Err (Error.Unwritable f) }
         ensures refused { IfErr result (λ e. IsUnwritten (text self.now) e) }
         ensures empty { text self.now ≡ Ok [] → IsOk result }
         ensures settled { IsSettled self.now → WritesAgain self.now result }

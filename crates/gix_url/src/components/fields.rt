@@ -17,7 +17,8 @@ pub(super) fn lend_query<'a>(
     alloc: Global,
     query: Spelled<'a>,
 ) -> Result<Vec<(QueryText<'a>, QueryText<'a>)>, AllocError>
-    ensures { IfOk result (λ pairs. LendsFields query.entry.escaped query.entry.text.now pairs.items) }
+    ensures { IfOk result
+        (λ pairs. LendsFields query.entry.escaped query.entry.text.now pairs.items) }
 {
     let mut pairs = Vec::with_capacity(alloc, count_fields(query.text))?;
     let mut rest = query;
@@ -36,8 +37,10 @@ fn push_field<'a>(
     field: Spelled<'a>,
 ) -> Result<(), AllocError>
     requires { vec_len pairs.old + one_field field.text.now ≤ vec_capacity pairs.old }
-    ensures pairs { OnOk result (AddsPair field.entry.escaped field.entry.text.now pairs.old.items pairs.new.items) }
-    ensures len { OnOk result (vec_len pairs.new ≡ vec_len pairs.old + one_field field.entry.text.now) }
+    ensures pairs { OnOk result
+        (AddsPair field.entry.escaped field.entry.text.now pairs.old.items pairs.new.items) }
+    ensures len { OnOk result
+        (vec_len pairs.new ≡ vec_len pairs.old + one_field field.entry.text.now) }
     ensures capacity { vec_capacity pairs.old ≤ vec_capacity pairs.new }
 {
     if field.text.is_empty() {

@@ -40,7 +40,8 @@ fn lend_term<'a>(alloc: Global, piece: Spelled<'a>) -> Result<QueryText<'a>, All
 
 /// What the piece stands for with each raw `+` a space.
 fn spaced(alloc: Global, piece: Spelled<'_>) -> Result<Vec<u8>, AllocError>
-    ensures { IfOk result (λ bytes. bytes.items ≡ meant_by piece.entry.escaped (with_spaces piece.entry.text.now)) }
+    ensures { IfOk result
+        (λ bytes. bytes.items ≡ meant_by piece.entry.escaped (with_spaces piece.entry.text.now)) }
 {
     let mut bytes = Vec::with_capacity(alloc, piece.meant.len())?;
     let mut rest = piece;

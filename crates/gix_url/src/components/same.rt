@@ -154,7 +154,8 @@ fn are_queries_equal(
     first: &Option<Vec<(QueryText<'_>, QueryText<'_>)>>,
     second: &Option<Vec<(QueryText<'_>, QueryText<'_>)>>,
 ) -> bool
-    ensures { result ≡ query_eq (option_map (λ q. map pair_bytes q.items) first.now) (option_map (λ q. map pair_bytes q.items) second.now) }
+    ensures { result ≡ query_eq (option_map (λ q. map pair_bytes q.items) first.now)
+        (option_map (λ q. map pair_bytes q.items) second.now) }
 {
     match first {
         None => second.is_none(),
@@ -195,7 +196,8 @@ fn is_pair_equal(
 
 /// Whether both fragments are missing, or both have the same bytes.
 fn are_fragments_equal(first: Option<BStr<'_>>, second: Option<BStr<'_>>) -> bool
-    ensures { result ≡ fragment_eq (option_map bstr_bytes first.entry) (option_map bstr_bytes second.entry) }
+    ensures { result ≡ fragment_eq (option_map bstr_bytes first.entry)
+        (option_map bstr_bytes second.entry) }
 {
     match first {
         None => second.is_none(),

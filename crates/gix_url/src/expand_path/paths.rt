@@ -113,7 +113,9 @@ pub(super) fn push_path(folder: &mut String, path: &str) -> Result<(), AllocErro
 
 /// Appends the pieces behind the first segment, with a `/` between each two.
 fn push_pieces(out: &mut String, path: &str) -> Result<(), AllocError>
-    ensures { OnOk result ((rest : List ℕ) × WithoutFirst path.now rest × (string_bytes out.new ≡ string_bytes out.old ++ rest)) }
+    ensures { OnOk result
+        ((rest : List ℕ) × WithoutFirst path.now rest
+        × (string_bytes out.new ≡ string_bytes out.old ++ rest)) }
 {
     let (_, mut rest) = first_segment(path);
     let mut separator = "";

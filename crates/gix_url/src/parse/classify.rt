@@ -83,7 +83,8 @@ fn classify_cut<'a>(bytes: &'a [u8], front: &'a [u8], rest: &'a [u8]) -> Shape<'
 /// The address of a remote helper, where this stands before and behind the first colon.
 fn helper_address<'a>(name: &[u8], rest: &'a [u8]) -> Option<&'a [u8]>
     requires { FreeOf colon name.now }
-    ensures { MatchOption result (¬ HasHelperForm (name.now ++ colon ∷ rest.now)) (λ address. HelperCut (name.now ++ colon ∷ rest.now) name.now address.now) }
+    ensures { MatchOption result (¬ HasHelperForm (name.now ++ colon ∷ rest.now))
+        (λ address. HelperCut (name.now ++ colon ∷ rest.now) name.now address.now) }
 {
     match after(rest, b':') {
         None => None,
@@ -128,7 +129,8 @@ fn cut_url<'a>(bytes: &'a [u8], front: &'a [u8], rest: &'a [u8]) -> Option<(&'a 
 
 /// What follows two slashes at the front.
 fn after_slashes(text: &[u8]) -> Option<&[u8]>
-    ensures { MatchOption result ((behind : List ℕ) → ¬ (text.now ≡ slash ∷ (slash ∷ behind))) (λ behind. text.now ≡ slash ∷ (slash ∷ behind.now)) }
+    ensures { MatchOption result ((behind : List ℕ) → ¬ (text.now ≡ slash ∷ (slash ∷ behind)))
+        (λ behind. text.now ≡ slash ∷ (slash ∷ behind.now)) }
 {
     match after(text, b'/') {
         Some(rest) => after(rest, b'/'),
@@ -176,7 +178,8 @@ struct AddressedPieces<'a> {
 /// The pieces of `user@[address]:path`, where this stands before the first colon.
 fn cut_addressed<'a>(bytes: &'a [u8], front: &'a [u8]) -> Option<AddressedPieces<'a>>
     requires { IsColonFront bytes.now front.now }
-    ensures { MatchOption result (¬ HasAddressedCut bytes.now) (λ cut. AddressedCut bytes.now cut.user.now cut.address.now cut.path.now) }
+    ensures { MatchOption result (¬ HasAddressedCut bytes.now)
+        (λ cut. AddressedCut bytes.now cut.user.now cut.address.now cut.path.now) }
 {
     match cut_addressed_user(bytes, front) {
         Some(found) => cut_address(found.user, found.behind),
@@ -194,7 +197,8 @@ struct UserCut<'a> {
 /// That user: the first colon is one of the address, which holds no `@`, so the user ends at the last `@` before it.
 fn cut_addressed_user<'a>(bytes: &'a [u8], front: &'a [u8]) -> Option<UserCut<'a>>
     requires { IsColonFront bytes.now front.now }
-    ensures { MatchOption result (¬ HasAddressedCut bytes.now) (λ cut. AddressedFront bytes.now cut.user.now cut.behind.now) }
+    ensures { MatchOption result (¬ HasAddressedCut bytes.now)
+        (λ cut. AddressedFront bytes.now cut.user.now cut.behind.now) }
 {
     match last_cut(front, b'@') {
         None => None,
@@ -214,7 +218,9 @@ fn cut_addressed_user<'a>(bytes: &'a [u8], front: &'a [u8]) -> Option<UserCut<'a
 /// The address and the path, behind this user and its `@[`.
 fn cut_address<'a>(user: &'a [u8], behind: &'a [u8]) -> Option<AddressedPieces<'a>>
     requires { AddressedFront (addressed_text user.now behind.now) user.now behind.now }
-    ensures { MatchOption result (¬ HasAddressedCut (addressed_text user.now behind.now)) (λ cut. AddressedCut (addressed_text user.now behind.now) cut.user.now cut.address.now cut.path.now) }
+    ensures { MatchOption result (¬ HasAddressedCut (addressed_text user.now behind.now))
+        (λ cut. AddressedCut (addressed_text user.now behind.now)
+        cut.user.now cut.address.now cut.path.now) }
 {
     match cut(behind, b']') {
         None => None,
@@ -256,7 +262,8 @@ fn cut_scp<'a>(bytes: &'a [u8], front: &'a [u8], rest: &'a [u8]) -> Option<(&'a 
 /// an opening one.
 fn cut_front<'a>(bytes: &'a [u8], front: &'a [u8], rest: &'a [u8]) -> Option<(&'a [u8], &'a [u8])>
     requires { ColonCut bytes.now front.now rest.now }
-    ensures { MatchOption result (¬ HasFrontCut bytes.now) (λ p. FrontCut bytes.now p.0.now p.1.now) }
+    ensures { MatchOption result (¬ HasFrontCut bytes.now)
+        (λ p. FrontCut bytes.now p.0.now p.1.now) }
 {
     match cut_brackets(bytes) {
         Some((inside, behind)) => cut_behind(bytes, inside, behind),
@@ -272,7 +279,8 @@ fn cut_behind<'a>(
 ) -> Option<(&'a [u8], &'a [u8])>
     requires closed { FreeOf right_bracket inside.now }
     requires joined { bytes.now ≡ left_bracket ∷ (inside.now ++ right_bracket ∷ behind.now) }
-    ensures { MatchOption result (¬ HasFrontCut bytes.now) (λ p. FrontCut bytes.now p.0.now p.1.now) }
+    ensures { MatchOption result (¬ HasFrontCut bytes.now)
+        (λ p. FrontCut bytes.now p.0.now p.1.now) }
 {
     match cut(behind, b':') {
         Some((rest, path)) => Some((bytes.split_at(inside.len() + rest.len() + 2).0, path)),
@@ -282,7 +290,9 @@ fn cut_behind<'a>(
 
 /// What stands between brackets at the front, and behind them.
 fn cut_brackets(bytes: &[u8]) -> Option<(&[u8], &[u8])>
-    ensures { MatchOption result (LacksBrackets bytes.now) (λ p. FreeOf right_bracket p.0.now × (bytes.now ≡ left_bracket ∷ (p.0.now ++ right_bracket ∷ p.1.now))) }
+    ensures { MatchOption result (LacksBrackets bytes.now)
+        (λ p. FreeOf right_bracket p.0.now
+        × (bytes.now ≡ left_bracket ∷ (p.0.now ++ right_bracket ∷ p.1.now))) }
 {
     match after(bytes, b'[') {
         Some(behind) => cut(behind, b']'),

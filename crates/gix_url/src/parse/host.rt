@@ -64,9 +64,12 @@ pub(crate) struct NamedHost<'a> {
 
 /// Reads a host and a port: none where the piece is empty.
 pub(crate) fn read_host(mode: Mode, piece: &[u8]) -> Result<Option<NamedHost<'_>>, UrlFault>
-    ensures named { IfOk result (λ named. Names (strictness mode) piece.now (host_of named) (port_of named)) }
+    ensures named { IfOk result
+        (λ named. Names (strictness mode) piece.now (host_of named) (port_of named)) }
     ensures text { IfOk result (λ named. IfSome named (λ host. IsUtf8 (named_text host))) }
-    ensures unnamed { IfErr result (λ fault. (host : Option (List ℕ)) (port : Option ℕ) → ¬ Names (strictness mode) piece.now host port) }
+    ensures unnamed { IfErr result
+        (λ fault. (host : Option (List ℕ)) (port : Option ℕ)
+        → ¬ Names (strictness mode) piece.now host port) }
     ensures flaw { IfErr result (λ fault. NameFlaw (strictness mode) piece.now fault) }
 {
     if piece.is_empty() {
@@ -100,7 +103,8 @@ fn read_bracketed(mode: Mode, behind: &[u8]) -> Result<NamedHost<'_>, UrlFault>
 /// Reads what stands between brackets, and behind them.
 fn read_brackets<'a>(mode: Mode, inner: &'a [u8], rest: &'a [u8]) -> Result<NamedHost<'a>, UrlFault>
     requires { FreeOf right_bracket inner.now }
-    ensures { ReadsName (strictness mode) (left_bracket ∷ (inner.now ++ right_bracket ∷ rest.now)) result }
+    ensures { ReadsName (strictness mode)
+        (left_bracket ∷ (inner.now ++ right_bracket ∷ rest.now)) result }
 {
     if !ends_host(rest) {
         return Err(UrlFault::BadCharacter);
@@ -211,7 +215,8 @@ fn is_address_piece(piece: &[u8]) -> bool
 
 /// The host that a text outside brackets stands for.
 fn read_text(mode: Mode, text: &[u8]) -> Option<HostPiece<'_>>
-    ensures { MatchOption result (IsNoHost (strictness mode) text.now) (λ piece. HostText (strictness mode) text.now (meant_host piece)) }
+    ensures { MatchOption result (IsNoHost (strictness mode) text.now)
+        (λ piece. HostText (strictness mode) text.now (meant_host piece)) }
 {
     match mode {
         Mode::Strict => {
@@ -233,7 +238,8 @@ fn read_text(mode: Mode, text: &[u8]) -> Option<HostPiece<'_>>
 
 /// The host that a text between brackets stands for.
 fn read_inner(mode: Mode, text: &[u8]) -> Option<HostPiece<'_>>
-    ensures { MatchOption result (IsNoInner (strictness mode) text.now) (λ piece. IsInner (strictness mode) text.now (meant_host piece)) }
+    ensures { MatchOption result (IsNoInner (strictness mode) text.now)
+        (λ piece. IsInner (strictness mode) text.now (meant_host piece)) }
 {
     if is_literal(text) {
         return Some(literal(mode, text));
@@ -254,7 +260,8 @@ fn literal(mode: Mode, text: &[u8]) -> HostPiece<'_>
 /// The host that a text between brackets stands for that is no literal.
 fn read_no_literal(mode: Mode, text: &[u8]) -> Option<HostPiece<'_>>
     requires { ¬ IsLiteral text.now }
-    ensures { MatchOption result (IsNoInner (strictness mode) text.now) (λ piece. IsInner (strictness mode) text.now (meant_host piece)) }
+    ensures { MatchOption result (IsNoInner (strictness mode) text.now)
+        (λ piece. IsInner (strictness mode) text.now (meant_host piece)) }
 {
     match mode {
         Mode::Strict => None,

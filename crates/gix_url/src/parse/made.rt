@@ -55,7 +55,10 @@ pub(super) fn plain_location(
     flag: bool,
     path: BString,
 ) -> Url
-    ensures { result ≡ record (path_alone (protocol scheme) flag (bstring_bytes path)) { user = option_map string_bytes user; host = option_map string_bytes host } }
+    ensures { result ≡ record (path_alone (protocol scheme) flag (bstring_bytes path)) {
+      user = option_map string_bytes user;
+      host = option_map string_bytes host;
+    } }
 {
     Url {
         scheme,

@@ -34,7 +34,8 @@ pub(super) fn build(alloc: Global, rules: Rules, url: ParsedUrl<'_>) -> Result<U
     requires scheme_text { IsUtf8 url.scheme.now }
     requires texts { AreTexts (parts_of url) }
     requires pathed { requires_path (protocol_of url.scheme.now) ≡ true → 0 < length url.path.now }
-    ensures { IfOk result (λ v. MeansByProtocol (protocol_of url.entry.scheme.now) (parts_of url.entry) v) }
+    ensures { IfOk result
+        (λ v. MeansByProtocol (protocol_of url.entry.scheme.now) (parts_of url.entry) v) }
 {
     let scheme = Scheme::of_protocol(alloc, rules.protocol, as_text(url.scheme))?;
     let user = decoded_part(alloc, url.user)?;
@@ -80,7 +81,9 @@ fn port_of(host: Option<NamedHost<'_>>) -> Option<u16>
 
 /// The host of a location: Secure Shell takes it without marks, any other scheme as it is.
 fn host_for(protocol: Protocol, host: Option<String>) -> Option<String>
-    ensures { (scheme : List ℕ) → HostFor (named_protocol protocol scheme) (option_map string_bytes host) (option_map string_bytes result) }
+    ensures { (scheme : List ℕ)
+        → HostFor (named_protocol protocol scheme) (option_map string_bytes host)
+        (option_map string_bytes result) }
 {
     match host {
         None => None,
@@ -97,7 +100,9 @@ fn host_for(protocol: Protocol, host: Option<String>) -> Option<String>
 /// The path of a location, decoded.
 fn path_for(alloc: Global, rules: Rules, url: ParsedUrl<'_>) -> Result<BString, AllocError>
     requires { AreRulesOf url.scheme.now rules }
-    ensures { IfOk result (λ bytes. bstring_bytes bytes ≡ path_for (protocol_of url.entry.scheme.now) (percent_decode url.entry.path.now)) }
+    ensures { IfOk result
+        (λ bytes. bstring_bytes bytes
+        ≡ path_for (protocol_of url.entry.scheme.now) (percent_decode url.entry.path.now)) }
 {
     if rules.needs_path {
         return Ok(BString::new(from_home(decoded(alloc, url.path)?)));
@@ -137,7 +142,8 @@ fn or_root(path: &[u8]) -> &[u8]
 
 /// The spelling of the path, where it holds an escape.
 fn retained(alloc: Global, path: &[u8]) -> Result<Option<BString>, AllocError>
-    ensures { IfOk result (λ spelling. option_map bstring_bytes spelling ≡ grammar.retained_spelling path.now) }
+    ensures { IfOk result
+        (λ spelling. option_map bstring_bytes spelling ≡ grammar.retained_spelling path.now) }
 {
     if has_percent(path) {
         Ok(Some(copied(alloc, path)?))

@@ -45,7 +45,8 @@ fn without_brackets(mut host: Vec<u8>) -> Vec<u8>
 
 /// The text in brackets, where nothing or a colon follows them.
 fn in_brackets(host: &[u8]) -> Option<&[u8]>
-    ensures { MatchOption result ((inside : List ℕ) → ¬ InBrackets host.now inside) (λ inside. InBrackets host.now inside.now) }
+    ensures { MatchOption result ((inside : List ℕ) → ¬ InBrackets host.now inside)
+        (λ inside. InBrackets host.now inside.now) }
 {
     let behind = after(host, b'[')?;
     before(without_last(behind, b':'), b']')

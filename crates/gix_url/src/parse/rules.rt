@@ -49,7 +49,13 @@ pub(super) fn rules_of(scheme: &[u8]) -> Rules
 
 /// The rules of HTTP.
 fn web(protocol: Protocol) -> Rules
-    ensures { result ≡ record { protocol = protocol; mode = Mode.Strict; needs_host = true; web = true; needs_path = false } }
+    ensures { result ≡ record {
+      protocol = protocol;
+      mode = Mode.Strict;
+      needs_host = true;
+      web = true;
+      needs_path = false;
+    } }
 {
     Rules {
         protocol,
@@ -62,7 +68,13 @@ fn web(protocol: Protocol) -> Rules
 
 /// The rules of Git's own transports.
 fn transport(protocol: Protocol, needs_host: bool) -> Rules
-    ensures { result ≡ record { protocol = protocol; mode = Mode.Bare; needs_host = needs_host; web = false; needs_path = true } }
+    ensures { result ≡ record {
+      protocol = protocol;
+      mode = Mode.Bare;
+      needs_host = needs_host;
+      web = false;
+      needs_path = true;
+    } }
 {
     Rules {
         protocol,
@@ -75,7 +87,13 @@ fn transport(protocol: Protocol, needs_host: bool) -> Rules
 
 /// The rules of any other protocol.
 fn plain(protocol: Protocol, needs_host: bool) -> Rules
-    ensures { result ≡ record { protocol = protocol; mode = Mode.Loose; needs_host = needs_host; web = false; needs_path = false } }
+    ensures { result ≡ record {
+      protocol = protocol;
+      mode = Mode.Loose;
+      needs_host = needs_host;
+      web = false;
+      needs_path = false;
+    } }
 {
     Rules {
         protocol,

@@ -106,7 +106,8 @@ fn scp_location(
     path: &[u8],
 ) -> Result<Url, AllocError>
     requires { IfSome user (λ u. IsUtf8 u.now) }
-    ensures { IfOk result (λ v. v ≡ scp_location (option_map (λ u. u.now) user.entry) (string_bytes host) path.now) }
+    ensures { IfOk result
+        (λ v. v ≡ scp_location (option_map (λ u. u.now) user.entry) (string_bytes host) path.now) }
 {
     let user = match user {
         None => None,

@@ -142,7 +142,8 @@ fn read_authority(
 ) -> Result<AuthorityParts<'_>, UrlFault>
     ensures read { IfOk result (λ parts. HoldsParts (strictness mode) needed authority.now parts) }
     ensures refused { IfErr result (λ fault. IsNoAuthority (strictness mode) needed authority.now) }
-    ensures flaw { IfErr result (λ fault. AuthorityFlaw (strictness mode) needed authority.now fault) }
+    ensures flaw { IfErr result
+        (λ fault. AuthorityFlaw (strictness mode) needed authority.now fault) }
 {
     let Some((information, piece)) = last_cut(authority, b'@') else {
         return read_host_alone(mode, needed, authority);
@@ -168,7 +169,8 @@ fn read_host_alone(
     requires { FreeOf at_sign authority.now }
     ensures read { IfOk result (λ parts. HoldsParts (strictness mode) needed authority.now parts) }
     ensures refused { IfErr result (λ fault. IsNoAuthority (strictness mode) needed authority.now) }
-    ensures flaw { IfErr result (λ fault. AuthorityFlaw (strictness mode) needed authority.now fault) }
+    ensures flaw { IfErr result
+        (λ fault. AuthorityFlaw (strictness mode) needed authority.now fault) }
 {
     let host = read_host(mode, authority)?;
     if needed && host.is_none() {
@@ -185,7 +187,8 @@ fn read_host_alone(
 
 /// Reads user information: a user, or a user and a password, which decode to text.
 fn read_credentials(information: &[u8]) -> Option<CredentialParts<'_>>
-    ensures { MatchOption result (HasNoText information.now) (λ parts. HoldsCredentials information.now parts) }
+    ensures { MatchOption result (HasNoText information.now)
+        (λ parts. HoldsCredentials information.now parts) }
 {
     let Some((user, password)) = cut(information, b':') else {
         return read_user(information);
@@ -206,7 +209,8 @@ fn read_credentials(information: &[u8]) -> Option<CredentialParts<'_>>
 /// Reads user information without a password.
 fn read_user(information: &[u8]) -> Option<CredentialParts<'_>>
     requires { FreeOf colon information.now }
-    ensures { MatchOption result (HasNoText information.now) (λ parts. HoldsCredentials information.now parts) }
+    ensures { MatchOption result (HasNoText information.now)
+        (λ parts. HoldsCredentials information.now parts) }
 {
     if !decodes_to_utf8(information) {
         return None;
@@ -226,7 +230,8 @@ fn unless_empty(text: &[u8]) -> Option<&[u8]>
 
 /// The user beside a password, or beside none: an empty user counts only beside a password.
 fn user_beside<'a>(password: Option<&'a [u8]>, user: &'a [u8]) -> Option<&'a [u8]>
-    ensures { decoded_option result ≡ authority.user_beside (decoded_option password.entry) (percent_decode user.now) }
+    ensures { decoded_option result
+        ≡ authority.user_beside (decoded_option password.entry) (percent_decode user.now) }
 {
     match password {
         Some(_) => Some(user),

@@ -54,7 +54,8 @@ fn are_short(scheme: &[u8], pieces: &Pieces<'_>) -> bool
 /// Whether what stands behind the scheme is short enough. Where it has no more bytes than the limit, none need be
 /// looked at.
 fn is_rest_short(scheme: &[u8], pieces: &Pieces<'_>) -> bool
-    ensures { result ≡ is_walk_short (text_walk_past (text_walk_for scheme.now) (pieces_text pieces.now)).walk }
+    ensures { result ≡ is_walk_short
+        (text_walk_past (text_walk_for scheme.now) (pieces_text pieces.now)).walk }
 {
     if pieces.len() <= scheme.len() as u128 + 3 + u128::from(LIMIT) {
         return true;

@@ -51,7 +51,8 @@ impl Url {
 
     /// The helper form with this name, which has nothing but a path.
     fn helper_form(&self, name: &[u8], password: Option<&str>) -> Result<Form, WriteFault>
-        ensures { form_chosen result ≡ helper_choice name.now (with_password self.now password.entry) }
+        ensures { form_chosen result
+            ≡ helper_choice name.now (with_password self.now password.entry) }
     {
         if !bytes::is_helper_name(name) {
             Err(WriteFault::HelperName)

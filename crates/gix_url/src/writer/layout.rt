@@ -122,7 +122,8 @@ impl Url {
 
     /// The user, this password and their marks, with escapes. A password without a user is left out.
     fn user_information<'a>(&'a self, password: Option<&'a str>) -> UserPieces<'a>
-        ensures { user_text result ≡ spec.user_information self.now.user (option_map (λ p. p.now) password.entry) }
+        ensures { user_text result
+            ≡ spec.user_information self.now.user (option_map (λ p. p.now) password.entry) }
     {
         let Some(user) = &self.user else {
             return UserPieces::None;
@@ -198,7 +199,8 @@ impl Url {
 
     /// The retained spelling of the path where it matches.
     pub(crate) fn matching_spelling(&self) -> Option<&[u8]>
-        ensures { (other : List ℕ) → unwrap_or (option_map (λ s. s.now) result) other ≡ spec.matching_or self.now.spelling self.now.path other }
+        ensures { (other : List ℕ) → unwrap_or (option_map (λ s. s.now) result) other
+            ≡ spec.matching_or self.now.spelling self.now.path other }
     {
         match &self.spelling {
             None => None,

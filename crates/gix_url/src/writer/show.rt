@@ -18,8 +18,10 @@ pub(crate) fn show_pieces<W: fmt::Write>(
     f: &mut fmt::Formatter<W>,
     pieces: &Pieces<'_>,
 ) -> fmt::Result
-    ensures writes { WritesOnOk W.write_str_gives f.old result (lossy_text (pieces_text pieces.now)) f.new }
-    ensures styled { WritesStyledOnOk W.write_str_gives f.old result (lossy_text (pieces_text pieces.now)) f.new }
+    ensures writes { WritesOnOk W.write_str_gives f.old result
+        (lossy_text (pieces_text pieces.now)) f.new }
+    ensures styled { WritesStyledOnOk W.write_str_gives f.old result
+        (lossy_text (pieces_text pieces.now)) f.new }
 {
     pieces.put::<fmt::Formatter<W>, Shown>(f)
 }

@@ -39,9 +39,11 @@ pub(crate) trait Sink<T> {
 
     ghost takes_nothing: { (a : T) → takes a [] a };
 
-    ghost takes_joined: { (a b c : T) (x y : List ℕ) → takes a x b → takes b y c → takes a (x ++ y) c };
+    ghost takes_joined: { (a b c : T) (x y : List ℕ) → takes a x b → takes b y c
+        → takes a (x ++ y) c };
 
-    ghost ends_joined: { (a b c : T) (x y : List ℕ) → takes a x b → ends b y c → ends a (x ++ y) c };
+    ghost ends_joined: { (a b c : T) (x y : List ℕ) → takes a x b → ends b y c
+        → ends a (x ++ y) c };
 }
 
 /// Puts the text with the bytes of the set, and those past ASCII, as escapes.
@@ -127,7 +129,9 @@ impl<W: Write> Sink<W> for Output {
 
     ghost takes_nothing = { λ a. Appends-nil (W.contents a) };
 
-    ghost takes_joined = { λ a b c x y. Appends-trans (W.contents a) (W.contents b) (W.contents c) x y };
+    ghost takes_joined = { λ a b c x y. Appends-trans (W.contents a) (W.contents b)
+        (W.contents c) x y };
 
-    ghost ends_joined = { λ a b c x y. Appends-trans (W.contents a) (W.contents b) (W.contents c) x y };
+    ghost ends_joined = { λ a b c x y. Appends-trans (W.contents a) (W.contents b)
+        (W.contents c) x y };
 }

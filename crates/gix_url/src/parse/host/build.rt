@@ -76,7 +76,8 @@ fn is_bracketed(piece: HostPiece<'_>) -> bool
 /// Writes what a piece shows, without its brackets.
 fn append_shown(out: &mut Vec<u8>, piece: HostPiece<'_>)
     requires { vec_len out.old + length (slice_text piece) ≤ vec_capacity out.old }
-    ensures items { out.new.items ≡ out.old.items ++ normal_case piece.entry (unescaped_host piece.entry) }
+    ensures items { out.new.items ≡ out.old.items
+        ++ normal_case piece.entry (unescaped_host piece.entry) }
     ensures capacity { vec_capacity out.old ≤ vec_capacity out.new }
     ensures len { vec_len out.new ≤ vec_len out.old + length (slice_text piece.entry) }
 {
@@ -132,7 +133,8 @@ fn lowercase_address(literal: &mut [u8])
 /// How many bytes stand before the first `%`.
 fn address_len(literal: &[u8]) -> usize
     ensures within { result ≤ length literal.now }
-    ensures cut { lowercase_address literal.now ≡ lowercase (take result literal.now) ++ drop result literal.now }
+    ensures cut { lowercase_address literal.now ≡ lowercase (take result literal.now)
+        ++ drop result literal.now }
 {
     match cut(literal, b'%') {
         Some((address, _)) => address.len(),

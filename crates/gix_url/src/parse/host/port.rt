@@ -19,7 +19,9 @@ use crate::text::as_text;
 /// A host with what follows it: nothing, or a colon and perhaps a port.
 pub(super) fn with_rest<'a>(mode: Mode, piece: HostPiece<'a>, rest: &[u8]) -> Option<NamedHost<'a>>
     requires { EndsHost rest.now }
-    ensures { MatchOption result (HasNoPort (strictness mode) rest.now) (λ named. Follows (strictness mode) (meant_host piece.entry) rest.now (Some (named_text named)) named.port) }
+    ensures { MatchOption result (HasNoPort (strictness mode) rest.now)
+        (λ named. Follows (strictness mode) (meant_host piece.entry) rest.now
+        (Some (named_text named)) named.port) }
 {
     match after(rest, b':') {
         Some(digits) => with_port(mode, piece, digits),
@@ -40,7 +42,9 @@ pub(super) fn with_port<'a>(
     piece: HostPiece<'a>,
     digits: &[u8],
 ) -> Option<NamedHost<'a>>
-    ensures { MatchOption result (IsNoPort (strictness mode) digits.now) (λ named. Follows (strictness mode) (meant_host piece.entry) (colon ∷ digits.now) (Some (named_text named)) named.port) }
+    ensures { MatchOption result (IsNoPort (strictness mode) digits.now)
+        (λ named. Follows (strictness mode) (meant_host piece.entry) (colon ∷ digits.now)
+        (Some (named_text named)) named.port) }
 {
     if digits.is_empty() {
         return Some(NamedHost {
@@ -59,7 +63,8 @@ pub(super) fn with_port<'a>(
 
 /// The port that the digits spell.
 fn read_port(mode: Mode, digits: &[u8]) -> Option<u16>
-    ensures { MatchOption result ((port : ℕ) → ¬ Number (strictness mode) digits.now port) (λ port. Number (strictness mode) digits.now port) }
+    ensures { MatchOption result ((port : ℕ) → ¬ Number (strictness mode) digits.now port)
+        (λ port. Number (strictness mode) digits.now port) }
 {
     if !are_digits(digits) {
         return None;
