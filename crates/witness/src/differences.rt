@@ -63,8 +63,8 @@ fn another_machine(rt: HostRuntime) -> Result<(), Fail> {
     for (class, text, git, ours) in MACHINE {
         let told = told(rt.alloc(), text)?;
         assert_eq!(rt; told.as_str(), ours, "{class}");
-        assert!(rt; told.as_str() != git, "{class}");
-        assert!(rt; !is_let_by(rt.alloc(), text)?, "{class}");
+        assert!(rt; told.as_str() != git);
+        assert!(rt; !is_let_by(rt.alloc(), text)?);
     }
     Ok(())
 }
