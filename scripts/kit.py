@@ -12,6 +12,34 @@ ROOT = os.path.dirname(os.path.dirname(os.path.realpath(__file__)))
 BUILT = f"{ROOT}/out/built"
 
 
+class Slots:
+    """As many checks at a time as there are slots, over processes: a pipe that holds a byte for each free one."""
+
+    def __init__(self, ends):
+        self.ends = ends
+
+    @classmethod
+    def of(cls, number):
+        ends = os.pipe()
+        os.write(ends[1], bytes(number))
+        return cls(ends)
+
+    def __enter__(self):
+        os.read(self.ends[0], 1)
+
+    def __exit__(self, *_):
+        os.write(self.ends[1], bytes(1))
+
+    def around(self, call):
+        """The call, which waits for a slot each time."""
+
+        def waiting(*words, **more):
+            with self:
+                return call(*words, **more)
+
+        return waiting
+
+
 def load_kit():
     command = shutil.which("rt") or sys.exit("the toolchain's command rt is not on the PATH")
     loader = importlib.machinery.SourceFileLoader("rt", os.path.realpath(command))

@@ -18,6 +18,7 @@ use path::{PATH, SPELLING};
 use refused::REFUSED;
 use std::alloc::Global;
 use std::fmt::Write;
+use std::process::Abort;
 use std::test::Fail;
 
 /// A class, a text, what Git reads in it, and what the library reads in it.
@@ -58,57 +59,54 @@ fn put(out: &mut String, name: &str, part: Option<&str>) -> Result<(), Fail> {
     Ok(())
 }
 
-#[test]
-fn another_machine(rt: HostRuntime) -> Result<(), Fail> {
-    for (class, text, git, ours) in MACHINE {
-        let told = told(rt.alloc(), text)?;
-        assert_eq!(rt; told.as_str(), ours, "{class}");
-        assert!(rt; told.as_str() != git);
-        assert!(rt; !is_let_by(rt.alloc(), text)?);
+/// Checks what the library reads in a text, whether that is what Git reads in it, and that the text is let by if it is.
+fn is_read(
+    rt: &impl Abort,
+    alloc: Global,
+    &(class, text, git, ours): &Example,
+    is_alike: bool,
+) -> Result<(), Fail> {
+    let told = told(alloc, text)?;
+    assert_eq!(rt; told.as_str(), ours, "{class}");
+    assert_eq!(rt; told.as_str() == git, is_alike, "{class}");
+    assert_eq!(rt; is_let_by(alloc, text)?, is_alike, "{class}");
+    Ok(())
+}
+
+/// Checks texts that are all read alike, or all read differently.
+fn are_read(
+    rt: &impl Abort,
+    alloc: Global,
+    examples: &[Example],
+    is_alike: bool,
+) -> Result<(), Fail> {
+    for example in examples {
+        is_read(rt, alloc, example, is_alike)?;
     }
     Ok(())
+}
+
+#[test]
+fn another_machine(rt: HostRuntime) -> Result<(), Fail> {
+    are_read(&rt, rt.alloc(), &MACHINE, false)
 }
 
 #[test]
 fn another_path(rt: HostRuntime) -> Result<(), Fail> {
-    for (class, text, git, ours) in PATH {
-        let told = told(rt.alloc(), text)?;
-        assert_eq!(rt; told.as_str(), ours, "{class}");
-        assert!(rt; told.as_str() != git, "{class}");
-        assert!(rt; !is_let_by(rt.alloc(), text)?, "{class}");
-    }
-    Ok(())
+    are_read(&rt, rt.alloc(), &PATH, false)
 }
 
 #[test]
 fn another_spelling(rt: HostRuntime) -> Result<(), Fail> {
-    for (class, text, git, ours) in SPELLING {
-        let told = told(rt.alloc(), text)?;
-        assert_eq!(rt; told.as_str(), ours, "{class}");
-        assert!(rt; told.as_str() != git, "{class}");
-        assert!(rt; !is_let_by(rt.alloc(), text)?, "{class}");
-    }
-    Ok(())
+    are_read(&rt, rt.alloc(), &SPELLING, false)
 }
 
 #[test]
 fn refused_by_one_side(rt: HostRuntime) -> Result<(), Fail> {
-    for (class, text, git, ours) in REFUSED {
-        let told = told(rt.alloc(), text)?;
-        assert_eq!(rt; told.as_str(), ours, "{class}");
-        assert!(rt; told.as_str() != git, "{class}");
-        assert!(rt; !is_let_by(rt.alloc(), text)?, "{class}");
-    }
-    Ok(())
+    are_read(&rt, rt.alloc(), &REFUSED, false)
 }
 
 #[test]
 fn read_alike(rt: HostRuntime) -> Result<(), Fail> {
-    for (class, text, git, ours) in ALIKE {
-        let told = told(rt.alloc(), text)?;
-        assert_eq!(rt; told.as_str(), ours, "{class}");
-        assert_eq!(rt; told.as_str(), git, "{class}");
-        assert!(rt; is_let_by(rt.alloc(), text)?, "{told}");
-    }
-    Ok(())
+    are_read(&rt, rt.alloc(), &ALIKE, true)
 }
