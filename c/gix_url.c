@@ -42,6 +42,7 @@ typedef struct parted {
 uint32_t gix_url_c_read(BYTES, made *, char *, size_t, told *);
 uint32_t gix_url_c_from_parts(const front *, BYTES, BYTES, BYTES, BYTES, BYTES, made *, char *, size_t, told *);
 uint32_t gix_url_c_is_settled(const front *, BYTES, BYTES, BYTES, BYTES, BYTES, BYTES, bool *);
+uint32_t gix_url_c_agrees_with_git(const front *, BYTES, BYTES, BYTES, BYTES, BYTES, BYTES, bool *);
 uint32_t gix_url_c_write(const front *, BYTES, BYTES, BYTES, BYTES, BYTES, BYTES, char *, size_t, size_t *, told *);
 uint32_t gix_url_c_display(const front *, BYTES, BYTES, BYTES, BYTES, BYTES, BYTES, char *, size_t, size_t *, told *);
 uint32_t gix_url_c_look(const front *, BYTES, BYTES, BYTES, BYTES, BYTES, BYTES, seen *);
@@ -148,6 +149,12 @@ gix_url_error gix_url_is_settled(const gix_url *url, bool *settled) {
     if (!url || !settled) return GIX_URL_NULL;
     front front = front_of(url);
     return (gix_url_error)gix_url_c_is_settled(&front, SIX(url), settled);
+}
+
+gix_url_error gix_url_agrees_with_git(const gix_url *url, bool *agrees) {
+    if (!url || !agrees) return GIX_URL_NULL;
+    front front = front_of(url);
+    return (gix_url_error)gix_url_c_agrees_with_git(&front, SIX(url), agrees);
 }
 
 gix_url_error gix_url_write(const gix_url *url, char *room, size_t room_len, size_t *len, gix_url_problem *problem) {

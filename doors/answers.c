@@ -43,6 +43,16 @@ static void is_seen(const gix_url *url) {
     HOLDS(!url->has_port || (seen.has_port && seen.port == url->port));
 }
 
+/* What Git is told to read alike is settled, of one of its own three transports, and without a password or an option. */
+static void is_for_git(const gix_url *url, bool settled) {
+    bool agrees;
+    gix_url_seen seen;
+    HOLDS(gix_url_agrees_with_git(url, &agrees) == GIX_URL_OK && gix_url_look(url, &seen) == GIX_URL_OK);
+    if (!agrees) return;
+    HOLDS(settled && url->scheme <= GIX_URL_SSH && !url->password.at);
+    HOLDS(seen.user != GIX_URL_DANGEROUS && seen.host != GIX_URL_DANGEROUS);
+}
+
 /* A location without a password is shown as its text, where that is ASCII; with one it is shown otherwise. */
 static void is_shown(const gix_url *url, gix_url_text text) {
     gix_url_error error;
@@ -67,6 +77,7 @@ static void answer_read(line *out, const gix_url *url) {
     tell_components(&told, url);
     free(told.at);
     HOLDS(gix_url_is_settled(url, &settled) == GIX_URL_OK);
+    is_for_git(url, settled);
     char *room = text_of_location(gix_url_write, url, &text.len, &error, &problem);
     text.at = room;
     put_word(out, !room ? "unwritable\t" : settled ? "settled\t" : "unsettled\t");

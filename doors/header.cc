@@ -3,4 +3,6 @@
 
 gix_url_error settled(const gix_url &url, bool &answer) { return gix_url_is_settled(&url, &answer); }
 
+gix_url_error agrees(const gix_url &url, bool &answer) { return gix_url_agrees_with_git(&url, &answer); }
+
 gix_url empty() { return gix_url(); }

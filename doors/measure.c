@@ -1,5 +1,5 @@
 /* Makes one call on each line of the standard input, over and over: `measure CALL PASSES`, so that valgrind can count the
- * instructions of a call. The calls are read, settled, write and look. */
+ * instructions of a call. The calls are read, settled, git, write and look. */
 #include <gix_url.h>
 
 #include <stdio.h>
@@ -11,10 +11,11 @@ static char room[65536], text[65536];
 static void call(const char *name, const char *line, size_t len) {
     gix_url url;
     gix_url_seen seen;
-    bool settled;
+    bool answer;
     size_t written;
     if (gix_url_parse(line, len, room, sizeof room, &url, NULL, NULL) != GIX_URL_OK) return;
-    if (strcmp(name, "settled") == 0) gix_url_is_settled(&url, &settled);
+    if (strcmp(name, "settled") == 0) gix_url_is_settled(&url, &answer);
+    if (strcmp(name, "git") == 0) gix_url_agrees_with_git(&url, &answer);
     if (strcmp(name, "write") == 0) gix_url_write(&url, text, sizeof text, &written, NULL);
     if (strcmp(name, "look") == 0) gix_url_look(&url, &seen);
 }

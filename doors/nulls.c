@@ -36,7 +36,7 @@ static void of_length(void) {
 
 static void of_calls(void) {
     gix_url url, again;
-    bool settled;
+    bool settled, agrees = true;
     size_t len = 77, pairs;
     gix_url_seen seen;
     gix_url_components parts;
@@ -44,6 +44,7 @@ static void of_calls(void) {
     char room[64];
     memset(&url, 0, sizeof url);
     HOLDS(gix_url_is_settled(NULL, &settled) == GIX_URL_NULL && gix_url_is_settled(&url, NULL) == GIX_URL_NULL);
+    HOLDS(gix_url_agrees_with_git(NULL, &agrees) == GIX_URL_NULL && gix_url_agrees_with_git(&url, NULL) == GIX_URL_NULL);
     HOLDS(gix_url_write(NULL, room, 64, &len, NULL) == GIX_URL_NULL && gix_url_write(&url, room, 64, NULL, NULL) == GIX_URL_NULL);
     HOLDS(gix_url_display(NULL, room, 64, &len, NULL) == GIX_URL_NULL && gix_url_display(&url, room, 64, NULL, NULL) == GIX_URL_NULL);
     HOLDS(gix_url_look(NULL, &seen) == GIX_URL_NULL && gix_url_look(&url, NULL) == GIX_URL_NULL);
@@ -60,13 +61,20 @@ static void of_calls(void) {
     HOLDS(gix_url_write(&url, room, 64, &len, &problem) == GIX_URL_UNWRITABLE && problem.write_fault == GIX_URL_WRITE_USER_WITHOUT_HOST);
     HOLDS(problem.fault == 0 && gix_url_display(&url, room, 64, &len, &problem) == GIX_URL_UNWRITABLE);
     HOLDS(gix_url_is_settled(&url, &settled) == GIX_URL_OK && !settled);
+    HOLDS(gix_url_agrees_with_git(&url, &agrees) == GIX_URL_OK && !agrees);
     HOLDS(gix_url_from_parts(&url, room, 64, &again, NULL, &problem) == GIX_URL_UNWRITABLE && problem.write_fault == GIX_URL_WRITE_USER_WITHOUT_HOST);
+}
+
+/* Both questions to a struct that holds no location are answered so, and nothing is stored. */
+static bool is_no_location(const gix_url *url) {
+    bool settled = true, agrees = true;
+    gix_url_error first = gix_url_is_settled(url, &settled), second = gix_url_agrees_with_git(url, &agrees);
+    return first == GIX_URL_NO_LOCATION && second == GIX_URL_NO_LOCATION && settled && agrees;
 }
 
 /* Structs that hold no location, and a spelling that is the path, which counts as none. */
 static void of_locations(void) {
     gix_url url;
-    bool settled;
     size_t len;
     char room[64];
     memset(&url, 0, sizeof url);
@@ -76,13 +84,13 @@ static void of_locations(void) {
     url.spelling = text("/a%2520b");
     HOLDS(gix_url_write(&url, room, 64, &len, NULL) == GIX_URL_OK && memcmp(room, "http://h/a%2520b", len) == 0);
     url.host = (gix_url_text){"\xff", 1};
-    HOLDS(gix_url_is_settled(&url, &settled) == GIX_URL_NO_LOCATION && gix_url_write(&url, room, 64, &len, NULL) == GIX_URL_NO_LOCATION);
+    HOLDS(is_no_location(&url) && gix_url_write(&url, room, 64, &len, NULL) == GIX_URL_NO_LOCATION);
     url.host = text("h"), url.user = (gix_url_text){"\xc3", 1};
     HOLDS(gix_url_display(&url, room, 64, &len, NULL) == GIX_URL_NO_LOCATION);
     url.user = (gix_url_text){NULL, 9}, url.scheme = (gix_url_scheme)8;
-    HOLDS(gix_url_is_settled(&url, &settled) == GIX_URL_NO_LOCATION);
+    HOLDS(is_no_location(&url));
     url.scheme = (gix_url_scheme)256;
-    HOLDS(gix_url_is_settled(&url, &settled) == GIX_URL_NO_LOCATION);
+    HOLDS(is_no_location(&url));
     url.scheme = GIX_URL_HTTP, url.path = (gix_url_text){"/\xff\0", 3}, url.spelling = (gix_url_text){NULL, 3};
     HOLDS(gix_url_write(&url, room, 64, &len, NULL) == GIX_URL_OK && memcmp(room, "http://h/%FF%00", len) == 0);
 }

@@ -1,6 +1,7 @@
-/* The rows of a table: what is read, made of parts, written, judged, taken apart and shown. What is read was computed by a
- * second reading of the grammar; the other answers are those of the tables that the tests of the library stand on. Columns
- * are parted by tabs; `~` is a part that isn't there, and `\x` with two digits a byte. */
+/* The rows of a table: what is read, made of parts, written, judged, taken apart and shown, and whether Git reads the same.
+ * What is read was computed by a second reading of the grammar, and Git's rows by the rule by hand of docs/GIT.md; the
+ * other answers are those of the tables that the tests of the library stand on. Columns are parted by tabs; `~` is a part
+ * that isn't there, and `\x` with two digits a byte. */
 #include "told.h"
 
 #include <string.h>
@@ -68,6 +69,12 @@ static void tell_shown(line *out, const gix_url *url) {
     free(shown);
 }
 
+static void tell_agreement(line *out, const gix_url *url) {
+    bool agrees;
+    HOLDS(gix_url_agrees_with_git(url, &agrees) == GIX_URL_OK);
+    put_word(out, agrees ? "yes" : "no");
+}
+
 /* What the call of the row answers. */
 static void tell_row(line *out, const gix_url_text *columns) {
     gix_url url, parts;
@@ -82,6 +89,9 @@ static void tell_row(line *out, const gix_url_text *columns) {
     } else if (is_word(columns[0], "text")) {
         parts = location(columns + 1);
         tell_written(out, &parts);
+    } else if (is_word(columns[0], "git-parts")) {
+        parts = location(columns + 1);
+        tell_agreement(out, &parts);
     } else {
         room = read_input(columns[1], &url, &error, &problem);
         if (is_word(columns[0], "read")) {
@@ -92,6 +102,7 @@ static void tell_row(line *out, const gix_url_text *columns) {
             else if (is_word(columns[0], "part")) tell_components(out, &url);
             else if (is_word(columns[0], "show")) tell_shown(out, &url);
             else if (is_word(columns[0], "port")) tell_port(out, &url);
+            else if (is_word(columns[0], "git")) tell_agreement(out, &url);
             else HOLDS(!"a row of this kind");
         }
     }

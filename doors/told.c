@@ -98,8 +98,9 @@ void tell_written(line *out, const gix_url *url) {
     size_t len;
     gix_url_error error;
     gix_url_problem problem;
-    bool settled;
-    HOLDS(gix_url_is_settled(url, &settled) == GIX_URL_OK);
+    bool settled, agrees;
+    HOLDS(gix_url_is_settled(url, &settled) == GIX_URL_OK && gix_url_agrees_with_git(url, &agrees) == GIX_URL_OK);
+    HOLDS(settled || !agrees);
     char *text = text_of_location(gix_url_write, url, &len, &error, &problem);
     if (!text) {
         HOLDS(error == GIX_URL_UNWRITABLE && !settled);

@@ -132,6 +132,13 @@ gix_url_error gix_url_from_parts(const gix_url *parts, char *room, size_t room_l
 /* Whether the location's text is read as the same parts and is written the same again. */
 gix_url_error gix_url_is_settled(const gix_url *url, bool *settled);
 
+/* Whether Git reads this very place in the text that gix_url_write puts: the same protocol, user, host, port and path. Of
+ * another text that was read as the location it says nothing: of ssh://@h/p, which is written as ssh://h/p, the answer is
+ * yes, and Git would read an empty user in it. What Git reads is a definition, which was measured with git 2.39.5 on
+ * Linux; docs/GIT.md has the cases. The answer is no for what Git hands to a remote helper, HTTP among it, for what isn't
+ * settled, and for some texts that Git reads alike: with an address in brackets, or with an escape. */
+gix_url_error gix_url_agrees_with_git(const gix_url *url, bool *agrees);
+
 /* Puts the text of the location into the room, and stores its length, on GIX_URL_NO_ROOM too. No byte 0 is added.
  * GIX_URL_UNWRITABLE says that there is none, and problem, which may be null, why. */
 gix_url_error gix_url_write(const gix_url *url, char *room, size_t room_len, size_t *len, gix_url_problem *problem);

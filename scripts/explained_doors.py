@@ -1,10 +1,18 @@
 """Fails where a door tells of a line otherwise than the program `explain` does: `explained_doors.py LINES ANSWERS EXPLAINED`.
 
 ANSWERS are those of `doors/members.c` or of the example `members` of the Rust crate, EXPLAINED those of `explain --json`.
-Bytes that are no UTF-8 are U+FFFD in JSON, and are compared so.
+Bytes that are no UTF-8 are U+FFFD in JSON, and are compared so. Whether Git reads the same is compared with the rule by
+hand of `docs/GIT.md`, asked of what a second reading of the grammar finds in the line.
 """
 import json
 import sys
+
+sys.dont_write_bytecode = True
+import oracle
+from git_classes import Case, Reading, is_careful
+
+# The schemes that Git reads by itself.
+OWN = {"File": "file", "Git": "git", "Ssh": "ssh"}
 
 
 def text(word):
@@ -18,15 +26,26 @@ def components(parts):
     return parts["path"] + (" ?" * (parts["query"] is not None)) + query + ("" if parts["fragment"] is None else f" #{parts['fragment']}")
 
 
-def of_explain(said):
-    """What explain says of a line, as the doors' words."""
+def agreement(line):
+    """What the rule by hand says of the text that is written for what the line is read as."""
+    v = oracle.spells(line)
+    if v is None or not oracle.settled(v):
+        return "unsure"
+    protocol = OWN.get(v.scheme[0], "helper " + oracle.as_str(v.scheme).decode())
+    ours = Reading(protocol, v.user, v.password, v.host or None, v.port, v.path)
+    return "alike" if is_careful(Case(oracle.text(v), None, ours), True) else "unsure"
+
+
+def of_explain(said, line):
+    """What explain and the rule by hand say of a line, as the doors' words."""
     it, refusal = said["location"], said["refusal"]
     if refusal:
         return ["refused", refusal["error"], refusal["fault"], refusal["kind"]]
     judged = it["arguments"]
     texts = [it["scheme"], it["user"], "hidden" if it["password"] else None, it["host"], it["port"], it["port_or_default"]]
     paths = [it["path"], it["original_path"], judged["user"], judged["host"], judged["path"]]
-    return ["read", *texts, *paths, "settled" if it["settled"] else "unsettled", it["text"], components(it["components"])]
+    settled = "settled" if it["settled"] else "unsettled"
+    return ["read", *texts, *paths, settled, agreement(line), it["text"], components(it["components"])]
 
 
 def of_door(line):
@@ -36,23 +55,28 @@ def of_door(line):
         error, fault, kind = (None if it == "-" else it for it in words)
         # explain leaves a form out that the error can only have been of.
         return [outcome, error, fault, kind and kind.lower()]
-    scheme, user, password, host, port, default, path, original, *judged, settled, shown, parts = words
+    scheme, user, password, host, port, default, path, original, *judged, settled, agrees, shown, parts = words
     numbers = [None if it == "-" else int(it) for it in (port, default)]
     front = [text(scheme), text(user), None if password == "-" else password, text(host), *numbers]
-    return [outcome, *front, text(path), text(original), *judged, settled, text(shown), text(parts)]
+    return [outcome, *front, text(path), text(original), *judged, settled, agrees, text(shown), text(parts)]
+
+
+def lines_of(name):
+    with open(name, "rb") as it:
+        return oracle.lines_of(it.read())
 
 
 def main():
-    lines, answers, explained = (open(name, encoding="utf-8", errors="replace").read().splitlines() for name in sys.argv[1:])
-    if not len(answers) == len(explained) > 0:
-        sys.exit(f"explained_doors: {len(answers)} answers stand beside {len(explained)}")
+    lines, answers, explained = map(lines_of, sys.argv[1:])
+    if not len(lines) == len(answers) == len(explained) > 0:
+        sys.exit(f"explained_doors: {len(answers)} answers and {len(explained)} of explain stand beside {len(lines)} lines")
     faults = 0
-    for number, (answer, said) in enumerate(zip(answers, explained)):
-        door, program = of_door(answer), of_explain(json.loads(said))
-        if door != program:
+    for number, (line, answer, said) in enumerate(zip(lines, answers, explained), 1):
+        door, wanted = of_door(answer.decode()), of_explain(json.loads(said), line)
+        if door != wanted:
             faults += 1
             if faults <= 5:
-                print(f"line {number + 1}: {lines[number] if number < len(lines) else ''}\n  door:    {door}\n  explain: {program}", file=sys.stderr)
+                print(f"line {number}: {line.decode(errors='replace')}\n  door:   {door}\n  wanted: {wanted}", file=sys.stderr)
     if faults:
         sys.exit(f"explained_doors: {faults} lines are told otherwise")
     print(len(answers))

@@ -99,7 +99,9 @@ def untrue_heads():
 def cited():
     """The files of lemmas of each topic that are cited outside of it."""
     found = {os.path.basename(it.rstrip("/")): set() for it in glob.glob(f"{PROOFS}/[A-Z]*/")}
-    for file in glob.glob(f"{CRATE}/**/*.antt", recursive=True) + glob.glob(f"{CRATE}/**/*.rt", recursive=True):
+    files = glob.glob(f"{CRATE}/**/*.antt", recursive=True) + glob.glob(f"{CRATE}/**/*.rt", recursive=True)
+    # What a build leaves there are copies.
+    for file in (it for it in files if not it.startswith(f"{CRATE}/out/")):
         with open(file, encoding="utf-8") as it:
             for topic, name in re.findall(r"(?:Rattle\.gix_url\.|crate::)proofs(?:\.|::)([A-Z]\w*)(?:\.|::)(\w+)", it.read()):
                 if not file.startswith(f"{PROOFS}/{topic}/"):

@@ -6,6 +6,7 @@ use Rattle.gix_url.specs.Value.{Location}
 use Rattle.gix_url.specs.Readings.{Reads}
 use Rattle.gix_url.specs.FromParts.{MadeOf}
 use Rattle.gix_url.specs.Settled.{IsSettled}
+use Rattle.gix_url.specs.GitClass.{AgreesWithGit}
 use Rattle.gix_url.specs.Text.{text}
 use Rattle.gix_url.specs.Display.{display}
 use Rattle.gix_url_c.specs.declared.codes.Problem.{Problem}
@@ -29,6 +30,10 @@ TellsMade parts made old new problem code = (answer : Result Location Error) × 
 -- whether the location is settled is told
 abbrev pub TellsSettled : Location → Bool → ℕ → Type 0
 TellsSettled v settled code = (code ≡ 0) × (IsTrue settled ↔ IsSettled v)
+
+-- whether the location is of the class in whose texts Git reads the same place is told
+abbrev pub TellsAgreement : Location → Bool → ℕ → Type 0
+TellsAgreement v agrees code = (code ≡ 0) × (IsTrue agrees ↔ AgreesWithGit v)
 
 -- a text is told, or the fault for which there is none
 abbrev pub TellsText : Result (List ℕ) WriteFault → List ℕ → List ℕ → ℕ → Problem → ℕ → Type 0

@@ -1,10 +1,11 @@
-//! The exports that look at the text of a location: whether it is settled, the text, and what is shown of it.
+//! The exports that look at the text of a location: whether it is settled, whether Git reads the same in it, the text, and
+//! what is shown of it.
 //!
 //! They use `given` and `room`. Their contracts: what is told is what the library's call answers.
 
 ghost use Rattle.std.specs.Prelude.{◌≡◌, ◌↔◌, IsTrue};
 ghost use Rattle.gix_url.specs.Text.{text};
-ghost use Rattle.gix_url_c.specs.Answers.{TellsDisplay, TellsSettled, TellsText};
+ghost use Rattle.gix_url_c.specs.Answers.{TellsAgreement, TellsDisplay, TellsSettled, TellsText};
 ghost use Rattle.gix_url_c.specs.Codes.{Unless};
 ghost use Rattle.gix_url_c.specs.Given.{IsNone, given};
 
@@ -35,6 +36,33 @@ pub extern "C" fn gix_url_c_is_settled(
     match located(alloc, front, name, user, password, host, path, spelling) {
         Ok(url) => {
             *settled = url.is_settled();
+            OK
+        }
+        Err(code) => code,
+    }
+}
+
+/// Tells whether Git reads this very place in the text of the location: [`gix_url::Url::agrees_with_git`].
+///
+/// It answers 0; 1 where memory is refused; 101 where the parts are none of a location.
+#[unsafe(no_mangle)]
+#[allow(clippy::too_many_arguments)]
+pub extern "C" fn gix_url_c_agrees_with_git(
+    alloc: Global,
+    front: &Front,
+    name: &[u8],
+    user: &[u8],
+    password: &[u8],
+    host: &[u8],
+    path: &[u8],
+    spelling: &[u8],
+    agrees: &mut bool,
+) -> u32
+    ensures { Unless result (IsNone front.now name.now user.now password.now host.now) (TellsAgreement (given front.now name.now user.now password.now host.now path.now spelling.now) agrees.new result) }
+{
+    match located(alloc, front, name, user, password, host, path, spelling) {
+        Ok(url) => {
+            *agrees = url.agrees_with_git();
             OK
         }
         Err(code) => code,

@@ -1,5 +1,5 @@
 //! Makes one call on each line of the standard input, over and over: `measure CALL PASSES`, so that valgrind can count
-//! the instructions of a call. The calls are `read`, `settled`, `write` and `look`.
+//! the instructions of a call. The calls are `read`, `settled`, `git`, `write` and `look`.
 
 use gix_url_proved::parse;
 use std::hint::black_box;
@@ -16,6 +16,9 @@ fn main() {
             match words[1].as_str() {
                 "settled" => {
                     black_box(url.is_settled());
+                }
+                "git" => {
+                    black_box(url.agrees_with_git());
                 }
                 "write" => drop(black_box(url.to_bstring())),
                 "look" => {

@@ -60,6 +60,7 @@ fn members(url: &Url) -> String {
         judged(url.host_as_argument()).to_string(),
         url.path_argument_safe().map_or("withheld", |_| "usable").to_string(),
         if url.is_settled() { "settled" } else { "unsettled" }.to_string(),
+        if url.agrees_with_git() { "alike" } else { "unsure" }.to_string(),
         shown.map_or("-".to_string(), |text| bytes(text.as_bytes())),
         bytes(&components(url.path_query_fragment())),
     ];

@@ -87,6 +87,7 @@ unsafe extern "C" {
     fn gix_url_c_read(input: Bytes, len: usize, made: &mut Made, room: *mut u8, room_len: usize, told: &mut Problem) -> u32;
     fn gix_url_c_from_parts(front: &Front, name: Bytes, name_len: usize, user: Bytes, user_len: usize, password: Bytes, password_len: usize, host: Bytes, host_len: usize, path: Bytes, path_len: usize, made: &mut Made, room: *mut u8, room_len: usize, told: &mut Problem) -> u32;
     fn gix_url_c_is_settled(front: &Front, name: Bytes, name_len: usize, user: Bytes, user_len: usize, password: Bytes, password_len: usize, host: Bytes, host_len: usize, path: Bytes, path_len: usize, spelling: Bytes, spelling_len: usize, settled: &mut bool) -> u32;
+    fn gix_url_c_agrees_with_git(front: &Front, name: Bytes, name_len: usize, user: Bytes, user_len: usize, password: Bytes, password_len: usize, host: Bytes, host_len: usize, path: Bytes, path_len: usize, spelling: Bytes, spelling_len: usize, agrees: &mut bool) -> u32;
     fn gix_url_c_write(front: &Front, name: Bytes, name_len: usize, user: Bytes, user_len: usize, password: Bytes, password_len: usize, host: Bytes, host_len: usize, path: Bytes, path_len: usize, spelling: Bytes, spelling_len: usize, room: *mut u8, room_len: usize, len: &mut usize, told: &mut Problem) -> u32;
     fn gix_url_c_display(front: &Front, name: Bytes, name_len: usize, user: Bytes, user_len: usize, password: Bytes, password_len: usize, host: Bytes, host_len: usize, path: Bytes, path_len: usize, spelling: Bytes, spelling_len: usize, room: *mut u8, room_len: usize, len: &mut usize, told: &mut Problem) -> u32;
     fn gix_url_c_look(front: &Front, name: Bytes, name_len: usize, user: Bytes, user_len: usize, password: Bytes, password_len: usize, host: Bytes, host_len: usize, path: Bytes, path_len: usize, spelling: Bytes, spelling_len: usize, seen: &mut Seen) -> u32;
@@ -306,6 +307,16 @@ pub(crate) fn is_settled(url: &Url) -> Result<bool, Error> {
     let mut settled = false;
     match call!(gix_url_c_is_settled, given, given.spelling.as_ptr(), given.spelling.len(), &mut settled) {
         OK => Ok(settled),
+        code => Err(error(code, &Problem::default(), Vec::new, &[])),
+    }
+}
+
+/// Whether Git reads the same place in the text of the location.
+pub(crate) fn agrees_with_git(url: &Url) -> Result<bool, Error> {
+    let given = Given::of(url);
+    let mut agrees = false;
+    match call!(gix_url_c_agrees_with_git, given, given.spelling.as_ptr(), given.spelling.len(), &mut agrees) {
+        OK => Ok(agrees),
         code => Err(error(code, &Problem::default(), Vec::new, &[])),
     }
 }

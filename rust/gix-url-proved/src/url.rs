@@ -236,6 +236,35 @@ impl Url {
         unless_memory(door::is_settled(self))
     }
 
+    /// Whether Git reads this very place in the text of the location: the same protocol, user, host, port and path.
+    ///
+    /// Hand Git the text that [`Url::to_bstring`] writes, and not another one that was read as the location: of
+    /// `ssh://@h/p`, which is written as `ssh://h/p`, the answer is yes, and Git would read an empty user in it. What
+    /// Git reads is a definition, which was measured with git 2.39.5 on Linux.
+    ///
+    /// The answer is no for what Git hands to a remote helper, HTTP among it, and for what isn't settled. It is no for
+    /// some texts that Git reads alike: with an address in brackets, or with an escape.
+    ///
+    /// ```
+    /// use gix_url_proved::{parse, Url};
+    ///
+    /// /// The text for Git, if Git reads the same place in it.
+    /// fn for_git(url: &Url) -> Option<Vec<u8>> {
+    ///     url.agrees_with_git().then(|| url.to_bstring())
+    /// }
+    ///
+    /// assert_eq!(for_git(&parse(b"ssh://@h/p")?), Some(b"ssh://h/p".to_vec()));
+    /// assert_eq!(for_git(&parse(b"ssh://u:p@h/p")?), None); // Git reads the user `u:p`
+    /// # Ok::<(), parse::Error>(())
+    /// ```
+    ///
+    /// # Panics
+    ///
+    /// Where the library is refused memory.
+    pub fn agrees_with_git(&self) -> bool {
+        unless_memory(door::agrees_with_git(self))
+    }
+
     /// Writes the text of the location.
     ///
     /// # Errors

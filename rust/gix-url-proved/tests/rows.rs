@@ -77,7 +77,7 @@ fn told_text(url: &Url) -> String {
             format!("{} {}", if url.is_settled() { "settled" } else { "unsettled" }, lossy(&text))
         }
         Err(Error::Unwritable(fault)) => {
-            assert!(outcome.is_err() && written.is_empty() && !url.is_settled());
+            assert!(outcome.is_err() && written.is_empty() && !url.is_settled() && !url.agrees_with_git());
             format!("unwritable {fault:?}")
         }
         Err(other) => panic!("{other}"),
@@ -143,6 +143,17 @@ fn parts(columns: &[&str]) -> Parts {
     (scheme, text(columns[1]), text(columns[2]), text(columns[3]), port, path, columns[6] == "1")
 }
 
+/// The location with these parts, as they are.
+fn with_parts(columns: &[&str]) -> Url {
+    let mut url = Url::default();
+    (url.scheme, url.user, url.password, url.host, url.port, url.path, url.serialize_alternative_form) = parts(columns);
+    url
+}
+
+fn told_agreement(url: &Url) -> String {
+    if url.agrees_with_git() { "yes" } else { "no" }.to_owned()
+}
+
 /// What the call of the row answers.
 fn told_row(columns: &[&str]) -> String {
     let input = column(columns[1]).unwrap_or_default();
@@ -152,12 +163,9 @@ fn told_row(columns: &[&str]) -> String {
             let (scheme, user, password, host, port, path, flag) = parts(&columns[1..]);
             told_answer(Url::from_parts(scheme, user, password, host, port, path, flag))
         }
-        "text" => {
-            let mut url = Url::default();
-            (url.scheme, url.user, url.password, url.host, url.port, url.path, url.serialize_alternative_form) =
-                parts(&columns[1..]);
-            told_text(&url)
-        }
+        "text" => told_text(&with_parts(&columns[1..])),
+        "git-parts" => told_agreement(&with_parts(&columns[1..])),
+        "git" => told_agreement(&parse(&input).unwrap()),
         "judge" => told_judged(&parse(&input).unwrap()),
         "part" => told_components(&parse(&input).unwrap().path_query_fragment()),
         "show" => parse(&input).unwrap().to_string(),
@@ -173,7 +181,7 @@ fn told_row(columns: &[&str]) -> String {
 #[test]
 fn rows() {
     let table = String::from_utf8(file("doors/rows.tsv")).unwrap();
-    assert!(table.lines().count() > 300);
+    assert!(table.lines().count() > 400);
     for row in table.lines() {
         let columns: Vec<&str> = row.split('\t').collect();
         let want = match columns[0] {
@@ -196,6 +204,7 @@ fn answer(line: &[u8]) -> Vec<u8> {
         }
     };
     comes_back(&url);
+    assert!(url.is_settled() || !url.agrees_with_git());
     match url.text() {
         Ok(text) if url.is_settled() => [b"settled\t", text.as_slice()].concat(),
         Ok(_) => format!("unsettled\t{}", url.scheme).into_bytes(),
