@@ -3,8 +3,9 @@
 
     explained.py FOLDER     writes stdin, stdout, args and status there, and names the rows of docs/GRAMMAR.md that differ
 
-What a location is, is asked of `oracle.py`; what is said of it is put together here, and not by the library. The texts
-of the table in docs/GRAMMAR.md are among the lines, and the last line lacks its end.
+What a location is, is asked of `oracle.py`; what is said of it is put together here, and not by the library. Whether Git
+reads the same is the rule by hand of docs/GIT.md, in `git_classes.py`. The texts of the table in docs/GRAMMAR.md are among
+the lines, and the last line lacks its end.
 """
 import itertools
 import json
@@ -13,6 +14,7 @@ import sys
 
 sys.dont_write_bytecode = True
 import oracle
+from git_classes import Case, Reading, is_careful
 
 HELPERS = [b"a::b://c", b"ext::sh -c x", b"a::", b"ssh::address", b"a::\xff"]
 URLS = [
@@ -30,6 +32,8 @@ SCPS = [b"git@example.com:a/b.git", b"a@b@h:p", b"u:p@h:x", b"h:/~a", b"h:~", b"
 LOCALS = [b"/srv/repo.git", b"./a:b", b"[::1]", b"/~bob/r", b"/~", b"/~/x\xff", b"/~\xff/x", b"/\xff", b"/-rf", b"a"]
 REFUSED = [b"", b"file://host", b"ssh://h", b"host:", b"http://h/\xff", b"h:\xff", b"file://\xff/p", b"x:///" + b"a" * 1024, b"./a://b",
            b"http://h:0/", b"[a@b:22]:p", b"http://", b"::address", b"http://h/%2", b"a b:p"]
+# The first is written as another text, in which Git reads the same; of each other one part of the rule alone says no.
+GIT = [b"ssh://@h/p", b"ssh://u:p@h/p", b"git://u@h/p", b"h:a~u/p", b"h:-p", b"rsync:p", b"/a[b", b"/a]b"]
 
 FORMS = {"Ext": "remote_helper", "Helper": "remote_helper"}
 PORTS = {"Http": 80, "Https": 443, "Ssh": 22, "Git": 9418}
@@ -129,6 +133,21 @@ def reread(v):
     return {"difference": {"field": field, "here": here, "instead": instead}, "refusal": None, "words": words}
 
 
+def reading(v):
+    """The location as the classes of Git's readings have it: of what Git hands to another program there are no parts."""
+    if not is_of_files(v):
+        return Reading(f"helper {lossy(oracle.as_str(v.scheme))}", None, None, None, None, None)
+    return Reading(v.scheme[0].lower(), v.user, v.password, v.host or None, v.port, v.path)
+
+
+def agrees_with_git(v):
+    """The rule by hand, asked of the text that is written: the text of a settled location is read as it and written again."""
+    is_settled = oracle.settled(v)
+    answer = is_careful(Case(oracle.text(v), None, reading(v)), is_settled)
+    assert answer == oracle.agrees_with_git(v), v
+    return answer
+
+
 def told(v):
     spelled = v.path if oracle.matching(v) is None else v.spelling
     return {
@@ -137,7 +156,7 @@ def told(v):
         "port_or_default": PORTS.get(v.scheme[0]) if v.port is None else v.port, "path": lossy(v.path),
         "path_is_utf8": oracle.is_utf8(v.path), "original_path": lossy(spelled), "components": components(v), "home": home(v),
         "shell_path": shell_path(v), "arguments": {"user": judged(v.user), "host": judged(v.host), "path": path_judged(v.path)},
-        "text": oracle.display(v), "settled": oracle.settled(v), "reread": reread(v)}
+        "text": oracle.display(v), "settled": oracle.settled(v), "agrees_with_git": agrees_with_git(v), "reread": reread(v)}
 
 
 def answer(number, line):
@@ -188,7 +207,7 @@ def table_faults():
 def stored_run():
     """The files of the stored run. The texts of the table are among its lines."""
     texts = [row[0].strip("`").encode() for row in table()]
-    lines = list(dict.fromkeys([*HELPERS, *URLS, *FILES, *SCPS, *LOCALS, *REFUSED, *texts]))
+    lines = list(dict.fromkeys([*HELPERS, *URLS, *FILES, *SCPS, *LOCALS, *REFUSED, *GIT, *texts]))
     lines.append(b"/the/last")
     answers = "".join(answer(number, line) + "\n" for number, line in enumerate(lines, 1))
     return {"stdin": b"\n".join(lines), "stdout": answers.encode(), "args": b"--json\n", "status": b"1\n"}

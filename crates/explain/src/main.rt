@@ -7,6 +7,8 @@
 #![tactic(auto)]
 
 mod difference;
+#[cfg(test)]
+mod people;
 mod refusal;
 mod shown;
 mod told;

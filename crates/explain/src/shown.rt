@@ -22,6 +22,7 @@ pub fn location(
     }
     if let Some(text) = &told.text {
         row(&mut out, "text", format_args!("{text:?}"))?;
+        row(&mut out, "git", format_args!("{}", reading_of_git(told)))?;
     }
     row(&mut out, "scheme", format_args!("{}", told.scheme))?;
     parts(&mut out, url, told)?;
@@ -64,6 +65,15 @@ fn parts(out: &mut String, url: &Url, told: &Told<'_>) -> Result<(), AllocError>
         row(out, "spelled", format_args!("{spelled:?}"))?;
     }
     Ok(())
+}
+
+/// What Git reads in the text of the location, in words.
+fn reading_of_git(told: &Told<'_>) -> &'static str {
+    if told.agrees_with_git {
+        "reads the same in its text"
+    } else {
+        "may read something else in its text"
+    }
 }
 
 /// What a part is to a command line, in words.

@@ -3,6 +3,7 @@
 //! Bytes that are no UTF-8 are told as U+FFFD. No password is told.
 
 ghost use Rattle.std.specs.Prelude.{◌≡◌, ◌↔◌, IfOk, IsTrue, codes, option_map};
+ghost use Rattle.gix_url.specs.GitClass.{AgreesWithGit};
 ghost use Rattle.gix_url.specs.Settled.{IsSettled};
 
 use crate::difference::Reread;
@@ -49,6 +50,8 @@ pub struct Told<'a> {
     pub text: Option<String>,
     /// Whether the location comes back from its own text.
     pub settled: bool,
+    /// Whether Git is known to read the same protocol, user, host, port and path in the text of the location.
+    pub agrees_with_git: bool,
     /// What its own text is read as, where it is not settled.
     pub reread: Option<Reread>,
 }
@@ -126,6 +129,7 @@ impl<'a> Told<'a> {
         ensures hidden { IfOk result (λ told. option_map (λ word. word.now) told.password
             ≡ option_map (λ _. codes "redacted") url.now.password) }
         ensures settled { IfOk result (λ told. IsTrue told.settled ↔ IsSettled url.now) }
+        ensures agrees { IfOk result (λ told. IsTrue told.agrees_with_git ↔ AgreesWithGit url.now) }
     {
         Ok(Told {
             form: form_of(url),
@@ -144,6 +148,7 @@ impl<'a> Told<'a> {
             arguments: arguments_of(url),
             text: text_of(alloc, url)?,
             settled: url.is_settled(),
+            agrees_with_git: url.agrees_with_git(),
             reread: Reread::of(alloc, url)?,
         })
     }
