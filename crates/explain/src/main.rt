@@ -7,8 +7,6 @@
 #![tactic(auto)]
 
 mod difference;
-#[cfg(test)]
-mod people;
 mod refusal;
 mod shown;
 mod told;
