@@ -44,7 +44,7 @@ IsNoHost mode text = (host : List ℕ) → ¬ HostText mode text host
 abbrev pub IsNoInner : Mode → List ℕ → Type 0
 IsNoInner mode text = (inner : List ℕ) → ¬ Inner mode text inner
 
--- the text is brackets around another, with nothing or a colon behind them
+-- the text is brackets around another that is free of `]`, and nothing behind them, or a colon and anything
 pub record BracketsAround (piece x rest : List ℕ) : Type 0 where
   pub closed : FreeOf right_bracket x
   pub joined : piece ≡ left_bracket ∷ (x ++ right_bracket ∷ rest)

@@ -240,7 +240,7 @@ abbrev pub scp_location : Option (List ℕ) → List ℕ → List ℕ → Locati
 scp_location user host path = record
     (path_alone ssh true (from_home path)) { user = user; host = Some host }
 
--- the scp form without the shape `user@[address]:path`
+-- the scp form as it was before there was the shape `user@[address]:path`
 pub record SpellsScpBefore (b : List ℕ) (v : Location) : Type 0 where
   pub front : List ℕ
   pub path : List ℕ
