@@ -12,9 +12,9 @@ use Rattle.gix_url.specs.Bytes.{slash, colon, at_sign, left_bracket, backslash, 
 use Rattle.gix_url.specs.Escapes.{is_sound, escaped_percents}
 use Rattle.gix_url.specs.Hosts.{Mode, HostText, Inner, Number, ReadsAddress, IsManyColoned, IsPlainHost}
 use Rattle.gix_url.specs.Hosts.Mode.{strict, bare}
-use Rattle.gix_url.specs.Schemes.{is_web_scheme, protocol_of, mode_of, requires_host}
+use Rattle.gix_url.specs.Schemes.{is_web_scheme, protocol_of, mode_of, requires_host, requires_path}
 use Rattle.gix_url.specs.Authority.{Fits}
-use Rattle.gix_url.specs.Grammar.{HasHelperForm, ScpShape, AddressedShape, IsAddressed, IsScpShaped, ScpUser, requires_path}
+use Rattle.gix_url.specs.Grammar.{HasHelperForm, ScpShape, AddressedShape, IsAddressed, IsScpShaped, ScpUser}
 
 -- ---- hosts and ports
 

@@ -9,7 +9,7 @@ use Rattle.gix_url.specs.Value.Protocol.{file, git, ssh, http, https, ext, helpe
 use Rattle.gix_url.specs.Bytes.{slash, colon, at_sign, left_bracket, right_bracket, tilde, begins_with, is_helper_name}
 use Rattle.gix_url.specs.Escapes.{matches, has_percent, path_set, password_set, user_set, escaped_percents}
 use Rattle.gix_url.specs.AddressTest.{is_ipv6_text}
-use Rattle.gix_url.specs.Schemes.{protocol_text}
+use Rattle.gix_url.specs.Schemes.{protocol_text, requires_path}
 
 -- the forms of a text
 pub data Form : Type 0 where
@@ -147,20 +147,9 @@ abbrev pub port_part : Option ℕ → List ℕ
 port_part None = []
 port_part (Some port) = colon ∷ decimal port
 
--- the protocol's URLs get a `/` before a path that begins with none
-abbrev pub roots_path : Protocol → Bool
-roots_path ssh = true
-roots_path git = true
-roots_path file = false
-roots_path http = false
-roots_path https = false
-roots_path ext = false
-roots_path (helper name) = false
-roots_path (helper_url name) = false
-
 -- the `/` before a path that has none, where one is needed
 abbrev pub root_part : Location → List ℕ
-root_part v = if roots_path v.scheme && not (begins_with slash v.path) then slash ∷ [] else []
+root_part v = if requires_path v.scheme && not (begins_with slash v.path) then slash ∷ [] else []
 
 -- the path as it is written without a spelling: escaped for HTTP, raw else
 abbrev pub plain_path : Protocol → List ℕ → List ℕ
