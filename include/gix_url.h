@@ -103,7 +103,7 @@ typedef struct gix_url {
     gix_url_text user;     /* decoded, UTF-8. It may be empty, and may begin with -: ask gix_url_look */
     gix_url_text password; /* decoded, UTF-8 */
     gix_url_text host;     /* UTF-8. It may be empty, and may begin with -: ask gix_url_look */
-    bool alternative;      /* written in the form that is no URL, where there is one: as host:path, or as a path */
+    bool alternative;      /* asks for the form that is no URL, where there is one: host:path, or a path */
     bool has_port;
     uint16_t port;
     gix_url_text path;     /* decoded, any bytes. Of HTTP with query and fragment */
@@ -143,7 +143,8 @@ gix_url_error gix_url_agrees_with_git(const gix_url *url, bool *agrees);
  * GIX_URL_UNWRITABLE says that there is none, and problem, which may be null, why. */
 gix_url_error gix_url_write(const gix_url *url, char *room, size_t room_len, size_t *len, gix_url_problem *problem);
 
-/* The same with redacted in place of a password, and U+FFFD in place of what is no UTF-8: fit to be shown to people. */
+/* The same with redacted in place of the part password, and U+FFFD in place of what is no UTF-8. It is for people to see:
+ * a secret in another part, as in a path or a query, is shown. */
 gix_url_error gix_url_display(const gix_url *url, char *room, size_t room_len, size_t *len, gix_url_problem *problem);
 
 /* What a part is to a command line. */

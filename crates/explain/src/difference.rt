@@ -1,7 +1,7 @@
 //! What the own text of a location is read as, where the location isn't settled.
 //!
 //! It reads the text again by `Url::reread` and looks for the first of the public fields, in declared order, that is
-//! another one. A password is shown by no answer.
+//! another one. The field `password` is shown by no answer.
 
 ghost use Rattle.std.specs.Prelude.{◌↔◌, IfOk, IsNone};
 ghost use Rattle.gix_url.specs.Settled.{IsSettled};

@@ -1,6 +1,6 @@
 //! What is told of a location: its form, its parts, what its path means, and what it may be used for.
 //!
-//! Bytes that are no UTF-8 are told as U+FFFD. No password is told.
+//! Bytes that are no UTF-8 are told as U+FFFD. The field `password` isn't told.
 
 ghost use Rattle.std.specs.Prelude.{◌≡◌, ◌↔◌, IfOk, IsTrue, codes, option_map};
 ghost use Rattle.gix_url.specs.GitClass.{AgreesWithGit};
@@ -46,7 +46,7 @@ pub struct Told<'a> {
     pub shell_path: Option<String>,
     /// Whether parts may be handed to a command.
     pub arguments: Arguments,
-    /// The text, with `redacted` in place of a password.
+    /// The text, with `redacted` in place of the field `password`.
     pub text: Option<String>,
     /// Whether the location comes back from its own text.
     pub settled: bool,

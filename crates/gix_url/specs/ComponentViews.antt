@@ -24,6 +24,14 @@ is_borrowed (Owned text) = false
 abbrev pub pair_bytes : QueryText × QueryText → List ℕ × List ℕ
 pair_bytes pair = (text_bytes pair.0, text_bytes pair.1)
 
+-- whether the name and whether the value is lent
+abbrev pub pair_lent : QueryText × QueryText → Bool × Bool
+pair_lent pair = (is_borrowed pair.0, is_borrowed pair.1)
+
+-- which names and which values of the query are lent, in order, where there is a query; a path and a fragment always are
+abbrev pub what_is_lent : PathComponents → Option (List (Bool × Bool))
+what_is_lent parts = option_map (λ pairs. map pair_lent pairs.items) parts.query
+
 -- the components that were handed out
 abbrev pub components : PathComponents → Components
 components parts = record {

@@ -12,9 +12,9 @@ use Rattle.gix_url.specs.Bytes.{slash, colon, at_sign, left_bracket, backslash, 
 use Rattle.gix_url.specs.Escapes.{is_sound, escaped_percents}
 use Rattle.gix_url.specs.Hosts.{Mode, HostText, Inner, Number, ReadsAddress, IsManyColoned, IsPlainHost}
 use Rattle.gix_url.specs.Hosts.Mode.{strict, bare}
-use Rattle.gix_url.specs.Schemes.{is_web_scheme, protocol_of, mode_of, requires_host}
+use Rattle.gix_url.specs.Schemes.{is_web_scheme, protocol_of, mode_of, requires_host, requires_path}
 use Rattle.gix_url.specs.Authority.{Fits}
-use Rattle.gix_url.specs.Grammar.{HasHelperForm, ScpShape, AddressedShape, IsAddressed, IsScpShaped, ScpUser, requires_path}
+use Rattle.gix_url.specs.Grammar.{HasHelperForm, ScpShape, AddressedShape, IsAddressed, IsScpShaped, ScpUser}
 
 -- ---- hosts and ports
 
@@ -44,7 +44,7 @@ IsNoHost mode text = (host : List ℕ) → ¬ HostText mode text host
 abbrev pub IsNoInner : Mode → List ℕ → Type 0
 IsNoInner mode text = (inner : List ℕ) → ¬ Inner mode text inner
 
--- the text is brackets around another, with nothing or a colon behind them
+-- the text is brackets around another that is free of `]`, and nothing behind them, or a colon and anything
 pub record BracketsAround (piece x rest : List ℕ) : Type 0 where
   pub closed : FreeOf right_bracket x
   pub joined : piece ≡ left_bracket ∷ (x ++ right_bracket ∷ rest)

@@ -1,5 +1,5 @@
 -- The grammar: which location a list of bytes spells, one relation for each form, and their sum.
-use Rattle.std.specs.Prelude.{◌≡◌, ℕ, ◌<◌, Bool, true, false, ◌&&◌, ◌==◌, ◌⊎◌, List, [], ◌∷◌, ◌++◌, length, codes, bytes_eq, Option, Some, None, IsSome, IsUtf8, if◌then◌else◌}
+use Rattle.std.specs.Prelude.{◌≡◌, ℕ, ◌<◌, true, false, ◌&&◌, ◌==◌, ◌⊎◌, List, [], ◌∷◌, ◌++◌, length, codes, bytes_eq, Option, Some, None, IsSome, IsUtf8, if◌then◌else◌}
 use Rattle.percent_encoding.specs.Percent.{percent_decode}
 use Rattle.gix_url.specs.Value.{Protocol, Location, path_alone}
 use Rattle.gix_url.specs.Value.Protocol.{file, git, ssh, http, https, ext, helper, helper_url}
@@ -8,7 +8,7 @@ use Rattle.gix_url.specs.Escapes.{is_sound, has_percent, escaped_percents}
 use Rattle.gix_url.specs.Addresses.{IsIpv6Text}
 use Rattle.gix_url.specs.Hosts.{Names}
 use Rattle.gix_url.specs.Hosts.Mode.{bare}
-use Rattle.gix_url.specs.Schemes.{is_web_scheme, protocol_of, mode_of, requires_host}
+use Rattle.gix_url.specs.Schemes.{is_web_scheme, protocol_of, mode_of, requires_host, requires_path}
 use Rattle.gix_url.specs.Authority.{unless_empty, Authority, Fits}
 
 -- ---- remote helpers (gitremote-helpers)
@@ -114,17 +114,6 @@ path_for file path = path
 path_for ext path = path
 path_for (helper name) path = path
 path_for (helper_url name) path = path
-
--- the protocol's URLs need a path
-abbrev pub requires_path : Protocol → Bool
-requires_path ssh = true
-requires_path git = true
-requires_path http = false
-requires_path https = false
-requires_path file = false
-requires_path ext = false
-requires_path (helper name) = false
-requires_path (helper_url name) = false
 
 -- the spelling of a path is retained where it holds an escape
 abbrev pub retained_spelling : List ℕ → Option (List ℕ)
@@ -240,7 +229,7 @@ abbrev pub scp_location : Option (List ℕ) → List ℕ → List ℕ → Locati
 scp_location user host path = record
     (path_alone ssh true (from_home path)) { user = user; host = Some host }
 
--- the scp form without the shape `user@[address]:path`
+-- the scp form as it was before there was the shape `user@[address]:path`
 pub record SpellsScpBefore (b : List ℕ) (v : Location) : Type 0 where
   pub front : List ℕ
   pub path : List ℕ

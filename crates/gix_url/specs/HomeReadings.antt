@@ -10,7 +10,7 @@ use Rattle.gix_url.specs.declared.error.Error.TheVariants as error
 use Rattle.gix_url.specs.Bytes.{slash, tilde, FreeOf}
 use Rattle.gix_url.specs.Settled.{begins_at_home}
 use Rattle.gix_url.specs.Paths.{EndsInPiece, IsIdle, LiesBelow}
-use Rattle.gix_url.specs.Homes.{HomeUser}
+use Rattle.gix_url.specs.Homes.{HomeUser, Expands}
 use Rattle.gix_url.specs.Homes.HomeUser.{current, named}
 
 -- the user that a `ForUser` stands for
@@ -41,7 +41,7 @@ pub record UpToLast (text front : List ℕ) : Type 0 where
   pub whole : text ≡ front ++ tail
   pub last : EndsInPiece front ⊎ (front ≡ [])
 
--- what an expansion answers for a user: the path below a home folder that is the user's, or that none is known
+-- what is answered for a user by a folder of which this holds: the path below it, or that none is known
 abbrev pub Expansion : (Option (List ℕ) → Type 0) → HomeUser → List ℕ → Result (String Global) Error
     → Type 0
 Expansion is_home user path (Ok text) = (folder : List ℕ) × is_home (Some folder)
@@ -49,3 +49,12 @@ Expansion is_home user path (Ok text) = (folder : List ℕ) × is_home (Some fol
 Expansion is_home user path (Err error.Memory) = Unit {0}
 Expansion is_home user path (Err (error.NoHome who)) = is_home None × (user_of who ≡ user)
 Expansion is_home user path (Err _) = ⊥
+
+-- what an expansion by the home folder of the current user answers: the expanded path, or that the user has none
+abbrev pub AnswersExpanded : Option (List ℕ) → Option HomeUser → List ℕ → Result (String Global) Error
+    → Type 0
+AnswersExpanded home user path (Ok text) = Expands home user path (Some (string_bytes text))
+AnswersExpanded home user path (Err error.Memory) = Unit {0}
+AnswersExpanded home user path (Err (error.NoHome who)) = (user ≡ Some (user_of who))
+    × Expands home user path None
+AnswersExpanded home user path (Err _) = ⊥

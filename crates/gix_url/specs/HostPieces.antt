@@ -80,10 +80,11 @@ abbrev pub named_text : NamedHost → List ℕ
 named_text named = if named.keeps_colon then meant_host named.piece ++ colon ∷ []
     else meant_host named.piece
 
--- the host and the port of what was read
+-- the host of what was read
 abbrev pub host_of : Option NamedHost → Option (List ℕ)
 host_of named = option_map named_text named
 
+-- the port of what was read
 abbrev pub port_of : Option NamedHost → Option ℕ
 port_of None = None
 port_of (Some named) = named.port
@@ -116,8 +117,8 @@ pub data Follows (mode : Mode) (base rest : List ℕ) (host : Option (List ℕ))
       → host ≡ Some base → port ≡ Some n → Follows mode base rest host port
 
 -- a colon and something that is no port
-abbrev pub HasNoPort : Mode → List ℕ → Type 0
-HasNoPort mode rest = (digits : List ℕ) × IsNoPort mode digits × (rest ≡ colon ∷ digits)
+abbrev pub IsBadPort : Mode → List ℕ → Type 0
+IsBadPort mode rest = (digits : List ℕ) × IsNoPort mode digits × (rest ≡ colon ∷ digits)
 
 -- what was read from a piece that isn't empty: the host and the port that it names, or a flaw of it
 abbrev pub ReadsName : Mode → List ℕ → Result NamedHost UrlFault → Type 0

@@ -83,7 +83,7 @@ abbrev pub HoldsTwoColons : List ℕ → Type 0
 HoldsTwoColons piece = (x : List ℕ) × (y : List ℕ) × (z : List ℕ)
     × (piece ≡ x ++ colon ∷ (y ++ colon ∷ z))
 
--- the colons of the piece are no mark of a port
+-- the piece begins with a colon, or holds two; without a bracket at its front none of them marks a port
 abbrev pub IsManyColoned : List ℕ → Type 0
 IsManyColoned piece = (begins_with colon piece ≡ true) ⊎ HoldsTwoColons piece
 

@@ -81,7 +81,7 @@ Closed = (b : List ℕ) (v : Location) → Spells b v → is_closed v.scheme ≡
 abbrev pub Apart : Type 0
 Apart = (v : Location) → IsCorner v → ¬ IsSettled v
 
--- what comes back is settled, and nothing else: of values whose spelling isn't their path
+-- of these protocols a value whose spelling isn't its path is settled exactly where it comes back
 abbrev pub Exact : Type 0
 Exact = (v : Location) → IsValue v → is_closed v.scheme ≡ true → ¬ (v.spelling ≡ Some v.path)
     → IsSettled v ↔ ComesBack v
@@ -103,7 +103,7 @@ keeps_bytes (helper_url name) flag = false
 abbrev pub KeepsBytes : Location → Type 0
 KeepsBytes v = keeps_bytes v.scheme v.flag ≡ true
 
--- what is not settled has the fields of nothing that is spelled
+-- a location of such a kind that isn't settled has the fields of nothing that is spelled
 abbrev pub ExactByFields : Type 0
 ExactByFields = (v : Location) → KeepsBytes v → (b : List ℕ) (w : Location) → Spells b w
     → fields w ≡ fields v → IsSettled v

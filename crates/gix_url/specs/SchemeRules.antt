@@ -5,8 +5,7 @@ use Rattle.gix_url.specs.declared.scheme.Protocol.TheVariants as read
 use Rattle.gix_url.specs.declared.parse.rules.Rules.{Rules}
 use Rattle.gix_url.specs.Value.{Protocol}
 use Rattle.gix_url.specs.Value.Protocol.{file, git, ssh, http, https, ext, helper_url}
-use Rattle.gix_url.specs.Schemes.{is_web_scheme, protocol_of, mode_of, requires_host}
-use Rattle.gix_url.specs.Grammar.{requires_path}
+use Rattle.gix_url.specs.Schemes.{is_web_scheme, protocol_of, mode_of, requires_host, requires_path}
 use Rattle.gix_url.specs.HostPieces.{strictness}
 
 -- the protocol that the code names, of a scheme with this text

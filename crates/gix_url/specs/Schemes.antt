@@ -1,5 +1,5 @@
--- What the scheme of a URL says: its protocol, how its host is read, and whether it needs one.
-use Rattle.std.specs.Prelude.{ℕ, Bool, ◌||◌, List, codes, bytes_eq, Option, Some, None, if◌then◌else◌}
+-- What the scheme of a URL says: its protocol, how its host is read, and whether it needs a host and a path.
+use Rattle.std.specs.Prelude.{ℕ, Bool, true, false, ◌||◌, List, codes, bytes_eq, Option, Some, None, if◌then◌else◌}
 use Rattle.gix_url.specs.Value.{Protocol}
 use Rattle.gix_url.specs.Value.Protocol.{file, git, ssh, http, https, ext, helper, helper_url}
 use Rattle.gix_url.specs.Hosts.{Mode}
@@ -57,6 +57,17 @@ abbrev pub requires_host : List ℕ → Bool
 requires_host s = is_web_scheme s
     || (bytes_eq s (codes "git")
     || (bytes_eq s (codes "ssh") || (bytes_eq s (codes "ftp") || bytes_eq s (codes "ftps"))))
+
+-- URLs of the protocol need a path, and one that begins with `/`
+abbrev pub requires_path : Protocol → Bool
+requires_path ssh = true
+requires_path git = true
+requires_path http = false
+requires_path https = false
+requires_path file = false
+requires_path ext = false
+requires_path (helper name) = false
+requires_path (helper_url name) = false
 
 -- the scheme is one that has a name of its own
 abbrev pub is_known_scheme : List ℕ → Bool

@@ -48,8 +48,8 @@ pub record IsOpenName (host : List ℕ) : Type 0 where
   pub no_left_bracket : FreeOf left_bracket host
   pub no_right_bracket : FreeOf right_bracket host
 
--- the location has neither user nor password nor port
-pub record HasHostAlone (v : Location) : Type 0 where
+-- the location has neither user nor password nor port, so that before its path at most a host stands
+pub record HasAtMostHost (v : Location) : Type 0 where
   pub no_user : v.user ≡ None
   pub no_password : v.password ≡ None
   pub no_port : v.port ≡ None
@@ -121,7 +121,7 @@ IsBracketedHost host = IsNormalName host
     ⊎ ((address : List ℕ) × IsNormalAddress address
     × (host ≡ left_bracket ∷ (address ++ right_bracket ∷ [])))
 
--- the path, which is UTF-8, is written raw where no spelling matches it
+-- where no spelling matches the path, which is UTF-8, it holds neither `%` nor white space
 abbrev pub IsRawPath : Location → Type 0
 IsRawPath v = ¬ HasMatch v → (has_percent v.path ≡ false) × LacksWhiteSpace v.path
 
@@ -176,7 +176,7 @@ pub record IsFileHost (host : List ℕ) : Type 0 where
 -- a settled file URL
 pub record IsSettledFile (v : Location) : Type 0 where
   pub unflagged : v.flag ≡ false
-  pub alone : HasHostAlone v
+  pub alone : HasAtMostHost v
   pub no_match : ¬ HasMatch v
   pub host : IfSome v.host IsFileHost
   pub path_text : IsUtf8 v.path
@@ -185,7 +185,7 @@ pub record IsSettledFile (v : Location) : Type 0 where
 -- a settled local path
 pub record IsSettledLocal (v : Location) : Type 0 where
   pub flagged : v.flag ≡ true
-  pub alone : HasHostAlone v
+  pub alone : HasAtMostHost v
   pub no_host : v.host ≡ None
   pub nonempty : 0 < length v.path
   pub neither : IsNeither v.path
@@ -237,7 +237,7 @@ pub record IsSettledScp (v : Location) : Type 0 where
 -- a settled remote helper
 pub record IsSettledHelper (name : List ℕ) (v : Location) : Type 0 where
   pub flagged : v.flag ≡ true
-  pub alone : HasHostAlone v
+  pub alone : HasAtMostHost v
   pub no_host : v.host ≡ None
   pub named : is_helper_name name ≡ true
 

@@ -8,12 +8,12 @@ use Rattle.gix_url.specs.Addresses.{Literal}
 use Rattle.gix_url.specs.Schemes.{is_known_scheme, protocol_text}
 use Rattle.gix_url.specs.Text.{text, canonical_text}
 use Rattle.gix_url.specs.Walks.{is_walk_short, text_walk_past, text_walk_for}
-use Rattle.gix_url.specs.Settled.{IsBareHost, IsBracketedHost, IsWebHost, is_ftp, HasHostAlone, IsFairSpelling, IsRawPath, IsScpName, IsScpUser, IsNormalAddress, IsSettledHelper, IsSettledUrl, IsTransportPath, IsWebName, LooksLikeHelper, begins_at_home, begins_with_slashes}
+use Rattle.gix_url.specs.Settled.{IsBareHost, IsBracketedHost, IsWebHost, is_ftp, HasAtMostHost, IsFairSpelling, IsRawPath, IsScpName, IsScpUser, IsNormalAddress, IsSettledHelper, IsSettledUrl, IsTransportPath, IsWebName, LooksLikeHelper, begins_at_home, begins_with_slashes}
 
 -- nothing but a path, and the flag
 pub record IsFlaggedPath (v : Location) : Type 0 where
   pub flagged : v.flag ≡ true
-  pub alone : HasHostAlone v
+  pub alone : HasAtMostHost v
   pub no_host : v.host ≡ None
 
 -- ---- the scp form
@@ -149,7 +149,7 @@ IsSecureTarget v = HasBareHost v × IsTransportPath v
 abbrev pub IsGitTarget : Location → Type 0
 IsGitTarget v = HasBracketedHost v × IsTransportPath v
 
--- a settled URL, and its path is written raw where no spelling matches it
+-- what settled URLs have in common, and a path with neither `%` nor white space where no spelling matches it
 abbrev pub IsSettledRaw : Location → Type 0
 IsSettledRaw v = IsSettledUrl v × IsRawPath v
 

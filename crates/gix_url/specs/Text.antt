@@ -9,7 +9,7 @@ use Rattle.gix_url.specs.Value.Protocol.{file, git, ssh, http, https, ext, helpe
 use Rattle.gix_url.specs.Bytes.{slash, colon, at_sign, left_bracket, right_bracket, tilde, begins_with, is_helper_name}
 use Rattle.gix_url.specs.Escapes.{matches, has_percent, path_set, password_set, user_set, escaped_percents}
 use Rattle.gix_url.specs.AddressTest.{is_ipv6_text}
-use Rattle.gix_url.specs.Schemes.{protocol_text}
+use Rattle.gix_url.specs.Schemes.{protocol_text, requires_path}
 
 -- the forms of a text
 pub data Form : Type 0 where
@@ -59,11 +59,13 @@ choice_by http v = with_host v canonical_form
 choice_by https v = with_host v canonical_form
 choice_by (helper_url name) v = with_host v canonical_form
 
+-- the form of a location, or the fault for which it has none
 abbrev pub choice : Location → Result Form WriteFault
 choice v = choice_by v.scheme v
 
 -- ---- the helper form
 
+-- the name of the helper, `::` and the path
 abbrev pub helper_text : Location → List ℕ
 helper_text v = protocol_text v.scheme ++ (colon ∷ (colon ∷ v.path))
 
@@ -88,9 +90,11 @@ raw_host None = []
 raw_host (Some host) = if wants_brackets host then left_bracket ∷ (host ++ right_bracket ∷ [])
     else host
 
+-- the user and the host, raw, and the path behind them
 abbrev pub path_form_text : Location → List ℕ
 path_form_text v = raw_user v.user ++ (raw_host v.host ++ v.path)
 
+-- the user and the host, raw, and the path behind a colon
 abbrev pub scp_text : Location → List ℕ
 scp_text v = raw_user v.user ++ (raw_host v.host ++ colon ∷ v.path)
 
@@ -107,7 +111,7 @@ user_information None password = []
 user_information (Some user) password = percent_encode user_set user
     ++ (escaped_password password ++ at_sign ∷ [])
 
--- the protocol's hosts are written as they are
+-- outside brackets the protocol's hosts are written as they are
 abbrev pub keeps_host : Protocol → Bool
 keeps_host file = true
 keeps_host http = true
@@ -124,7 +128,7 @@ open_host protocol host = if keeps_host protocol then host
     else (if is_ipv6_text host then percent_encode password_set host
     else percent_encode user_set host)
 
--- the host goes between brackets: it wants them, and a port or an escape would mislead without
+-- the host goes between brackets: it wants them, and there is a port, or a `%` in it
 abbrev pub needs_brackets : Option ℕ → List ℕ → Bool
 needs_brackets port host = wants_brackets host && (is_some port || has_percent host)
 
@@ -133,6 +137,7 @@ abbrev pub canonical_host : Location → List ℕ → List ℕ
 canonical_host v host = if needs_brackets v.port host
     then left_bracket ∷ (escaped_percents host ++ right_bracket ∷ []) else open_host v.scheme host
 
+-- the host of a URL, where there is one
 abbrev pub host_part : Location → Option (List ℕ) → List ℕ
 host_part v None = []
 host_part v (Some host) = canonical_host v host
@@ -142,20 +147,9 @@ abbrev pub port_part : Option ℕ → List ℕ
 port_part None = []
 port_part (Some port) = colon ∷ decimal port
 
--- the protocol's URLs have a rooted path
-abbrev pub roots_path : Protocol → Bool
-roots_path ssh = true
-roots_path git = true
-roots_path file = false
-roots_path http = false
-roots_path https = false
-roots_path ext = false
-roots_path (helper name) = false
-roots_path (helper_url name) = false
-
 -- the `/` before a path that has none, where one is needed
 abbrev pub root_part : Location → List ℕ
-root_part v = if roots_path v.scheme && not (begins_with slash v.path) then slash ∷ [] else []
+root_part v = if requires_path v.scheme && not (begins_with slash v.path) then slash ∷ [] else []
 
 -- the path as it is written without a spelling: escaped for HTTP, raw else
 abbrev pub plain_path : Protocol → List ℕ → List ℕ
@@ -181,6 +175,7 @@ original_path v = matching_or v.spelling v.path v.path
 abbrev pub canonical_path : Location → List ℕ
 canonical_path v = root_part v ++ matching_or v.spelling v.path (plain_path v.scheme v.path)
 
+-- the text of a URL: the scheme, `://`, the user information, the host, the port and the path
 abbrev pub canonical_text : Location → List ℕ
 canonical_text v = protocol_text v.scheme
     ++ (codes "://" ++ (user_information v.user v.password

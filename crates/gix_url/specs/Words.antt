@@ -13,7 +13,7 @@ kind_words Url = codes "URL"
 kind_words Scp = codes "scp form"
 kind_words Local = codes "local path"
 
--- what is wrong with a URL, behind "the URL has"
+-- what is wrong with a URL or with the host of the scp form, behind "the URL has" or "the scp form has"
 abbrev pub url_fault_words : UrlFault → List ℕ
 url_fault_words url.NoScheme = codes "no valid scheme"
 url_fault_words url.BadPort = codes "an invalid port"

@@ -57,7 +57,8 @@ impl Url {
 
     /// The host as an argument of a command. It takes no memory.
     ///
-    /// A host may begin with `-`. An IPv6 text of Secure Shell is without its brackets, one of other schemes with them.
+    /// A host may begin with `-`. Secure Shell has an IPv6 text without its brackets, other schemes with them where the
+    /// text had them.
     ///
     /// ```
     /// fn is_refused_host(url: &Url) -> bool {

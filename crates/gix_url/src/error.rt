@@ -1,7 +1,7 @@
 //! The errors of the library: what a text or a value is refused for.
 //!
-//! No call answers an error whose contract doesn't name it. The words of an error never depend on the text that
-//! was refused, so that a log shows no password.
+//! No call answers an error whose contract doesn't name it. The words of an error hold no byte of the text that was
+//! refused, in which a password may stand; those of `TooLong` tell its length.
 
 ghost use Rattle.std.specs.Prelude.{◌≡◌};
 
@@ -81,8 +81,8 @@ pub enum WriteFault {
 
 /// Why a text or a value was refused.
 ///
-/// `Display` says it in words, `Debug` by its fields. Neither shows bytes of what was refused, which may hold a password:
-/// `Debug` shows their length. Who wants the bytes finds them in the fields.
+/// `Display` says it in words, `Debug` by its fields. Neither shows bytes of a text that was refused, which may hold a
+/// password: `Debug` shows their length, and the user of `NoHome` as it is. Who wants the bytes finds them in the fields.
 ///
 /// ```
 /// /// Whether the same text can be read at another time: nothing is wrong with it.

@@ -3,16 +3,16 @@
 //! It uses `error`. What the world knows of home folders is handed in: by a closure or as a text. Its contracts are the
 //! definitions of home folders and of paths as text; besides them only memory can be wanting.
 
-ghost use Rattle.std.specs.Prelude.{◌≡◌, Err, IfErr, IfOk, IfSome, IsUtf8, None, Ok, Some, false, option_map, string_bytes};
+ghost use Rattle.std.specs.Prelude.{◌≡◌, Err, IfErr, IfOk, IfSome, IsOk, IsUtf8, None, Ok, Some, false, option_map, string_bytes};
 ghost use Rattle.std.specs.Fn.{FnOnceReturnsAt};
 ghost use Rattle.std.specs.Option.{option_copied};
 ghost use Rattle.bstr.specs.BStr.{bstr_bytes};
 ghost use Rattle.bstr.specs.Owned.{bstring_bytes};
 ghost use Rattle.gix_url.specs.Settled.{begins_at_home};
 ghost use Rattle.gix_url.specs.Homes.{ForShell, HomeFolder, SplitsHome};
-ghost use Rattle.gix_url.specs.Homes.HomeUser.{named};
+ghost use Rattle.gix_url.specs.Homes.HomeUser.{current, named};
 ghost use Rattle.gix_url.specs.HomeOrder.{user_name};
-ghost use Rattle.gix_url.specs.HomeReadings.{Expansion, user_of};
+ghost use Rattle.gix_url.specs.HomeReadings.{AnswersExpanded, Expansion, user_of};
 
 mod order;
 mod paths;
@@ -53,10 +53,11 @@ impl ForUser {
     ///
     /// # Errors
     ///
-    /// [`Error::Memory`], where the name can't be copied.
+    /// [`Error::Memory`], where the name can't be copied, and never for the current user.
     pub fn clone(&self, alloc: Global) -> Result<ForUser, Error>
         ensures equal { IfOk result (λ copy. user_of copy ≡ user_of self.now) }
         ensures memory { IfErr result (λ e. e ≡ Error.Memory) }
+        ensures current { user_of self.now ≡ current → IsOk result }
     {
         match self {
             ForUser::Current => Ok(ForUser::Current),
@@ -224,13 +225,9 @@ pub fn expand_path(
     home: Option<&str>,
 ) -> Result<String, Error>
     ensures no_text { ¬ IsUtf8 (bstr_bytes path.entry) → result ≡ Err Error.PathNotUtf8 }
-    ensures userless { user.entry ≡ None
-        → IfOk result (λ s. string_bytes s ≡ bstr_bytes path.entry) }
-    ensures refused { IsUtf8 (bstr_bytes path.entry) → user.entry ≡ None
-        → IfErr result (λ e. e ≡ Error.Memory) }
-    ensures at_home { IsUtf8 (bstr_bytes path.entry) → IfSome user.entry (λ u.
-        Expansion (HomeFolder (option_copied home.entry) (user_of u.now)) (user_of u.now)
-        (bstr_bytes path.entry) result) }
+    ensures expanded { IsUtf8 (bstr_bytes path.entry) → AnswersExpanded
+        (option_copied home.entry) (option_map user_of (option_copied user.entry))
+        (bstr_bytes path.entry) result }
 {
     let Ok(text) = path.as_bytes().to_str() else {
         return Err(Error::PathNotUtf8);

@@ -1,4 +1,4 @@
-//! Showing a location to people: its text, with the password hidden.
+//! Showing a location to people: its text, with the field `password` hidden.
 //!
 //! It uses `writer`. Its contract: what is shown is the text with another password in place of the location's own,
 //! whatever width, precision and flags are asked for, so that two locations that differ in nothing but their passwords
@@ -20,9 +20,9 @@ impl fmt::Display for Url {
 
     ghost styled_output = { λ url _. display url };
 
-    /// Shows the text of the location with `redacted` in place of a password, and U+FFFD in place of what is no
-    /// UTF-8. Width, precision and flags change nothing. It fails where there is no such text, and then shows nothing;
-    /// and where the formatter fails. It takes no memory.
+    /// Shows the text of the location with `redacted` in place of the field `password`, and U+FFFD in place of what is
+    /// no UTF-8. A secret that stands in another field is shown. Width, precision and flags change nothing. It fails
+    /// where there is no such text, and then shows nothing; and where the formatter fails. It takes no memory.
     ///
     /// ```
     /// fn log_line(alloc: Global, url: &Url) -> Result<String, AllocError> {
@@ -56,8 +56,8 @@ pub(crate) fn hidden_password(password: &Option<String>) -> Option<&str>
     }
 }
 
-/// Locations that differ in nothing but what their passwords are look alike, so nobody learns a password from what is
-/// shown.
+/// Locations that differ in nothing but what their fields `password` hold look alike, so nobody learns from what is
+/// shown what stands in that field. Of other fields, which may hold a secret too, it says nothing.
 pub fn law_hidden_password()
     ensures hidden { HidesPassword }
 {}

@@ -1,8 +1,8 @@
 //! Git locations: remote helpers, URLs, the scp form and local paths, read, written and told apart.
 //!
 //! [`parse::parse`] reads bytes and [`Url::from_text`] text; [`Url::write_to`] and [`Url::to_bstring`] write a
-//! location, and one that [`Url::is_settled`] accepts comes back the same. [`Url::user_as_argument`] and its like tell
-//! which parts a command may get.
+//! location, and one that [`Url::is_settled`] accepts comes back with the same public fields and the same text.
+//! [`Url::user_as_argument`] and its like tell which parts a command may get.
 //!
 //! ```
 //! /// The host that a text names, if the location can be written and read again.

@@ -9,7 +9,8 @@ use std::marker::Model;
 /// Contracts see all eight parts of it as one value, the retained spelling of its path among them.
 ///
 /// The fields may be changed by hand. A location may have no text then, or one that is read as something else:
-/// [`Url::is_settled`] tells. `Debug` and `Display` show `redacted` in place of a password.
+/// [`Url::is_settled`] tells. `Debug` and `Display` show `redacted` in place of the field `password`, and hide nothing
+/// else: a secret that stands in a path or a query, or in the user's place, is shown.
 ///
 /// ```
 /// /// Whether a command of Secure Shell needs the option for a port.
@@ -26,11 +27,13 @@ pub struct Url {
     pub user: Option<String>,
     /// The password, decoded. It is not written without a user.
     pub password: Option<String>,
-    /// The host. It may be empty, and may begin with `-`: hand it to a command by [`Url::host_as_argument`]. An IPv6
-    /// text of Secure Shell is without its brackets, one of other schemes with them. A `:` can stand at its end, where the
-    /// text had one without a port.
+    /// The host. It may be empty, and may begin with `-`: hand it to a command by [`Url::host_as_argument`]. Secure
+    /// Shell has an IPv6 text without its brackets, other schemes with them where the text had them. A `:` can stand at
+    /// its end, where the text had one without a port.
     pub host: Option<String>,
-    /// Whether the location is written in the form that is no URL, where it has one: as `host:path`, or as a path.
+    /// Whether the form that is no URL is asked for: `host:path` of Secure Shell, or a path of local files. With a
+    /// password or a port the text is a URL all the same, a relative path of Secure Shell is only ever written as
+    /// `host:path`, and locations of other schemes have one form.
     pub serialize_alternative_form: bool,
     /// The port. It may be 0, which only HTTP's locations are refused with when they are read.
     pub port: Option<u16>,

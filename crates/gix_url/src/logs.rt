@@ -1,11 +1,13 @@
-//! What a log may hold of a location and of an error: `Debug`, without what a password could stand in.
+//! What a log may hold of a location and of an error: `Debug`, without the field `password` and without refused texts.
 //!
-//! It uses `impls` for the word that stands in place of a password. A location shows every part but its password; an
+//! It uses `impls` for the word that stands in place of a password. A location shows every part but that field; an
 //! error shows the length of a text that was refused, and never its bytes. Otherwise the shape is the one that a
 //! derive gives. It takes no memory.
 //!
-//! No password stands in a path, as the library reads locations, nor in its retained spelling. The path of a local
-//! file or of a remote helper is what the user typed, so a log shows whatever was typed there.
+//! Nothing else is hidden. A secret may also stand where the grammar puts no password, and a log shows it there: as the
+//! user of `https://token@h/p`; in the host of `file://u:secret@h/p`, which is `u:secret@h`; in the path of
+//! `u:secret@h:p`, which is `secret@h:p` on the host `u`; in the path of `https://h/?token=secret`, and with escapes in
+//! the retained spelling too; in a local path and in the address of a remote helper.
 
 ghost use Rattle.std.specs.Prelude.{◌≡◌, ◌++◌, Some, codes, decimal, length};
 ghost use Rattle.bstr.specs.Owned.{bstring_bytes};
@@ -17,7 +19,7 @@ use bstr::BString;
 use std::fmt;
 
 impl fmt::Debug for Url {
-    /// Shows all parts, with `redacted` in place of a password.
+    /// Shows all parts, with `redacted` in place of the field `password`.
     fn fmt<W: fmt::Write>(&self, f: &mut fmt::Formatter<W>) -> fmt::Result {
         f.debug_struct("Url")
             .field("scheme", &self.scheme)

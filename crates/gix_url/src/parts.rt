@@ -61,7 +61,7 @@ impl Url {
 
     /// The password, decoded, if there is one. It takes no memory.
     ///
-    /// Neither `Display` nor `Debug` shows it. The text of the location does.
+    /// Neither `Display` nor `Debug` shows this field. The text of the location does, unless there is no user.
     ///
     /// ```
     /// fn asks_for_password(url: &Url) -> bool {
@@ -76,8 +76,8 @@ impl Url {
 
     /// The host, if there is one. It takes no memory.
     ///
-    /// An IPv6 text of Secure Shell is without its brackets, one of other schemes with them. A host may begin with `-`:
-    /// a command gets it by [`Url::host_as_argument`].
+    /// Secure Shell has an IPv6 text without its brackets, other schemes with them where the text had them. A host may
+    /// begin with `-`: a command gets it by [`Url::host_as_argument`].
     ///
     /// ```
     /// fn is_here(url: &Url) -> bool {

@@ -36,8 +36,8 @@ use std::fmt;
 /// another type, is refused by the reader of the format, which names the part or its place: no part of such a record is
 /// seen.
 ///
-/// The password is stored as it is, in the clear. `Debug` shows `redacted` in its place. All fields are public, and are
-/// not checked: a record may be made by hand.
+/// The password is stored as it is, in the clear. `Debug` shows `redacted` in its place, and hides no other field. All
+/// fields are public, and are not checked: a record may be made by hand.
 #[derive(Drop, Serialize, Deserialize)]
 pub struct StoredUrl {
     /// What the location is reached by.
@@ -48,7 +48,7 @@ pub struct StoredUrl {
     pub password: Option<String>,
     /// The host.
     pub host: Option<String>,
-    /// Whether the location is written in the form that is no URL, where it has one.
+    /// Whether the form that is no URL is asked for, where the location has one.
     pub serialize_alternative_form: bool,
     /// The port.
     pub port: Option<u16>,
@@ -61,7 +61,7 @@ pub struct StoredUrl {
 }
 
 impl fmt::Debug for StoredUrl {
-    /// Shows all parts, with `redacted` in place of a password.
+    /// Shows all parts, with `redacted` in place of the field `password`.
     fn fmt<W: fmt::Write>(&self, f: &mut fmt::Formatter<W>) -> fmt::Result {
         f.debug_struct("StoredUrl")
             .field("scheme", &self.scheme)

@@ -1,7 +1,8 @@
 //! Values for tests: a location from its parts, with no check.
 
-ghost use Rattle.std.specs.Prelude.{◌≡◌, None, option_map, string_bytes};
+ghost use Rattle.std.specs.Prelude.{◌≡◌, option_map, string_bytes};
 ghost use Rattle.bstr.specs.Owned.{bstring_bytes};
+ghost use Rattle.gix_url.specs.FromParts.{of_parts};
 ghost use Rattle.gix_url.specs.Views.{protocol};
 
 use crate::location::Url;
@@ -35,16 +36,9 @@ pub trait TestUrlExtension {
         path: BString,
         serialize_alternative_form: bool,
     ) -> Url
-        ensures { result ≡ record {
-          scheme = protocol scheme;
-          user = option_map string_bytes user;
-          password = option_map string_bytes password;
-          host = option_map string_bytes host;
-          flag = serialize_alternative_form;
-          port = port;
-          path = bstring_bytes path;
-          spelling = None;
-        } };
+        ensures { result ≡ of_parts (protocol scheme) (option_map string_bytes user)
+            (option_map string_bytes password) (option_map string_bytes host)
+            port (bstring_bytes path) serialize_alternative_form };
 }
 
 impl TestUrlExtension for Url {

@@ -25,7 +25,7 @@ impl fmt::Display for UrlKind {
 impl fmt::Display for UrlFault {
     ghost output = { λ fault. Some (url_fault_words fault) };
 
-    /// What the URL has, or lacks: the words continue `the URL has`.
+    /// What the URL has, or lacks: the words continue `the URL has`, or `the scp form has`.
     fn fmt<W: fmt::Write>(&self, f: &mut fmt::Formatter<W>) -> fmt::Result {
         match self {
             UrlFault::NoScheme => f.write_str("no valid scheme"),

@@ -32,7 +32,7 @@ use std::alloc::Global;
 use std::io::Write;
 
 impl Url {
-    /// Writes the text of the location, the password in it as it is. It takes no memory.
+    /// Writes the text of the location, the password in it. It takes no memory.
     ///
     /// ```
     /// fn append(out: &mut Vec<u8>, url: &Url) -> Result<(), WriteError> {
@@ -79,8 +79,8 @@ impl Url {
 
     /// The text of the location. Memory is asked for once, for the whole text, and not at all where there is none.
     ///
-    /// The text of a settled location spells a location with the same public fields and the same text. A password is
-    /// in it as it is: `Display` hides it.
+    /// The text of a settled location spells a location with the same public fields and the same text. The password
+    /// is in it, with a user: `Display` hides that field.
     ///
     /// ```
     /// /// A text in the form that this library writes.

@@ -29,7 +29,7 @@ pub struct Url {
     pub password: Option<String>,
     /// The host. It may be empty, and may begin with `-`: see [`Url::host_as_argument`].
     pub host: Option<String>,
-    /// Whether the location is written in the form that is no URL, where it has one: as `host:path`, or as a path.
+    /// Whether the form that is no URL is asked for, where the location has one: `host:path`, or a path.
     pub serialize_alternative_form: bool,
     /// The port, if there is one.
     pub port: Option<u16>,
@@ -320,7 +320,8 @@ impl Default for Url {
 }
 
 impl fmt::Display for Url {
-    /// Shows the text with `redacted` in place of a password. It fails where there is no text.
+    /// Shows the text with `redacted` in place of the field `password`; a secret in another field is shown. It fails where
+    /// there is no text.
     fn fmt(&self, f: &mut fmt::Formatter<'_>) -> fmt::Result {
         let shown = door::display(self).map_err(|_| fmt::Error)?;
         f.write_str(&String::from_utf8_lossy(&shown))
@@ -328,7 +329,7 @@ impl fmt::Display for Url {
 }
 
 impl fmt::Debug for Url {
-    /// Shows all parts, with `redacted` in place of a password.
+    /// Shows all parts, with `redacted` in place of the field `password`.
     fn fmt(&self, f: &mut fmt::Formatter<'_>) -> fmt::Result {
         f.debug_struct("Url")
             .field("scheme", &self.scheme)

@@ -15,7 +15,8 @@ use Rattle.gix_url.specs.Value.Protocol.{ssh, git}
 use Rattle.gix_url.specs.Bytes.{newline, percent_sign, slash, colon, at_sign, left_bracket, tilde, FreeOf, begins_with, LacksWhiteSpace}
 use Rattle.gix_url.specs.Escapes.{has_percent}
 use Rattle.gix_url.specs.AddressTest.{is_ipv6_text}
-use Rattle.gix_url.specs.Text.{has_colon, wants_brackets, raw_user, raw_host, keeps_host, open_host, needs_brackets, canonical_host, user_information, port_part, root_part, roots_path, plain_path, matching_or, canonical_path}
+use Rattle.gix_url.specs.Schemes.{requires_path}
+use Rattle.gix_url.specs.Text.{has_colon, wants_brackets, raw_user, raw_host, keeps_host, open_host, needs_brackets, canonical_host, user_information, port_part, root_part, plain_path, matching_or, canonical_path}
 use Rattle.gix_url.specs.Settled.{HasMatch, IsTransportPath, begins_at_home}
 use Rattle.gix_url.specs.SettledParts.{HasFairSpelling}
 use Rattle.gix_url.specs.Git.{from_tilde}
@@ -170,7 +171,7 @@ unrooted_tilde : (path rest : List ℕ) → path ≡ tilde ∷ rest → begins_w
 unrooted_tilde path rest e = ap (begins_with slash) e
 
 -- it does where the path is written as it is
-path_raw_by : (v : Location) → roots_path v.scheme ≡ true → matching_or v.spelling v.path (plain_path v.scheme v.path) ≡ v.path → IsTransportPath v → IsPathRaw v
+path_raw_by : (v : Location) → requires_path v.scheme ≡ true → matching_or v.spelling v.path (plain_path v.scheme v.path) ≡ v.path → IsTransportPath v → IsPathRaw v
 path_raw_by v roots same (inl (rooted, homeless)) =
     let (rest, e) = begins_cut slash v.path rooted in
     let root : root_part v ≡ [] = cond-false _ _ _ (and_right _ _ (not_from_true _ rooted)) in
@@ -190,7 +191,7 @@ path_raw_by v roots same (inr (home, none)) =
 
 -- both protocols write it so
 record HasPlainPaths (p : Protocol) : Type 0 where
-  roots : roots_path p ≡ true
+  roots : requires_path p ≡ true
   plain : (path : List ℕ) → plain_path p path ≡ path
 
 -- the one and the other

@@ -6,9 +6,8 @@ use Rattle.std.proofs.lemmas.Slice.Eq.{bytes_eq-Decides}
 use Rattle.gix_url.specs.Value.{Protocol}
 use Rattle.gix_url.specs.Value.Protocol.{file, git, ssh, http, https, ext, helper, helper_url}
 use Rattle.gix_url.specs.Bytes.{slash, colon, at_sign, left_bracket, right_bracket, FreeOf, Holds, begins_with}
-use Rattle.gix_url.specs.Schemes.{protocol_of}
+use Rattle.gix_url.specs.Schemes.{protocol_of, requires_path}
 use Rattle.gix_url.specs.Authority.{unless_empty}
-use Rattle.gix_url.specs.Grammar.{requires_path}
 use Rattle.gix_url.specs.Git.{GitReading, OneReading, on_this_machine, from_tilde, git_decode, host_mark, OpensHost, InBrackets, LacksHostBrackets, HostEnd, CutsPlace, git_port, BeforePort, HostAndPort, SecurePort, UserCut, ReachesSecure, ReachesGit, OwnUrl, IsNoUrl, IsRemote, IsLocal, ReadsGiven}
 use Rattle.gix_url.proofs.Readings.SchemeLemmas.{protocol_cases, transport}
 use Rattle.gix_url.proofs.Texts.CutLemmas.{heads, tails, different_bytes, cut_unique, free_head_tail, last_cut_unique, not_free}

@@ -1,5 +1,5 @@
 -- Home folders: how a path begins, and that it has one split and one reading for a shell.
-use Rattle.std.proofs.Common.{◌≡◌, ℕ, true, false, ◌==◌, ◌&&◌, inl, inr, List, [], ◌∷◌, ◌++◌, Option, Some, None, Result, Ok, Err, String, Bor, refl, sym, ap, ◌∙◌}
+use Rattle.std.proofs.Common.{◌≡◌, ℕ, true, false, ◌==◌, ◌&&◌, inl, inr, List, [], ◌∷◌, ◌++◌, Option, Some, None, Result, Ok, Err, String, string_bytes, Bor, refl, sym, ap, ◌∙◌}
 use Rattle.std.specs.Global.{Global}
 use Rattle.std.specs.Option.{option_copied}
 use Rattle.bstr.proofs.Computing.{computing}
@@ -8,9 +8,9 @@ use Rattle.gix_url.specs.declared.error.Error.TheVariants as error
 use Rattle.gix_url.specs.Bytes.{slash, tilde, FreeOf, begins_with, lossy_text}
 use Rattle.gix_url.specs.Settled.{begins_at_home}
 use Rattle.gix_url.specs.Paths.{IsParent}
-use Rattle.gix_url.specs.Homes.{HomeUser, home_user, SplitsHome, shell_text, ForShell, HomeFolder}
+use Rattle.gix_url.specs.Homes.{HomeUser, home_user, SplitsHome, shell_text, ForShell, HomeFolder, Expands}
 use Rattle.gix_url.specs.Homes.HomeUser.{current, named}
-use Rattle.gix_url.specs.HomeReadings.{HomePath, Expansion}
+use Rattle.gix_url.specs.HomeReadings.{HomePath, Expansion, AnswersExpanded}
 
 -- ---- how a path begins
 
@@ -79,3 +79,10 @@ expansion_weaker strong weak f user path (Ok text) (folder, h, below) = (folder,
 expansion_weaker strong weak f user path (Err error.Memory) h = tt
 expansion_weaker strong weak f user path (Err (error.NoHome who)) (h, e) = (f None h, e)
 expansion_weaker strong weak f user path (Err _) h = h
+
+-- an answer for a user by the user's home folder is that of the expansion
+pub answers_expanded : (home : Option (List ℕ)) (user : HomeUser) (path : List ℕ) (r : Result (String Global) Error) → Expansion (HomeFolder home user) user path r → AnswersExpanded home (Some user) path r
+answers_expanded home user path (Ok text) (folder, h, below) = Expands.at_home user folder (string_bytes text) refl h below refl
+answers_expanded home user path (Err error.Memory) h = tt
+answers_expanded home user path (Err (error.NoHome who)) (h, e) = (ap Some (sym e), Expands.homeless user refl h refl)
+answers_expanded home user path (Err _) h = h

@@ -15,9 +15,10 @@ use Rattle.gix_url.specs.declared.escape.TheConstants.{PATH}
 use Rattle.gix_url.specs.Bytes.{number_sign, percent_sign, plus_sign, slash, question_mark, FreeOf, begins_with, space, ampersand, equals_sign}
 use Rattle.gix_url.specs.Escapes.{has_percent, is_path_escaped, matches}
 use Rattle.gix_url.specs.Value.{Location}
+use Rattle.gix_url.specs.Schemes.{requires_path}
 use Rattle.gix_url.specs.Grammar.{or_root, retained_spelling, Spells}
 use Rattle.gix_url.specs.Components.{Components, stands_for, IsFront, CutsPath, CutsFields, SplitsField, with_spaces, term_of, PairsOf, QueryOf, WebParts, PartsBy, PartsOf}
-use Rattle.gix_url.specs.Text.{roots_path, plain_path, matching_or, canonical_path, canonical_text, text, original_path}
+use Rattle.gix_url.specs.Text.{plain_path, matching_or, canonical_path, canonical_text, text, original_path}
 use Rattle.gix_url.specs.Settled.{IsSettledUrl, IsSettledWeb, IsSettledBy, IsSettled, IsWeb}
 use Rattle.gix_url.specs.SettledParts.{HasFairSpelling}
 use Rattle.gix_url.proofs.Written.WrittenPieces.{as_read}
@@ -442,8 +443,8 @@ unmatched (Some s) path other h = cond-false _ _ _ h
 
 -- the written path of a location of HTTP is the spelling that matches, and else the encoded path
 web_path : (v : Location) → IsWeb v → canonical_path v ≡ matching_or v.spelling v.path (percent_encode PATH v.path)
-web_path v (inl e) = ap (λ p. (if roots_path p && not (begins_with slash v.path) then slash ∷ [] else []) ++ matching_or v.spelling v.path (plain_path p v.path)) e
-web_path v (inr e) = ap (λ p. (if roots_path p && not (begins_with slash v.path) then slash ∷ [] else []) ++ matching_or v.spelling v.path (plain_path p v.path)) e
+web_path v (inl e) = ap (λ p. (if requires_path p && not (begins_with slash v.path) then slash ∷ [] else []) ++ matching_or v.spelling v.path (plain_path p v.path)) e
+web_path v (inr e) = ap (λ p. (if requires_path p && not (begins_with slash v.path) then slash ∷ [] else []) ++ matching_or v.spelling v.path (plain_path p v.path)) e
 
 -- where the spelling matches, it is read again
 spelled_again : (v : Location) → IsWeb v → HasFairSpelling v → matches v.spelling v.path ≡ true → retained_spelling (canonical_path v) ≡ v.spelling

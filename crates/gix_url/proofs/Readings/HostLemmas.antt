@@ -26,7 +26,7 @@ use Rattle.gix_url.specs.Hosts as spec
 use Rattle.gix_url.specs.Hosts.{Mode, is_dns_byte, is_http_host_byte, HostText, IsLiteral, Bracketed, Inner, AllowsPort, IsDigits, Number, IsAddressPiece, ReadsAddress, HoldsTwoColons, IsManyColoned, IsPlainHost, Names, normal_host}
 use Rattle.gix_url.specs.Hosts.Mode.{strict, bare, loose}
 use Rattle.gix_url.specs.Flaws.{IsNoPort, HasBadPort, IsPortPlace, IsNoInner, BracketsAround, HasBadHost, NameFlaw}
-use Rattle.gix_url.specs.HostPieces.{EndsHost, Follows, HasNoPort, named_text, IsEscapedZone, IsInner, in_brackets, lowercase_address, shown_literal}
+use Rattle.gix_url.specs.HostPieces.{EndsHost, Follows, IsBadPort, named_text, IsEscapedZone, IsInner, in_brackets, lowercase_address, shown_literal}
 use Rattle.gix_url.proofs.Texts.CutLemmas.{heads, tails, class_cut_unique, cut_unique, free-append, free_begins, free_head_tail, free_of_all, free_or_cut, begins-append, not_free}
 use Rattle.gix_url.proofs.Texts.EscapeLemmas.{decode_kept, decodes_in_parts, sound_free, utf8_byte, utf8_class}
 use Rattle.gix_url.proofs.Addresses.AddressLemmas.{address_free, address_two_colons, address_utf8, address-lowercase}
@@ -553,7 +553,7 @@ nothing_follows rest (inr h) none = absurd (both_ways _ none h)
 -- what follows a colon follows the host
 pub port_follows : (mode : Mode) (base rest digits : List ℕ) (named : Option NamedHost) → rest ≡ colon ∷ digits
     → MatchOption named (IsNoPort mode digits) (λ n. Follows mode base (colon ∷ digits) (Some (named_text n)) n.port)
-    → MatchOption named (HasNoPort mode rest) (λ n. Follows mode base rest (Some (named_text n)) n.port)
+    → MatchOption named (IsBadPort mode rest) (λ n. Follows mode base rest (Some (named_text n)) n.port)
 port_follows mode base rest digits None is h = (digits, h, is)
 port_follows mode base rest digits (Some n) is h = subst (λ t. Follows mode base t (Some (named_text n)) n.port) (sym is) h
 

@@ -5,8 +5,8 @@ use Rattle.std.proofs.lemmas.Slice.Eq.{bytes_eq-Decides}
 use Rattle.gix_url.specs.Value.{Protocol, Location, path_alone}
 use Rattle.gix_url.specs.Value.Protocol.{file, git, ssh, http, https, ext, helper, helper_url}
 use Rattle.gix_url.specs.Bytes.{colon, FreeOf}
-use Rattle.gix_url.specs.Schemes.{is_ssh_scheme, is_web_scheme, protocol_of}
-use Rattle.gix_url.specs.Grammar.{helper_protocol, requires_path, UrlParts, MeansByProtocol, MeansAs}
+use Rattle.gix_url.specs.Schemes.{is_ssh_scheme, is_web_scheme, protocol_of, requires_path}
+use Rattle.gix_url.specs.Grammar.{helper_protocol, UrlParts, MeansByProtocol, MeansAs}
 
 -- what holds of both choices holds of the chosen one
 chosen : (P : Protocol → Type 0) (b : Bool) (p q : Protocol) → (b ≡ true → P p) → (b ≡ false → P q) → P (if b then p else q)

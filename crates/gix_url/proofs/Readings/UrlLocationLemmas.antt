@@ -11,12 +11,12 @@ use Rattle.gix_url.specs.Value.{Protocol, Location}
 use Rattle.gix_url.specs.Value.Protocol.{file, git, ssh, http, https, ext, helper, helper_url}
 use Rattle.gix_url.specs.Bytes.{colon, slash, left_bracket, right_bracket, Lacks, is_path_start, StartsPath}
 use Rattle.gix_url.specs.Cuts.{StripsLast}
-use Rattle.gix_url.specs.Schemes.{is_web_scheme, protocol_of, mode_of}
+use Rattle.gix_url.specs.Schemes.{is_web_scheme, protocol_of, mode_of, requires_path}
 use Rattle.gix_url.specs.Hosts.{Mode, Names}
 use Rattle.gix_url.specs.Authority.{unless_empty, user_beside, Credentials, Authority}
 use Rattle.gix_url.specs.Authority.Credentials.{user_alone, with_password}
 use Rattle.gix_url.specs.Authority.Authority.{host_alone, with_user}
-use Rattle.gix_url.specs.Grammar.{UrlParts, SpellsParts, SpellsUrl, MeansAs, MeansByProtocol, Peels, or_root, requires_path}
+use Rattle.gix_url.specs.Grammar.{UrlParts, SpellsParts, SpellsUrl, MeansAs, MeansByProtocol, Peels, or_root}
 use Rattle.gix_url.specs.Flaws.{MissesPath}
 use Rattle.gix_url.specs.UrlPieces.{AreTexts, InBrackets, DropsLast}
 use Rattle.gix_url.proofs.Texts.CutLemmas.{tails, last_unique, mark_cut_unique, path_cut_unique, free_of_lacked}

@@ -15,8 +15,8 @@ use Rattle.gix_url.specs.Bytes.{slash, colon, at_sign, backslash, right_bracket,
 use Rattle.gix_url.specs.Escapes.{escaped_percents}
 use Rattle.gix_url.specs.Hosts.{Mode, Names}
 use Rattle.gix_url.specs.Hosts.Mode.{bare}
-use Rattle.gix_url.specs.Schemes.{is_web_scheme, protocol_of, mode_of, requires_host}
-use Rattle.gix_url.specs.Grammar.{requires_path, IsNeither, ScpShape, AddressedShape, IsScpShaped, ScpHost, SpellsUrl, Spells}
+use Rattle.gix_url.specs.Schemes.{is_web_scheme, protocol_of, mode_of, requires_host, requires_path}
+use Rattle.gix_url.specs.Grammar.{IsNeither, ScpShape, AddressedShape, IsScpShaped, ScpHost, SpellsUrl, Spells}
 use Rattle.gix_url.specs.Flaws.{IsTooLong, MissesPath, HasShape, UrlShape, OtherShape, UrlCut, NameFlaw, PieceOf, HasBadUser, AuthorityFlaw, UrlFlaw, ScpHostFlaw, ScpFlaw, KindFlaw, Flaw}
 use Rattle.gix_url.specs.UrlPieces.{HasNoText, IsNoAuthority}
 use Rattle.gix_url.specs.Refusals.{HasFlaw, Exclusive, Flawless}

@@ -12,9 +12,9 @@ use Rattle.gix_url.specs.Value.Protocol.{file, git, ssh, http, https, ext, helpe
 use Rattle.gix_url.specs.Bytes.{slash, colon, at_sign, left_bracket, backslash, right_bracket, FreeOf, LacksWhiteSpace, begins_with, is_scheme_text, is_path_start}
 use Rattle.gix_url.specs.Escapes.{is_sound}
 use Rattle.gix_url.specs.Hosts.{Mode, Names}
-use Rattle.gix_url.specs.Schemes.{is_web_scheme, protocol_of, mode_of, requires_host}
+use Rattle.gix_url.specs.Schemes.{is_web_scheme, protocol_of, mode_of, requires_host, requires_path}
 use Rattle.gix_url.specs.Authority.{unless_empty, Credentials, Authority, Fits}
-use Rattle.gix_url.specs.Grammar.{UrlParts, SpellsParts, Peels, HostFor, requires_path, MeansByProtocol, MeansAs, Spells}
+use Rattle.gix_url.specs.Grammar.{UrlParts, SpellsParts, Peels, HostFor, MeansByProtocol, MeansAs, Spells}
 use Rattle.gix_url.specs.Flaws.{UrlShape, OtherShape, UrlCut, PieceOf, AuthorityFlaw, UrlFlaw}
 use Rattle.gix_url.specs.UrlPieces.{CutsRest, HasNoText, HoldsHosted}
 use Rattle.gix_url.specs.Refusals.{HasFlaw}

@@ -8,7 +8,7 @@ use Rattle.gix_url.specs.Bytes.{colon, is_helper_name}
 use Rattle.gix_url.specs.Schemes.{protocol_of}
 use Rattle.gix_url.specs.Grammar.{IsNeither, IsScpShaped, helper_protocol, SpellsHelper, SpellsUrl, SpellsScp, SpellsLocal, Spells}
 use Rattle.gix_url.specs.Text.{text}
-use Rattle.gix_url.specs.Settled.{HasHostAlone, IsSettledLocal, IsSettledHelper, IsSettledBy, IsSettled}
+use Rattle.gix_url.specs.Settled.{HasAtMostHost, IsSettledLocal, IsSettledHelper, IsSettledBy, IsSettled}
 use Rattle.gix_url.specs.Laws.{keeps_bytes, KeepsBytes, ComesBack}
 use Rattle.gix_url.proofs.Closed.SettledLemmas.{value_of}
 use Rattle.gix_url.proofs.Readings.SchemeLemmas.{protocol_cases, helper_cases, means_cases}
@@ -20,14 +20,14 @@ abbrev kept : Protocol → List ℕ → Option (List ℕ) → Location
 kept protocol path spelling = record (path_alone protocol true path) { spelling = spelling }
 
 -- a location without the other parts is such a value
-kept_value : (v : Location) (protocol : Protocol) → v.scheme ≡ protocol → v.flag ≡ true → HasHostAlone v → v.host ≡ None → v ≡ kept protocol v.path v.spelling
+kept_value : (v : Location) (protocol : Protocol) → v.scheme ≡ protocol → v.flag ≡ true → HasAtMostHost v → v.host ≡ None → v ≡ kept protocol v.path v.spelling
 kept_value v protocol scheme flagged alone no_host =
     value_of v protocol true scheme flagged alone.no_password alone.no_port
     ∙ ap (λ user. record (kept protocol v.path v.spelling) { user = user; host = v.host }) alone.no_user
     ∙ ap (λ host. record (kept protocol v.path v.spelling) { host = host }) no_host
 
 -- a value without parts of an authority
-path_alone_alone : (protocol : Protocol) (path : List ℕ) → HasHostAlone (path_alone protocol true path)
+path_alone_alone : (protocol : Protocol) (path : List ℕ) → HasAtMostHost (path_alone protocol true path)
 path_alone_alone protocol path = record { no_user = refl; no_password = refl; no_port = refl }
 
 -- ---- texts
@@ -121,7 +121,7 @@ kept_closed b v (Spells.local_path h) keeps = (local_unchanged b v h).0
 -- ---- exactness
 
 -- parts of an authority are fields
-alone_by_fields : (v w : Location) → fields w ≡ fields v → HasHostAlone w → HasHostAlone v
+alone_by_fields : (v w : Location) → fields w ≡ fields v → HasAtMostHost w → HasAtMostHost v
 alone_by_fields v w same h = record {
   no_user = sym (ap (λ l. l.user) same) ∙ h.no_user;
   no_password = sym (ap (λ l. l.password) same) ∙ h.no_password;

@@ -11,8 +11,9 @@ use Rattle.gix_url.specs.Value.{Protocol, Location}
 use Rattle.gix_url.specs.Value.Protocol.{ssh, git, helper_url}
 use Rattle.gix_url.specs.Bytes.{slash, tilde, begins_by, begins_with, LacksWhiteSpace, is_path_start, StartsPath}
 use Rattle.gix_url.specs.Escapes.{has_percent, is_path_escaped}
-use Rattle.gix_url.specs.Grammar.{path_for, or_root, from_home, retained_spelling, requires_path}
-use Rattle.gix_url.specs.Text.{canonical_path, root_part, plain_path, matching_or, roots_path}
+use Rattle.gix_url.specs.Schemes.{requires_path}
+use Rattle.gix_url.specs.Grammar.{path_for, or_root, from_home, retained_spelling}
+use Rattle.gix_url.specs.Text.{canonical_path, root_part, plain_path, matching_or}
 use Rattle.gix_url.specs.Settled.{HasMatch, IsFairSpelling, IsRawPath, IsTransportPath, first_byte, begins_at_home, IsWeb}
 use Rattle.gix_url.specs.SettledParts.{HasFairSpelling, HasUrlPath, IsRootedOrEmpty}
 use Rattle.gix_url.proofs.Written.WrittenPieces.{IsEscapedPiece, WritesPath, as_read}
@@ -158,15 +159,14 @@ plainly_written web v p fair =
 
 -- what the protocol of a location of HTTP says of its path
 record HasWebPaths (protocol : Protocol) : Type 0 where
-  root : roots_path protocol ≡ false
   plain : (path : List ℕ) → plain_path protocol path ≡ percent_encode PATH path
   meant : (path : List ℕ) → path_for protocol path ≡ or_root path
   required : requires_path protocol ≡ false
 
 -- both protocols of HTTP say the same of it
 web_paths : (v : Location) → IsWeb v → HasWebPaths v.scheme
-web_paths v (inl e) = subst HasWebPaths (sym e) record { root = refl; plain = λ path. refl; meant = λ path. refl; required = refl }
-web_paths v (inr e) = subst HasWebPaths (sym e) record { root = refl; plain = λ path. refl; meant = λ path. refl; required = refl }
+web_paths v (inl e) = subst HasWebPaths (sym e) record { plain = λ path. refl; meant = λ path. refl; required = refl }
+web_paths v (inr e) = subst HasWebPaths (sym e) record { plain = λ path. refl; meant = λ path. refl; required = refl }
 
 -- a path that begins by a byte isn't made the root
 root_kept : (test : ℕ → Bool) (path : List ℕ) → begins_by test path ≡ true → or_root path ≡ path
@@ -216,7 +216,7 @@ pub web_path_written : (v : Location) → IsWeb v → begins_by (is_path_start t
 web_path_written v web begins url =
     let facts = web_paths v web in
     plainly_written true v record {
-      root = cond-false _ _ _ (and_left _ _ facts.root);
+      root = cond-false _ _ _ (and_left _ _ facts.required);
       starts = inr begins;
       text = url.path_text;
       meant = facts.meant v.path ∙ root_kept (is_path_start true) v.path begins;
@@ -283,7 +283,7 @@ other_starts (b ∷ path) (inr begins) = inr (rw begins refl)
 -- the written path of a settled URL of another scheme means its path, and is written the same again
 pub other_path_written : (v : Location) (name : List ℕ) → v.scheme ≡ helper_url name → IsRootedOrEmpty v.path → HasUrlPath v → IsRawPath v → WritesPath false v × IsRawPath (as_read v)
 other_path_written v name e rooted url raw = rawly_written v record {
-  root = cond-false _ _ _ (and_left _ _ (ap roots_path e));
+  root = cond-false _ _ _ (and_left _ _ (ap requires_path e));
   starts = other_starts v.path rooted;
   meant = ap (λ p. path_for p v.path) e;
   present = λ needed. absurd (both_ways _ (ap requires_path e) needed);
@@ -294,7 +294,7 @@ other_path_written v name e rooted url raw = rawly_written v record {
 
 -- what the protocol says of a path that may stand below a home folder
 record HasHomes (protocol : Protocol) : Type 0 where
-  roots : roots_path protocol ≡ true
+  roots : requires_path protocol ≡ true
   plain : (path : List ℕ) → plain_path protocol path ≡ path
   meant : (path : List ℕ) → path_for protocol path ≡ from_home path
 

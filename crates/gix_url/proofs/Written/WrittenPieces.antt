@@ -5,8 +5,9 @@ use Rattle.gix_url.specs.Value.{Location}
 use Rattle.gix_url.specs.Bytes.{at_sign, backslash, Lacks, FreeOf, LacksWhiteSpace, is_path_start, StartsPath}
 use Rattle.gix_url.specs.Escapes.{is_sound}
 use Rattle.gix_url.specs.Hosts.{Mode, Names}
+use Rattle.gix_url.specs.Schemes.{requires_path}
 use Rattle.gix_url.specs.Authority.{Credentials}
-use Rattle.gix_url.specs.Grammar.{path_for, requires_path, retained_spelling}
+use Rattle.gix_url.specs.Grammar.{path_for, retained_spelling}
 use Rattle.gix_url.specs.Text.{user_information, canonical_host, port_part, canonical_path}
 use Rattle.gix_url.specs.SettledParts.{HasFairSpelling}
 

@@ -1,15 +1,16 @@
 //! Equality and copies of components: names and values count by their bytes.
 //!
 //! It uses the types of this module's parent and nothing else of this crate. Its contract: two components are equal
-//! exactly where their parts are, whether these are lent or not, and a copy is equal to what was copied. Equality
-//! takes no memory; a copy asks for it once for the list of a query and once for each name or value that is not lent.
+//! exactly where their parts are, whether these are lent or not, and a copy is equal to what was copied, and lends what
+//! that lends. Equality takes no memory; a copy asks for it once for the list of a query and once for each name or value
+//! that is not lent.
 
 ghost use Rattle.std.specs.Prelude.{◌≡◌, ◌+◌, ◌<◌, ◌≤◌, ◌↔◌, ◌++◌, [], ◌∷◌, IfErr, IfOk, IsOk, IsTrue, bytes_eq, length, map, option_map, true};
 ghost use Rattle.std.specs.Cmp.{on_equiv, on_per, partial_equiv_from_equiv};
 ghost use Rattle.std.specs.Cmp.Lexicographic.{nat_list_eq_equiv, pointwise};
 ghost use Rattle.bstr.specs.BStr.{bstr_bytes};
 ghost use Rattle.gix_url.specs.ComponentEquality.{components_eq, components_equiv, fragment_eq, pair_eq, query_eq};
-ghost use Rattle.gix_url.specs.ComponentViews.{components, is_borrowed, pair_bytes, text_bytes};
+ghost use Rattle.gix_url.specs.ComponentViews.{components, is_borrowed, pair_bytes, pair_lent, text_bytes, what_is_lent};
 
 use super::fields::push_within;
 use super::{PathComponents, QueryText};
@@ -62,7 +63,7 @@ impl<'a> QueryText<'a> {
 }
 
 impl<'a> PathComponents<'a> {
-    /// The same components once more. What is lent stays lent.
+    /// The same components once more. What is lent stays lent, and what is not is copied.
     ///
     /// ```
     /// fn both<'a>(alloc: Global, parts: &PathComponents<'a>) -> Result<PathComponents<'a>, Error> {
@@ -76,6 +77,7 @@ impl<'a> PathComponents<'a> {
     /// Components without a query take none.
     pub fn clone(&self, alloc: Global) -> Result<PathComponents<'a>, Error>
         ensures equal { IfOk result (λ copy. components copy ≡ components self.now) }
+        ensures alike { IfOk result (λ copy. what_is_lent copy ≡ what_is_lent self.now) }
         ensures memory { IfErr result (λ e. e ≡ Error.Memory) }
         ensures no_query { (components self.now).query ≡ None → IsOk result }
     {
@@ -97,6 +99,7 @@ fn copied_pairs<'a>(
     pairs: &[(QueryText<'a>, QueryText<'a>)],
 ) -> Result<Vec<(QueryText<'a>, QueryText<'a>)>, Error>
     ensures equal { IfOk result (λ copy. map pair_bytes copy.items ≡ map pair_bytes pairs.now) }
+    ensures alike { IfOk result (λ copy. map pair_lent copy.items ≡ map pair_lent pairs.now) }
     ensures memory { IfErr result (λ e. e ≡ Error.Memory) }
 {
     let mut copy = Vec::with_capacity(alloc, pairs.len())?;
@@ -112,6 +115,7 @@ fn copied_pair<'a>(
     pair: &(QueryText<'a>, QueryText<'a>),
 ) -> Result<(QueryText<'a>, QueryText<'a>), Error>
     ensures equal { IfOk result (λ copy. pair_bytes copy ≡ pair_bytes pair.now) }
+    ensures alike { IfOk result (λ copy. pair_lent copy ≡ pair_lent pair.now) }
     ensures memory { IfErr result (λ e. e ≡ Error.Memory) }
 {
     Ok((pair.0.clone(alloc)?, pair.1.clone(alloc)?))

@@ -8,10 +8,10 @@ ghost use Rattle.std.specs.Prelude.{◌≡◌, ◌<◌, ◌↔◌, List, ℕ, Is
 ghost use Rattle.bstr.specs.Owned.{bstring_bytes};
 ghost use Rattle.percent_encoding.specs.Percent.{percent_decode};
 ghost use Rattle.gix_url.specs.Grammar as grammar;
-ghost use Rattle.gix_url.specs.Grammar.{HostFor, MeansByProtocol, path_for, requires_path};
+ghost use Rattle.gix_url.specs.Grammar.{HostFor, MeansByProtocol, path_for};
 ghost use Rattle.gix_url.specs.HostPieces.{host_of, port_of};
 ghost use Rattle.gix_url.specs.SchemeRules.{AreRulesOf, named_protocol};
-ghost use Rattle.gix_url.specs.Schemes.{protocol_of};
+ghost use Rattle.gix_url.specs.Schemes.{protocol_of, requires_path};
 ghost use Rattle.gix_url.specs.Settled.{begins_at_home};
 ghost use Rattle.gix_url.specs.UrlPieces.{AreTexts, decoded_option, parts_of};
 

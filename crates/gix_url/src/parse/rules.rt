@@ -4,10 +4,9 @@
 //! for the text of the scheme.
 
 ghost use Rattle.std.specs.Prelude.{◌≡◌, false, true};
-ghost use Rattle.gix_url.specs.Grammar.{requires_path};
 ghost use Rattle.gix_url.specs.HostPieces.{strictness};
 ghost use Rattle.gix_url.specs.SchemeRules.{named_protocol};
-ghost use Rattle.gix_url.specs.Schemes.{is_web_scheme, mode_of, protocol_of, requires_host};
+ghost use Rattle.gix_url.specs.Schemes.{is_web_scheme, mode_of, protocol_of, requires_host, requires_path};
 
 use super::host::Mode;
 use crate::scheme::{Protocol, is_ftp, is_named, protocol_of};

@@ -4,7 +4,7 @@ ghost use Rattle.std.specs.Prelude.{◌↔◌, IsTrue, IfSome};
 ghost use Rattle.gix_url.specs.Settled.{IsFileHost, IsSettledFile, IsSettledHelper, IsSettledLocal};
 ghost use Rattle.gix_url.specs.Shapes.{LocalShape};
 
-use super::parts::{has_host_alone, has_match, is_flagged_path};
+use super::parts::{has_at_most_host, has_match, is_flagged_path};
 use crate::bytes::{is_free_of, is_helper_name, starts_with_byte};
 use crate::escape::has_percent;
 use crate::location::Url;
@@ -37,7 +37,7 @@ pub(crate) fn is_settled_file(url: &Url) -> bool
     ensures { IsTrue result ↔ IsSettledFile url.now }
 {
     !url.serialize_alternative_form
-        && has_host_alone(url)
+        && has_at_most_host(url)
         && !has_match(url)
         && has_file_host(url)
         && is_text(url.path.as_bytes())

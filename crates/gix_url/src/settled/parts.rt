@@ -3,7 +3,7 @@
 ghost use Rattle.std.specs.Prelude.{◌≡◌, ◌↔◌, IsTrue, codes};
 ghost use Rattle.gix_url.specs.Bytes.{Holds};
 ghost use Rattle.gix_url.specs.Hosts.{normal_host};
-ghost use Rattle.gix_url.specs.Settled.{HasHostAlone, HasMatch, IsNormalAddress, IsNormalName, IsOpenName, begins_at_home, begins_with_slashes};
+ghost use Rattle.gix_url.specs.Settled.{HasAtMostHost, HasMatch, IsNormalAddress, IsNormalName, IsOpenName, begins_at_home, begins_with_slashes};
 ghost use Rattle.gix_url.specs.SettledParts.{IsFlaggedPath};
 
 use crate::bytes::{cut_at_mark, is_free_of, is_lowercase};
@@ -13,8 +13,8 @@ use crate::location::Url;
 use crate::parse::host::bytes::looks_like_domain;
 
 /// Whether the location has neither user nor password nor port.
-pub(crate) fn has_host_alone(url: &Url) -> bool
-    ensures { IsTrue result ↔ HasHostAlone url.now }
+pub(crate) fn has_at_most_host(url: &Url) -> bool
+    ensures { IsTrue result ↔ HasAtMostHost url.now }
 {
     url.user.is_none() && url.password.is_none() && url.port.is_none()
 }
@@ -23,7 +23,7 @@ pub(crate) fn has_host_alone(url: &Url) -> bool
 pub(crate) fn is_flagged_path(url: &Url) -> bool
     ensures { IsTrue result ↔ IsFlaggedPath url.now }
 {
-    url.serialize_alternative_form && has_host_alone(url) && url.host.is_none()
+    url.serialize_alternative_form && has_at_most_host(url) && url.host.is_none()
 }
 
 /// Whether the retained spelling of the path decodes to the path.

@@ -262,7 +262,7 @@ fn has_colon(host: &[u8]) -> bool
     host.contains(&b':')
 }
 
-/// Whether the host of a URL goes between brackets: a port or an escape would mislead without.
+/// Whether the host of a URL goes between brackets: it wants them, and there is a port, or a `%` in it.
 fn needs_brackets(port: Option<u16>, host: &[u8]) -> bool
     ensures { result ≡ spec.needs_brackets port host.now }
 {

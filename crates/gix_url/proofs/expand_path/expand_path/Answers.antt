@@ -1,16 +1,17 @@
--- The folder that was found is the user's.
+-- The folder that was found is the user's, so what lies below it is the expanded path.
 use Rattle.std.proofs.Common.{subst, ◌≡◌, ◌∙◌}
 use Rattle.std.specs.Option.{option_copied}
 use Rattle.bstr.specs.BStr.{bstr_bytes}
 use Rattle.gix_url.specs.Homes.{HomeFolder}
 use Rattle.gix_url.specs.HomeReadings.{Expansion, user_of}
-use Rattle.gix_url.proofs.Homes.HomeLemmas.{expansion_weaker}
+use Rattle.gix_url.proofs.Homes.HomeLemmas.{expansion_weaker, answers_expanded}
 use Rattle.gix_url.proofs.expand_path.expand_path.Goals as goal
 
-pub returns-in_ok-folder-in-Some-clause-at_home : goal.returns-in_ok-folder-in-Some-clause-at_home
-returns-in_ok-folder-in-Some-clause-at_home c = λ text.
+pub returns-in_ok-folder-in-Some-clause-expanded : goal.returns-in_ok-folder-in-Some-clause-expanded
+returns-in_ok-folder-in-Some-clause-expanded c = λ text.
     let user = user_of c.in-Some.user.now in
     let home = HomeFolder (option_copied c.args.home) user in
     let same : c.in-Ok.text.now ≡ bstr_bytes c.args.path = c.in-Ok.ensures.cases.0 ∙ c.as_bytes.ensures in
-    rw c.in-Some.is (subst (λ p. Expansion home user p c.entered.result) same
-    (expansion_weaker _ home (λ folder e. subst home e c.in_ok-folder-in-Some.ensures) user c.in-Ok.text.now c.entered.result c.entered.ensures))
+    let below = subst (λ p. Expansion home user p c.entered.result) same
+    (expansion_weaker _ home (λ folder e. subst home e c.in_ok-folder-in-Some.ensures) user c.in-Ok.text.now c.entered.result c.entered.ensures) in
+    rw c.in-Some.is (answers_expanded (option_copied c.args.home) user (bstr_bytes c.args.path) c.entered.result below)

@@ -10,7 +10,7 @@ ghost use Rattle.gix_url.specs.Bytes.{colon};
 ghost use Rattle.gix_url.specs.Flaws.{IsNoPort};
 ghost use Rattle.gix_url.specs.Hosts as spec;
 ghost use Rattle.gix_url.specs.Hosts.{Number};
-ghost use Rattle.gix_url.specs.HostPieces.{EndsHost, Follows, HasNoPort, meant_host, named_text, strictness};
+ghost use Rattle.gix_url.specs.HostPieces.{EndsHost, Follows, IsBadPort, meant_host, named_text, strictness};
 
 use super::{HostPiece, Mode, NamedHost, alone};
 use crate::bytes::{after, starts_with_byte};
@@ -19,7 +19,7 @@ use crate::text::as_text;
 /// A host with what follows it: nothing, or a colon and perhaps a port.
 pub(super) fn with_rest<'a>(mode: Mode, piece: HostPiece<'a>, rest: &[u8]) -> Option<NamedHost<'a>>
     requires { EndsHost rest.now }
-    ensures { MatchOption result (HasNoPort (strictness mode) rest.now)
+    ensures { MatchOption result (IsBadPort (strictness mode) rest.now)
         (λ named. Follows (strictness mode) (meant_host piece.entry) rest.now
         (Some (named_text named)) named.port) }
 {
