@@ -88,7 +88,7 @@ pub fn status(outcome: &Result<bool, RunError>) -> u8
 ///
 /// The answer is `settled`, a tab and the location's text, where it is settled; `unsettled` or `unwritable`, a tab
 /// and its scheme, where it has a text or none; `refused`, a tab and the error's name, where the line is no
-/// location.
+/// location. Each answer is one line, whatever the location holds: [`law_lines`](crate::laws::law_lines).
 ///
 /// `Ok(true)` says that every line was settled. The errors are those of [`RunError`]; a reader that hasn't ended
 /// after 2^40 calls is answered `Read`. The whole answer is built in memory before it is written.
