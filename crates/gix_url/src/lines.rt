@@ -130,7 +130,8 @@ fn read_all<R: Read>(alloc: Global, input: &mut R) -> Result<Vec<u8>, RunError>
     }
 }
 
-/// All bytes of a reader, or none where it hasn't ended after the most reads, each of which gave a byte at least.
+/// All bytes of a reader, or none where it hasn't ended after the most reads, each of which gave a byte at least. No
+/// clause outside can say so: what a reader of any type fails by is open, so nothing tells its faults from giving up.
 fn read_to_end<R: Read>(alloc: Global, input: &mut R) -> Result<Option<Vec<u8>>, RunError>
     ensures bytes { IfOk result
         (λ found. IfSome found (λ all. IfSome (R.remaining input.old) (λ b. all.items ≡ b))) }
