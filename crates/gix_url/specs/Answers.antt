@@ -1,7 +1,7 @@
 -- What `lines::run` answers: a line for each line.
 use Rattle.std.specs.Prelude.{◌≡◌, ℕ, Bool, true, false, ◌&&◌, List, [], ◌∷◌, ◌++◌, All, flat_map, codes, Option, Some, None, Result, Ok, Err, IfSome}
 use Rattle.std.specs.Borrow.{Bor}
-use Rattle.std.specs.Io.KnownBytes.{Appends}
+use Rattle.std.specs.Io.KnownBytes.{Appends, IsAtEnd}
 use Rattle.gix_url.specs.declared.error.UrlFault.{UrlFault}
 use Rattle.gix_url.specs.declared.error.UrlFault.TheVariants as fault
 use Rattle.gix_url.specs.declared.error.WriteFault.{WriteFault}
@@ -64,21 +64,26 @@ IsRefusal _ = ⊥
 abbrev pub told_line : List ℕ → List ℕ → List ℕ
 told_line word of_what = word ++ (tab ∷ (of_what ++ newline ∷ []))
 
+-- what is told of a location, and whether it is settled
+pub data IsTold (v : Location) (answer : List ℕ) (good : Bool) : Type 0 where
+  -- a settled location: its text
+  settled : (t : List ℕ) → text v ≡ Ok t → IsSettled v → answer ≡ told_line (codes "settled") t
+      → good ≡ true → IsTold v answer good
+  -- another that has a text: its scheme
+  unsettled : (t : List ℕ) → text v ≡ Ok t → ¬ IsSettled v
+      → answer ≡ told_line (codes "unsettled") (protocol_text v.scheme) → good ≡ false
+      → IsTold v answer good
+  -- a location without a text: its scheme
+  unwritable : (f : WriteFault) → text v ≡ Err f
+      → answer ≡ told_line (codes "unwritable") (protocol_text v.scheme) → good ≡ false
+      → IsTold v answer good
+
 -- the answer to a line, and whether the line is settled
 pub data IsAnswer (line answer : List ℕ) (good : Bool) : Type 0 where
-  -- a settled location: its text
-  settled : (v : Location) (t : List ℕ) → Spells line v → text v ≡ Ok t → IsSettled v
-      → answer ≡ told_line (codes "settled") t → good ≡ true → IsAnswer line answer good
-  -- another that has a text: its scheme
-  unsettled : (v : Location) (t : List ℕ) → Spells line v → text v ≡ Ok t → ¬ IsSettled v
-      → answer ≡ told_line (codes "unsettled") (protocol_text v.scheme) → good ≡ false
-      → IsAnswer line answer good
-  -- a location without a text: its scheme
-  unwritable : (v : Location) (f : WriteFault) → Spells line v → text v ≡ Err f
-      → answer ≡ told_line (codes "unwritable") (protocol_text v.scheme) → good ≡ false
-      → IsAnswer line answer good
-  -- a text that spells no location: an error whose flaw stands in it
-  refused : (e : Error) → IsRefusal e → ((v : Location) → ¬ Spells line v) → Flaw line e
+  -- what is told of the one location that it spells
+  told : (v : Location) → Spells line v → IsTold v answer good → IsAnswer line answer good
+  -- an error whose flaw stands in it, so that it spells none (`Exclusive`)
+  refused : (e : Error) → IsRefusal e → Flaw line e
       → answer ≡ told_line (codes "refused") (refusal e) → good ≡ false → IsAnswer line answer good
 
 -- the answers to lines, in order, and whether each line is settled
@@ -102,28 +107,45 @@ Ran contents input old new (Err run.Memory) = new ≡ old
 Ran contents input old new (Err (run.Read e)) = new ≡ old
 Ran contents input old new (Err (run.Write e)) = Unit {0}
 
--- the call appended the answer to the line, and told whether it is settled
+-- what a run left of its input: nothing on `Ok`, and nothing where the writer failed
+abbrev pub RanToEnd : Option (List ℕ) → Result Bool RunError → Type 0
+RanToEnd rest (Ok good) = IsAtEnd rest
+RanToEnd rest (Err run.Memory) = Unit {0}
+RanToEnd rest (Err (run.Read e)) = Unit {0}
+RanToEnd rest (Err (run.Write e)) = IsAtEnd rest
+
+-- memory or the reader failed, and not the writer
+abbrev pub IsBeforeWriting : RunError → Type 0
+IsBeforeWriting run.Memory = Unit {0}
+IsBeforeWriting (run.Read e) = Unit {0}
+IsBeforeWriting (run.Write e) = ⊥
+
+-- the call appended the answer to the line, and told whether it is settled, or memory was wanting
 abbrev pub AppendsAnswer : List ℕ → List ℕ → List ℕ → Result Bool RunError → Type 0
 AppendsAnswer line old new (Ok good) = (answer : List ℕ) × IsAnswer line answer good
     × (new ≡ old ++ answer)
-AppendsAnswer line old new (Err fault) = Unit {0}
+AppendsAnswer line old new (Err fault) = fault ≡ run.Memory
 
--- the call appended the answer to a line that spells this location, and told whether it is settled
+-- the call appended what is told of the location, and told whether it is settled, or memory was wanting
 abbrev pub Tells : Location → List ℕ → List ℕ → Result Bool RunError → Type 0
-Tells v old new (Ok good) = (answer : List ℕ)
-    × ((line : List ℕ) → Spells line v → IsAnswer line answer good) × (new ≡ old ++ answer)
-Tells v old new (Err fault) = Unit {0}
+Tells v old new (Ok good) = (answer : List ℕ) × IsTold v answer good × (new ≡ old ++ answer)
+Tells v old new (Err fault) = fault ≡ run.Memory
 
--- the word for an error, if it is a refusal
+-- the word for an error: none only where it refuses no text
 abbrev pub NamesRefusal : Error → Option (Bor (List ℕ)) → Type 0
-NamesRefusal e None = Unit {0}
+NamesRefusal e None = ¬ IsRefusal e
 NamesRefusal e (Some name) = IsRefusal e × (name.now ≡ refusal e)
 
--- the call appended the answer to a line that is refused with this error
+-- the call appended the answer to a line that is refused with this error, or memory was wanting
 abbrev pub TellsRefusal : Error → List ℕ → List ℕ → Result Bool RunError → Type 0
 TellsRefusal e old new (Ok good) = IsRefusal e × (good ≡ false)
     × (new ≡ old ++ told_line (codes "refused") (refusal e))
-TellsRefusal e old new (Err fault) = Unit {0}
+TellsRefusal e old new (Err fault) = fault ≡ run.Memory
+
+-- the call appended these bytes, or memory was wanting
+abbrev pub Puts : List ℕ → List ℕ → List ℕ → Result (Unit {0}) RunError → Type 0
+Puts bytes old new (Ok u) = new ≡ old ++ bytes
+Puts bytes old new (Err fault) = fault ≡ run.Memory
 
 -- what the program says of a fault
 abbrev pub fault_text : RunError → List ℕ

@@ -34,6 +34,7 @@ pub mod Order
 -- The laws.
 pub mod Laws
 pub mod Refusals
+pub mod AnswerLaws
 pub mod ComponentLaws
 pub mod HomeLaws
 pub mod OrderLaws

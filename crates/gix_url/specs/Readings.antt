@@ -65,11 +65,6 @@ Written contents old new (Ok t) (Err (Fault f)) = ⊥
 Written contents old new (Ok t) (Err (Io e)) = Unit {0}
 Written contents old new (Err f) r = (r ≡ Err (Fault f)) × (new ≡ old)
 
--- the error is the writer's
-abbrev pub IsIo : WriteError → Type 0
-IsIo (Fault f) = ⊥
-IsIo (Io e) = Unit {0}
-
 -- the error of a text that was asked for: memory ran out, or it is the fault of a location without text
 abbrev pub IsUnwritten : Result (List ℕ) WriteFault → Error → Type 0
 IsUnwritten r error.Memory = Unit {0}

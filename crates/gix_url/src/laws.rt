@@ -2,10 +2,11 @@
 //!
 //! The functions have no code and answer nothing: the contract of each is its laws. (`law_value` looks at the fields of
 //! a location, and changes nothing.) Those that are named here from other modules stand beside what they are laws of.
-//! Users rely on them together with the contracts of `parse`, of the writer and of the settled test, which name the same
-//! definitions.
+//! Users rely on them together with the contracts of `parse`, of the writer, of the settled test and of `lines`, which
+//! name the same definitions.
 
 ghost use Rattle.std.specs.Cmp.{IsTotalOrder};
+ghost use Rattle.gix_url.specs.AnswerLaws.{LineForLine, OneLine};
 ghost use Rattle.gix_url.specs.ComponentLaws.{EqualComponents, OneComponents};
 ghost use Rattle.gix_url.specs.Git.{OneReading};
 ghost use Rattle.gix_url.specs.GitClass.{ReadAlike};
@@ -150,6 +151,18 @@ pub fn law_refusals()
     ensures exclusive { Exclusive }
     ensures flawless { Flawless }
     ensures decided { Decided }
+{}
+
+/// A line is answered by a line.
+///
+/// - `one_line`: the answer to a line without byte 10 is one text without it, and byte 10. A settled location's text
+///   holds none, though its path or its user may: where it is written raw it stood in the line, and else it is escaped
+///   or the location isn't settled.
+/// - `line_for_line`: so what [`run`](crate::lines::run) writes splits at byte 10 into as many lines as its input does,
+///   each the answer to the one at its place. Who pairs them takes no answer for that to another line.
+pub fn law_lines()
+    ensures one_line { OneLine }
+    ensures line_for_line { LineForLine }
 {}
 
 /// What the path of a location is made of is determined, and equality tells it apart.

@@ -1,11 +1,12 @@
 //! The program's work: reads locations, a line each, and answers a line for each.
 //!
 //! It uses `parse`, the settled test and the writer. Its contract: all of the input is answered, line by line, as
-//! the definitions have it; nothing is written before the whole answer stands.
+//! the definitions have it; nothing is written before the whole answer stands, and until then nothing but memory and
+//! the reader can fail.
 
-ghost use Rattle.std.specs.Prelude.{◌≡◌, ℕ, ◌≤◌, ◌^◌, ◌++◌, List, None, Ok, codes, length, IfOk, IfSome, OnOk};
+ghost use Rattle.std.specs.Prelude.{◌≡◌, ℕ, ◌≤◌, ◌^◌, ◌++◌, List, None, Ok, codes, length, IfErr, IfOk, IfSome, OnOk};
 ghost use Rattle.std.specs.Io.KnownBytes.{IsAtEnd};
-ghost use Rattle.gix_url.specs.Answers.{Answers, AppendsAnswer, NamesRefusal, Ran, Tells, TellsRefusal, fault_name, fault_text, status_of, told_line};
+ghost use Rattle.gix_url.specs.Answers.{Answers, AppendsAnswer, IsBeforeWriting, NamesRefusal, Puts, Ran, RanToEnd, Tells, TellsRefusal, fault_name, fault_text, status_of, told_line};
 ghost use Rattle.gix_url.specs.Pieces.{pieces_text};
 ghost use Rattle.gix_url.specs.Schemes.{protocol_text};
 ghost use Rattle.gix_url.specs.Text.{text};
@@ -31,7 +32,7 @@ pub enum RunError {
     /// The input can't be read to its end. Nothing was written.
     #[error("cannot read: {0}")]
     Read(io::Error),
-    /// The answer can't be written. Nothing is said of how much of it went out.
+    /// The answer can't be written. All of the input was read; nothing is said of how much of the answer went out.
     #[error("cannot write: {0}")]
     Write(io::Error),
 }
@@ -87,7 +88,7 @@ pub fn status(outcome: &Result<bool, RunError>) -> u8
 ///
 /// The answer is `settled`, a tab and the location's text, where it is settled; `unsettled` or `unwritable`, a tab
 /// and its scheme, where it has a text or none; `refused`, a tab and the error's name, where the line is no
-/// location.
+/// location. Each answer is one line, whatever the location holds: [`law_lines`](crate::laws::law_lines).
 ///
 /// `Ok(true)` says that every line was settled. The errors are those of [`RunError`]; a reader that hasn't ended
 /// after 2^40 calls is answered `Read`. The whole answer is built in memory before it is written.
@@ -107,7 +108,7 @@ pub fn run<R: Read, W: Write>(
     output: &mut W,
 ) -> Result<bool, RunError>
     ensures answered { Ran W.contents (R.remaining input.old) output.old output.new result }
-    ensures read_to_end { OnOk result (IsAtEnd (R.remaining input.new)) }
+    ensures read_to_end { RanToEnd (R.remaining input.new) result }
 {
     let text = read_all(alloc, input)?;
     let (answer, all) = answers(alloc, text.as_slice())?;
@@ -121,6 +122,7 @@ pub fn run<R: Read, W: Write>(
 fn read_all<R: Read>(alloc: Global, input: &mut R) -> Result<Vec<u8>, RunError>
     ensures bytes { IfOk result (λ all. IfSome (R.remaining input.old) (λ b. all.items ≡ b)) }
     ensures end { OnOk result (IsAtEnd (R.remaining input.new)) }
+    ensures fault { IfErr result IsBeforeWriting }
 {
     match read_to_end(alloc, input)? {
         Some(all) => Ok(all),
@@ -128,13 +130,15 @@ fn read_all<R: Read>(alloc: Global, input: &mut R) -> Result<Vec<u8>, RunError>
     }
 }
 
-/// All bytes of a reader, or none where it hasn't ended after the most reads, each of which gave a byte at least.
+/// All bytes of a reader, or none where it hasn't ended after the most reads, each of which gave a byte at least. No
+/// clause outside can say so: what a reader of any type fails by is open, so nothing tells its faults from giving up.
 fn read_to_end<R: Read>(alloc: Global, input: &mut R) -> Result<Option<Vec<u8>>, RunError>
     ensures bytes { IfOk result
         (λ found. IfSome found (λ all. IfSome (R.remaining input.old) (λ b. all.items ≡ b))) }
     ensures end { IfOk result (λ found. IfSome found (λ _. IsAtEnd (R.remaining input.new))) }
     ensures given_up { IfOk result
         (λ found. found ≡ None → IfSome (R.remaining input.old) (λ b. 2 ^ 40 ≤ length b)) }
+    ensures fault { IfErr result IsBeforeWriting }
 {
     let mut all = Vec::new(alloc);
     let mut buffer = [0u8; 4096];
@@ -150,7 +154,8 @@ fn read_to_end<R: Read>(alloc: Global, input: &mut R) -> Result<Option<Vec<u8>>,
 
 /// The answers to all lines of a text, and whether each line is settled.
 fn answers(alloc: Global, text: &[u8]) -> Result<(Vec<u8>, bool), RunError>
-    ensures { IfOk result (λ found. Answers text.now found.0.items found.1) }
+    ensures answered { IfOk result (λ found. Answers text.now found.0.items found.1) }
+    ensures memory { IfErr result (λ fault. fault ≡ RunError.Memory) }
 {
     let mut out = Vec::new(alloc);
     let mut all = true;
@@ -177,7 +182,7 @@ fn answer(alloc: Global, line: &[u8], out: &mut Vec<u8>) -> Result<bool, RunErro
     }
 }
 
-/// Appends the answer for a location that a line spells, and says whether it is settled. Its text is laid out once.
+/// Appends what is told of a location, and says whether it is settled. Its text is laid out once.
 fn tell(url: &Url, out: &mut Vec<u8>) -> Result<bool, RunError>
     ensures { Tells url.now out.old.items out.new.items result }
 {
@@ -248,15 +253,15 @@ fn bad_url_name(fault: UrlFault) -> &'static str
 
 /// Appends the line of a location that isn't settled: a word and the scheme.
 fn put_scheme(out: &mut Vec<u8>, word: &str, url: &Url) -> Result<(), RunError>
-    ensures { OnOk result
-        (out.new.items ≡ out.old.items ++ told_line word.now (protocol_text url.now.scheme)) }
+    ensures { Puts (told_line word.now (protocol_text url.now.scheme)) out.old.items out.new.items
+        result }
 {
     put_line(out, word, url.scheme.as_str().as_bytes())
 }
 
 /// Appends a line: a word, a tab, and what it is said of.
 fn put_line(out: &mut Vec<u8>, word: &str, of_what: &[u8]) -> Result<(), RunError>
-    ensures { OnOk result (out.new.items ≡ out.old.items ++ told_line word.now of_what.now) }
+    ensures { Puts (told_line word.now of_what.now) out.old.items out.new.items result }
 {
     out.extend_from_slice(word.as_bytes())?;
     out.extend_from_slice(b"\t")?;
@@ -267,8 +272,8 @@ fn put_line(out: &mut Vec<u8>, word: &str, of_what: &[u8]) -> Result<(), RunErro
 
 /// Appends the line of a settled location: the text that its pieces make up.
 fn put_text(out: &mut Vec<u8>, pieces: &Pieces<'_>) -> Result<(), RunError>
-    ensures { OnOk result
-        (out.new.items ≡ out.old.items ++ told_line (codes "settled") (pieces_text pieces.now)) }
+    ensures { Puts (told_line (codes "settled") (pieces_text pieces.now)) out.old.items
+        out.new.items result }
 {
     out.extend_from_slice(b"settled\t")?;
     match pieces.put::<Vec<u8>, Output>(out) {

@@ -1,10 +1,8 @@
 -- The pieces of a written text without escapes and brackets: user, host, port and path stand in it as they are.
-use Rattle.std.proofs.Common.{◌≡◌, ◌∙◌, ⊎_elim, ℕ, ◌<◌, Bool, true, false, not, ◌⊎◌, inl, inr, List, [], ◌∷◌, ◌++◌, decimal, Option, Some, None, IfSome, IsUtf8, ◌==◌, refl, sym, ap, subst, arith}
+use Rattle.std.proofs.Common.{◌≡◌, ◌∙◌, ⊎_elim, ℕ, ◌<◌, Bool, true, false, not, ◌⊎◌, inl, inr, List, [], ◌∷◌, ◌++◌, decimal, Option, Some, None, IfSome, ◌==◌, refl, sym, ap, subst, arith}
 use Rattle.std.specs.Prelude.{◌&&◌}
-use Rattle.std.specs.List.{list_any}
-use Rattle.std.specs.Char.{is_ascii_digit, is_whitespace}
+use Rattle.std.specs.Char.{is_ascii_digit}
 use Rattle.std.proofs.lemmas.Bool.{cases_Bool, cond-true, cond-false, and_right, and_from, false≢true, true≢false, both_ways, not_from_true}
-use Rattle.std.proofs.lemmas.Str.{chars-IsAscii}
 use Rattle.percent_encoding.specs.AsciiSet.{contains, should_percent_encode}
 use Rattle.percent_encoding.specs.declared.ascii_set.AsciiSet.{AsciiSet}
 use Rattle.percent_encoding.specs.Percent.{percent_encode, percent_encode_byte, percent_decode}
@@ -12,7 +10,7 @@ use Rattle.percent_encoding.proofs.PercentLemmas.{percent_encode-nil, percent_en
 use Rattle.gix_url.specs.declared.escape.TheConstants.{PASSWORD, USER}
 use Rattle.gix_url.specs.Value.{Protocol, Location}
 use Rattle.gix_url.specs.Value.Protocol.{ssh, git}
-use Rattle.gix_url.specs.Bytes.{newline, percent_sign, slash, colon, at_sign, left_bracket, tilde, FreeOf, begins_with, LacksWhiteSpace}
+use Rattle.gix_url.specs.Bytes.{newline, percent_sign, slash, colon, at_sign, left_bracket, tilde, FreeOf, begins_with}
 use Rattle.gix_url.specs.Escapes.{has_percent}
 use Rattle.gix_url.specs.AddressTest.{is_ipv6_text}
 use Rattle.gix_url.specs.Schemes.{requires_path}
@@ -21,8 +19,8 @@ use Rattle.gix_url.specs.Settled.{HasMatch, IsTransportPath, begins_at_home}
 use Rattle.gix_url.specs.SettledParts.{HasFairSpelling}
 use Rattle.gix_url.specs.Git.{from_tilde}
 use Rattle.gix_url.specs.GitClass.{is_tilde_second}
-use Rattle.gix_url.proofs.Texts.CutLemmas.{free_parts, free_head_tail, free-append, free-cons, free_of_all, free_begins, free_or_cut, begins_cut}
-use Rattle.gix_url.proofs.Texts.EscapeLemmas.{ascii_byte, encode_free, utf8_byte, utf8_seam, white_space_parts}
+use Rattle.gix_url.proofs.Texts.CutLemmas.{free_parts, free_head_tail, free-append, free-cons, free_of_all, free_begins, begins_cut}
+use Rattle.gix_url.proofs.Texts.EscapeLemmas.{encode_free}
 use Rattle.gix_url.proofs.Texts.EscapeSets.{password_holds, user_holds}
 use Rattle.gix_url.proofs.Readings.HostLemmas.{decimal_digits}
 use Rattle.gix_url.proofs.Written.PieceTextLemmas.{user_no_colon}
@@ -205,15 +203,3 @@ path_raw v transport fair path free =
     let facts = plain_paths v transport in
     let same = unmatched v.spelling v.path (plain_path v.scheme v.path) (no_match v fair free) ∙ facts.plain v.path in
     path_raw_by v facts.roots same path
-
--- a text without white space holds no line's end
-pub no_line : (path : List ℕ) → IsUtf8 path → LacksWhiteSpace path → FreeOf newline path
-no_line path is_text lacks =
-    elim (free_or_cut newline path) [
-      | inl free ↦ free
-      | inr (x, y, first, e) ↦
-          let parts = utf8_seam x y newline (subst (λ t. IsUtf8 t) e is_text) (omega arith) in
-          let behind = (white_space_parts x (newline ∷ y) parts.0 (subst (λ t. LacksWhiteSpace t) e lacks)).1 in
-          let byte = (white_space_parts (newline ∷ []) y (utf8_byte newline (omega arith)) behind).0 in
-          absurd (false≢true (sym (ap (list_any is_whitespace) (sym (chars-IsAscii (newline ∷ []) (ascii_byte newline (omega arith)))) ∙ byte)))
-    ]

@@ -1,5 +1,5 @@
 -- Escaped texts: where they are sound, how they decode in parts, and how they are UTF-8 in parts.
-use Rattle.std.proofs.Common.{◌≡◌, ◌∙◌, ◌↔◌, ◌<◌, ◌≤◌, ◌+◌, ℕ, zero, suc, Bool, true, false, not, ◌&&◌, ◌||◌, ◌==◌, List, [], ◌∷◌, ◌++◌, Option, Some, None, length, take, drop, ◌*◌, ◌/◌, ◌%◌, nat_lt, cond, All, IsAscii, get_or, arith, refl, sym, ap, subst, ⊎_elim}
+use Rattle.std.proofs.Common.{◌≡◌, ◌∙◌, ◌↔◌, ◌<◌, ◌≤◌, ◌+◌, ℕ, zero, suc, Bool, true, false, not, ◌&&◌, ◌||◌, ◌==◌, List, [], ◌∷◌, ◌++◌, Option, Some, None, length, take, drop, ◌*◌, ◌/◌, ◌%◌, nat_lt, cond, All, IsAscii, get_or, arith, refl, sym, ap, subst, ⊎_elim, inl, inr}
 use Rattle.std.specs.Char.{is_digit, digit_value, is_whitespace, encode_utf8}
 use Rattle.std.specs.Option.{MatchOption, is_some}
 use Rattle.std.specs.Str.{IsUtf8, encode_utf8_all, chars}
@@ -22,9 +22,9 @@ use Rattle.percent_encoding.specs.AsciiSet.{contains, should_percent_encode}
 use Rattle.percent_encoding.proofs.AsciiSetLemmas.{ascii_from_kept, outside_from_kept, kept_from_outside}
 use Rattle.percent_encoding.specs.Percent.{percent_decode, percent_encode, percent_encode_byte}
 use Rattle.percent_encoding.proofs.PercentLemmas.{IsEscapeByte, All-percent_encode, All-percent_encode_byte, percent_encode_nonempty, IsAscii-percent_encode, percent_encode-nil, percent_encode-append, percent_encode_escaped, percent_encode_kept, round_trip, percent_decode-nil, percent_decode_not_percent, percent_decode_escape, length-percent_decode}
-use Rattle.gix_url.specs.Bytes.{percent_sign, Lacks, FreeOf, LacksWhiteSpace}
+use Rattle.gix_url.specs.Bytes.{newline, percent_sign, Lacks, FreeOf, LacksWhiteSpace}
 use Rattle.gix_url.specs.Escapes.{is_sound, begins_with_digits, escaped_percents}
-use Rattle.gix_url.proofs.Texts.CutLemmas.{heads}
+use Rattle.gix_url.proofs.Texts.CutLemmas.{free_or_cut, heads}
 
 -- ---- walks over a decoding
 
@@ -428,6 +428,18 @@ white_space_ascii t ascii lacks = ap (list_any is_whitespace) (chars-IsAscii t a
 -- an ASCII byte that is no white space
 pub white_space_byte : (c : ℕ) → c < 128 → is_whitespace c ≡ false → LacksWhiteSpace (c ∷ [])
 white_space_byte c ascii other = white_space_ascii (c ∷ []) (ascii_byte c ascii) (or_from _ _ other refl)
+
+-- a text without white space holds no line's end
+pub no_line : (t : List ℕ) → IsUtf8 t → LacksWhiteSpace t → FreeOf newline t
+no_line t utf8 lacks =
+    elim (free_or_cut newline t) [
+      | inl free ↦ free
+      | inr (x, y, first, e) ↦
+          let parts = utf8_seam x y newline (subst IsUtf8 e utf8) (omega arith) in
+          let behind = (white_space_parts x (newline ∷ y) parts.0 (subst (λ s. LacksWhiteSpace s) e lacks)).1 in
+          let byte = (white_space_parts (newline ∷ []) y (utf8_byte newline (omega arith)) behind).0 in
+          absurd (false≢true (sym (ap (list_any is_whitespace) (sym (chars-IsAscii (newline ∷ []) (ascii_byte newline (omega arith)))) ∙ byte)))
+    ]
 
 -- ---- bytes and characters
 

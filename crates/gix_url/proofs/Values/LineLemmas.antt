@@ -5,13 +5,11 @@ use Rattle.std.proofs.lemmas.List.Elements.{All-append, All-cons, All-nil}
 use Rattle.gix_url.specs.Value.{Location}
 use Rattle.gix_url.specs.Bytes.{newline, FreeOf}
 use Rattle.gix_url.specs.declared.error.Error.{Error}
-use Rattle.gix_url.specs.declared.error.Error.TheVariants as error
 use Rattle.gix_url.specs.declared.lines.RunError.{RunError}
 use Rattle.gix_url.specs.Grammar.{Spells}
 use Rattle.gix_url.specs.Flaws.{Flaw}
-use Rattle.gix_url.specs.Readings.{Refuses}
 use Rattle.gix_url.specs.Answers.{ended_lines, IsAnswer, AnswersEach, Answers, AppendsAnswer, Tells, TellsRefusal}
-use Rattle.gix_url.specs.Answers.IsAnswer.{refused}
+use Rattle.gix_url.specs.Answers.IsAnswer.{told, refused}
 
 -- "and" doesn't mind the order
 and_turns : (a b : Bool) → (a && b) ≡ (b && a)
@@ -100,22 +98,12 @@ done_last whole (b ∷ bs) out new good first done free filled (answer, one, joi
       answers_push done.lines out good (b ∷ bs) answer first done.answered one,
     )
 
--- what is told of a location is the answer to each line that spells it
+-- what is told of a location is the answer to a line that spells it
 pub told_answer : (read line old new : List ℕ) (v : Location) (r : Result Bool RunError) → read ≡ line → Spells read v → Tells v old new r → AppendsAnswer line old new r
-told_answer read line old new v (Ok good) same spelled (answer, each, joined) = (answer, each line (subst (λ b. Spells b v) same spelled), joined)
-told_answer read line old new v (Err fault) same spelled told = told
+told_answer read line old new v (Ok good) same spelled (answer, is, joined) = (answer, told v (subst (λ b. Spells b v) same spelled) is, joined)
+told_answer read line old new v (Err fault) same spelled memory = memory
 
 -- what is told of a refusal is the answer to a line that is refused so
-pub refused_answer : (read line old new : List ℕ) (e : Error) (r : Result Bool RunError) → read ≡ line → Refuses read e → Flaw read e → TellsRefusal e old new r → AppendsAnswer line old new r
-refused_answer read line old new e r same none flaw told =
-    refusal_told line old new e r (subst (λ b. Refuses b e) same none) (subst (λ b. Flaw b e) same flaw) told
-  where
-    refusal_told : (line old new : List ℕ) (e : Error) (r : Result Bool RunError) → Refuses line e → Flaw line e → TellsRefusal e old new r → AppendsAnswer line old new r
-    refusal_told line old new e (Err fault) none flaw told = told
-    refusal_told line old new error.Memory (Ok good) none flaw told = absurd told.0
-    refusal_told line old new error.EmptyLocal (Ok good) none flaw told = (_, refused error.EmptyLocal tt none flaw refl told.1, told.2)
-    refusal_told line old new (error.MissingPath kind input) (Ok good) none flaw told = (_, refused (error.MissingPath kind input) tt none flaw refl told.1, told.2)
-    refusal_told line old new (error.NotUtf8 kind input) (Ok good) none flaw told = (_, refused (error.NotUtf8 kind input) tt none flaw refl told.1, told.2)
-    refusal_told line old new (error.TooLong shown total) (Ok good) none flaw told = (_, refused (error.TooLong shown total) tt none flaw refl told.1, told.2)
-    refusal_told line old new (error.BadUrl kind named input) (Ok good) none flaw told = (_, refused (error.BadUrl kind named input) tt none flaw refl told.1, told.2)
-    refusal_told line old new _ (Ok good) none flaw told = absurd told.0
+pub refused_answer : (read line old new : List ℕ) (e : Error) (r : Result Bool RunError) → read ≡ line → Flaw read e → TellsRefusal e old new r → AppendsAnswer line old new r
+refused_answer read line old new e (Ok good) same flaw (is, bad, joined) = (_, refused e is (subst (λ b. Flaw b e) same flaw) refl bad, joined)
+refused_answer read line old new e (Err fault) same flaw memory = memory

@@ -5,8 +5,8 @@ use Rattle.gix_url.proofs.lines.answers.Goals as goal
 pub loop-line-preserved : goal.loop-line-preserved
 loop-line-preserved c = done_step c.args.text.now _ _ _ _ _ _ _ c.loop-line.invariant c.in-Some.ensures c.in_ok-settled.ensures
 
-pub returns-then-is_empty : goal.returns-then-is_empty
-returns-then-is_empty c = done_all c.args.text.now _ _ _ c.loop-line.invariant c.in_default.ensures (sym c.is_empty.ensures ∙ c.if-is_empty.true)
+pub returns-then-is_empty-clause-answered : goal.returns-then-is_empty-clause-answered
+returns-then-is_empty-clause-answered c = done_all c.args.text.now _ _ _ c.loop-line.invariant c.in_default.ensures (sym c.is_empty.ensures ∙ c.if-is_empty.true)
 
-pub returns : goal.returns
-returns c = done_last c.args.text.now _ _ _ _ _ c.loop-line.invariant c.in_default.ensures (sym c.is_empty.ensures ∙ c.if-is_empty.false) c.in_ok-settled-2.ensures
+pub returns-clause-answered : goal.returns-clause-answered
+returns-clause-answered c = done_last c.args.text.now _ _ _ _ _ c.loop-line.invariant c.in_default.ensures (sym c.is_empty.ensures ∙ c.if-is_empty.false) c.in_ok-settled-2.ensures
