@@ -1,4 +1,4 @@
-//! What a log holds: no password of a location, and no byte of a text that was refused.
+//! What a log holds: not the field `password` of a location, and no byte of a text that was refused.
 
 use bstr::{BStr, BString};
 use gix_url::expand_path::ForUser;
@@ -142,7 +142,7 @@ fn is_logged(rt: &impl Abort, alloc: Global, error: &Error, shown: &str) -> Resu
     Ok(())
 }
 
-/// Checks that a log of an error, on many lines, holds no password.
+/// Checks that a log of an error, on many lines, holds nothing of the password in the text.
 fn keeps_silent(rt: &impl Abort, alloc: Global, error: &Error) -> Result<(), Fail> {
     let logged = format!(in alloc; "{error:#?}")?;
     assert!(rt; !logged.contains("secret"), "the text in {logged}");

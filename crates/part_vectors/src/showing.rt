@@ -1,4 +1,4 @@
-//! What people are shown of a location: never its password, however they ask and wherever their formatter fails.
+//! What people are shown of a location: never its field `password`, however they ask and wherever their formatter fails.
 
 use gix_url::Url;
 use std::alloc::Global;

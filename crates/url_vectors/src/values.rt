@@ -48,13 +48,17 @@ fn a_spelling_counts_while_it_stands_for_the_path(rt: HostRuntime) -> Result<(),
     Ok(())
 }
 
-/// Texts, and how what they are read as is shown: a password is never.
-static SHOWN: [(&str, &str); 6] = [
+/// Texts, and how what they are read as is shown: the field `password` is never, and a secret in another place is.
+static SHOWN: [(&str, &str); 10] = [
     ("ssh://u:secret@h/p", "ssh://u:redacted@h/p"),
     ("ssh://u:redacted@h/p", "ssh://u:redacted@h/p"),
     ("http://:x@h/", "http://:redacted@h/"),
     ("http://u@h/a<b", "http://u@h/a%3Cb"),
     ("a::u:secret@h", "a::u:secret@h"),
+    ("u:secret@h:p", "u:secret@h:p"),
+    ("file://u:secret@h/p", "file://u:secret@h/p"),
+    ("https://h/?token=secret", "https://h/?token=secret"),
+    ("https://token@h/p", "https://token@h/p"),
     ("ssh+git:///p", "ssh:///p"),
 ];
 
