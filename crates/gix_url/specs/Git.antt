@@ -183,7 +183,7 @@ pub record ReachesSecure (place path : List ℕ) (reading : GitReading) : Type 0
     path = path;
   }
 
--- what Git's own protocol reaches: it has no user, and lines end its words
+-- what Git's own protocol reaches: it has no user, and neither its place nor its path holds the end of a line
 pub record ReachesGit (place path : List ℕ) (reading : GitReading) : Type 0 where
   pub host : List ℕ
   pub port : Option ℕ
@@ -248,6 +248,6 @@ pub record GitReads (t : List ℕ) (reading : GitReading) : Type 0 where
   pub reads : ReadsGiven t reading
 
 -- Git reads one thing in a text
-abbrev pub OneReading : Type 0
-OneReading = (t : List ℕ) (reading other : GitReading) → GitReads t reading → GitReads t other
+abbrev pub OneGitReading : Type 0
+OneGitReading = (t : List ℕ) (reading other : GitReading) → GitReads t reading → GitReads t other
     → reading ≡ other

@@ -28,7 +28,8 @@ is_tilde_second [] = false
 is_tilde_second (a ∷ []) = false
 is_tilde_second (a ∷ b ∷ rest) = b == tilde
 
--- the text of the location begins with `rsync:`, which Git refuses
+-- the scp form with the host `rsync` alone: the text of such a location of Secure Shell begins with `rsync:`, which Git
+-- refuses
 pub record IsRsync (v : Location) : Type 0 where
   pub scp : v.flag ≡ true
   pub no_user : v.user ≡ None

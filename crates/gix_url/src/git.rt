@@ -29,7 +29,9 @@ impl Url {
     /// reads is a definition, `GitReads`, which was measured with git 2.39.5 on Linux; `docs/GIT.md` has the cases.
     ///
     /// The answer is no for what Git hands to a remote helper, HTTP among it, and for what comes from an unsettled
-    /// location. It is no for some texts that Git reads alike: with an address in brackets, or with an escape.
+    /// location. It is no for some texts that Git reads alike, too: with `%` or brackets, those of an address among them;
+    /// with a host that begins with `-`, of `git://` or behind a user (`u@-h:p`); and with a `~` behind the one that Git
+    /// lets begin the path (`ssh://h/~~a`).
     ///
     /// ```
     /// /// The text for Git, if Git reads the same place in it.
@@ -94,7 +96,7 @@ fn is_tilde_second(text: &[u8]) -> bool
     }
 }
 
-/// Whether the text of the location begins with `rsync:`.
+/// Whether the location has the scp form and the host `rsync` alone. Of Secure Shell such a text begins with `rsync:`.
 fn is_rsync(url: &Url) -> bool
     ensures { IsTrue result ↔ IsRsync url.now }
 {
