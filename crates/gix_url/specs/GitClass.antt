@@ -35,9 +35,9 @@ pub record IsRsync (v : Location) : Type 0 where
   pub no_user : v.user ≡ None
   pub host : v.host ≡ Some (codes "rsync")
 
--- what Git's own transports ask besides: Secure Shell's path, no user for `git://`, no host for a file
+-- what Git's own transports ask besides: a path and a user of Secure Shell, no user for `git://`, no host for a file
 abbrev pub SuitsTransport : Protocol → Location → Type 0
-SuitsTransport ssh v = (is_tilde_second v.path ≡ false) × ¬ IsRsync v
+SuitsTransport ssh v = (is_tilde_second v.path ≡ false) × (¬ IsRsync v) × ¬ (v.user ≡ Some [])
 SuitsTransport git v = v.user ≡ None
 SuitsTransport file v = v.host ≡ None
 SuitsTransport _ v = ⊥

@@ -1,5 +1,6 @@
 -- Rows: what Git reads in texts that are written out, as git 2.39.5 told it (`git fetch-pack --diag-url`, `git ls-remote`);
--- of the end of a line in `git://`, where that transport is allowed. A text with byte 0 can't be given to a command.
+-- of the end of a line in `git://`, where that transport is allowed. OpenSSH told that it refuses the word `@h` (`ssh -G`).
+-- A text with byte 0 can't be given to a command.
 use Rattle.std.specs.Prelude.{ℕ, List, ◌∷◌, ◌++◌, codes, Option, Some, None}
 use Rattle.gix_url.specs.Value.Protocol.{git, ssh}
 use Rattle.gix_url.specs.Bytes.{tab}
@@ -48,6 +49,7 @@ NoGitRows =
     × ((reading : GitReading) → ¬ GitReads (codes "-@[x]/p") reading)
     × ((reading : GitReading) → ¬ GitReads (codes "ssh://-h/p") reading)
     × ((reading : GitReading) → ¬ GitReads (codes "u@h:-p") reading)
+    × ((reading : GitReading) → ¬ GitReads (codes "@h:p") reading)
     × ((reading : GitReading) → ¬ GitReads (codes "rsync:p") reading)
     × ((reading : GitReading) → ¬ GitReads (codes "h::p") reading)
     × ((reading : GitReading) → ¬ GitReads (codes "::p") reading)

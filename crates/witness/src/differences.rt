@@ -15,7 +15,7 @@ use bstr::BStr;
 use gix_url::Url;
 use machine::MACHINE;
 use path::{PATH, SPELLING};
-use refused::REFUSED;
+use refused::{BY_GIT, HERE};
 use std::alloc::Global;
 use std::fmt::Write;
 use std::test::Fail;
@@ -92,8 +92,19 @@ fn another_spelling(rt: HostRuntime) -> Result<(), Fail> {
 }
 
 #[test]
-fn refused_by_one_side(rt: HostRuntime) -> Result<(), Fail> {
-    for (class, text, git, ours) in REFUSED {
+fn refused_by_git(rt: HostRuntime) -> Result<(), Fail> {
+    for (class, text, git, ours) in BY_GIT {
+        let told = told(rt.alloc(), text)?;
+        assert_eq!(rt; told.as_str(), ours, "{class}");
+        assert!(rt; told.as_str() != git, "{class}");
+        assert!(rt; !is_let_by(rt.alloc(), text)?, "{class}");
+    }
+    Ok(())
+}
+
+#[test]
+fn refused_here(rt: HostRuntime) -> Result<(), Fail> {
+    for (class, text, git, ours) in HERE {
         let told = told(rt.alloc(), text)?;
         assert_eq!(rt; told.as_str(), ours, "{class}");
         assert!(rt; told.as_str() != git, "{class}");

@@ -1,5 +1,5 @@
 -- Rows on what Git reads: by giving the cuts, and what it doesn't.
-use Rattle.std.proofs.Common.{◌≡◌, ◌∙◌, ◌==◌, ◌&&◌, ℕ, true, false, inl, inr, List, [], ◌∷◌, ◌++◌, Option, Some, None, codes, refl, sym, ap, subst, lit<}
+use Rattle.std.proofs.Common.{◌≡◌, ◌∙◌, ◌==◌, ◌&&◌, ℕ, true, false, inl, inr, List, [], ◌∷◌, ◌++◌, Option, Some, None, length, codes, refl, sym, ap, subst, arith, lit<}
 use Rattle.std.proofs.lemmas.Bool.{false≢true, true≢false}
 use Rattle.gix_url.specs.Value.{Protocol}
 use Rattle.gix_url.specs.Value.Protocol.{file, git, ssh}
@@ -9,7 +9,7 @@ use Rattle.gix_url.specs.Authority.{unless_empty}
 use Rattle.gix_url.specs.Arguments.{is_option_like}
 use Rattle.gix_url.specs.Git.{GitReading, on_this_machine, from_tilde, git_decode, host_mark, OpensHost, InBrackets, LacksHostBrackets, HostEnd, CutsPlace, BeforePort, HostAndPort, SecurePort, UserCut, ReachesSecure, OwnUrl, IsNoUrl, ReadsGiven, GitReads}
 use Rattle.gix_url.specs.GitRows.{by_ssh, by_git, GitUrlRows, GitTextRows, NoGitRows}
-use Rattle.gix_url.proofs.Texts.CutLemmas.{cut_unique, different_bytes, free-cons, held_free, not_free}
+use Rattle.gix_url.proofs.Texts.CutLemmas.{cut_unique, different_bytes, free-cons, held_free, last_cut_unique, not_free}
 use Rattle.gix_url.proofs.Examples.RowFormLemmas.{not_held, no_helper_at}
 use Rattle.gix_url.proofs.GitReadings.GitCutLemmas.{git_decode_kept, lacks_brackets, nothing_passed, place_cut, portless_free}
 use Rattle.gix_url.proofs.GitReadings.GitUniqueLemmas.{host_unique, is_own, own_free, own_unique, place_unique, remote_not_local, secure_unique}
@@ -73,7 +73,7 @@ enclosed place front inside behind dropped found h port = HostAndPort.brackets f
 password_row : GitReads (codes "ssh://u:p@h:22/p") (by_ssh (Some (codes "u:p")) (Some (codes "h:22")) None (codes "/p"))
 password_row =
     let place = codes "u:p@h:22" in
-    let word = reached place (codes "/p") place place (codes "h:22") None None (Some (codes "u:p")) (HostAndPort.none (lacks_brackets place refl) (BeforePort.unmarked (codes "u") (codes "p@h:22") refl refl (lit< tt) refl refl refl)) (SecurePort.unmarked (codes "u") (codes "p@h:22") refl refl refl refl refl refl) (UserCut.with_user (codes "u:p") refl refl refl) refl refl in
+    let word = reached place (codes "/p") place place (codes "h:22") None None (Some (codes "u:p")) (HostAndPort.none (lacks_brackets place refl) (BeforePort.unmarked (codes "u") (codes "p@h:22") refl refl (lit< tt) refl refl refl)) (SecurePort.unmarked (codes "u") (codes "p@h:22") refl refl refl refl refl refl) (UserCut.with_user (codes "u:p") (lit< tt) refl refl refl) refl refl in
     record { whole = refl; no_option = refl; reads = ReadsGiven.secure_url (codes "u:p@h:22/p") place (codes "p") (url ssh (codes "ssh") (codes "u:p@h:22/p") (codes "u:p@h:22/p") refl refl) (place_cut slash (codes "u:p@h:22/p") place (codes "p") refl refl refl) word }
 
 -- white space, a sign and zeros before a port
@@ -122,7 +122,7 @@ path_bracket_row =
     let place = codes "h/@[x]" in
     let opened = behind_at (codes "h/") (codes "x") (codes "/p") (not_held host_mark (codes "h/") refl) refl in
     let inner = behind_at (codes "h/") (codes "x") [] (not_held host_mark (codes "h/") refl) refl in
-    let word = reached place (codes "/p") (codes "h/@x") (codes "h/@x") (codes "x") None None (Some (codes "h/")) (enclosed place (codes "h/@") (codes "x") [] [] None inner (BeforePort.no_colon refl refl refl)) (SecurePort.no_colon refl refl refl refl) (UserCut.with_user (codes "h/") refl refl refl) refl refl in
+    let word = reached place (codes "/p") (codes "h/@x") (codes "h/@x") (codes "x") None None (Some (codes "h/")) (enclosed place (codes "h/@") (codes "x") [] [] None inner (BeforePort.no_colon refl refl refl)) (SecurePort.no_colon refl refl refl refl) (UserCut.with_user (codes "h/") (lit< tt) refl refl refl) refl refl in
     record { whole = refl; no_option = refl; reads = ReadsGiven.secure_url (codes "h/@[x]/p") place (codes "p") (url ssh (codes "ssh") (codes "h/@[x]/p") (codes "h/@[x]/p") refl refl) (bracket_cut slash (codes "h/@[x]/p") (codes "h/@") (codes "x") [] (codes "p") opened refl refl) word }
 
 -- a port in brackets
@@ -218,7 +218,7 @@ user_bracket_row : GitReads (codes "[u@h]:p") (by_ssh (Some (codes "u")) (Some (
 user_bracket_row =
     let place = codes "[u@h]" in
     let none = not_held host_mark (codes "[u@h]:p") refl in
-    let word = reached place (codes "p") (codes "u@h") (codes "u@h") (codes "h") None None (Some (codes "u")) (enclosed place [] (codes "u@h") [] [] None (at_front (codes "u@h") [] (not_held host_mark place refl) refl) (BeforePort.no_colon refl refl refl)) (SecurePort.no_colon refl refl refl refl) (UserCut.with_user (codes "u") refl refl refl) refl refl in
+    let word = reached place (codes "p") (codes "u@h") (codes "u@h") (codes "h") None None (Some (codes "u")) (enclosed place [] (codes "u@h") [] [] None (at_front (codes "u@h") [] (not_held host_mark place refl) refl) (BeforePort.no_colon refl refl refl)) (SecurePort.no_colon refl refl refl refl) (UserCut.with_user (codes "u") (lit< tt) refl refl refl) refl refl in
     record { whole = refl; no_option = refl; reads = ReadsGiven.scp_form place (codes "p") (no_url (codes "[u@h]:p") place (codes "p") refl refl (not_held (codes "://") (codes "[u@h]:p") refl) refl (λ e. cc) (λ e. different_bytes 91 114 refl e)) record { front = place; rest = codes "p"; joined = refl; no_slash = refl } (bracket_cut colon (codes "[u@h]:p") [] (codes "u@h") [] (codes "p") (at_front (codes "u@h") (codes ":p") none refl) refl refl) word }
 
 -- brackets behind a colon
@@ -226,7 +226,7 @@ behind_colon_row : GitReads (codes "u:p@[h]:q") (by_ssh (Some (codes "u:p")) (So
 behind_colon_row =
     let place = codes "u:p@[h]" in
     let none = not_held host_mark (codes "u:p") refl in
-    let word = reached place (codes "q") (codes "u:p@h") (codes "u:p@h") (codes "h") None None (Some (codes "u:p")) (enclosed place (codes "u:p@") (codes "h") [] [] None (behind_at (codes "u:p") (codes "h") [] none refl) (BeforePort.no_colon refl refl refl)) (SecurePort.unmarked (codes "u") (codes "p@h") refl refl refl refl refl refl) (UserCut.with_user (codes "u:p") refl refl refl) refl refl in
+    let word = reached place (codes "q") (codes "u:p@h") (codes "u:p@h") (codes "h") None None (Some (codes "u:p")) (enclosed place (codes "u:p@") (codes "h") [] [] None (behind_at (codes "u:p") (codes "h") [] none refl) (BeforePort.no_colon refl refl refl)) (SecurePort.unmarked (codes "u") (codes "p@h") refl refl refl refl refl refl) (UserCut.with_user (codes "u:p") (lit< tt) refl refl refl) refl refl in
     record { whole = refl; no_option = refl; reads = ReadsGiven.scp_form place (codes "q") (no_url (codes "u:p@[h]:q") (codes "u") (codes "p@[h]:q") refl refl (not_held (codes "://") (codes "u:p@[h]:q") refl) refl (λ e. cc) (λ e. different_bytes 117 114 refl e)) record { front = codes "u"; rest = codes "p@[h]:q"; joined = refl; no_slash = refl } (bracket_cut colon (codes "u:p@[h]:q") (codes "u:p@") (codes "h") [] (codes "q") (behind_at (codes "u:p") (codes "h") (codes ":q") none refl) refl refl) word }
 
 -- a byte before `~` is lost
@@ -307,18 +307,37 @@ dash_row r (ReadsGiven.scp_form place path n m c h) =
 dash_row r (ReadsGiven.local_path p path n l e some safe is) =
     remote_not_local (codes "u@h:-p") record { front = codes "u@h"; rest = codes "-p"; joined = refl; no_slash = refl } l
 
--- a word that begins with `-`
-dash_word : (reading : GitReading) (place path : List ℕ) → (place ≡ codes "-h") × (path ≡ codes "p") → ReachesSecure place (from_tilde (slash ∷ path)) reading → ⊥
-dash_word r place path same h =
-    let whole = codes "-h" in
-    let portless = portless_free whole refl in
-    let named = host_unique whole h.named whole h.found None (subst (λ p. HostAndPort p h.named h.found) same.0 h.cut) (HostAndPort.none (lacks_brackets whole refl) portless.before) in
+-- a place without brackets and colons is the word
+whole_word : (whole place path : List ℕ) (reading : GitReading) → FreeOf left_bracket whole → FreeOf colon whole → place ≡ whole → (h : ReachesSecure place path reading) → h.word ≡ whole
+whole_word whole place path r unbracketed free same h =
+    let portless = portless_free whole free in
+    let named = host_unique whole h.named whole h.found None (subst (λ p. HostAndPort p h.named h.found) same h.cut) (HostAndPort.none (lacks_brackets whole unbracketed) portless.before) in
     let secure = subst (λ f. SecurePort whole f h.word h.port) named.1 (subst (λ n. SecurePort n h.found h.word h.port) named.0 h.secure) in
-    let word = (secure_unique whole None h.word whole h.port None secure portless.secure).0 in
-    true≢false (subst (λ w. is_option_like w ≡ false) word h.word_safe)
+    (secure_unique whole None h.word whole h.port None secure portless.secure).0
+
+-- a word that begins with `-`
+dash_word : (reading : GitReading) (place path : List ℕ) → place ≡ codes "-h" → ReachesSecure place path reading → ⊥
+dash_word r place path same h = true≢false (subst (λ w. is_option_like w ≡ false) (whole_word (codes "-h") place path r refl refl same h) h.word_safe)
+
+-- a word that begins with its last `@`
+unnamed_cut : (user : Option (List ℕ)) (host : List ℕ) → UserCut (codes "@h") user host → ⊥
+unnamed_cut user host (UserCut.host_alone free none is) = true≢false free
+unnamed_cut user host (UserCut.with_user u named free e some) =
+    let empty = (last_cut_unique at_sign [] u (codes "h") host refl free e).0 in
+    omega (arith, ap length empty, named)
+
+unnamed_row : (reading : GitReading) → ReadsGiven (codes "@h:p") reading → ⊥
+unnamed_row r (ReadsGiven.secure_url x place path u c h) = not_own ssh (codes "@h:p") x (not_held (codes "://") (codes "@h:p") refl) u
+unnamed_row r (ReadsGiven.git_url x place path u c h) = not_own git (codes "@h:p") x (not_held (codes "://") (codes "@h:p") refl) u
+unnamed_row r (ReadsGiven.file_url x place path u c h) = not_own file (codes "@h:p") x (not_held (codes "://") (codes "@h:p") refl) u
+unnamed_row r (ReadsGiven.scp_form place path n m c h) =
+    let same = (place_unique colon (codes "@h:p") place path (codes "@h") (codes "p") c (place_cut colon (codes "@h:p") (codes "@h") (codes "p") refl refl refl)).0 in
+    unnamed_cut h.user h.host (subst (λ w. UserCut w h.user h.host) (whole_word (codes "@h") place (from_tilde path) r refl refl same h) h.split)
+unnamed_row r (ReadsGiven.local_path p path n l e some safe is) =
+    remote_not_local (codes "@h:p") record { front = codes "@h"; rest = codes "p"; joined = refl; no_slash = refl } l
 
 dash_host_row : (reading : GitReading) → ReadsGiven (codes "ssh://-h/p") reading → ⊥
-dash_host_row r (ReadsGiven.secure_url x place path u c h) = dash_word r place path (own_cut ssh (codes "ssh") (codes "-h/p") x place path (codes "-h") (codes "p") refl refl u c (place_cut slash (codes "-h/p") (codes "-h") (codes "p") refl refl refl)) h
+dash_host_row r (ReadsGiven.secure_url x place path u c h) = dash_word r place (from_tilde (slash ∷ path)) (own_cut ssh (codes "ssh") (codes "-h/p") x place path (codes "-h") (codes "p") refl refl u c (place_cut slash (codes "-h/p") (codes "-h") (codes "p") refl refl refl)).0 h
 dash_host_row r (ReadsGiven.git_url x place path u c h) = other_own ssh git (codes "ssh") (codes "-h/p") x refl refl refl (λ e. cc) u
 dash_host_row r (ReadsGiven.file_url x place path u c h) = other_own ssh file (codes "ssh") (codes "-h/p") x refl refl refl (λ e. cc) u
 dash_host_row r (ReadsGiven.scp_form place path n m c h) = n.no_mark (codes "ssh", codes "-h/p", refl)
@@ -341,6 +360,7 @@ no_git_rows = (
   λ reading h. true≢false h.no_option,
   λ reading h. dash_host_row reading h.reads,
   λ reading h. dash_row reading h.reads,
+  λ reading h. unnamed_row reading h.reads,
   λ reading h. neither_read (codes "rsync:p") reading (not_held (codes "://") (codes "rsync:p") refl) (λ n. n.no_rsync (codes "p") refl) h.reads,
   λ reading h. neither_read (codes "h::p") reading (not_held (codes "://") (codes "h::p") refl) (λ n. n.no_helper (codes "h", codes "p", record { named = refl; joined = refl })) h.reads,
   λ reading h. neither_read (codes "::p") reading (not_held (codes "://") (codes "::p") refl) (λ n. n.no_empty_helper (codes "p") refl) h.reads,

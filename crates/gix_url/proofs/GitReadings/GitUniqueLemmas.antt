@@ -205,9 +205,9 @@ secure_unique named found word other port number h k =
 
 user_unique : (word host other : List ℕ) (user name : Option (List ℕ)) → UserCut word user host → UserCut word name other → (user ≡ name) × (host ≡ other)
 user_unique word host other user name (UserCut.host_alone free none is) (UserCut.host_alone free' none' is') = (none ∙ sym none', is ∙ sym is')
-user_unique word host other user name (UserCut.host_alone free none is) (UserCut.with_user u free' e some) = absurd (not_free at_sign u other (subst (λ s. FreeOf at_sign s) e free))
-user_unique word host other user name (UserCut.with_user u free e some) (UserCut.host_alone free' none is) = absurd (not_free at_sign u host (subst (λ s. FreeOf at_sign s) e free'))
-user_unique word host other user name (UserCut.with_user u free e some) (UserCut.with_user u' free' e' some') =
+user_unique word host other user name (UserCut.host_alone free none is) (UserCut.with_user u named free' e some) = absurd (not_free at_sign u other (subst (λ s. FreeOf at_sign s) e free))
+user_unique word host other user name (UserCut.with_user u named free e some) (UserCut.host_alone free' none is) = absurd (not_free at_sign u host (subst (λ s. FreeOf at_sign s) e free'))
+user_unique word host other user name (UserCut.with_user u named free e some) (UserCut.with_user u' named' free' e' some') =
     let same = last_cut_unique at_sign u u' host other free free' (sym e ∙ e') in
     (some ∙ ap Some same.0 ∙ sym some', same.1)
 
