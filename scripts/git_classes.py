@@ -125,10 +125,6 @@ def user_of_git(case):
     return WHERE if case.is_cut_otherwise and case.protocol == "git" and b"@" in (case.authority or b"") else ()
 
 
-def empty_user(case):
-    return {"user"} if case.is_cut_otherwise and case.protocol == "ssh" and (case.authority or b"").startswith(b"@") else ()
-
-
 def host_of_file(case):
     return {"host"} if case.protocol == "file" and case.ours.host is not None else ()
 
@@ -184,6 +180,10 @@ def dash_host(case):
     return {"refusal"} if case.git == "strange hostname" else ()
 
 
+def empty_user(case):
+    return {"refusal"} if case.git == "empty user" else ()
+
+
 def rsync(case):
     return {"refusal"} if case.git == "rsync" else ()
 
@@ -202,7 +202,6 @@ CLASSES = {
     "port-without-host": port_without_host,
     "password": password,
     "user-of-git": user_of_git,
-    "empty-user": empty_user,
     "host-of-file": host_of_file,
     "byte-before-tilde": byte_before_tilde,
     "escape-in-file": escape_in_file,
@@ -214,6 +213,7 @@ CLASSES = {
     "option": option,
     "dash-path": dash_path,
     "dash-host": dash_host,
+    "empty-user": empty_user,
     "rsync": rsync,
     "character": refused_here("BadCharacter"),
     "port": refused_here("BadPort"),
@@ -235,7 +235,7 @@ def is_careful(case, is_same):
     _, user, password, host, _, path = case.ours
     is_known = password is None and not any((it or b"").startswith(b"-") for it in (user, host, path))
     if case.ours.protocol == "ssh":
-        return is_known and host is not None and (path.startswith(b"/") or path[1:2] != b"~")
+        return is_known and user != b"" and host is not None and (path.startswith(b"/") or path[1:2] != b"~")
     return is_known and user is None and (host is None or case.ours.protocol == "git")
 
 

@@ -665,7 +665,9 @@ def agrees_with_git(v):
     t = text(v)
     if t.startswith(b"rsync:") or any(it in t for it in (b"\0", b"%", b"[", b"]")):
         return False
-    return v.path[1:2] != b"~" if kind == "Ssh" else (v.user if kind == "Git" else v.host) is None
+    if kind == "Ssh":
+        return v.path[1:2] != b"~" and v.user != b""
+    return (v.user if kind == "Git" else v.host) is None
 
 
 # ---------------------------------------------------------------------------------------------------------------

@@ -5,11 +5,14 @@ use Rattle.std.specs.Char.{is_ascii_alphabetic, is_ascii_alphanumeric, is_ascii_
 use Rattle.percent_encoding.specs.declared.ascii_set.AsciiSet.{AsciiSet}
 use Rattle.percent_encoding.specs.Percent.{percent_encode}
 use Rattle.gix_url.specs.Bytes.{lowercase, is_hexadecimal, is_scheme_mark, is_name_byte, is_scheme_text, is_helper_name, is_path_start}
-use Rattle.gix_url.specs.Escapes.{path_set, password_set, user_set, is_path_escaped, is_password_escaped, is_user_escaped}
+use Rattle.gix_url.specs.Escapes.{path_set, password_set, user_set, is_path_escaped, is_password_escaped, is_user_escaped, is_plain_byte}
 use Rattle.gix_url.specs.Addresses.{is_zone_byte}
 use Rattle.gix_url.specs.Hosts.{is_dns_byte, is_http_host_byte}
 use Rattle.gix_url.specs.Authority.{is_any_slash}
 use Rattle.gix_url.specs.Arguments.{is_option_like}
+use Rattle.gix_url.specs.KeptBytes.{is_ready_in_path, is_ready_in_user}
+use Rattle.gix_url.specs.Git.{is_c_space}
+use Rattle.gix_url.specs.GitClass.{is_contested}
 
 -- the bytes that pass the test, in order
 abbrev pub members : (ℕ → Bool) → List ℕ
@@ -56,7 +59,20 @@ WhiteSpaceRows =
     × (filter is_whitespace (range_with_len 8180 120) ≡ range_with_len 8192 11 ++ (8232 ∷ 8233 ∷ 8239 ∷ 8287 ∷ []))
     × (filter is_whitespace (range_with_len 12280 20) ≡ 12288 ∷ [])
 
+-- what Git takes for white space before a port, and by what it cuts a text otherwise
+abbrev pub GitByteRows : Type 0
+GitByteRows =
+    (members is_c_space ≡ 9 ∷ 10 ∷ 11 ∷ 12 ∷ 13 ∷ 32 ∷ [])
+    × (members is_contested ≡ 0 ∷ codes "%[]")
+
 -- ---- escapes
+
+-- the bytes that quick tests pass: those of plain text, and those that a path and a user are surely written with
+abbrev pub QuickByteRows : Type 0
+QuickByteRows =
+    (members is_plain_byte ≡ codes "!\"#$&'()*+,-./0123456789:;<=>?@ABCDEFGHIJKLMNOPQRSTUVWXYZ[\\]^_`abcdefghijklmnopqrstuvwxyz{|}~")
+    × (members is_ready_in_path ≡ codes "&'()*+,-./0123456789:;?@ABCDEFGHIJKLMNOPQRSTUVWXYZ[\\]^_abcdefghijklmnopqrstuvwxyz")
+    × (members is_ready_in_user ≡ codes "&'()*+,-.0123456789ABCDEFGHIJKLMNOPQRSTUVWXYZabcdefghijklmnopqrstuvwxyz")
 
 -- the ASCII bytes that a path, a password and a user aren't written with
 abbrev pub EscapedByteRows : Type 0

@@ -1,5 +1,6 @@
 -- What Git reads in a text that it is given for a place, on Linux: the place of one of its own transports. A text that Git
--- hands to a remote helper, takes for an option or refuses has no such reading.
+-- hands to a remote helper, takes for an option or refuses has no such reading, nor has one of which Secure Shell refuses
+-- the user. No proof says that Git keeps to it: `scripts/git_witness` compares a second reading of it with what Git tells.
 use Rattle.std.specs.Prelude.{◌≡◌, ℕ, zero, suc, ◌+◌, ◌*◌, ◌<◌, Bool, false, not, ◌&&◌, ◌||◌, ◌==◌, nat_le, ◌⊎◌, List, [], ◌∷◌, ◌++◌, length, codes, Option, Some, None, if◌then◌else◌}
 use Rattle.std.specs.List.{list_all}
 use Rattle.std.specs.Char.{digit_value, is_ascii_digit}
@@ -156,10 +157,10 @@ pub data SecurePort (named : List ℕ) (found : Option ℕ) (word : List ℕ)
   no_colon : found ≡ None → FreeOf colon named → word ≡ named → port ≡ None
       → SecurePort named found word port
 
--- Secure Shell cuts its word at the last `@`
+-- Secure Shell cuts its word at the last `@`, and refuses a word with nothing before that
 pub data UserCut (word : List ℕ) (user : Option (List ℕ)) (host : List ℕ) : Type 0 where
   host_alone : FreeOf at_sign word → user ≡ None → host ≡ word → UserCut word user host
-  with_user : (name : List ℕ) → FreeOf at_sign host → word ≡ name ++ at_sign ∷ host
+  with_user : (name : List ℕ) → 0 < length name → FreeOf at_sign host → word ≡ name ++ at_sign ∷ host
       → user ≡ Some name → UserCut word user host
 
 -- what Secure Shell reaches: it gets a word, a port and a path, and neither word nor path may be an option
@@ -183,7 +184,7 @@ pub record ReachesSecure (place path : List ℕ) (reading : GitReading) : Type 0
     path = path;
   }
 
--- what Git's own protocol reaches: it has no user, and lines end its words
+-- what Git's own protocol reaches: it has no user, and neither its place nor its path holds the end of a line
 pub record ReachesGit (place path : List ℕ) (reading : GitReading) : Type 0 where
   pub host : List ℕ
   pub port : Option ℕ
@@ -248,6 +249,6 @@ pub record GitReads (t : List ℕ) (reading : GitReading) : Type 0 where
   pub reads : ReadsGiven t reading
 
 -- Git reads one thing in a text
-abbrev pub OneReading : Type 0
-OneReading = (t : List ℕ) (reading other : GitReading) → GitReads t reading → GitReads t other
+abbrev pub OneGitReading : Type 0
+OneGitReading = (t : List ℕ) (reading other : GitReading) → GitReads t reading → GitReads t other
     → reading ≡ other

@@ -1,6 +1,9 @@
--- Rows: what Git reads in texts that are written out, as git 2.39.5 told it (`git fetch-pack --diag-url`, `git ls-remote`).
-use Rattle.std.specs.Prelude.{ℕ, List, codes, Option, Some, None}
+-- Rows: what Git reads in texts that are written out, as git 2.39.5 told it (`git fetch-pack --diag-url`, `git ls-remote`);
+-- of the end of a line in `git://`, where that transport is allowed. OpenSSH told that it refuses the word `@h` (`ssh -G`).
+-- A text with byte 0 can't be given to a command.
+use Rattle.std.specs.Prelude.{ℕ, List, ◌∷◌, ◌++◌, codes, Option, Some, None}
 use Rattle.gix_url.specs.Value.Protocol.{git, ssh}
+use Rattle.gix_url.specs.Bytes.{tab}
 use Rattle.gix_url.specs.Git.{GitReading, GitReads, on_this_machine}
 
 -- a place that Secure Shell reaches
@@ -16,6 +19,11 @@ abbrev pub GitUrlRows : Type 0
 GitUrlRows =
     GitReads (codes "ssh://u:p@h:22/p") (by_ssh (Some (codes "u:p")) (Some (codes "h:22")) None (codes "/p"))
     × GitReads (codes "ssh://h: +022/p") (by_ssh None (Some (codes "h")) (Some 22) (codes "/p"))
+    × GitReads (codes "ssh://h:" ++ tab ∷ codes "22/p") (by_ssh None (Some (codes "h")) (Some 22) (codes "/p"))
+    × GitReads (codes "ssh://h:-0/p") (by_ssh None (Some (codes "h")) (Some 0) (codes "/p"))
+    × GitReads (codes "ssh://h:-5/p") (by_ssh None (Some (codes "h:-5")) None (codes "/p"))
+    × GitReads (codes "ssh://h:/p") (by_ssh None (Some (codes "h")) None (codes "/p"))
+    × GitReads (codes "ssh://[h/p") (by_ssh None (Some (codes "[h")) None (codes "/p"))
     × GitReads (codes "ssh://h/@[x]/p") (by_ssh (Some (codes "h/")) (Some (codes "x")) None (codes "/p"))
     × GitReads (codes "ssh://[h:22]/p") (by_ssh None (Some (codes "h")) (Some 22) (codes "/p"))
     × GitReads (codes "ssh://[x]u@h/p") (by_ssh None (Some (codes "x")) None (codes "/p"))
@@ -34,11 +42,18 @@ GitTextRows =
     × GitReads (codes "/srv/a@[b]/c") (on_this_machine (codes "]/c"))
     × GitReads (codes "./a:b") (on_this_machine (codes "./a:b"))
 
--- texts that Git refuses, takes for an option or hands to a remote helper
+-- texts that Git refuses, takes for an option or hands to a remote helper, and one that it doesn't get whole
 abbrev pub NoGitRows : Type 0
 NoGitRows =
     ((reading : GitReading) → ¬ GitReads (codes "-h:p") reading)
+    × ((reading : GitReading) → ¬ GitReads (codes "-@[x]/p") reading)
+    × ((reading : GitReading) → ¬ GitReads (codes "ssh://-h/p") reading)
     × ((reading : GitReading) → ¬ GitReads (codes "u@h:-p") reading)
+    × ((reading : GitReading) → ¬ GitReads (codes "@h:p") reading)
     × ((reading : GitReading) → ¬ GitReads (codes "rsync:p") reading)
     × ((reading : GitReading) → ¬ GitReads (codes "h::p") reading)
+    × ((reading : GitReading) → ¬ GitReads (codes "::p") reading)
     × ((reading : GitReading) → ¬ GitReads (codes "http://h/p") reading)
+    × ((reading : GitReading) → ¬ GitReads (codes "git://h%0Ax/p") reading)
+    × ((reading : GitReading) → ¬ GitReads (codes "git://h/p%0Aq") reading)
+    × ((reading : GitReading) → ¬ GitReads (codes "h:p" ++ 0 ∷ codes "q") reading)

@@ -4,7 +4,7 @@
 //! answer is yes exactly for the class of the definitions, and in the text of each location of that class Git reads the
 //! location's own protocol, user, host, port and path (`law_git`).
 
-ghost use Rattle.std.specs.Prelude.{◌≡◌, ◌↔◌, IsTrue, IfSome, None, Some, false, option_map};
+ghost use Rattle.std.specs.Prelude.{◌≡◌, ◌↔◌, IsTrue, IfSome, None, Some, [], false, option_map};
 ghost use Rattle.std.specs.String.{string_bytes};
 ghost use Rattle.std.specs.List.{list_any};
 ghost use Rattle.gix_url.specs.Arguments.{is_option_like};
@@ -25,11 +25,14 @@ impl Url {
     /// takes no memory.
     ///
     /// Hand Git the text that [`Url::to_bstring`] writes, and not another one that was read as the location: of
-    /// `ssh://@h/p`, which is written as `ssh://h/p`, the answer is yes, and Git would read an empty user in it. What Git
-    /// reads is a definition, `GitReads`, which was measured with git 2.39.5 on Linux; `docs/GIT.md` has the cases.
+    /// `ssh://@h/p`, which is written as `ssh://h/p`, the answer is yes, and Git would give Secure Shell the word `@h`, which
+    /// it refuses. What Git reads is a definition, `GitReads`. No proof says that Git keeps to it: a second reading of it
+    /// was compared with git 2.39.5 on Linux, text by text. `docs/GIT.md` has the cases.
     ///
-    /// The answer is no for what Git hands to a remote helper, HTTP among it, and for what comes from an unsettled
-    /// location. It is no for some texts that Git reads alike: with an address in brackets, or with an escape.
+    /// The answer is no for what Git hands to a remote helper, HTTP among it, for an empty user of Secure Shell (`@h:p`),
+    /// and for what comes from an unsettled location. It is no for some texts that Git reads alike, too: with `%` or
+    /// brackets, those of an address among them; with a host that begins with `-`, of `git://` or behind a user
+    /// (`u@-h:p`); and with a `~` behind the one that begins the path (`ssh://h/~~a`).
     ///
     /// ```
     /// /// The text for Git, if Git reads the same place in it.
@@ -76,7 +79,9 @@ fn suits_transport(url: &Url) -> bool
     ensures { IsTrue result ↔ SuitsTransport url.now.scheme url.now }
 {
     match &url.scheme {
-        Scheme::Ssh => !is_tilde_second(url.path.as_bytes()) && !is_rsync(url),
+        Scheme::Ssh => !is_tilde_second(url.path.as_bytes())
+            && !is_rsync(url)
+            && !has_empty_user(url),
         Scheme::Git => url.user.is_none(),
         Scheme::File => url.host.is_none(),
         Scheme::Http | Scheme::Https | Scheme::Ext | Scheme::Helper(_) | Scheme::HelperUrl(_) =>
@@ -94,11 +99,21 @@ fn is_tilde_second(text: &[u8]) -> bool
     }
 }
 
-/// Whether the text of the location begins with `rsync:`.
+/// Whether the location has the scp form and the host `rsync` alone. Of Secure Shell such a text begins with `rsync:`.
 fn is_rsync(url: &Url) -> bool
     ensures { IsTrue result ↔ IsRsync url.now }
 {
     url.serialize_alternative_form && url.user.is_none() && has_host(url, b"rsync")
+}
+
+/// Whether the location has a user, and it is empty.
+fn has_empty_user(url: &Url) -> bool
+    ensures { IsTrue result ↔ (url.now.user ≡ Some []) }
+{
+    match &url.user {
+        None => false,
+        Some(user) => user.is_empty(),
+    }
 }
 
 /// Whether the location has this host.

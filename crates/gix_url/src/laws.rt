@@ -8,7 +8,7 @@
 ghost use Rattle.std.specs.Cmp.{IsTotalOrder};
 ghost use Rattle.gix_url.specs.AnswerLaws.{LineForLine, OneLine};
 ghost use Rattle.gix_url.specs.ComponentLaws.{EqualComponents, OneComponents};
-ghost use Rattle.gix_url.specs.Git.{OneReading};
+ghost use Rattle.gix_url.specs.Git.{OneGitReading};
 ghost use Rattle.gix_url.specs.GitClass.{ReadAlike};
 ghost use Rattle.gix_url.specs.Laws.{Apart, Closed, EqualIsSame, Exact, ExactByFields, FedAlike, KeepsEarlier, LocationsFedApart, ProtocolsFedApart, SameComponents, SettledAgain, SpellingLast, TextDecides, TiedIsEqual, Unchanged, Unique, Writable};
 ghost use Rattle.gix_url.specs.Order.{fed_location, fed_protocol, location_cmp, location_eq, protocol_cmp, protocol_eq};
@@ -179,10 +179,10 @@ pub fn law_components()
 /// Git reads the same place.
 ///
 /// - `alike`: a location that [`Url::agrees_with_git`](crate::Url::agrees_with_git) accepts has a text, and Git reads in
-///   it the location's own protocol, user, host, port and path. So who picks credentials by the host that is read here,
-///   and then hands the text to Git, sends them to that host.
+///   it the location's own protocol, user, host, port and path. So where credentials are picked by the host that is
+///   read here, and the text is then handed to Git, Git reads that host.
 /// - `one`: Git reads one thing in a text, whatever the text is. So it reads nothing else in that one.
 pub fn law_git()
     ensures alike { ReadAlike }
-    ensures one { OneReading }
+    ensures one { OneGitReading }
 {}

@@ -2,7 +2,7 @@
 //!
 //! It has no code and uses nothing: the contract of each function is a group of rows.
 
-ghost use Rattle.gix_url.specs.ByteRows.{EscapeSetRows, EscapedByteRows, HostByteRows, NameByteRows, WhiteSpaceRows};
+ghost use Rattle.gix_url.specs.ByteRows.{EscapeSetRows, EscapedByteRows, GitByteRows, HostByteRows, NameByteRows, QuickByteRows, WhiteSpaceRows};
 ghost use Rattle.gix_url.specs.ClassRows.{SettledRows, UnsettledOtherRows, UnsettledUrlRows, UnsettledWebRows, WebHostRows};
 ghost use Rattle.gix_url.specs.FormRows.{FlawRows, FormRows, NameFlawRows, NoFormRows, UrlRows};
 ghost use Rattle.gix_url.specs.GitRows.{GitTextRows, GitUrlRows, NoGitRows};
@@ -16,6 +16,8 @@ fn law_bytes()
     ensures names { NameByteRows }
     ensures hosts { HostByteRows }
     ensures white_space { WhiteSpaceRows }
+    ensures git { GitByteRows }
+    ensures quick { QuickByteRows }
     ensures documented { EscapedByteRows }
     ensures sets { EscapeSetRows }
 {}

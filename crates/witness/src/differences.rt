@@ -15,7 +15,7 @@ use bstr::BStr;
 use gix_url::Url;
 use machine::MACHINE;
 use path::{PATH, SPELLING};
-use refused::REFUSED;
+use refused::{BY_GIT, HERE};
 use std::alloc::Global;
 use std::fmt::Write;
 use std::process::Abort;
@@ -102,8 +102,13 @@ fn another_spelling(rt: HostRuntime) -> Result<(), Fail> {
 }
 
 #[test]
-fn refused_by_one_side(rt: HostRuntime) -> Result<(), Fail> {
-    are_read(&rt, rt.alloc(), &REFUSED, false)
+fn refused_by_git(rt: HostRuntime) -> Result<(), Fail> {
+    are_read(&rt, rt.alloc(), &BY_GIT, false)
+}
+
+#[test]
+fn refused_here(rt: HostRuntime) -> Result<(), Fail> {
+    are_read(&rt, rt.alloc(), &HERE, false)
 }
 
 #[test]

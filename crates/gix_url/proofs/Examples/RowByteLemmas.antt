@@ -1,7 +1,7 @@
 -- Rows on classes of bytes: each is computed at all 256 bytes.
 use Rattle.std.proofs.Common.{refl}
 use Rattle.percent_encoding.proofs.OnLiterals.{percent_encoding_on_literals}
-use Rattle.gix_url.specs.ByteRows.{NameByteRows, HostByteRows, WhiteSpaceRows, EscapedByteRows, EscapeSetRows}
+use Rattle.gix_url.specs.ByteRows.{NameByteRows, HostByteRows, WhiteSpaceRows, GitByteRows, QuickByteRows, EscapedByteRows, EscapeSetRows}
 
 -- what names are made of
 pub name_byte_rows : NameByteRows
@@ -14,6 +14,14 @@ host_byte_rows = (refl, refl, refl, refl, refl, refl, refl, refl)
 -- white space
 pub white_space_rows : WhiteSpaceRows
 white_space_rows = (refl, refl, refl, refl, refl)
+
+-- what Git looks at
+pub git_byte_rows : GitByteRows
+git_byte_rows = (refl, refl)
+
+-- what quick tests pass
+pub quick_byte_rows : QuickByteRows
+quick_byte_rows = (refl, refl, refl)
 
 -- the documented sets
 pub escaped_byte_rows : EscapedByteRows

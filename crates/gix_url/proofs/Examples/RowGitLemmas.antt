@@ -1,18 +1,18 @@
 -- Rows on what Git reads: by giving the cuts, and what it doesn't.
-use Rattle.std.proofs.Common.{◌≡◌, ◌∙◌, ◌==◌, ◌&&◌, ℕ, true, false, inl, inr, List, [], ◌∷◌, ◌++◌, Option, Some, None, codes, refl, sym, ap, subst, lit<}
+use Rattle.std.proofs.Common.{◌≡◌, ◌∙◌, ◌==◌, ◌&&◌, ℕ, true, false, inl, inr, List, [], ◌∷◌, ◌++◌, Option, Some, None, length, codes, refl, sym, ap, subst, arith, lit<}
 use Rattle.std.proofs.lemmas.Bool.{false≢true, true≢false}
 use Rattle.gix_url.specs.Value.{Protocol}
 use Rattle.gix_url.specs.Value.Protocol.{file, git, ssh}
-use Rattle.gix_url.specs.Bytes.{slash, colon, at_sign, left_bracket, right_bracket, FreeOf, Holds, begins_with, is_helper_name}
+use Rattle.gix_url.specs.Bytes.{tab, newline, slash, colon, at_sign, left_bracket, right_bracket, FreeOf, Holds, begins_with, is_helper_name}
 use Rattle.gix_url.specs.Schemes.{protocol_of}
 use Rattle.gix_url.specs.Authority.{unless_empty}
 use Rattle.gix_url.specs.Arguments.{is_option_like}
-use Rattle.gix_url.specs.Git.{GitReading, on_this_machine, from_tilde, git_decode, host_mark, OpensHost, InBrackets, HostEnd, CutsPlace, BeforePort, HostAndPort, SecurePort, UserCut, ReachesSecure, OwnUrl, IsNoUrl, ReadsGiven, GitReads}
+use Rattle.gix_url.specs.Git.{GitReading, on_this_machine, from_tilde, git_decode, host_mark, OpensHost, InBrackets, LacksHostBrackets, HostEnd, CutsPlace, BeforePort, HostAndPort, SecurePort, UserCut, ReachesSecure, OwnUrl, IsNoUrl, ReadsGiven, GitReads}
 use Rattle.gix_url.specs.GitRows.{by_ssh, by_git, GitUrlRows, GitTextRows, NoGitRows}
-use Rattle.gix_url.proofs.Texts.CutLemmas.{cut_unique, different_bytes, free-cons, held_free, not_free}
+use Rattle.gix_url.proofs.Texts.CutLemmas.{cut_unique, different_bytes, free-cons, held_free, last_cut_unique, not_free}
 use Rattle.gix_url.proofs.Examples.RowFormLemmas.{not_held, no_helper_at}
-use Rattle.gix_url.proofs.GitReadings.GitCutLemmas.{lacks_brackets, nothing_passed, place_cut, portless_free}
-use Rattle.gix_url.proofs.GitReadings.GitUniqueLemmas.{is_own, own_free, place_unique, remote_not_local}
+use Rattle.gix_url.proofs.GitReadings.GitCutLemmas.{git_decode_kept, lacks_brackets, nothing_passed, place_cut, portless_free}
+use Rattle.gix_url.proofs.GitReadings.GitUniqueLemmas.{host_unique, is_own, own_free, own_unique, place_unique, remote_not_local, secure_unique}
 
 -- ---- cuts
 
@@ -73,7 +73,7 @@ enclosed place front inside behind dropped found h port = HostAndPort.brackets f
 password_row : GitReads (codes "ssh://u:p@h:22/p") (by_ssh (Some (codes "u:p")) (Some (codes "h:22")) None (codes "/p"))
 password_row =
     let place = codes "u:p@h:22" in
-    let word = reached place (codes "/p") place place (codes "h:22") None None (Some (codes "u:p")) (HostAndPort.none (lacks_brackets place refl) (BeforePort.unmarked (codes "u") (codes "p@h:22") refl refl (lit< tt) refl refl refl)) (SecurePort.unmarked (codes "u") (codes "p@h:22") refl refl refl refl refl refl) (UserCut.with_user (codes "u:p") refl refl refl) refl refl in
+    let word = reached place (codes "/p") place place (codes "h:22") None None (Some (codes "u:p")) (HostAndPort.none (lacks_brackets place refl) (BeforePort.unmarked (codes "u") (codes "p@h:22") refl refl (lit< tt) refl refl refl)) (SecurePort.unmarked (codes "u") (codes "p@h:22") refl refl refl refl refl refl) (UserCut.with_user (codes "u:p") (lit< tt) refl refl refl) refl refl in
     record { whole = refl; no_option = refl; reads = ReadsGiven.secure_url (codes "u:p@h:22/p") place (codes "p") (url ssh (codes "ssh") (codes "u:p@h:22/p") (codes "u:p@h:22/p") refl refl) (place_cut slash (codes "u:p@h:22/p") place (codes "p") refl refl refl) word }
 
 -- white space, a sign and zeros before a port
@@ -83,13 +83,46 @@ port_row =
     let word = reached place (codes "/p") (codes "h") (codes "h") (codes "h") (Some 22) (Some 22) None (HostAndPort.none (lacks_brackets place refl) (BeforePort.marked (codes " +022") 22 refl refl refl refl)) (SecurePort.behind 22 refl refl refl) (UserCut.host_alone refl refl refl) refl refl in
     record { whole = refl; no_option = refl; reads = ReadsGiven.secure_url (codes "h: +022/p") place (codes "p") (url ssh (codes "ssh") (codes "h: +022/p") (codes "h: +022/p") refl refl) (place_cut slash (codes "h: +022/p") place (codes "p") refl refl refl) word }
 
+-- a URL of Secure Shell without brackets and escapes, without a user, and with a port or none
+secure_row : (place path named : List ℕ) (port : Option ℕ) → FreeOf 37 (place ++ slash ∷ path) → FreeOf left_bracket (place ++ slash ∷ path) → FreeOf slash place → FreeOf left_bracket place → BeforePort place named port → SecurePort named port named port → FreeOf at_sign named → is_option_like named ≡ false → is_option_like (from_tilde (slash ∷ path)) ≡ false → FreeOf 0 (codes "ssh://" ++ (place ++ slash ∷ path)) → GitReads (codes "ssh://" ++ (place ++ slash ∷ path)) (by_ssh None (unless_empty named) port (from_tilde (slash ∷ path)))
+secure_row place path named port raw unbracketed free inside before secure userless first second whole =
+    let rest = place ++ slash ∷ path in
+    let word = reached place (from_tilde (slash ∷ path)) named named named port port None (HostAndPort.none (lacks_brackets place inside) before) secure (UserCut.host_alone userless refl refl) first second in
+    record { whole = whole; no_option = refl; reads = ReadsGiven.secure_url rest place path (url ssh (codes "ssh") rest rest refl (sym (git_decode_kept rest raw))) (place_cut slash rest place path unbracketed free refl) word }
+
+-- a tab before a port
+tab_row : GitReads (codes "ssh://h:" ++ tab ∷ codes "22/p") (by_ssh None (Some (codes "h")) (Some 22) (codes "/p"))
+tab_row = secure_row (codes "h:" ++ tab ∷ codes "22") (codes "p") (codes "h") (Some 22) refl refl refl refl (BeforePort.marked (tab ∷ codes "22") 22 refl refl refl refl) (SecurePort.behind 22 refl refl refl) refl refl refl refl
+
+-- no number below zero is a port, but `-0` is 0
+zero_row : GitReads (codes "ssh://h:-0/p") (by_ssh None (Some (codes "h")) (Some 0) (codes "/p"))
+zero_row = secure_row (codes "h:-0") (codes "p") (codes "h") (Some 0) refl refl refl refl (BeforePort.marked (codes "-0") 0 refl refl refl refl) (SecurePort.behind 0 refl refl refl) refl refl refl refl
+
+-- so any other belongs to the host
+below_zero_row : GitReads (codes "ssh://h:-5/p") (by_ssh None (Some (codes "h:-5")) None (codes "/p"))
+below_zero_row = secure_row (codes "h:-5") (codes "p") (codes "h:-5") None refl refl refl refl (BeforePort.unmarked (codes "h") (codes "-5") refl refl (lit< tt) refl refl refl) (SecurePort.unmarked (codes "h") (codes "-5") refl refl refl refl refl refl) refl refl refl refl
+
+-- a colon without a port is passed over
+colon_alone_row : GitReads (codes "ssh://h:/p") (by_ssh None (Some (codes "h")) None (codes "/p"))
+colon_alone_row = secure_row (codes "h:") (codes "p") (codes "h") None refl refl refl refl (BeforePort.colon_alone refl refl refl) (SecurePort.no_colon refl refl refl refl) refl refl refl refl
+
+-- a bracket that isn't closed belongs to the host
+unclosed_row : GitReads (codes "ssh://[h/p") (by_ssh None (Some (codes "[h")) None (codes "/p"))
+unclosed_row =
+    let place = codes "[h" in
+    let open_place = LacksHostBrackets.unclosed [] (codes "h") (OpensHost.at_front (not_held host_mark place refl) refl refl) refl in
+    let open_rest = LacksHostBrackets.unclosed [] (codes "h/p") (OpensHost.at_front (not_held host_mark (codes "[h/p") refl) refl refl) refl in
+    let word = reached place (codes "/p") place place place None None None (HostAndPort.none open_place (BeforePort.no_colon refl refl refl)) (SecurePort.no_colon refl refl refl refl) (UserCut.host_alone refl refl refl) refl refl in
+    let cut : CutsPlace slash (codes "[h/p") place (codes "p") = record { passed = []; between = place; end = HostEnd.none open_rest refl refl; first = refl; joined = refl } in
+    record { whole = refl; no_option = refl; reads = ReadsGiven.secure_url (codes "[h/p") place (codes "p") (url ssh (codes "ssh") (codes "[h/p") (codes "[h/p") refl refl) cut word }
+
 -- a bracket in the path opens the host
 path_bracket_row : GitReads (codes "ssh://h/@[x]/p") (by_ssh (Some (codes "h/")) (Some (codes "x")) None (codes "/p"))
 path_bracket_row =
     let place = codes "h/@[x]" in
     let opened = behind_at (codes "h/") (codes "x") (codes "/p") (not_held host_mark (codes "h/") refl) refl in
     let inner = behind_at (codes "h/") (codes "x") [] (not_held host_mark (codes "h/") refl) refl in
-    let word = reached place (codes "/p") (codes "h/@x") (codes "h/@x") (codes "x") None None (Some (codes "h/")) (enclosed place (codes "h/@") (codes "x") [] [] None inner (BeforePort.no_colon refl refl refl)) (SecurePort.no_colon refl refl refl refl) (UserCut.with_user (codes "h/") refl refl refl) refl refl in
+    let word = reached place (codes "/p") (codes "h/@x") (codes "h/@x") (codes "x") None None (Some (codes "h/")) (enclosed place (codes "h/@") (codes "x") [] [] None inner (BeforePort.no_colon refl refl refl)) (SecurePort.no_colon refl refl refl refl) (UserCut.with_user (codes "h/") (lit< tt) refl refl refl) refl refl in
     record { whole = refl; no_option = refl; reads = ReadsGiven.secure_url (codes "h/@[x]/p") place (codes "p") (url ssh (codes "ssh") (codes "h/@[x]/p") (codes "h/@[x]/p") refl refl) (bracket_cut slash (codes "h/@[x]/p") (codes "h/@") (codes "x") [] (codes "p") opened refl refl) word }
 
 -- a port in brackets
@@ -146,6 +179,11 @@ pub git_url_rows : GitUrlRows
 git_url_rows = (
   password_row,
   port_row,
+  tab_row,
+  zero_row,
+  below_zero_row,
+  colon_alone_row,
+  unclosed_row,
   path_bracket_row,
   inner_port_row,
   behind_bracket_row,
@@ -180,7 +218,7 @@ user_bracket_row : GitReads (codes "[u@h]:p") (by_ssh (Some (codes "u")) (Some (
 user_bracket_row =
     let place = codes "[u@h]" in
     let none = not_held host_mark (codes "[u@h]:p") refl in
-    let word = reached place (codes "p") (codes "u@h") (codes "u@h") (codes "h") None None (Some (codes "u")) (enclosed place [] (codes "u@h") [] [] None (at_front (codes "u@h") [] (not_held host_mark place refl) refl) (BeforePort.no_colon refl refl refl)) (SecurePort.no_colon refl refl refl refl) (UserCut.with_user (codes "u") refl refl refl) refl refl in
+    let word = reached place (codes "p") (codes "u@h") (codes "u@h") (codes "h") None None (Some (codes "u")) (enclosed place [] (codes "u@h") [] [] None (at_front (codes "u@h") [] (not_held host_mark place refl) refl) (BeforePort.no_colon refl refl refl)) (SecurePort.no_colon refl refl refl refl) (UserCut.with_user (codes "u") (lit< tt) refl refl refl) refl refl in
     record { whole = refl; no_option = refl; reads = ReadsGiven.scp_form place (codes "p") (no_url (codes "[u@h]:p") place (codes "p") refl refl (not_held (codes "://") (codes "[u@h]:p") refl) refl (λ e. cc) (λ e. different_bytes 91 114 refl e)) record { front = place; rest = codes "p"; joined = refl; no_slash = refl } (bracket_cut colon (codes "[u@h]:p") [] (codes "u@h") [] (codes "p") (at_front (codes "u@h") (codes ":p") none refl) refl refl) word }
 
 -- brackets behind a colon
@@ -188,7 +226,7 @@ behind_colon_row : GitReads (codes "u:p@[h]:q") (by_ssh (Some (codes "u:p")) (So
 behind_colon_row =
     let place = codes "u:p@[h]" in
     let none = not_held host_mark (codes "u:p") refl in
-    let word = reached place (codes "q") (codes "u:p@h") (codes "u:p@h") (codes "h") None None (Some (codes "u:p")) (enclosed place (codes "u:p@") (codes "h") [] [] None (behind_at (codes "u:p") (codes "h") [] none refl) (BeforePort.no_colon refl refl refl)) (SecurePort.unmarked (codes "u") (codes "p@h") refl refl refl refl refl refl) (UserCut.with_user (codes "u:p") refl refl refl) refl refl in
+    let word = reached place (codes "q") (codes "u:p@h") (codes "u:p@h") (codes "h") None None (Some (codes "u:p")) (enclosed place (codes "u:p@") (codes "h") [] [] None (behind_at (codes "u:p") (codes "h") [] none refl) (BeforePort.no_colon refl refl refl)) (SecurePort.unmarked (codes "u") (codes "p@h") refl refl refl refl refl refl) (UserCut.with_user (codes "u:p") (lit< tt) refl refl refl) refl refl in
     record { whole = refl; no_option = refl; reads = ReadsGiven.scp_form place (codes "q") (no_url (codes "u:p@[h]:q") (codes "u") (codes "p@[h]:q") refl refl (not_held (codes "://") (codes "u:p@[h]:q") refl) refl (λ e. cc) (λ e. different_bytes 117 114 refl e)) record { front = codes "u"; rest = codes "p@[h]:q"; joined = refl; no_slash = refl } (bracket_cut colon (codes "u:p@[h]:q") (codes "u:p@") (codes "h") [] (codes "q") (behind_at (codes "u:p") (codes "h") (codes ":q") none refl) refl refl) word }
 
 -- a byte before `~` is lost
@@ -233,6 +271,17 @@ neither_read t r none other (ReadsGiven.file_url x place path u c h) = not_own f
 neither_read t r none other (ReadsGiven.scp_form place path n m c h) = other n
 neither_read t r none other (ReadsGiven.local_path p path n l e some safe is) = other n
 
+-- a URL of a transport is cut as it is here
+own_cut : (p : Protocol) (scheme spelled x place path name more : List ℕ) → is_own p ≡ true → protocol_of scheme ≡ p → OwnUrl p (scheme ++ (codes "://" ++ spelled)) x → CutsPlace slash x place path → CutsPlace slash (git_decode spelled) name more → (place ≡ name) × (path ≡ more)
+own_cut p scheme spelled x place path name more own is u c d =
+    let rests = (own_unique p p (scheme ++ (codes "://" ++ spelled)) x (git_decode spelled) own own u (url p scheme spelled (git_decode spelled) is refl)).1 in
+    place_unique slash (git_decode spelled) place path name more (subst (λ r. CutsPlace slash r place path) rests c) d
+
+-- and is one of no other
+other_own : {A : Type 0} (p q : Protocol) (scheme spelled x : List ℕ) → is_own p ≡ true → is_own q ≡ true → protocol_of scheme ≡ p → ¬ (p ≡ q) → OwnUrl q (scheme ++ (codes "://" ++ spelled)) x → A
+other_own p q scheme spelled x first second is differ u =
+    absurd (differ (own_unique p q (scheme ++ (codes "://" ++ spelled)) (git_decode spelled) x first second (url p scheme spelled (git_decode spelled) is refl) u).0)
+
 -- a URL of HTTP is none of a transport
 no_own : {A : Type 0} (p : Protocol) (rest : List ℕ) → is_own p ≡ true → OwnUrl p (codes "http://h/p") rest → A
 no_own p rest own h =
@@ -258,12 +307,65 @@ dash_row r (ReadsGiven.scp_form place path n m c h) =
 dash_row r (ReadsGiven.local_path p path n l e some safe is) =
     remote_not_local (codes "u@h:-p") record { front = codes "u@h"; rest = codes "-p"; joined = refl; no_slash = refl } l
 
+-- a place without brackets and colons is the word
+whole_word : (whole place path : List ℕ) (reading : GitReading) → FreeOf left_bracket whole → FreeOf colon whole → place ≡ whole → (h : ReachesSecure place path reading) → h.word ≡ whole
+whole_word whole place path r unbracketed free same h =
+    let portless = portless_free whole free in
+    let named = host_unique whole h.named whole h.found None (subst (λ p. HostAndPort p h.named h.found) same h.cut) (HostAndPort.none (lacks_brackets whole unbracketed) portless.before) in
+    let secure = subst (λ f. SecurePort whole f h.word h.port) named.1 (subst (λ n. SecurePort n h.found h.word h.port) named.0 h.secure) in
+    (secure_unique whole None h.word whole h.port None secure portless.secure).0
+
+-- a word that begins with `-`
+dash_word : (reading : GitReading) (place path : List ℕ) → place ≡ codes "-h" → ReachesSecure place path reading → ⊥
+dash_word r place path same h = true≢false (subst (λ w. is_option_like w ≡ false) (whole_word (codes "-h") place path r refl refl same h) h.word_safe)
+
+-- a word that begins with its last `@`
+unnamed_cut : (user : Option (List ℕ)) (host : List ℕ) → UserCut (codes "@h") user host → ⊥
+unnamed_cut user host (UserCut.host_alone free none is) = true≢false free
+unnamed_cut user host (UserCut.with_user u named free e some) =
+    let empty = (last_cut_unique at_sign [] u (codes "h") host refl free e).0 in
+    omega (arith, ap length empty, named)
+
+unnamed_row : (reading : GitReading) → ReadsGiven (codes "@h:p") reading → ⊥
+unnamed_row r (ReadsGiven.secure_url x place path u c h) = not_own ssh (codes "@h:p") x (not_held (codes "://") (codes "@h:p") refl) u
+unnamed_row r (ReadsGiven.git_url x place path u c h) = not_own git (codes "@h:p") x (not_held (codes "://") (codes "@h:p") refl) u
+unnamed_row r (ReadsGiven.file_url x place path u c h) = not_own file (codes "@h:p") x (not_held (codes "://") (codes "@h:p") refl) u
+unnamed_row r (ReadsGiven.scp_form place path n m c h) =
+    let same = (place_unique colon (codes "@h:p") place path (codes "@h") (codes "p") c (place_cut colon (codes "@h:p") (codes "@h") (codes "p") refl refl refl)).0 in
+    unnamed_cut h.user h.host (subst (λ w. UserCut w h.user h.host) (whole_word (codes "@h") place (from_tilde path) r refl refl same h) h.split)
+unnamed_row r (ReadsGiven.local_path p path n l e some safe is) =
+    remote_not_local (codes "@h:p") record { front = codes "@h"; rest = codes "p"; joined = refl; no_slash = refl } l
+
+dash_host_row : (reading : GitReading) → ReadsGiven (codes "ssh://-h/p") reading → ⊥
+dash_host_row r (ReadsGiven.secure_url x place path u c h) = dash_word r place (from_tilde (slash ∷ path)) (own_cut ssh (codes "ssh") (codes "-h/p") x place path (codes "-h") (codes "p") refl refl u c (place_cut slash (codes "-h/p") (codes "-h") (codes "p") refl refl refl)).0 h
+dash_host_row r (ReadsGiven.git_url x place path u c h) = other_own ssh git (codes "ssh") (codes "-h/p") x refl refl refl (λ e. cc) u
+dash_host_row r (ReadsGiven.file_url x place path u c h) = other_own ssh file (codes "ssh") (codes "-h/p") x refl refl refl (λ e. cc) u
+dash_host_row r (ReadsGiven.scp_form place path n m c h) = n.no_mark (codes "ssh", codes "-h/p", refl)
+dash_host_row r (ReadsGiven.local_path p path n l e some safe is) = n.no_mark (codes "ssh", codes "-h/p", refl)
+
+-- an end of a line in the place or in the path of Git's own protocol
+line_row : (spelled place path : List ℕ) → FreeOf left_bracket (git_decode spelled) → FreeOf slash place → git_decode spelled ≡ place ++ slash ∷ path → ¬ (FreeOf newline place × FreeOf newline (from_tilde (slash ∷ path))) → (reading : GitReading) → ReadsGiven (codes "git://" ++ spelled) reading → ⊥
+line_row spelled place path unbracketed free e held r (ReadsGiven.secure_url x name more u c h) = other_own git ssh (codes "git") spelled x refl refl refl (λ e. cc) u
+line_row spelled place path unbracketed free e held r (ReadsGiven.git_url x name more u c h) =
+    let same = own_cut git (codes "git") spelled x name more place path refl refl u c (place_cut slash (git_decode spelled) place path unbracketed free e) in
+    held (subst (λ p. FreeOf newline p) same.0 h.place_line, subst (λ p. FreeOf newline (from_tilde (slash ∷ p))) same.1 h.path_line)
+line_row spelled place path unbracketed free e held r (ReadsGiven.file_url x name more u c h) = other_own git file (codes "git") spelled x refl refl refl (λ e. cc) u
+line_row spelled place path unbracketed free e held r (ReadsGiven.scp_form name more n m c h) = n.no_mark (codes "git", spelled, refl)
+line_row spelled place path unbracketed free e held r (ReadsGiven.local_path p more n l cut some safe is) = n.no_mark (codes "git", spelled, refl)
+
 -- texts without a reading
 pub no_git_rows : NoGitRows
 no_git_rows = (
   λ reading h. true≢false h.no_option,
+  λ reading h. true≢false h.no_option,
+  λ reading h. dash_host_row reading h.reads,
   λ reading h. dash_row reading h.reads,
+  λ reading h. unnamed_row reading h.reads,
   λ reading h. neither_read (codes "rsync:p") reading (not_held (codes "://") (codes "rsync:p") refl) (λ n. n.no_rsync (codes "p") refl) h.reads,
   λ reading h. neither_read (codes "h::p") reading (not_held (codes "://") (codes "h::p") refl) (λ n. n.no_helper (codes "h", codes "p", record { named = refl; joined = refl })) h.reads,
+  λ reading h. neither_read (codes "::p") reading (not_held (codes "://") (codes "::p") refl) (λ n. n.no_empty_helper (codes "p") refl) h.reads,
   λ reading h. web_row reading h.reads,
+  λ reading h. line_row (codes "h%0Ax/p") (codes "h" ++ newline ∷ codes "x") (codes "p") refl refl refl (λ lines. true≢false lines.0) reading h.reads,
+  λ reading h. line_row (codes "h/p%0Aq") (codes "h") (codes "p" ++ newline ∷ codes "q") refl refl refl (λ lines. true≢false lines.1) reading h.reads,
+  λ reading h. true≢false h.whole,
 )

@@ -153,12 +153,12 @@ scp_no_url v host h t other = record {
 }
 
 -- Git reads in it what the location holds
-scp_reads : (v : Location) (host : List ℕ) → IsSettledScp v → (t : IsScpText v host) → AgreesWithGit v → is_tilde_second v.path ≡ false → ¬ IsRsync v → FreeOf left_bracket (word_of v.user host ++ colon ∷ v.path) → ReadsGiven (word_of v.user host ++ colon ∷ v.path) (secure_reading v.user (Some host) None v.path)
-scp_reads v host h t a second other free =
+scp_reads : (v : Location) (host : List ℕ) → IsSettledScp v → (t : IsScpText v host) → AgreesWithGit v → is_tilde_second v.path ≡ false → ¬ IsRsync v → ¬ (v.user ≡ Some []) → FreeOf left_bracket (word_of v.user host ++ colon ∷ v.path) → ReadsGiven (word_of v.user host ++ colon ∷ v.path) (secure_reading v.user (Some host) None v.path)
+scp_reads v host h t a second other named free =
     let word = word_of v.user host in
     let portless = portless_free word t.no_colon in
     let front = (free_parts left_bracket word (colon ∷ v.path) free).0 in
-    let reached = secure_reached v.user host None word v.path (HostAndPort.none (lacks_brackets word front) portless.before) portless.secure t.name.no_at t.name.normal.unbracketed.nonempty a.no_option.user (host_safe v host t.there a.no_option) a.no_option.path in
+    let reached = secure_reached v.user host None word v.path (HostAndPort.none (lacks_brackets word front) portless.before) portless.secure t.name.no_at t.name.normal.unbracketed.nonempty named a.no_option.user (host_safe v host t.there a.no_option) a.no_option.path in
     ReadsGiven.scp_form word v.path (scp_no_url v host h t other) record { front = word; rest = v.path; joined = refl; no_slash = t.no_slash } (place_cut colon (word ++ colon ∷ v.path) word v.path free t.no_colon refl) (subst (λ p. ReachesSecure word p (secure_reading v.user (Some host) None v.path)) (sym (from_tilde_kept v.path second)) reached)
 
 -- with a path behind it a word is no option where it is none itself
@@ -169,14 +169,14 @@ word_option (Some []) host path some first second = refl
 word_option (Some (b ∷ u)) host path some first second = first
 
 -- a settled location in the scp form
-scp_alike : (v : Location) → v.scheme ≡ ssh → IsValue v → AgreesWithGit v → (is_tilde_second v.path ≡ false) × ¬ IsRsync v → IsSettledScp v → IsReadAlike v
+scp_alike : (v : Location) → v.scheme ≡ ssh → IsValue v → AgreesWithGit v → SuitsTransport ssh v → IsSettledScp v → IsReadAlike v
 scp_alike v e is a suits h =
     let (host, there, kind, other) = h.host in
     let found = scp_text v host e is a h there kind other in
     let (t, has, lacks) = a.plain in
     let free = (plain_text v t (word_of v.user host ++ colon ∷ v.path) has lacks found.written).left in
     let value : own_reading v ≡ secure_reading v.user (Some host) None v.path = λ i. record { protocol = e i; user = v.user; host = there i; port = h.no_port i; path = v.path } in
-    read_alike v (word_of v.user host ++ colon ∷ v.path) (secure_reading v.user (Some host) None v.path) value found.written a (word_option v.user host v.path found.name.normal.unbracketed.nonempty a.no_option.user (host_safe v host there a.no_option)) (scp_reads v host h found a suits.0 suits.1 free)
+    read_alike v (word_of v.user host ++ colon ∷ v.path) (secure_reading v.user (Some host) None v.path) value found.written a (word_option v.user host v.path found.name.normal.unbracketed.nonempty a.no_option.user (host_safe v host there a.no_option)) (scp_reads v host h found a suits.0 suits.1 suits.2 free)
 
 -- ---- all kinds
 
@@ -185,7 +185,7 @@ alike_by : (p : Protocol) (v : Location) → v.scheme ≡ p → IsValue v → Ag
 alike_by file v e is a suits (inl h) = local_alike v e a h
 alike_by file v e is a suits (inr h) = file_url_alike v e a suits h
 alike_by ssh v e is a suits (inl h) = scp_alike v e is a suits h
-alike_by ssh v e is a suits (inr h) = secure_url_alike v e is a h
+alike_by ssh v e is a suits (inr h) = secure_url_alike v e is a suits.2 h
 alike_by git v e is a suits h = git_url_alike v e is a suits h
 alike_by http v e is a suits h = absurd suits
 alike_by https v e is a suits h = absurd suits

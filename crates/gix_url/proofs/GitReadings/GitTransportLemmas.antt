@@ -69,18 +69,19 @@ word_safe None host first second = second
 word_safe (Some []) host first second = refl
 word_safe (Some (b ∷ u)) host first second = first
 
--- it is cut at its last `@`
-word_split : (user : Option (List ℕ)) (host : List ℕ) → FreeOf at_sign host → UserCut (word_of user host) user host
-word_split None host free = UserCut.host_alone free refl refl
-word_split (Some u) host free = UserCut.with_user u free (append_assoc u (at_sign ∷ []) host) refl
+-- it is cut at its last `@`, where a user isn't empty
+word_split : (user : Option (List ℕ)) (host : List ℕ) → ¬ (user ≡ Some []) → FreeOf at_sign host → UserCut (word_of user host) user host
+word_split None host named free = UserCut.host_alone free refl refl
+word_split (Some []) host named free = absurd (named refl)
+word_split (Some (b ∷ u)) host named free = UserCut.with_user (b ∷ u) (omega arith) free (append_assoc (b ∷ u) (at_sign ∷ []) host) refl
 
 -- a text with a length isn't empty
 nonempty_kept : (t : List ℕ) → 0 < length t → unless_empty t ≡ Some t
 nonempty_kept t some = some_kept t (λ e. absurd (omega (arith, ap length e, some)))
 
 -- it is reached where user and host are one word
-pub secure_reached : (user : Option (List ℕ)) (host : List ℕ) (port : Option ℕ) (place path : List ℕ) → HostAndPort place (word_of user host) port → SecurePort (word_of user host) port (word_of user host) port → FreeOf at_sign host → 0 < length host → IfSome user (λ u. is_option_like u ≡ false) → is_option_like host ≡ false → is_option_like path ≡ false → ReachesSecure place path (secure_reading user (Some host) port path)
-secure_reached user host port place path cut secure free some user_safe host_safe path_safe = record {
+pub secure_reached : (user : Option (List ℕ)) (host : List ℕ) (port : Option ℕ) (place path : List ℕ) → HostAndPort place (word_of user host) port → SecurePort (word_of user host) port (word_of user host) port → FreeOf at_sign host → 0 < length host → ¬ (user ≡ Some []) → IfSome user (λ u. is_option_like u ≡ false) → is_option_like host ≡ false → is_option_like path ≡ false → ReachesSecure place path (secure_reading user (Some host) port path)
+secure_reached user host port place path cut secure free some named user_safe host_safe path_safe = record {
   named = word_of user host;
   found = port;
   word = word_of user host;
@@ -91,7 +92,7 @@ secure_reached user host port place path cut secure free some user_safe host_saf
   secure = secure;
   word_safe = word_safe user host user_safe host_safe;
   path_safe = path_safe;
-  split = word_split user host free;
+  split = word_split user host named free;
   value = ap (λ h. secure_reading user h port path) (sym (nonempty_kept host some));
 }
 
@@ -245,17 +246,17 @@ bare_portless front host free (inl name) = portless_free (front ++ host) (free-a
 bare_portless front host free (inr address) = portless_coloned front host free (address_two_colons host address.address)
 
 -- Git reads in the text what the location holds
-secure_url_reads : (v : Location) (host : List ℕ) → IsValue v → (t : IsTransportText v host) → IsBareHost host → HasNoOption v → v.host ≡ Some host → ReadsGiven (codes "ssh://" ++ ((word_of v.user host ++ port_part v.port) ++ slash ∷ t.pathed.rest)) (secure_reading v.user (Some host) v.port v.path)
-secure_url_reads v host is t kind safe there =
+secure_url_reads : (v : Location) (host : List ℕ) → IsValue v → (t : IsTransportText v host) → IsBareHost host → HasNoOption v → ¬ (v.user ≡ Some []) → v.host ≡ Some host → ReadsGiven (codes "ssh://" ++ ((word_of v.user host ++ port_part v.port) ++ slash ∷ t.pathed.rest)) (secure_reading v.user (Some host) v.port v.path)
+secure_url_reads v host is t kind safe named there =
     let place = word_of v.user host ++ port_part v.port in
     let rest = place ++ slash ∷ t.pathed.rest in
     let read = place_read v host is t (bare_portless (raw_user v.user) host t.user.no_colon kind) in
-    let reached = secure_reached v.user host v.port place v.path read.cut read.secure t.hosted.no_at (bare_nonempty host kind) safe.user (host_safe v host there safe) safe.path in
+    let reached = secure_reached v.user host v.port place v.path read.cut read.secure t.hosted.no_at (bare_nonempty host kind) named safe.user (host_safe v host there safe) safe.path in
     ReadsGiven.secure_url rest place t.pathed.rest (own_url ssh (codes "ssh") rest refl t.plain.percent) (transport_cut v host is t) (subst (λ p. ReachesSecure place p (secure_reading v.user (Some host) v.port v.path)) (sym t.pathed.meant) reached)
 
 -- a settled URL of Secure Shell
-pub secure_url_alike : (v : Location) → v.scheme ≡ ssh → IsValue v → AgreesWithGit v → IsSettledSecure v → IsReadAlike v
-secure_url_alike v e is a h =
+pub secure_url_alike : (v : Location) → v.scheme ≡ ssh → IsValue v → AgreesWithGit v → ¬ (v.user ≡ Some []) → IsSettledSecure v → IsReadAlike v
+secure_url_alike v e is a named h =
     let (host, there, kind) = h.host in
     let (t, has, lacks) = a.plain in
     let written = (written_secure v e h.path).canonical h.common.unflagged (hosted_url v h.common) in
@@ -263,7 +264,7 @@ secure_url_alike v e is a h =
     let found = transport_text v host given (transport_plain v t has lacks written) in
     let whole = transport_whole v host ssh e found in
     let value : own_reading v ≡ secure_reading v.user (Some host) v.port v.path = λ i. record { protocol = e i; user = v.user; host = there i; port = v.port; path = v.path } in
-    read_alike v (codes "ssh" ++ (codes "://" ++ ((word_of v.user host ++ port_part v.port) ++ slash ∷ found.pathed.rest))) (secure_reading v.user (Some host) v.port v.path) value (written ∙ ap Ok whole) a refl (secure_url_reads v host is found kind a.no_option there)
+    read_alike v (codes "ssh" ++ (codes "://" ++ ((word_of v.user host ++ port_part v.port) ++ slash ∷ found.pathed.rest))) (secure_reading v.user (Some host) v.port v.path) value (written ∙ ap Ok whole) a refl (secure_url_reads v host is found kind a.no_option named there)
 
 -- ---- Git's own protocol
 

@@ -8,7 +8,7 @@ use Rattle.gix_url.specs.Value.Protocol.{file, git, ssh, http, https, ext, helpe
 use Rattle.gix_url.specs.Bytes.{slash, colon, at_sign, left_bracket, right_bracket, FreeOf, Holds, begins_with}
 use Rattle.gix_url.specs.Schemes.{protocol_of, requires_path}
 use Rattle.gix_url.specs.Authority.{unless_empty}
-use Rattle.gix_url.specs.Git.{GitReading, OneReading, on_this_machine, from_tilde, git_decode, host_mark, OpensHost, InBrackets, LacksHostBrackets, HostEnd, CutsPlace, git_port, BeforePort, HostAndPort, SecurePort, UserCut, ReachesSecure, ReachesGit, OwnUrl, IsNoUrl, IsRemote, IsLocal, ReadsGiven}
+use Rattle.gix_url.specs.Git.{GitReading, OneGitReading, on_this_machine, from_tilde, git_decode, host_mark, OpensHost, InBrackets, LacksHostBrackets, HostEnd, CutsPlace, git_port, BeforePort, HostAndPort, SecurePort, UserCut, ReachesSecure, ReachesGit, OwnUrl, IsNoUrl, IsRemote, IsLocal, ReadsGiven}
 use Rattle.gix_url.proofs.Readings.SchemeLemmas.{protocol_cases, transport}
 use Rattle.gix_url.proofs.Texts.CutLemmas.{heads, tails, different_bytes, cut_unique, free_head_tail, last_cut_unique, not_free}
 
@@ -147,7 +147,7 @@ before_unique t front other port number h k =
     (ap (λ p. p.0) same, ap (λ p. p.1) same)
 
 -- a place has one host and one port
-host_unique : (place host other : List ℕ) (port number : Option ℕ) → HostAndPort place host port → HostAndPort place other number → (host ≡ other) × (port ≡ number)
+pub host_unique : (place host other : List ℕ) (port number : Option ℕ) → HostAndPort place host port → HostAndPort place other number → (host ≡ other) × (port ≡ number)
 host_unique place host other port number (HostAndPort.brackets f i b d h is p) (HostAndPort.brackets f' i' b' d' h' is' p') =
     let same = brackets_unique place f i b f' i' b' h h' in
     (is ∙ ap (λ x. x ++ i) same.0 ∙ ap (λ x. f' ++ x) same.1 ∙ sym is', (before_unique b' d d' port number (subst (λ x. BeforePort x d port) same.2 p) p').1)
@@ -197,16 +197,16 @@ secure_same named found word other port number (SecureComes.of_none none free e)
 secure_same named found word other port number (SecureComes.of_none none free e) (SecureComes.of_none none' free' e') = e ∙ sym e'
 
 -- so there is one word, and one port
-secure_unique : (named : List ℕ) (found : Option ℕ) (word other : List ℕ) (port number : Option ℕ) → SecurePort named found word port → SecurePort named found other number → (word ≡ other) × (port ≡ number)
+pub secure_unique : (named : List ℕ) (found : Option ℕ) (word other : List ℕ) (port number : Option ℕ) → SecurePort named found word port → SecurePort named found other number → (word ≡ other) × (port ≡ number)
 secure_unique named found word other port number h k =
     let same = secure_same named found word other port number (secure_comes named found word port h) (secure_comes named found other number k) in
     (ap (λ p. p.0) same, ap (λ p. p.1) same)
 
 user_unique : (word host other : List ℕ) (user name : Option (List ℕ)) → UserCut word user host → UserCut word name other → (user ≡ name) × (host ≡ other)
 user_unique word host other user name (UserCut.host_alone free none is) (UserCut.host_alone free' none' is') = (none ∙ sym none', is ∙ sym is')
-user_unique word host other user name (UserCut.host_alone free none is) (UserCut.with_user u free' e some) = absurd (not_free at_sign u other (subst (λ s. FreeOf at_sign s) e free))
-user_unique word host other user name (UserCut.with_user u free e some) (UserCut.host_alone free' none is) = absurd (not_free at_sign u host (subst (λ s. FreeOf at_sign s) e free'))
-user_unique word host other user name (UserCut.with_user u free e some) (UserCut.with_user u' free' e' some') =
+user_unique word host other user name (UserCut.host_alone free none is) (UserCut.with_user u named free' e some) = absurd (not_free at_sign u other (subst (λ s. FreeOf at_sign s) e free))
+user_unique word host other user name (UserCut.with_user u named free e some) (UserCut.host_alone free' none is) = absurd (not_free at_sign u host (subst (λ s. FreeOf at_sign s) e free'))
+user_unique word host other user name (UserCut.with_user u named free e some) (UserCut.with_user u' named' free' e' some') =
     let same = last_cut_unique at_sign u u' host other free free' (sym e ∙ e') in
     (some ∙ ap Some same.0 ∙ sym some', same.1)
 
@@ -272,7 +272,7 @@ own_free (helper name) s e own = absurd (false≢true own)
 own_free (helper_url name) s e own = absurd (false≢true own)
 
 -- a URL of a transport is one of no other, and one rest stands behind its scheme
-own_unique : (p q : Protocol) (t rest other : List ℕ) → is_own p ≡ true → is_own q ≡ true → OwnUrl p t rest → OwnUrl q t other → (p ≡ q) × (rest ≡ other)
+pub own_unique : (p q : Protocol) (t rest other : List ℕ) → is_own p ≡ true → is_own q ≡ true → OwnUrl p t rest → OwnUrl q t other → (p ≡ q) × (rest ≡ other)
 own_unique p q t rest other first second h k =
     let schemes = cut_unique colon h.scheme k.scheme (slash ∷ slash ∷ h.spelled) (slash ∷ slash ∷ k.spelled) (own_free p h.scheme h.own first) (own_free q k.scheme k.own second) (sym h.joined ∙ k.joined) in
     (sym h.own ∙ ap protocol_of schemes.0 ∙ k.own, h.decoded ∙ ap git_decode (tails (tails schemes.1)) ∙ sym k.decoded)
@@ -350,5 +350,5 @@ reads_alike t r o (ReadsGiven.local_path p path n l e some safe is) (ReadsGiven.
     is ∙ ap on_this_machine (host_end_unique t p path p' path' e e').1 ∙ sym is'
 
 -- Git reads one thing in a text
-pub one_reading : OneReading
+pub one_reading : OneGitReading
 one_reading t reading other h k = reads_alike t reading other h.reads k.reads

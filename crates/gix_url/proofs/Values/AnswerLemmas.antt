@@ -20,11 +20,11 @@ use Rattle.gix_url.specs.Addresses.Literal.{address, zoned}
 use Rattle.gix_url.specs.AddressTest.{is_ipv6_text}
 use Rattle.gix_url.specs.Hosts.{Mode, Number, Names, is_http_host_byte}
 use Rattle.gix_url.specs.Hosts.Mode.{bare}
-use Rattle.gix_url.specs.Schemes.{protocol_of, protocol_text, mode_of}
+use Rattle.gix_url.specs.Schemes.{protocol_of, protocol_text, mode_of, requires_path}
 use Rattle.gix_url.specs.Authority.{unless_empty, Authority}
 use Rattle.gix_url.specs.Authority.Authority.{host_alone, with_user}
 use Rattle.gix_url.specs.Grammar.{UrlParts, SpellsParts, MeansByProtocol, MeansAs, SpellsFile, SpellsScpBefore, SpellsScpAddressed, ScpUser, Unbrackets, Spells, scp_location, from_home}
-use Rattle.gix_url.specs.Text.{keeps_host, open_host, needs_brackets, wants_brackets, canonical_host, host_part, user_information, port_part, roots_path, root_part, plain_path, matching_or, canonical_path, raw_user, raw_host, text}
+use Rattle.gix_url.specs.Text.{keeps_host, open_host, needs_brackets, wants_brackets, canonical_host, host_part, user_information, port_part, root_part, plain_path, matching_or, canonical_path, raw_user, raw_host, text}
 use Rattle.gix_url.specs.Settled.{HasMatch, IsRawPath, IsWeb, IsWebHost, IsNormalName, IsBareHost, IsBracketedHost, IsScpName, IsNormalAddress, IsSettledUrl, IsSettledWeb, IsSettledSecure, IsSettledGit, IsSettledHelperUrl, IsSettledBy, IsSettled}
 use Rattle.gix_url.specs.Settled.IsWebHost.{literal, literal_colon, named, named_colon}
 use Rattle.gix_url.specs.SettledParts.{IsWrittenAsUrl}
@@ -148,7 +148,7 @@ root_line : (v : Location) → FreeOf newline (root_part v)
 root_line v = ⊎_elim
     (λ rooted. subst (λ t. FreeOf newline t) (sym (cond-true _ _ _ rooted)) refl)
     (λ other. subst (λ t. FreeOf newline t) (sym (cond-false _ _ _ other)) refl)
-    (cases_Bool (roots_path v.scheme && not (begins_with slash v.path)))
+    (cases_Bool (requires_path v.scheme && not (begins_with slash v.path)))
 
 -- nor does a spelling that stands for the path, or what stands in for it, where neither does
 spelling_line : (spelling : Option (List ℕ)) (path plain : List ℕ) → ((s : List ℕ) → spelling ≡ Some s → percent_decode s ≡ path → FreeOf newline s) → (¬ ((s : List ℕ) × (spelling ≡ Some s) × (percent_decode s ≡ path)) → FreeOf newline plain) → FreeOf newline (matching_or spelling path plain)

@@ -18,9 +18,9 @@ pub static ALIKE: [Example; 12] = [
     ),
     (
         "alike",
-        b"@h:p",
-        "ssh user= host=h path=p",
-        "ssh user= host=h path=p",
+        b"@@h:p",
+        "ssh user=@ host=h path=p",
+        "ssh user=@ host=h path=p",
     ),
     (
         "alike",

@@ -3,7 +3,7 @@
 use super::Example;
 
 /// Texts by which Git means another machine or another user.
-pub static MACHINE: [Example; 33] = [
+pub static MACHINE: [Example; 30] = [
     (
         "escaped-delimiter",
         b"git://h%2Fx/p",
@@ -165,24 +165,6 @@ pub static MACHINE: [Example; 33] = [
         b"git://u@h:22/p",
         "git host=u@h port=22 path=/p",
         "git user=u host=h port=22 path=/p",
-    ),
-    (
-        "empty-user",
-        b"ssh://@h/p",
-        "ssh user= host=h path=/p",
-        "ssh host=h path=/p",
-    ),
-    (
-        "empty-user",
-        b"ssh://@example.com/p",
-        "ssh user= host=example.com path=/p",
-        "ssh host=example.com path=/p",
-    ),
-    (
-        "empty-user",
-        b"git+ssh://@h/~u/p",
-        "ssh user= host=h path=~u/p",
-        "ssh host=h path=~u/p",
     ),
     (
         "host-of-file",

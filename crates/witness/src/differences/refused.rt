@@ -2,8 +2,8 @@
 
 use super::Example;
 
-/// Texts that one side alone refuses.
-pub static REFUSED: [Example; 30] = [
+/// Texts that Git refuses, or Secure Shell for it.
+pub static BY_GIT: [Example; 15] = [
     ("option", b"-h:p", "refused option", "ssh host=-h path=p"),
     (
         "option",
@@ -54,6 +54,24 @@ pub static REFUSED: [Example; 30] = [
         "ssh host=-h path=/p",
     ),
     (
+        "empty-user",
+        b"@h:p",
+        "refused empty user",
+        "ssh user= host=h path=p",
+    ),
+    (
+        "empty-user",
+        b"ssh://@h/p",
+        "refused empty user",
+        "ssh host=h path=/p",
+    ),
+    (
+        "empty-user",
+        b"git+ssh://@h/~u/p",
+        "refused empty user",
+        "ssh host=h path=~u/p",
+    ),
+    (
         "rsync",
         b"rsync:p",
         "refused rsync",
@@ -71,6 +89,10 @@ pub static REFUSED: [Example; 30] = [
         "refused rsync",
         "ssh host=rsync path=~u/p",
     ),
+];
+
+/// Texts that the library refuses.
+pub static HERE: [Example; 18] = [
     (
         "character",
         b"ssh://h/a b",

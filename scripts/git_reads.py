@@ -1,0 +1,136 @@
+"""A second reading of `GitReads`, the definition of what Git reads in a text (`crates/gix_url/specs/Git.antt`).
+
+Each function is a relation of the definition, and answers all that stands in it to what is given: every cut of the text is
+tried, and what each case asks is asked of it. It takes no word from Git: `scripts/git_witness` lays beside it what Git
+tells.
+"""
+import re
+
+from git_classes import Reading
+
+PROTOCOLS = {b"ssh": "ssh", b"git+ssh": "ssh", b"ssh+git": "ssh", b"git": "git", b"file": "file"}
+# An escape, but for that of byte 0.
+GIT_ESCAPE = re.compile(rb"%(?!00)([0-9A-Fa-f]{2})")
+HELPER_FORM = re.compile(rb"[0-9A-Za-z][0-9A-Za-z+.-]*::")
+
+
+def git_decode(text):
+    return GIT_ESCAPE.sub(lambda it: bytes([int(it[1], 16)]), text)
+
+
+def cuts(text, mark):
+    """What stands before a mark and behind it, for each place where one stands."""
+    return [(text[:at], text[at + len(mark) :]) for at in range(len(text)) if text.startswith(mark, at)]
+
+
+def first_cuts(text, mark):
+    return [(front, rest) for front, rest in cuts(text, mark) if mark not in front]
+
+
+def opens_host(text):
+    """The front before a bracket that opens a host, and what stands behind the bracket."""
+    behind_at = [(user + b"@", rest) for user, rest in cuts(text, b"@[") if b"@[" not in user]
+    at_front = [(b"", text[1:])] if text[:1] == b"[" and b"@[" not in text else []
+    return behind_at + at_front
+
+
+def in_brackets(text):
+    """The front, what is in the brackets, and what stands behind them."""
+    return [(front, inside, behind) for front, rest in opens_host(text) for inside, behind in first_cuts(rest, b"]")]
+
+
+def lacks_host_brackets(text):
+    is_unopened = b"@[" not in text and text[:1] != b"["
+    return is_unopened or any(b"]" not in rest for _, rest in opens_host(text))
+
+
+def host_ends(text):
+    """What is passed over, and what is left."""
+    brackets = [(front + b"[" + inside, b"]" + behind) for front, inside, behind in in_brackets(text)]
+    return brackets + ([(b"", text)] if lacks_host_brackets(text) else [])
+
+
+def places(mark, text):
+    """The place before a mark that isn't passed over, and what stands behind the mark."""
+    return [(passed + between, rest) for passed, end in host_ends(text) for between, rest in first_cuts(end, mark)]
+
+
+def git_port(text):
+    """The port that a text writes for C's `strtol`, None where it writes none."""
+    found = re.fullmatch(rb"[\t-\r ]*([+-]?)([0-9]+)", text)
+    number = int(found[2]) if found else None
+    return None if found is None or number > 65535 or (found[1] == b"-" and number) else number
+
+
+def before_ports(text):
+    """What stands before a port, and the port."""
+    found = [] if b":" in text else [(text, None)]
+    for front, digits in first_cuts(text, b":"):
+        port = git_port(digits)
+        # A port, or a colon alone, or no mark of a port.
+        found.append((text, None) if digits and port is None else (front, port))
+    return found
+
+
+def hosts_and_ports(place):
+    brackets = [(front + inside, port) for front, inside, behind in in_brackets(place) for _, port in before_ports(behind)]
+    return brackets + (before_ports(place) if lacks_host_brackets(place) else [])
+
+
+def secure_ports(named, found):
+    """The word for Secure Shell, and the port."""
+    if found is not None:
+        return [(named, found)]
+    inside = [(front, git_port(digits)) for front, digits in first_cuts(named, b":")]
+    return [(named if port is None else word, port) for word, port in inside] or [(named, None)]
+
+
+def user_cuts(word):
+    """User and host of a word: it is cut at its last `@`."""
+    alone = [] if b"@" in word else [(None, word)]
+    return alone + [(name, host) for name, host in cuts(word, b"@") if name and b"@" not in host]
+
+
+def reaches_secure(place, path):
+    words = [it for named, found in hosts_and_ports(place) for it in secure_ports(named, found)]
+    safe = [(word, port) for word, port in words if word[:1] != b"-" and path[:1] != b"-"]
+    return [Reading("ssh", user, None, host or None, port, path) for word, port in safe for user, host in user_cuts(word)]
+
+
+def reaches_git(place, path):
+    found = [] if b"\n" in place or b"\n" in path else hosts_and_ports(place)
+    return [Reading("git", None, None, host or None, port, path) for host, port in found]
+
+
+def on_this_machine(path):
+    return Reading("file", None, None, None, None, path)
+
+
+def from_tilde(path):
+    return path[1:] if path[1:2] == b"~" else path
+
+
+def reads_url(protocol, place, path):
+    """What is read in a URL of a transport with this place and this path, which begins with its `/`."""
+    if protocol == "file":
+        return [on_this_machine(path)]
+    return (reaches_secure if protocol == "ssh" else reaches_git)(place, from_tilde(path))
+
+
+def reads_other(text):
+    """What is read in a text that is no URL: the scp form and local paths."""
+    if b"://" in text or HELPER_FORM.match(text) or text.startswith((b"::", b"rsync:")):
+        return []
+    is_remote = any(b"/" not in front for front, _ in cuts(text, b":"))
+    is_local = b":" not in text or any(b":" not in front for front, _ in cuts(text, b"/"))
+    remote = [it for place, path in places(b":", text) for it in reaches_secure(place, from_tilde(path))] if is_remote else []
+    return remote + [on_this_machine(path) for _, path in host_ends(text) if is_local and path and path[:1] != b"-"]
+
+
+def git_reads(text):
+    """All readings of a text."""
+    if b"\0" in text or text[:1] == b"-":
+        return set()
+    urls = [(PROTOCOLS[scheme], git_decode(rest)) for scheme, rest in cuts(text, b"://") if scheme in PROTOCOLS]
+    own = [it for protocol, rest in urls for place, path in places(b"/", rest) for it in reads_url(protocol, place, b"/" + path)]
+    return {*own, *reads_other(text)}
