@@ -33,7 +33,7 @@ LOCALS = [b"/srv/repo.git", b"./a:b", b"[::1]", b"/~bob/r", b"/~", b"/~/x\xff", 
 REFUSED = [b"", b"file://host", b"ssh://h", b"host:", b"http://h/\xff", b"h:\xff", b"file://\xff/p", b"x:///" + b"a" * 1024, b"./a://b",
            b"http://h:0/", b"[a@b:22]:p", b"http://", b"::address", b"http://h/%2", b"a b:p"]
 # The first is written as another text, in which Git reads the same; of each other one part of the rule alone says no.
-GIT = [b"ssh://@h/p", b"ssh://u:p@h/p", b"git://u@h/p", b"h:a~u/p", b"h:-p", b"rsync:p", b"/a[b", b"/a]b"]
+GIT = [b"ssh://@h/p", b"@h:p", b"ssh://u:p@h/p", b"git://u@h/p", b"h:a~u/p", b"h:-p", b"rsync:p", b"/a[b", b"/a]b"]
 
 FORMS = {"Ext": "remote_helper", "Helper": "remote_helper"}
 PORTS = {"Http": 80, "Https": 443, "Ssh": 22, "Git": 9418}

@@ -9,10 +9,7 @@ import sys
 
 sys.dont_write_bytecode = True
 import oracle
-from git_classes import Case, Reading, is_careful
-
-# The schemes that Git reads by itself.
-OWN = {"File": "file", "Git": "git", "Ssh": "ssh"}
+from explained import agrees_with_git
 
 
 def text(word):
@@ -29,11 +26,7 @@ def components(parts):
 def agreement(line):
     """What the rule by hand says of the text that is written for what the line is read as."""
     v = oracle.spells(line)
-    if v is None or not oracle.settled(v):
-        return "unsure"
-    protocol = OWN.get(v.scheme[0], "helper " + oracle.as_str(v.scheme).decode())
-    ours = Reading(protocol, v.user, v.password, v.host or None, v.port, v.path)
-    return "alike" if is_careful(Case(oracle.text(v), None, ours), True) else "unsure"
+    return "alike" if v is not None and agrees_with_git(v) else "unsure"
 
 
 def of_explain(said, line):

@@ -239,11 +239,12 @@ impl Url {
     /// Whether Git reads this very place in the text of the location: the same protocol, user, host, port and path.
     ///
     /// Hand Git the text that [`Url::to_bstring`] writes, and not another one that was read as the location: of
-    /// `ssh://@h/p`, which is written as `ssh://h/p`, the answer is yes, and Git would read an empty user in it. What
-    /// Git reads is a definition, which was measured with git 2.39.5 on Linux.
+    /// `ssh://@h/p`, which is written as `ssh://h/p`, the answer is yes, and Git would give Secure Shell the word `@h`,
+    /// which it refuses. What Git reads is a definition. No proof says that Git keeps to it: a second reading of it was
+    /// compared with git 2.39.5 on Linux.
     ///
-    /// The answer is no for what Git hands to a remote helper, HTTP among it, and for what isn't settled. It is no for
-    /// some texts that Git reads alike: with an address in brackets, or with an escape.
+    /// The answer is no for what Git hands to a remote helper, HTTP among it, for an empty user of Secure Shell, and for
+    /// what isn't settled. It is no for some texts that Git reads alike, among them those with brackets or an escape.
     ///
     /// ```
     /// use gix_url_proved::{parse, Url};
