@@ -12,10 +12,7 @@ PROTOCOLS = {b"ssh": "ssh", b"git+ssh": "ssh", b"ssh+git": "ssh", b"git": "git",
 # An escape, but for that of byte 0.
 GIT_ESCAPE = re.compile(rb"%(?!00)([0-9A-Fa-f]{2})")
 HELPER_FORM = re.compile(rb"[0-9A-Za-z][0-9A-Za-z+.-]*::")
-
-
-def git_decode(text):
-    return GIT_ESCAPE.sub(lambda it: bytes([int(it[1], 16)]), text)
+ON_THIS_MACHINE = Reading("file", None, None, None, None, b"")
 
 
 def cuts(text, mark):
@@ -102,10 +99,6 @@ def reaches_git(place, path):
     return [Reading("git", None, None, host or None, port, path) for host, port in found]
 
 
-def on_this_machine(path):
-    return Reading("file", None, None, None, None, path)
-
-
 def from_tilde(path):
     return path[1:] if path[1:2] == b"~" else path
 
@@ -113,7 +106,7 @@ def from_tilde(path):
 def reads_url(protocol, place, path):
     """What is read in a URL of a transport with this place and this path, which begins with its `/`."""
     if protocol == "file":
-        return [on_this_machine(path)]
+        return [ON_THIS_MACHINE._replace(path=path)]
     return (reaches_secure if protocol == "ssh" else reaches_git)(place, from_tilde(path))
 
 
@@ -124,13 +117,14 @@ def reads_other(text):
     is_remote = any(b"/" not in front for front, _ in cuts(text, b":"))
     is_local = b":" not in text or any(b":" not in front for front, _ in cuts(text, b"/"))
     remote = [it for place, path in places(b":", text) for it in reaches_secure(place, from_tilde(path))] if is_remote else []
-    return remote + [on_this_machine(path) for _, path in host_ends(text) if is_local and path and path[:1] != b"-"]
+    return remote + [ON_THIS_MACHINE._replace(path=path) for _, path in host_ends(text) if is_local and path and path[:1] != b"-"]
 
 
 def git_reads(text):
     """All readings of a text."""
     if b"\0" in text or text[:1] == b"-":
         return set()
-    urls = [(PROTOCOLS[scheme], git_decode(rest)) for scheme, rest in cuts(text, b"://") if scheme in PROTOCOLS]
-    own = [it for protocol, rest in urls for place, path in places(b"/", rest) for it in reads_url(protocol, place, b"/" + path)]
+    urls = [(PROTOCOLS[scheme], rest) for scheme, rest in cuts(text, b"://") if scheme in PROTOCOLS]
+    decoded = [(protocol, GIT_ESCAPE.sub(lambda it: bytes([int(it[1], 16)]), rest)) for protocol, rest in urls]
+    own = [it for protocol, rest in decoded for place, path in places(b"/", rest) for it in reads_url(protocol, place, b"/" + path)]
     return {*own, *reads_other(text)}
