@@ -59,18 +59,17 @@ fn put(out: &mut String, name: &str, part: Option<&str>) -> Result<(), Fail> {
     Ok(())
 }
 
-/// Checks what the library reads in a text, whether that is what Git reads in it, and that the text is let by if it is.
-fn is_read(
+/// Checks what is read in the text of an example, whether that is what Git reads in it, and that it is let by if it is.
+fn is_as_stored(
     rt: &impl Abort,
-    alloc: Global,
-    &(class, text, git, ours): &Example,
+    &(class, _, git, ours): &Example,
+    told: &str,
+    is_let_by: bool,
     is_alike: bool,
-) -> Result<(), Fail> {
-    let told = told(alloc, text)?;
-    assert_eq!(rt; told.as_str(), ours, "{class}");
-    assert_eq!(rt; told.as_str() == git, is_alike, "{class}");
-    assert_eq!(rt; is_let_by(alloc, text)?, is_alike, "{class}");
-    Ok(())
+) {
+    assert_eq!(rt; told, ours);
+    assert_eq!(rt; told == git, is_alike, "{class}");
+    assert_eq!(rt; is_let_by, is_alike, "{class}");
 }
 
 /// Checks texts that are all read alike, or all read differently.
@@ -81,7 +80,9 @@ fn are_read(
     is_alike: bool,
 ) -> Result<(), Fail> {
     for example in examples {
-        is_read(rt, alloc, example, is_alike)?;
+        let told = told(alloc, example.1)?;
+        let is_let_by = is_let_by(alloc, example.1)?;
+        is_as_stored(rt, example, told.as_str(), is_let_by, is_alike);
     }
     Ok(())
 }
