@@ -1,6 +1,7 @@
 //! Every character up to U+00FF in every part of a location: how many of these locations are settled, and that each
 //! settled one comes back.
 
+use crate::checks::boxed;
 use gix_url::Url;
 use std::alloc::Global;
 use std::process::Abort;
@@ -35,30 +36,46 @@ fn filled(alloc: Global, text: &str, character: char) -> Result<String, Fail> {
     Ok(out)
 }
 
-/// The same of a part that may be missing.
-fn filled_part(alloc: Global, text: Option<&str>, character: char) -> Result<Option<String>, Fail> {
-    match text {
-        None => Ok(None),
-        Some(text) => Ok(Some(filled(alloc, text, character)?)),
+/// The part, or the text in its place where it is a `*`.
+fn put<'a>(part: Option<&'a str>, text: &'a str) -> Option<&'a str> {
+    match part {
+        Some("*") => Some(text),
+        _ => part,
     }
 }
 
-/// The location of these parts with each `*` as the character.
-fn with_character(alloc: Global, parts: Parts, character: char) -> Result<Url, Fail> {
+/// The location of these parts with the character for a `*`, which a user and a host are, and a path has in it.
+fn with_character(alloc: Global, parts: Parts, character: char) -> Result<Box<Url>, Fail> {
     let (scheme, user, host, path, flag) = parts;
-    let user = filled_part(alloc, user, character)?;
-    let host = filled_part(alloc, host, character)?;
+    let part = filled(alloc, "*", character)?;
     let path = filled(alloc, path, character)?;
-    unchecked(
-        alloc,
-        scheme,
-        user.as_deref(),
-        None,
-        host.as_deref(),
-        None,
-        path.as_bytes(),
-        flag,
-    )
+    let (user, host) = (put(user, part.as_str()), put(host, part.as_str()));
+    let path = path.as_bytes();
+    let url = unchecked(alloc, scheme, user, None, host, None, path, flag)?;
+    boxed(alloc, url)
+}
+
+/// Checks bytes of what was read again, by those of the location.
+fn is_same(rt: &impl Abort, url: &Url, bytes: &[u8], want: &[u8]) {
+    assert_eq!(rt; bytes, want, "a part of {url}");
+}
+
+/// Checks all but the path of what was read again.
+fn has_front(rt: &impl Abort, alloc: Global, url: &Url, again: &Url) -> Result<(), Fail> {
+    let front = told_front(alloc, url)?;
+    is_same(
+        rt,
+        url,
+        told_front(alloc, again)?.as_bytes(),
+        front.as_bytes(),
+    );
+    Ok(())
+}
+
+/// Checks what was read again.
+fn is_again(rt: &impl Abort, alloc: Global, url: &Url, again: &Url) -> Result<(), Fail> {
+    is_same(rt, url, again.path.as_bytes(), url.path.as_bytes());
+    has_front(rt, alloc, url, again)
 }
 
 /// Whether the location is settled. One that is has to come back from its text.
@@ -66,34 +83,49 @@ fn counts(rt: &impl Abort, alloc: Global, url: &Url) -> Result<bool, Fail> {
     if !url.is_settled() {
         return Ok(false);
     }
-    let again = url.reread(alloc)?;
-    assert_eq!(rt;
-        again.path.as_bytes(),
-        url.path.as_bytes(),
-        "the path of {url}"
-    );
-    assert_eq!(rt;
-        told_front(alloc, &again)?.as_str(),
-        told_front(alloc, url)?.as_str(),
-        "the parts of {url}"
-    );
+    let again = boxed(alloc, url.reread(alloc)?)?;
+    is_again(rt, alloc, url, &again)?;
     Ok(true)
+}
+
+/// Whether the location of these parts with this character is settled.
+fn counts_with(
+    rt: &impl Abort,
+    alloc: Global,
+    parts: Parts,
+    character: char,
+) -> Result<bool, Fail> {
+    let url = with_character(alloc, parts, character)?;
+    counts(rt, alloc, &url)
+}
+
+/// How many locations of these parts are settled.
+fn settled(rt: &impl Abort, alloc: Global, parts: Parts) -> Result<usize, Fail> {
+    let mut settled = 0usize;
+    for character in '\0'..='\u{ff}' {
+        if counts_with(rt, alloc, parts, character)? {
+            settled = settled.saturating_add(1);
+        }
+    }
+    Ok(settled)
+}
+
+/// Checks a number of settled locations.
+fn is_count(rt: &impl Abort, settled: usize, want: usize) {
+    assert_eq!(rt; settled, want);
 }
 
 #[test]
 fn every_character_in_every_part(rt: HostRuntime) -> Result<(), Fail> {
-    let alloc = rt.alloc();
     for &(parts, want) in EVERY_CHARACTER.as_slice() {
-        let mut settled = 0usize;
-        for character in '\0'..='\u{ff}' {
-            let url = with_character(alloc, parts, character)?;
-            if counts(&rt, alloc, &url)? {
-                settled = settled.saturating_add(1);
-            }
-        }
-        assert_eq!(rt; settled, want);
+        is_count(&rt, settled(&rt, rt.alloc(), parts)?, want);
     }
     Ok(())
+}
+
+/// Checks whether a local path of this byte is settled: all are but the one that ends an scp form's host.
+fn is_local(rt: &impl Abort, byte: u8, settled: bool) {
+    assert!(rt; settled == (byte != b':'), "{byte}");
 }
 
 #[test]
@@ -101,7 +133,8 @@ fn every_byte_as_a_local_path(rt: HostRuntime) -> Result<(), Fail> {
     let alloc = rt.alloc();
     for byte in 0..=255u8 {
         let url = unchecked(alloc, "File", None, None, None, None, &[byte], true)?;
-        assert_eq!(rt; counts(&rt, alloc, &url)?, byte != b':', "{byte}");
+        let url = boxed(alloc, url)?;
+        is_local(&rt, byte, counts(&rt, alloc, &url)?);
     }
     Ok(())
 }

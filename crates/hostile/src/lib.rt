@@ -7,6 +7,8 @@
 #[cfg(test)]
 mod characters;
 #[cfg(test)]
+mod checks;
+#[cfg(test)]
 mod ends;
 #[cfg(test)]
 mod errors;

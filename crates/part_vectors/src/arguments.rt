@@ -1,96 +1,116 @@
 //! Which parts of a location may be arguments of a command, and a user's choice that stands on it.
 
-use gix_url::{ArgumentSafety, Url};
+use crate::checks::read;
+use bstr::BStr;
+use gix_url::ArgumentSafety::{self, Absent, Dangerous, Usable};
+use gix_url::Url;
 use std::alloc::Global;
-use std::fmt::Write;
 use std::process::Abort;
 use std::test::Fail;
 
 /// Texts, and what the user, the host and the path of each are to a command line.
-static JUDGED: [(&str, &str); 13] = [
-    ("ssh://h/p", "absent, usable h, /p"),
+static JUDGED: [(
+    &str,
+    ArgumentSafety<'static>,
+    ArgumentSafety<'static>,
+    Option<&str>,
+); 13] = [
+    ("ssh://h/p", Absent, Usable("h"), Some("/p")),
     (
         "ssh://-Fconfig@host/repo",
-        "dangerous -Fconfig, usable host, /repo",
+        Dangerous("-Fconfig"),
+        Usable("host"),
+        Some("/repo"),
     ),
-    ("ssh://-h/-p", "absent, dangerous -h, no path"),
-    ("ssh://-u@-h/p-", "dangerous -u, dangerous -h, /p-"),
-    ("ssh://u-@h-/p", "usable u-, usable h-, /p"),
+    ("ssh://-h/-p", Absent, Dangerous("-h"), None),
+    (
+        "ssh://-u@-h/p-",
+        Dangerous("-u"),
+        Dangerous("-h"),
+        Some("/p-"),
+    ),
+    ("ssh://u-@h-/p", Usable("u-"), Usable("h-"), Some("/p")),
     (
         "-oProxyCommand=x@h:p",
-        "dangerous -oProxyCommand=x, usable h, no path",
+        Dangerous("-oProxyCommand=x"),
+        Usable("h"),
+        None,
     ),
-    ("@h:p", "usable , usable h, no path"),
-    ("ssh://[::1]/p", "absent, usable ::1, /p"),
-    ("git://[::1]/p", "absent, usable [::1], /p"),
-    ("http://h", "absent, usable h, /"),
-    ("http://h/?-x", "absent, usable h, /?-x"),
-    ("ssh://h/~a", "absent, usable h, no path"),
-    ("file:////-p", "absent, absent, //-p"),
+    ("@h:p", Usable(""), Usable("h"), None),
+    ("ssh://[::1]/p", Absent, Usable("::1"), Some("/p")),
+    ("git://[::1]/p", Absent, Usable("[::1]"), Some("/p")),
+    ("http://h", Absent, Usable("h"), Some("/")),
+    ("http://h/?-x", Absent, Usable("h"), Some("/?-x")),
+    ("ssh://h/~a", Absent, Usable("h"), None),
+    ("file:////-p", Absent, Absent, Some("//-p")),
 ];
 
-/// Appends the judgement of a part, in words, and the part.
-fn put(out: &mut String, part: ArgumentSafety<'_>) -> Result<(), Fail> {
-    match part {
-        ArgumentSafety::Absent => out.push_str("absent")?,
-        ArgumentSafety::Usable(text) => write!(out, "usable {text}")?,
-        ArgumentSafety::Dangerous(text) => write!(out, "dangerous {text}")?,
-    }
-    out.push_str(", ")?;
-    Ok(())
+/// Checks what a part of the location of a text is to a command line.
+fn is_judged(rt: &impl Abort, text: &str, part: ArgumentSafety<'_>, want: ArgumentSafety<'_>) {
+    assert_eq!(rt; part, want, "a part of {text}");
 }
 
-/// What the parts of a location are to a command line: the user, the host, and the path that is handed out.
-fn told(alloc: Global, url: &Url) -> Result<String, Fail> {
-    let mut out = String::new(alloc);
-    put(&mut out, url.user_as_argument())?;
-    put(&mut out, url.host_as_argument())?;
-    match url.path_argument_safe() {
-        None => out.push_str("no path")?,
-        Some(path) => write!(out, "{path}")?,
-    }
-    Ok(out)
+/// Checks the path of the location of a text that is handed out.
+fn is_path(rt: &impl Abort, text: &str, path: Option<BStr<'_>>, want: Option<&str>) {
+    let want = match want {
+        None => None,
+        Some(want) => Some(BStr::new(want.as_bytes())),
+    };
+    assert_eq!(rt; path, want, "the path of {text}");
 }
 
 /// The text of a part, where it is usable.
 fn usable(part: ArgumentSafety<'_>) -> Option<&str> {
     match part {
-        ArgumentSafety::Usable(text) => Some(text),
-        ArgumentSafety::Absent | ArgumentSafety::Dangerous(_) => None,
+        Usable(text) => Some(text),
+        Absent | Dangerous(_) => None,
     }
 }
 
-/// Whether the user and the host are handed out exactly where they are judged usable.
-fn hands_out(url: &Url) -> bool {
-    url.user_argument_safe() == usable(url.user_as_argument())
-        && url.host_argument_safe() == usable(url.host_as_argument())
+/// Checks a part of the location of a text that is handed out: it is, exactly where it is judged usable.
+fn is_handed_out(rt: &impl Abort, text: &str, out: Option<&str>, part: ArgumentSafety<'_>) {
+    assert_eq!(rt; out, usable(part), "a part of {text}");
 }
 
-/// Checks what the parts of a location are to a command line.
-fn is_judged(rt: &impl Abort, alloc: Global, url: &Url, parts: &str) -> Result<(), Fail> {
-    assert_eq!(rt; told(alloc, url)?.as_str(), parts);
-    assert!(rt; hands_out(url), "{parts}");
-    Ok(())
+/// Checks what the parts of the location of a text are to a command line.
+fn are_judged(
+    rt: &impl Abort,
+    url: &Url,
+    text: &str,
+    user: ArgumentSafety<'_>,
+    host: ArgumentSafety<'_>,
+    path: Option<&str>,
+) {
+    is_judged(rt, text, url.user_as_argument(), user);
+    is_judged(rt, text, url.host_as_argument(), host);
+    is_handed_out(rt, text, url.user_argument_safe(), url.user_as_argument());
+    is_handed_out(rt, text, url.host_argument_safe(), url.host_as_argument());
+    is_path(rt, text, url.path_argument_safe(), path);
 }
 
 #[test]
 fn parts_as_arguments(rt: HostRuntime) -> Result<(), Fail> {
-    for &(text, parts) in JUDGED.as_slice() {
-        let url = Url::from_text(rt.alloc(), text)?;
-        is_judged(&rt, rt.alloc(), &url, parts)?;
+    for &(text, user, host, path) in JUDGED.as_slice() {
+        let url = read(rt.alloc(), text)?;
+        are_judged(&rt, &url, text, user, host, path);
     }
     Ok(())
 }
 
+/// Checks whether two judgements are equal.
+fn are_equal(rt: &impl Abort, one: ArgumentSafety<'_>, other: ArgumentSafety<'_>, same: bool) {
+    assert_eq!(rt; one == other, same, "{one:?} and {other:?}");
+}
+
 #[test]
 fn judgements_are_equal_by_variant_and_text(rt: HostRuntime) {
-    let usable = ArgumentSafety::Usable("h");
+    let usable = Usable("h");
     let copied = usable;
-    assert_eq!(rt; usable, copied);
-    assert!(rt; usable != ArgumentSafety::Dangerous("h"));
-    assert!(rt; usable != ArgumentSafety::Usable("g"));
-    assert!(rt; ArgumentSafety::Usable("") != ArgumentSafety::Absent);
-    assert_eq!(rt; ArgumentSafety::Absent, ArgumentSafety::Absent);
+    are_equal(&rt, usable, copied, true);
+    are_equal(&rt, usable, Dangerous("h"), false);
+    are_equal(&rt, usable, Usable("g"), false);
+    are_equal(&rt, Usable(""), Absent, false);
+    are_equal(&rt, Absent, Absent, true);
 }
 
 /// The words of a call of `ssh`, where no part of the location can be taken for an option.
@@ -98,13 +118,11 @@ fn ssh_words(alloc: Global, url: &Url) -> Result<Option<String>, Fail> {
     let Some(host) = url.host_argument_safe() else {
         return Ok(None);
     };
-    let mut out = String::new(alloc);
     match url.user_as_argument() {
-        ArgumentSafety::Dangerous(_) => return Ok(None),
-        ArgumentSafety::Absent => write!(out, "ssh {host}")?,
-        ArgumentSafety::Usable(user) => write!(out, "ssh {user}@{host}")?,
+        Dangerous(_) => Ok(None),
+        Absent => Ok(Some(format!(in alloc; "ssh {host}")?)),
+        Usable(user) => Ok(Some(format!(in alloc; "ssh {user}@{host}")?)),
     }
-    Ok(Some(out))
 }
 
 /// Locations, and the words of a call of `ssh` with them.
@@ -115,13 +133,23 @@ static CALLED: [(&str, Option<&str>); 4] = [
     ("-oProxyCommand=x:repo", None),
 ];
 
+/// Checks the words of a call.
+fn are_words(rt: &impl Abort, called: Option<&str>, words: Option<&str>) {
+    assert_eq!(rt; called, words);
+}
+
+/// Checks the words of a call of `ssh` with the location of a text.
+fn calls(rt: &impl Abort, alloc: Global, text: &str, words: Option<&str>) -> Result<(), Fail> {
+    let url = read(alloc, text)?;
+    let called = ssh_words(alloc, &url)?;
+    are_words(rt, called.as_deref(), words);
+    Ok(())
+}
+
 #[test]
 fn a_command_without_options_from_outside(rt: HostRuntime) -> Result<(), Fail> {
-    let alloc = rt.alloc();
     for &(text, words) in CALLED.as_slice() {
-        let url = Url::from_text(alloc, text)?;
-        let called = ssh_words(alloc, &url)?;
-        assert_eq!(rt; called.as_deref(), words, "a call with {text}");
+        calls(&rt, rt.alloc(), text, words)?;
     }
     Ok(())
 }

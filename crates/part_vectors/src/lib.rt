@@ -7,6 +7,8 @@
 #[cfg(test)]
 mod arguments;
 #[cfg(test)]
+mod checks;
+#[cfg(test)]
 mod logs;
 #[cfg(test)]
 mod ordering;

@@ -1,10 +1,12 @@
 //! What a log holds: not the field `password` of a location, and no byte of a text that was refused.
 
+use crate::checks::{boxed, is_text, is_wrong, read};
 use bstr::{BStr, BString};
 use gix_url::expand_path::ForUser;
 use gix_url::parse::parse;
 use gix_url::{Error, Url, WriteFault};
 use std::alloc::Global;
+use std::fmt::Debug;
 use std::process::Abort;
 use std::test::Fail;
 use told::unchecked;
@@ -21,50 +23,70 @@ static SCHEMES: [&str; 8] = [
     "HelperUrl x",
 ];
 
-/// Checks that what is logged shows this in place of a password.
+/// Checks that what is logged shows this, and no password.
 fn is_hidden(rt: &impl Abort, shown: &str, word: &str) {
-    assert!(rt; !shown.contains("secret"), "a password in {shown}");
-    assert!(rt; shown.contains(word), "no word for the password in {shown}");
+    assert!(rt;
+        !shown.contains("secret") && shown.contains(word),
+        "{word} in {shown}"
+    );
 }
 
 /// Checks that a log of a location shows `redacted` in place of its password, on one line and on many.
 fn hides(rt: &impl Abort, alloc: Global, url: &Url) -> Result<(), Fail> {
-    let line = format!(in alloc; "{url:?}")?;
-    is_hidden(rt, line.as_str(), "password: Some(\"redacted\")");
-    let lines = format!(in alloc; "{url:#?}")?;
-    is_hidden(rt, lines.as_str(), "\"redacted\"");
+    is_hidden(
+        rt,
+        format!(in alloc; "{url:?}")?.as_str(),
+        "password: Some(\"redacted\")",
+    );
+    is_hidden(rt, format!(in alloc; "{url:#?}")?.as_str(), "\"redacted\"");
     Ok(())
 }
 
-/// Checks logs of locations with a password, of this scheme.
-fn hide(rt: &impl Abort, alloc: Global, scheme: &str, flag: bool) -> Result<(), Fail> {
-    for user in [None, Some("u")] {
-        let (password, host) = (Some("secret"), Some("h"));
-        let url = unchecked(alloc, scheme, user, password, host, None, b"/p", flag)?;
-        hides(rt, alloc, &url)?;
-    }
-    Ok(())
+/// Checks logs of a location with a password, of this scheme, user and flag.
+fn hide(
+    rt: &impl Abort,
+    alloc: Global,
+    scheme: &str,
+    user: Option<&str>,
+    flag: bool,
+) -> Result<(), Fail> {
+    let (password, host) = (Some("secret"), Some("h"));
+    let url = unchecked(alloc, scheme, user, password, host, None, b"/p", flag)?;
+    let url = boxed(alloc, url)?;
+    hides(rt, alloc, &url)
 }
+
+/// Users and flags.
+static USERS: [(Option<&str>, bool); 4] = [
+    (None, false),
+    (None, true),
+    (Some("u"), false),
+    (Some("u"), true),
+];
 
 #[test]
 fn a_location_of_every_kind(rt: HostRuntime) -> Result<(), Fail> {
     for &scheme in SCHEMES.as_slice() {
-        hide(&rt, rt.alloc(), scheme, false)?;
-        hide(&rt, rt.alloc(), scheme, true)?;
+        for &(user, flag) in USERS.as_slice() {
+            hide(&rt, rt.alloc(), scheme, user, flag)?;
+        }
     }
     Ok(())
 }
 
+/// Texts with a password.
+static SECRET: [&str; 4] = [
+    "ssh://u:secret@h/p",
+    "http://u:secret@h:80/a%20b?c#d",
+    "git://:secret@h/p",
+    "x://u:s%65cret@h",
+];
+
 #[test]
 fn a_location_that_was_read(rt: HostRuntime) -> Result<(), Fail> {
-    let alloc = rt.alloc();
-    for text in [
-        "ssh://u:secret@h/p",
-        "http://u:secret@h:80/a%20b?c#d",
-        "git://:secret@h/p",
-        "x://u:s%65cret@h",
-    ] {
-        hides(&rt, alloc, &Url::from_text(alloc, text)?)?;
+    for &text in SECRET.as_slice() {
+        let url = read(rt.alloc(), text)?;
+        hides(&rt, rt.alloc(), &url)?;
     }
     Ok(())
 }
@@ -83,12 +105,17 @@ static LOGGED: [(&str, &str); 2] = [
     ),
 ];
 
+/// Checks what a log holds of a location.
+fn shows(rt: &impl Abort, alloc: Global, url: &Url, shown: &str) -> Result<(), Fail> {
+    is_text(rt, format!(in alloc; "{url:?}")?.as_str(), shown);
+    Ok(())
+}
+
 #[test]
 fn all_other_parts_are_shown(rt: HostRuntime) -> Result<(), Fail> {
     for &(text, shown) in LOGGED.as_slice() {
-        let url = Url::from_text(rt.alloc(), text)?;
-        let logged = format!(in rt.alloc(); "{url:?}")?;
-        assert_eq!(rt; logged.as_str(), shown);
+        let url = read(rt.alloc(), text)?;
+        shows(&rt, rt.alloc(), &url, shown)?;
     }
     Ok(())
 }
@@ -135,33 +162,23 @@ static REFUSED: [(&[u8], &str); 11] = [
     ),
 ];
 
-/// Checks what a log holds of an error, on one line.
-fn is_logged(rt: &impl Abort, alloc: Global, error: &Error, shown: &str) -> Result<(), Fail> {
-    let logged = format!(in alloc; "{error:?}")?;
-    assert_eq!(rt; logged.as_str(), shown);
-    Ok(())
-}
-
-/// Checks that a log of an error, on many lines, holds nothing of the password in the text.
-fn keeps_silent(rt: &impl Abort, alloc: Global, error: &Error) -> Result<(), Fail> {
-    let logged = format!(in alloc; "{error:#?}")?;
-    assert!(rt; !logged.contains("secret"), "the text in {logged}");
-    Ok(())
-}
-
-/// Checks that there is no location, and what a log holds of the error.
-fn refuses(
+/// Checks logs of an error: all of one on one line, and that one on many lines holds no password.
+fn logs<T: Debug + Drop>(
     rt: &impl Abort,
     alloc: Global,
-    read: &Result<Url, Error>,
+    error: T,
     shown: &str,
 ) -> Result<(), Fail> {
-    match read {
-        Ok(url) => assert!(rt; false, "{url} is read"),
-        Err(error) => {
-            is_logged(rt, alloc, error, shown)?;
-            keeps_silent(rt, alloc, error)?;
-        }
+    is_text(rt, format!(in alloc; "{error:?}")?.as_str(), shown);
+    is_hidden(rt, format!(in alloc; "{error:#?}")?.as_str(), "");
+    Ok(())
+}
+
+/// Checks that there is no location of these bytes, and what a log holds of the error.
+fn refuses(rt: &impl Abort, alloc: Global, bytes: &[u8], shown: &str) -> Result<(), Fail> {
+    match parse(alloc, BStr::new(bytes)) {
+        Ok(url) => is_wrong(rt, url),
+        Err(error) => logs(rt, alloc, error, shown)?,
     }
     Ok(())
 }
@@ -169,7 +186,7 @@ fn refuses(
 #[test]
 fn a_text_that_was_refused(rt: HostRuntime) -> Result<(), Fail> {
     for &(bytes, shown) in REFUSED.as_slice() {
-        refuses(&rt, rt.alloc(), &parse(rt.alloc(), BStr::new(bytes)), shown)?;
+        refuses(&rt, rt.alloc(), bytes, shown)?;
     }
     Ok(())
 }
@@ -180,11 +197,10 @@ fn a_text_that_is_too_long(rt: HostRuntime) -> Result<(), Fail> {
     for _ in 0..2000 {
         text.push('h')?;
     }
-    let read = Url::from_text(rt.alloc(), text.as_str());
     refuses(
         &rt,
         rt.alloc(),
-        &read,
+        text.as_bytes(),
         "TooLong { shown: 1031 bytes, total: 2016 }",
     )
 }
@@ -214,7 +230,7 @@ static TEXTLESS: [&str; 6] = [
 #[test]
 fn errors_that_hold_no_text(rt: HostRuntime) -> Result<(), Fail> {
     for (number, shown) in TEXTLESS.as_slice().iter().enumerate() {
-        is_logged(&rt, rt.alloc(), &textless(number), shown)?;
+        logs(&rt, rt.alloc(), textless(number), shown)?;
     }
     Ok(())
 }
@@ -222,6 +238,6 @@ fn errors_that_hold_no_text(rt: HostRuntime) -> Result<(), Fail> {
 #[test]
 fn the_name_of_a_helper(rt: HostRuntime) -> Result<(), Fail> {
     let name = BString::from_slice(rt.alloc(), b"-u:secret")?;
-    let error = Error::HelperName { name };
-    is_logged(&rt, rt.alloc(), &error, "HelperName { name: 9 bytes }")
+    let shown = "HelperName { name: 9 bytes }";
+    logs(&rt, rt.alloc(), Error::HelperName { name }, shown)
 }

@@ -3,6 +3,7 @@
 ghost use Rattle.std.specs.Prelude.{◌≡◌, ◌↔◌, IfErr, IfOk, IsSorted, IsTrue};
 ghost use Rattle.gix_url.specs.declared.error.Error.TheVariants as error;
 
+use crate::checks::{boxed, read};
 use bstr::{BStr, BString};
 use gix_url::laws::law_order;
 use gix_url::{Error, Scheme, Url};
@@ -64,30 +65,26 @@ fn hash_of<T: Hash>(value: &T) -> u64 {
     state.finish()
 }
 
+/// Checks an order of two locations, by their places.
+fn is_order(rt: &impl Abort, order: Option<Ordering>, one: usize, other: usize) {
+    assert_eq!(rt; order, Some(one.cmp(&other)), "{one} and {other}");
+}
+
 /// Checks how two locations compare, by their places in the order.
 fn compare(rt: &impl Abort, one: (usize, &Url), other: (usize, &Url)) {
-    let order = one.0.cmp(&other.0);
-    assert_eq!(rt; one.1.cmp(other.1), order, "{} and {}", one.0, other.0);
-    assert_eq!(rt;
-        one.1.partial_cmp(other.1),
-        Some(order),
-        "{} and {}",
-        one.0,
-        other.0
-    );
+    is_order(rt, Some(one.1.cmp(other.1)), one.0, other.0);
+    is_order(rt, one.1.partial_cmp(other.1), one.0, other.0);
+}
+
+/// Checks whether two locations are the same, by their places.
+fn are_same(rt: &impl Abort, same: bool, one: usize, other: usize) {
+    assert!(rt; same == (one == other), "{one} and {other}");
 }
 
 /// Checks that two locations are equal, and hashed alike, where their places are the same.
 fn equal(rt: &impl Abort, one: (usize, &Url), other: (usize, &Url)) {
-    let same = one.0 == other.0;
-    assert_eq!(rt; one.1 == other.1, same, "{} and {}", one.0, other.0);
-    assert_eq!(rt;
-        hash_of(one.1) == hash_of(other.1),
-        same,
-        "{} and {}",
-        one.0,
-        other.0
-    );
+    are_same(rt, one.1 == other.1, one.0, other.0);
+    are_same(rt, hash_of(one.1) == hash_of(other.1), one.0, other.0);
 }
 
 #[test]
@@ -110,14 +107,23 @@ fn sorted<T: Ord + Drop>(mut items: Vec<T>) -> Result<Vec<T>, AllocError>
     Ok(items)
 }
 
+/// All locations, put into order from the last to the first.
+fn sorted_backwards(alloc: Global) -> Result<Vec<Url>, Fail> {
+    let mut all = read_all(alloc, IN_ORDER.as_slice())?;
+    all.reverse();
+    Ok(sorted(all)?)
+}
+
+/// Checks that two lists are equal.
+fn are_equal(rt: &impl Abort, one: &[Url], other: &[Url]) {
+    assert!(rt; one == other);
+}
+
 #[test]
 fn a_list_is_sorted(rt: HostRuntime) -> Result<(), Fail> {
-    let alloc = rt.alloc();
-    let mut backwards = read_all(alloc, IN_ORDER.as_slice())?;
-    backwards.reverse();
-    let forwards = read_all(alloc, IN_ORDER.as_slice())?;
-    let sorted = sorted(backwards)?;
-    assert!(rt; sorted.as_slice() == forwards.as_slice());
+    let sorted = sorted_backwards(rt.alloc())?;
+    let forwards = read_all(rt.alloc(), IN_ORDER.as_slice())?;
+    are_equal(&rt, sorted.as_slice(), forwards.as_slice());
     Ok(())
 }
 
@@ -142,18 +148,36 @@ fn numbered_by_hash<K: Eq + Hash + Drop>(
     Ok(numbers)
 }
 
-/// Checks the number of a text's location, if it has one, by order and by hash.
+/// Checks a number.
+fn is_number(rt: &impl Abort, number: Option<&usize>, want: Option<&usize>) {
+    assert_eq!(rt; number, want);
+}
+
+/// Checks the number of a location, if it has one, by order and by hash.
 fn is_numbered(
+    rt: &impl Abort,
+    by_order: &BTreeMap<Url, usize>,
+    by_hash: &HashMap<Url, usize>,
+    url: &Url,
+    number: Option<&usize>,
+) {
+    is_number(rt, by_order.get(url), number);
+    is_number(rt, by_hash.get(url), number);
+}
+
+/// Checks the numbers of all locations, and that another has none.
+fn are_numbered(
     rt: &impl Abort,
     alloc: Global,
     by_order: &BTreeMap<Url, usize>,
     by_hash: &HashMap<Url, usize>,
-    text: &str,
-    number: Option<usize>,
 ) -> Result<(), Fail> {
-    let url = Url::from_text(alloc, text)?;
-    assert_eq!(rt; by_order.get(&url).copied(), number, "{text}");
-    assert_eq!(rt; by_hash.get(&url).copied(), number, "{text}");
+    for (number, &text) in IN_ORDER.as_slice().iter().enumerate() {
+        let url = read(alloc, text)?;
+        is_numbered(rt, by_order, by_hash, &url, Some(&number));
+    }
+    let url = read(alloc, "http://h/%61?")?;
+    is_numbered(rt, by_order, by_hash, &url, None);
     Ok(())
 }
 
@@ -161,23 +185,32 @@ fn is_numbered(
 fn locations_are_keys(rt: HostRuntime) -> Result<(), Fail> {
     let by_order = numbered(rt.alloc(), read_all(rt.alloc(), IN_ORDER.as_slice())?)?;
     let by_hash = numbered_by_hash(rt.alloc(), read_all(rt.alloc(), IN_ORDER.as_slice())?)?;
-    for (number, &text) in IN_ORDER.as_slice().iter().enumerate() {
-        is_numbered(&rt, rt.alloc(), &by_order, &by_hash, text, Some(number))?;
-    }
-    is_numbered(&rt, rt.alloc(), &by_order, &by_hash, "http://h/%61?", None)
+    are_numbered(&rt, rt.alloc(), &by_order, &by_hash)
 }
 
 /// Checks that a scheme comes before another.
 fn comes_before(rt: &impl Abort, scheme: &Scheme, next: &Scheme) {
-    assert_eq!(rt; scheme.cmp(next), Ordering::Less, "{scheme} and {next}");
-    assert!(rt; scheme < next, "{scheme} and {next}");
+    assert!(rt;
+        scheme.cmp(next) == Ordering::Less && scheme < next,
+        "{scheme} and {next}"
+    );
+}
+
+/// The scheme of a helper.
+fn helper(alloc: Global, name: &str) -> Result<Box<Scheme>, Fail> {
+    boxed(alloc, Scheme::Helper(String::from_str(alloc, name)?))
+}
+
+/// The scheme of URLs of a helper.
+fn helper_url(alloc: Global, name: &str) -> Result<Box<Scheme>, Fail> {
+    boxed(alloc, Scheme::HelperUrl(String::from_str(alloc, name)?))
 }
 
 #[test]
 fn schemes_by_kind_and_name(rt: HostRuntime) -> Result<(), Fail> {
-    let helper = Scheme::Helper(String::from_str(rt.alloc(), "z")?);
-    let nameless = Scheme::HelperUrl(String::new(rt.alloc()));
-    let url = Scheme::HelperUrl(String::from_str(rt.alloc(), "a")?);
+    let helper = helper(rt.alloc(), "z")?;
+    let nameless = helper_url(rt.alloc(), "")?;
+    let url = helper_url(rt.alloc(), "a")?;
     comes_before(&rt, &Scheme::File, &Scheme::Git);
     comes_before(&rt, &Scheme::Ext, &helper);
     comes_before(&rt, &helper, &nameless);
@@ -186,67 +219,88 @@ fn schemes_by_kind_and_name(rt: HostRuntime) -> Result<(), Fail> {
     Ok(())
 }
 
+/// Checks whether two schemes are equal.
+fn is_scheme(rt: &impl Abort, scheme: &Scheme, other: &Scheme, same: bool) {
+    assert!(rt; (scheme == other) == same, "{scheme} and {other}");
+}
+
+/// Checks that two schemes are equal, and hashed alike.
+fn is_copy(rt: &impl Abort, scheme: &Scheme, copy: &Scheme) {
+    is_scheme(rt, scheme, copy, true);
+    assert!(rt; hash_of(scheme) == hash_of(copy), "{scheme}");
+}
+
 #[test]
 fn schemes_of_one_kind_and_name(rt: HostRuntime) -> Result<(), Fail> {
-    let helper = Scheme::Helper(String::from_str(rt.alloc(), "ext")?);
-    let same = Scheme::Helper(String::from_str(rt.alloc(), "ext")?);
-    assert!(rt; helper == same);
-    assert_eq!(rt; hash_of(&helper), hash_of(&same));
-    assert!(rt; helper != Scheme::Ext);
+    let same = helper(rt.alloc(), "ext")?;
+    let helper = helper(rt.alloc(), "ext")?;
+    is_copy(&rt, &helper, &same);
+    is_scheme(&rt, &helper, &Scheme::Ext, false);
     Ok(())
 }
 
-/// Checks that a copy is equal to the original until it is changed.
-fn changes_alone(rt: &impl Abort, alloc: Global, url: &Url) -> Result<(), Fail> {
-    let mut changed = url.clone(alloc)?;
-    assert!(rt; changed == *url, "{url}");
-    assert_eq!(rt; hash_of(&changed), hash_of(url), "{url}");
+/// A copy.
+fn copied(alloc: Global, url: &Url) -> Result<Box<Url>, Fail> {
+    boxed(alloc, url.clone(alloc)?)
+}
+
+/// Checks that a copy is equal to the original, which has this place, until it is changed.
+fn changes_alone(rt: &impl Abort, alloc: Global, place: usize, url: &Url) -> Result<(), Fail> {
+    let mut changed = copied(alloc, url)?;
+    equal(rt, (place, &changed), (place, url));
     changed.path = BString::from_slice(alloc, b"another")?;
-    assert!(rt; changed != *url, "{url}");
+    equal(rt, (usize::MAX, &changed), (place, url));
     Ok(())
 }
 
 /// A copy of what the text is read as, which is there no more.
-fn copy_of(alloc: Global, text: &str) -> Result<Url, Error> {
-    Url::from_text(alloc, text)?.clone(alloc)
+fn copy_of(alloc: Global, text: &str) -> Result<Box<Url>, Fail> {
+    let url = read(alloc, text)?;
+    copied(alloc, &url)
 }
 
 /// Checks that a copy is equal to the original, and that neither notices what becomes of the other.
-fn copies(rt: &impl Abort, alloc: Global, text: &str) -> Result<(), Fail> {
-    let url = Url::from_text(alloc, text)?;
-    changes_alone(rt, alloc, &url)?;
-    assert!(rt; copy_of(alloc, text)? == url, "{text}");
-    Ok(())
+fn copies(rt: &impl Abort, alloc: Global, place: usize, text: &str) -> Result<(), Fail> {
+    let url = read(alloc, text)?;
+    let copy = copy_of(alloc, text)?;
+    equal(rt, (place, &copy), (place, &url));
+    changes_alone(rt, alloc, place, &url)
 }
+
+/// A text with every part.
+static EVERY_PART: &str = "https://user%40name:p%3A%2F@h:8080/a%20b?c#d";
 
 #[test]
 fn copies_stand_alone(rt: HostRuntime) -> Result<(), Fail> {
-    for &text in IN_ORDER.as_slice() {
-        copies(&rt, rt.alloc(), text)?;
+    for (place, &text) in IN_ORDER.as_slice().iter().enumerate() {
+        copies(&rt, rt.alloc(), place, text)?;
     }
-    copies(
-        &rt,
-        rt.alloc(),
-        "https://user%40name:p%3A%2F@h:8080/a%20b?c#d",
-    )
+    copies(&rt, rt.alloc(), IN_ORDER.len(), EVERY_PART)
+}
+
+/// Checks that a copy of a scheme is equal to it.
+fn copies_alike(rt: &impl Abort, alloc: Global, scheme: &Scheme) -> Result<(), Fail> {
+    let copy = boxed(alloc, scheme.clone(alloc)?)?;
+    is_copy(rt, scheme, &copy);
+    Ok(())
 }
 
 #[test]
 fn copies_of_schemes(rt: HostRuntime) -> Result<(), Fail> {
     for &text in IN_ORDER.as_slice() {
-        let url = Url::from_text(rt.alloc(), text)?;
-        let copy = url.scheme.clone(rt.alloc())?;
-        assert!(rt; copy == url.scheme, "{text}");
+        let url = read(rt.alloc(), text)?;
+        copies_alike(&rt, rt.alloc(), &url.scheme)?;
     }
     Ok(())
 }
 
 #[test]
 fn copies_of_bytes(rt: HostRuntime) -> Result<(), Fail> {
-    let url = Url::from_bytes(rt.alloc(), BStr::new(b"/\xff"))?;
-    let copy = url.clone(rt.alloc())?;
-    assert!(rt; copy == url);
-    Ok(())
+    let url = boxed(
+        rt.alloc(),
+        Url::from_bytes(rt.alloc(), BStr::new(b"/\xff"))?,
+    )?;
+    changes_alone(&rt, rt.alloc(), 0, &url)
 }
 
 /// Whether two locations are one value.
@@ -267,13 +321,23 @@ fn equals_its_copy(alloc: Global, url: &Url) -> Result<bool, Error>
     Ok(copy == *url)
 }
 
+/// Checks whether two locations are one.
+fn is_one(rt: &impl Abort, url: &Url, other: &Url, one: bool) {
+    assert_eq!(rt; are_one(url, other), one);
+}
+
+/// Checks that a copy of the location is equal to it.
+fn is_copied(rt: &impl Abort, alloc: Global, url: &Url) -> Result<(), Fail> {
+    assert!(rt; equals_its_copy(alloc, url)?);
+    Ok(())
+}
+
 #[test]
 fn equal_locations_are_one(rt: HostRuntime) -> Result<(), Fail> {
-    let alloc = rt.alloc();
-    let url = Url::from_text(alloc, "http://h/%61")?;
-    let same_fields = Url::from_text(alloc, "http://h/a")?;
-    assert!(rt; !are_one(&url, &same_fields));
-    assert!(rt; are_one(&url, &Url::from_text(alloc, "http://h/%61")?));
-    assert!(rt; equals_its_copy(alloc, &url)?);
-    Ok(())
+    let url = read(rt.alloc(), "http://h/%61")?;
+    let same_fields = read(rt.alloc(), "http://h/a")?;
+    is_one(&rt, &url, &same_fields, false);
+    let same_text = read(rt.alloc(), "http://h/%61")?;
+    is_one(&rt, &url, &same_text, true);
+    is_copied(&rt, rt.alloc(), &url)
 }

@@ -1,5 +1,6 @@
 //! Parts looked at and exchanged, and the location that has none.
 
+use crate::checks::{boxed, is_text, read};
 use bstr::BString;
 use gix_url::{Scheme, Url};
 use std::alloc::Global;
@@ -15,7 +16,7 @@ fn is(rt: &impl Abort, part: Option<&str>, want: Option<&str>) {
 
 /// Checks how a location is written.
 fn written(rt: &impl Abort, alloc: Global, url: &Url, want: &str) -> Result<(), Fail> {
-    assert_eq!(rt; told_text(alloc, url)?.as_str(), want);
+    is_text(rt, told_text(alloc, url)?.as_str(), want);
     Ok(())
 }
 
@@ -48,23 +49,30 @@ static NAMED: [(&str, &str); 5] = [
     ("ssh://[]/p", "none none <> "),
 ];
 
+/// Checks the user, the password and the host of a location.
+fn are_named(rt: &impl Abort, alloc: Global, url: &Url, parts: &str) -> Result<(), Fail> {
+    is_text(rt, told_names(alloc, url)?.as_str(), parts);
+    Ok(())
+}
+
 #[test]
 fn the_parts_of_a_location(rt: HostRuntime) -> Result<(), Fail> {
     let alloc = rt.alloc();
     for &(text, parts) in NAMED.as_slice() {
-        let url = Url::from_text(alloc, text)?;
-        assert_eq!(rt;
-            told_names(alloc, &url)?.as_str(),
-            parts,
-            "the parts of {text}"
-        );
+        let url = read(alloc, text)?;
+        are_named(&rt, alloc, &url, parts)?;
     }
     Ok(())
 }
 
 /// The location that the text is read as, with another user than `git`.
-fn renamed(rt: &impl Abort, alloc: Global, text: &str, user: Option<String>) -> Result<Url, Fail> {
-    let mut url = Url::from_text(alloc, text)?;
+fn renamed(
+    rt: &impl Abort,
+    alloc: Global,
+    text: &str,
+    user: Option<String>,
+) -> Result<Box<Url>, Fail> {
+    let mut url = read(alloc, text)?;
     let before = url.set_user(user);
     is(rt, before.as_deref(), Some("git"));
     Ok(url)
@@ -97,7 +105,7 @@ fn exchanges(rt: &impl Abort, url: &mut Url, password: Option<String>, before: &
 
 #[test]
 fn another_password(rt: HostRuntime) -> Result<(), Fail> {
-    let mut url = Url::from_text(rt.alloc(), "https://u:old@h:8080/a%20b")?;
+    let mut url = read(rt.alloc(), "https://u:old@h:8080/a%20b")?;
     exchanges(&rt, &mut url, Some("n:w".to_string(rt.alloc())?), "old");
     is(&rt, url.password(), Some("n:w"));
     written(&rt, rt.alloc(), &url, "settled https://u:n:w@h:8080/a%20b")?;
@@ -114,30 +122,49 @@ static FORMS: [(&str, bool, &str); 5] = [
     ("ssh://u@h:22/p", true, "unsettled ssh://u@h:22/p"),
 ];
 
+/// Checks the form that is asked for, and how a location is written then.
+fn is_formed(
+    rt: &impl Abort,
+    alloc: Global,
+    url: &Url,
+    flag: bool,
+    want: &str,
+) -> Result<(), Fail> {
+    assert!(rt;
+        url.serialize_alternative_form == flag,
+        "the flag of {want}"
+    );
+    written(rt, alloc, url, want)
+}
+
 #[test]
 fn another_form(rt: HostRuntime) -> Result<(), Fail> {
     let alloc = rt.alloc();
     for &(text, flag, want) in FORMS.as_slice() {
         let url = Url::from_text(alloc, text)?.with_request_alternate_form(flag);
-        assert_eq!(rt; url.serialize_alternative_form, flag, "the flag of {text}");
-        written(&rt, alloc, &url, want)?;
+        let url = boxed(alloc, url)?;
+        is_formed(&rt, alloc, &url, flag, want)?;
     }
     Ok(())
 }
 
+/// Checks that a location has no part but its scheme.
+fn has_nothing(rt: &impl Abort, alloc: Global, url: &Url) -> Result<(), Fail> {
+    is_text(rt, told_front(alloc, url)?.as_str(), "Ssh");
+    spelled(rt, url, "");
+    written(rt, alloc, url, "unsettled ssh:///")
+}
+
 #[test]
 fn the_location_with_nothing_in_it(rt: HostRuntime) -> Result<(), Fail> {
-    let alloc = rt.alloc();
-    let url = Url::default_in(alloc);
-    assert_eq!(rt; told_front(alloc, &url)?.as_str(), "Ssh");
-    spelled(&rt, &url, "");
-    written(&rt, alloc, &url, "unsettled ssh:///")
+    let url = boxed(rt.alloc(), Url::default_in(rt.alloc()))?;
+    has_nothing(&rt, rt.alloc(), &url)
 }
 
 #[test]
 fn parts_put_into_nothing(rt: HostRuntime) -> Result<(), Fail> {
     let alloc = rt.alloc();
-    let mut url = Url::default_in(alloc);
+    let mut url = boxed(alloc, Url::default_in(alloc))?;
     url.host = Some("h".to_string(alloc)?);
     url.path = BString::from_slice(alloc, b"/p")?;
     written(&rt, alloc, &url, "settled ssh://h/p")
@@ -159,13 +186,23 @@ static PORTS: [(&str, Option<u16>, bool); 12] = [
     ("h:p", Some(22), false),
 ];
 
+/// Checks the port of a text.
+fn is_port(rt: &impl Abort, text: &str, port: Option<u16>, want: Option<u16>) {
+    assert_eq!(rt; port, want, "the port of {text}");
+}
+
+/// Checks the port of the location of a text, and whether its path is the root.
+fn has(rt: &impl Abort, text: &str, url: &Url, port: Option<u16>, is_root: bool) {
+    is_port(rt, text, url.port_or_default(), port);
+    assert!(rt; url.path_is_root() == is_root, "the path of {text}");
+}
+
 #[test]
 fn ports_and_roots(rt: HostRuntime) -> Result<(), Fail> {
     let alloc = rt.alloc();
     for &(text, port, root) in PORTS.as_slice() {
-        let url = Url::from_text(alloc, text)?;
-        assert_eq!(rt; url.port_or_default(), port, "the port of {text}");
-        assert_eq!(rt; url.path_is_root(), root, "the path of {text}");
+        let url = read(alloc, text)?;
+        has(&rt, text, &url, port, root);
     }
     Ok(())
 }
@@ -186,8 +223,8 @@ static DEFAULTS: [(&str, Option<u16>); 8] = [
 fn ports_of_schemes(rt: HostRuntime) -> Result<(), Fail> {
     let alloc = rt.alloc();
     for &(text, port) in DEFAULTS.as_slice() {
-        let scheme = Scheme::from_text(alloc, text)?;
-        assert_eq!(rt; scheme.default_port(), port, "the port of {text}");
+        let scheme = boxed(alloc, Scheme::from_text(alloc, text)?)?;
+        is_port(&rt, text, scheme.default_port(), port);
     }
     Ok(())
 }
@@ -198,7 +235,7 @@ fn setters_keep_the_spelling(rt: HostRuntime) -> Result<(), Fail> {
     let user = "u".to_string(alloc)?;
     let mut url = Url::from_text(alloc, "https://host/my%20repo")?;
     let _ = url.set_user(Some(user));
-    let url = url.with_request_alternate_form(false);
+    let url = boxed(alloc, url.with_request_alternate_form(false))?;
     spelled(&rt, &url, "/my%20repo");
     written(&rt, alloc, &url, "settled https://u@host/my%20repo")
 }
@@ -216,6 +253,7 @@ fn a_path_without_a_spelling(rt: HostRuntime) -> Result<(), Fail> {
         b"/a%20b",
         false,
     )?;
+    let url = boxed(alloc, url)?;
     spelled(&rt, &url, "/a%20b");
     written(&rt, alloc, &url, "settled https://h/a%2520b")
 }

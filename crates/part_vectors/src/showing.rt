@@ -1,5 +1,6 @@
 //! What people are shown of a location: never its field `password`, however they ask and wherever their formatter fails.
 
+use crate::checks::boxed;
 use gix_url::Url;
 use std::alloc::Global;
 use std::fmt::{self, Write};
@@ -57,8 +58,10 @@ fn with_password(
     path: &[u8],
     flag: bool,
     password: &str,
-) -> Result<Url, Fail> {
-    unchecked(alloc, scheme, user, Some(password), host, None, path, flag)
+) -> Result<Box<Url>, Fail> {
+    let password = Some(password);
+    let url = unchecked(alloc, scheme, user, password, host, None, path, flag)?;
+    boxed(alloc, url)
 }
 
 /// Schemes of every kind that has a text beside a password, the path, the flag, and what is shown for the user `u` and the
@@ -83,14 +86,18 @@ static SHOWN: [(&str, &[u8], bool, &str); 14] = [
 /// Passwords: one that is no escape, one that is written as escapes, and none of any length.
 static PASSWORDS: [&str; 3] = ["secret", "se:cr@et \u{f6}", ""];
 
+/// Checks that all was shown.
+fn was_shown(rt: &impl Abort, is_whole: bool, kept: &str, way: usize, shown: &str) {
+    assert!(rt; is_whole && kept == shown, "{kept} for {shown}, way {way}");
+}
+
 /// Checks what is shown in every way to ask.
-fn shows(rt: &impl Abort, alloc: Global, url: &Url, shown: &str) -> Result<(), Fail> {
+fn shows(rt: &impl Abort, alloc: Global, url: &Url, shown: &str) {
     for way in 0..WAYS {
         let mut out = empty_keeper(alloc, 1000);
-        assert!(rt; show(&mut out, url, way).is_ok(), "way {way} of {shown}");
-        assert_eq!(rt; out.kept.as_str(), shown, "way {way}");
+        let is_whole = show(&mut out, url, way).is_ok();
+        was_shown(rt, is_whole, out.kept.as_str(), way, shown);
     }
-    Ok(())
 }
 
 #[test]
@@ -100,7 +107,7 @@ fn no_password_is_shown(rt: HostRuntime) -> Result<(), Fail> {
         for &password in PASSWORDS.as_slice() {
             let (user, host) = (Some("u"), Some("h"));
             let url = with_password(alloc, scheme, user, host, path, flag, password)?;
-            shows(&rt, alloc, &url, shown)?;
+            shows(&rt, alloc, &url, shown);
         }
     }
     Ok(())
@@ -120,9 +127,17 @@ fn a_password_without_a_user_is_not_shown(rt: HostRuntime) -> Result<(), Fail> {
     for &(scheme, shown) in USERLESS.as_slice() {
         let (host, password) = (Some("h"), "secret");
         let url = with_password(rt.alloc(), scheme, None, host, b"/p", false, password)?;
-        shows(&rt, rt.alloc(), &url, shown)?;
+        shows(&rt, rt.alloc(), &url, shown);
     }
     Ok(())
+}
+
+/// Checks that a front was shown, or all.
+fn was_begun(rt: &impl Abort, is_whole: bool, kept: &str, way: usize, shown: &str) {
+    assert!(rt;
+        shown.starts_with(kept) && (!is_whole || kept == shown),
+        "{kept} for {shown}, way {way}"
+    );
 }
 
 /// Shows the location to a formatter that fails behind so many calls, and which has to be handed a front of it. Answers
@@ -137,9 +152,7 @@ fn is_shown_whole(
 ) -> bool {
     let mut out = empty_keeper(alloc, calls);
     let is_whole = show(&mut out, url, way).is_ok();
-    let kept = out.kept.as_str();
-    assert!(rt; shown.starts_with(kept), "{kept} is no front of {shown}");
-    assert!(rt; !is_whole || kept == shown, "{kept} for {shown}, way {way}");
+    was_begun(rt, is_whole, out.kept.as_str(), way, shown);
     is_whole
 }
 
@@ -191,12 +204,17 @@ static TEXTLESS: [(&str, Option<&str>, Option<&str>, &[u8]); 9] = [
     ("HelperUrl x", Some("u"), None, b"/p"),
 ];
 
+/// Checks that nothing was shown.
+fn was_empty(rt: &impl Abort, is_whole: bool, kept: &str, way: usize) {
+    assert!(rt; !is_whole && kept.is_empty(), "{kept}, way {way}");
+}
+
 /// Checks that nothing is shown of a location in any way to ask.
 fn shows_nothing(rt: &impl Abort, alloc: Global, url: &Url) {
     for way in 0..WAYS {
         let mut out = empty_keeper(alloc, 1000);
-        assert!(rt; show(&mut out, url, way).is_err(), "way {way}");
-        assert_eq!(rt; out.kept.as_str(), "", "way {way}");
+        let is_whole = show(&mut out, url, way).is_ok();
+        was_empty(rt, is_whole, out.kept.as_str(), way);
     }
 }
 

@@ -1,5 +1,6 @@
 //! What people read of a refusal: every error, form and fault in words that show nothing of what was refused.
 
+use crate::checks::{boxed, is_wrong, says};
 use bstr::{BStr, BString};
 use gix_url::expand_path::ForUser;
 use gix_url::lines::RunError;
@@ -47,21 +48,10 @@ static REFUSED: [(&[u8], &str); 20] = [
     ),
 ];
 
-/// Checks the words of an error.
-fn says(rt: &impl Abort, alloc: Global, error: &Error, words: &str) -> Result<(), Fail> {
-    assert_eq!(rt; error.to_string(alloc)?.as_str(), words);
-    Ok(())
-}
-
-/// Checks that there is no location, and the words that this is said with.
-fn refuses(
-    rt: &impl Abort,
-    alloc: Global,
-    read: &Result<Url, Error>,
-    words: &str,
-) -> Result<(), Fail> {
-    match read {
-        Ok(url) => assert!(rt; false, "{url} is read"),
+/// Checks that there is no location of these bytes, and the words that this is said with.
+fn refuses(rt: &impl Abort, alloc: Global, bytes: &[u8], words: &str) -> Result<(), Fail> {
+    match parse(alloc, BStr::new(bytes)) {
+        Ok(url) => is_wrong(rt, url),
         Err(error) => says(rt, alloc, error, words)?,
     }
     Ok(())
@@ -70,7 +60,7 @@ fn refuses(
 #[test]
 fn refused_texts_in_words(rt: HostRuntime) -> Result<(), Fail> {
     for &(bytes, words) in REFUSED.as_slice() {
-        refuses(&rt, rt.alloc(), &parse(rt.alloc(), BStr::new(bytes)), words)?;
+        refuses(&rt, rt.alloc(), bytes, words)?;
     }
     Ok(())
 }
@@ -85,8 +75,7 @@ fn what_is_too_long(rt: HostRuntime) -> Result<(), Fail> {
     for _ in 0..2000 {
         text.push('h')?;
     }
-    let read = Url::from_text(rt.alloc(), text.as_str());
-    refuses(&rt, rt.alloc(), &read, TOO_LONG)
+    refuses(&rt, rt.alloc(), text.as_bytes(), TOO_LONG)
 }
 
 /// Forms in words.
@@ -118,12 +107,12 @@ fn lacks_a_path(
     kind: UrlKind,
     form: &str,
 ) -> Result<(), Fail> {
-    let input = BString::from_slice(alloc, text)?;
     let words = format!(in alloc; "the {form} has no path")?;
+    let input = BString::from_slice(alloc, text)?;
     says(
         rt,
         alloc,
-        &Error::MissingPath { kind, input },
+        Error::MissingPath { kind, input },
         words.as_str(),
     )
 }
@@ -136,9 +125,9 @@ fn is_no_text(
     kind: UrlKind,
     form: &str,
 ) -> Result<(), Fail> {
-    let input = BString::from_slice(alloc, text)?;
     let words = format!(in alloc; "the {form} is not UTF-8")?;
-    says(rt, alloc, &Error::NotUtf8 { kind, input }, words.as_str())
+    let input = BString::from_slice(alloc, text)?;
+    says(rt, alloc, Error::NotUtf8 { kind, input }, words.as_str())
 }
 
 #[test]
@@ -160,13 +149,13 @@ fn is_at_fault(
     form: (UrlKind, &str),
     fault: (UrlFault, &str),
 ) -> Result<(), Fail> {
-    let input = BString::from_slice(alloc, text)?;
     let words = format!(in alloc; "the {} has {}", form.1, fault.1)?;
+    let input = BString::from_slice(alloc, text)?;
     let (kind, fault) = (form.0, fault.0);
     says(
         rt,
         alloc,
-        &Error::BadUrl { kind, fault, input },
+        Error::BadUrl { kind, fault, input },
         words.as_str(),
     )
 }
@@ -190,7 +179,7 @@ fn no_text_changes_the_words_for_too_long(rt: HostRuntime) -> Result<(), Fail> {
         says(
             &rt,
             rt.alloc(),
-            &Error::TooLong { shown, total: 2016 },
+            Error::TooLong { shown, total: 2016 },
             TOO_LONG,
         )?;
     }
@@ -202,7 +191,7 @@ fn no_text_changes_the_words_of_a_helper(rt: HostRuntime) -> Result<(), Fail> {
     let words = "the remote helper has no valid name";
     for &text in KEPT.as_slice() {
         let name = BString::from_slice(rt.alloc(), text)?;
-        says(&rt, rt.alloc(), &Error::HelperName { name }, words)?;
+        says(&rt, rt.alloc(), Error::HelperName { name }, words)?;
     }
     Ok(())
 }
@@ -212,7 +201,7 @@ fn no_text_changes_the_words_of_a_user(rt: HostRuntime) -> Result<(), Fail> {
     let words = "no home folder is known for the user";
     for &text in KEPT.as_slice() {
         let user = ForUser::Name(BString::from_slice(rt.alloc(), text)?);
-        says(&rt, rt.alloc(), &Error::NoHome(user), words)?;
+        says(&rt, rt.alloc(), Error::NoHome(user), words)?;
     }
     Ok(())
 }
@@ -240,7 +229,7 @@ static TEXTLESS: [&str; 5] = [
 #[test]
 fn errors_without_a_text_in_words(rt: HostRuntime) -> Result<(), Fail> {
     for (number, words) in TEXTLESS.as_slice().iter().enumerate() {
-        says(&rt, rt.alloc(), &textless(number), words)?;
+        says(&rt, rt.alloc(), textless(number), words)?;
     }
     Ok(())
 }
@@ -262,23 +251,17 @@ static UNWRITABLE: [(WriteFault, &str); 4] = [
     (WriteFault::UserWithoutHost, "a user comes without a host"),
 ];
 
-/// Checks the words of a fault of writing, alone and in both errors that tell it.
-fn is_said(rt: &impl Abort, alloc: Global, fault: WriteFault, words: &str) -> Result<(), Fail> {
-    assert_eq!(rt; fault.to_string(alloc)?.as_str(), words);
-    let told = format!(in alloc; "the location can't be written: {words}")?;
-    says(rt, alloc, &Error::Unwritable(fault), told.as_str())?;
-    writer_says(rt, alloc, &WriteError::Fault(fault), told.as_str())
+/// Checks the words of both errors that tell a fault of writing.
+fn errors_say(rt: &impl Abort, alloc: Global, fault: WriteFault, words: &str) -> Result<(), Fail> {
+    says(rt, alloc, Error::Unwritable(fault), words)?;
+    says(rt, alloc, WriteError::Fault(fault), words)
 }
 
-/// Checks the words of an error of writing.
-fn writer_says(
-    rt: &impl Abort,
-    alloc: Global,
-    error: &WriteError,
-    words: &str,
-) -> Result<(), Fail> {
-    assert_eq!(rt; error.to_string(alloc)?.as_str(), words);
-    Ok(())
+/// Checks the words of a fault of writing, alone and in both errors that tell it.
+fn is_said(rt: &impl Abort, alloc: Global, fault: WriteFault, words: &str) -> Result<(), Fail> {
+    says(rt, alloc, fault, words)?;
+    let told = format!(in alloc; "the location can't be written: {words}")?;
+    errors_say(rt, alloc, fault, told.as_str())
 }
 
 #[test]
@@ -289,27 +272,28 @@ fn faults_of_writing_in_words(rt: HostRuntime) -> Result<(), Fail> {
     Ok(())
 }
 
-#[test]
-fn a_fault_of_a_location_in_words(rt: HostRuntime) -> Result<(), Fail> {
-    let (user, password) = (Some("u"), Some("secret"));
-    let url = unchecked(rt.alloc(), "Ssh", user, password, None, None, b"/p", false)?;
-    match &url.to_bstring(rt.alloc()) {
-        Ok(_) => assert!(rt; false, "a user without a host is written"),
-        Err(error) => says(
-            &rt,
-            rt.alloc(),
-            error,
-            "the location can't be written: a user comes without a host",
-        )?,
+/// Checks the words of the error of writing a location.
+fn is_unwritable(rt: &impl Abort, alloc: Global, url: &Url, words: &str) -> Result<(), Fail> {
+    match url.to_bstring(alloc) {
+        Ok(text) => is_wrong(rt, text),
+        Err(error) => says(rt, alloc, error, words)?,
     }
     Ok(())
 }
 
 #[test]
+fn a_fault_of_a_location_in_words(rt: HostRuntime) -> Result<(), Fail> {
+    let (user, password) = (Some("u"), Some("secret"));
+    let url = unchecked(rt.alloc(), "Ssh", user, password, None, None, b"/p", false)?;
+    let url = boxed(rt.alloc(), url)?;
+    let words = "the location can't be written: a user comes without a host";
+    is_unwritable(&rt, rt.alloc(), &url, words)
+}
+
+#[test]
 fn forms_in_words(rt: HostRuntime) -> Result<(), Fail> {
     for &(kind, words) in KINDS.as_slice() {
-        let told = kind.to_string(rt.alloc())?;
-        assert_eq!(rt; told.as_str(), words);
+        says(&rt, rt.alloc(), kind, words)?;
     }
     Ok(())
 }
@@ -317,8 +301,7 @@ fn forms_in_words(rt: HostRuntime) -> Result<(), Fail> {
 #[test]
 fn faults_in_words(rt: HostRuntime) -> Result<(), Fail> {
     for &(fault, words) in FAULTS.as_slice() {
-        let told = fault.to_string(rt.alloc())?;
-        assert_eq!(rt; told.as_str(), words);
+        says(&rt, rt.alloc(), fault, words)?;
     }
     Ok(())
 }
@@ -334,22 +317,21 @@ static CAUSES: [(ErrorKind, &str); 3] = [
 fn run_says(
     rt: &impl Abort,
     alloc: Global,
-    error: &RunError,
+    error: RunError,
     words: &str,
     cause: &str,
 ) -> Result<(), Fail> {
     let told = format!(in alloc; "{words}: {cause}")?;
-    assert_eq!(rt; error.to_string(alloc)?.as_str(), told.as_str());
-    Ok(())
+    says(rt, alloc, error, told.as_str())
 }
 
 #[test]
 fn failing_ends_of_a_run_in_words(rt: HostRuntime) -> Result<(), Fail> {
     for &(kind, cause) in CAUSES.as_slice() {
         let error = RunError::Read(io::Error::new(kind, cause));
-        run_says(&rt, rt.alloc(), &error, "cannot read", cause)?;
+        run_says(&rt, rt.alloc(), error, "cannot read", cause)?;
         let error = RunError::Write(io::Error::new(kind, cause));
-        run_says(&rt, rt.alloc(), &error, "cannot write", cause)?;
+        run_says(&rt, rt.alloc(), error, "cannot write", cause)?;
     }
     Ok(())
 }
@@ -359,14 +341,12 @@ fn failing_writers_in_words(rt: HostRuntime) -> Result<(), Fail> {
     for &(kind, cause) in CAUSES.as_slice() {
         let words = format!(in rt.alloc(); "the writer failed: {cause}")?;
         let error = WriteError::Io(io::Error::new(kind, cause));
-        writer_says(&rt, rt.alloc(), &error, words.as_str())?;
+        says(&rt, rt.alloc(), error, words.as_str())?;
     }
     Ok(())
 }
 
 #[test]
 fn a_run_without_memory_in_words(rt: HostRuntime) -> Result<(), Fail> {
-    let told = RunError::Memory.to_string(rt.alloc())?;
-    assert_eq!(rt; told.as_str(), "out of memory");
-    Ok(())
+    says(&rt, rt.alloc(), RunError::Memory, "out of memory")
 }

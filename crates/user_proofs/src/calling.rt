@@ -14,10 +14,12 @@ ghost use Rattle.gix_url.specs.Text as spec;
 ghost use Rattle.gix_url.specs.Value.{Location, fields};
 ghost use Rattle.gix_url.specs.Value.Protocol.{ssh};
 
+use crate::checks::{boxed, read};
 use bstr::{BStr, BString};
 use gix_url::laws::{law_git, law_separation, law_value};
 use gix_url::{Error, Scheme, Url};
 use std::alloc::Global;
+use std::process::Abort;
 use std::test::Fail;
 
 /// The host that a text names, if the location can be written and read again.
@@ -104,91 +106,177 @@ fn text_for_git(alloc: Global, url: &Url) -> Result<Option<BString>, Error>
     Ok(Some(written))
 }
 
+/// Checks a part, where it is there.
+fn is(rt: &impl Abort, part: Option<&str>, want: Option<&str>) {
+    assert_eq!(rt; part, want);
+}
+
+/// Checks the text that was made of another, where there is one.
+fn is_text(rt: &impl Abort, text: &str, made: &Option<BString>, want: Option<&str>) {
+    let made = match made {
+        None => None,
+        Some(made) => Some(made.as_bytes()),
+    };
+    assert!(rt; made == bytes(want), "what is made of {text}");
+}
+
+/// The bytes of a text, where it is there.
+fn bytes(text: Option<&str>) -> Option<&[u8]> {
+    match text {
+        None => None,
+        Some(text) => Some(text.as_bytes()),
+    }
+}
+
+/// Checks the host that a text names.
+fn names(rt: &impl Abort, alloc: Global, text: &str, want: Option<&str>) -> Result<(), Fail> {
+    is(rt, host_of(alloc, text)?.as_deref(), want);
+    Ok(())
+}
+
 #[test]
 fn hosts_that_come_back(rt: HostRuntime) -> Result<(), Fail> {
-    let named = host_of(rt.alloc(), "ssh://git@example.com/gitoxide")?;
-    assert_eq!(rt; named.as_deref(), Some("example.com"));
-    let unsettled = host_of(rt.alloc(), "[host]::path")?;
-    assert_eq!(rt; unsettled.as_deref(), None);
+    let host = Some("example.com");
+    names(&rt, rt.alloc(), "ssh://git@example.com/gitoxide", host)?;
+    names(&rt, rt.alloc(), "[host]::path", None)?;
     assert!(rt; host_of(rt.alloc(), "http://").is_err());
+    Ok(())
+}
+
+/// Checks the text for another user of what a text names.
+fn renames(
+    rt: &impl Abort,
+    alloc: Global,
+    text: &str,
+    user: &str,
+    want: Option<&str>,
+) -> Result<(), Fail> {
+    let user = String::from_str(alloc, user)?;
+    is_text(rt, text, &for_user(alloc, text, user)?, want);
     Ok(())
 }
 
 #[test]
 fn another_user_in_the_same_place(rt: HostRuntime) -> Result<(), Fail> {
-    let alloc = rt.alloc();
-    let user = String::from_str(alloc, "a@b/c:d")?;
-    let text = for_user(alloc, "ssh://git@h/p", user)?;
-    match text {
-        Some(text) => assert_eq!(rt; text.as_bytes(), b"ssh://a%40b%2Fc%3Ad@h/p".as_slice()),
-        None => assert!(rt; false, "the location is settled"),
-    }
-    let user = String::from_str(alloc, "a:b")?;
-    assert!(rt; for_user(alloc, "git@h:p", user)?.is_none());
+    let written = Some("ssh://a%40b%2Fc%3Ad@h/p");
+    renames(&rt, rt.alloc(), "ssh://git@h/p", "a@b/c:d", written)?;
+    renames(&rt, rt.alloc(), "git@h:p", "a:b", None)
+}
+
+/// Remotes, and whether they are written alike.
+static REMOTES: [(&str, &str, bool); 3] = [
+    (
+        "https://Example.com:0443/a",
+        "https://example.com:443/a",
+        true,
+    ),
+    ("https://Example.com:0443/a", "https://example.com/a", false),
+    ("[host]::path", "[host]::path", false),
+];
+
+/// Checks whether remotes are written alike.
+fn is_alike(
+    rt: &impl Abort,
+    alloc: Global,
+    one: &Url,
+    other: &Url,
+    alike: bool,
+) -> Result<(), Fail> {
+    assert!(rt; are_alike(alloc, one, other)? == alike, "{one} and {other}");
     Ok(())
 }
 
 #[test]
 fn remotes_by_their_texts(rt: HostRuntime) -> Result<(), Fail> {
-    let alloc = rt.alloc();
-    let one = Url::from_text(alloc, "https://Example.com:0443/a")?;
-    let other = Url::from_text(alloc, "https://example.com:443/a")?;
-    assert!(rt; are_alike(alloc, &one, &other)?);
-    let port = Url::from_text(alloc, "https://example.com/a")?;
-    assert!(rt; !are_alike(alloc, &one, &port)?);
-    let unsettled = Url::from_text(alloc, "[host]::path")?;
-    assert!(rt; !are_alike(alloc, &unsettled, &unsettled)?);
+    for &(one, other, alike) in REMOTES.as_slice() {
+        let one = read(rt.alloc(), one)?;
+        let other = read(rt.alloc(), other)?;
+        is_alike(&rt, rt.alloc(), &one, &other, alike)?;
+    }
+    Ok(())
+}
+
+/// Texts, and the text for Git of each, if Git reads it alike.
+static FOR_GIT: [(&str, Option<&str>); 4] = [
+    ("ssh+git://u@H:022/p", Some("ssh://u@h:22/p")),
+    ("ssh://u:p@h/p", None),
+    ("git://u@h/p", None),
+    ("https://h/p", None),
+];
+
+/// Checks the text for Git of a text.
+fn is_for_git(rt: &impl Abort, alloc: Global, text: &str, want: Option<&str>) -> Result<(), Fail> {
+    let url = read(alloc, text)?;
+    is_text(rt, text, &text_for_git(alloc, &url)?, want);
     Ok(())
 }
 
 #[test]
 fn texts_for_git(rt: HostRuntime) -> Result<(), Fail> {
-    let alloc = rt.alloc();
-    let url = Url::from_text(alloc, "ssh+git://u@H:022/p")?;
-    match text_for_git(alloc, &url)? {
-        Some(text) => assert_eq!(rt; text.as_bytes(), b"ssh://u@h:22/p".as_slice()),
-        None => assert!(rt; false, "Git reads it alike"),
-    }
-    for text in ["ssh://u:p@h/p", "git://u@h/p", "https://h/p"] {
-        let url = Url::from_text(alloc, text)?;
-        assert!(rt; text_for_git(alloc, &url)?.is_none(), "{text}");
+    for &(text, want) in FOR_GIT.as_slice() {
+        is_for_git(&rt, rt.alloc(), text, want)?;
     }
     Ok(())
+}
+
+/// Texts, and host and path for a command of Secure Shell, where both are usable.
+static COMMANDS: [(&str, Option<(&str, &str)>); 4] = [
+    ("ssh://git@h/p", Some(("h", "/p"))),
+    ("ssh://-h/p", None),
+    ("ssh://h/-p", None),
+    ("https://h/p", None),
+];
+
+/// Checks host and path for a command.
+fn are_arguments(
+    rt: &impl Abort,
+    text: &str,
+    arguments: Option<(&str, BStr<'_>)>,
+    want: Option<(&str, &str)>,
+) {
+    let is_same = match (arguments, want) {
+        (None, None) => true,
+        (Some((host, path)), Some(want)) => host == want.0 && path.as_bytes() == want.1.as_bytes(),
+        _ => false,
+    };
+    assert!(rt; is_same, "a command with {text}");
 }
 
 #[test]
 fn commands_get_no_option(rt: HostRuntime) -> Result<(), Fail> {
-    let alloc = rt.alloc();
-    let url = Url::from_text(alloc, "ssh://git@h/p")?;
-    match ssh_arguments(&url) {
-        Some((host, path)) => {
-            assert_eq!(rt; host, "h");
-            assert_eq!(rt; path.as_bytes(), b"/p".as_slice());
-        }
-        None => assert!(rt; false, "both are usable"),
-    }
-    for text in ["ssh://-h/p", "ssh://h/-p", "https://h/p"] {
-        let url = Url::from_text(alloc, text)?;
-        assert!(rt; ssh_arguments(&url).is_none(), "{text}");
+    for &(text, want) in COMMANDS.as_slice() {
+        let url = read(rt.alloc(), text)?;
+        are_arguments(&rt, text, ssh_arguments(&url), want);
     }
     Ok(())
 }
 
+/// Checks what was read back.
+fn is_back(rt: &impl Abort, back: &Url) {
+    is(rt, back.user.as_deref(), Some("user@name"));
+    is(rt, back.password.as_deref(), Some("p:/"));
+    is(rt, back.host.as_deref(), Some("h"));
+    assert!(rt; back.port == Some(8080), "the port");
+    assert!(rt; back.path.as_bytes() == b"/a b?c#d".as_slice(), "the path");
+}
+
+/// What the text of a text's location is read as, if that is settled.
+fn read_back_of(alloc: Global, text: &str) -> Result<Option<Box<Url>>, Fail> {
+    let url = read(alloc, text)?;
+    match read_back(alloc, &url)? {
+        None => Ok(None),
+        Some(back) => Ok(Some(boxed(alloc, back)?)),
+    }
+}
+
 #[test]
 fn what_is_written_is_read_back(rt: HostRuntime) -> Result<(), Fail> {
-    let alloc = rt.alloc();
-    let url = Url::from_text(alloc, "https://user%40name:p%3A%2F@h:8080/a%20b?c#d")?;
-    match read_back(alloc, &url)? {
+    let text = "https://user%40name:p%3A%2F@h:8080/a%20b?c#d";
+    match read_back_of(rt.alloc(), text)? {
         None => assert!(rt; false, "the location is settled"),
-        Some(back) => {
-            assert_eq!(rt; back.user.as_deref(), Some("user@name"));
-            assert_eq!(rt; back.password.as_deref(), Some("p:/"));
-            assert_eq!(rt; back.host.as_deref(), Some("h"));
-            assert_eq!(rt; back.port, Some(8080));
-            assert_eq!(rt; back.path.as_bytes(), b"/a b?c#d".as_slice());
-        }
+        Some(back) => is_back(&rt, &back),
     }
-    let unsettled = Url::from_text(alloc, "[host]::path")?;
-    assert!(rt; read_back(alloc, &unsettled)?.is_none());
+    let unsettled = read_back_of(rt.alloc(), "[host]::path")?;
+    assert!(rt; unsettled.is_none());
     Ok(())
 }

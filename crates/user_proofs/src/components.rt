@@ -5,9 +5,11 @@ ghost use Rattle.gix_url.specs.Components.{Components, PartsOf};
 ghost use Rattle.gix_url.specs.Settled.{IsSettled, IsWeb};
 ghost use Rattle.gix_url.specs.declared.error.Error.TheVariants as error;
 
+use crate::checks::read;
 use gix_url::laws::{law_components, law_separation, law_value};
 use gix_url::{Error, Url};
 use std::alloc::Global;
+use std::process::Abort;
 use std::test::Fail;
 
 /// Whether the paths of two locations are made of the same.
@@ -46,15 +48,18 @@ static TEXTS: [&str; 8] = [
     "http://h/?#",
 ];
 
+/// Checks that the location of a text is settled and keeps its components.
+fn comes_back(rt: &impl Abort, alloc: Global, text: &str, url: &Url) -> Result<(), Fail> {
+    let kept = keeps_components(alloc, url)?;
+    assert!(rt; url.is_settled() && kept, "{text}");
+    Ok(())
+}
+
 #[test]
 fn components_come_back(rt: HostRuntime) -> Result<(), Fail> {
-    let alloc = rt.alloc();
-    for text in TEXTS {
-        let url = Url::from_text(alloc, text)?;
-        assert!(rt;
-            url.is_settled() && keeps_components(alloc, &url)?,
-            "{text}"
-        );
+    for &text in TEXTS.as_slice() {
+        let url = read(rt.alloc(), text)?;
+        comes_back(&rt, rt.alloc(), text, &url)?;
     }
     Ok(())
 }

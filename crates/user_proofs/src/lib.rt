@@ -4,6 +4,8 @@
 #[cfg(test)]
 mod calling;
 #[cfg(test)]
+mod checks;
+#[cfg(test)]
 mod components;
 #[cfg(test)]
 mod stored;

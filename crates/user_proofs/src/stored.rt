@@ -7,11 +7,13 @@ ghost use Rattle.gix_url.specs.Grammar.{Spells, SpellsHelper, SpellsLocal};
 ghost use Rattle.gix_url.specs.Value.{Location};
 ghost use Rattle.gix_url.specs.declared.error.Error.TheVariants as error;
 
+use crate::checks::{boxed, read};
 use bstr::{BStr, BString};
 use gix_url::laws::{law_closed, law_separation};
 use gix_url::parse::parse;
 use gix_url::{Error, Url};
 use std::alloc::Global;
+use std::process::Abort;
 use std::test::Fail;
 use told::{told_front, told_text};
 
@@ -56,26 +58,65 @@ static TEXTS: [&str; 12] = [
     "ext::sh -c x",
 ];
 
+/// Checks bytes of what came back of a text.
+fn is_same(rt: &impl Abort, text: &str, back: &[u8], want: &[u8]) {
+    assert_eq!(rt; BStr::new(back), BStr::new(want), "a part of {text}");
+}
+
+/// Checks all but the path of what came back.
+fn has_front(
+    rt: &impl Abort,
+    alloc: Global,
+    text: &str,
+    back: &Url,
+    url: &Url,
+) -> Result<(), Fail> {
+    let front = told_front(alloc, url)?;
+    let front_back = told_front(alloc, back)?;
+    is_same(rt, text, front_back.as_bytes(), front.as_bytes());
+    Ok(())
+}
+
+/// Checks how what came back is written.
+fn has_text(rt: &impl Abort, alloc: Global, text: &str, back: &Url, url: &Url) -> Result<(), Fail> {
+    let written = told_text(alloc, url)?;
+    let written_back = told_text(alloc, back)?;
+    is_same(rt, text, written_back.as_bytes(), written.as_bytes());
+    Ok(())
+}
+
+/// Checks the path of what came back, as it is and as it was spelled.
+fn has_path(rt: &impl Abort, text: &str, back: &Url, url: &Url) {
+    is_same(rt, text, back.path.as_bytes(), url.path.as_bytes());
+    let spelled = back.original_path().as_bytes();
+    is_same(rt, text, spelled, url.original_path().as_bytes());
+}
+
+/// Checks that the location of a text comes back.
+fn comes_back(rt: &impl Abort, alloc: Global, text: &str, url: &Url) -> Result<(), Fail> {
+    let back = boxed(alloc, kept(alloc, url)?)?;
+    has_path(rt, text, &back, url);
+    has_front(rt, alloc, text, &back, url)?;
+    has_text(rt, alloc, text, &back, url)
+}
+
 #[test]
 fn what_was_read_comes_back(rt: HostRuntime) -> Result<(), Fail> {
-    let alloc = rt.alloc();
-    for text in TEXTS {
-        let url = Url::from_text(alloc, text)?;
-        let back = kept(alloc, &url)?;
-        let (front, front_back) = (told_front(alloc, &url)?, told_front(alloc, &back)?);
-        assert_eq!(rt; front_back.as_str(), front.as_str(), "{text}");
-        assert_eq!(rt; back.path.as_bytes(), url.path.as_bytes(), "{text}");
-        assert_eq!(rt;
-            back.original_path().as_bytes(),
-            url.original_path().as_bytes(),
-            "{text}"
-        );
-        let (written, written_back) = (told_text(alloc, &url)?, told_text(alloc, &back)?);
-        assert_eq!(rt; written_back.as_str(), written.as_str(), "{text}");
+    for &text in TEXTS.as_slice() {
+        let url = read(rt.alloc(), text)?;
+        comes_back(&rt, rt.alloc(), text, &url)?;
     }
-    for text in ["a::b://c", "/x::y", "ssh::address"] {
-        let bytes = BStr::new(text.as_bytes());
-        assert_eq!(rt; kept_text(alloc, bytes)?.as_bytes(), text.as_bytes());
+    Ok(())
+}
+
+/// Forms of remote helpers and local paths.
+static UNCHANGED: [&str; 3] = ["a::b://c", "/x::y", "ssh::address"];
+
+#[test]
+fn the_bytes_themselves_come_back(rt: HostRuntime) -> Result<(), Fail> {
+    for &text in UNCHANGED.as_slice() {
+        let back = kept_text(rt.alloc(), BStr::new(text.as_bytes()))?;
+        is_same(&rt, text, back.as_bytes(), text.as_bytes());
     }
     Ok(())
 }

@@ -1,0 +1,43 @@
+//! What tests of several modules make and check.
+//!
+//! Locations are kept in boxes: a function that owns a box drops it by one call, whatever the location is made of.
+
+use gix_url::Url;
+use std::alloc::Global;
+use std::fmt::Display;
+use std::process::Abort;
+use std::test::Fail;
+
+/// A box of a value.
+pub fn boxed<T: Drop>(alloc: Global, value: T) -> Result<Box<T>, Fail> {
+    match Box::new(alloc, value) {
+        Ok(boxed) => Ok(boxed),
+        Err(_) => Err(Fail::from("out of memory")),
+    }
+}
+
+/// The location of a text.
+pub fn read(alloc: Global, text: &str) -> Result<Box<Url>, Fail> {
+    boxed(alloc, Url::from_text(alloc, text)?)
+}
+
+/// Checks a text.
+pub fn is_text(rt: &impl Abort, text: &str, want: &str) {
+    assert_eq!(rt; text, want);
+}
+
+/// Checks the words that are shown of a value.
+pub fn says<T: Display + Drop>(
+    rt: &impl Abort,
+    alloc: Global,
+    value: T,
+    words: &str,
+) -> Result<(), Fail> {
+    is_text(rt, value.to_string(alloc)?.as_str(), words);
+    Ok(())
+}
+
+/// Fails, as there is a value where an error is wanted.
+pub fn is_wrong<T: Display + Drop>(rt: &impl Abort, value: T) {
+    assert!(rt; false, "there is {value}");
+}
