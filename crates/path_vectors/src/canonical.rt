@@ -1,5 +1,6 @@
 //! Canonical paths: what the resolver is asked, what becomes of its answer, and what a refusal leaves.
 
+use crate::same;
 use gix_url::{Error, Url};
 use std::alloc::Global;
 use std::fs;
@@ -43,8 +44,13 @@ fn in_a_copy(
         }
         given
     });
-    assert_eq!(rt; strangers, 0, "the resolver is asked for another path");
+    is_asked_for_nothing_else(rt, strangers);
     Ok((outcome, calls))
+}
+
+/// Checks that the resolver was never asked for another path.
+fn is_asked_for_nothing_else(rt: &impl Abort, strangers: u8) {
+    assert_eq!(rt; strangers, 0, "the resolver is asked for another path");
 }
 
 /// What becomes of a location: it takes the answer, or stays for this error.
@@ -89,13 +95,23 @@ fn canonicalize(
     answer: Option<&str>,
     wanted: (&str, u8),
 ) -> Result<(), Fail> {
-    let (copy, copied) = in_a_copy(rt, alloc, url, answer)?;
-    let (outcome, calls) = in_place(alloc, url, answer)?;
-    assert!(rt; agree(&copy, outcome, url), "the copy differs");
-    assert_eq!(rt; outcome, wanted.0);
-    assert_eq!(rt; calls, wanted.1, "calls in place");
-    assert_eq!(rt; copied, wanted.1, "calls for the copy");
+    let copied = in_a_copy(rt, alloc, url, answer)?;
+    let told = in_place(alloc, url, answer)?;
+    are_alike(rt, url, &copied.0, told.0);
+    are_wanted(rt, told, copied.1, wanted);
     Ok(())
+}
+
+/// Checks that this outcome in place is that of the copy.
+fn are_alike(rt: &impl Abort, url: &Url, copy: &Result<Url, Error>, outcome: &str) {
+    assert!(rt; agree(copy, outcome, url), "the copy differs");
+}
+
+/// Checks the outcome in place, and how often the resolver was called for it and for the copy.
+fn are_wanted(rt: &impl Abort, told: (&str, u8), copied: u8, wanted: (&str, u8)) {
+    assert_eq!(rt; told.0, wanted.0);
+    assert_eq!(rt; told.1, wanted.1, "calls in place");
+    assert_eq!(rt; copied, wanted.1, "calls for the copy");
 }
 
 /// A text of its own.
@@ -116,8 +132,13 @@ fn takes(
 ) -> Result<(), Fail> {
     let mut url = Url::from_text(alloc, text)?;
     canonicalize(rt, alloc, &mut url, Some(answer), ("taken", 1))?;
-    assert_eq!(rt; url.path.as_bytes(), answer.as_bytes());
-    assert_eq!(rt; url.to_bstring(alloc)?.as_bytes(), written.as_bytes());
+    same::bytes(rt, url.path.as_bytes(), answer.as_bytes());
+    is_written(rt, alloc, &url, written)
+}
+
+/// Checks how a location is written.
+fn is_written(rt: &impl Abort, alloc: Global, url: &Url, written: &str) -> Result<(), Fail> {
+    same::bytes(rt, url.to_bstring(alloc)?.as_bytes(), written.as_bytes());
     Ok(())
 }
 
@@ -144,29 +165,45 @@ fn what_the_resolver_is_asked(rt: HostRuntime) -> Result<(), Fail> {
     Ok(())
 }
 
+/// Checks the outcome for a location, and that its path stays what it is.
+fn keeps(
+    rt: &impl Abort,
+    alloc: Global,
+    url: &mut Url,
+    answer: Option<&str>,
+    wanted: (&str, u8),
+    path: &[u8],
+) -> Result<(), Fail> {
+    canonicalize(rt, alloc, url, answer, wanted)?;
+    same::bytes(rt, url.path.as_bytes(), path);
+    Ok(())
+}
+
 #[test]
 fn a_path_that_is_no_text_stays(rt: HostRuntime) -> Result<(), Fail> {
     let mut url = Url::from_text(rt.alloc(), "/")?;
     url.path.push(0xff)?;
-    canonicalize(&rt, rt.alloc(), &mut url, Some("/b"), ("not UTF-8", 0))?;
-    assert_eq!(&rt; url.path.as_bytes(), b"/\xff".as_slice());
-    Ok(())
+    let (answer, wanted) = (Some("/b"), ("not UTF-8", 0));
+    keeps(&rt, rt.alloc(), &mut url, answer, wanted, b"/\xff")
 }
 
 #[test]
 fn a_refusal_leaves_the_path(rt: HostRuntime) -> Result<(), Fail> {
     let mut url = Url::from_text(rt.alloc(), "/a")?;
-    canonicalize(&rt, rt.alloc(), &mut url, None, ("unresolved", 1))?;
-    assert_eq!(&rt; url.path.as_bytes(), b"/a".as_slice());
-    Ok(())
+    keeps(&rt, rt.alloc(), &mut url, None, ("unresolved", 1), b"/a")
 }
 
 /// Checks that a location stays as it is, and that the resolver isn't asked.
 fn stays(rt: &impl Abort, alloc: Global, text: &str) -> Result<(), Fail> {
     let mut url = Url::from_text(alloc, text)?;
     canonicalize(rt, alloc, &mut url, Some("/b"), ("taken", 0))?;
-    assert!(rt; url == Url::from_text(alloc, text)?, "{text} changes");
+    is_unchanged(rt, &url, &Url::from_text(alloc, text)?, text);
     Ok(())
+}
+
+/// Checks that a location is what the text was read as.
+fn is_unchanged(rt: &impl Abort, url: &Url, read: &Url, text: &str) {
+    assert!(rt; url == read, "{text} changes");
 }
 
 #[test]
@@ -187,9 +224,9 @@ fn other_schemes_stay(rt: HostRuntime) -> Result<(), Fail> {
 #[test]
 fn the_root_of_the_file_system(rt: HostRuntime) -> Result<(), Fail> {
     let mut url = Url::from_text(rt.alloc(), "/.././")?;
-    assert_eq!(&rt; real(&rt, &url)?.path.as_bytes(), b"/".as_slice());
+    same::bytes(&rt, real(&rt, &url)?.path.as_bytes(), b"/");
     resolve(&rt, &mut url)?;
-    assert_eq!(&rt; url.path.as_bytes(), b"/".as_slice());
+    same::bytes(&rt, url.path.as_bytes(), b"/");
     Ok(())
 }
 

@@ -1,6 +1,7 @@
 //! Path, query and fragment of locations: rows, and a plain second reading of random paths.
 
 use crate::plain_components::{plainly_told, random_path};
+use crate::same;
 use bstr::BString;
 use gix_url::{PathComponents, QueryText, Url};
 use std::alloc::Global;
@@ -55,23 +56,29 @@ fn tell_term(told: &mut Vec<u8>, text: &QueryText<'_>) -> Result<(), Fail> {
     Ok(())
 }
 
-/// What a path is made of, as the tables tell it.
-fn told(alloc: Global, parts: &PathComponents<'_>) -> Result<Vec<u8>, Fail> {
-    let mut told = Vec::new(alloc);
+/// Tells what a path is made of, as the tables tell it.
+fn tell(told: &mut Vec<u8>, parts: &PathComponents<'_>) -> Result<(), Fail> {
     told.extend_from_slice(parts.path.as_bytes())?;
     if let Some(pairs) = &parts.query {
         told.extend_from_slice(b" ?")?;
         for pair in pairs {
             told.extend_from_slice(b" ")?;
-            tell_term(&mut told, &pair.0)?;
+            tell_term(told, &pair.0)?;
             told.extend_from_slice(b"=")?;
-            tell_term(&mut told, &pair.1)?;
+            tell_term(told, &pair.1)?;
         }
     }
     if let Some(fragment) = &parts.fragment {
         told.extend_from_slice(b" #")?;
         told.extend_from_slice(fragment.as_bytes())?;
     }
+    Ok(())
+}
+
+/// What a path is made of, told so.
+fn told(alloc: Global, parts: &PathComponents<'_>) -> Result<Vec<u8>, Fail> {
+    let mut told = Vec::new(alloc);
+    tell(&mut told, parts)?;
     Ok(told)
 }
 
@@ -82,8 +89,7 @@ fn is_told(
     parts: &PathComponents<'_>,
     want: &str,
 ) -> Result<(), Fail> {
-    let told = told(alloc, parts)?;
-    assert_eq!(rt; told.as_slice(), want.as_bytes(), "{want}");
+    same::bytes(rt, told(alloc, parts)?.as_slice(), want.as_bytes());
     Ok(())
 }
 
@@ -153,8 +159,13 @@ fn are_copied(
     want: &str,
 ) -> Result<(), Fail> {
     let copy = parts.clone(alloc)?;
-    assert!(rt; copy == *parts);
+    is_equal(rt, &copy, parts);
     is_told(rt, alloc, &copy, want)
+}
+
+/// Checks that a copy of a path's parts is equal to them.
+fn is_equal(rt: &impl Abort, copy: &PathComponents<'_>, parts: &PathComponents<'_>) {
+    assert!(rt; *copy == *parts);
 }
 
 #[test]
@@ -162,6 +173,11 @@ fn copies_are_equal_and_lend_alike(rt: HostRuntime) -> Result<(), Fail> {
     let url = Url::from_text(rt.alloc(), "http://h/?a+b=%2B&&c&=d#x+y")?;
     let parts = url.path_query_fragment(rt.alloc())?;
     are_copied(&rt, rt.alloc(), &parts, "/ ? {a b}=<+> <c>=<> <>=<d> #x+y")
+}
+
+/// Whether the path of a location is made of these.
+fn has_parts(alloc: Global, url: &Url, parts: &PathComponents<'_>) -> Result<bool, Fail> {
+    Ok(url.path_query_fragment(alloc)? == *parts)
 }
 
 /// Checks whether the paths of two texts are made of the same.
@@ -172,8 +188,7 @@ fn are_equal(
     parts: &PathComponents<'_>,
     equal: bool,
 ) -> Result<(), Fail> {
-    let url = Url::from_text(alloc, text)?;
-    let is_equal = url.path_query_fragment(alloc)? == *parts;
+    let is_equal = has_parts(alloc, &Url::from_text(alloc, text)?, parts)?;
     assert_eq!(rt; is_equal, equal, "{text}");
     Ok(())
 }
@@ -190,14 +205,33 @@ static EQUAL: [(&str, bool); 8] = [
     ("http://h/?a+b#y", false),
 ];
 
+/// Checks which of these paths are made of the same as this one.
+fn equal_as_they_should(
+    rt: &impl Abort,
+    alloc: Global,
+    parts: &PathComponents<'_>,
+) -> Result<(), Fail> {
+    for &(text, equal) in EQUAL.as_slice() {
+        are_equal(rt, alloc, text, parts, equal)?;
+    }
+    Ok(())
+}
+
 #[test]
 fn equality_counts_bytes(rt: HostRuntime) -> Result<(), Fail> {
     let url = Url::from_text(rt.alloc(), "http://h/?a+b#x")?;
     let parts = url.path_query_fragment(rt.alloc())?;
-    for &(text, equal) in EQUAL.as_slice() {
-        are_equal(&rt, rt.alloc(), text, &parts, equal)?;
-    }
-    Ok(())
+    equal_as_they_should(&rt, rt.alloc(), &parts)
+}
+
+/// Checks what the path of this number is made of.
+fn is_told_plainly(rt: &impl Abort, told: &[u8], want: &[u8], turn: u64) {
+    assert_eq!(rt; told, want, "path {turn}");
+}
+
+/// What the path of a location is made of, as the tables tell it.
+fn told_of(alloc: Global, url: &Url) -> Result<Vec<u8>, Fail> {
+    told(alloc, &url.path_query_fragment(alloc)?)
 }
 
 /// Checks what the path of a location is made of, by the second reading. It says whether the path has a spelling.
@@ -205,8 +239,7 @@ fn is_read_plainly(rt: &impl Abort, alloc: Global, url: &Url, turn: u64) -> Resu
     let original = url.original_path().as_bytes();
     let is_spelled = original != url.path.as_bytes();
     let want = plainly_told(alloc, original, is_spelled)?;
-    let told = told(alloc, &url.path_query_fragment(alloc)?)?;
-    assert_eq!(rt; told.as_slice(), want.as_slice(), "path {turn}");
+    is_told_plainly(rt, told_of(alloc, url)?.as_slice(), want.as_slice(), turn);
     Ok(is_spelled)
 }
 
@@ -225,13 +258,18 @@ fn random_paths_read_plainly(rt: HostRuntime) -> Result<(), Fail> {
     Ok(())
 }
 
+/// What a URL of HTTP with this path is read as, if it is one.
+fn read_with(alloc: Global, path: &[u8]) -> Result<Option<Url>, Fail> {
+    let mut text = BString::from_slice(alloc, b"http://h/")?;
+    text.extend_from_slice(path)?;
+    Ok(Url::from_bytes(alloc, text.as_bstr()).ok())
+}
+
 /// A location of HTTP with the path of this number: what a text with it is read as, if it is a URL.
 fn random_url(alloc: Global, turn: u64) -> Result<Url, Fail> {
     let path = random_path(alloc, turn)?;
-    let mut text = BString::from_slice(alloc, b"http://h/")?;
-    text.extend_from_slice(path.as_slice())?;
-    if let Ok(url) = Url::from_bytes(alloc, text.as_bstr()) {
-        return Ok(url);
+    match read_with(alloc, path.as_slice())? {
+        Some(url) => Ok(url),
+        None => assigned(alloc, "Http", path.as_slice()),
     }
-    assigned(alloc, "Http", path.as_slice())
 }

@@ -3,7 +3,7 @@
 //! The rows are those of the crate that this library is a port of. Two thousand short paths are read a second time here,
 //! plainly, and the answers compared.
 
-use crate::plain_homes::{Paths, expanded, shell_path, split};
+use crate::plain_homes::{Paths, expanded, name, rest, shell_path};
 use crate::users::user;
 use bstr::{BStr, BString};
 use gix_url::Error;
@@ -62,11 +62,20 @@ fn splits_into(
     name: Option<&[u8]>,
     rest: &[u8],
 ) -> Result<(), Fail> {
-    let shown = BStr::new(path);
-    let (user, left) = expand_path::parse(alloc, shown)?;
-    assert!(rt; is_told(&user, name), "the user of {shown}");
-    assert_eq!(rt; left.as_bytes(), rest, "what is left of {shown}");
+    let (user, left) = expand_path::parse(alloc, BStr::new(path))?;
+    is_split(rt, BStr::new(path), &user, name);
+    is_left(rt, BStr::new(path), left.as_bytes(), rest);
     Ok(())
+}
+
+/// Checks the name of the user in whose home folder this path begins.
+fn is_split(rt: &impl Abort, path: BStr<'_>, user: &Option<ForUser>, name: Option<&[u8]>) {
+    assert!(rt; is_told(user, name), "the user of {path}");
+}
+
+/// Checks what is left of this path.
+fn is_left(rt: &impl Abort, path: BStr<'_>, left: &[u8], rest: &[u8]) {
+    assert_eq!(rt; left, rest, "what is left of {path}");
 }
 
 /// Paths, the name of the user in whose home folder they begin (empty for the current one), and what is left.
@@ -94,8 +103,13 @@ fn splits(rt: HostRuntime) -> Result<(), Fail> {
 /// Checks the text that a shell takes for a path.
 fn goes_to_a_shell(rt: &impl Abort, alloc: Global, path: &[u8], text: &[u8]) -> Result<(), Fail> {
     let answer = for_shell(alloc, BString::from_slice(alloc, path)?)?;
-    assert_eq!(rt; answer.as_bytes(), text, "the text for {}", BStr::new(path));
+    is_for_a_shell(rt, BStr::new(path), answer.as_bytes(), text);
     Ok(())
+}
+
+/// Checks the text that a shell takes for this path.
+fn is_for_a_shell(rt: &impl Abort, path: BStr<'_>, answer: &[u8], text: &[u8]) {
+    assert_eq!(rt; answer, text, "the text for {path}");
 }
 
 /// Paths, and what a shell takes for them.
@@ -153,8 +167,23 @@ fn with_home(
         }
         home
     });
-    assert_eq!(rt; strangers, 0, "the closure is asked for another user");
+    is_asked_for_nobody_else(rt, strangers);
     Ok((outcome, calls))
+}
+
+/// Checks that the closure was never asked for another user.
+fn is_asked_for_nobody_else(rt: &impl Abort, strangers: u8) {
+    assert_eq!(rt; strangers, 0, "the closure is asked for another user");
+}
+
+/// Checks how often the closure was called for this path.
+fn is_called(rt: &impl Abort, calls: u8, wanted: u8, path: &str) {
+    assert_eq!(rt; calls, wanted, "calls for {path}");
+}
+
+/// Checks that no home folder is known for this user beside this one.
+fn has_none(rt: &impl Abort, outcome: &Result<String, Error>, user: &ForUser, home: &str) {
+    assert!(rt; is_unknown(outcome, user), "a home is known beside {home}");
 }
 
 /// Checks where a path lies below a home folder, and how often that is asked for.
@@ -167,7 +196,7 @@ fn is_resolved(
     whole: &str,
 ) -> Result<(), Fail> {
     let (outcome, calls) = with_home(rt, alloc, user, path.as_bytes(), Some(home))?;
-    assert_eq!(rt; calls, u8::from(user.is_some()), "calls for {path}");
+    is_called(rt, calls, u8::from(user.is_some()), path);
     lies_at(rt, &outcome, whole);
     Ok(())
 }
@@ -195,8 +224,8 @@ fn expansions_by_a_resolver(rt: HostRuntime) -> Result<(), Fail> {
 /// Checks that the user is told for whom no home folder is known.
 fn has_no_home(rt: &impl Abort, alloc: Global, user: &ForUser) -> Result<(), Fail> {
     let (outcome, calls) = with_home(rt, alloc, Some(user), b"/a", None)?;
-    assert_eq!(rt; calls, 1, "calls");
-    assert!(rt; is_unknown(&outcome, user), "no home is told with the user");
+    is_called(rt, calls, 1, "/a");
+    has_none(rt, &outcome, user, "none");
     Ok(())
 }
 
@@ -206,18 +235,22 @@ fn users_without_a_home(rt: HostRuntime) -> Result<(), Fail> {
     has_no_home(&rt, rt.alloc(), &user(rt.alloc(), "bob")?)
 }
 
+/// Checks that the path was no text.
+fn is_not_utf8(rt: &impl Abort, outcome: &Result<String, Error>) {
+    assert!(rt;
+        matches!(outcome, Err(Error::PathNotUtf8)),
+        "the path is no text"
+    );
+}
+
 /// Checks that a path that is no text is refused, and no home folder is asked for.
 fn is_no_text(rt: &impl Abort, alloc: Global, user: Option<&ForUser>) -> Result<(), Fail> {
     let (outcome, calls) = with_home(rt, alloc, user, b"/\xff", Some("/h"))?;
-    assert_eq!(rt; calls, 0, "the closure is called for what is no text");
-    assert!(rt;
-        matches!(&outcome, Err(Error::PathNotUtf8)),
-        "the path is no text"
-    );
-    let outcome = expand_path::expand_path(alloc, user, BStr::new(b"/\xff"), Some("/h"));
-    assert!(rt;
-        matches!(&outcome, Err(Error::PathNotUtf8)),
-        "the path is no text"
+    is_called(rt, calls, 0, "what is no text");
+    is_not_utf8(rt, &outcome);
+    is_not_utf8(
+        rt,
+        &expand_path::expand_path(alloc, user, BStr::new(b"/\xff"), Some("/h")),
     );
     Ok(())
 }
@@ -245,6 +278,20 @@ static EXPANSIONS: [(&str, &str, &str, Option<&str>); 13] = [
     ("b/c", "/r", "/home/al", Some("/home/b/c/r")),
 ];
 
+/// Checks where a path of the user lies, if beside this home folder one is known for the user.
+fn is_found(
+    rt: &impl Abort,
+    outcome: &Result<String, Error>,
+    user: &ForUser,
+    whole: Option<&str>,
+    home: &str,
+) {
+    match whole {
+        Some(whole) => lies_at(rt, outcome, whole),
+        None => has_none(rt, outcome, user, home),
+    }
+}
+
 /// Checks where a path of the user lies beside this home folder, if a home folder is known for the user.
 fn is_expanded(
     rt: &impl Abort,
@@ -255,16 +302,13 @@ fn is_expanded(
     whole: Option<&str>,
 ) {
     let outcome = expand_path::expand_path(alloc, Some(user), BStr::from(path), Some(home));
-    match whole {
-        Some(whole) => lies_at(rt, &outcome, whole),
-        None => assert!(rt; is_unknown(&outcome, user), "a home is known beside {home}"),
-    }
+    is_found(rt, &outcome, user, whole, home);
 }
 
 /// Checks that a path of a user lies nowhere without a home folder, and that it stays as it is without a user.
 fn needs_both(rt: &impl Abort, alloc: Global, user: &ForUser, path: &str, home: &str) {
     let outcome = expand_path::expand_path(alloc, Some(user), BStr::from(path), None);
-    assert!(rt; is_unknown(&outcome, user), "no home at all");
+    has_none(rt, &outcome, user, "no home at all");
     let outcome = expand_path::expand_path(alloc, None, BStr::from(path), Some(home));
     lies_at(rt, &outcome, path);
 }
@@ -279,12 +323,21 @@ fn expansions_by_a_home(rt: HostRuntime) -> Result<(), Fail> {
     Ok(())
 }
 
+/// Checks where `/r` of the user lies, by the example.
+fn lies_in_home(rt: &impl Abort, alloc: Global, user: &ForUser, whole: Option<&str>) {
+    let outcome = in_home(alloc, Some(user), BStr::from("/r"));
+    is_found(rt, &outcome, user, whole, "/home");
+}
+
 #[test]
 fn the_example_of_a_resolver(rt: HostRuntime) -> Result<(), Fail> {
-    let (bob, path) = (user(rt.alloc(), "bob")?, BStr::from("/r"));
-    lies_at(&rt, &in_home(rt.alloc(), Some(&bob), path), "/home/bob/r");
-    let outcome = in_home(rt.alloc(), Some(&ForUser::Current), path);
-    assert!(&rt; is_unknown(&outcome, &ForUser::Current), "a home is known");
+    lies_in_home(
+        &rt,
+        rt.alloc(),
+        &user(rt.alloc(), "bob")?,
+        Some("/home/bob/r"),
+    );
+    lies_in_home(&rt, rt.alloc(), &ForUser::Current, None);
     Ok(())
 }
 
@@ -310,14 +363,24 @@ fn lies_below(
     Ok(())
 }
 
+/// Checks that a path lies at `a` in this folder, and nowhere without one.
+fn lies_in(
+    rt: &impl Abort,
+    alloc: Global,
+    outcome: &Result<String, Error>,
+    home: &Option<PathBuf>,
+) -> Result<(), Fail> {
+    match home {
+        Some(home) => lies_below(rt, alloc, outcome, home)?,
+        None => assert!(rt; outcome.is_err(), "no home is known"),
+    }
+    Ok(())
+}
+
 #[test]
 fn the_home_of_the_environment(rt: HostRuntime) -> Result<(), Fail> {
     let outcome = expand(&rt, BStr::from("/~/a"));
-    match &env::home_dir(&rt)? {
-        Some(home) => lies_below(&rt, rt.alloc(), &outcome, home)?,
-        None => assert!(&rt; outcome.is_err(), "no home is known"),
-    }
-    Ok(())
+    lies_in(&rt, rt.alloc(), &outcome, &env::home_dir(&rt)?)
 }
 
 /// Checks where a path lies below a home folder, by the second reading.
@@ -331,18 +394,32 @@ fn is_expanded_plainly(
     let (user, left) = expand_path::parse(alloc, BStr::new(path))?;
     let outcome = expand_path::expand_path(alloc, user.as_ref(), left.as_bstr(), Some(home));
     let whole = expanded(alloc, name, left.as_bytes(), home.as_bytes())?;
-    match (&outcome, &whole) {
-        (Ok(found), Some(whole)) => assert_eq!(rt; found.as_bytes(), whole.as_slice(), "{home}"),
+    lies_plainly(rt, &outcome, whole.as_deref(), (left.as_bstr(), home));
+    Ok(())
+}
+
+/// Checks where a path lies below a home folder: where the second reading has it, or nowhere.
+fn lies_plainly(
+    rt: &impl Abort,
+    outcome: &Result<String, Error>,
+    whole: Option<&[u8]>,
+    (left, home): (BStr<'_>, &str),
+) {
+    match (outcome, whole) {
+        (Ok(found), Some(whole)) => is_below(rt, found.as_bytes(), whole, home),
         (found, whole) => assert_eq!(rt; found.is_ok(), whole.is_some(), "{left} and {home}"),
     }
-    Ok(())
+}
+
+/// Checks where a path lies below this home folder.
+fn is_below(rt: &impl Abort, found: &[u8], whole: &[u8], home: &str) {
+    assert_eq!(rt; found, whole, "{home}");
 }
 
 /// Checks what is made of a path, and where it lies below a home folder, by the second reading.
 fn is_read_plainly(rt: &impl Abort, alloc: Global, path: &[u8], home: &str) -> Result<(), Fail> {
-    let (name, rest) = split(alloc, path)?;
-    splits_into(rt, alloc, path, name.as_deref(), rest.as_slice())?;
-    is_expanded_plainly(rt, alloc, path, name.as_deref(), home)?;
+    splits_into(rt, alloc, path, name(path), rest(alloc, path)?.as_slice())?;
+    is_expanded_plainly(rt, alloc, path, name(path), home)?;
     goes_to_a_shell(rt, alloc, path, shell_path(alloc, path)?.as_slice())
 }
 

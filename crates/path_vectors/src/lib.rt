@@ -17,4 +17,6 @@ mod plain_components;
 #[cfg(test)]
 mod plain_homes;
 #[cfg(test)]
+mod same;
+#[cfg(test)]
 mod users;

@@ -131,40 +131,69 @@ fn tell(told: &mut Vec<u8>, piece: &[u8], escaped: bool) -> Result<(), Fail> {
     Ok(())
 }
 
-/// What the path is made of, as the tables of `components` tell it.
-pub fn plainly_told(alloc: Global, original: &[u8], escaped: bool) -> Result<Vec<u8>, Fail> {
-    let mut place = Place::Path;
-    let mut path = Vec::new(alloc);
-    let mut told_query = Vec::new(alloc);
-    let mut fragment = Vec::new(alloc);
-    let mut field = Field::empty(alloc);
-    for &byte in original {
-        match (place, byte) {
-            (Place::Path, b'?') => {
-                place = Place::Query;
-                told_query.extend_from_slice(b" ?")?;
-            }
-            (Place::Path, b'#') | (Place::Query, b'#') => {
-                place = Place::Fragment;
-                fragment.extend_from_slice(b" #")?;
-            }
-            (Place::Query, b'&') => {
-                field.tell(&mut told_query, escaped)?;
-                field = Field::empty(alloc);
-            }
-            (Place::Path, _) => path.extend_from_slice(&[byte])?,
-            (Place::Query, _) => field.push(byte)?,
-            (Place::Fragment, _) => fragment.extend_from_slice(&[byte])?,
+/// A path that is read: what stands in its places so far, and the field that is still open.
+#[derive(Drop)]
+struct Reading {
+    place: Place,
+    path: Vec<u8>,
+    told_query: Vec<u8>,
+    fragment: Vec<u8>,
+    field: Field,
+}
+
+impl Reading {
+    fn empty(alloc: Global) -> Reading {
+        Reading {
+            place: Place::Path,
+            path: Vec::new(alloc),
+            told_query: Vec::new(alloc),
+            fragment: Vec::new(alloc),
+            field: Field::empty(alloc),
         }
     }
-    field.tell(&mut told_query, escaped)?;
-    let mut told = Vec::new(alloc);
-    if path.is_empty() {
-        told.extend_from_slice(b"/")?;
+
+    /// Reads one byte more.
+    fn push(&mut self, alloc: Global, byte: u8, escaped: bool) -> Result<(), Fail> {
+        match (self.place, byte) {
+            (Place::Path, b'?') => {
+                self.place = Place::Query;
+                self.told_query.extend_from_slice(b" ?")?;
+            }
+            (Place::Path, b'#') | (Place::Query, b'#') => {
+                self.place = Place::Fragment;
+                self.fragment.extend_from_slice(b" #")?;
+            }
+            (Place::Query, b'&') => {
+                self.field.tell(&mut self.told_query, escaped)?;
+                self.field = Field::empty(alloc);
+            }
+            (Place::Path, _) => self.path.extend_from_slice(&[byte])?,
+            (Place::Query, _) => self.field.push(byte)?,
+            (Place::Fragment, _) => self.fragment.extend_from_slice(&[byte])?,
+        }
+        Ok(())
     }
-    tell(&mut told, path.as_slice(), escaped)?;
-    told.extend_from_slice(told_query.as_slice())?;
-    tell(&mut told, fragment.as_slice(), escaped)?;
+
+    /// Tells what was read; an empty path is the root.
+    fn tell(&self, told: &mut Vec<u8>, escaped: bool) -> Result<(), Fail> {
+        if self.path.is_empty() {
+            told.extend_from_slice(b"/")?;
+        }
+        tell(told, self.path.as_slice(), escaped)?;
+        told.extend_from_slice(self.told_query.as_slice())?;
+        self.field.tell(told, escaped)?;
+        tell(told, self.fragment.as_slice(), escaped)
+    }
+}
+
+/// What the path is made of, as the tables of `components` tell it.
+pub fn plainly_told(alloc: Global, original: &[u8], escaped: bool) -> Result<Vec<u8>, Fail> {
+    let mut reading = Reading::empty(alloc);
+    for &byte in original {
+        reading.push(alloc, byte, escaped)?;
+    }
+    let mut told = Vec::new(alloc);
+    reading.tell(&mut told, escaped)?;
     Ok(told)
 }
 

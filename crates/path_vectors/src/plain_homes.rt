@@ -53,9 +53,8 @@ impl Paths {
     }
 }
 
-/// The bytes with U+FFFD for what is no text. A byte 195 begins a character where 182 follows.
-fn shown(alloc: Global, bytes: &[u8]) -> Result<Vec<u8>, Fail> {
-    let mut out = Vec::new(alloc);
+/// Puts bytes behind others, with U+FFFD for what is no text. A byte 195 begins a character where 182 follows.
+fn show(out: &mut Vec<u8>, bytes: &[u8]) -> Result<(), Fail> {
     let mut begun = false;
     for byte in bytes {
         let whole = begun && *byte == 0xb6;
@@ -74,40 +73,64 @@ fn shown(alloc: Global, bytes: &[u8]) -> Result<Vec<u8>, Fail> {
     if begun {
         out.extend_from_slice(b"\xef\xbf\xbd")?;
     }
+    Ok(())
+}
+
+/// The bytes, shown so.
+fn shown(alloc: Global, bytes: &[u8]) -> Result<Vec<u8>, Fail> {
+    let mut out = Vec::new(alloc);
+    show(&mut out, bytes)?;
     Ok(out)
 }
 
-/// The name of the user in whose home folder a path begins, and what is left of the path.
-pub fn split(alloc: Global, path: &[u8]) -> Result<(Option<Vec<u8>>, Vec<u8>), Fail> {
-    let Some(behind) = path.strip_prefix(b"/~") else {
-        return Ok((None, Vec::from_slice(alloc, path)?));
-    };
-    let mut name = Vec::new(alloc);
-    let mut below = Vec::new(alloc);
-    let mut passed = false;
-    for byte in behind {
-        if passed {
-            below.push(*byte)?;
-        } else if *byte == b'/' {
-            passed = true;
-        } else {
-            name.push(*byte)?;
+/// Where a name ends: before the first `/`.
+fn name_len(text: &[u8]) -> usize {
+    let mut len = 0usize;
+    for byte in text {
+        if *byte == b'/' {
+            return len;
         }
+        len = len.saturating_add(1);
     }
-    let mut rest = Vec::from_slice(alloc, b"/")?;
-    rest.extend_from_slice(shown(alloc, below.as_slice())?.as_slice())?;
-    Ok((Some(name), rest))
+    len
+}
+
+/// The name of the user in whose home folder a path begins.
+pub fn name(path: &[u8]) -> Option<&[u8]> {
+    let behind = path.strip_prefix(b"/~")?;
+    behind.get(..name_len(behind))
+}
+
+/// Puts what is left of a path behind other bytes: below a home folder it begins with the root.
+fn put_rest(out: &mut Vec<u8>, path: &[u8]) -> Result<(), Fail> {
+    let Some(behind) = path.strip_prefix(b"/~") else {
+        return Ok(out.extend_from_slice(path)?);
+    };
+    out.push(b'/')?;
+    let below = behind.get(name_len(behind).saturating_add(1)..);
+    show(out, below.unwrap_or(b""))
+}
+
+/// What is left of a path.
+pub fn rest(alloc: Global, path: &[u8]) -> Result<Vec<u8>, Fail> {
+    let mut out = Vec::new(alloc);
+    put_rest(&mut out, path)?;
+    Ok(out)
+}
+
+/// Puts the path behind other bytes, as a shell takes it.
+fn put_shell(out: &mut Vec<u8>, path: &[u8]) -> Result<(), Fail> {
+    if let Some(name) = name(path) {
+        out.push(b'~')?;
+        out.extend_from_slice(name)?;
+    }
+    put_rest(out, path)
 }
 
 /// The path as a shell takes it.
 pub fn shell_path(alloc: Global, path: &[u8]) -> Result<Vec<u8>, Fail> {
-    let (name, rest) = split(alloc, path)?;
     let mut out = Vec::new(alloc);
-    if let Some(name) = name {
-        out.push(b'~')?;
-        out.extend_from_slice(name.as_slice())?;
-    }
-    out.extend_from_slice(rest.as_slice())?;
+    put_shell(&mut out, path)?;
     Ok(out)
 }
 
@@ -176,10 +199,9 @@ fn folder_of(alloc: Global, name: &[u8], home: &[u8]) -> Result<Option<Vec<u8>>,
     Ok(Some(folder))
 }
 
-/// The components of a path below a folder.
-fn below(alloc: Global, path: &[u8]) -> Result<Vec<u8>, Fail> {
-    let mut below = Vec::new(alloc);
-    for (start, end) in places(alloc, path)? {
+/// Puts the components at these places of a path behind others; one that begins the path is left out.
+fn put_below(below: &mut Vec<u8>, path: &[u8], places: &[(usize, usize)]) -> Result<(), Fail> {
+    for &(start, end) in places {
         if start == 0 {
             continue;
         }
@@ -188,6 +210,13 @@ fn below(alloc: Global, path: &[u8]) -> Result<Vec<u8>, Fail> {
         }
         below.extend_from_slice(path.get(start..end).unwrap_or(path))?;
     }
+    Ok(())
+}
+
+/// The components of a path below a folder.
+fn below(alloc: Global, path: &[u8]) -> Result<Vec<u8>, Fail> {
+    let mut below = Vec::new(alloc);
+    put_below(&mut below, path, places(alloc, path)?.as_slice())?;
     Ok(below)
 }
 

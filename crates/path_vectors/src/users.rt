@@ -25,26 +25,39 @@ fn users(alloc: Global) -> Result<Vec<ForUser>, Fail> {
     Ok(users)
 }
 
+/// Whether two users compare as their places do.
+fn are_in_order(one: (usize, &ForUser), other: (usize, &ForUser)) -> bool {
+    one.1.cmp(other.1) == one.0.cmp(&other.0) && (one.1 == other.1) == (one.0 == other.0)
+}
+
 /// Checks how two users compare, by their places.
 fn compare(rt: &impl Abort, one: (usize, &ForUser), other: (usize, &ForUser)) {
     let (i, j) = (one.0, other.0);
-    assert_eq!(rt; one.1.cmp(other.1), i.cmp(&j), "users {i} and {j}");
-    assert_eq!(rt; one.1 == other.1, i == j, "users {i} and {j}");
+    assert!(rt; are_in_order(one, other), "users {i} and {j}");
+}
+
+/// Checks how a user at this place compares to all of them.
+fn compare_to_all(rt: &impl Abort, one: (usize, &ForUser), users: &[ForUser]) {
+    for other in users.iter().enumerate() {
+        compare(rt, one, other);
+    }
 }
 
 #[test]
 fn users_compare(rt: HostRuntime) -> Result<(), Fail> {
     let users = users(rt.alloc())?;
     for one in users.iter().enumerate() {
-        for other in users.iter().enumerate() {
-            compare(&rt, one, other);
-        }
+        compare_to_all(&rt, one, users.as_slice());
     }
+    Ok(())
+}
+
+#[test]
+fn the_current_user_compares(rt: HostRuntime) {
     assert_eq!(&rt;
         ForUser::Current.partial_cmp(&ForUser::Current),
         Some(Ordering::Equal)
     );
-    Ok(())
 }
 
 /// Checks that a copy of a user is found in a set by the user.
@@ -58,14 +71,23 @@ fn is_found(rt: &impl Abort, alloc: Global, user: &ForUser) -> Result<(), Fail> 
 /// Checks that a copy of a user is the user, and has a name unless it is the current one.
 fn copies(rt: &impl Abort, alloc: Global, user: &ForUser) -> Result<(), Fail> {
     let copy = user.clone(alloc)?;
-    assert!(rt; copy == *user, "a copy");
-    let name: Option<BString> = copy.into();
+    is_copied(rt, &copy, user);
+    is_named(rt, user, &copy.into());
+    Ok(())
+}
+
+/// Checks that a copy of a user is the user.
+fn is_copied(rt: &impl Abort, copy: &ForUser, user: &ForUser) {
+    assert!(rt; copy == user, "a copy");
+}
+
+/// Checks that a copy of a user has a name unless the user is the current one.
+fn is_named(rt: &impl Abort, user: &ForUser, name: &Option<BString>) {
     assert_eq!(rt;
         name.is_none(),
         *user == ForUser::Current,
         "the name of a copy"
     );
-    Ok(())
 }
 
 #[test]

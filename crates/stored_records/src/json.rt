@@ -53,38 +53,48 @@ pub fn of_path(
     spelling: &[u8],
 ) -> Result<String, AllocError> {
     let mut out = String::new(alloc);
-    put(&mut out, "scheme", "\"Https\"")?;
-    let mut quoted = String::new(alloc);
-    write!(quoted, "\"{host}\"")?;
-    put(&mut out, "host", quoted.as_str())?;
-    put(&mut out, "serialize_alternative_form", "false")?;
-    put(&mut out, "path", numbers(alloc, path)?.as_str())?;
-    put(
-        &mut out,
-        "path_with_percent_escapes",
-        numbers(alloc, spelling)?.as_str(),
-    )?;
+    put_location(&mut out, host, path, spelling)?;
     closed(out)
 }
 
+/// The members of such a record.
+fn put_location(
+    out: &mut String,
+    host: &str,
+    path: &[u8],
+    spelling: &[u8],
+) -> Result<(), AllocError> {
+    put(out, "scheme", "\"Https\"")?;
+    put_name(out, "host")?;
+    write!(out, "\"{host}\"")?;
+    put(out, "serialize_alternative_form", "false")?;
+    put_name(out, "path")?;
+    put_numbers(out, path)?;
+    put_name(out, "path_with_percent_escapes")?;
+    put_numbers(out, spelling)
+}
+
 /// Bytes as a list of numbers.
-fn numbers(alloc: Global, bytes: &[u8]) -> Result<String, AllocError> {
-    let mut out = String::new(alloc);
+fn put_numbers(out: &mut String, bytes: &[u8]) -> Result<(), AllocError> {
+    let mut comma = "";
     out.push('[')?;
     for byte in bytes {
-        if out.len() > 1 {
-            out.push(',')?;
-        }
-        write!(out, "{byte}")?;
+        write!(out, "{comma}{byte}")?;
+        comma = ",";
     }
-    out.push(']')?;
-    Ok(out)
+    out.push(']')
+}
+
+/// One member more of an object that is still open: its name, which a value has to follow.
+fn put_name(out: &mut String, name: &str) -> Result<(), AllocError> {
+    out.push(if out.is_empty() { '{' } else { ',' })?;
+    write!(out, "\"{name}\":")
 }
 
 /// One member more of an object that is still open.
 fn put(out: &mut String, name: &str, value: &str) -> Result<(), AllocError> {
-    out.push(if out.is_empty() { '{' } else { ',' })?;
-    write!(out, "\"{name}\":{value}")
+    put_name(out, name)?;
+    out.push_str(value)
 }
 
 /// The object, closed.

@@ -11,6 +11,8 @@ mod json;
 mod refusing;
 #[cfg(test)]
 mod restoring;
+#[cfg(test)]
+mod same;
 
 use gix_url::Url;
 use gix_url::stored::StoredUrl;

@@ -3,6 +3,7 @@
 use crate::json::{PARTS, with, with_more, without};
 use gix_url::stored::StoredUrl;
 use std::alloc::Global;
+use std::process::Abort;
 use std::test::Fail;
 
 /// Values that a part may not have.
@@ -59,95 +60,140 @@ fn is_refused(alloc: Global, record: &str, words: &str) -> Result<bool, Fail> {
     }
 }
 
+/// Whether the record is refused.
+fn refuses(alloc: Global, record: &str) -> Result<bool, Fail> {
+    Ok(refusal(alloc, record)?.is_some())
+}
+
+/// Whether the record is refused for this part, which is `missing` or `duplicate`.
+fn names(alloc: Global, record: &str, flaw: &str, name: &str) -> Result<bool, Fail> {
+    let words = format!(in alloc; "{flaw} field `{name}`")?;
+    is_refused(alloc, record, words.as_str())
+}
+
+/// Checks whether a record that lacks this part is refused, which names the part then.
+fn is_missed(rt: &impl Abort, alloc: Global, record: &str, name: &str) -> Result<(), Fail> {
+    let needed = matches!(name, "scheme" | "serialize_alternative_form" | "path");
+    let named = names(alloc, record, "missing", name)?;
+    let refused = refuses(alloc, record)?;
+    assert_eq!(rt; named, needed, "{record}");
+    assert_eq!(rt; refused, needed, "{record}");
+    Ok(())
+}
+
 #[test]
 fn a_part_that_is_needed_is_missed_by_name(rt: HostRuntime) -> Result<(), Fail> {
-    let alloc = rt.alloc();
-    for (name, _) in PARTS {
-        let record = without(alloc, name)?;
-        let needed = matches!(name, "scheme" | "serialize_alternative_form" | "path");
-        let words = format!(in alloc; "missing field `{name}`")?;
-        assert_eq!(rt;
-            is_refused(alloc, record.as_str(), words.as_str())?,
-            needed,
-            "{record}"
-        );
-        assert_eq!(rt;
-            refusal(alloc, record.as_str())?.is_some(),
-            needed,
-            "{record}"
-        );
+    for &(name, _) in PARTS.as_slice() {
+        let record = without(rt.alloc(), name)?;
+        is_missed(&rt, rt.alloc(), record.as_str(), name)?;
     }
+    Ok(())
+}
+
+/// Checks that a record with this part twice is refused, and the part is named.
+fn comes_twice(rt: &impl Abort, alloc: Global, record: &str, name: &str) -> Result<(), Fail> {
+    let named = names(alloc, record, "duplicate", name)?;
+    assert!(rt; named, "{record}");
     Ok(())
 }
 
 #[test]
 fn a_part_that_comes_twice_is_refused_by_name(rt: HostRuntime) -> Result<(), Fail> {
-    let alloc = rt.alloc();
-    for (name, value) in PARTS {
-        let record = with_more(alloc, name, value)?;
-        let words = format!(in alloc; "duplicate field `{name}`")?;
-        assert!(rt;
-            is_refused(alloc, record.as_str(), words.as_str())?,
-            "{record}"
-        );
+    for &(name, value) in PARTS.as_slice() {
+        let record = with_more(rt.alloc(), name, value)?;
+        comes_twice(&rt, rt.alloc(), record.as_str(), name)?;
+    }
+    Ok(())
+}
+
+/// Checks that the column that a refusal names lies in this member of the record.
+fn is_within(rt: &impl Abort, record: &str, member: &str, words: &str, column: usize) {
+    let start = record.find(member).unwrap_or(0);
+    assert!(rt; start < column, "{record}: {words}");
+    assert!(rt; column - start <= member.len() + 1, "{record}: {words}");
+}
+
+/// Tells the record that is read, which should be refused.
+fn is_not_read(rt: &impl Abort, record: &str) {
+    assert!(rt; false, "{record} is read");
+}
+
+/// Checks that a record is refused where this member of it stands.
+fn is_refused_at(rt: &impl Abort, alloc: Global, record: &str, member: &str) -> Result<(), Fail> {
+    match &refusal(alloc, record)? {
+        None => is_not_read(rt, record),
+        Some((words, column)) => is_within(rt, record, member, words.as_str(), *column),
     }
     Ok(())
 }
 
 #[test]
 fn a_part_of_another_type_is_refused_at_its_place(rt: HostRuntime) -> Result<(), Fail> {
-    let alloc = rt.alloc();
-    for (name, value) in ILL_TYPED {
-        let record = with(alloc, name, value)?;
-        let member = format!(in alloc; "\"{name}\":{value}")?;
-        let start = record.as_str().find(member.as_str()).unwrap_or(0);
-        match refusal(alloc, record.as_str())? {
-            None => assert!(rt; false, "{record} is read"),
-            Some((words, column)) => {
-                assert!(rt; start < column, "{record}: {words}");
-                assert!(rt; column - start <= member.len() + 1, "{record}: {words}");
-            }
+    for &(name, value) in ILL_TYPED.as_slice() {
+        let record = with(rt.alloc(), name, value)?;
+        let member = format!(in rt.alloc(); "\"{name}\":{value}")?;
+        is_refused_at(&rt, rt.alloc(), record.as_str(), member.as_str())?;
+    }
+    Ok(())
+}
+
+/// Checks that a text is refused.
+fn is_no_record(rt: &impl Abort, alloc: Global, text: &str) -> Result<(), Fail> {
+    let refused = refuses(alloc, text)?;
+    assert!(rt; refused, "{text}");
+    Ok(())
+}
+
+/// Checks that a record is read, and at no length where it is cut short.
+fn is_read_as_a_whole(rt: &impl Abort, alloc: Global, whole: &str) -> Result<(), Fail> {
+    let refused = refuses(alloc, whole)?;
+    assert!(rt; !refused);
+    for len in 0..whole.len() {
+        if let Some(front) = whole.get(..len) {
+            is_no_record(rt, alloc, front)?;
         }
     }
     Ok(())
 }
 
+/// Texts that are no record.
+static NO_RECORDS: [&str; 7] = [
+    "",
+    "null",
+    "[]",
+    "{}",
+    "1",
+    "\"Https\"",
+    "[\"Https\",null,null,null,false,null]",
+];
+
 #[test]
 fn what_is_no_record_is_refused(rt: HostRuntime) -> Result<(), Fail> {
-    let alloc = rt.alloc();
-    for text in [
-        "",
-        "null",
-        "[]",
-        "{}",
-        "1",
-        "\"Https\"",
-        "[\"Https\",null,null,null,false,null]",
-    ] {
-        assert!(rt; refusal(alloc, text)?.is_some(), "{text}");
+    for &text in NO_RECORDS.as_slice() {
+        is_no_record(&rt, rt.alloc(), text)?;
     }
-    // A record that is cut short is read at no length.
-    let record = with(alloc, "user", "null")?;
-    let whole = record.as_str();
-    assert!(rt; refusal(alloc, whole)?.is_none());
-    for len in 0..whole.len() {
-        if let Some(front) = whole.get(..len) {
-            assert!(rt; refusal(alloc, front)?.is_some(), "{front}");
-        }
-    }
-    let longer = format!(in alloc; "{record}]")?;
-    assert!(rt; refusal(alloc, longer.as_str())?.is_some());
-    Ok(())
+    let record = with(rt.alloc(), "user", "null")?;
+    is_read_as_a_whole(&rt, rt.alloc(), record.as_str())?;
+    let longer = format!(in rt.alloc(); "{record}]")?;
+    is_no_record(&rt, rt.alloc(), longer.as_str())
+}
+
+/// Checks the scheme and the port of a record.
+fn is_of_https(rt: &impl Abort, stored: &StoredUrl) {
+    assert_eq!(rt; stored.scheme.as_str(), "https");
+    assert_eq!(rt; stored.port, Some(8080));
+}
+
+/// What this record is read as.
+fn read(alloc: Global, record: &str) -> Result<StoredUrl, Fail> {
+    Ok(serde_json::from_str(alloc, record)?)
 }
 
 #[test]
 fn a_part_that_is_unknown_is_passed_over(rt: HostRuntime) -> Result<(), Fail> {
-    let alloc = rt.alloc();
     for value in ["1", "null", "[[],{}]", "{\"scheme\":\"Ssh\"}"] {
-        let record = with_more(alloc, "other", value)?;
-        let stored: StoredUrl = serde_json::from_str(alloc, record.as_str())?;
-        assert_eq!(rt; stored.scheme.as_str(), "https");
-        assert_eq!(rt; stored.port, Some(8080));
+        let record = with_more(rt.alloc(), "other", value)?;
+        is_of_https(&rt, &read(rt.alloc(), record.as_str())?);
     }
     Ok(())
 }

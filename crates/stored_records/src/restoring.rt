@@ -1,9 +1,11 @@
 //! Locations that are restored from records, the older form among them, and what is stored of them again.
 
 use crate::json::{PARTS, of_path, with, without};
+use crate::same;
 use gix_url::stored::StoredUrl;
 use gix_url::{Scheme, Url};
 use std::alloc::Global;
+use std::process::Abort;
 use std::test::Fail;
 
 /// Paths and spellings of records, and those of the locations that they stand for.
@@ -53,75 +55,145 @@ fn restored(alloc: Global, record: &str) -> Result<Url, Fail> {
     Ok(Url::from_stored(alloc, serde_json::from_str(alloc, record)?)?)
 }
 
+/// What is stored of the location of a record.
+fn stored(alloc: Global, record: &str) -> Result<StoredUrl, Fail> {
+    Ok(restored(alloc, record)?.to_stored(alloc)?)
+}
+
+/// A path and its spelling.
+type Spelled = (&'static [u8], &'static [u8]);
+
+/// Checks the path and the spelling that are stored of this record.
+fn has_spelling(rt: &impl Abort, stored: &StoredUrl, want: Spelled, record: &str) {
+    assert_eq!(rt; stored.path.as_slice(), want.0, "{record}");
+    assert_eq!(rt;
+        stored.path_with_percent_escapes.as_deref(),
+        Some(want.1),
+        "{record}"
+    );
+}
+
+/// Checks the path and the spelling that are stored of what was stored of this record.
+fn stays(
+    rt: &impl Abort,
+    alloc: Global,
+    first: &StoredUrl,
+    want: Spelled,
+    record: &str,
+) -> Result<(), Fail> {
+    let json = serde_json::to_string(alloc, first)?;
+    has_spelling(rt, &stored(alloc, json.as_str())?, want, record);
+    Ok(())
+}
+
+/// Checks the path and the spelling that are stored of a record, and that they stay.
+fn is_migrated(rt: &impl Abort, alloc: Global, record: &str, want: Spelled) -> Result<(), Fail> {
+    let stored = stored(alloc, record)?;
+    has_spelling(rt, &stored, want, record);
+    stays(rt, alloc, &stored, want, record)
+}
+
 #[test]
 fn the_older_form_is_migrated_and_stays(rt: HostRuntime) -> Result<(), Fail> {
-    let alloc = rt.alloc();
-    for ((path, spelling), (new_path, new_spelling)) in SPELLINGS {
-        let record = of_path(alloc, "h", path, spelling)?;
-        let stored = restored(alloc, record.as_str())?.to_stored(alloc)?;
-        assert_eq!(rt; stored.path.as_slice(), new_path, "{record}");
-        assert_eq!(rt;
-            stored.path_with_percent_escapes.as_deref(),
-            Some(new_spelling),
-            "{record}"
-        );
-        let json = serde_json::to_string(alloc, &stored)?;
-        let again = restored(alloc, json.as_str())?.to_stored(alloc)?;
-        assert_eq!(rt; again.path.as_slice(), new_path, "{record}");
-        assert_eq!(rt;
-            again.path_with_percent_escapes.as_deref(),
-            Some(new_spelling),
-            "{record}"
-        );
+    for &((path, spelling), want) in SPELLINGS.as_slice() {
+        let record = of_path(rt.alloc(), "h", path, spelling)?;
+        is_migrated(&rt, rt.alloc(), record.as_str(), want)?;
     }
     Ok(())
+}
+
+/// The location of a record with this host, path and spelling.
+fn restored_of(alloc: Global, host: &str, path: &[u8], spelling: &[u8]) -> Result<Url, Fail> {
+    let record = of_path(alloc, host, path, spelling)?;
+    restored(alloc, record.as_str())
+}
+
+/// Checks how a location is written.
+fn is_written(rt: &impl Abort, alloc: Global, url: &Url, text: &str) -> Result<(), Fail> {
+    same::bytes(rt, url.to_bstring(alloc)?.as_bytes(), text.as_bytes());
+    Ok(())
+}
+
+/// Checks that a location is unsettled.
+fn is_unsettled(rt: &impl Abort, url: &Url) {
+    assert!(rt; !url.is_settled());
+}
+
+/// What the text of a location is read as.
+fn read_again(alloc: Global, url: &Url) -> Result<Url, Fail> {
+    let text = url.to_bstring(alloc)?;
+    Ok(Url::from_bytes(alloc, text.as_bstr())?)
+}
+
+/// Checks a location with a spelling that no text is read with, once it has come to stand for the path.
+fn is_spelled_oddly(rt: &impl Abort, alloc: Global, url: &Url) -> Result<(), Fail> {
+    is_written(rt, alloc, url, "https://h/a<b")?;
+    is_unsettled(rt, url);
+    is_written(rt, alloc, &read_again(alloc, url)?, "https://h/a%3Cb")
 }
 
 #[test]
 fn the_spelling_is_written(rt: HostRuntime) -> Result<(), Fail> {
-    let alloc = rt.alloc();
-    for (host, path, spelling, text) in TEXTS {
-        let url = restored(alloc, of_path(alloc, host, path, spelling)?.as_str())?;
-        assert_eq!(rt; url.to_bstring(alloc)?.as_bytes(), text.as_bytes());
+    for &(host, path, spelling, text) in TEXTS.as_slice() {
+        let url = restored_of(rt.alloc(), host, path, spelling)?;
+        is_written(&rt, rt.alloc(), &url, text)?;
     }
-    // A spelling that no text is read with, and that comes to stand for the path later.
-    let mut url = restored(alloc, of_path(alloc, "h", b"/x", b"/a<b")?.as_str())?;
-    url.path = bstr::BString::from_slice(alloc, b"/a<b")?;
-    let text = url.to_bstring(alloc)?;
-    assert_eq!(rt; text.as_bytes(), b"https://h/a<b".as_slice());
-    assert!(rt; !url.is_settled());
-    let again = Url::from_bytes(alloc, text.as_bstr())?.to_bstring(alloc)?;
-    assert_eq!(rt; again.as_bytes(), b"https://h/a%3Cb".as_slice());
+    let mut url = restored_of(rt.alloc(), "h", b"/x", b"/a<b")?;
+    url.path = bstr::BString::from_slice(rt.alloc(), b"/a<b")?;
+    is_spelled_oddly(&rt, rt.alloc(), &url)
+}
+
+/// Checks all parts of a location, of which the scheme is this one.
+fn has_all_parts(rt: &impl Abort, url: &Url, scheme: &str) {
+    same::text(rt, url.scheme.as_str(), scheme);
+    same::some(rt, url.user.as_deref(), "u");
+    same::some(rt, url.password.as_deref(), "secret");
+    same::some(rt, url.host.as_deref(), "h");
+    assert_eq!(rt; matches!(&url.scheme, Scheme::Helper(_)), scheme == "a");
+    assert_eq!(rt; url.port, Some(8080));
+    assert!(rt; !url.serialize_alternative_form);
+}
+
+/// Checks the record that is stored of a location.
+fn is_stored_as(rt: &impl Abort, alloc: Global, url: &Url, record: &str) -> Result<(), Fail> {
+    let stored = url.to_stored(alloc)?;
+    same::text(rt, serde_json::to_string(alloc, &stored)?.as_str(), record);
     Ok(())
+}
+
+/// Checks that the parts of a record come back, of which the scheme is this one.
+fn comes_back(rt: &impl Abort, alloc: Global, record: &str, scheme: &str) -> Result<(), Fail> {
+    let url = restored(alloc, record)?;
+    has_all_parts(rt, &url, scheme);
+    is_stored_as(rt, alloc, &url, record)
 }
 
 #[test]
 fn all_parts_come_back(rt: HostRuntime) -> Result<(), Fail> {
-    let alloc = rt.alloc();
-    for (json, text) in SCHEMES {
-        let record = with(alloc, "scheme", json)?;
-        let url = restored(alloc, record.as_str())?;
-        assert_eq!(rt; url.scheme.as_str(), text);
-        assert_eq!(rt; matches!(&url.scheme, Scheme::Helper(_)), text == "a");
-        assert_eq!(rt; url.user.as_deref(), Some("u"));
-        assert_eq!(rt; url.password.as_deref(), Some("secret"));
-        assert_eq!(rt; url.host.as_deref(), Some("h"));
-        assert_eq!(rt; url.port, Some(8080));
-        assert!(rt; !url.serialize_alternative_form);
-        let json = serde_json::to_string(alloc, &url.to_stored(alloc)?)?;
-        assert_eq!(rt; json.as_str(), record.as_str());
+    for &(json, text) in SCHEMES.as_slice() {
+        let record = with(rt.alloc(), "scheme", json)?;
+        comes_back(&rt, rt.alloc(), record.as_str(), text)?;
     }
     Ok(())
 }
 
+/// The location of a record without this part.
+fn restored_without(alloc: Global, name: &str) -> Result<Url, Fail> {
+    let record = without(alloc, name)?;
+    restored(alloc, record.as_str())
+}
+
+/// Checks that this part may be missing, and is null then.
+fn may_be_missing(rt: &impl Abort, alloc: Global, name: &str) -> Result<(), Fail> {
+    let url = restored_without(alloc, name)?;
+    is_stored_as(rt, alloc, &url, with(alloc, name, "null")?.as_str())
+}
+
 #[test]
 fn parts_may_be_missing(rt: HostRuntime) -> Result<(), Fail> {
-    let alloc = rt.alloc();
-    for (name, _) in PARTS {
+    for &(name, _) in PARTS.as_slice() {
         if !matches!(name, "scheme" | "serialize_alternative_form" | "path") {
-            let url = restored(alloc, without(alloc, name)?.as_str())?;
-            let json = serde_json::to_string(alloc, &url.to_stored(alloc)?)?;
-            assert_eq!(rt; json.as_str(), with(alloc, name, "null")?.as_str());
+            may_be_missing(&rt, rt.alloc(), name)?;
         }
     }
     Ok(())
@@ -139,36 +211,45 @@ fn url_of(alloc: Global, json: &str) -> Option<Url> {
     Url::from_stored(alloc, stored).ok()
 }
 
-#[test]
-fn the_examples_work(rt: HostRuntime) -> Result<(), Fail> {
-    let alloc = rt.alloc();
-    let url = Url::from_text(alloc, "https://h/a%2Fb")?;
-    let json = json_of(alloc, &url);
-    assert_eq!(rt;
-        json.as_deref(),
-        Some(
-            "{\"scheme\":\"Https\",\"user\":null,\"password\":null,\"host\":\"h\",\"serialize_alternative_form\":false,\"port\":null,\"path\":[47,97,47,98],\"path_with_percent_escapes\":[47,97,37,50,70,98]}"
-        )
-    );
-    match url_of(alloc, json.as_deref().unwrap_or("")) {
+/// The record of the examples.
+static EXAMPLE: &str =
+    "{\"scheme\":\"Https\",\"user\":null,\"password\":null,\"host\":\"h\",\"serialize_alternative_form\":false,\"port\":null,\"path\":[47,97,47,98],\"path_with_percent_escapes\":[47,97,37,50,70,98]}";
+
+/// Checks that a record is read as the location of the examples.
+fn is_back(rt: &impl Abort, alloc: Global, back: &Option<Url>) -> Result<(), Fail> {
+    match back {
         None => assert!(rt; false, "the record is read"),
-        Some(back) => assert_eq!(rt;
-            back.to_bstring(alloc)?.as_bytes(),
-            b"https://h/a%2Fb".as_slice()
-        ),
+        Some(back) => is_written(rt, alloc, back, "https://h/a%2Fb")?,
     }
     Ok(())
 }
 
+/// Checks the record that the first example answers, and what the second one makes of it.
+fn work(rt: &impl Abort, alloc: Global, json: Option<&str>) -> Result<(), Fail> {
+    same::some(rt, json, EXAMPLE);
+    is_back(rt, alloc, &url_of(alloc, json.unwrap_or("")))
+}
+
+#[test]
+fn the_examples_work(rt: HostRuntime) -> Result<(), Fail> {
+    let url = Url::from_text(rt.alloc(), "https://h/a%2Fb")?;
+    work(&rt, rt.alloc(), json_of(rt.alloc(), &url).as_deref())
+}
+
+/// How a record is shown.
+fn shown(alloc: Global, record: &str) -> Result<String, Fail> {
+    let stored: StoredUrl = serde_json::from_str(alloc, record)?;
+    Ok(format!(in alloc; "{stored:?}")?)
+}
+
 #[test]
 fn no_password_is_shown(rt: HostRuntime) -> Result<(), Fail> {
-    let alloc = rt.alloc();
-    let record = with(alloc, "port", "null")?;
-    let stored: StoredUrl = serde_json::from_str(alloc, record.as_str())?;
-    let shown = format!(in alloc; "{stored:?}")?;
-    assert_eq!(rt;
+    let record = with(rt.alloc(), "port", "null")?;
+    let shown = shown(rt.alloc(), record.as_str())?;
+    same::text(
+        &rt,
         shown.as_str(),
-        "StoredUrl { scheme: Https, user: Some(\"u\"), password: Some(\"redacted\"), host: Some(\"h\"), serialize_alternative_form: false, port: None, path: [47, 112], path_with_percent_escapes: Some([47, 37, 55, 48]) }"
+        "StoredUrl { scheme: Https, user: Some(\"u\"), password: Some(\"redacted\"), host: Some(\"h\"), serialize_alternative_form: false, port: None, path: [47, 112], path_with_percent_escapes: Some([47, 37, 55, 48]) }",
     );
     Ok(())
 }

@@ -1,5 +1,6 @@
 //! Which bytes are escaped in a path of HTTP, in a user and in a password: each byte in turn, by what is written.
 
+use crate::rows::is_written_as;
 use bstr::BString;
 use gix_url::Url;
 use std::alloc::Global;
@@ -34,20 +35,37 @@ fn with_path(alloc: Global, byte: u8) -> Result<String, Fail> {
     Ok(text)
 }
 
+/// Puts this byte for a user and a password, and a host.
+fn put_names(text: &mut String, byte: u8) -> Result<(), Fail> {
+    put(text, USER.as_slice(), byte)?;
+    text.push(':')?;
+    put(text, PASSWORD.as_slice(), byte)?;
+    text.push_str("@h/")?;
+    Ok(())
+}
+
 /// How a location of HTTP with this byte for its user and its password is written.
 fn with_names(alloc: Global, byte: u8) -> Result<String, Fail> {
     let mut text = String::from_str(alloc, "http://")?;
-    put(&mut text, USER.as_slice(), byte)?;
-    text.push(':')?;
-    put(&mut text, PASSWORD.as_slice(), byte)?;
-    text.push_str("@h/")?;
+    put_names(&mut text, byte)?;
     Ok(text)
 }
 
-/// Checks the text of a location.
-fn is_written(rt: &impl Abort, alloc: Global, url: &Url, text: &str) -> Result<(), Fail> {
-    assert_eq!(rt; url.to_bstring(alloc)?.as_bytes(), text.as_bytes());
-    Ok(())
+/// Checks how a location of HTTP is written once its path is this byte.
+fn is_escaped(rt: &impl Abort, alloc: Global, url: &mut Url, byte: u8) -> Result<(), Fail> {
+    url.path = BString::from_slice(alloc, &[b'/', byte])?;
+    is_written_as(rt, alloc, url, with_path(alloc, byte)?.as_str())
+}
+
+/// A location of HTTP with this user and this password.
+fn named(alloc: Global, part: &str) -> Result<Url, Fail> {
+    let (user, password, host) = (Some(part), Some(part), Some("h"));
+    unchecked(alloc, "Http", user, password, host, None, b"/", false)
+}
+
+/// Checks how a location of HTTP with this byte for its user and its password is written.
+fn is_escaped_in_names(rt: &impl Abort, alloc: Global, url: &Url, byte: u8) -> Result<(), Fail> {
+    is_written_as(rt, alloc, url, with_names(alloc, byte)?.as_str())
 }
 
 #[test]
@@ -55,8 +73,7 @@ fn every_byte_in_a_path(rt: HostRuntime) -> Result<(), Fail> {
     let alloc = rt.alloc();
     let mut url = Url::from_text(alloc, "http://h/")?;
     for byte in 0..=255u8 {
-        url.path = BString::from_slice(alloc, &[b'/', byte])?;
-        is_written(&rt, alloc, &url, with_path(alloc, byte)?.as_str())?;
+        is_escaped(&rt, alloc, &mut url, byte)?;
     }
     Ok(())
 }
@@ -66,9 +83,7 @@ fn every_byte_of_ascii_in_a_user_and_a_password(rt: HostRuntime) -> Result<(), F
     let alloc = rt.alloc();
     for byte in 0..=127u8 {
         let part = char::from(byte).to_string(alloc)?;
-        let (user, password, host) = (Some(part.as_str()), Some(part.as_str()), Some("h"));
-        let url = unchecked(alloc, "Http", user, password, host, None, b"/", false)?;
-        is_written(&rt, alloc, &url, with_names(alloc, byte)?.as_str())?;
+        is_escaped_in_names(&rt, alloc, &named(alloc, part.as_str())?, byte)?;
     }
     Ok(())
 }

@@ -1,5 +1,6 @@
 //! Hosts, ports and escapes, each in the place of a text where it is read or written.
 
+use crate::rows::{has_no_host, is_written_as};
 use gix_url::{Error, Url, UrlFault};
 use std::alloc::Global;
 use std::process::Abort;
@@ -28,6 +29,12 @@ impl Place {
         Ok(text)
     }
 
+    /// What the text with this host and port is read as.
+    fn read(&self, alloc: Global, piece: &str) -> Result<Result<Url, Error>, Fail> {
+        let text = self.text(alloc, piece)?;
+        Ok(Url::from_text(alloc, text.as_str()))
+    }
+
     /// Checks that each piece names its host and its port.
     fn names(
         &self,
@@ -36,10 +43,7 @@ impl Place {
         rows: &[(&str, &str, Option<u16>)],
     ) -> Result<(), Fail> {
         for &(piece, host, port) in rows {
-            let text = self.text(alloc, piece)?;
-            let url = Url::from_text(alloc, text.as_str())?;
-            assert_eq!(rt; url.host.as_deref(), Some(host), "the host of {piece}");
-            assert_eq!(rt; url.port, port, "the port of {piece}");
+            is_at(rt, &self.read(alloc, piece)??, piece, (host, port));
         }
         Ok(())
     }
@@ -53,12 +57,21 @@ impl Place {
         pieces: &[&str],
     ) -> Result<(), Fail> {
         for &piece in pieces {
-            let text = self.text(alloc, piece)?;
-            let found = fault_of(&Url::from_text(alloc, text.as_str()));
-            assert_eq!(rt; found, Some(fault), "the fault of {piece}");
+            has_fault(rt, &self.read(alloc, piece)?, piece, fault);
         }
         Ok(())
     }
+}
+
+/// Checks the host and the port of what was read with this piece.
+fn is_at(rt: &impl Abort, url: &Url, piece: &str, (host, port): (&str, Option<u16>)) {
+    assert_eq!(rt; url.host.as_deref(), Some(host), "the host of {piece}");
+    assert_eq!(rt; url.port, port, "the port of {piece}");
+}
+
+/// Checks the fault that the text with this piece is refused with.
+fn has_fault(rt: &impl Abort, outcome: &Result<Url, Error>, piece: &str, fault: UrlFault) {
+    assert_eq!(rt; fault_of(outcome), Some(fault), "the fault of {piece}");
 }
 
 /// The fault that a text is refused with, if it is a fault of URLs.
@@ -178,8 +191,7 @@ fn hosts_of_other_schemes(rt: HostRuntime) -> Result<(), Fail> {
 
 #[test]
 fn other_schemes_need_no_host(rt: HostRuntime) -> Result<(), Fail> {
-    let url = Url::from_text(rt.alloc(), "x:///p")?;
-    assert!(rt; url.host.is_none());
+    has_no_host(&rt, &Url::from_text(rt.alloc(), "x:///p")?);
     Ok(())
 }
 
@@ -204,8 +216,7 @@ fn escapes_that_are_written(rt: HostRuntime) -> Result<(), Fail> {
             path,
             false,
         )?;
-        let text = url.to_bstring(rt.alloc())?;
-        assert_eq!(rt; text.as_bytes(), written.as_bytes());
+        is_written_as(&rt, rt.alloc(), &url, written)?;
     }
     Ok(())
 }
@@ -220,11 +231,15 @@ static READ: [(&str, &str); 6] = [
     ("http://h/a%00b", "/a\0b"),
 ];
 
+/// Checks the path of what this text was read as.
+fn has_path(rt: &impl Abort, url: &Url, text: &str, path: &str) {
+    assert_eq!(rt; url.path.as_bytes(), path.as_bytes(), "the path of {text}");
+}
+
 #[test]
 fn escapes_that_are_read(rt: HostRuntime) -> Result<(), Fail> {
     for &(text, path) in READ.as_slice() {
-        let url = Url::from_text(rt.alloc(), text)?;
-        assert_eq!(rt; url.path.as_bytes(), path.as_bytes(), "the path of {text}");
+        has_path(&rt, &Url::from_text(rt.alloc(), text)?, text, path);
     }
     Ok(())
 }

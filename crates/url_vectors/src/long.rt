@@ -1,6 +1,6 @@
 //! Texts near the limits of length.
 
-use crate::rows::refuses;
+use crate::rows::{has_no_host, refuses};
 use gix_url::Url;
 use std::alloc::Global;
 use std::process::Abort;
@@ -29,31 +29,43 @@ static READ: [(&[(&str, usize)], u128, bool); 6] = [
     (&[("http://", 1), ("ö", 400), ("@h/", 1)], 2410, false),
 ];
 
+/// What the text in these pieces is read as.
+fn read(alloc: Global, pieces: &[(&str, usize)]) -> Result<Url, Fail> {
+    let text = joined(alloc, pieces)?;
+    Ok(Url::from_text(alloc, text.as_str())?)
+}
+
+/// Checks the length of a location's text, and whether it is settled.
+fn has_length(rt: &impl Abort, url: &Url, length: u128, settled: bool) {
+    assert_eq!(rt; url.text_len(), Ok(length));
+    assert_eq!(rt; url.is_settled(), settled, "{length}");
+}
+
 #[test]
 fn just_short_enough(rt: HostRuntime) -> Result<(), Fail> {
     for &(pieces, length, settled) in READ.as_slice() {
-        let text = joined(rt.alloc(), pieces)?;
-        let url = Url::from_text(rt.alloc(), text.as_str())?;
-        assert_eq!(rt; url.text_len(), Ok(length));
-        assert_eq!(rt; url.is_settled(), settled, "{length}");
+        has_length(&rt, &read(rt.alloc(), pieces)?, length, settled);
     }
     Ok(())
 }
 
-#[test]
-fn a_long_query(rt: HostRuntime) -> Result<(), Fail> {
-    let text = joined(rt.alloc(), &[("http://h?", 1), ("a", 1100)])?;
-    let url = Url::from_text(rt.alloc(), text.as_str())?;
+/// Checks that the host ends where the query begins.
+fn has_a_query(rt: &impl Abort, url: &Url) {
     assert_eq!(rt; url.host.as_deref(), Some("h"));
     assert!(rt; url.path.as_bytes().starts_with(b"?aaa"));
+}
+
+#[test]
+fn a_long_query(rt: HostRuntime) -> Result<(), Fail> {
+    let url = read(rt.alloc(), &[("http://h?", 1), ("a", 1100)])?;
+    has_a_query(&rt, &url);
     Ok(())
 }
 
 #[test]
 fn a_long_path_without_a_host(rt: HostRuntime) -> Result<(), Fail> {
-    let text = joined(rt.alloc(), &[("x:///", 1), ("a", 1023)])?;
-    let url = Url::from_text(rt.alloc(), text.as_str())?;
-    assert!(rt; url.host.is_none());
+    let url = read(rt.alloc(), &[("x:///", 1), ("a", 1023)])?;
+    has_no_host(&rt, &url);
     Ok(())
 }
 
@@ -64,17 +76,19 @@ fn is_settled_with(alloc: Global, host: &str, path: &str) -> Result<bool, Fail> 
     Ok(url.is_settled())
 }
 
+/// Checks whether locations with this host are settled.
+fn are_settled_with(rt: &impl Abort, alloc: Global, host: &str, settled: bool) -> Result<(), Fail> {
+    for path in ["/", "/b", "?b"] {
+        let found = is_settled_with(alloc, host, path)?;
+        assert_eq!(rt; found, settled, "{path}");
+    }
+    Ok(())
+}
+
 /// Checks whether locations with a host of so many bytes are settled.
 fn are_settled(rt: &impl Abort, alloc: Global, length: usize, settled: bool) -> Result<(), Fail> {
     let host = joined(alloc, &[("a", length)])?;
-    for path in ["/", "/b", "?b"] {
-        assert_eq!(rt;
-            is_settled_with(alloc, host.as_str(), path)?,
-            settled,
-            "{path}"
-        );
-    }
-    Ok(())
+    are_settled_with(rt, alloc, host.as_str(), settled)
 }
 
 #[test]

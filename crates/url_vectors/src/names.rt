@@ -1,5 +1,6 @@
 //! IPv6 texts, and the names and ports of schemes.
 
+use crate::rows::told;
 use gix_url::Scheme;
 use gix_url::ipv6::is_ipv6;
 use std::alloc::Global;
@@ -42,18 +43,21 @@ static NO_ADDRESSES: [&str; 18] = [
     "::1:",
 ];
 
-#[test]
-fn addresses(rt: HostRuntime) {
-    for &text in ADDRESSES.as_slice() {
-        assert!(rt; is_ipv6(text), "{text}");
+/// Checks whether the texts are addresses.
+fn are_addresses(rt: &impl Abort, texts: &[&str], wanted: bool) {
+    for &text in texts {
+        assert_eq!(rt; is_ipv6(text), wanted, "{text}");
     }
 }
 
 #[test]
+fn addresses(rt: HostRuntime) {
+    are_addresses(&rt, ADDRESSES.as_slice(), true);
+}
+
+#[test]
 fn texts_that_are_no_addresses(rt: HostRuntime) {
-    for &text in NO_ADDRESSES.as_slice() {
-        assert!(rt; !is_ipv6(text), "{text}");
-    }
+    are_addresses(&rt, NO_ADDRESSES.as_slice(), false);
 }
 
 /// A text, the text of the scheme that it names, and the scheme's port.
@@ -73,8 +77,8 @@ static SCHEMES: [(&str, &str, Option<u16>); 11] = [
 
 /// Checks the text of a scheme, and how it is shown.
 fn is_named(rt: &impl Abort, alloc: Global, scheme: &Scheme, name: &str) -> Result<(), Fail> {
-    assert_eq!(rt; scheme.as_str(), name);
-    assert_eq!(rt; scheme.to_string(alloc)?.as_str(), name);
+    told(rt, scheme.as_str(), name);
+    told(rt, scheme.to_string(alloc)?.as_str(), name);
     Ok(())
 }
 

@@ -2,7 +2,7 @@
 
 use crate::edges::{EDGES, location};
 use crate::long::joined;
-use crate::rows::is_spelled;
+use crate::rows::{is_spelled, told};
 use bstr::BStr;
 use gix_url::Url;
 use gix_url::parse::parse;
@@ -41,11 +41,16 @@ fn comes_back(alloc: Global, url: &Url) -> Result<bool, Fail> {
 
 /// Checks that a text is read as a settled location, which comes back.
 fn is_settled(rt: &impl Abort, alloc: Global, text: &[u8]) -> Result<(), Fail> {
-    let shown = BStr::new(text);
-    let url = parse(alloc, shown)?;
-    assert!(rt; url.is_settled(), "{shown} is settled");
-    assert!(rt; comes_back(alloc, &url)?, "{shown} comes back");
+    let url = parse(alloc, BStr::new(text))?;
+    let back = comes_back(alloc, &url)?;
+    is_settled_and_back(rt, BStr::new(text), url.is_settled(), back);
     Ok(())
+}
+
+/// Checks that what this text is read as is settled, and comes back.
+fn is_settled_and_back(rt: &impl Abort, shown: BStr<'_>, settled: bool, back: bool) {
+    assert!(rt; settled, "{shown} is settled");
+    assert!(rt; back, "{shown} comes back");
 }
 
 /// Settled texts.
@@ -77,19 +82,29 @@ fn the_longest_location_comes_back(rt: HostRuntime) -> Result<(), Fail> {
     is_settled(&rt, rt.alloc(), text.as_bytes())
 }
 
+/// Checks that a location is the other again, spelled so.
+fn is_spelled_again(
+    rt: &impl Abort,
+    alloc: Global,
+    url: &Url,
+    again: &Url,
+    spelled: &str,
+) -> Result<(), Fail> {
+    is_spelled(rt, again, spelled);
+    assert!(rt; is_again(alloc, url, again)?);
+    Ok(())
+}
+
 #[test]
 fn the_spelling_is_that_of_the_text(rt: HostRuntime) -> Result<(), Fail> {
     let url = Url::from_text(rt.alloc(), "http://h/a<b")?;
     is_spelled(&rt, &url, "/a<b");
-    let again = url.reread(rt.alloc())?;
-    is_spelled(&rt, &again, "/a%3Cb");
-    assert!(rt; is_again(rt.alloc(), &url, &again)?);
-    Ok(())
+    is_spelled_again(&rt, rt.alloc(), &url, &url.reread(rt.alloc())?, "/a%3Cb")
 }
 
 /// Checks what the text of a location is read as.
 fn is_read_as(rt: &impl Abort, alloc: Global, url: &Url, want: &str) -> Result<(), Fail> {
-    assert_eq!(rt; told_answer(alloc, url.reread(alloc))?.as_str(), want);
+    told(rt, told_answer(alloc, url.reread(alloc))?.as_str(), want);
     Ok(())
 }
 
@@ -110,11 +125,16 @@ static UNSETTLED: [(&str, &str); 7] = [
     ("ssh://[%5Bx%5D]/p", "Ssh host=x path=/p, settled ssh://x/p"),
 ];
 
+/// Checks that what this text is read as is unsettled.
+fn is_unsettled(rt: &impl Abort, url: &Url, text: &str) {
+    assert!(rt; !url.is_settled(), "{text} is unsettled");
+}
+
 #[test]
 fn unsettled_locations_are_read_as_others(rt: HostRuntime) -> Result<(), Fail> {
     for &(text, want) in UNSETTLED.as_slice() {
         let url = Url::from_text(rt.alloc(), text)?;
-        assert!(rt; !url.is_settled(), "{text} is unsettled");
+        is_unsettled(&rt, &url, text);
         is_read_as(&rt, rt.alloc(), &url, want)?;
     }
     Ok(())

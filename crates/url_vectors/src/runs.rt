@@ -1,5 +1,7 @@
 //! The program's work: how the input is cut into lines, and what is answered.
 
+use crate::rows::told;
+use bstr::BStr;
 use gix_url::lines::{RunError, fault_line, run, status};
 use std::alloc::Global;
 use std::io::{self, ErrorKind, Read};
@@ -10,18 +12,38 @@ use std::test::Fail;
 fn answers(
     rt: &impl Abort,
     alloc: Global,
-    input: &str,
-    answer: &str,
+    input: &[u8],
+    answer: &[u8],
     all: bool,
 ) -> Result<(), Fail> {
-    let mut left = input.as_bytes();
+    let mut left = input;
     let mut out = Vec::new(alloc);
     let outcome = run(alloc, &mut left, &mut out);
-    assert_eq!(rt; status(&outcome), u8::from(!all), "the status for {input}");
-    assert_eq!(rt; outcome?, all, "whether all of {input} is settled");
-    assert_eq!(rt; out.as_slice(), answer.as_bytes(), "the answer to {input}");
-    assert!(rt; left.is_empty(), "all of {input} is read");
+    has_status(rt, &outcome, u8::from(!all));
+    are_settled(rt, BStr::new(input), outcome?, all);
+    is_answered(rt, BStr::new(input), out.as_slice(), answer);
+    is_read(rt, BStr::new(input), left);
     Ok(())
+}
+
+/// Checks the status of a run.
+fn has_status(rt: &impl Abort, outcome: &Result<bool, RunError>, wanted: u8) {
+    assert_eq!(rt; status(outcome), wanted);
+}
+
+/// Checks whether every line of an input is settled.
+fn are_settled(rt: &impl Abort, input: BStr<'_>, found: bool, all: bool) {
+    assert_eq!(rt; found, all, "whether all of {input} is settled");
+}
+
+/// Checks what an input is answered.
+fn is_answered(rt: &impl Abort, input: BStr<'_>, found: &[u8], answer: &[u8]) {
+    assert_eq!(rt; found, answer, "the answer to {input}");
+}
+
+/// Checks that nothing of an input is left.
+fn is_read(rt: &impl Abort, input: BStr<'_>, left: &[u8]) {
+    assert!(rt; left.is_empty(), "all of {input} is read");
 }
 
 /// An input, its answer, and whether every line is settled.
@@ -53,21 +75,32 @@ static INPUTS: [(&str, &str, bool); 10] = [
 #[test]
 fn lines_and_their_answers(rt: HostRuntime) -> Result<(), Fail> {
     for &(input, answer, all) in INPUTS.as_slice() {
-        answers(&rt, rt.alloc(), input, answer, all)?;
+        answers(&rt, rt.alloc(), input.as_bytes(), answer.as_bytes(), all)?;
     }
     Ok(())
 }
 
 #[test]
 fn bytes_that_are_no_text(rt: HostRuntime) -> Result<(), Fail> {
-    let mut left = b"/\xff\nh:\xff\n".as_slice();
-    let mut out = Vec::new(rt.alloc());
-    assert_eq!(rt; run(rt.alloc(), &mut left, &mut out)?, false);
-    assert_eq!(rt;
-        out.as_slice(),
-        b"settled\t/\xff\nrefused\tNotUtf8\n".as_slice()
+    let answer = b"settled\t/\xff\nrefused\tNotUtf8\n";
+    answers(&rt, rt.alloc(), b"/\xff\nh:\xff\n", answer, false)
+}
+
+/// Whether an answer is that to a local path of so many times `/`, which is settled.
+fn is_of_slashes(answer: &[u8], count: usize) -> bool {
+    let path = answer
+        .strip_prefix(b"settled\t")
+        .and_then(|line| line.strip_suffix(b"\n"));
+    path.is_some_and(|path| path.len() == count && path.iter().all(|byte| *byte == b'/'))
+}
+
+/// Checks that a local path of so many times `/` is settled, and answered.
+fn answered_slashes(rt: &impl Abort, settled: bool, answer: &[u8], count: usize) {
+    assert!(rt; settled, "{count} slashes are settled");
+    assert!(rt;
+        is_of_slashes(answer, count),
+        "another answer to {count} slashes"
     );
-    Ok(())
 }
 
 /// Checks the answer to a local path of so many times `/`, which is settled.
@@ -78,14 +111,8 @@ fn answers_slashes<R: Read>(
     count: usize,
 ) -> Result<(), Fail> {
     let mut out = Vec::new(alloc);
-    assert_eq!(rt; run(alloc, input, &mut out)?, true);
-    let path = out
-        .as_slice()
-        .strip_prefix(b"settled\t")
-        .and_then(|line| line.strip_suffix(b"\n"));
-    let is_whole = path.is_some_and(|path| path.len() == count
-        && path.iter().all(|byte| *byte == b'/'));
-    assert!(rt; is_whole, "another answer to {count} slashes");
+    let settled = run(alloc, input, &mut out)?;
+    answered_slashes(rt, settled, out.as_slice(), count);
     Ok(())
 }
 
@@ -137,16 +164,20 @@ fn failed(reads: bool) -> RunError {
 
 #[test]
 fn faults_of_a_run(rt: HostRuntime) {
-    assert_eq!(rt; fault_line(&RunError::Memory), "locations: out of memory");
-    assert_eq!(rt; fault_line(&failed(true)), "locations: cannot read");
-    assert_eq!(rt; fault_line(&failed(false)), "locations: cannot write");
+    told(
+        &rt,
+        fault_line(&RunError::Memory),
+        "locations: out of memory",
+    );
+    told(&rt, fault_line(&failed(true)), "locations: cannot read");
+    told(&rt, fault_line(&failed(false)), "locations: cannot write");
 }
 
 #[test]
 fn the_status_of_a_run(rt: HostRuntime) {
-    assert_eq!(rt; status(&Ok(true)), 0);
-    assert_eq!(rt; status(&Ok(false)), 1);
-    assert_eq!(rt; status(&Err(RunError::Memory)), 2);
-    assert_eq!(rt; status(&Err(failed(true))), 2);
-    assert_eq!(rt; status(&Err(failed(false))), 2);
+    has_status(&rt, &Ok(true), 0);
+    has_status(&rt, &Ok(false), 1);
+    has_status(&rt, &Err(RunError::Memory), 2);
+    has_status(&rt, &Err(failed(true)), 2);
+    has_status(&rt, &Err(failed(false)), 2);
 }
