@@ -110,8 +110,8 @@ fn are_alike(rt: &impl Abort, url: &Url, copy: &Result<Url, Error>, outcome: &st
 /// Checks the outcome in place, and how often the resolver was called for it and for the copy.
 fn are_wanted(rt: &impl Abort, told: (&str, u8), copied: u8, wanted: (&str, u8)) {
     assert_eq!(rt; told.0, wanted.0);
-    assert_eq!(rt; told.1, wanted.1, "calls in place");
-    assert_eq!(rt; copied, wanted.1, "calls for the copy");
+    same::calls(rt, told.1, wanted.1, "in place");
+    same::calls(rt, copied, wanted.1, "for the copy");
 }
 
 /// A text of its own.
@@ -130,7 +130,7 @@ fn takes(
     answer: &str,
     written: &str,
 ) -> Result<(), Fail> {
-    let mut url = Url::from_text(alloc, text)?;
+    let mut url = same::read(alloc, text)?;
     canonicalize(rt, alloc, &mut url, Some(answer), ("taken", 1))?;
     same::bytes(rt, url.path.as_bytes(), answer.as_bytes());
     is_written(rt, alloc, &url, written)
@@ -160,7 +160,7 @@ fn is_asked_for(url: &mut Url, path: &str) -> bool {
 
 #[test]
 fn what_the_resolver_is_asked(rt: HostRuntime) -> Result<(), Fail> {
-    let mut url = Url::from_text(rt.alloc(), "file:///a%20b")?;
+    let mut url = same::read(rt.alloc(), "file:///a%20b")?;
     assert!(&rt; is_asked_for(&mut url, "/a%20b"), "the path as it stands");
     Ok(())
 }
@@ -181,7 +181,7 @@ fn keeps(
 
 #[test]
 fn a_path_that_is_no_text_stays(rt: HostRuntime) -> Result<(), Fail> {
-    let mut url = Url::from_text(rt.alloc(), "/")?;
+    let mut url = same::read(rt.alloc(), "/")?;
     url.path.push(0xff)?;
     let (answer, wanted) = (Some("/b"), ("not UTF-8", 0));
     keeps(&rt, rt.alloc(), &mut url, answer, wanted, b"/\xff")
@@ -189,20 +189,25 @@ fn a_path_that_is_no_text_stays(rt: HostRuntime) -> Result<(), Fail> {
 
 #[test]
 fn a_refusal_leaves_the_path(rt: HostRuntime) -> Result<(), Fail> {
-    let mut url = Url::from_text(rt.alloc(), "/a")?;
+    let mut url = same::read(rt.alloc(), "/a")?;
     keeps(&rt, rt.alloc(), &mut url, None, ("unresolved", 1), b"/a")
 }
 
 /// Checks that a location stays as it is, and that the resolver isn't asked.
 fn stays(rt: &impl Abort, alloc: Global, text: &str) -> Result<(), Fail> {
-    let mut url = Url::from_text(alloc, text)?;
+    let mut url = same::read(alloc, text)?;
     canonicalize(rt, alloc, &mut url, Some("/b"), ("taken", 0))?;
-    is_unchanged(rt, &url, &Url::from_text(alloc, text)?, text);
+    is_unchanged(rt, alloc, &url, text)
+}
+
+/// Checks that a location is what the text is read as.
+fn is_unchanged(rt: &impl Abort, alloc: Global, url: &Url, text: &str) -> Result<(), Fail> {
+    is_the_same(rt, url, &same::read(alloc, text)?, text);
     Ok(())
 }
 
-/// Checks that a location is what the text was read as.
-fn is_unchanged(rt: &impl Abort, url: &Url, read: &Url, text: &str) {
+/// Checks that a location is what this text was read as.
+fn is_the_same(rt: &impl Abort, url: &Url, read: &Url, text: &str) {
     assert!(rt; url == read, "{text} changes");
 }
 
@@ -221,18 +226,29 @@ fn other_schemes_stay(rt: HostRuntime) -> Result<(), Fail> {
     Ok(())
 }
 
-#[test]
-fn the_root_of_the_file_system(rt: HostRuntime) -> Result<(), Fail> {
-    let mut url = Url::from_text(rt.alloc(), "/.././")?;
-    same::bytes(&rt, real(&rt, &url)?.path.as_bytes(), b"/");
-    resolve(&rt, &mut url)?;
-    same::bytes(&rt, url.path.as_bytes(), b"/");
+/// Checks the path that the file system has for a location.
+fn is_really<R: Files + AllocGlobal + Abort>(rt: &R, url: &Url, path: &str) -> Result<(), Fail> {
+    same::bytes(rt, real(rt, url)?.path.as_bytes(), path.as_bytes());
+    Ok(())
+}
+
+/// Checks the path of a location once that is what the file system has for it.
+fn becomes<R: Files + AllocGlobal + Abort>(rt: &R, url: &mut Url, path: &str) -> Result<(), Fail> {
+    resolve(rt, url)?;
+    same::bytes(rt, url.path.as_bytes(), path.as_bytes());
     Ok(())
 }
 
 #[test]
+fn the_root_of_the_file_system(rt: HostRuntime) -> Result<(), Fail> {
+    let mut url = same::read(rt.alloc(), "/.././")?;
+    is_really(&rt, &url, "/")?;
+    becomes(&rt, &mut url, "/")
+}
+
+#[test]
 fn what_the_file_system_lacks(rt: HostRuntime) -> Result<(), Fail> {
-    let mut url = Url::from_text(rt.alloc(), "/no such folder/at all")?;
+    let mut url = same::read(rt.alloc(), "/no such folder/at all")?;
     assert!(&rt; matches!(&resolve(&rt, &mut url), Err(Error::Unresolved)));
     Ok(())
 }

@@ -93,6 +93,16 @@ fn is_told(
     Ok(())
 }
 
+/// What the path of a location is made of.
+fn parts(alloc: Global, url: &Url) -> Result<PathComponents<'_>, Fail> {
+    Ok(url.path_query_fragment(alloc)?)
+}
+
+/// What the path of a location is made of, as the tables tell it.
+fn told_of(alloc: Global, url: &Url) -> Result<Vec<u8>, Fail> {
+    told(alloc, &parts(alloc, url)?)
+}
+
 /// Checks what the path of the location is made of.
 pub(crate) fn is_made_of(
     rt: &impl Abort,
@@ -100,14 +110,14 @@ pub(crate) fn is_made_of(
     url: &Url,
     want: &str,
 ) -> Result<(), Fail> {
-    let parts = url.path_query_fragment(alloc)?;
-    is_told(rt, alloc, &parts, want)
+    same::bytes(rt, told_of(alloc, url)?.as_slice(), want.as_bytes());
+    Ok(())
 }
 
 #[test]
 fn what_paths_are_made_of(rt: HostRuntime) -> Result<(), Fail> {
     for &(text, want) in READ.as_slice() {
-        let url = Url::from_text(rt.alloc(), text)?;
+        let url = same::read(rt.alloc(), text)?;
         is_made_of(&rt, rt.alloc(), &url, want)?;
     }
     Ok(())
@@ -139,14 +149,17 @@ fn is_then_made_of(
     is_made_of(rt, alloc, url, want)
 }
 
+/// Paths in the place of `/my repo?a+b`, which was spelled with escapes, and what they are made of.
+static CHANGED: [(&str, &str); 2] = [
+    ("/x%20y?a%2B+b", "/x%20y ? {a%2B b}=<>"),
+    ("/my repo?a+b", "/my repo ? <a+b>=<>"),
+];
+
 #[test]
 fn escapes_count_while_the_spelling_does(rt: HostRuntime) -> Result<(), Fail> {
-    let mut url = Url::from_text(rt.alloc(), "https://host/my%20repo?a%2Bb")?;
-    for (path, want) in [
-        (b"/x%20y?a%2B+b".as_slice(), "/x%20y ? {a%2B b}=<>"),
-        (b"/my repo?a+b".as_slice(), "/my repo ? <a+b>=<>"),
-    ] {
-        is_then_made_of(&rt, rt.alloc(), &mut url, path, want)?;
+    let mut url = same::read(rt.alloc(), "https://host/my%20repo?a%2Bb")?;
+    for &(path, want) in CHANGED.as_slice() {
+        is_then_made_of(&rt, rt.alloc(), &mut url, path.as_bytes(), want)?;
     }
     Ok(())
 }
@@ -170,14 +183,20 @@ fn is_equal(rt: &impl Abort, copy: &PathComponents<'_>, parts: &PathComponents<'
 
 #[test]
 fn copies_are_equal_and_lend_alike(rt: HostRuntime) -> Result<(), Fail> {
-    let url = Url::from_text(rt.alloc(), "http://h/?a+b=%2B&&c&=d#x+y")?;
-    let parts = url.path_query_fragment(rt.alloc())?;
+    let url = same::read(rt.alloc(), "http://h/?a+b=%2B&&c&=d#x+y")?;
+    let parts = parts(rt.alloc(), &url)?;
     are_copied(&rt, rt.alloc(), &parts, "/ ? {a b}=<+> <c>=<> <>=<d> #x+y")
 }
 
 /// Whether the path of a location is made of these.
-fn has_parts(alloc: Global, url: &Url, parts: &PathComponents<'_>) -> Result<bool, Fail> {
-    Ok(url.path_query_fragment(alloc)? == *parts)
+fn has_parts(alloc: Global, url: &Url, wanted: &PathComponents<'_>) -> Result<bool, Fail> {
+    Ok(parts(alloc, url)? == *wanted)
+}
+
+/// Whether the path of a text is made of these.
+fn reads_parts(alloc: Global, text: &str, wanted: &PathComponents<'_>) -> Result<bool, Fail> {
+    let url = same::read(alloc, text)?;
+    has_parts(alloc, &url, wanted)
 }
 
 /// Checks whether the paths of two texts are made of the same.
@@ -188,7 +207,7 @@ fn are_equal(
     parts: &PathComponents<'_>,
     equal: bool,
 ) -> Result<(), Fail> {
-    let is_equal = has_parts(alloc, &Url::from_text(alloc, text)?, parts)?;
+    let is_equal = reads_parts(alloc, text, parts)?;
     assert_eq!(rt; is_equal, equal, "{text}");
     Ok(())
 }
@@ -219,19 +238,14 @@ fn equal_as_they_should(
 
 #[test]
 fn equality_counts_bytes(rt: HostRuntime) -> Result<(), Fail> {
-    let url = Url::from_text(rt.alloc(), "http://h/?a+b#x")?;
-    let parts = url.path_query_fragment(rt.alloc())?;
+    let url = same::read(rt.alloc(), "http://h/?a+b#x")?;
+    let parts = parts(rt.alloc(), &url)?;
     equal_as_they_should(&rt, rt.alloc(), &parts)
 }
 
 /// Checks what the path of this number is made of.
 fn is_told_plainly(rt: &impl Abort, told: &[u8], want: &[u8], turn: u64) {
     assert_eq!(rt; told, want, "path {turn}");
-}
-
-/// What the path of a location is made of, as the tables tell it.
-fn told_of(alloc: Global, url: &Url) -> Result<Vec<u8>, Fail> {
-    told(alloc, &url.path_query_fragment(alloc)?)
 }
 
 /// Checks what the path of a location is made of, by the second reading. It says whether the path has a spelling.
@@ -251,11 +265,16 @@ fn random_paths_read_plainly(rt: HostRuntime) -> Result<(), Fail> {
         let is_spelled = is_read_plainly(&rt, rt.alloc(), &url, turn)?;
         spelled = spelled.saturating_add(usize::from(is_spelled));
     }
+    is_enough(&rt, spelled);
+    Ok(())
+}
+
+/// Checks that enough paths have a spelling, and enough have none.
+fn is_enough(rt: &impl Abort, spelled: usize) {
     assert!(rt;
         100 < spelled && spelled < 400,
         "{spelled} of 500 have a spelling"
     );
-    Ok(())
 }
 
 /// What a URL of HTTP with this path is read as, if it is one.

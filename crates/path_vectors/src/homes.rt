@@ -4,6 +4,7 @@
 //! plainly, and the answers compared.
 
 use crate::plain_homes::{Paths, expanded, name, rest, shell_path};
+use crate::same;
 use crate::users::user;
 use bstr::{BStr, BString};
 use gix_url::Error;
@@ -176,11 +177,6 @@ fn is_asked_for_nobody_else(rt: &impl Abort, strangers: u8) {
     assert_eq!(rt; strangers, 0, "the closure is asked for another user");
 }
 
-/// Checks how often the closure was called for this path.
-fn is_called(rt: &impl Abort, calls: u8, wanted: u8, path: &str) {
-    assert_eq!(rt; calls, wanted, "calls for {path}");
-}
-
 /// Checks that no home folder is known for this user beside this one.
 fn has_none(rt: &impl Abort, outcome: &Result<String, Error>, user: &ForUser, home: &str) {
     assert!(rt; is_unknown(outcome, user), "a home is known beside {home}");
@@ -196,7 +192,7 @@ fn is_resolved(
     whole: &str,
 ) -> Result<(), Fail> {
     let (outcome, calls) = with_home(rt, alloc, user, path.as_bytes(), Some(home))?;
-    is_called(rt, calls, u8::from(user.is_some()), path);
+    same::calls(rt, calls, u8::from(user.is_some()), path);
     lies_at(rt, &outcome, whole);
     Ok(())
 }
@@ -224,7 +220,7 @@ fn expansions_by_a_resolver(rt: HostRuntime) -> Result<(), Fail> {
 /// Checks that the user is told for whom no home folder is known.
 fn has_no_home(rt: &impl Abort, alloc: Global, user: &ForUser) -> Result<(), Fail> {
     let (outcome, calls) = with_home(rt, alloc, Some(user), b"/a", None)?;
-    is_called(rt, calls, 1, "/a");
+    same::calls(rt, calls, 1, "/a");
     has_none(rt, &outcome, user, "none");
     Ok(())
 }
@@ -246,7 +242,7 @@ fn is_not_utf8(rt: &impl Abort, outcome: &Result<String, Error>) {
 /// Checks that a path that is no text is refused, and no home folder is asked for.
 fn is_no_text(rt: &impl Abort, alloc: Global, user: Option<&ForUser>) -> Result<(), Fail> {
     let (outcome, calls) = with_home(rt, alloc, user, b"/\xff", Some("/h"))?;
-    is_called(rt, calls, 0, "what is no text");
+    same::calls(rt, calls, 0, "what is no text");
     is_not_utf8(rt, &outcome);
     is_not_utf8(
         rt,
@@ -393,8 +389,19 @@ fn is_expanded_plainly(
 ) -> Result<(), Fail> {
     let (user, left) = expand_path::parse(alloc, BStr::new(path))?;
     let outcome = expand_path::expand_path(alloc, user.as_ref(), left.as_bstr(), Some(home));
+    lies_as_read(rt, alloc, &outcome, name, (left.as_bstr(), home))
+}
+
+/// Checks where what is left of a path lies below a home folder, by the second reading.
+fn lies_as_read(
+    rt: &impl Abort,
+    alloc: Global,
+    outcome: &Result<String, Error>,
+    name: Option<&[u8]>,
+    (left, home): (BStr<'_>, &str),
+) -> Result<(), Fail> {
     let whole = expanded(alloc, name, left.as_bytes(), home.as_bytes())?;
-    lies_plainly(rt, &outcome, whole.as_deref(), (left.as_bstr(), home));
+    lies_plainly(rt, outcome, whole.as_deref(), (left, home));
     Ok(())
 }
 

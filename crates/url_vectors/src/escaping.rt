@@ -57,15 +57,17 @@ fn is_escaped(rt: &impl Abort, alloc: Global, url: &mut Url, byte: u8) -> Result
     is_written_as(rt, alloc, url, with_path(alloc, byte)?.as_str())
 }
 
-/// A location of HTTP with this user and this password.
-fn named(alloc: Global, part: &str) -> Result<Url, Fail> {
-    let (user, password, host) = (Some(part), Some(part), Some("h"));
+/// A location of HTTP with this byte for its user and its password.
+fn named(alloc: Global, byte: u8) -> Result<Url, Fail> {
+    let part = char::from(byte).to_string(alloc)?;
+    let (user, password, host) = (Some(part.as_str()), Some(part.as_str()), Some("h"));
     unchecked(alloc, "Http", user, password, host, None, b"/", false)
 }
 
 /// Checks how a location of HTTP with this byte for its user and its password is written.
-fn is_escaped_in_names(rt: &impl Abort, alloc: Global, url: &Url, byte: u8) -> Result<(), Fail> {
-    is_written_as(rt, alloc, url, with_names(alloc, byte)?.as_str())
+fn is_escaped_in_names(rt: &impl Abort, alloc: Global, byte: u8) -> Result<(), Fail> {
+    let url = named(alloc, byte)?;
+    is_written_as(rt, alloc, &url, with_names(alloc, byte)?.as_str())
 }
 
 #[test]
@@ -82,8 +84,7 @@ fn every_byte_in_a_path(rt: HostRuntime) -> Result<(), Fail> {
 fn every_byte_of_ascii_in_a_user_and_a_password(rt: HostRuntime) -> Result<(), Fail> {
     let alloc = rt.alloc();
     for byte in 0..=127u8 {
-        let part = char::from(byte).to_string(alloc)?;
-        is_escaped_in_names(&rt, alloc, &named(alloc, part.as_str())?, byte)?;
+        is_escaped_in_names(&rt, alloc, byte)?;
     }
     Ok(())
 }

@@ -69,14 +69,23 @@ pub fn reads_all(rt: &impl Abort, alloc: Global, rows: &[(&str, &str, &str)]) ->
 
 /// Checks that bytes are refused with this error, which keeps them.
 pub fn refuses(rt: &impl Abort, alloc: Global, bytes: &[u8], error: &str) -> Result<(), Fail> {
-    let outcome = parse(alloc, BStr::new(bytes));
-    match outcome.as_ref().err() {
-        None => is_not_read(rt, BStr::new(bytes)),
-        Some(found) => {
-            told(rt, told_error(alloc, found)?.as_str(), error);
-            keeps_its_bytes(rt, found, bytes);
-        }
+    match &parse(alloc, BStr::new(bytes)) {
+        Ok(_) => is_not_read(rt, BStr::new(bytes)),
+        Err(found) => is_error(rt, alloc, found, bytes, error)?,
     }
+    Ok(())
+}
+
+/// Checks the error that bytes are refused with.
+fn is_error(
+    rt: &impl Abort,
+    alloc: Global,
+    found: &Error,
+    bytes: &[u8],
+    error: &str,
+) -> Result<(), Fail> {
+    told(rt, told_error(alloc, found)?.as_str(), error);
+    keeps_its_bytes(rt, found, bytes);
     Ok(())
 }
 

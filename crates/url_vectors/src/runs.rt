@@ -19,11 +19,16 @@ fn answers(
     let mut left = input;
     let mut out = Vec::new(alloc);
     let outcome = run(alloc, &mut left, &mut out);
-    has_status(rt, &outcome, u8::from(!all));
+    ends(rt, BStr::new(input), status(&outcome), u8::from(!all));
     are_settled(rt, BStr::new(input), outcome?, all);
     is_answered(rt, BStr::new(input), out.as_slice(), answer);
     is_read(rt, BStr::new(input), left);
     Ok(())
+}
+
+/// Checks the status that a run over an input ends with.
+fn ends(rt: &impl Abort, input: BStr<'_>, status: u8, wanted: u8) {
+    assert_eq!(rt; status, wanted, "the status for {input}");
 }
 
 /// Checks the status of a run.

@@ -36,14 +36,24 @@ static SPELLED: [(&str, &str, &str); 3] = [
     ("/my repo", "/my%20repo", "settled https://host/my%20repo"),
 ];
 
+/// Checks how a location is spelled and written once its path is another one.
+fn is_spelled_then(
+    rt: &impl Abort,
+    alloc: Global,
+    url: &mut Url,
+    &(path, spelled, written): &(&str, &str, &str),
+) -> Result<(), Fail> {
+    url.path = BString::from_slice(alloc, path)?;
+    is_spelled(rt, url, spelled);
+    is_written(rt, alloc, url, written)
+}
+
 #[test]
 fn a_spelling_counts_while_it_stands_for_the_path(rt: HostRuntime) -> Result<(), Fail> {
     let mut url = Url::from_text(rt.alloc(), "https://host/my%20repo")?;
     is_spelled(&rt, &url, "/my%20repo");
-    for &(path, spelled, written) in SPELLED.as_slice() {
-        url.path = BString::from_slice(rt.alloc(), path)?;
-        is_spelled(&rt, &url, spelled);
-        is_written(&rt, rt.alloc(), &url, written)?;
+    for row in SPELLED.as_slice() {
+        is_spelled_then(&rt, rt.alloc(), &mut url, row)?;
     }
     Ok(())
 }
