@@ -1,6 +1,6 @@
 //! Which parts of a location may be arguments of a command, and a user's choice that stands on it.
 
-use crate::checks::read;
+use crate::checks::{is, read};
 use bstr::BStr;
 use gix_url::ArgumentSafety::{self, Absent, Dangerous, Usable};
 use gix_url::Url;
@@ -45,20 +45,6 @@ static JUDGED: [(
     ("file:////-p", Absent, Absent, Some("//-p")),
 ];
 
-/// Checks what a part of the location of a text is to a command line.
-fn is_judged(rt: &impl Abort, text: &str, part: ArgumentSafety<'_>, want: ArgumentSafety<'_>) {
-    assert_eq!(rt; part, want, "a part of {text}");
-}
-
-/// Checks the path of the location of a text that is handed out.
-fn is_path(rt: &impl Abort, text: &str, path: Option<BStr<'_>>, want: Option<&str>) {
-    let want = match want {
-        None => None,
-        Some(want) => Some(BStr::new(want.as_bytes())),
-    };
-    assert_eq!(rt; path, want, "the path of {text}");
-}
-
 /// The text of a part, where it is usable.
 fn usable(part: ArgumentSafety<'_>) -> Option<&str> {
     match part {
@@ -67,9 +53,12 @@ fn usable(part: ArgumentSafety<'_>) -> Option<&str> {
     }
 }
 
-/// Checks a part of the location of a text that is handed out: it is, exactly where it is judged usable.
-fn is_handed_out(rt: &impl Abort, text: &str, out: Option<&str>, part: ArgumentSafety<'_>) {
-    assert_eq!(rt; out, usable(part), "a part of {text}");
+/// The path, where it is there.
+fn some_path(path: Option<&str>) -> Option<BStr<'_>> {
+    match path {
+        None => None,
+        Some(path) => Some(BStr::new(path.as_bytes())),
+    }
 }
 
 /// Checks what the parts of the location of a text are to a command line.
@@ -81,11 +70,11 @@ fn are_judged(
     host: ArgumentSafety<'_>,
     path: Option<&str>,
 ) {
-    is_judged(rt, text, url.user_as_argument(), user);
-    is_judged(rt, text, url.host_as_argument(), host);
-    is_handed_out(rt, text, url.user_argument_safe(), url.user_as_argument());
-    is_handed_out(rt, text, url.host_argument_safe(), url.host_as_argument());
-    is_path(rt, text, url.path_argument_safe(), path);
+    is(rt, text, &url.user_as_argument(), &user);
+    is(rt, text, &url.host_as_argument(), &host);
+    is(rt, text, &url.user_argument_safe(), &usable(user));
+    is(rt, text, &url.host_argument_safe(), &usable(host));
+    is(rt, text, &url.path_argument_safe(), &some_path(path));
 }
 
 #[test]
@@ -97,20 +86,15 @@ fn parts_as_arguments(rt: HostRuntime) -> Result<(), Fail> {
     Ok(())
 }
 
-/// Checks whether two judgements are equal.
-fn are_equal(rt: &impl Abort, one: ArgumentSafety<'_>, other: ArgumentSafety<'_>, same: bool) {
-    assert_eq!(rt; one == other, same, "{one:?} and {other:?}");
-}
-
 #[test]
 fn judgements_are_equal_by_variant_and_text(rt: HostRuntime) {
     let usable = Usable("h");
     let copied = usable;
-    are_equal(&rt, usable, copied, true);
-    are_equal(&rt, usable, Dangerous("h"), false);
-    are_equal(&rt, usable, Usable("g"), false);
-    are_equal(&rt, Usable(""), Absent, false);
-    are_equal(&rt, Absent, Absent, true);
+    is(&rt, "a copy", &usable, &copied);
+    is(&rt, "nothing", &Absent, &Absent);
+    is(&rt, "a variant", &(usable == Dangerous("h")), &false);
+    is(&rt, "a text", &(usable == Usable("g")), &false);
+    is(&rt, "an empty text", &(Usable("") == Absent), &false);
 }
 
 /// The words of a call of `ssh`, where no part of the location can be taken for an option.
@@ -133,16 +117,11 @@ static CALLED: [(&str, Option<&str>); 4] = [
     ("-oProxyCommand=x:repo", None),
 ];
 
-/// Checks the words of a call.
-fn are_words(rt: &impl Abort, called: Option<&str>, words: Option<&str>) {
-    assert_eq!(rt; called, words);
-}
-
 /// Checks the words of a call of `ssh` with the location of a text.
 fn calls(rt: &impl Abort, alloc: Global, text: &str, words: Option<&str>) -> Result<(), Fail> {
     let url = read(alloc, text)?;
     let called = ssh_words(alloc, &url)?;
-    are_words(rt, called.as_deref(), words);
+    is(rt, text, &called.as_deref(), &words);
     Ok(())
 }
 

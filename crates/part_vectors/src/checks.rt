@@ -4,7 +4,7 @@
 
 use gix_url::Url;
 use std::alloc::Global;
-use std::fmt::Display;
+use std::fmt::{Debug, Display};
 use std::process::Abort;
 use std::test::Fail;
 
@@ -19,6 +19,11 @@ pub fn boxed<T: Drop>(alloc: Global, value: T) -> Result<Box<T>, Fail> {
 /// The location of a text.
 pub fn read(alloc: Global, text: &str) -> Result<Box<Url>, Fail> {
     boxed(alloc, Url::from_text(alloc, text)?)
+}
+
+/// Checks a value, which is told of by these words.
+pub fn is<T: PartialEq + Debug>(rt: &impl Abort, words: &str, value: &T, want: &T) {
+    assert!(rt; value == want, "{words}: {value:?} instead of {want:?}");
 }
 
 /// Checks a text.

@@ -3,7 +3,7 @@
 ghost use Rattle.std.specs.Prelude.{◌≡◌, ◌↔◌, IfErr, IfOk, IsSorted, IsTrue};
 ghost use Rattle.gix_url.specs.declared.error.Error.TheVariants as error;
 
-use crate::checks::{boxed, read};
+use crate::checks::{boxed, is, read};
 use bstr::{BStr, BString};
 use gix_url::laws::law_order;
 use gix_url::{Error, Scheme, Url};
@@ -65,26 +65,25 @@ fn hash_of<T: Hash>(value: &T) -> u64 {
     state.finish()
 }
 
-/// Checks an order of two locations, by their places.
-fn is_order(rt: &impl Abort, order: Option<Ordering>, one: usize, other: usize) {
-    assert_eq!(rt; order, Some(one.cmp(&other)), "{one} and {other}");
+/// Checks that two locations at these places are to each other what they should be.
+fn agree(rt: &impl Abort, is_so: bool, one: usize, other: usize) {
+    assert!(rt; is_so, "{one} and {other}");
 }
 
 /// Checks how two locations compare, by their places in the order.
 fn compare(rt: &impl Abort, one: (usize, &Url), other: (usize, &Url)) {
-    is_order(rt, Some(one.1.cmp(other.1)), one.0, other.0);
-    is_order(rt, one.1.partial_cmp(other.1), one.0, other.0);
-}
-
-/// Checks whether two locations are the same, by their places.
-fn are_same(rt: &impl Abort, same: bool, one: usize, other: usize) {
-    assert!(rt; same == (one == other), "{one} and {other}");
+    let order = one.0.cmp(&other.0);
+    agree(rt, one.1.cmp(other.1) == order, one.0, other.0);
+    let partial = one.1.partial_cmp(other.1);
+    agree(rt, partial == Some(order), one.0, other.0);
 }
 
 /// Checks that two locations are equal, and hashed alike, where their places are the same.
 fn equal(rt: &impl Abort, one: (usize, &Url), other: (usize, &Url)) {
-    are_same(rt, one.1 == other.1, one.0, other.0);
-    are_same(rt, hash_of(one.1) == hash_of(other.1), one.0, other.0);
+    let same = one.0 == other.0;
+    agree(rt, (one.1 == other.1) == same, one.0, other.0);
+    let alike = hash_of(one.1) == hash_of(other.1);
+    agree(rt, alike == same, one.0, other.0);
 }
 
 #[test]
@@ -148,11 +147,6 @@ fn numbered_by_hash<K: Eq + Hash + Drop>(
     Ok(numbers)
 }
 
-/// Checks a number.
-fn is_number(rt: &impl Abort, number: Option<&usize>, want: Option<&usize>) {
-    assert_eq!(rt; number, want);
-}
-
 /// Checks the number of a location, if it has one, by order and by hash.
 fn is_numbered(
     rt: &impl Abort,
@@ -161,8 +155,8 @@ fn is_numbered(
     url: &Url,
     number: Option<&usize>,
 ) {
-    is_number(rt, by_order.get(url), number);
-    is_number(rt, by_hash.get(url), number);
+    is(rt, "a number by order", &by_order.get(url), &number);
+    is(rt, "a number by hash", &by_hash.get(url), &number);
 }
 
 /// Checks the numbers of all locations, and that another has none.
@@ -323,7 +317,7 @@ fn equals_its_copy(alloc: Global, url: &Url) -> Result<bool, Error>
 
 /// Checks whether two locations are one.
 fn is_one(rt: &impl Abort, url: &Url, other: &Url, one: bool) {
-    assert_eq!(rt; are_one(url, other), one);
+    is(rt, "one value", &are_one(url, other), &one);
 }
 
 /// Checks that a copy of the location is equal to it.

@@ -1,7 +1,7 @@
 //! Parts looked at and exchanged, and the location that has none.
 
-use crate::checks::{boxed, is_text, read};
-use bstr::BString;
+use crate::checks::{boxed, is, is_text, read};
+use bstr::{BStr, BString};
 use gix_url::{Scheme, Url};
 use std::alloc::Global;
 use std::fmt::Write;
@@ -9,9 +9,9 @@ use std::process::Abort;
 use std::test::Fail;
 use told::{told_front, told_text, unchecked};
 
-/// Checks a part.
-fn is(rt: &impl Abort, part: Option<&str>, want: Option<&str>) {
-    assert_eq!(rt; part, want);
+/// Checks a part, which is told of by these words.
+fn is_part(rt: &impl Abort, words: &str, part: Option<&str>, want: Option<&str>) {
+    is(rt, words, &part, &want);
 }
 
 /// Checks how a location is written.
@@ -22,7 +22,12 @@ fn written(rt: &impl Abort, alloc: Global, url: &Url, want: &str) -> Result<(), 
 
 /// Checks the path of a location as it was spelled.
 fn spelled(rt: &impl Abort, url: &Url, want: &str) {
-    assert_eq!(rt; url.original_path().as_bytes(), want.as_bytes());
+    is(
+        rt,
+        "the path as it was spelled",
+        &url.original_path(),
+        &BStr::new(want.as_bytes()),
+    );
 }
 
 /// The user, the password and the host in one text.
@@ -74,7 +79,7 @@ fn renamed(
 ) -> Result<Box<Url>, Fail> {
     let mut url = read(alloc, text)?;
     let before = url.set_user(user);
-    is(rt, before.as_deref(), Some("git"));
+    is_part(rt, "the user before", before.as_deref(), Some("git"));
     Ok(url)
 }
 
@@ -83,7 +88,7 @@ fn another_user(rt: HostRuntime) -> Result<(), Fail> {
     let alloc = rt.alloc();
     let user = "byron".to_string(alloc)?;
     let url = renamed(&rt, alloc, "ssh://git@example.com/gitoxide", Some(user))?;
-    is(&rt, url.user_argument_safe(), Some("byron"));
+    is_part(&rt, "the user", url.user_argument_safe(), Some("byron"));
     written(&rt, alloc, &url, "settled ssh://byron@example.com/gitoxide")
 }
 
@@ -91,23 +96,24 @@ fn another_user(rt: HostRuntime) -> Result<(), Fail> {
 fn no_user(rt: HostRuntime) -> Result<(), Fail> {
     let alloc = rt.alloc();
     let mut url = renamed(&rt, alloc, "ssh://git@example.com/gitoxide", None)?;
-    is(&rt, url.user(), None);
+    is_part(&rt, "the user", url.user(), None);
     let before = url.set_user(None);
-    is(&rt, before.as_deref(), None);
+    is_part(&rt, "the user before", before.as_deref(), None);
     written(&rt, alloc, &url, "settled ssh://example.com/gitoxide")
 }
 
 /// Exchanges the password of a location, and checks the one before.
 fn exchanges(rt: &impl Abort, url: &mut Url, password: Option<String>, before: &str) {
     let kept = url.set_password(password);
-    is(rt, kept.as_deref(), Some(before));
+    is_part(rt, "the password before", kept.as_deref(), Some(before));
 }
 
 #[test]
 fn another_password(rt: HostRuntime) -> Result<(), Fail> {
+    let password = "n:w".to_string(rt.alloc())?;
     let mut url = read(rt.alloc(), "https://u:old@h:8080/a%20b")?;
-    exchanges(&rt, &mut url, Some("n:w".to_string(rt.alloc())?), "old");
-    is(&rt, url.password(), Some("n:w"));
+    exchanges(&rt, &mut url, Some(password), "old");
+    is_part(&rt, "the password", url.password(), Some("n:w"));
     written(&rt, rt.alloc(), &url, "settled https://u:n:w@h:8080/a%20b")?;
     exchanges(&rt, &mut url, None, "n:w");
     written(&rt, rt.alloc(), &url, "settled https://u@h:8080/a%20b")
@@ -130,10 +136,7 @@ fn is_formed(
     flag: bool,
     want: &str,
 ) -> Result<(), Fail> {
-    assert!(rt;
-        url.serialize_alternative_form == flag,
-        "the flag of {want}"
-    );
+    is(rt, want, &url.serialize_alternative_form, &flag);
     written(rt, alloc, url, want)
 }
 
@@ -186,15 +189,10 @@ static PORTS: [(&str, Option<u16>, bool); 12] = [
     ("h:p", Some(22), false),
 ];
 
-/// Checks the port of a text.
-fn is_port(rt: &impl Abort, text: &str, port: Option<u16>, want: Option<u16>) {
-    assert_eq!(rt; port, want, "the port of {text}");
-}
-
 /// Checks the port of the location of a text, and whether its path is the root.
 fn has(rt: &impl Abort, text: &str, url: &Url, port: Option<u16>, is_root: bool) {
-    is_port(rt, text, url.port_or_default(), port);
-    assert!(rt; url.path_is_root() == is_root, "the path of {text}");
+    is(rt, text, &url.port_or_default(), &port);
+    is(rt, text, &url.path_is_root(), &is_root);
 }
 
 #[test]
@@ -224,7 +222,7 @@ fn ports_of_schemes(rt: HostRuntime) -> Result<(), Fail> {
     let alloc = rt.alloc();
     for &(text, port) in DEFAULTS.as_slice() {
         let scheme = boxed(alloc, Scheme::from_text(alloc, text)?)?;
-        is_port(&rt, text, scheme.default_port(), port);
+        is(&rt, text, &scheme.default_port(), &port);
     }
     Ok(())
 }

@@ -86,9 +86,9 @@ static SHOWN: [(&str, &[u8], bool, &str); 14] = [
 /// Passwords: one that is no escape, one that is written as escapes, and none of any length.
 static PASSWORDS: [&str; 3] = ["secret", "se:cr@et \u{f6}", ""];
 
-/// Checks that all was shown.
-fn was_shown(rt: &impl Abort, is_whole: bool, kept: &str, way: usize, shown: &str) {
-    assert!(rt; is_whole && kept == shown, "{kept} for {shown}, way {way}");
+/// Checks that what was shown is right, where this text was wanted.
+fn is_right(rt: &impl Abort, right: bool, kept: &str, way: usize, shown: &str) {
+    assert!(rt; right, "{kept} for {shown}, way {way}");
 }
 
 /// Checks what is shown in every way to ask.
@@ -96,7 +96,8 @@ fn shows(rt: &impl Abort, alloc: Global, url: &Url, shown: &str) {
     for way in 0..WAYS {
         let mut out = empty_keeper(alloc, 1000);
         let is_whole = show(&mut out, url, way).is_ok();
-        was_shown(rt, is_whole, out.kept.as_str(), way, shown);
+        let kept = out.kept.as_str();
+        is_right(rt, is_whole && kept == shown, kept, way, shown);
     }
 }
 
@@ -132,14 +133,6 @@ fn a_password_without_a_user_is_not_shown(rt: HostRuntime) -> Result<(), Fail> {
     Ok(())
 }
 
-/// Checks that a front was shown, or all.
-fn was_begun(rt: &impl Abort, is_whole: bool, kept: &str, way: usize, shown: &str) {
-    assert!(rt;
-        shown.starts_with(kept) && (!is_whole || kept == shown),
-        "{kept} for {shown}, way {way}"
-    );
-}
-
 /// Shows the location to a formatter that fails behind so many calls, and which has to be handed a front of it. Answers
 /// whether the formatter was handed all.
 fn is_shown_whole(
@@ -152,7 +145,9 @@ fn is_shown_whole(
 ) -> bool {
     let mut out = empty_keeper(alloc, calls);
     let is_whole = show(&mut out, url, way).is_ok();
-    was_begun(rt, is_whole, out.kept.as_str(), way, shown);
+    let kept = out.kept.as_str();
+    let right = shown.starts_with(kept) && (!is_whole || kept == shown);
+    is_right(rt, right, kept, way, shown);
     is_whole
 }
 
@@ -204,17 +199,13 @@ static TEXTLESS: [(&str, Option<&str>, Option<&str>, &[u8]); 9] = [
     ("HelperUrl x", Some("u"), None, b"/p"),
 ];
 
-/// Checks that nothing was shown.
-fn was_empty(rt: &impl Abort, is_whole: bool, kept: &str, way: usize) {
-    assert!(rt; !is_whole && kept.is_empty(), "{kept}, way {way}");
-}
-
 /// Checks that nothing is shown of a location in any way to ask.
 fn shows_nothing(rt: &impl Abort, alloc: Global, url: &Url) {
     for way in 0..WAYS {
         let mut out = empty_keeper(alloc, 1000);
         let is_whole = show(&mut out, url, way).is_ok();
-        was_empty(rt, is_whole, out.kept.as_str(), way);
+        let kept = out.kept.as_str();
+        is_right(rt, !is_whole && kept.is_empty(), kept, way, "");
     }
 }
 
