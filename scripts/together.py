@@ -109,9 +109,15 @@ def told_by(kit, crate, texts, flags, kept, last):
 
 
 def refusals(kit, crate, group, flags, kept):
-    """What the check of all edits of the group says against each: edits of which it says nothing are not among them."""
+    """What one check says against each edit of the group: edits of which it says nothing are not among them.
+
+    It is a check of the whole crate over kept work, and without kept work one of the changed functions alone.
+    """
+    if not all(place for _, place in group):
+        return {}
     texts, made = joined(crate, group)
-    lines = told_by(kit, crate, texts, flags, kept, "logic=not-proved")
+    only = [] if kept else [it for _, place in made for it in ("--only", path_of(crate, place))]
+    lines = told_by(kit, crate, texts, [*flags, *only], kept, "only=" if only else "logic=not-proved")
     open_goals = [(it[1], int(it[2]), it.string) for it in map(OPEN_GOAL.match, lines) if it]
     told = {}
     for edit, place in made:
@@ -121,6 +127,16 @@ def refusals(kit, crate, group, flags, kept):
         if said:
             told[edit] = said
     return told
+
+
+def path_of(crate, place):
+    """The path below the crate of the function at a place: its module's, that of its type if it is a method, and its name."""
+    file, first = place[:2]
+    module = re.sub(r"^src/(lib|main)?|\.rt$", "", file).replace("/", "::")
+    with open(f"{crate.folder}/{file}", encoding="utf-8") as it:
+        lines = it.read().split("\n")[:first]
+    types = [it[1] for it in map(re.compile(r"impl(?:<[^>]*>)? (\w+)").match, lines) if it] if lines[-1].startswith(" ") else []
+    return "::".join(it for it in (module, *types[-1:], name_at(crate, file, first)) if it)
 
 
 def name_at(crate, file, first):
