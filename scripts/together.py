@@ -108,15 +108,15 @@ def told_by(kit, crate, texts, flags, kept, last):
     return lines if is_refused and not any(kit.unread(it, texts) for it in lines) else []
 
 
-def refusals(kit, crate, group, flags, kept):
+def refusals(kit, crate, group, flags, kept, is_whole):
     """What one check says against each edit of the group: edits of which it says nothing are not among them.
 
-    It is a check of the whole crate over kept work, and without kept work one of the changed functions alone.
+    It is a check of the whole crate, or of the changed functions alone and what they call.
     """
     if not all(place for _, place in group):
         return {}
     texts, made = joined(crate, group)
-    only = [] if kept else [it for _, place in made for it in ("--only", path_of(crate, place))]
+    only = [] if is_whole else [it for _, place in made for it in ("--only", path_of(crate, place))]
     lines = told_by(kit, crate, texts, [*flags, *only], kept, "only=" if only else "logic=not-proved")
     open_goals = [(it[1], int(it[2]), it.string) for it in map(OPEN_GOAL.match, lines) if it]
     told = {}

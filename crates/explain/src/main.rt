@@ -26,14 +26,14 @@ use std::rt::Env;
 use told::Told;
 
 /// What is answered to a line: a location or why there is none.
-#[derive(Drop, Serialize)]
-struct Answer<'a> {
+#[derive(Clone, Copy, Serialize)]
+struct Answer<'b, 'a: 'b> {
     /// The number of the line, from 1.
     line: u64,
     /// What the line is read as.
-    location: Option<Told<'a>>,
+    location: Option<&'b Told<'a>>,
     /// Why it is read as nothing.
-    refusal: Option<Refusal>,
+    refusal: Option<&'b Refusal>,
 }
 
 /// How answers are laid out.
@@ -121,19 +121,18 @@ fn told_location(
     layout: Layout,
 ) -> Result<(String, bool), AllocError> {
     let told = Told::of(alloc, url)?;
-    let is_settled = told.settled;
     let answer = match layout {
         Layout::People => shown::location(alloc, number, url, &told)?,
         Layout::Json => json(
             alloc,
             &Answer {
                 line: number,
-                location: Some(told),
+                location: Some(&told),
                 refusal: None,
             },
         )?,
     };
-    Ok((answer, is_settled))
+    Ok((answer, told.settled))
 }
 
 /// What is told of a line that is refused.
@@ -151,14 +150,14 @@ fn told_refusal(
             &Answer {
                 line: number,
                 location: None,
-                refusal: Some(refusal),
+                refusal: Some(&refusal),
             },
         ),
     }
 }
 
 /// The answer as one line of JSON. All parts of an answer have a JSON, so only memory can be wanting.
-fn json(alloc: Global, answer: &Answer<'_>) -> Result<String, AllocError> {
+fn json(alloc: Global, answer: &Answer<'_, '_>) -> Result<String, AllocError> {
     match serde_json::to_string(alloc, answer) {
         Ok(mut line) => {
             line.push('\n')?;

@@ -135,7 +135,7 @@ impl<'a> Told<'a> {
             form: form_of(url),
             scheme: url.scheme.as_str(),
             user: url.user(),
-            password: url.password().map(|_| "redacted"),
+            password: hidden_password(url),
             host: url.host(),
             port: url.port,
             port_or_default: url.port_or_default(),
@@ -152,6 +152,13 @@ impl<'a> Told<'a> {
             reread: Reread::of(alloc, url)?,
         })
     }
+}
+
+/// `redacted`, where there is a password.
+fn hidden_password(url: &Url) -> Option<&'static str>
+    ensures { option_map (λ word. word.now) result ≡ option_map (λ _. codes "redacted") url.now.password }
+{
+    url.password().map(|_| "redacted")
 }
 
 /// The form that the location is written in.

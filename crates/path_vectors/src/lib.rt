@@ -11,6 +11,8 @@ mod canonical;
 #[cfg(test)]
 mod components;
 #[cfg(test)]
+mod expansions;
+#[cfg(test)]
 mod homes;
 #[cfg(test)]
 mod plain_components;

@@ -17,16 +17,24 @@ pub fn over_changed(alloc: Global, order: &Order<'_>, page: &mut Page) -> Result
     if !order.is_made {
         return Ok(());
     }
-    match order.call {
-        "Url::set_user" => tell_option(page, url.set_user(text).as_deref())?,
-        "Url::set_password" => tell_option(page, url.set_password(text).as_deref())?,
-        "Url::canonicalize" => tell_outcome(page, url.canonicalize(|_| text))?,
-        "Url::with_request_alternate_form" => url = url.with_request_alternate_form(true),
-        _ => return Err(Halt::Unknown),
+    if order.call == "Url::with_request_alternate_form" {
+        url = url.with_request_alternate_form(true);
+    } else {
+        change(order.call, &mut url, text, page)?;
     }
     // Behind the answer stands what has become of the location.
     tell(page, b"; ")?;
     tell_url(page, &url)
+}
+
+/// Makes a call that changes a location in its place.
+fn change(call: &str, url: &mut Url, text: Option<String>, page: &mut Page) -> Result<(), Halt> {
+    match call {
+        "Url::set_user" => tell_option(page, url.set_user(text).as_deref()),
+        "Url::set_password" => tell_option(page, url.set_password(text).as_deref()),
+        "Url::canonicalize" => tell_outcome(page, url.canonicalize(|_| text)),
+        _ => Err(Halt::Unknown),
+    }
 }
 
 /// Tells how a change ended.

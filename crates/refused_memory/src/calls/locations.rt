@@ -17,15 +17,20 @@ pub fn over_location(alloc: Global, order: &Order<'_>, page: &mut Page) -> Resul
         return Ok(());
     }
     let before = snapshot(&url)?;
-    match order.call {
-        "Url::clone" => tell_read(page, url.clone(alloc))?,
-        "Url::reread" => tell_read(page, url.reread(alloc))?,
-        "Url::to_bstring" => tell_bytes(page, url.to_bstring(alloc))?,
-        "Url::to_stored" => tell_stored(page, url.to_stored(alloc))?,
-        "Url::path_query_fragment" => tell_components(page, url.path_query_fragment(alloc))?,
-        _ => return Err(Halt::Unknown),
-    }
+    borrow(alloc, order.call, &url, page)?;
     is_kept(&url, &before)
+}
+
+/// Makes a call over a location.
+fn borrow(alloc: Global, call: &str, url: &Url, page: &mut Page) -> Result<(), Halt> {
+    match call {
+        "Url::clone" => tell_read(page, url.clone(alloc)),
+        "Url::reread" => tell_read(page, url.reread(alloc)),
+        "Url::to_bstring" => tell_bytes(page, url.to_bstring(alloc)),
+        "Url::to_stored" => tell_stored(page, url.to_stored(alloc)),
+        "Url::path_query_fragment" => tell_components(page, url.path_query_fragment(alloc)),
+        _ => Err(Halt::Unknown),
+    }
 }
 
 /// Makes a call that borrows a location and takes what a path is resolved to: the first word of the input, or `none`.
@@ -70,14 +75,25 @@ pub fn over_components(alloc: Global, order: &Order<'_>, page: &mut Page) -> Res
     let Ok(parts) = url.path_query_fragment(alloc) else {
         return Err(Halt::Unprepared);
     };
-    if !order.is_made {
-        return Ok(());
+    if order.is_made {
+        cut(alloc, order.call, &parts, page)
+    } else {
+        Ok(())
     }
-    match order.call {
+}
+
+/// Makes a call over the path, the query and the fragment of a location.
+fn cut(
+    alloc: Global,
+    call: &str,
+    parts: &PathComponents<'_>,
+    page: &mut Page,
+) -> Result<(), Halt> {
+    match call {
         "PathComponents::clone" => tell_components(page, parts.clone(alloc)),
-        "PathComponents:Eq" => tell_bool(page, parts == parts),
-        "QueryText::clone" => tell_copied_term(page, first_name(&parts)?.clone(alloc)),
-        "QueryText::as_bstr" => tell(page, first_name(&parts)?.as_bstr().as_bytes()),
+        "PathComponents:Eq" => tell_bool(page, *parts == *parts),
+        "QueryText::clone" => tell_copied_term(page, first_name(parts)?.clone(alloc)),
+        "QueryText::as_bstr" => tell(page, first_name(parts)?.as_bstr().as_bytes()),
         _ => Err(Halt::Unknown),
     }
 }

@@ -16,10 +16,16 @@ use std::io::Write;
 /// Makes a call that looks at a location.
 pub fn over_view(alloc: Global, order: &Order<'_>, page: &mut Page) -> Result<(), Halt> {
     let url = prepared::location(alloc, order.input)?;
-    if !order.is_made {
-        return Ok(());
+    if order.is_made {
+        look(order.call, &url, page)
+    } else {
+        Ok(())
     }
-    match order.call {
+}
+
+/// Makes a call over a location.
+fn look(call: &str, url: &Url, page: &mut Page) -> Result<(), Halt> {
+    match call {
         "Url::is_settled" => tell_bool(page, url.is_settled()),
         "Url::agrees_with_git" => tell_bool(page, url.agrees_with_git()),
         "Url::user" => tell_option(page, url.user()),
@@ -33,7 +39,7 @@ pub fn over_view(alloc: Global, order: &Order<'_>, page: &mut Page) -> Result<()
         "Url::user_argument_safe" => tell_option(page, url.user_argument_safe()),
         "Url::host_argument_safe" => tell_option(page, url.host_argument_safe()),
         "Url::path_argument_safe" => tell_path(page, url.path_argument_safe()),
-        _ => write(order.call, &url, page),
+        _ => write(call, url, page),
     }
 }
 
