@@ -86,9 +86,10 @@ pub fn status(outcome: &Result<bool, RunError>) -> u8
 /// Reads all of the input, answers each of its lines by a line, and writes the answers. Byte 10 ends a line and
 /// byte 13 is nothing special; a last line may lack its end, and counts unless it is empty.
 ///
-/// The answer is `settled`, a tab and the location's text, where it is settled; `unsettled` or `unwritable`, a tab
-/// and its scheme, where it has a text or none; `refused`, a tab and the error's name, where the line is no
-/// location. Each answer is one line, whatever the location holds: [`law_lines`](crate::laws::law_lines).
+/// The answer is `settled`, a tab and the location's text, where it is settled; `unsettled`, a tab and its scheme,
+/// where it isn't; `refused`, a tab and the error's name, where the line is no location. What is read always has a
+/// text: [`law_closed`](crate::laws::law_closed). Each answer is one line, whatever the location holds:
+/// [`law_lines`](crate::laws::law_lines).
 ///
 /// `Ok(true)` says that every line was settled. The errors are those of [`RunError`]; a reader that hasn't ended
 /// after 2^40 calls is answered `Read`. The whole answer is built in memory before it is written.

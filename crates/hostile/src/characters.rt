@@ -1,11 +1,11 @@
 //! Every character up to U+00FF in every part of a location: how many of these locations are settled, and that each
 //! settled one comes back.
 
-use crate::checks::boxed;
 use gix_url::Url;
 use std::alloc::Global;
 use std::process::Abort;
 use std::test::Fail;
+use told::boxes::boxed;
 use told::{told_front, unchecked};
 
 /// Scheme, user, host, path and flag of a location.

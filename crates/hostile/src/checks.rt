@@ -1,24 +1,6 @@
-//! What tests of several modules make and check.
-//!
-//! Locations are kept in boxes: a function that owns a box drops it by one call, whatever the location is made of.
+//! What tests of several modules check.
 
-use gix_url::Url;
-use std::alloc::Global;
 use std::process::Abort;
-use std::test::Fail;
-
-/// A box of a value.
-pub fn boxed<T: Drop>(alloc: Global, value: T) -> Result<Box<T>, Fail> {
-    match Box::new(alloc, value) {
-        Ok(boxed) => Ok(boxed),
-        Err(_) => Err(Fail::from("out of memory")),
-    }
-}
-
-/// The location of a text.
-pub fn read(alloc: Global, text: &str) -> Result<Box<Url>, Fail> {
-    boxed(alloc, Url::from_text(alloc, text)?)
-}
 
 /// Checks what a writer took of a text until so many calls were answered: a front of it, of a byte a call at the least,
 /// and all of it where the writer didn't fail.

@@ -1,6 +1,5 @@
 //! The errors of readers and writers: whoever calls gets the very error that the stream failed by.
 
-use crate::checks::read;
 use crate::ends::{FailingReader, FailingWriter, Failure, gone};
 use crate::running::{ANSWER, INPUT, MANY};
 use gix_url::lines::{RunError, run};
@@ -9,6 +8,7 @@ use std::alloc::Global;
 use std::io::{self, ErrorKind};
 use std::process::Abort;
 use std::test::Fail;
+use told::boxes::read;
 
 /// Kinds of errors that streams fail with, and words.
 static FAULTS: [(ErrorKind, &str); 8] = [

@@ -1,12 +1,13 @@
 //! Writers that fail at each of their calls: what went out is a front of the text, and the fault is theirs.
 
-use crate::checks::{is_shown, is_silent, is_taken, read};
+use crate::checks::{is_shown, is_silent, is_taken};
 use crate::ends::{FailingScreen, FailingWriter, Failure, gone};
 use gix_url::{Url, WriteError};
 use std::alloc::Global;
 use std::fmt::Write;
 use std::process::Abort;
 use std::test::Fail;
+use told::boxes::read;
 
 /// Locations of every form, and the text that each is written as.
 static TEXTS: [(&str, &str); 6] = [

@@ -1,12 +1,13 @@
 //! Which parts of a location may be arguments of a command, and a user's choice that stands on it.
 
-use crate::checks::{is, read};
+use crate::checks::is;
 use bstr::BStr;
 use gix_url::ArgumentSafety::{self, Absent, Dangerous, Usable};
 use gix_url::Url;
 use std::alloc::Global;
 use std::process::Abort;
 use std::test::Fail;
+use told::boxes::read;
 
 /// Texts, and what the user, the host and the path of each are to a command line.
 static JUDGED: [(

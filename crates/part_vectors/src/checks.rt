@@ -1,25 +1,9 @@
-//! What tests of several modules make and check.
-//!
-//! Locations are kept in boxes: a function that owns a box drops it by one call, whatever the location is made of.
+//! What tests of several modules check.
 
-use gix_url::Url;
 use std::alloc::Global;
 use std::fmt::{Debug, Display};
 use std::process::Abort;
 use std::test::Fail;
-
-/// A box of a value.
-pub fn boxed<T: Drop>(alloc: Global, value: T) -> Result<Box<T>, Fail> {
-    match Box::new(alloc, value) {
-        Ok(boxed) => Ok(boxed),
-        Err(_) => Err(Fail::from("out of memory")),
-    }
-}
-
-/// The location of a text.
-pub fn read(alloc: Global, text: &str) -> Result<Box<Url>, Fail> {
-    boxed(alloc, Url::from_text(alloc, text)?)
-}
 
 /// Checks a value, which is told of by these words.
 pub fn is<T: PartialEq + Debug>(rt: &impl Abort, words: &str, value: &T, want: &T) {

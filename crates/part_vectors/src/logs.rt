@@ -1,6 +1,6 @@
 //! What a log holds: not the field `password` of a location, and no byte of a text that was refused.
 
-use crate::checks::{boxed, is_text, is_wrong, read};
+use crate::checks::{is_text, is_wrong};
 use bstr::{BStr, BString};
 use gix_url::expand_path::ForUser;
 use gix_url::parse::parse;
@@ -9,6 +9,7 @@ use std::alloc::Global;
 use std::fmt::Debug;
 use std::process::Abort;
 use std::test::Fail;
+use told::boxes::{boxed, read};
 use told::unchecked;
 
 /// Schemes of every kind.

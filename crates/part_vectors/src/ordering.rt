@@ -3,7 +3,7 @@
 ghost use Rattle.std.specs.Prelude.{◌≡◌, ◌↔◌, IfErr, IfOk, IsSorted, IsTrue};
 ghost use Rattle.gix_url.specs.declared.error.Error.TheVariants as error;
 
-use crate::checks::{boxed, is, read};
+use crate::checks::is;
 use bstr::{BStr, BString};
 use gix_url::laws::law_order;
 use gix_url::{Error, Scheme, Url};
@@ -13,6 +13,7 @@ use std::collections::{BTreeMap, HashMap};
 use std::hash::{DefaultHasher, Hash, Hasher};
 use std::process::Abort;
 use std::test::Fail;
+use told::boxes::{boxed, read};
 
 /// Texts of locations, each before the next. The part that decides stands behind the second.
 static IN_ORDER: [&str; 31] = [

@@ -1,12 +1,13 @@
 //! Parts looked at and exchanged, and the location that has none.
 
-use crate::checks::{boxed, is, is_text, read};
+use crate::checks::{is, is_text};
 use bstr::{BStr, BString};
 use gix_url::{Scheme, Url};
 use std::alloc::Global;
 use std::fmt::Write;
 use std::process::Abort;
 use std::test::Fail;
+use told::boxes::{boxed, read};
 use told::{told_front, told_text, unchecked};
 
 /// Checks a part, which is told of by these words.

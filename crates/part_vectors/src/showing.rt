@@ -1,11 +1,11 @@
 //! What people are shown of a location: never its field `password`, however they ask and wherever their formatter fails.
 
-use crate::checks::boxed;
 use gix_url::Url;
 use std::alloc::Global;
 use std::fmt::{self, Write};
 use std::process::Abort;
 use std::test::Fail;
+use told::boxes::boxed;
 use told::unchecked;
 
 /// A formatter that keeps what it is handed, and fails at the call behind so many.

@@ -1,6 +1,6 @@
 //! What people read of a refusal: every error, form and fault in words that show nothing of what was refused.
 
-use crate::checks::{boxed, is_wrong, says};
+use crate::checks::{is_wrong, says};
 use bstr::{BStr, BString};
 use gix_url::expand_path::ForUser;
 use gix_url::lines::RunError;
@@ -10,6 +10,7 @@ use std::alloc::Global;
 use std::io::{self, ErrorKind};
 use std::process::Abort;
 use std::test::Fail;
+use told::boxes::boxed;
 use told::unchecked;
 
 /// Bytes that are refused, and the words that it is said with. Two of a kind have the same words.

@@ -1,5 +1,7 @@
-//! Locations and errors, told in one line, and locations made of what is told: for tables of tests.
+//! Locations and errors, told in one line, and locations made of what is told: for tables of tests; and boxes for tests.
 #![tactic(auto)]
+
+pub mod boxes;
 
 use bstr::BString;
 use gix_url::parse::UrlKind;

@@ -4,8 +4,6 @@
 #[cfg(test)]
 mod calling;
 #[cfg(test)]
-mod checks;
-#[cfg(test)]
 mod components;
 #[cfg(test)]
 mod stored;

@@ -7,7 +7,6 @@ ghost use Rattle.gix_url.specs.Grammar.{Spells, SpellsHelper, SpellsLocal};
 ghost use Rattle.gix_url.specs.Value.{Location};
 ghost use Rattle.gix_url.specs.declared.error.Error.TheVariants as error;
 
-use crate::checks::{boxed, read};
 use bstr::{BStr, BString};
 use gix_url::laws::{law_closed, law_separation};
 use gix_url::parse::parse;
@@ -15,6 +14,7 @@ use gix_url::{Error, Url};
 use std::alloc::Global;
 use std::process::Abort;
 use std::test::Fail;
+use told::boxes::{boxed, read};
 use told::{told_front, told_text};
 
 /// The location, stored and restored: what was read from a text comes back as it was, the retained spelling included,

@@ -1,6 +1,4 @@
-//! What tests of several modules make.
-//!
-//! Locations are kept in boxes: a function that owns a box drops it by one call, whatever the location is made of.
+//! Boxes of what tests own: a function that owns a box drops it by one call, whatever stands in it.
 
 use gix_url::Url;
 use std::alloc::Global;
