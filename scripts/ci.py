@@ -1,25 +1,33 @@
-"""`rt ci`, told what its checks were measured to take here: `ci.py READ WRITE`, the ends of the pipe of slots.
+"""`rt ci`, whose checks wait for slots that they share with the edits: `ci.py READ WRITE`, the ends of the pipe of slots.
 
-`rt ci` guesses a crate's memory by its lines, which is thrice too much for the library with its many definitions, and so
-checks it by one processor. Told what was measured it uses the processors that are there. The edits are tried beside it, so
-each of its checks waits for a slot. It judges as ever, and runs a check again that memory did not suffice for.
+`rt ci` guesses how much memory a check takes by a crate's lines, which is thrice too much for the library with its many
+definitions, and so checks it by one processor. Here slots say how many run at a time, and all that can begin stand in line
+for one; edits, most of which take less, come behind them and fill what they leave. It judges as ever, and runs a check
+again that memory did not suffice for.
 """
 import sys
 
 sys.dont_write_bytecode = True
 from kit import Slots, load_kit
 
-# What a check of the library took at most, by one job, and of any other crate, in bytes.
-MEASURED, OTHERS = {"gix_url": 4_200_000_000}, 3_600_000_000
+# More than there are checks: how many run at a time is said by slots, for which the memory was counted.
+ALL = 64
+
+
+def by_jobs(call, processors):
+    """The proof of a crate, by most of the processors where all others wait for it, and else by one."""
+
+    def ci(crate, flags, tests):
+        jobs = 1 if crate.below() else max(1, min(int(flags[1]), 3 * processors // 4))
+        return call(crate, ["--jobs", str(jobs)], tests)
+
+    return ci
 
 
 def main():
     kit, slots = load_kit(), Slots([int(it) for it in sys.argv[1:]])
-    guessed, there = kit.need, kit.processors()
-    # More than there are, since they are kept busy by slots and not by lanes.
-    kit.processors = lambda: there + there // 2
-    kit.need = lambda crate: min(guessed(crate), MEASURED.get(crate.name, OTHERS))
-    kit.Crate.ci = slots.around(kit.Crate.ci)
+    kit.Crate.ci = by_jobs(slots.around(kit.Crate.ci), kit.processors())
+    kit.processors, kit.need = lambda: ALL, lambda _: 1
     return kit.main(["ci"])
 
 

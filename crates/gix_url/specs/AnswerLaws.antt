@@ -1,4 +1,4 @@
--- Laws on the answers to lines, over the definitions alone: a line for each line.
+-- Laws on the answers to lines, over the definitions alone: a line for each line, and lines in one way.
 use Rattle.std.specs.Prelude.{◌≡◌, ℕ, Bool, List, [], ◌∷◌, ◌++◌}
 use Rattle.gix_url.specs.Bytes.{newline, FreeOf}
 use Rattle.gix_url.specs.Answers.{SplitsLines, IsAnswer, Answers}
@@ -19,6 +19,11 @@ AreAnswered [] (told ∷ others) = ⊥
 AreAnswered (line ∷ lines) [] = ⊥
 AreAnswered (line ∷ lines) (told ∷ others) =
     ((good : Bool) × IsAnswer line (told ++ newline ∷ []) good) × AreAnswered lines others
+
+-- a text is no other lines
+abbrev pub OneSplit : Type 0
+OneSplit = (b : List ℕ) (lines more : List (List ℕ)) → SplitsLines b lines → SplitsLines b more
+    → lines ≡ more
 
 -- the answers to a text are as many lines as the text, each the answer to the one at its place
 abbrev pub LineForLine : Type 0

@@ -28,14 +28,15 @@ is_tilde_second [] = false
 is_tilde_second (a ∷ []) = false
 is_tilde_second (a ∷ b ∷ rest) = b == tilde
 
--- the scp form with the host `rsync` alone: the text of such a location of Secure Shell begins with `rsync:`, which Git
--- refuses
+-- the scp form with the host `rsync` alone: the text of such a settled location of Secure Shell begins with `rsync:`,
+-- which Git refuses
 pub record IsRsync (v : Location) : Type 0 where
   pub scp : v.flag ≡ true
   pub no_user : v.user ≡ None
   pub host : v.host ≡ Some (codes "rsync")
 
--- what Git's own transports ask besides: a path and a user of Secure Shell, no user for `git://`, no host for a file
+-- what Git's own transports ask besides: a path and a user of Secure Shell, and not the host `rsync` alone; no user
+-- for `git://`, no host for a file
 abbrev pub SuitsTransport : Protocol → Location → Type 0
 SuitsTransport ssh v = (is_tilde_second v.path ≡ false) × (¬ IsRsync v) × ¬ (v.user ≡ Some [])
 SuitsTransport git v = v.user ≡ None

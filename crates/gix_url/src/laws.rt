@@ -6,7 +6,7 @@
 //! name the same definitions.
 
 ghost use Rattle.std.specs.Cmp.{IsTotalOrder};
-ghost use Rattle.gix_url.specs.AnswerLaws.{LineForLine, OneLine};
+ghost use Rattle.gix_url.specs.AnswerLaws.{LineForLine, OneLine, OneSplit};
 ghost use Rattle.gix_url.specs.ComponentLaws.{EqualComponents, OneComponents};
 ghost use Rattle.gix_url.specs.Git.{OneGitReading};
 ghost use Rattle.gix_url.specs.GitClass.{ReadAlike};
@@ -160,9 +160,11 @@ pub fn law_refusals()
 ///   or the location isn't settled.
 /// - `line_for_line`: so what [`run`](crate::lines::run) writes splits at byte 10 into as many lines as its input does,
 ///   each the answer to the one at its place. Who pairs them takes no answer for that to another line.
+/// - `one_split`: a text is split into lines in one way, so these are the lines that anyone gets who splits it.
 pub fn law_lines()
     ensures one_line { OneLine }
     ensures line_for_line { LineForLine }
+    ensures one_split { OneSplit }
 {}
 
 /// What the path of a location is made of is determined, and equality tells it apart.

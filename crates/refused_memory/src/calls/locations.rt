@@ -83,12 +83,7 @@ pub fn over_components(alloc: Global, order: &Order<'_>, page: &mut Page) -> Res
 }
 
 /// Makes a call over the path, the query and the fragment of a location.
-fn cut(
-    alloc: Global,
-    call: &str,
-    parts: &PathComponents<'_>,
-    page: &mut Page,
-) -> Result<(), Halt> {
+fn cut(alloc: Global, call: &str, parts: &PathComponents<'_>, page: &mut Page) -> Result<(), Halt> {
     match call {
         "PathComponents::clone" => tell_components(page, parts.clone(alloc)),
         "PathComponents:Eq" => tell_bool(page, *parts == *parts),
