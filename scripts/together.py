@@ -5,9 +5,9 @@ the contracts of what it calls, so an edit of one body leaves the goals of all o
 says of each function by itself what is not proved. An edit counts as refused here only where the check names a goal of
 the very function that it changes, or an answer to one of its goals that no longer answers it.
 
-An edit of definitions is tried by a check of the laws alone: they have no code, and stand on the definitions and on
-lemmas. It counts as refused here only where the check says of a law that it is not proved, and of no lemma that it names
-what the edit took away.
+An edit of definitions is tried by a check of the laws alone, and of those that hold the rows of definitions: they have no
+code, and stand on the definitions and on lemmas. It counts as refused here only where the check says of a law that it is
+not proved, and of no lemma that it names what the edit took away.
 
 Every other is left to be tried alone: one that changes a contract or a constant, one that doesn't read, and one that
 these checks have nothing to say of.
@@ -16,8 +16,8 @@ import re
 
 FUNCTION = re.compile(r"( *)(?:pub(?:\([a-z]+\))? )?(?:const )?(?:extern \"C\" )?fn \w")
 PAIR = re.compile(r"(?m)^file: (?P<file>\S+)|^old: (?P<old>.*)\nnew: ?(?P<new>.*)")
-LAWS = ["--only", "laws"]
-OPEN_LAW = re.compile(r"fn \w+::laws::\w+: not proved")
+LAWS = ["--only", "laws", "--only", "rows"]
+OPEN_LAW = re.compile(r"fn \w+::(laws|rows)::\w+: not proved")
 # A lemma that names what an edit took away, which says little of the law.
 GONE = re.compile(r"(?:\./)?proofs/.*(has no field|is not in scope|has no `)")
 OPEN_GOAL = re.compile(r"note: (?:\./)?(src/\S+):(\d+):\d+: it is not proved")
@@ -169,4 +169,5 @@ def refusals_by_laws(kit, crate, edit, flags, kept):
     texts, _ = kit.read_edit(edit, crate.folder)
     lines = told_by(kit, crate, texts, [*flags, *LAWS], kept, "only=")
     is_fair = not any(map(GONE.match, lines))
-    return {edit: it for it in lines if is_fair and OPEN_LAW.match(it)}
+    # The last one counts: a law that users have, if one is open.
+    return {edit: it for it in sorted(lines, key=lambda it: "::laws::" in it) if is_fair and OPEN_LAW.match(it)}
