@@ -15,7 +15,7 @@ def stored(name):
 
 
 def check(_room):
-    ran = subprocess.run([built("explain")], input=stored("stdin"), stdout=subprocess.PIPE, timeout=60)
+    ran = subprocess.run([built("explain", "run")], input=stored("stdin"), stdout=subprocess.PIPE, timeout=60)
     faults = [f"people are shown {it!r}" for it in set(ran.stdout.split(b"\n")) - set(stored("stdout").split(b"\n"))]
     if ran.returncode != 1:
         faults.append(f"the status is {ran.returncode}, and not 1")

@@ -25,10 +25,10 @@ def read(file):
     return " ".join(re.findall(r"(?m)^//! ?(.*)$", text)), re.sub(r"(?m)^ *(//|ghost ).*$", "", text)
 
 
-def modules():
-    """The files of the library by the paths of their modules."""
-    files = sorted(glob.glob(f"{SOURCES}/**/*.rt", recursive=True))
-    paths = {tuple(os.path.relpath(it, SOURCES).removesuffix(".rt").split("/")): it for it in files}
+def modules(sources=SOURCES):
+    """The files of a crate, if not of the library, by the paths of their modules."""
+    files = sorted(glob.glob(f"{sources}/**/*.rt", recursive=True))
+    paths = {tuple(os.path.relpath(it, sources).removesuffix(".rt").split("/")): it for it in files}
     return {path: file for path, file in paths.items() if path != ("lib",)}
 
 

@@ -69,6 +69,11 @@ def are_equal(one, other):
                 return True
 
 
+def starts_with(path, front):
+    with open(path, "rb") as it:
+        return it.read(len(front)) == front
+
+
 class Answered:
     """One answer of the program to a text: its seconds, its bytes of memory, and whether it is the right one."""
 
@@ -79,7 +84,9 @@ class Answered:
         actions = [(os.POSIX_SPAWN_OPEN, 0, given, os.O_RDONLY, 0), (os.POSIX_SPAWN_OPEN, 1, out, os.O_WRONLY | os.O_CREAT | os.O_TRUNC, 0o600)]
         _, status, used = os.wait4(os.posix_spawn(path, [path], {}, file_actions=actions), 0)
         self.seconds, self.bytes = used.ru_utime + used.ru_stime, used.ru_maxrss * 1024
-        self.is_right = os.WIFEXITED(status) and are_equal(out, right)
+        # Each line is answered alike, so the front of the answer says what the status has to be.
+        wanted = 0 if starts_with(right, SETTLED) else 1
+        self.is_right = os.waitstatus_to_exitcode(status) == wanted and are_equal(out, right)
 
 
 def line_of(shape, size):
@@ -122,8 +129,10 @@ def limited(seconds):
     """Gives each program that is started here, and this process, so many seconds of the processor."""
     before = resource.getrlimit(resource.RLIMIT_CPU)
     resource.setrlimit(resource.RLIMIT_CPU, (seconds, before[1]))
-    yield
-    resource.setrlimit(resource.RLIMIT_CPU, before)
+    try:
+        yield
+    finally:
+        resource.setrlimit(resource.RLIMIT_CPU, before)
 
 
 def check(room):

@@ -2,18 +2,18 @@
 import os
 import re
 
+from rooms import methods, modules, targets
+
 
 def uses_of(folder):
-    """The source files that each source file of a crate uses, itself among them, by the paths that it writes."""
-    files = [os.path.relpath(f"{at}/{it}", f"{folder}/src") for at, _, names in os.walk(f"{folder}/src") for it in names]
-    modules = {it[:-3]: f"src/{it}" for it in files if it.endswith(".rt")}
+    """The source files that each source file of a crate uses, itself among them: those that it names, those whose methods
+    of locations it calls, and its children."""
+    known = modules(f"{folder}/src")
+    of_urls, files = methods(known), {it: f"src/{'/'.join(it)}.rt" for it in known}
     used = {}
-    for path, file in modules.items():
-        with open(f"{folder}/{file}", encoding="utf-8") as it:
-            text = it.read()
-        named = {it.replace("::", "/") for it in re.findall(r"\bcrate::([a-z_0-9]+(?:::[a-z_0-9]+)*)", text)}
-        named |= {f"{path}/{it}" for it in re.findall(r"\bmod (\w+);", text)}
-        used[file] = {file, *(modules[it] for name in named for it in (name, os.path.dirname(name)) if it in modules)}
+    for path, file in files.items():
+        inside = {it for it in known if it[:-1] == (() if path == ("main",) else path)}
+        used[file] = {file, *(files[it] for it in targets(path, known, of_urls) | inside if it in files)}
     while True:
         wider = {file: set().union(*(used[it] for it in found)) for file, found in used.items()}
         if wider == used:
@@ -23,7 +23,7 @@ def uses_of(folder):
 
 def edits_touched(folder, edits, changed):
     """The edits of a crate that changes of its files can touch: all of them where a definition or a lemma changed."""
-    if any(re.match(r"specs/|proofs/\w+\.antt$", it) for it in changed):
+    if any(re.match(r"specs/|proofs/(?:[A-Z]\w*/)?\w+\.antt$", it) for it in changed):
         return edits
     used = uses_of(folder)
     # The answers for a function stand in a folder that begins with the path of its module.

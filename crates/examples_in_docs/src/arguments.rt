@@ -4,6 +4,7 @@ use bstr::BStr;
 use gix_url::{ArgumentSafety, Url};
 use std::process::Abort;
 use std::test::Fail;
+use told::boxes::read;
 
 /// A user that may not be handed to a command.
 #[derive(Clone, Copy, Debug)]
@@ -64,7 +65,7 @@ fn hands_over(rt: &impl Abort, url: &Url, reached: bool, handed: &str) {
 #[test]
 fn options_are_kept_out(rt: HostRuntime) -> Result<(), Fail> {
     for &(text, user, host, reached, handed) in ROWS.as_slice() {
-        let url = Url::from_text(rt.alloc(), text)?;
+        let url = read(rt.alloc(), text)?;
         keeps_out(&rt, &url, user, host);
         hands_over(&rt, &url, reached, handed);
     }
@@ -73,7 +74,7 @@ fn options_are_kept_out(rt: HostRuntime) -> Result<(), Fail> {
 
 #[test]
 fn a_path_is_served(rt: HostRuntime) -> Result<(), Fail> {
-    let url = Url::from_text(rt.alloc(), "ssh://host/repo")?;
+    let url = read(rt.alloc(), "ssh://host/repo")?;
     let path = served(&url).ok_or("a path")?;
     assert_eq!(rt; path.as_bytes(), b"/repo".as_slice());
     Ok(())
@@ -81,7 +82,7 @@ fn a_path_is_served(rt: HostRuntime) -> Result<(), Fail> {
 
 #[test]
 fn an_option_is_not_served(rt: HostRuntime) -> Result<(), Fail> {
-    let url = Url::from_text(rt.alloc(), "ssh://host/-repo")?;
+    let url = read(rt.alloc(), "ssh://host/-repo")?;
     assert!(rt; served(&url).is_none());
     Ok(())
 }

@@ -4,6 +4,7 @@ use bstr::{BStr, BString};
 use gix_url::{Error, Url, UrlFault, expand_path};
 use std::alloc::{AllocError, Global};
 use std::test::Fail;
+use told::boxes::read;
 
 fn host_named(alloc: Global, text: &str) -> Result<Option<String>, Error> {
     let url = Url::from_text(alloc, text)?;
@@ -58,7 +59,7 @@ fn hosts_are_wanted(rt: HostRuntime) {
 #[test]
 fn another_user_is_written(rt: HostRuntime) -> Result<(), Fail> {
     let user = String::from_str(rt.alloc(), "byron")?;
-    let url = Url::from_text(rt.alloc(), "ssh://git@h/p")?;
+    let url = read(rt.alloc(), "ssh://git@h/p")?;
     let text = as_user(rt.alloc(), &url, user)?;
     assert_eq!(rt; text.as_bytes(), b"ssh://byron@h/p".as_slice());
     Ok(())
@@ -66,7 +67,7 @@ fn another_user_is_written(rt: HostRuntime) -> Result<(), Fail> {
 
 #[test]
 fn names_of_a_query_are_read(rt: HostRuntime) -> Result<(), Fail> {
-    let url = Url::from_text(rt.alloc(), "http://h/?a+b=%2B&&c&=d#x+y")?;
+    let url = read(rt.alloc(), "http://h/?a+b=%2B&&c&=d#x+y")?;
     let names = query_names(rt.alloc(), &url)?;
     assert_eq!(rt; names.len(), 3);
     let first = names.first().map(|name| name.as_bytes());

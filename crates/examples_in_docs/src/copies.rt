@@ -3,6 +3,7 @@
 use gix_url::{Error, Scheme, Url};
 use std::alloc::{AllocError, Global};
 use std::test::Fail;
+use told::boxes::{boxed, read};
 
 fn twice(alloc: Global, scheme: Scheme) -> Result<(Scheme, Scheme), Error> {
     let copy = scheme.clone(alloc)?;
@@ -46,8 +47,8 @@ fn copies_are_equal(rt: HostRuntime) -> Result<(), Fail> {
 #[test]
 fn a_copy_is_changed(rt: HostRuntime) -> Result<(), Fail> {
     let host = String::from_str(rt.alloc(), "m")?;
-    let url = Url::from_text(rt.alloc(), "https://h/p")?;
-    let copy = mirror(rt.alloc(), &url, host)?;
+    let url = read(rt.alloc(), "https://h/p")?;
+    let copy = boxed(rt.alloc(), mirror(rt.alloc(), &url, host)?)?;
     let text = copy.to_bstring(rt.alloc())?;
     assert_eq!(rt; text.as_bytes(), b"https://m/p".as_slice());
     Ok(())
@@ -75,7 +76,7 @@ fn remotes_are_put_into_order(rt: HostRuntime) -> Result<(), Fail> {
 fn remotes_are_known(rt: HostRuntime) -> Result<(), Fail> {
     let remotes = remotes(rt.alloc())?;
     for (text, known) in [("git://h/p", true), ("git://h/q", false)] {
-        let remote = Url::from_text(rt.alloc(), text)?;
+        let remote = read(rt.alloc(), text)?;
         assert_eq!(rt; is_known(remotes.as_slice(), &remote), known);
     }
     Ok(())
@@ -87,7 +88,7 @@ static RECORD: &str =
 
 #[test]
 fn a_location_is_stored(rt: HostRuntime) -> Result<(), Fail> {
-    let url = Url::from_text(rt.alloc(), "https://h/a%2Fb")?;
+    let url = read(rt.alloc(), "https://h/a%2Fb")?;
     let json = json_of(rt.alloc(), &url);
     assert_eq!(rt; json.as_deref(), Some(RECORD));
     Ok(())
@@ -95,8 +96,8 @@ fn a_location_is_stored(rt: HostRuntime) -> Result<(), Fail> {
 
 #[test]
 fn a_location_is_restored(rt: HostRuntime) -> Result<(), Fail> {
-    let url = Url::from_text(rt.alloc(), "https://h/a%2Fb")?;
-    let again = url_of(rt.alloc(), RECORD).ok_or("a location")?;
+    let url = read(rt.alloc(), "https://h/a%2Fb")?;
+    let again = boxed(rt.alloc(), url_of(rt.alloc(), RECORD).ok_or("a location")?)?;
     assert!(rt; again == url);
     Ok(())
 }

@@ -4,6 +4,7 @@ use gix_url::{Error, Url};
 use std::fs;
 use std::rt::Files;
 use std::test::Fail;
+use told::boxes::{boxed, read};
 
 /// Gives a local location the path that the file system has for it.
 fn resolve<R: Files + AllocGlobal>(rt: &R, url: &mut Url) -> Result<(), Error> {
@@ -26,7 +27,7 @@ fn real<R: Files + AllocGlobal>(rt: &R, url: &Url) -> Result<Url, Error> {
 
 #[test]
 fn the_root_is_where_it_is(rt: HostRuntime) -> Result<(), Fail> {
-    let mut url = Url::from_text(rt.alloc(), "/./")?;
+    let mut url = read(rt.alloc(), "/./")?;
     resolve(&rt, &mut url)?;
     assert_eq!(rt; url.path.as_bytes(), b"/".as_slice());
     Ok(())
@@ -34,8 +35,8 @@ fn the_root_is_where_it_is(rt: HostRuntime) -> Result<(), Fail> {
 
 #[test]
 fn the_real_root_is_where_it_is(rt: HostRuntime) -> Result<(), Fail> {
-    let url = Url::from_text(rt.alloc(), "/./")?;
-    let other = real(&rt, &url)?;
+    let url = read(rt.alloc(), "/./")?;
+    let other = boxed(rt.alloc(), real(&rt, &url)?)?;
     assert_eq!(rt; other.path.as_bytes(), b"/".as_slice());
     Ok(())
 }

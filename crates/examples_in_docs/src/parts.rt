@@ -5,6 +5,7 @@ use gix_url::{Error, Url};
 use std::alloc::{AllocError, Global};
 use std::process::Abort;
 use std::test::Fail;
+use told::boxes::{boxed, read};
 
 fn at_host(alloc: Global, host: String) -> Url {
     let mut url = Url::default_in(alloc);
@@ -71,7 +72,7 @@ fn leads(rt: &impl Abort, url: &Url, here: bool, repository: bool) {
 #[test]
 fn parts_are_looked_at(rt: HostRuntime) -> Result<(), Fail> {
     for &(text, git, asks, here, repository) in ROWS.as_slice() {
-        let url = Url::from_text(rt.alloc(), text)?;
+        let url = read(rt.alloc(), text)?;
         names(&rt, &url, git, asks);
         leads(&rt, &url, here, repository);
     }
@@ -80,9 +81,9 @@ fn parts_are_looked_at(rt: HostRuntime) -> Result<(), Fail> {
 
 #[test]
 fn services_are_told_apart(rt: HostRuntime) -> Result<(), Fail> {
-    let one = Url::from_text(rt.alloc(), "https://host/repo")?;
+    let one = read(rt.alloc(), "https://host/repo")?;
     for (text, same) in [("https://host:443/repo", true), ("http://host/repo", false)] {
-        let other = Url::from_text(rt.alloc(), text)?;
+        let other = read(rt.alloc(), text)?;
         assert_eq!(rt; is_same_service(&one, &other), same);
     }
     Ok(())
@@ -90,7 +91,7 @@ fn services_are_told_apart(rt: HostRuntime) -> Result<(), Fail> {
 
 #[test]
 fn a_password_is_taken_away(rt: HostRuntime) -> Result<(), Fail> {
-    let mut url = Url::from_text(rt.alloc(), "https://user:x@host/p")?;
+    let mut url = read(rt.alloc(), "https://user:x@host/p")?;
     without_password(&mut url);
     assert_eq!(rt; url.password(), None);
     Ok(())
@@ -98,7 +99,7 @@ fn a_password_is_taken_away(rt: HostRuntime) -> Result<(), Fail> {
 
 #[test]
 fn a_user_is_exchanged(rt: HostRuntime) -> Result<(), Fail> {
-    let mut url = Url::from_text(rt.alloc(), "https://user:x@host/p")?;
+    let mut url = read(rt.alloc(), "https://user:x@host/p")?;
     let before = as_git(rt.alloc(), &mut url)?;
     assert_eq!(rt; before.as_deref(), Some("user"));
     assert_eq!(rt; url.user(), Some("git"));
@@ -107,7 +108,8 @@ fn a_user_is_exchanged(rt: HostRuntime) -> Result<(), Fail> {
 
 #[test]
 fn a_location_is_made(rt: HostRuntime) -> Result<(), Fail> {
-    let url = at_host(rt.alloc(), String::from_str(rt.alloc(), "h")?);
+    let host = String::from_str(rt.alloc(), "h")?;
+    let url = boxed(rt.alloc(), at_host(rt.alloc(), host))?;
     let text = url.to_bstring(rt.alloc())?;
     assert_eq!(rt; text.as_bytes(), b"ssh://h/".as_slice());
     Ok(())

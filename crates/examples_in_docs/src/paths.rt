@@ -7,6 +7,7 @@ use std::alloc::Global;
 use std::env;
 use std::rt::Env;
 use std::test::Fail;
+use told::boxes::read;
 
 /// Whether the query asks for the service of this name.
 fn asks_for(alloc: Global, url: &Url, service: &[u8]) -> Result<bool, Error> {
@@ -53,7 +54,7 @@ fn expand(rt: &(impl Env + AllocGlobal), path: BStr<'_>) -> Result<String, Error
 
 #[test]
 fn a_query_is_searched(rt: HostRuntime) -> Result<(), Fail> {
-    let url = Url::from_text(rt.alloc(), "https://h/info/refs?service=git-upload-pack")?;
+    let url = read(rt.alloc(), "https://h/info/refs?service=git-upload-pack")?;
     assert!(rt; asks_for(rt.alloc(), &url, b"git-upload-pack")?);
     assert!(rt; !asks_for(rt.alloc(), &url, b"git-receive-pack")?);
     Ok(())

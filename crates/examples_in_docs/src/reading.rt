@@ -5,6 +5,7 @@ use gix_url::{Error, Scheme, Url};
 use std::alloc::Global;
 use std::process::Abort;
 use std::test::Fail;
+use told::boxes::{boxed, read};
 
 /// The host that a text names, if the location can be written and read again.
 fn host_of(alloc: Global, text: &str) -> Result<Option<String>, Error> {
@@ -52,7 +53,7 @@ fn a_host_is_named_by_what_comes_back(rt: HostRuntime) -> Result<(), Fail> {
 #[test]
 fn the_host_of_another_text(rt: HostRuntime) -> Result<(), Fail> {
     for (text, same) in [("http://h/p", true), ("file://x:%20/p", false)] {
-        let url = Url::from_text(rt.alloc(), text)?;
+        let url = read(rt.alloc(), text)?;
         assert_eq!(rt; names_the_same_host(rt.alloc(), &url)?, same);
     }
     Ok(())
@@ -68,7 +69,7 @@ fn remote_of_git(alloc: Global) -> Result<Url, Fail> {
 
 #[test]
 fn a_remote_of_parts(rt: HostRuntime) -> Result<(), Fail> {
-    let url = remote_of_git(rt.alloc())?;
+    let url = boxed(rt.alloc(), remote_of_git(rt.alloc())?)?;
     let text = url.to_bstring(rt.alloc())?;
     assert_eq!(rt; text.as_bytes(), b"ssh://git@h/p".as_slice());
     Ok(())

@@ -7,6 +7,7 @@ use gix_url::{Error, PathComponents, QueryText, Scheme, Url};
 use std::alloc::Global;
 use std::process::Abort;
 use std::test::Fail;
+use told::boxes::{boxed, read};
 
 fn is_web(alloc: Global, name: &str) -> Result<bool, Error> {
     let scheme = Scheme::from_text(alloc, name)?;
@@ -49,7 +50,7 @@ fn schemes_are_told_apart(rt: HostRuntime) -> Result<(), Fail> {
 #[test]
 fn protocols_are_told(rt: HostRuntime) -> Result<(), Fail> {
     for text in ["git@host:repo", "ssh+git://host/repo"] {
-        let url = Url::from_text(rt.alloc(), text)?;
+        let url = read(rt.alloc(), text)?;
         assert_eq!(rt; protocol_of(&url), "ssh", "{text}");
     }
     Ok(())
@@ -85,8 +86,8 @@ fn begins_with_nothing(rt: &impl Abort, parts: &PathComponents<'_>) -> Result<()
 
 #[test]
 fn parts_of_answers(rt: HostRuntime) -> Result<(), Fail> {
-    let url = Url::from_text(rt.alloc(), "http://h/?a#b")?;
-    let parts = url.path_query_fragment(rt.alloc())?;
+    let url = read(rt.alloc(), "http://h/?a#b")?;
+    let parts = boxed(rt.alloc(), url.path_query_fragment(rt.alloc())?)?;
     let fragment = fragment_of(&parts).ok_or("a fragment")?;
     assert_eq!(rt; fragment.as_bytes(), b"b".as_slice());
     begins_with_nothing(&rt, &parts)

@@ -7,6 +7,7 @@ use gix_url::{Error, PathComponents, QueryText, Scheme, Url, UrlFault, WriteErro
 use std::alloc::Global;
 use std::process::Abort;
 use std::test::Fail;
+use told::boxes::{boxed, read};
 
 /// Whether the same text can be read at another time: nothing is wrong with it.
 fn is_passing(error: &Error) -> bool {
@@ -94,7 +95,7 @@ fn refusals_are_told_apart(rt: HostRuntime) -> Result<(), Fail> {
 #[test]
 fn what_has_no_text_is_told(rt: HostRuntime) -> Result<(), Fail> {
     let mut out = Vec::new(rt.alloc());
-    let mut url = Url::from_text(rt.alloc(), "https://u@h/p")?;
+    let mut url = read(rt.alloc(), "https://u@h/p")?;
     url.host = None;
     match &url.write_to(&mut out) {
         Ok(()) => assert!(rt; false, "it is written"),
@@ -114,7 +115,7 @@ fn variants_are_told_apart(rt: HostRuntime) {
 #[test]
 fn ports_are_named(rt: HostRuntime) -> Result<(), Fail> {
     for (text, is) in [("ssh://h:22/p", true), ("h:22/p", false)] {
-        let url = Url::from_text(rt.alloc(), text)?;
+        let url = read(rt.alloc(), text)?;
         assert_eq!(rt; names_port(&url), is);
     }
     Ok(())
@@ -131,9 +132,9 @@ fn keeps(rt: &impl Abort, alloc: Global, parts: &PathComponents<'_>) -> Result<(
 
 #[test]
 fn components_are_copied(rt: HostRuntime) -> Result<(), Fail> {
-    let url = Url::from_text(rt.alloc(), "http://h/?a+b=c")?;
-    let parts = url.path_query_fragment(rt.alloc())?;
-    let copy = both(rt.alloc(), &parts)?;
+    let url = read(rt.alloc(), "http://h/?a+b=c")?;
+    let parts = boxed(rt.alloc(), url.path_query_fragment(rt.alloc())?)?;
+    let copy = boxed(rt.alloc(), both(rt.alloc(), &parts)?)?;
     assert!(rt; copy == parts);
     keeps(&rt, rt.alloc(), &parts)
 }

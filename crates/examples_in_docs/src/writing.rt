@@ -8,6 +8,7 @@ use gix_url::{Error, Scheme, Url, WriteError};
 use std::alloc::{AllocError, Global};
 use std::process::Abort;
 use std::test::Fail;
+use told::boxes::{boxed, read};
 
 /// Whether bytes that somebody sent spell a location.
 fn is_location(alloc: Global, bytes: &[u8]) -> Result<bool, Error> {
@@ -94,7 +95,7 @@ fn bytes_are_told_apart(rt: HostRuntime) -> Result<(), Fail> {
 
 #[test]
 fn bytes_are_read(rt: HostRuntime) -> Result<(), Fail> {
-    let url = of_line(rt.alloc(), b"/srv/repo")?;
+    let url = boxed(rt.alloc(), of_line(rt.alloc(), b"/srv/repo")?)?;
     assert_eq!(rt; url.scheme.as_str(), "file");
     Ok(())
 }
@@ -117,7 +118,7 @@ fn a_text_is_written_anew(rt: HostRuntime) -> Result<(), Fail> {
 #[test]
 fn locations_are_written(rt: HostRuntime) -> Result<(), Fail> {
     let mut out = Vec::new(rt.alloc());
-    let url = Url::from_text(rt.alloc(), "https://host/my%20repo")?;
+    let url = read(rt.alloc(), "https://host/my%20repo")?;
     append(&mut out, &url)?;
     assert_eq!(rt; out.as_slice(), b"https://host/my%20repo".as_slice());
     Ok(())
@@ -125,7 +126,7 @@ fn locations_are_written(rt: HostRuntime) -> Result<(), Fail> {
 
 #[test]
 fn locations_are_measured(rt: HostRuntime) -> Result<(), Fail> {
-    let url = Url::from_text(rt.alloc(), "https://host/my%20repo")?;
+    let url = read(rt.alloc(), "https://host/my%20repo")?;
     assert!(rt; fits(&url, 22));
     assert!(rt; !fits(&url, 21));
     assert_eq!(rt; spelled(&url).as_bytes(), b"/my%20repo".as_slice());
@@ -142,7 +143,7 @@ fn is_stored(rt: &impl Abort, alloc: Global, url: &Url, stored: bool) -> Result<
 #[test]
 fn what_comes_back_is_stored(rt: HostRuntime) -> Result<(), Fail> {
     for (text, stored) in [("http://h/p", true), ("[host]::path", false)] {
-        let url = Url::from_text(rt.alloc(), text)?;
+        let url = read(rt.alloc(), text)?;
         is_stored(&rt, rt.alloc(), &url, stored)?;
     }
     Ok(())
@@ -152,10 +153,10 @@ fn what_comes_back_is_stored(rt: HostRuntime) -> Result<(), Fail> {
 fn what_git_reads_alike_is_handed_on(rt: HostRuntime) -> Result<(), Fail> {
     let alloc = rt.alloc();
     for text in ["ssh://u:p@h/p", "https://h/p", "ssh://[::1]:22/p"] {
-        let url = Url::from_text(alloc, text)?;
+        let url = read(alloc, text)?;
         assert!(rt; for_git(alloc, &url)?.is_none(), "{text}");
     }
-    let url = Url::from_text(alloc, "ssh://@h/p")?;
+    let url = read(alloc, "ssh://@h/p")?;
     match for_git(alloc, &url)? {
         None => assert!(rt; false),
         Some(written) => assert_eq!(rt; written.as_bytes(), b"ssh://h/p".as_slice()),
@@ -165,13 +166,14 @@ fn what_git_reads_alike_is_handed_on(rt: HostRuntime) -> Result<(), Fail> {
 
 #[test]
 fn what_has_no_host_is_not_stored(rt: HostRuntime) -> Result<(), Fail> {
-    let url = without_host(BString::from_slice(rt.alloc(), b"/p")?);
+    let path = BString::from_slice(rt.alloc(), b"/p")?;
+    let url = boxed(rt.alloc(), without_host(path))?;
     is_stored(&rt, rt.alloc(), &url, false)
 }
 
 #[test]
 fn people_are_shown_no_password(rt: HostRuntime) -> Result<(), Fail> {
-    let url = Url::from_text(rt.alloc(), "ssh://u:secret@h/p")?;
+    let url = read(rt.alloc(), "ssh://u:secret@h/p")?;
     let line = log_line(rt.alloc(), &url)?;
     assert_eq!(rt; line.as_str(), "fetching ssh://u:redacted@h/p");
     Ok(())

@@ -1,4 +1,6 @@
 //! Why a line, or the text of a location, is refused: by name, for programs, and in words.
+//!
+//! It uses the errors of `gix_url`. It has no contract: the stored run shows its answers.
 
 use gix_url::parse::UrlKind;
 use gix_url::{Error, UrlFault, WriteFault};

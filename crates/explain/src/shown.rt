@@ -1,6 +1,7 @@
 //! Answers laid out for people: a heading, and a row for each thing that is told.
 //!
-//! Texts stand in quotes with their control characters escaped, so that no line of input can speak to a terminal.
+//! Texts stand in quotes with their control characters escaped, so that no line of input can speak to a terminal. It
+//! uses what `told` and `refusal` found, and has no contract: `scripts/hostile people` shows its answers.
 
 use crate::refusal::Refusal;
 use crate::told::{Arguments, Components, Home, Safety, Told};

@@ -1,6 +1,8 @@
 //! What is told of a location: its form, its parts, what its path means, and what it may be used for.
 //!
-//! Bytes that are no UTF-8 are told as U+FFFD. The field `password` isn't told.
+//! It uses the public calls of `gix_url`, and `difference` for a location that isn't settled. Its contract: where
+//! there is a password `redacted` is told, and whether a location is settled and agrees with Git as the definitions of
+//! the library have it. Bytes that are no UTF-8 are told as U+FFFD.
 
 ghost use Rattle.std.specs.Prelude.{◌≡◌, ◌↔◌, IfOk, IsTrue, codes, option_map};
 ghost use Rattle.gix_url.specs.GitClass.{AgreesWithGit};
@@ -148,7 +150,7 @@ impl<'a> Told<'a> {
             arguments: arguments_of(url),
             text: text_of(alloc, url)?,
             settled: url.is_settled(),
-            agrees_with_git: url.agrees_with_git(),
+            agrees_with_git: is_read_alike(url),
             reread: Reread::of(alloc, url)?,
         })
     }
@@ -159,6 +161,13 @@ fn hidden_password(url: &Url) -> Option<&'static str>
     ensures { option_map (λ word. word.now) result ≡ option_map (λ _. codes "redacted") url.now.password }
 {
     url.password().map(|_| "redacted")
+}
+
+/// Whether Git is known to read the same place in the text of the location.
+fn is_read_alike(url: &Url) -> bool
+    ensures { IsTrue result ↔ AgreesWithGit url.now }
+{
+    url.agrees_with_git()
 }
 
 /// The form that the location is written in.

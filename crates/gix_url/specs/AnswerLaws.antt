@@ -20,7 +20,7 @@ AreAnswered (line ∷ lines) [] = ⊥
 AreAnswered (line ∷ lines) (told ∷ others) =
     ((good : Bool) × IsAnswer line (told ++ newline ∷ []) good) × AreAnswered lines others
 
--- a text is no other lines
+-- a text is split into lines in one way
 abbrev pub OneSplit : Type 0
 OneSplit = (b : List ℕ) (lines more : List (List ℕ)) → SplitsLines b lines → SplitsLines b more
     → lines ≡ more

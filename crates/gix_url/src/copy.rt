@@ -84,7 +84,7 @@ impl Url {
 }
 
 /// A copy of a text that may be missing.
-pub(crate) fn copy_text(alloc: Global, text: &Option<String>) -> Result<Option<String>, AllocError>
+fn copy_text(alloc: Global, text: &Option<String>) -> Result<Option<String>, AllocError>
     ensures { IfOk result
         (λ copy. option_map string_bytes copy ≡ option_map string_bytes text.now) }
 {
@@ -95,17 +95,14 @@ pub(crate) fn copy_text(alloc: Global, text: &Option<String>) -> Result<Option<S
 }
 
 /// A copy of bytes.
-pub(crate) fn copy_bytes(alloc: Global, bytes: &BString) -> Result<BString, AllocError>
+fn copy_bytes(alloc: Global, bytes: &BString) -> Result<BString, AllocError>
     ensures { IfOk result (λ copy. bstring_bytes copy ≡ bstring_bytes bytes.now) }
 {
     BString::from_slice(alloc, bytes.as_bytes())
 }
 
 /// A copy of a spelling that may be missing.
-pub(crate) fn copy_spelling(
-    alloc: Global,
-    spelling: &Option<BString>,
-) -> Result<Option<BString>, AllocError>
+fn copy_spelling(alloc: Global, spelling: &Option<BString>) -> Result<Option<BString>, AllocError>
     ensures { IfOk result
         (λ copy. option_map bstring_bytes copy ≡ option_map bstring_bytes spelling.now) }
 {

@@ -30,7 +30,7 @@ pub enum UrlKind {
     Url,
     /// The form `user@host:path` of `scp`.
     Scp,
-    /// A path of the local file system.
+    /// A path of the local file system. The Rust crate's type has it too; no error of this library does.
     Local,
 }
 

@@ -1,7 +1,8 @@
 //! A location made of its parts: their text is written once, and what comes out is what that text is read as.
 //!
-//! It uses `reread`. Its contract: the answer is what is read of the text of the parts, and HTTP keeps the path that
-//! was given; a name that no remote helper can have and a fault of that text are refused as such.
+//! It uses `reread`, and `bytes` for the names of remote helpers. Its contract: the answer is what is read of the text
+//! of the parts, and HTTP keeps the path that was given; a name that no remote helper can have and a fault of that
+//! text are refused as such.
 
 ghost use Rattle.std.specs.Prelude.{◌≡◌, None, Some, IfErr, IfOk, option_map, string_bytes};
 ghost use Rattle.bstr.specs.Owned.{bstring_bytes};

@@ -1,8 +1,8 @@
 //! The program's work: reads locations, a line each, and answers a line for each.
 //!
-//! It uses `parse`, the settled test and the writer. Its contract: all of the input is answered, line by line, as
-//! the definitions have it; where memory or the reader fails nothing is written, and a fault of the writer comes
-//! only once all is read.
+//! It uses `parse`, the settled test, the writer, and `bytes` to cut lines. Its contract: all of the input is
+//! answered, line by line, as the definitions have it; where memory or the reader fails nothing is written, and a
+//! fault of the writer comes only once all is read.
 
 ghost use Rattle.std.specs.Prelude.{◌≡◌, ℕ, ◌≤◌, ◌^◌, ◌++◌, List, None, Ok, codes, length, IfErr, IfOk, IfSome, OnOk};
 ghost use Rattle.std.specs.Io.KnownBytes.{IsAtEnd};

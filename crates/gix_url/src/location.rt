@@ -1,4 +1,6 @@
 //! The location itself: a [`Url`] and its parts.
+//!
+//! It uses `scheme`. Its contract: to all others a location is one value of eight parts.
 
 use crate::scheme::Scheme;
 use bstr::BString;

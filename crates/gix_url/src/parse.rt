@@ -38,8 +38,9 @@ use url::read_url;
 /// Where they spell no location, the error names a flaw that stands in them. `docs/GRAMMAR.md` says which texts are
 /// which, after gitremote-helpers, git-clone's "GIT URLS" and RFC 3986.
 ///
-/// Memory is asked for to copy each part, and on a refusal to copy the bytes into the error; the empty text is refused
-/// without memory.
+/// Memory is asked for to copy each part, and once more for a host of the scp form that holds a `%`. On a refusal it is
+/// asked for to copy the bytes into the error, of a text that is too long its front. The empty text is refused without
+/// memory.
 ///
 /// # Errors
 ///

@@ -1,8 +1,8 @@
 //! Stored locations: a record of every part of a location for `serde`, in the format of the Rust crate `gix-url`.
 //!
-//! It uses `location`, `scheme`, `escape` and `copy`. Its contract: a record has every part of the location that it was
-//! made of, and a location is made of a record as the definitions say, which migrate the older form of records. Whoever
-//! stores what was read gets it back.
+//! It uses `location`, `scheme`, `escape`, `bytes` and `copy`, and hides the password as `impls` does. Its contract: a
+//! record has every part of the location that it was made of, and a location is made of a record as the definitions
+//! say, which migrate the older form of records. Whoever stores what was read gets it back.
 
 ghost use Rattle.std.specs.Prelude.{◌≡◌, ◌↔◌, [], IfErr, IfOk, IsOk, IsTrue, MatchOption, length};
 ghost use Rattle.gix_url.specs.Records.{IsLegacy, SpellsFront, begins_escape, from_legacy, migrated, new_spelling};

@@ -1,4 +1,6 @@
 //! Values for tests: a location from its parts, with no check.
+//!
+//! It uses `location` and `scheme`. Its contract: the location has just these parts. It takes no memory.
 
 ghost use Rattle.std.specs.Prelude.{◌≡◌, option_map, string_bytes};
 ghost use Rattle.bstr.specs.Owned.{bstring_bytes};

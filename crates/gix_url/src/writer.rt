@@ -1,8 +1,8 @@
 //! Writing: the text of a location, its length, and the spelling of its path.
 //!
-//! The text is laid out once, as pieces: slices of the location with the way that each is written. `form` chooses
-//! the form, `layout` the pieces, `piece` adds up their lengths and puts them into a sink, `ready` tells texts that
-//! need no escape, and `sink` and `show` are the sinks. The contract of each public call is the text of the definitions.
+//! The text is laid out once, as pieces: slices of the location with the way that each is written. `form` chooses the
+//! form, `layout` the pieces, `piece` adds up their lengths and puts them into a sink, `ready` tells texts that need
+//! no escape, and `sink` and `show` are the sinks. The contract of each public call is the text of the definitions.
 
 ghost use Rattle.std.specs.Prelude.{◌≡◌, [], Ok, Err, IsOk, IfOk, IfErr, is_ok, option_map};
 ghost use Rattle.bstr.specs.BStr.{bstr_bytes};
@@ -129,7 +129,7 @@ impl Url {
     fn own_form(&self) -> Result<Form, WriteFault>
         ensures { in_form (form_chosen result) self.now ≡ text self.now }
     {
-        self.form(self.own_password())
+        self.form(self.password())
     }
 
     /// The text in this form. Each form is collected by itself, so that the compiler knows which pieces it lacks.
@@ -154,28 +154,15 @@ impl Url {
         ensures empty { canonical_text self.now ≡ [] → IsOk result }
     {
         let mut digits = Buffer::new();
-        collect(
-            alloc,
-            &self.canonical_pieces(self.own_password(), &mut digits),
-        )
+        collect(alloc, &self.canonical_pieces(self.password(), &mut digits))
     }
 
     /// The pieces of the text, or why there is none. The digits of the port stand in the buffer.
     pub(crate) fn own_pieces<'a>(&'a self, digits: &'a mut Buffer) -> Result<Pieces<'a>, WriteFault>
         ensures { text_of_pieces result ≡ text self.now }
     {
-        let password = self.own_password();
+        let password = self.password();
         self.pieces(password, digits)
-    }
-
-    /// The location's own password.
-    fn own_password(&self) -> Option<&str>
-        ensures { option_map (λ p. p.now) result ≡ self.now.password }
-    {
-        match &self.password {
-            None => None,
-            Some(password) => Some(password.as_str()),
-        }
     }
 }
 

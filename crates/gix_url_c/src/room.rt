@@ -1,6 +1,6 @@
 //! The caller's room for bytes.
 //!
-//! It uses nothing of this crate. Its contract: bytes go to the front of the room, all of them or none.
+//! It uses `codes`. Its contract: bytes go to the front of the room, all of them or none.
 
 ghost use Rattle.std.specs.Prelude.{◌≡◌, length};
 ghost use Rattle.gix_url_c.specs.Handed.{Puts};

@@ -51,8 +51,7 @@ fn with_character(alloc: Global, parts: Parts, character: char) -> Result<Box<Ur
     let path = filled(alloc, path, character)?;
     let (user, host) = (put(user, part.as_str()), put(host, part.as_str()));
     let path = path.as_bytes();
-    let url = unchecked(alloc, scheme, user, None, host, None, path, flag)?;
-    boxed(alloc, url)
+    unchecked(alloc, scheme, user, None, host, None, path, flag)
 }
 
 /// Checks bytes of what was read again, by those of the location.
@@ -133,7 +132,6 @@ fn every_byte_as_a_local_path(rt: HostRuntime) -> Result<(), Fail> {
     let alloc = rt.alloc();
     for byte in 0..=255u8 {
         let url = unchecked(alloc, "File", None, None, None, None, &[byte], true)?;
-        let url = boxed(alloc, url)?;
         is_local(&rt, byte, counts(&rt, alloc, &url)?);
     }
     Ok(())

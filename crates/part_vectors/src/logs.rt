@@ -9,7 +9,7 @@ use std::alloc::Global;
 use std::fmt::Debug;
 use std::process::Abort;
 use std::test::Fail;
-use told::boxes::{boxed, read};
+use told::boxes::read;
 use told::unchecked;
 
 /// Schemes of every kind.
@@ -53,7 +53,6 @@ fn hide(
 ) -> Result<(), Fail> {
     let (password, host) = (Some("secret"), Some("h"));
     let url = unchecked(alloc, scheme, user, password, host, None, b"/p", flag)?;
-    let url = boxed(alloc, url)?;
     hides(rt, alloc, &url)
 }
 

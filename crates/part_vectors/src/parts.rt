@@ -252,7 +252,6 @@ fn a_path_without_a_spelling(rt: HostRuntime) -> Result<(), Fail> {
         b"/a%20b",
         false,
     )?;
-    let url = boxed(alloc, url)?;
     spelled(&rt, &url, "/a%20b");
     written(&rt, alloc, &url, "settled https://h/a%2520b")
 }

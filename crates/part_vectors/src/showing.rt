@@ -1,11 +1,11 @@
-//! What people are shown of a location: never its field `password`, however they ask and wherever their formatter fails.
+//! What people are shown of a location: never its field `password`, however they ask and wherever their formatter
+//! fails.
 
 use gix_url::Url;
 use std::alloc::Global;
 use std::fmt::{self, Write};
 use std::process::Abort;
 use std::test::Fail;
-use told::boxes::boxed;
 use told::unchecked;
 
 /// A formatter that keeps what it is handed, and fails at the call behind so many.
@@ -60,8 +60,7 @@ fn with_password(
     password: &str,
 ) -> Result<Box<Url>, Fail> {
     let password = Some(password);
-    let url = unchecked(alloc, scheme, user, password, host, None, path, flag)?;
-    boxed(alloc, url)
+    unchecked(alloc, scheme, user, password, host, None, path, flag)
 }
 
 /// Schemes of every kind that has a text beside a password, the path, the flag, and what is shown for the user `u` and the

@@ -10,7 +10,6 @@ use std::alloc::Global;
 use std::io::{self, ErrorKind};
 use std::process::Abort;
 use std::test::Fail;
-use told::boxes::boxed;
 use told::unchecked;
 
 /// Bytes that are refused, and the words that it is said with. Two of a kind have the same words.
@@ -286,7 +285,6 @@ fn is_unwritable(rt: &impl Abort, alloc: Global, url: &Url, words: &str) -> Resu
 fn a_fault_of_a_location_in_words(rt: HostRuntime) -> Result<(), Fail> {
     let (user, password) = (Some("u"), Some("secret"));
     let url = unchecked(rt.alloc(), "Ssh", user, password, None, None, b"/p", false)?;
-    let url = boxed(rt.alloc(), url)?;
     let words = "the location can't be written: a user comes without a host";
     is_unwritable(&rt, rt.alloc(), &url, words)
 }

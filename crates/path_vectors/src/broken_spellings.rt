@@ -1,5 +1,5 @@
-//! Components of locations with a spelling that no text is read as: it holds escapes that are broken. Records bring such
-//! spellings.
+//! Components of locations with a spelling that no text is read as: it holds escapes that are broken. Records bring
+//! such spellings.
 
 use crate::components::is_made_of;
 use crate::same;
@@ -8,9 +8,10 @@ use gix_url::{Error, Scheme, Url, UrlFault};
 use std::alloc::Global;
 use std::process::Abort;
 use std::test::Fail;
+use told::boxes::boxed;
 
 /// A location with this path and this spelling of it.
-fn spelled(alloc: Global, path: &[u8], spelling: &[u8]) -> Result<Url, Fail> {
+fn spelled(alloc: Global, path: &[u8], spelling: &[u8]) -> Result<Box<Url>, Fail> {
     let record = StoredUrl {
         scheme: Scheme::Https,
         user: None,
@@ -21,7 +22,7 @@ fn spelled(alloc: Global, path: &[u8], spelling: &[u8]) -> Result<Url, Fail> {
         path: Vec::from_slice(alloc, path)?,
         path_with_percent_escapes: Some(Vec::from_slice(alloc, spelling)?),
     };
-    Ok(Url::from_stored(alloc, record)?)
+    boxed(alloc, Url::from_stored(alloc, record)?)
 }
 
 /// Whether a character was refused.

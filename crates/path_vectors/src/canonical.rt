@@ -7,6 +7,7 @@ use std::fs;
 use std::process::Abort;
 use std::rt::Files;
 use std::test::Fail;
+use told::boxes::read;
 
 /// Gives a local location the path that the file system has for it.
 fn resolve<R: Files + AllocGlobal>(rt: &R, url: &mut Url) -> Result<(), Error> {
@@ -130,7 +131,7 @@ fn takes(
     answer: &str,
     written: &str,
 ) -> Result<(), Fail> {
-    let mut url = same::read(alloc, text)?;
+    let mut url = read(alloc, text)?;
     canonicalize(rt, alloc, &mut url, Some(answer), ("taken", 1))?;
     same::bytes(rt, url.path.as_bytes(), answer.as_bytes());
     is_written(rt, alloc, &url, written)
@@ -160,7 +161,7 @@ fn is_asked_for(url: &mut Url, path: &str) -> bool {
 
 #[test]
 fn what_the_resolver_is_asked(rt: HostRuntime) -> Result<(), Fail> {
-    let mut url = same::read(rt.alloc(), "file:///a%20b")?;
+    let mut url = read(rt.alloc(), "file:///a%20b")?;
     assert!(&rt; is_asked_for(&mut url, "/a%20b"), "the path as it stands");
     Ok(())
 }
@@ -181,7 +182,7 @@ fn keeps(
 
 #[test]
 fn a_path_that_is_no_text_stays(rt: HostRuntime) -> Result<(), Fail> {
-    let mut url = same::read(rt.alloc(), "/")?;
+    let mut url = read(rt.alloc(), "/")?;
     url.path.push(0xff)?;
     let (answer, wanted) = (Some("/b"), ("not UTF-8", 0));
     keeps(&rt, rt.alloc(), &mut url, answer, wanted, b"/\xff")
@@ -189,20 +190,20 @@ fn a_path_that_is_no_text_stays(rt: HostRuntime) -> Result<(), Fail> {
 
 #[test]
 fn a_refusal_leaves_the_path(rt: HostRuntime) -> Result<(), Fail> {
-    let mut url = same::read(rt.alloc(), "/a")?;
+    let mut url = read(rt.alloc(), "/a")?;
     keeps(&rt, rt.alloc(), &mut url, None, ("unresolved", 1), b"/a")
 }
 
 /// Checks that a location stays as it is, and that the resolver isn't asked.
 fn stays(rt: &impl Abort, alloc: Global, text: &str) -> Result<(), Fail> {
-    let mut url = same::read(alloc, text)?;
+    let mut url = read(alloc, text)?;
     canonicalize(rt, alloc, &mut url, Some("/b"), ("taken", 0))?;
     is_unchanged(rt, alloc, &url, text)
 }
 
 /// Checks that a location is what the text is read as.
 fn is_unchanged(rt: &impl Abort, alloc: Global, url: &Url, text: &str) -> Result<(), Fail> {
-    is_the_same(rt, url, &same::read(alloc, text)?, text);
+    is_the_same(rt, url, &*read(alloc, text)?, text);
     Ok(())
 }
 
@@ -241,14 +242,14 @@ fn becomes<R: Files + AllocGlobal + Abort>(rt: &R, url: &mut Url, path: &str) ->
 
 #[test]
 fn the_root_of_the_file_system(rt: HostRuntime) -> Result<(), Fail> {
-    let mut url = same::read(rt.alloc(), "/.././")?;
+    let mut url = read(rt.alloc(), "/.././")?;
     is_really(&rt, &url, "/")?;
     becomes(&rt, &mut url, "/")
 }
 
 #[test]
 fn what_the_file_system_lacks(rt: HostRuntime) -> Result<(), Fail> {
-    let mut url = same::read(rt.alloc(), "/no such folder/at all")?;
+    let mut url = read(rt.alloc(), "/no such folder/at all")?;
     assert!(&rt; matches!(&resolve(&rt, &mut url), Err(Error::Unresolved)));
     Ok(())
 }

@@ -1,14 +1,6 @@
-//! What many tests do: a location is read, and what is compared comes by reference.
+//! What many tests compare, by reference.
 
-use gix_url::Url;
-use std::alloc::Global;
 use std::process::Abort;
-use std::test::Fail;
-
-/// What a text is read as.
-pub fn read(alloc: Global, text: &str) -> Result<Url, Fail> {
-    Ok(Url::from_text(alloc, text)?)
-}
 
 /// Checks that these are the bytes.
 pub fn bytes(rt: &impl Abort, found: &[u8], want: &[u8]) {

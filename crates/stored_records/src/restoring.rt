@@ -7,6 +7,7 @@ use gix_url::{Scheme, Url};
 use std::alloc::Global;
 use std::process::Abort;
 use std::test::Fail;
+use told::boxes::{boxed, read};
 
 /// Paths and spellings of records, and those of the locations that they stand for.
 static SPELLINGS: [((&[u8], &[u8]), (&[u8], &[u8])); 9] = [
@@ -51,13 +52,16 @@ static SCHEMES: [(&str, &str); 8] = [
 ];
 
 /// The location of a record.
-fn restored(alloc: Global, record: &str) -> Result<Url, Fail> {
-    Ok(Url::from_stored(alloc, serde_json::from_str(alloc, record)?)?)
+fn restored(alloc: Global, record: &str) -> Result<Box<Url>, Fail> {
+    boxed(
+        alloc,
+        Url::from_stored(alloc, serde_json::from_str(alloc, record)?)?,
+    )
 }
 
 /// What is stored of the location of a record.
-fn stored(alloc: Global, record: &str) -> Result<StoredUrl, Fail> {
-    Ok(restored(alloc, record)?.to_stored(alloc)?)
+fn stored(alloc: Global, record: &str) -> Result<Box<StoredUrl>, Fail> {
+    boxed(alloc, restored(alloc, record)?.to_stored(alloc)?)
 }
 
 /// A path and its spelling.
@@ -82,7 +86,7 @@ fn stays(
     record: &str,
 ) -> Result<(), Fail> {
     let json = serde_json::to_string(alloc, first)?;
-    has_spelling(rt, &stored(alloc, json.as_str())?, want, record);
+    has_spelling(rt, &*stored(alloc, json.as_str())?, want, record);
     Ok(())
 }
 
@@ -103,7 +107,7 @@ fn the_older_form_is_migrated_and_stays(rt: HostRuntime) -> Result<(), Fail> {
 }
 
 /// The location of a record with this host, path and spelling.
-fn restored_of(alloc: Global, host: &str, path: &[u8], spelling: &[u8]) -> Result<Url, Fail> {
+fn restored_of(alloc: Global, host: &str, path: &[u8], spelling: &[u8]) -> Result<Box<Url>, Fail> {
     let record = of_path(alloc, host, path, spelling)?;
     restored(alloc, record.as_str())
 }
@@ -120,16 +124,16 @@ fn is_unsettled(rt: &impl Abort, url: &Url) {
 }
 
 /// What the text of a location is read as.
-fn read_again(alloc: Global, url: &Url) -> Result<Url, Fail> {
+fn read_again(alloc: Global, url: &Url) -> Result<Box<Url>, Fail> {
     let text = url.to_bstring(alloc)?;
-    Ok(Url::from_bytes(alloc, text.as_bstr())?)
+    boxed(alloc, Url::from_bytes(alloc, text.as_bstr())?)
 }
 
 /// Checks a location with a spelling that no text is read with, once it has come to stand for the path.
 fn is_spelled_oddly(rt: &impl Abort, alloc: Global, url: &Url) -> Result<(), Fail> {
     is_written(rt, alloc, url, "https://h/a<b")?;
     is_unsettled(rt, url);
-    is_written(rt, alloc, &read_again(alloc, url)?, "https://h/a%3Cb")
+    is_written(rt, alloc, &*read_again(alloc, url)?, "https://h/a%3Cb")
 }
 
 #[test]
@@ -178,7 +182,7 @@ fn all_parts_come_back(rt: HostRuntime) -> Result<(), Fail> {
 }
 
 /// The location of a record without this part.
-fn restored_without(alloc: Global, name: &str) -> Result<Url, Fail> {
+fn restored_without(alloc: Global, name: &str) -> Result<Box<Url>, Fail> {
     let record = without(alloc, name)?;
     restored(alloc, record.as_str())
 }
@@ -232,7 +236,7 @@ fn work(rt: &impl Abort, alloc: Global, json: Option<&str>) -> Result<(), Fail> 
 
 #[test]
 fn the_examples_work(rt: HostRuntime) -> Result<(), Fail> {
-    let url = Url::from_text(rt.alloc(), "https://h/a%2Fb")?;
+    let url = read(rt.alloc(), "https://h/a%2Fb")?;
     work(&rt, rt.alloc(), json_of(rt.alloc(), &url).as_deref())
 }
 

@@ -1,8 +1,10 @@
-//! Locations and errors, told in one line, and locations made of what is told: for tables of tests; and boxes for tests.
+//! Locations and errors, told in one line, and locations made of what is told: for tables of tests; and boxes for
+//! tests.
 #![tactic(auto)]
 
 pub mod boxes;
 
+use crate::boxes::boxed;
 use bstr::BString;
 use gix_url::parse::UrlKind;
 use gix_url::testing::TestUrlExtension;
@@ -181,16 +183,19 @@ pub fn unchecked(
     port: Option<u16>,
     path: &[u8],
     flag: bool,
-) -> Result<Url, Fail> {
-    Ok(<Url as TestUrlExtension>::from_parts_unchecked(
-        named(alloc, scheme)?,
-        copied(alloc, user)?,
-        copied(alloc, password)?,
-        copied(alloc, host)?,
-        port,
-        BString::from_slice(alloc, path)?,
-        flag,
-    ))
+) -> Result<Box<Url>, Fail> {
+    boxed(
+        alloc,
+        <Url as TestUrlExtension>::from_parts_unchecked(
+            named(alloc, scheme)?,
+            copied(alloc, user)?,
+            copied(alloc, password)?,
+            copied(alloc, host)?,
+            port,
+            BString::from_slice(alloc, path)?,
+            flag,
+        ),
+    )
 }
 
 /// What is made of these parts, told as in [`unchecked`].

@@ -19,7 +19,7 @@ pub type Parts = (
 );
 
 /// The location of these parts, as they are.
-pub fn location(alloc: Global, parts: &Parts) -> Result<Url, Fail> {
+pub fn location(alloc: Global, parts: &Parts) -> Result<Box<Url>, Fail> {
     let &(scheme, user, password, host, port, path, flag) = parts;
     unchecked(
         alloc,

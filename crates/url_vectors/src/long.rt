@@ -5,7 +5,7 @@ use gix_url::Url;
 use std::alloc::Global;
 use std::process::Abort;
 use std::test::Fail;
-use told::unchecked;
+use told::{boxes, unchecked};
 
 /// The texts one behind another, each as often as it says.
 pub fn joined(alloc: Global, pieces: &[(&str, usize)]) -> Result<String, Fail> {
@@ -30,9 +30,9 @@ static READ: [(&[(&str, usize)], u128, bool); 6] = [
 ];
 
 /// What the text in these pieces is read as.
-fn read(alloc: Global, pieces: &[(&str, usize)]) -> Result<Url, Fail> {
+fn read(alloc: Global, pieces: &[(&str, usize)]) -> Result<Box<Url>, Fail> {
     let text = joined(alloc, pieces)?;
-    Ok(Url::from_text(alloc, text.as_str())?)
+    boxes::read(alloc, text.as_str())
 }
 
 /// Checks the length of a location's text, and whether it is settled.
@@ -44,7 +44,7 @@ fn has_length(rt: &impl Abort, url: &Url, length: u128, settled: bool) {
 #[test]
 fn just_short_enough(rt: HostRuntime) -> Result<(), Fail> {
     for &(pieces, length, settled) in READ.as_slice() {
-        has_length(&rt, &read(rt.alloc(), pieces)?, length, settled);
+        has_length(&rt, &*read(rt.alloc(), pieces)?, length, settled);
     }
     Ok(())
 }

@@ -6,6 +6,7 @@ use gix_url::ipv6::is_ipv6;
 use std::alloc::Global;
 use std::process::Abort;
 use std::test::Fail;
+use told::boxes::boxed;
 
 /// Texts that are addresses.
 static ADDRESSES: [&str; 10] = [
@@ -92,7 +93,7 @@ fn is_told(rt: &impl Abort, scheme: &Scheme, text: &str, port: Option<u16>) {
 #[test]
 fn schemes(rt: HostRuntime) -> Result<(), Fail> {
     for &(text, name, port) in SCHEMES.as_slice() {
-        let scheme = Scheme::from_text(rt.alloc(), text)?;
+        let scheme = boxed(rt.alloc(), Scheme::from_text(rt.alloc(), text)?)?;
         is_named(&rt, rt.alloc(), &scheme, name)?;
         is_told(&rt, &scheme, text, port);
     }

@@ -9,6 +9,7 @@ use gix_url::parse::parse;
 use std::alloc::Global;
 use std::process::Abort;
 use std::test::Fail;
+use told::boxes::{boxed, read};
 use told::{told_answer, told_front};
 
 /// Whether two locations have the same public fields before the path.
@@ -41,7 +42,7 @@ fn comes_back(alloc: Global, url: &Url) -> Result<bool, Fail> {
 
 /// Checks that a text is read as a settled location, which comes back.
 fn is_settled(rt: &impl Abort, alloc: Global, text: &[u8]) -> Result<(), Fail> {
-    let url = parse(alloc, BStr::new(text))?;
+    let url = boxed(alloc, parse(alloc, BStr::new(text))?)?;
     let back = comes_back(alloc, &url)?;
     is_settled_and_back(rt, BStr::new(text), url.is_settled(), back);
     Ok(())
@@ -84,7 +85,7 @@ fn the_longest_location_comes_back(rt: HostRuntime) -> Result<(), Fail> {
 
 /// Checks that a location comes back from its text, and is spelled so then.
 fn is_spelled_again(rt: &impl Abort, alloc: Global, url: &Url, spelled: &str) -> Result<(), Fail> {
-    let again = url.reread(alloc)?;
+    let again = boxed(alloc, url.reread(alloc)?)?;
     is_spelled(rt, &again, spelled);
     has_come_back(rt, is_again(alloc, url, &again)?);
     Ok(())
@@ -97,7 +98,7 @@ fn has_come_back(rt: &impl Abort, is_again: bool) {
 
 #[test]
 fn the_spelling_is_that_of_the_text(rt: HostRuntime) -> Result<(), Fail> {
-    let url = Url::from_text(rt.alloc(), "http://h/a<b")?;
+    let url = read(rt.alloc(), "http://h/a<b")?;
     is_spelled(&rt, &url, "/a<b");
     is_spelled_again(&rt, rt.alloc(), &url, "/a%3Cb")
 }
@@ -133,7 +134,7 @@ fn is_unsettled(rt: &impl Abort, url: &Url, text: &str) {
 #[test]
 fn unsettled_locations_are_read_as_others(rt: HostRuntime) -> Result<(), Fail> {
     for &(text, want) in UNSETTLED.as_slice() {
-        let url = Url::from_text(rt.alloc(), text)?;
+        let url = read(rt.alloc(), text)?;
         is_unsettled(&rt, &url, text);
         is_read_as(&rt, rt.alloc(), &url, want)?;
     }
@@ -143,7 +144,7 @@ fn unsettled_locations_are_read_as_others(rt: HostRuntime) -> Result<(), Fail> {
 #[test]
 fn a_text_can_be_too_long_to_be_read(rt: HostRuntime) -> Result<(), Fail> {
     let text = joined(rt.alloc(), &[("http://", 1), ("ö", 400), ("@h/", 1)])?;
-    let url = Url::from_text(rt.alloc(), text.as_str())?;
+    let url = read(rt.alloc(), text.as_str())?;
     is_read_as(&rt, rt.alloc(), &url, "TooLong 1031 of 2410")
 }
 

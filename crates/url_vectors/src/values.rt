@@ -8,6 +8,7 @@ use std::alloc::Global;
 use std::fmt::Write;
 use std::process::Abort;
 use std::test::Fail;
+use told::boxes::read;
 use told::{told_text, unchecked};
 
 /// Checks how a location is written.
@@ -50,7 +51,7 @@ fn is_spelled_then(
 
 #[test]
 fn a_spelling_counts_while_it_stands_for_the_path(rt: HostRuntime) -> Result<(), Fail> {
-    let mut url = Url::from_text(rt.alloc(), "https://host/my%20repo")?;
+    let mut url = read(rt.alloc(), "https://host/my%20repo")?;
     is_spelled(&rt, &url, "/my%20repo");
     for row in SPELLED.as_slice() {
         is_spelled_then(&rt, rt.alloc(), &mut url, row)?;
@@ -81,7 +82,7 @@ fn is_shown(rt: &impl Abort, alloc: Global, url: &Url, shown: &str) -> Result<()
 #[test]
 fn what_a_person_is_shown(rt: HostRuntime) -> Result<(), Fail> {
     for &(text, shown) in SHOWN.as_slice() {
-        let url = Url::from_text(rt.alloc(), text)?;
+        let url = read(rt.alloc(), text)?;
         is_shown(&rt, rt.alloc(), &url, shown)?;
     }
     Ok(())

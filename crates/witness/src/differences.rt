@@ -1,5 +1,5 @@
-//! Texts that Git and the library read differently: three of each class of `docs/GIT.md`, with both readings; and texts
-//! that are read alike.
+//! Texts that Git and the library read differently: three of each class of `docs/GIT.md`, with both readings; and
+//! texts that are read alike.
 //!
 //! Git's were told by git 2.39.5, and `scripts/git_witness` asks for them again; the library's were computed by
 //! `scripts/oracle.py`. A reading is the protocol and the parts that are there, or a refusal.
@@ -12,7 +12,7 @@ mod refused;
 use crate::flaw;
 use alike::ALIKE;
 use bstr::BStr;
-use gix_url::Url;
+use gix_url::{Error, Url};
 use machine::MACHINE;
 use path::{PATH, SPELLING};
 use refused::{BY_GIT, HERE};
@@ -20,6 +20,7 @@ use std::alloc::Global;
 use std::fmt::Write;
 use std::process::Abort;
 use std::test::Fail;
+use told::boxes::boxed;
 
 /// A class, a text, what Git reads in it, and what the library reads in it.
 type Example = (&'static str, &'static [u8], &'static str, &'static str);
@@ -27,25 +28,34 @@ type Example = (&'static str, &'static [u8], &'static str, &'static str);
 /// What the library reads in a text.
 fn told(alloc: Global, text: &[u8]) -> Result<String, Fail> {
     let mut out = String::new(alloc);
-    match Url::from_bytes(alloc, BStr::new(text)) {
-        Err(error) => write!(out, "refused {}", flaw(&error))?,
-        Ok(url) => {
-            out.push_str(url.scheme.as_str())?;
-            put(&mut out, "user", url.user())?;
-            put(&mut out, "password", url.password())?;
-            put(&mut out, "host", url.host())?;
-            if let Some(port) = url.port {
-                write!(out, " port={port}")?;
-            }
-            write!(out, " path={}", url.path.as_bstr())?;
-        }
+    match &*read(alloc, text)? {
+        Err(error) => write!(out, "refused {}", flaw(error))?,
+        Ok(url) => tell(&mut out, url)?,
     }
     Ok(out)
 }
 
+/// What is read in a text, or why it is refused.
+fn read(alloc: Global, text: &[u8]) -> Result<Box<Result<Url, Error>>, Fail> {
+    boxed(alloc, Url::from_bytes(alloc, BStr::new(text)))
+}
+
+/// Tells the parts of a location that are there.
+fn tell(out: &mut String, url: &Url) -> Result<(), Fail> {
+    out.push_str(url.scheme.as_str())?;
+    put(out, "user", url.user())?;
+    put(out, "password", url.password())?;
+    put(out, "host", url.host())?;
+    if let Some(port) = url.port {
+        write!(out, " port={port}")?;
+    }
+    write!(out, " path={}", url.path.as_bstr())?;
+    Ok(())
+}
+
 /// Whether the text is let by: Git is said to read in it what the library does, and it is the text that is written.
 fn is_let_by(alloc: Global, text: &[u8]) -> Result<bool, Fail> {
-    match Url::from_bytes(alloc, BStr::new(text)) {
+    match &*read(alloc, text)? {
         Err(_) => Ok(false),
         Ok(url) => Ok(url.agrees_with_git() && url.to_bstring(alloc)?.as_bytes() == text),
     }

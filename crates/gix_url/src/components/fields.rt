@@ -1,7 +1,7 @@
-//! The fields of a query, in one walk.
+//! The fields of a query, in two walks: the first counts them, so that the room for their list is asked for once.
 //!
 //! It uses `cuts`, `lend` and the cuts of `bytes`. Its contract: each field between `&` that isn't empty is a name
-//! and a value, in order. The room for the list is asked for once, when the fields are counted.
+//! and a value, in order.
 
 ghost use Rattle.std.specs.Prelude.{◌≡◌, ◌+◌, ◌≤◌, ◌<◌, ◌++◌, [], ◌∷◌, IfOk, OnOk, vec_capacity, vec_len};
 ghost use Rattle.gix_url.specs.ComponentPieces.{AddsPair, LendsFields, field_count, one_field};

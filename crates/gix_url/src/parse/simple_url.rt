@@ -56,7 +56,7 @@ struct CredentialParts<'a> {
 }
 
 /// Reads the URL with this scheme, of which these are the rules, and this rest behind `://`. It is no file URL, and
-/// no remote helper. What is known to be plain isn't looked at again.
+/// no remote helper. What is known to be plain isn't looked at again for white space.
 pub(crate) fn read_simple_url<'a>(
     text: &'a str,
     plain: bool,

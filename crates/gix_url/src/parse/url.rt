@@ -86,7 +86,7 @@ fn read_other(
     }
 }
 
-/// A URL that is text and no file URL. What is known to be plain isn't looked at again.
+/// A URL that is text and no file URL. What is known to be plain isn't looked at again for white space.
 fn read_text(
     alloc: Global,
     text: &str,

@@ -1,4 +1,7 @@
 //! The settled hosts of URLs.
+//!
+//! It uses `parts`, `bytes`, `escape` and the bytes of hosts of `parse`. Its contract: the answer is yes exactly for
+//! the hosts that the definitions settle. It takes no memory.
 
 ghost use Rattle.std.specs.Prelude.{◌≡◌, ◌↔◌, IsTrue, Option};
 ghost use Rattle.gix_url.specs.Settled.{IsBareHost, IsBracketedHost, IsWebHost, IsWebName};

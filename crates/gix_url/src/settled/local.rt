@@ -1,4 +1,7 @@
 //! The settled remote helpers, local paths and file URLs.
+//!
+//! It uses `parts`, `bytes`, `escape`, `text`, and `classify` for the form of a path. Its contract: the answer is yes
+//! exactly for those that the definitions settle. It takes no memory.
 
 ghost use Rattle.std.specs.Prelude.{◌↔◌, IsTrue, IfSome};
 ghost use Rattle.gix_url.specs.Settled.{IsFileHost, IsSettledFile, IsSettledHelper, IsSettledLocal};

@@ -1,4 +1,7 @@
 //! The length test of a text that stands nowhere as a whole: a walk past its pieces.
+//!
+//! It uses the walk of `length` and the pieces of the writer. Its contract: the answer is yes exactly where the text
+//! of the location is short enough. It takes no memory.
 
 ghost use Rattle.std.specs.Prelude.{◌≡◌, ◌↔◌, IsTrue, Ok};
 ghost use Rattle.gix_url.specs.Bytes.{FreeOf, colon};

@@ -1,4 +1,7 @@
 //! Tests of one part of a location.
+//!
+//! It uses `bytes`, `escape`, `ipv6` and the bytes of hosts of `parse`. Its contract: each test decides the definition
+//! that it is named for. It takes no memory.
 
 ghost use Rattle.std.specs.Prelude.{◌≡◌, ◌↔◌, IsTrue, codes};
 ghost use Rattle.gix_url.specs.Bytes.{Holds};

@@ -1,4 +1,7 @@
 //! The settled locations in the scp form.
+//!
+//! It uses `parts`, `bytes`, `escape` and `text`. Its contract: the answer is yes exactly for those that the
+//! definitions settle. It takes no memory.
 
 ghost use Rattle.std.specs.Prelude.{◌↔◌, IsTrue, IfSome};
 ghost use Rattle.gix_url.specs.Settled.{IsScpName, IsScpUser, IsSettledScp, LooksLikeHelper};

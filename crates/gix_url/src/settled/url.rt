@@ -1,4 +1,7 @@
 //! The settled URLs, but for those of files.
+//!
+//! It uses `host`, `measure`, `parts`, `bytes`, `escape`, `scheme` and `text`. Its contract: the answer is yes exactly
+//! for those that the definitions settle. It takes no memory.
 
 ghost use Rattle.std.specs.Prelude.{◌≡◌, ◌↔◌, IsTrue, IsUtf8, Some, [], true, IfSome};
 ghost use Rattle.gix_url.specs.Value.Protocol.{git, helper_url, ssh};

@@ -1,7 +1,7 @@
 //! The sink that shows a text to people: a formatter.
 //!
-//! Its contract: what is shown is the text as UTF-8, with U+FFFD in place of what is none, whatever options the
-//! formatter has. It takes no memory.
+//! It uses `piece` and `sink`. Its contract: what is shown is the text as UTF-8, with U+FFFD in place of what is none,
+//! whatever options the formatter has. It takes no memory.
 
 ghost use Rattle.std.specs.Fmt.{WritesOnOk, WritesStyledOnOk};
 ghost use Rattle.gix_url.specs.Bytes.{lossy_text};
