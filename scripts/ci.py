@@ -3,10 +3,12 @@
 `rt ci` guesses how much memory a check takes by a crate's lines, which is thrice too much for the library with its many
 definitions, and so checks it by one processor. Here slots say how many run at a time, and all that can begin stand in line
 for one; edits, most of which take less, come behind them and fill what they leave. A crate that others stand on waits for
-none. It judges as ever, and runs a check again that memory did not suffice for.
+none. It judges as ever, and runs a check again that memory did not suffice for. A static library, of which `rt ci` keeps
+nothing, is compiled of what its check proved, as programs are.
 """
 import os
 import sys
+import tempfile
 
 sys.dont_write_bytecode = True
 from kit import Slots, load_kit
@@ -15,9 +17,31 @@ from kit import Slots, load_kit
 ALL = 64
 
 
+def compiled(kit, crate, flags):
+    """The proof of a static library, from nothing, and the library that is compiled of what was proved."""
+    words = crate.words(flags, keeps=False)
+    with tempfile.TemporaryDirectory(prefix="proved-") as room:
+        if crate.prove(["check", *words, "-o", f"{room}/checked"]):
+            return 1
+        # What is compiled was checked, and takes no flag of a check.
+        for flag in ("--logic-built", "--jobs"):
+            at = words.index(flag)
+            words = [*words[:at], *words[at + 2 :]]
+        words += ["--crate-checked", f"{room}/checked", "--toolchain", f"{kit.KIT}/toolchain", "--backend", "llvm"]
+        os.makedirs(f"{crate.folder}/out", exist_ok=True)
+        status = crate.call(kit.rtlib.RATTLE, "build", *words, "-o", f"out/lib{crate.name}.a")
+    if status:
+        kit.say("LLVM did not compile what was proved", crate.out)
+    return status
+
+
 def in_turn(kit, slots):
     """The proof of a crate: by most of the processors where all others wait for it, and else by one."""
-    proves, processors = kit.Crate.ci, kit.processors()
+    judges, processors = kit.Crate.ci, kit.processors()
+
+    def proves(crate, flags, tests):
+        return compiled(kit, crate, flags) if crate.is_static and not tests else judges(crate, flags, tests)
+
     waits = slots.around(proves)
     below = {it.name for crate in kit.rtlib.crates_below(os.getcwd()) for it in crate.below()}
 

@@ -75,11 +75,11 @@ def sources():
     return number.hexdigest()
 
 
-def keep_built(roots, number):
-    """Keeps the programs and static libraries that were proved and built of these sources below other roots."""
+def keep_built(root, number):
+    """Keeps the programs and static libraries that were proved and built of these sources below another root."""
     shutil.rmtree(BUILT, ignore_errors=True)
     os.makedirs(BUILT)
-    for root, name in ((root, name) for root in roots for name in os.listdir(f"{root}/crates")):
+    for name in os.listdir(f"{root}/crates"):
         for file in (name, f"lib{name}.a"):
             if os.path.isfile(f"{root}/crates/{name}/out/{file}"):
                 shutil.copy2(f"{root}/crates/{name}/out/{file}", f"{BUILT}/{file}")

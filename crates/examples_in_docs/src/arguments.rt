@@ -1,5 +1,6 @@
 //! Examples of arguments of commands.
 
+use crate::same;
 use bstr::BStr;
 use gix_url::{ArgumentSafety, Url};
 use std::process::Abort;
@@ -51,15 +52,15 @@ static ROWS: [(&str, bool, bool, bool, &str); 5] = [
 
 /// Checks whether the user and the host of a location are refused.
 fn keeps_out(rt: &impl Abort, url: &Url, user: bool, host: bool) {
-    assert_eq!(rt; is_refused(url), user);
-    assert_eq!(rt; ssh_user(url).is_err(), user);
-    assert_eq!(rt; is_refused_host(url), host);
+    same::is(rt, is_refused(url), user, "the user");
+    same::is(rt, ssh_user(url).is_err(), user, "the user of ssh");
+    same::is(rt, is_refused_host(url), host, "the host");
 }
 
 /// Checks whether a command can connect, and the user that it gets.
 fn hands_over(rt: &impl Abort, url: &Url, reached: bool, handed: &str) {
-    assert_eq!(rt; can_connect(url), reached);
-    assert_eq!(rt; user_or_git(url), handed);
+    same::is(rt, can_connect(url), reached, "it is reached");
+    same::text(rt, user_or_git(url), handed);
 }
 
 #[test]
@@ -76,13 +77,13 @@ fn options_are_kept_out(rt: HostRuntime) -> Result<(), Fail> {
 fn a_path_is_served(rt: HostRuntime) -> Result<(), Fail> {
     let url = read(rt.alloc(), "ssh://host/repo")?;
     let path = served(&url).ok_or("a path")?;
-    assert_eq!(rt; path.as_bytes(), b"/repo".as_slice());
+    same::bytes(&rt, path.as_bytes(), b"/repo");
     Ok(())
 }
 
 #[test]
 fn an_option_is_not_served(rt: HostRuntime) -> Result<(), Fail> {
     let url = read(rt.alloc(), "ssh://host/-repo")?;
-    assert!(rt; served(&url).is_none());
+    same::holds(&rt, served(&url).is_none(), "nothing is served");
     Ok(())
 }

@@ -1,5 +1,6 @@
 //! Uses of the Rust crate as they are written here: those of `docs/COMING_FROM_GIX_URL.md`.
 
+use crate::same;
 use bstr::{BStr, BString};
 use gix_url::{Error, Url, UrlFault, expand_path};
 use std::alloc::{AllocError, Global};
@@ -46,14 +47,14 @@ fn path_at_home(alloc: Global, path: BStr<'_>, home: Option<&str>) -> Result<Str
 #[test]
 fn hosts_are_named(rt: HostRuntime) -> Result<(), Fail> {
     let host = host_named(rt.alloc(), "git@example.com:a/b.git")?;
-    assert_eq!(rt; host.as_deref(), Some("example.com"));
+    same::optional(&rt, host.as_deref(), Some("example.com"));
     Ok(())
 }
 
 #[test]
 fn hosts_are_wanted(rt: HostRuntime) {
-    assert!(rt; asks_for_a_host(rt.alloc(), "http://"));
-    assert!(rt; !asks_for_a_host(rt.alloc(), "http://h"));
+    same::holds(&rt, asks_for_a_host(rt.alloc(), "http://"), "no host");
+    same::holds(&rt, !asks_for_a_host(rt.alloc(), "http://h"), "a host");
 }
 
 #[test]
@@ -61,7 +62,7 @@ fn another_user_is_written(rt: HostRuntime) -> Result<(), Fail> {
     let user = String::from_str(rt.alloc(), "byron")?;
     let url = read(rt.alloc(), "ssh://git@h/p")?;
     let text = as_user(rt.alloc(), &url, user)?;
-    assert_eq!(rt; text.as_bytes(), b"ssh://byron@h/p".as_slice());
+    same::bytes(&rt, text.as_bytes(), b"ssh://byron@h/p");
     Ok(())
 }
 
@@ -69,9 +70,9 @@ fn another_user_is_written(rt: HostRuntime) -> Result<(), Fail> {
 fn names_of_a_query_are_read(rt: HostRuntime) -> Result<(), Fail> {
     let url = read(rt.alloc(), "http://h/?a+b=%2B&&c&=d#x+y")?;
     let names = query_names(rt.alloc(), &url)?;
-    assert_eq!(rt; names.len(), 3);
-    let first = names.first().map(|name| name.as_bytes());
-    assert_eq!(rt; first, Some(b"a b".as_slice()));
+    let first = names.first().ok_or("a name")?;
+    same::bytes(&rt, first.as_bytes(), b"a b");
+    same::holds(&rt, names.len() == 3, "three names");
     Ok(())
 }
 
@@ -79,6 +80,6 @@ fn names_of_a_query_are_read(rt: HostRuntime) -> Result<(), Fail> {
 fn a_path_lies_at_home(rt: HostRuntime) -> Result<(), Fail> {
     let alloc = rt.alloc();
     let path = path_at_home(alloc, BStr::new(b"/~bob/r"), Some("/home/al"))?;
-    assert_eq!(rt; path.as_str(), "/home/bob/r");
+    same::text(&rt, path.as_str(), "/home/bob/r");
     Ok(())
 }

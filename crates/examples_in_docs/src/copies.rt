@@ -1,5 +1,6 @@
 //! Examples of copies, of order, and of stored locations.
 
+use crate::same;
 use gix_url::{Error, Scheme, Url};
 use std::alloc::{AllocError, Global};
 use std::test::Fail;
@@ -40,7 +41,7 @@ fn url_of(alloc: Global, json: &str) -> Option<Url> {
 #[test]
 fn copies_are_equal(rt: HostRuntime) -> Result<(), Fail> {
     let (one, other) = twice(rt.alloc(), Scheme::from_text(rt.alloc(), "x")?)?;
-    assert!(rt; one == other);
+    same::holds(&rt, one == other, "the copy");
     Ok(())
 }
 
@@ -50,7 +51,7 @@ fn a_copy_is_changed(rt: HostRuntime) -> Result<(), Fail> {
     let url = read(rt.alloc(), "https://h/p")?;
     let copy = boxed(rt.alloc(), mirror(rt.alloc(), &url, host)?)?;
     let text = copy.to_bstring(rt.alloc())?;
-    assert_eq!(rt; text.as_bytes(), b"https://m/p".as_slice());
+    same::bytes(&rt, text.as_bytes(), b"https://m/p");
     Ok(())
 }
 
@@ -68,7 +69,7 @@ fn remotes(alloc: Global) -> Result<Vec<Url>, Fail> {
 fn remotes_are_put_into_order(rt: HostRuntime) -> Result<(), Fail> {
     let remotes = remotes(rt.alloc())?;
     let first = remotes.first().map(|remote| remote.scheme.as_str());
-    assert_eq!(rt; first, Some("file"));
+    same::optional(&rt, first, Some("file"));
     Ok(())
 }
 
@@ -77,7 +78,7 @@ fn remotes_are_known(rt: HostRuntime) -> Result<(), Fail> {
     let remotes = remotes(rt.alloc())?;
     for (text, known) in [("git://h/p", true), ("git://h/q", false)] {
         let remote = read(rt.alloc(), text)?;
-        assert_eq!(rt; is_known(remotes.as_slice(), &remote), known);
+        same::is(&rt, is_known(remotes.as_slice(), &remote), known, text);
     }
     Ok(())
 }
@@ -90,7 +91,7 @@ static RECORD: &str =
 fn a_location_is_stored(rt: HostRuntime) -> Result<(), Fail> {
     let url = read(rt.alloc(), "https://h/a%2Fb")?;
     let json = json_of(rt.alloc(), &url);
-    assert_eq!(rt; json.as_deref(), Some(RECORD));
+    same::optional(&rt, json.as_deref(), Some(RECORD));
     Ok(())
 }
 
@@ -98,6 +99,6 @@ fn a_location_is_stored(rt: HostRuntime) -> Result<(), Fail> {
 fn a_location_is_restored(rt: HostRuntime) -> Result<(), Fail> {
     let url = read(rt.alloc(), "https://h/a%2Fb")?;
     let again = boxed(rt.alloc(), url_of(rt.alloc(), RECORD).ok_or("a location")?)?;
-    assert!(rt; again == url);
+    same::holds(&rt, again == url, "the same location");
     Ok(())
 }

@@ -1,5 +1,6 @@
 //! Examples that ask the file system.
 
+use crate::same;
 use gix_url::{Error, Url};
 use std::fs;
 use std::rt::Files;
@@ -29,7 +30,7 @@ fn real<R: Files + AllocGlobal>(rt: &R, url: &Url) -> Result<Url, Error> {
 fn the_root_is_where_it_is(rt: HostRuntime) -> Result<(), Fail> {
     let mut url = read(rt.alloc(), "/./")?;
     resolve(&rt, &mut url)?;
-    assert_eq!(rt; url.path.as_bytes(), b"/".as_slice());
+    same::bytes(&rt, url.path.as_bytes(), b"/");
     Ok(())
 }
 
@@ -37,6 +38,6 @@ fn the_root_is_where_it_is(rt: HostRuntime) -> Result<(), Fail> {
 fn the_real_root_is_where_it_is(rt: HostRuntime) -> Result<(), Fail> {
     let url = read(rt.alloc(), "/./")?;
     let other = boxed(rt.alloc(), real(&rt, &url)?)?;
-    assert_eq!(rt; other.path.as_bytes(), b"/".as_slice());
+    same::bytes(&rt, other.path.as_bytes(), b"/");
     Ok(())
 }

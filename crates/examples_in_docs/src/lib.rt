@@ -19,6 +19,8 @@ mod paths;
 #[cfg(test)]
 mod reading;
 #[cfg(test)]
+mod same;
+#[cfg(test)]
 mod schemes;
 #[cfg(test)]
 mod types;

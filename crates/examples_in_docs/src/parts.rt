@@ -1,5 +1,6 @@
 //! Examples of parts looked at and exchanged.
 
+use crate::same;
 use bstr::BString;
 use gix_url::{Error, Url};
 use std::alloc::{AllocError, Global};
@@ -59,14 +60,14 @@ static ROWS: [(&str, bool, bool, bool, bool); 5] = [
 
 /// Checks the user and the password of a location.
 fn names(rt: &impl Abort, url: &Url, git: bool, asks: bool) {
-    assert_eq!(rt; is_git(url), git);
-    assert_eq!(rt; asks_for_password(url), asks);
+    same::is(rt, is_git(url), git, "the user git");
+    same::is(rt, asks_for_password(url), asks, "it asks for a password");
 }
 
 /// Checks where a location leads.
 fn leads(rt: &impl Abort, url: &Url, here: bool, repository: bool) {
-    assert_eq!(rt; is_here(url), here);
-    assert_eq!(rt; names_a_repository(url), repository);
+    same::is(rt, is_here(url), here, "this machine");
+    same::is(rt, names_a_repository(url), repository, "a repository");
 }
 
 #[test]
@@ -82,9 +83,9 @@ fn parts_are_looked_at(rt: HostRuntime) -> Result<(), Fail> {
 #[test]
 fn services_are_told_apart(rt: HostRuntime) -> Result<(), Fail> {
     let one = read(rt.alloc(), "https://host/repo")?;
-    for (text, same) in [("https://host:443/repo", true), ("http://host/repo", false)] {
+    for (text, is) in [("https://host:443/repo", true), ("http://host/repo", false)] {
         let other = read(rt.alloc(), text)?;
-        assert_eq!(rt; is_same_service(&one, &other), same);
+        same::is(&rt, is_same_service(&one, &other), is, text);
     }
     Ok(())
 }
@@ -93,7 +94,7 @@ fn services_are_told_apart(rt: HostRuntime) -> Result<(), Fail> {
 fn a_password_is_taken_away(rt: HostRuntime) -> Result<(), Fail> {
     let mut url = read(rt.alloc(), "https://user:x@host/p")?;
     without_password(&mut url);
-    assert_eq!(rt; url.password(), None);
+    same::optional(&rt, url.password(), None);
     Ok(())
 }
 
@@ -101,8 +102,8 @@ fn a_password_is_taken_away(rt: HostRuntime) -> Result<(), Fail> {
 fn a_user_is_exchanged(rt: HostRuntime) -> Result<(), Fail> {
     let mut url = read(rt.alloc(), "https://user:x@host/p")?;
     let before = as_git(rt.alloc(), &mut url)?;
-    assert_eq!(rt; before.as_deref(), Some("user"));
-    assert_eq!(rt; url.user(), Some("git"));
+    same::optional(&rt, before.as_deref(), Some("user"));
+    same::optional(&rt, url.user(), Some("git"));
     Ok(())
 }
 
@@ -111,13 +112,13 @@ fn a_location_is_made(rt: HostRuntime) -> Result<(), Fail> {
     let host = String::from_str(rt.alloc(), "h")?;
     let url = boxed(rt.alloc(), at_host(rt.alloc(), host))?;
     let text = url.to_bstring(rt.alloc())?;
-    assert_eq!(rt; text.as_bytes(), b"ssh://h/".as_slice());
+    same::bytes(&rt, text.as_bytes(), b"ssh://h/");
     Ok(())
 }
 
 #[test]
 fn a_location_becomes_a_path(rt: HostRuntime) -> Result<(), Fail> {
     let path = as_path(rt.alloc())?;
-    assert_eq!(rt; path.as_bytes(), b"/path".as_slice());
+    same::bytes(&rt, path.as_bytes(), b"/path");
     Ok(())
 }

@@ -1,5 +1,6 @@
 //! Examples of what a path means: a query, a home folder.
 
+use crate::same;
 use bstr::{BStr, BString};
 use gix_url::expand_path::{self, ForUser, for_shell};
 use gix_url::{Error, Url};
@@ -55,22 +56,30 @@ fn expand(rt: &(impl Env + AllocGlobal), path: BStr<'_>) -> Result<String, Error
 #[test]
 fn a_query_is_searched(rt: HostRuntime) -> Result<(), Fail> {
     let url = read(rt.alloc(), "https://h/info/refs?service=git-upload-pack")?;
-    assert!(rt; asks_for(rt.alloc(), &url, b"git-upload-pack")?);
-    assert!(rt; !asks_for(rt.alloc(), &url, b"git-receive-pack")?);
+    same::holds(
+        &rt,
+        asks_for(rt.alloc(), &url, b"git-upload-pack")?,
+        "fetch",
+    );
+    same::holds(
+        &rt,
+        !asks_for(rt.alloc(), &url, b"git-receive-pack")?,
+        "push",
+    );
     Ok(())
 }
 
 #[test]
 fn a_home_folder_is_named(rt: HostRuntime) -> Result<(), Fail> {
-    assert!(rt; is_own(rt.alloc(), BStr::new(b"/~/repo"))?);
-    assert!(rt; !is_own(rt.alloc(), BStr::new(b"/~bob/repo"))?);
+    same::holds(&rt, is_own(rt.alloc(), BStr::new(b"/~/repo"))?, "home");
+    same::holds(&rt, !is_own(rt.alloc(), BStr::new(b"/~bob/repo"))?, "bob");
     Ok(())
 }
 
 #[test]
 fn a_path_goes_to_a_shell(rt: HostRuntime) -> Result<(), Fail> {
     let text = remote_path(rt.alloc(), Url::from_text(rt.alloc(), "/~bob/repo")?)?;
-    assert_eq!(rt; text.as_bytes(), b"~bob/repo".as_slice());
+    same::bytes(&rt, text.as_bytes(), b"~bob/repo");
     Ok(())
 }
 
@@ -78,7 +87,7 @@ fn a_path_goes_to_a_shell(rt: HostRuntime) -> Result<(), Fail> {
 fn a_home_folder_is_entered(rt: HostRuntime) -> Result<(), Fail> {
     let (user, below) = expand_path::parse(rt.alloc(), BStr::new(b"/~bob/repo"))?;
     let path = in_home(rt.alloc(), user.as_ref(), below.as_bstr())?;
-    assert_eq!(rt; path.as_str(), "/home/bob/repo");
+    same::text(&rt, path.as_str(), "/home/bob/repo");
     Ok(())
 }
 
@@ -86,6 +95,6 @@ fn a_home_folder_is_entered(rt: HostRuntime) -> Result<(), Fail> {
 fn no_home_folder_is_entered(rt: HostRuntime) -> Result<(), Fail> {
     // Without a user the environment isn't asked for anything that counts.
     let path = expand(&rt, BStr::new(b"/srv/repo"))?;
-    assert_eq!(rt; path.as_str(), "/srv/repo");
+    same::text(&rt, path.as_str(), "/srv/repo");
     Ok(())
 }

@@ -1,5 +1,6 @@
 //! Examples of reading and of reading back.
 
+use crate::same;
 use bstr::BString;
 use gix_url::{Error, Scheme, Url};
 use std::alloc::Global;
@@ -39,7 +40,7 @@ fn remote(alloc: Global, user: String, host: String, path: BString) -> Result<Ur
 /// Checks the host that a text names.
 fn names(rt: &impl Abort, alloc: Global, text: &str, wanted: Option<&str>) -> Result<(), Fail> {
     let host = host_of(alloc, text)?;
-    assert_eq!(rt; host.as_deref(), wanted);
+    same::optional(rt, host.as_deref(), wanted);
     Ok(())
 }
 
@@ -52,9 +53,9 @@ fn a_host_is_named_by_what_comes_back(rt: HostRuntime) -> Result<(), Fail> {
 
 #[test]
 fn the_host_of_another_text(rt: HostRuntime) -> Result<(), Fail> {
-    for (text, same) in [("http://h/p", true), ("file://x:%20/p", false)] {
+    for (text, is) in [("http://h/p", true), ("file://x:%20/p", false)] {
         let url = read(rt.alloc(), text)?;
-        assert_eq!(rt; names_the_same_host(rt.alloc(), &url)?, same);
+        same::is(&rt, names_the_same_host(rt.alloc(), &url)?, is, text);
     }
     Ok(())
 }
@@ -71,6 +72,6 @@ fn remote_of_git(alloc: Global) -> Result<Url, Fail> {
 fn a_remote_of_parts(rt: HostRuntime) -> Result<(), Fail> {
     let url = boxed(rt.alloc(), remote_of_git(rt.alloc())?)?;
     let text = url.to_bstring(rt.alloc())?;
-    assert_eq!(rt; text.as_bytes(), b"ssh://git@h/p".as_slice());
+    same::bytes(&rt, text.as_bytes(), b"ssh://git@h/p");
     Ok(())
 }

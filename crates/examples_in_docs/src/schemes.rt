@@ -1,5 +1,6 @@
 //! Examples of schemes, addresses, and the small parts of an answer.
 
+use crate::same;
 use bstr::BStr;
 use gix_url::expand_path::ForUser;
 use gix_url::ipv6::is_ipv6;
@@ -42,7 +43,7 @@ fn fragment_of<'a>(parts: &PathComponents<'a>) -> Option<BStr<'a>> {
 #[test]
 fn schemes_are_told_apart(rt: HostRuntime) -> Result<(), Fail> {
     for (name, is) in [("https", true), ("HTTPS", false)] {
-        assert_eq!(rt; is_web(rt.alloc(), name)?, is, "{name}");
+        same::is(&rt, is_web(rt.alloc(), name)?, is, name);
     }
     Ok(())
 }
@@ -51,28 +52,28 @@ fn schemes_are_told_apart(rt: HostRuntime) -> Result<(), Fail> {
 fn protocols_are_told(rt: HostRuntime) -> Result<(), Fail> {
     for text in ["git@host:repo", "ssh+git://host/repo"] {
         let url = read(rt.alloc(), text)?;
-        assert_eq!(rt; protocol_of(&url), "ssh", "{text}");
+        same::text(&rt, protocol_of(&url), "ssh");
     }
     Ok(())
 }
 
 #[test]
 fn ports_are_told(rt: HostRuntime) {
-    assert_eq!(rt; port_of(&Scheme::Git), 9418);
-    assert_eq!(rt; port_of(&Scheme::File), 0);
+    same::holds(&rt, port_of(&Scheme::Git) == 9418, "git");
+    same::holds(&rt, port_of(&Scheme::File) == 0, "file");
 }
 
 #[test]
 fn addresses_are_told_apart(rt: HostRuntime) {
     for (host, is) in [("::1", true), ("[::1]", false), ("fe80::1%eth0", false)] {
-        assert_eq!(rt; needs_brackets(host), is, "{host}");
+        same::is(&rt, needs_brackets(host), is, host);
     }
 }
 
 #[test]
 fn a_user_is_copied(rt: HostRuntime) -> Result<(), Fail> {
     let (one, other) = two_of(rt.alloc(), ForUser::Current)?;
-    assert!(rt; one == other);
+    same::holds(&rt, one == other, "the same scheme");
     Ok(())
 }
 
@@ -80,7 +81,7 @@ fn a_user_is_copied(rt: HostRuntime) -> Result<(), Fail> {
 fn begins_with_nothing(rt: &impl Abort, parts: &PathComponents<'_>) -> Result<(), Fail> {
     let pairs = parts.query.as_ref().ok_or("a query")?;
     let (_, value) = pairs.first().ok_or("a field")?;
-    assert!(rt; is_empty(value));
+    same::holds(rt, is_empty(value), "an empty value");
     Ok(())
 }
 
@@ -89,6 +90,6 @@ fn parts_of_answers(rt: HostRuntime) -> Result<(), Fail> {
     let url = read(rt.alloc(), "http://h/?a#b")?;
     let parts = boxed(rt.alloc(), url.path_query_fragment(rt.alloc())?)?;
     let fragment = fragment_of(&parts).ok_or("a fragment")?;
-    assert_eq!(rt; fragment.as_bytes(), b"b".as_slice());
+    same::bytes(&rt, fragment.as_bytes(), b"b");
     begins_with_nothing(&rt, &parts)
 }

@@ -1,5 +1,6 @@
 //! Examples of the types: errors, forms, schemes, users, components.
 
+use crate::same;
 use gix_url::expand_path::ForUser;
 use gix_url::lines::{self, RunError};
 use gix_url::parse::UrlKind;
@@ -76,16 +77,16 @@ static REFUSED: [(&str, bool, bool); 3] = [
 
 /// Checks what a text is refused for.
 fn tells(rt: &impl Abort, error: &Error, port: bool, scp: bool) {
-    assert_eq!(rt; has_bad_port(error), port);
-    assert_eq!(rt; is_scp(error), scp);
-    assert!(rt; !is_passing(error));
+    same::is(rt, has_bad_port(error), port, "a bad port");
+    same::is(rt, is_scp(error), scp, "an scp form");
+    same::holds(rt, !is_passing(error), "it will be refused again");
 }
 
 #[test]
 fn refusals_are_told_apart(rt: HostRuntime) -> Result<(), Fail> {
     for &(text, port, scp) in REFUSED.as_slice() {
         match &Url::from_text(rt.alloc(), text) {
-            Ok(_) => assert!(rt; false, "{text} is read"),
+            Ok(_) => same::holds(&rt, false, text),
             Err(error) => tells(&rt, error, port, scp),
         }
     }
@@ -98,25 +99,25 @@ fn what_has_no_text_is_told(rt: HostRuntime) -> Result<(), Fail> {
     let mut url = read(rt.alloc(), "https://u@h/p")?;
     url.host = None;
     match &url.write_to(&mut out) {
-        Ok(()) => assert!(rt; false, "it is written"),
-        Err(error) => assert!(rt; lacks_host(error)),
+        Ok(()) => same::holds(&rt, false, "it has no text"),
+        Err(error) => same::holds(&rt, lacks_host(error), "it lacks a host"),
     }
     Ok(())
 }
 
 #[test]
 fn variants_are_told_apart(rt: HostRuntime) {
-    assert!(rt; is_encrypted(&Scheme::Ssh));
-    assert!(rt; !is_encrypted(&Scheme::Http));
-    assert!(rt; is_current(&ForUser::Current));
-    assert_eq!(rt; ended(&rt, &Ok(false)), 1);
+    same::holds(&rt, is_encrypted(&Scheme::Ssh), "ssh is encrypted");
+    same::holds(&rt, !is_encrypted(&Scheme::Http), "http isn't");
+    same::holds(&rt, is_current(&ForUser::Current), "the current user");
+    same::holds(&rt, ended(&rt, &Ok(false)) == 1, "the status");
 }
 
 #[test]
 fn ports_are_named(rt: HostRuntime) -> Result<(), Fail> {
     for (text, is) in [("ssh://h:22/p", true), ("h:22/p", false)] {
         let url = read(rt.alloc(), text)?;
-        assert_eq!(rt; names_port(&url), is);
+        same::is(&rt, names_port(&url), is, text);
     }
     Ok(())
 }
@@ -126,7 +127,7 @@ fn keeps(rt: &impl Abort, alloc: Global, parts: &PathComponents<'_>) -> Result<(
     let pairs = parts.query.as_ref().ok_or("a query")?;
     let (name, _) = pairs.first().ok_or("a field")?;
     let copy = kept(alloc, name)?;
-    assert!(rt; copy == *name);
+    same::holds(rt, copy == *name, "the copy of a name");
     Ok(())
 }
 
@@ -135,6 +136,6 @@ fn components_are_copied(rt: HostRuntime) -> Result<(), Fail> {
     let url = read(rt.alloc(), "http://h/?a+b=c")?;
     let parts = boxed(rt.alloc(), url.path_query_fragment(rt.alloc())?)?;
     let copy = boxed(rt.alloc(), both(rt.alloc(), &parts)?)?;
-    assert!(rt; copy == parts);
+    same::holds(&rt, copy == parts, "the copy of all");
     keeps(&rt, rt.alloc(), &parts)
 }

@@ -1,5 +1,6 @@
 //! Examples of bytes read, and of locations written.
 
+use crate::same;
 use bstr::{BStr, BString};
 use gix_url::lines::{self, RunError};
 use gix_url::parse::parse;
@@ -88,7 +89,7 @@ fn without_host(path: BString) -> Url {
 #[test]
 fn bytes_are_told_apart(rt: HostRuntime) -> Result<(), Fail> {
     for (bytes, is) in [(b"h:p".as_slice(), true), (b"h:".as_slice(), false)] {
-        assert_eq!(rt; is_location(rt.alloc(), bytes)?, is);
+        same::is(&rt, is_location(rt.alloc(), bytes)?, is, "a location");
     }
     Ok(())
 }
@@ -96,14 +97,14 @@ fn bytes_are_told_apart(rt: HostRuntime) -> Result<(), Fail> {
 #[test]
 fn bytes_are_read(rt: HostRuntime) -> Result<(), Fail> {
     let url = boxed(rt.alloc(), of_line(rt.alloc(), b"/srv/repo")?)?;
-    assert_eq!(rt; url.scheme.as_str(), "file");
+    same::text(&rt, url.scheme.as_str(), "file");
     Ok(())
 }
 
 #[test]
 fn ports_are_read(rt: HostRuntime) -> Result<(), Fail> {
     for (text, port) in [("ssh://h:22/p", Some(22)), ("h:22/p", None)] {
-        assert_eq!(rt; port_of(rt.alloc(), text)?, port);
+        same::holds(&rt, port_of(rt.alloc(), text)? == port, text);
     }
     Ok(())
 }
@@ -111,7 +112,7 @@ fn ports_are_read(rt: HostRuntime) -> Result<(), Fail> {
 #[test]
 fn a_text_is_written_anew(rt: HostRuntime) -> Result<(), Fail> {
     let text = rewritten(rt.alloc(), "ssh://H:/p")?;
-    assert_eq!(rt; text.as_bytes(), b"ssh://h/p".as_slice());
+    same::bytes(&rt, text.as_bytes(), b"ssh://h/p");
     Ok(())
 }
 
@@ -120,23 +121,23 @@ fn locations_are_written(rt: HostRuntime) -> Result<(), Fail> {
     let mut out = Vec::new(rt.alloc());
     let url = read(rt.alloc(), "https://host/my%20repo")?;
     append(&mut out, &url)?;
-    assert_eq!(rt; out.as_slice(), b"https://host/my%20repo".as_slice());
+    same::bytes(&rt, out.as_slice(), b"https://host/my%20repo");
     Ok(())
 }
 
 #[test]
 fn locations_are_measured(rt: HostRuntime) -> Result<(), Fail> {
     let url = read(rt.alloc(), "https://host/my%20repo")?;
-    assert!(rt; fits(&url, 22));
-    assert!(rt; !fits(&url, 21));
-    assert_eq!(rt; spelled(&url).as_bytes(), b"/my%20repo".as_slice());
+    same::holds(&rt, fits(&url, 22), "it fits");
+    same::holds(&rt, !fits(&url, 21), "it is too long");
+    same::bytes(&rt, spelled(&url).as_bytes(), b"/my%20repo");
     Ok(())
 }
 
 /// Checks whether there is a text to store for a location.
 fn is_stored(rt: &impl Abort, alloc: Global, url: &Url, stored: bool) -> Result<(), Fail> {
     let text = to_store(alloc, url)?;
-    assert_eq!(rt; text.is_some(), stored);
+    same::is(rt, text.is_some(), stored, "it is stored");
     Ok(())
 }
 
@@ -154,12 +155,12 @@ fn what_git_reads_alike_is_handed_on(rt: HostRuntime) -> Result<(), Fail> {
     let alloc = rt.alloc();
     for text in ["ssh://u:p@h/p", "https://h/p", "ssh://[::1]:22/p"] {
         let url = read(alloc, text)?;
-        assert!(rt; for_git(alloc, &url)?.is_none(), "{text}");
+        same::holds(&rt, for_git(alloc, &url)?.is_none(), text);
     }
     let url = read(alloc, "ssh://@h/p")?;
     match for_git(alloc, &url)? {
-        None => assert!(rt; false),
-        Some(written) => assert_eq!(rt; written.as_bytes(), b"ssh://h/p".as_slice()),
+        None => same::holds(&rt, false, "it is written anew"),
+        Some(written) => same::bytes(&rt, written.as_bytes(), b"ssh://h/p"),
     }
     Ok(())
 }
@@ -175,7 +176,7 @@ fn what_has_no_host_is_not_stored(rt: HostRuntime) -> Result<(), Fail> {
 fn people_are_shown_no_password(rt: HostRuntime) -> Result<(), Fail> {
     let url = read(rt.alloc(), "ssh://u:secret@h/p")?;
     let line = log_line(rt.alloc(), &url)?;
-    assert_eq!(rt; line.as_str(), "fetching ssh://u:redacted@h/p");
+    same::text(&rt, line.as_str(), "fetching ssh://u:redacted@h/p");
     Ok(())
 }
 
@@ -183,6 +184,6 @@ fn people_are_shown_no_password(rt: HostRuntime) -> Result<(), Fail> {
 fn lines_are_answered(rt: HostRuntime) -> Result<(), Fail> {
     let answered = answers(rt.alloc(), b"/a\nssh+git:///p\n\n")?;
     let wanted = b"settled\t/a\nunsettled\tssh\nrefused\tEmptyLocal\n";
-    assert_eq!(rt; answered.as_slice(), wanted.as_slice());
+    same::bytes(&rt, answered.as_slice(), wanted);
     Ok(())
 }

@@ -44,21 +44,29 @@ impl Reread {
             return Ok(None);
         }
         match url.reread(alloc) {
-            Ok(other) => {
-                let difference = first_difference(alloc, url, &other)?;
-                Ok(Some(Reread {
-                    words: words(alloc, &difference)?,
-                    difference,
-                    refusal: None,
-                }))
-            }
+            Ok(other) => Ok(Some(Reread::another(alloc, url, &other)?)),
             Err(Error::Memory) => Err(AllocError),
-            Err(error) => Ok(Some(Reread {
-                difference: None,
-                refusal: Some(Refusal::of(alloc, &error)?),
-                words: format!(in alloc; "its own text is refused: {error}")?,
-            })),
+            Err(error) => Ok(Some(Reread::refused(alloc, &error)?)),
         }
+    }
+
+    /// What is told where the text is read as this location.
+    fn another(alloc: Global, url: &Url, other: &Url) -> Result<Reread, AllocError> {
+        let difference = first_difference(alloc, url, other)?;
+        Ok(Reread {
+            words: words(alloc, &difference)?,
+            difference,
+            refusal: None,
+        })
+    }
+
+    /// What is told where the text is refused so.
+    fn refused(alloc: Global, error: &Error) -> Result<Reread, AllocError> {
+        Ok(Reread {
+            difference: None,
+            refusal: Some(Refusal::of(alloc, error)?),
+            words: format!(in alloc; "its own text is refused: {error}")?,
+        })
     }
 }
 

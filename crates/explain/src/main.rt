@@ -121,18 +121,28 @@ fn told_location(
     layout: Layout,
 ) -> Result<(String, bool), AllocError> {
     let told = Told::of(alloc, url)?;
-    let answer = match layout {
-        Layout::People => shown::location(alloc, number, url, &told)?,
+    Ok((laid_out(alloc, number, url, &told, layout)?, told.settled))
+}
+
+/// The answer to a line that is read as a location.
+fn laid_out(
+    alloc: Global,
+    number: u64,
+    url: &Url,
+    told: &Told<'_>,
+    layout: Layout,
+) -> Result<String, AllocError> {
+    match layout {
+        Layout::People => shown::location(alloc, number, url, told),
         Layout::Json => json(
             alloc,
             &Answer {
                 line: number,
-                location: Some(&told),
+                location: Some(told),
                 refusal: None,
             },
-        )?,
-    };
-    Ok((answer, told.settled))
+        ),
+    }
 }
 
 /// What is told of a line that is refused.

@@ -33,11 +33,6 @@ fn is_refused(read: &Result<Url, Error>) -> bool {
     }
 }
 
-/// Checks that a location with this spelling is unsettled.
-fn is_unsettled(rt: &impl Abort, url: &Url, spelling: &str) {
-    assert!(rt; !url.is_settled(), "{spelling}");
-}
-
 /// Checks what the path of a location is made of, and that the location is unsettled.
 fn is_broken(
     rt: &impl Abort,
@@ -47,7 +42,7 @@ fn is_broken(
     want: &str,
 ) -> Result<(), Fail> {
     let url = spelled(alloc, path.as_bytes(), spelling.as_bytes())?;
-    is_unsettled(rt, &url, spelling);
+    same::holds(rt, !url.is_settled(), spelling);
     is_made_of(rt, alloc, &url, want)
 }
 
@@ -70,18 +65,13 @@ fn broken_escapes_are_bytes(rt: HostRuntime) -> Result<(), Fail> {
 /// Checks how a location is written, and that its text is refused.
 fn is_not_read_again(rt: &impl Abort, alloc: Global, url: &Url, text: &[u8]) -> Result<(), Fail> {
     same::bytes(rt, url.to_bstring(alloc)?.as_bytes(), text);
-    has_a_bad_character(rt, &url.reread(alloc));
+    same::holds(rt, is_refused(&url.reread(alloc)), "a bad character");
     Ok(())
-}
-
-/// Checks that a character was refused.
-fn has_a_bad_character(rt: &impl Abort, read: &Result<Url, Error>) {
-    assert!(rt; is_refused(read));
 }
 
 #[test]
 fn a_broken_spelling_is_written_and_refused(rt: HostRuntime) -> Result<(), Fail> {
     let url = spelled(rt.alloc(), b"/a%2?b", b"/a%2%3Fb")?;
-    is_unsettled(&rt, &url, "/a%2%3Fb");
+    same::holds(&rt, !url.is_settled(), "it is unsettled");
     is_not_read_again(&rt, rt.alloc(), &url, b"https://h/a%2%3Fb")
 }

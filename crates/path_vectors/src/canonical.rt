@@ -45,13 +45,8 @@ fn in_a_copy(
         }
         given
     });
-    is_asked_for_nothing_else(rt, strangers);
+    same::calls(rt, strangers, 0, "for another path");
     Ok((outcome, calls))
-}
-
-/// Checks that the resolver was never asked for another path.
-fn is_asked_for_nothing_else(rt: &impl Abort, strangers: u8) {
-    assert_eq!(rt; strangers, 0, "the resolver is asked for another path");
 }
 
 /// What becomes of a location: it takes the answer, or stays for this error.
@@ -98,19 +93,14 @@ fn canonicalize(
 ) -> Result<(), Fail> {
     let copied = in_a_copy(rt, alloc, url, answer)?;
     let told = in_place(alloc, url, answer)?;
-    are_alike(rt, url, &copied.0, told.0);
+    same::holds(rt, agree(&copied.0, told.0, url), "the copy is alike");
     are_wanted(rt, told, copied.1, wanted);
     Ok(())
 }
 
-/// Checks that this outcome in place is that of the copy.
-fn are_alike(rt: &impl Abort, url: &Url, copy: &Result<Url, Error>, outcome: &str) {
-    assert!(rt; agree(copy, outcome, url), "the copy differs");
-}
-
 /// Checks the outcome in place, and how often the resolver was called for it and for the copy.
 fn are_wanted(rt: &impl Abort, told: (&str, u8), copied: u8, wanted: (&str, u8)) {
-    assert_eq!(rt; told.0, wanted.0);
+    same::text(rt, told.0, wanted.0);
     same::calls(rt, told.1, wanted.1, "in place");
     same::calls(rt, copied, wanted.1, "for the copy");
 }
@@ -162,7 +152,11 @@ fn is_asked_for(url: &mut Url, path: &str) -> bool {
 #[test]
 fn what_the_resolver_is_asked(rt: HostRuntime) -> Result<(), Fail> {
     let mut url = read(rt.alloc(), "file:///a%20b")?;
-    assert!(&rt; is_asked_for(&mut url, "/a%20b"), "the path as it stands");
+    same::holds(
+        &rt,
+        is_asked_for(&mut url, "/a%20b"),
+        "the path as it stands",
+    );
     Ok(())
 }
 
@@ -203,13 +197,8 @@ fn stays(rt: &impl Abort, alloc: Global, text: &str) -> Result<(), Fail> {
 
 /// Checks that a location is what the text is read as.
 fn is_unchanged(rt: &impl Abort, alloc: Global, url: &Url, text: &str) -> Result<(), Fail> {
-    is_the_same(rt, url, &*read(alloc, text)?, text);
+    same::holds(rt, *url == *read(alloc, text)?, text);
     Ok(())
-}
-
-/// Checks that a location is what this text was read as.
-fn is_the_same(rt: &impl Abort, url: &Url, read: &Url, text: &str) {
-    assert!(rt; url == read, "{text} changes");
 }
 
 #[test]
@@ -250,6 +239,7 @@ fn the_root_of_the_file_system(rt: HostRuntime) -> Result<(), Fail> {
 #[test]
 fn what_the_file_system_lacks(rt: HostRuntime) -> Result<(), Fail> {
     let mut url = read(rt.alloc(), "/no such folder/at all")?;
-    assert!(&rt; matches!(&resolve(&rt, &mut url), Err(Error::Unresolved)));
+    let is_told = matches!(&resolve(&rt, &mut url), Err(Error::Unresolved));
+    same::holds(&rt, is_told, "nothing is there");
     Ok(())
 }

@@ -173,13 +173,8 @@ fn are_copied(
     want: &str,
 ) -> Result<(), Fail> {
     let copy = boxed(alloc, parts.clone(alloc)?)?;
-    is_equal(rt, &copy, parts);
+    same::holds(rt, *copy == *parts, want);
     is_told(rt, alloc, &copy, want)
-}
-
-/// Checks that a copy of a path's parts is equal to them.
-fn is_equal(rt: &impl Abort, copy: &PathComponents<'_>, parts: &PathComponents<'_>) {
-    assert!(rt; *copy == *parts);
 }
 
 #[test]
@@ -209,7 +204,7 @@ fn are_equal(
     equal: bool,
 ) -> Result<(), Fail> {
     let is_equal = reads_parts(alloc, text, parts)?;
-    assert_eq!(rt; is_equal, equal, "{text}");
+    same::is(rt, is_equal, equal, text);
     Ok(())
 }
 
@@ -244,17 +239,12 @@ fn equality_counts_bytes(rt: HostRuntime) -> Result<(), Fail> {
     equal_as_they_should(&rt, rt.alloc(), &parts)
 }
 
-/// Checks what the path of this number is made of.
-fn is_told_plainly(rt: &impl Abort, told: &[u8], want: &[u8], turn: u64) {
-    assert_eq!(rt; told, want, "path {turn}");
-}
-
 /// Checks what the path of a location is made of, by the second reading. It says whether the path has a spelling.
-fn is_read_plainly(rt: &impl Abort, alloc: Global, url: &Url, turn: u64) -> Result<bool, Fail> {
+fn is_read_plainly(rt: &impl Abort, alloc: Global, url: &Url) -> Result<bool, Fail> {
     let original = url.original_path().as_bytes();
     let is_spelled = original != url.path.as_bytes();
     let want = plainly_told(alloc, original, is_spelled)?;
-    is_told_plainly(rt, told_of(alloc, url)?.as_slice(), want.as_slice(), turn);
+    same::bytes(rt, told_of(alloc, url)?.as_slice(), want.as_slice());
     Ok(is_spelled)
 }
 
@@ -263,19 +253,16 @@ fn random_paths_read_plainly(rt: HostRuntime) -> Result<(), Fail> {
     let mut spelled = 0usize;
     for turn in 0..500u64 {
         let url = random_url(rt.alloc(), turn)?;
-        let is_spelled = is_read_plainly(&rt, rt.alloc(), &url, turn)?;
+        let is_spelled = is_read_plainly(&rt, rt.alloc(), &url)?;
         spelled = spelled.saturating_add(usize::from(is_spelled));
     }
-    is_enough(&rt, spelled);
-    Ok(())
-}
-
-/// Checks that enough paths have a spelling, and enough have none.
-fn is_enough(rt: &impl Abort, spelled: usize) {
-    assert!(rt;
-        100 < spelled && spelled < 400,
-        "{spelled} of 500 have a spelling"
+    let is_enough = 100 < spelled && spelled < 400;
+    same::holds(
+        &rt,
+        is_enough,
+        "enough paths have a spelling, and enough have none",
     );
+    Ok(())
 }
 
 /// What a URL of HTTP with this path is read as, if it is one.

@@ -33,7 +33,7 @@ fn in_home(alloc: Global, user: Option<&ForUser>, path: BStr<'_>) -> Result<Stri
 /// Checks where a path lies.
 fn lies_at(rt: &impl Abort, outcome: &Result<String, Error>, whole: &str) {
     match outcome {
-        Ok(found) => assert_eq!(rt; found.as_str(), whole),
+        Ok(found) => same::text(rt, found.as_str(), whole),
         Err(error) => assert!(rt; false, "{whole}: {error}"),
     }
 }
@@ -67,18 +67,13 @@ fn with_home(
         }
         home
     });
-    is_asked_for_nobody_else(rt, strangers);
+    same::calls(rt, strangers, 0, "for another user");
     Ok((outcome, calls))
-}
-
-/// Checks that the closure was never asked for another user.
-fn is_asked_for_nobody_else(rt: &impl Abort, strangers: u8) {
-    assert_eq!(rt; strangers, 0, "the closure is asked for another user");
 }
 
 /// Checks that no home folder is known for this user beside this one.
 fn has_none(rt: &impl Abort, outcome: &Result<String, Error>, user: &ForUser, home: &str) {
-    assert!(rt; is_unknown(outcome, user), "a home is known beside {home}");
+    same::holds(rt, is_unknown(outcome, user), home);
 }
 
 /// Checks where a path lies below a home folder, and how often that is asked for.
@@ -132,10 +127,8 @@ fn users_without_a_home(rt: HostRuntime) -> Result<(), Fail> {
 
 /// Checks that the path was no text.
 fn is_not_utf8(rt: &impl Abort, outcome: &Result<String, Error>) {
-    assert!(rt;
-        matches!(outcome, Err(Error::PathNotUtf8)),
-        "the path is no text"
-    );
+    let is_told = matches!(outcome, Err(Error::PathNotUtf8));
+    same::holds(rt, is_told, "the path is no text");
 }
 
 /// Checks that a path that is no text is refused, and no home folder is asked for.
@@ -257,7 +250,7 @@ fn lies_in(
 ) -> Result<(), Fail> {
     match home {
         Some(home) => lies_below(rt, alloc, outcome, home)?,
-        None => assert!(rt; outcome.is_err(), "no home is known"),
+        None => same::holds(rt, outcome.is_err(), "no home is known"),
     }
     Ok(())
 }

@@ -4,6 +4,7 @@
 //! plainly, and the answers compared.
 
 use crate::plain_homes::{Paths, expanded, name, rest, shell_path};
+use crate::same;
 use bstr::{BStr, BString};
 use gix_url::Error;
 use gix_url::expand_path::{self, ForUser, for_shell};
@@ -43,19 +44,9 @@ fn splits_into(
     rest: &[u8],
 ) -> Result<(), Fail> {
     let (user, left) = expand_path::parse(alloc, BStr::new(path))?;
-    is_split(rt, BStr::new(path), &user, name);
-    is_left(rt, BStr::new(path), left.as_bytes(), rest);
+    same::holds_of(rt, is_told(&user, name), BStr::new(path));
+    same::bytes_of(rt, left.as_bytes(), rest, BStr::new(path));
     Ok(())
-}
-
-/// Checks the name of the user in whose home folder this path begins.
-fn is_split(rt: &impl Abort, path: BStr<'_>, user: &Option<ForUser>, name: Option<&[u8]>) {
-    assert!(rt; is_told(user, name), "the user of {path}");
-}
-
-/// Checks what is left of this path.
-fn is_left(rt: &impl Abort, path: BStr<'_>, left: &[u8], rest: &[u8]) {
-    assert_eq!(rt; left, rest, "what is left of {path}");
 }
 
 /// Paths, the name of the user in whose home folder they begin (empty for the current one), and what is left.
@@ -83,13 +74,8 @@ fn splits(rt: HostRuntime) -> Result<(), Fail> {
 /// Checks the text that a shell takes for a path.
 fn goes_to_a_shell(rt: &impl Abort, alloc: Global, path: &[u8], text: &[u8]) -> Result<(), Fail> {
     let answer = for_shell(alloc, BString::from_slice(alloc, path)?)?;
-    is_for_a_shell(rt, BStr::new(path), answer.as_bytes(), text);
+    same::bytes_of(rt, answer.as_bytes(), text, BStr::new(path));
     Ok(())
-}
-
-/// Checks the text that a shell takes for this path.
-fn is_for_a_shell(rt: &impl Abort, path: BStr<'_>, answer: &[u8], text: &[u8]) {
-    assert_eq!(rt; answer, text, "the text for {path}");
 }
 
 /// Paths, and what a shell takes for them.
@@ -112,11 +98,9 @@ fn paths_for_a_shell(rt: HostRuntime) -> Result<(), Fail> {
 
 #[test]
 fn the_example_of_a_split(rt: HostRuntime) -> Result<(), Fail> {
-    assert!(&rt;
-        is_own(rt.alloc(), BStr::from("/~/r"))?,
-        "the current user's"
-    );
-    assert!(&rt; !is_own(rt.alloc(), BStr::from("/~bob/r"))?, "another's");
+    let (own, other) = (BStr::from("/~/r"), BStr::from("/~bob/r"));
+    same::holds_of(&rt, is_own(rt.alloc(), own)?, own);
+    same::holds_of(&rt, !is_own(rt.alloc(), other)?, other);
     Ok(())
 }
 
@@ -154,14 +138,9 @@ fn lies_plainly(
     (left, home): (BStr<'_>, &str),
 ) {
     match (outcome, whole) {
-        (Ok(found), Some(whole)) => is_below(rt, found.as_bytes(), whole, home),
-        (found, whole) => assert_eq!(rt; found.is_ok(), whole.is_some(), "{left} and {home}"),
+        (Ok(found), Some(whole)) => same::bytes_of(rt, found.as_bytes(), whole, left),
+        (found, whole) => same::is(rt, found.is_ok(), whole.is_some(), home),
     }
-}
-
-/// Checks where a path lies below this home folder.
-fn is_below(rt: &impl Abort, found: &[u8], whole: &[u8], home: &str) {
-    assert_eq!(rt; found, whole, "{home}");
 }
 
 /// Checks what is made of a path, and where it lies below a home folder, by the second reading.

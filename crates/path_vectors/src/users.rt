@@ -1,5 +1,6 @@
 //! Users of home folders: how they compare, and copies of them.
 
+use crate::same;
 use bstr::BString;
 use gix_url::expand_path::ForUser;
 use std::alloc::Global;
@@ -30,16 +31,10 @@ fn are_in_order(one: (usize, &ForUser), other: (usize, &ForUser)) -> bool {
     one.1.cmp(other.1) == one.0.cmp(&other.0) && (one.1 == other.1) == (one.0 == other.0)
 }
 
-/// Checks how two users compare, by their places.
-fn compare(rt: &impl Abort, one: (usize, &ForUser), other: (usize, &ForUser)) {
-    let (i, j) = (one.0, other.0);
-    assert!(rt; are_in_order(one, other), "users {i} and {j}");
-}
-
 /// Checks how a user at this place compares to all of them.
 fn compare_to_all(rt: &impl Abort, one: (usize, &ForUser), users: &[ForUser]) {
     for other in users.iter().enumerate() {
-        compare(rt, one, other);
+        same::holds(rt, are_in_order(one, other), "the order of two users");
     }
 }
 
@@ -54,39 +49,33 @@ fn users_compare(rt: HostRuntime) -> Result<(), Fail> {
 
 #[test]
 fn the_current_user_compares(rt: HostRuntime) {
-    assert_eq!(&rt;
-        ForUser::Current.partial_cmp(&ForUser::Current),
-        Some(Ordering::Equal)
-    );
+    let order = ForUser::Current.partial_cmp(&ForUser::Current);
+    same::holds(&rt, order == Some(Ordering::Equal), "the current user");
 }
 
 /// Checks that a copy of a user is found in a set by the user.
 fn is_found(rt: &impl Abort, alloc: Global, user: &ForUser) -> Result<(), Fail> {
     let mut set: HashSet<ForUser> = HashSet::new(alloc);
     set.insert(user.clone(alloc)?)?;
-    assert!(rt; set.contains(user), "a copy in a set");
+    same::holds(rt, set.contains(user), "a copy in a set");
     Ok(())
 }
 
 /// Checks that a copy of a user is the user, and has a name unless it is the current one.
 fn copies(rt: &impl Abort, alloc: Global, user: &ForUser) -> Result<(), Fail> {
     let copy = user.clone(alloc)?;
-    is_copied(rt, &copy, user);
+    same::holds(rt, copy == *user, "a copy");
     is_named(rt, user, &copy.into());
     Ok(())
 }
 
-/// Checks that a copy of a user is the user.
-fn is_copied(rt: &impl Abort, copy: &ForUser, user: &ForUser) {
-    assert!(rt; copy == user, "a copy");
-}
-
 /// Checks that a copy of a user has a name unless the user is the current one.
 fn is_named(rt: &impl Abort, user: &ForUser, name: &Option<BString>) {
-    assert_eq!(rt;
+    same::is(
+        rt,
         name.is_none(),
         *user == ForUser::Current,
-        "the name of a copy"
+        "the name of a copy",
     );
 }
 

@@ -1,6 +1,7 @@
 //! Records that are refused, and the part that the refusal names; and parts that a record may do without.
 
 use crate::json::{PARTS, with, with_more, without};
+use crate::same;
 use gix_url::stored::StoredUrl;
 use std::alloc::Global;
 use std::process::Abort;
@@ -76,8 +77,8 @@ fn is_missed(rt: &impl Abort, alloc: Global, record: &str, name: &str) -> Result
     let needed = matches!(name, "scheme" | "serialize_alternative_form" | "path");
     let named = names(alloc, record, "missing", name)?;
     let refused = refuses(alloc, record)?;
-    assert_eq!(rt; named, needed, "{record}");
-    assert_eq!(rt; refused, needed, "{record}");
+    same::is(rt, named, needed, record);
+    same::is(rt, refused, needed, record);
     Ok(())
 }
 
@@ -93,7 +94,7 @@ fn a_part_that_is_needed_is_missed_by_name(rt: HostRuntime) -> Result<(), Fail> 
 /// Checks that a record with this part twice is refused, and the part is named.
 fn comes_twice(rt: &impl Abort, alloc: Global, record: &str, name: &str) -> Result<(), Fail> {
     let named = names(alloc, record, "duplicate", name)?;
-    assert!(rt; named, "{record}");
+    same::holds(rt, named, record);
     Ok(())
 }
 
@@ -113,15 +114,10 @@ fn is_within(rt: &impl Abort, record: &str, member: &str, words: &str, column: u
     assert!(rt; column - start <= member.len() + 1, "{record}: {words}");
 }
 
-/// Tells the record that is read, which should be refused.
-fn is_not_read(rt: &impl Abort, record: &str) {
-    assert!(rt; false, "{record} is read");
-}
-
 /// Checks that a record is refused where this member of it stands.
 fn is_refused_at(rt: &impl Abort, alloc: Global, record: &str, member: &str) -> Result<(), Fail> {
     match &refusal(alloc, record)? {
-        None => is_not_read(rt, record),
+        None => same::holds(rt, false, record),
         Some((words, column)) => is_within(rt, record, member, words.as_str(), *column),
     }
     Ok(())
@@ -140,14 +136,14 @@ fn a_part_of_another_type_is_refused_at_its_place(rt: HostRuntime) -> Result<(),
 /// Checks that a text is refused.
 fn is_no_record(rt: &impl Abort, alloc: Global, text: &str) -> Result<(), Fail> {
     let refused = refuses(alloc, text)?;
-    assert!(rt; refused, "{text}");
+    same::holds(rt, refused, text);
     Ok(())
 }
 
 /// Checks that a record is read, and at no length where it is cut short.
 fn is_read_as_a_whole(rt: &impl Abort, alloc: Global, whole: &str) -> Result<(), Fail> {
     let refused = refuses(alloc, whole)?;
-    assert!(rt; !refused);
+    same::holds(rt, !refused, whole);
     for len in 0..whole.len() {
         if let Some(front) = whole.get(..len) {
             is_no_record(rt, alloc, front)?;
@@ -180,8 +176,8 @@ fn what_is_no_record_is_refused(rt: HostRuntime) -> Result<(), Fail> {
 
 /// Checks the scheme and the port of a record.
 fn is_of_https(rt: &impl Abort, stored: &StoredUrl) {
-    assert_eq!(rt; stored.scheme.as_str(), "https");
-    assert_eq!(rt; stored.port, Some(8080));
+    same::text(rt, stored.scheme.as_str(), "https");
+    same::holds(rt, stored.port == Some(8080), "the port");
 }
 
 /// What this record is read as.

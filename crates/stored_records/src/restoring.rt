@@ -69,12 +69,9 @@ type Spelled = (&'static [u8], &'static [u8]);
 
 /// Checks the path and the spelling that are stored of this record.
 fn has_spelling(rt: &impl Abort, stored: &StoredUrl, want: Spelled, record: &str) {
-    assert_eq!(rt; stored.path.as_slice(), want.0, "{record}");
-    assert_eq!(rt;
-        stored.path_with_percent_escapes.as_deref(),
-        Some(want.1),
-        "{record}"
-    );
+    let spelling = stored.path_with_percent_escapes.as_deref();
+    same::bytes(rt, stored.path.as_slice(), want.0);
+    same::holds(rt, spelling == Some(want.1), record);
 }
 
 /// Checks the path and the spelling that are stored of what was stored of this record.
@@ -118,11 +115,6 @@ fn is_written(rt: &impl Abort, alloc: Global, url: &Url, text: &str) -> Result<(
     Ok(())
 }
 
-/// Checks that a location is unsettled.
-fn is_unsettled(rt: &impl Abort, url: &Url) {
-    assert!(rt; !url.is_settled());
-}
-
 /// What the text of a location is read as.
 fn read_again(alloc: Global, url: &Url) -> Result<Box<Url>, Fail> {
     let text = url.to_bstring(alloc)?;
@@ -132,7 +124,7 @@ fn read_again(alloc: Global, url: &Url) -> Result<Box<Url>, Fail> {
 /// Checks a location with a spelling that no text is read with, once it has come to stand for the path.
 fn is_spelled_oddly(rt: &impl Abort, alloc: Global, url: &Url) -> Result<(), Fail> {
     is_written(rt, alloc, url, "https://h/a<b")?;
-    is_unsettled(rt, url);
+    same::holds(rt, !url.is_settled(), "it is unsettled");
     is_written(rt, alloc, &*read_again(alloc, url)?, "https://h/a%3Cb")
 }
 
@@ -150,12 +142,17 @@ fn the_spelling_is_written(rt: HostRuntime) -> Result<(), Fail> {
 /// Checks all parts of a location, of which the scheme is this one.
 fn has_all_parts(rt: &impl Abort, url: &Url, scheme: &str) {
     same::text(rt, url.scheme.as_str(), scheme);
-    same::some(rt, url.user.as_deref(), "u");
-    same::some(rt, url.password.as_deref(), "secret");
-    same::some(rt, url.host.as_deref(), "h");
-    assert_eq!(rt; matches!(&url.scheme, Scheme::Helper(_)), scheme == "a");
-    assert_eq!(rt; url.port, Some(8080));
-    assert!(rt; !url.serialize_alternative_form);
+    same::optional(rt, url.user.as_deref(), Some("u"));
+    same::optional(rt, url.password.as_deref(), Some("secret"));
+    same::optional(rt, url.host.as_deref(), Some("h"));
+    same::is(
+        rt,
+        matches!(&url.scheme, Scheme::Helper(_)),
+        scheme == "a",
+        "a helper",
+    );
+    same::holds(rt, url.port == Some(8080), "the port");
+    same::holds(rt, !url.serialize_alternative_form, "the flag");
 }
 
 /// Checks the record that is stored of a location.
@@ -222,7 +219,7 @@ static EXAMPLE: &str =
 /// Checks that a record is read as the location of the examples.
 fn is_back(rt: &impl Abort, alloc: Global, back: &Option<Url>) -> Result<(), Fail> {
     match back {
-        None => assert!(rt; false, "the record is read"),
+        None => same::holds(rt, false, "the record is read"),
         Some(back) => is_written(rt, alloc, back, "https://h/a%2Fb")?,
     }
     Ok(())
@@ -230,7 +227,7 @@ fn is_back(rt: &impl Abort, alloc: Global, back: &Option<Url>) -> Result<(), Fai
 
 /// Checks the record that the first example answers, and what the second one makes of it.
 fn work(rt: &impl Abort, alloc: Global, json: Option<&str>) -> Result<(), Fail> {
-    same::some(rt, json, EXAMPLE);
+    same::optional(rt, json, Some(EXAMPLE));
     is_back(rt, alloc, &url_of(alloc, json.unwrap_or("")))
 }
 

@@ -1,4 +1,5 @@
-//! Comparisons for tests that own values: what is compared comes by reference.
+//! What tests compare, by reference: a test that asserts by itself, and owns what it asserts of, takes the prover
+//! several times as long.
 
 use std::process::Abort;
 
@@ -12,7 +13,17 @@ pub fn text(rt: &impl Abort, found: &str, want: &str) {
     assert_eq!(rt; found, want);
 }
 
-/// Checks that there is this text.
-pub fn some(rt: &impl Abort, found: Option<&str>, want: &str) {
-    assert_eq!(rt; found, Some(want));
+/// Checks that there is this text, or none.
+pub fn optional(rt: &impl Abort, found: Option<&str>, want: Option<&str>) {
+    assert_eq!(rt; found, want);
+}
+
+/// Checks whether it is so.
+pub fn is(rt: &impl Abort, found: bool, want: bool, words: &str) {
+    assert_eq!(rt; found, want, "{words}");
+}
+
+/// Checks that it is so.
+pub fn holds(rt: &impl Abort, found: bool, words: &str) {
+    assert!(rt; found, "{words}");
 }

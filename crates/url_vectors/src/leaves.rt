@@ -1,6 +1,8 @@
 //! Hosts, ports and escapes, each in the place of a text where it is read or written.
 
 use crate::rows::{has_no_host, is_written_as};
+use crate::same;
+use bstr::BStr;
 use gix_url::{Error, Url, UrlFault};
 use std::alloc::Global;
 use std::process::Abort;
@@ -72,13 +74,13 @@ impl Place {
 
 /// Checks the host and the port of what was read with this piece.
 fn is_at(rt: &impl Abort, url: &Url, piece: &str, (host, port): (&str, Option<u16>)) {
-    assert_eq!(rt; url.host.as_deref(), Some(host), "the host of {piece}");
-    assert_eq!(rt; url.port, port, "the port of {piece}");
+    same::optional(rt, url.host.as_deref(), Some(host));
+    same::holds(rt, url.port == port, piece);
 }
 
 /// Checks the fault that the text with this piece is refused with.
 fn has_fault(rt: &impl Abort, outcome: &Result<Url, Error>, piece: &str, fault: UrlFault) {
-    assert_eq!(rt; fault_of(outcome), Some(fault), "the fault of {piece}");
+    same::holds(rt, fault_of(outcome) == Some(fault), piece);
 }
 
 /// The fault that a text is refused with, if it is a fault of URLs.
@@ -240,7 +242,7 @@ static READ: [(&str, &str); 6] = [
 
 /// Checks the path of what this text was read as.
 fn has_path(rt: &impl Abort, url: &Url, text: &str, path: &str) {
-    assert_eq!(rt; url.path.as_bytes(), path.as_bytes(), "the path of {text}");
+    same::bytes_of(rt, url.path.as_bytes(), path.as_bytes(), BStr::from(text));
 }
 
 #[test]

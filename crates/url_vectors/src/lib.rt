@@ -32,4 +32,6 @@ mod rows;
 #[cfg(test)]
 mod runs;
 #[cfg(test)]
+mod same;
+#[cfg(test)]
 mod values;

@@ -1,6 +1,7 @@
 //! Texts near the limits of length.
 
 use crate::rows::{has_no_host, refuses};
+use crate::same;
 use gix_url::Url;
 use std::alloc::Global;
 use std::process::Abort;
@@ -37,8 +38,8 @@ fn read(alloc: Global, pieces: &[(&str, usize)]) -> Result<Box<Url>, Fail> {
 
 /// Checks the length of a location's text, and whether it is settled.
 fn has_length(rt: &impl Abort, url: &Url, length: u128, settled: bool) {
-    assert_eq!(rt; url.text_len(), Ok(length));
-    assert_eq!(rt; url.is_settled(), settled, "{length}");
+    same::holds(rt, url.text_len() == Ok(length), "the length of the text");
+    same::is(rt, url.is_settled(), settled, "whether it is settled");
 }
 
 #[test]
@@ -51,8 +52,8 @@ fn just_short_enough(rt: HostRuntime) -> Result<(), Fail> {
 
 /// Checks that the host ends where the query begins.
 fn has_a_query(rt: &impl Abort, url: &Url) {
-    assert_eq!(rt; url.host.as_deref(), Some("h"));
-    assert!(rt; url.path.as_bytes().starts_with(b"?aaa"));
+    same::optional(rt, url.host.as_deref(), Some("h"));
+    same::holds(rt, url.path.as_bytes().starts_with(b"?aaa"), "the query");
 }
 
 #[test]
@@ -80,7 +81,7 @@ fn is_settled_with(alloc: Global, host: &str, path: &str) -> Result<bool, Fail> 
 fn are_settled_with(rt: &impl Abort, alloc: Global, host: &str, settled: bool) -> Result<(), Fail> {
     for path in ["/", "/b", "?b"] {
         let found = is_settled_with(alloc, host, path)?;
-        assert_eq!(rt; found, settled, "{path}");
+        same::is(rt, found, settled, path);
     }
     Ok(())
 }

@@ -1,7 +1,7 @@
 //! What is made of parts.
 
 use crate::edges::Parts;
-use crate::rows;
+use crate::same;
 use std::alloc::Global;
 use std::process::Abort;
 use std::test::Fail;
@@ -109,7 +109,7 @@ fn is_made(rt: &impl Abort, alloc: Global, parts: &Parts, want: &str) -> Result<
         path.as_bytes(),
         flag,
     )?;
-    rows::told(rt, told_answer(alloc, answer)?.as_str(), want);
+    same::text(rt, told_answer(alloc, answer)?.as_str(), want);
     Ok(())
 }
 

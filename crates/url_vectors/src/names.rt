@@ -1,6 +1,6 @@
 //! IPv6 texts, and the names and ports of schemes.
 
-use crate::rows::told;
+use crate::same;
 use gix_url::Scheme;
 use gix_url::ipv6::is_ipv6;
 use std::alloc::Global;
@@ -47,7 +47,7 @@ static NO_ADDRESSES: [&str; 18] = [
 /// Checks whether the texts are addresses.
 fn are_addresses(rt: &impl Abort, texts: &[&str], wanted: bool) {
     for &text in texts {
-        assert_eq!(rt; is_ipv6(text), wanted, "{text}");
+        same::is(rt, is_ipv6(text), wanted, text);
     }
 }
 
@@ -78,16 +78,16 @@ static SCHEMES: [(&str, &str, Option<u16>); 11] = [
 
 /// Checks the text of a scheme, and how it is shown.
 fn is_named(rt: &impl Abort, alloc: Global, scheme: &Scheme, name: &str) -> Result<(), Fail> {
-    told(rt, scheme.as_str(), name);
-    told(rt, scheme.to_string(alloc)?.as_str(), name);
+    same::text(rt, scheme.as_str(), name);
+    same::text(rt, scheme.to_string(alloc)?.as_str(), name);
     Ok(())
 }
 
 /// Checks the port of the scheme that a text names, and whether the scheme has a variant of its own.
 fn is_told(rt: &impl Abort, scheme: &Scheme, text: &str, port: Option<u16>) {
     let other = matches!(scheme, Scheme::HelperUrl(_));
-    assert_eq!(rt; scheme.default_port(), port, "{text}");
-    assert_eq!(rt; other, !known(text), "{text}");
+    same::holds(rt, scheme.default_port() == port, text);
+    same::is(rt, other, !known(text), text);
 }
 
 #[test]

@@ -2,7 +2,8 @@
 
 use crate::edges::{EDGES, location};
 use crate::long::joined;
-use crate::rows::{is_spelled, told};
+use crate::rows::is_spelled;
+use crate::same;
 use bstr::BStr;
 use gix_url::Url;
 use gix_url::parse::parse;
@@ -44,14 +45,9 @@ fn comes_back(alloc: Global, url: &Url) -> Result<bool, Fail> {
 fn is_settled(rt: &impl Abort, alloc: Global, text: &[u8]) -> Result<(), Fail> {
     let url = boxed(alloc, parse(alloc, BStr::new(text))?)?;
     let back = comes_back(alloc, &url)?;
-    is_settled_and_back(rt, BStr::new(text), url.is_settled(), back);
+    same::holds_of(rt, url.is_settled(), BStr::new(text));
+    same::holds_of(rt, back, BStr::new(text));
     Ok(())
-}
-
-/// Checks that what this text is read as is settled, and comes back.
-fn is_settled_and_back(rt: &impl Abort, shown: BStr<'_>, settled: bool, back: bool) {
-    assert!(rt; settled, "{shown} is settled");
-    assert!(rt; back, "{shown} comes back");
 }
 
 /// Settled texts.
@@ -87,13 +83,8 @@ fn the_longest_location_comes_back(rt: HostRuntime) -> Result<(), Fail> {
 fn is_spelled_again(rt: &impl Abort, alloc: Global, url: &Url, spelled: &str) -> Result<(), Fail> {
     let again = boxed(alloc, url.reread(alloc)?)?;
     is_spelled(rt, &again, spelled);
-    has_come_back(rt, is_again(alloc, url, &again)?);
+    same::holds(rt, is_again(alloc, url, &again)?, spelled);
     Ok(())
-}
-
-/// Checks that a location has come back.
-fn has_come_back(rt: &impl Abort, is_again: bool) {
-    assert!(rt; is_again);
 }
 
 #[test]
@@ -105,7 +96,7 @@ fn the_spelling_is_that_of_the_text(rt: HostRuntime) -> Result<(), Fail> {
 
 /// Checks what the text of a location is read as.
 fn is_read_as(rt: &impl Abort, alloc: Global, url: &Url, want: &str) -> Result<(), Fail> {
-    told(rt, told_answer(alloc, url.reread(alloc))?.as_str(), want);
+    same::text(rt, told_answer(alloc, url.reread(alloc))?.as_str(), want);
     Ok(())
 }
 
@@ -126,16 +117,11 @@ static UNSETTLED: [(&str, &str); 7] = [
     ("ssh://[%5Bx%5D]/p", "Ssh host=x path=/p, settled ssh://x/p"),
 ];
 
-/// Checks that what this text is read as is unsettled.
-fn is_unsettled(rt: &impl Abort, url: &Url, text: &str) {
-    assert!(rt; !url.is_settled(), "{text} is unsettled");
-}
-
 #[test]
 fn unsettled_locations_are_read_as_others(rt: HostRuntime) -> Result<(), Fail> {
     for &(text, want) in UNSETTLED.as_slice() {
         let url = read(rt.alloc(), text)?;
-        is_unsettled(&rt, &url, text);
+        same::holds(&rt, !url.is_settled(), text);
         is_read_as(&rt, rt.alloc(), &url, want)?;
     }
     Ok(())
@@ -174,7 +160,7 @@ fn comes_back_if_settled(
 ) -> Result<(), Fail> {
     let settled = url.is_settled();
     if settled || is_closed(scheme) {
-        assert_eq!(rt; comes_back(alloc, url)?, settled, "{scheme}");
+        same::is(rt, comes_back(alloc, url)?, settled, scheme);
     }
     Ok(())
 }

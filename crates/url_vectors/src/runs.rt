@@ -1,6 +1,6 @@
 //! The program's work: how the input is cut into lines, and what is answered.
 
-use crate::rows::told;
+use crate::same;
 use bstr::BStr;
 use gix_url::lines::{RunError, fault_line, run, status};
 use std::alloc::Global;
@@ -19,36 +19,16 @@ fn answers(
     let mut left = input;
     let mut out = Vec::new(alloc);
     let outcome = run(alloc, &mut left, &mut out);
-    ends(rt, BStr::new(input), status(&outcome), u8::from(!all));
-    are_settled(rt, BStr::new(input), outcome?, all);
-    is_answered(rt, BStr::new(input), out.as_slice(), answer);
-    is_read(rt, BStr::new(input), left);
+    same::holds_of(rt, status(&outcome) == u8::from(!all), BStr::new(input));
+    same::holds_of(rt, outcome? == all, BStr::new(input));
+    same::bytes_of(rt, out.as_slice(), answer, BStr::new(input));
+    same::holds_of(rt, left.is_empty(), BStr::new(input));
     Ok(())
-}
-
-/// Checks the status that a run over an input ends with.
-fn ends(rt: &impl Abort, input: BStr<'_>, status: u8, wanted: u8) {
-    assert_eq!(rt; status, wanted, "the status for {input}");
 }
 
 /// Checks the status of a run.
 fn has_status(rt: &impl Abort, outcome: &Result<bool, RunError>, wanted: u8) {
-    assert_eq!(rt; status(outcome), wanted);
-}
-
-/// Checks whether every line of an input is settled.
-fn are_settled(rt: &impl Abort, input: BStr<'_>, found: bool, all: bool) {
-    assert_eq!(rt; found, all, "whether all of {input} is settled");
-}
-
-/// Checks what an input is answered.
-fn is_answered(rt: &impl Abort, input: BStr<'_>, found: &[u8], answer: &[u8]) {
-    assert_eq!(rt; found, answer, "the answer to {input}");
-}
-
-/// Checks that nothing of an input is left.
-fn is_read(rt: &impl Abort, input: BStr<'_>, left: &[u8]) {
-    assert!(rt; left.is_empty(), "all of {input} is read");
+    same::holds(rt, status(outcome) == wanted, "the status");
 }
 
 /// An input, its answer, and whether every line is settled.
@@ -99,15 +79,6 @@ fn is_of_slashes(answer: &[u8], count: usize) -> bool {
     path.is_some_and(|path| path.len() == count && path.iter().all(|byte| *byte == b'/'))
 }
 
-/// Checks that a local path of so many times `/` is settled, and answered.
-fn answered_slashes(rt: &impl Abort, settled: bool, answer: &[u8], count: usize) {
-    assert!(rt; settled, "{count} slashes are settled");
-    assert!(rt;
-        is_of_slashes(answer, count),
-        "another answer to {count} slashes"
-    );
-}
-
 /// Checks the answer to a local path of so many times `/`, which is settled.
 fn answers_slashes<R: Read>(
     rt: &impl Abort,
@@ -117,7 +88,12 @@ fn answers_slashes<R: Read>(
 ) -> Result<(), Fail> {
     let mut out = Vec::new(alloc);
     let settled = run(alloc, input, &mut out)?;
-    answered_slashes(rt, settled, out.as_slice(), count);
+    same::holds(rt, settled, "slashes are settled");
+    same::holds(
+        rt,
+        is_of_slashes(out.as_slice(), count),
+        "the answer to slashes",
+    );
     Ok(())
 }
 
@@ -169,13 +145,10 @@ fn failed(reads: bool) -> RunError {
 
 #[test]
 fn faults_of_a_run(rt: HostRuntime) {
-    told(
-        &rt,
-        fault_line(&RunError::Memory),
-        "locations: out of memory",
-    );
-    told(&rt, fault_line(&failed(true)), "locations: cannot read");
-    told(&rt, fault_line(&failed(false)), "locations: cannot write");
+    let line = fault_line(&RunError::Memory);
+    same::text(&rt, line, "locations: out of memory");
+    same::text(&rt, fault_line(&failed(true)), "locations: cannot read");
+    same::text(&rt, fault_line(&failed(false)), "locations: cannot write");
 }
 
 #[test]

@@ -1,7 +1,8 @@
 //! Values that no text is read as: how they are written, and what a person is shown.
 
 use crate::edges::{EDGES, location};
-use crate::rows::{is_spelled, told};
+use crate::rows::is_spelled;
+use crate::same;
 use bstr::BString;
 use gix_url::Url;
 use std::alloc::Global;
@@ -13,7 +14,7 @@ use told::{told_text, unchecked};
 
 /// Checks how a location is written.
 fn is_written(rt: &impl Abort, alloc: Global, url: &Url, written: &str) -> Result<(), Fail> {
-    told(rt, told_text(alloc, url)?.as_str(), written);
+    same::text(rt, told_text(alloc, url)?.as_str(), written);
     Ok(())
 }
 
@@ -75,7 +76,7 @@ static SHOWN: [(&str, &str); 10] = [
 
 /// Checks how a location is shown.
 fn is_shown(rt: &impl Abort, alloc: Global, url: &Url, shown: &str) -> Result<(), Fail> {
-    told(rt, url.to_string(alloc)?.as_str(), shown);
+    same::text(rt, url.to_string(alloc)?.as_str(), shown);
     Ok(())
 }
 
@@ -94,16 +95,12 @@ fn a_path_that_is_no_text_is_shown(rt: HostRuntime) -> Result<(), Fail> {
     is_shown(&rt, rt.alloc(), &url, "/\u{fffd}")
 }
 
-/// Checks that a location isn't shown in a text.
-fn is_not_shown(rt: &impl Abort, url: &Url, shown: &mut String) {
-    assert!(rt; write!(shown, "{url}").is_err());
-}
-
 #[test]
 fn what_has_no_text_is_not_shown(rt: HostRuntime) -> Result<(), Fail> {
     let alloc = rt.alloc();
     let url = unchecked(alloc, "Ssh", Some("u"), None, None, None, b"/p", false)?;
     let mut shown = String::new(alloc);
-    is_not_shown(&rt, &url, &mut shown);
+    let is_refused = write!(shown, "{url}").is_err();
+    same::holds(&rt, is_refused, "it has no text");
     Ok(())
 }

@@ -14,17 +14,31 @@ pub fn over_changed(alloc: Global, order: &Order<'_>, page: &mut Page) -> Result
     let (word, rest) = cut_word(order.input)?;
     let mut url = prepared::location(alloc, rest)?;
     let text = prepared::optional(alloc, word)?;
-    if !order.is_made {
-        return Ok(());
+    match order.call {
+        _ if !order.is_made => Ok(()),
+        "Url::with_request_alternate_form" => tell_now(
+            page,
+            &url.with_request_alternate_form(true),
+        ),
+        call => change_and_tell(call, &mut url, text, page),
     }
-    if order.call == "Url::with_request_alternate_form" {
-        url = url.with_request_alternate_form(true);
-    } else {
-        change(order.call, &mut url, text, page)?;
-    }
-    // Behind the answer stands what has become of the location.
+}
+
+/// Makes a call that changes a location in its place, and tells what has become of it.
+fn change_and_tell(
+    call: &str,
+    url: &mut Url,
+    text: Option<String>,
+    page: &mut Page,
+) -> Result<(), Halt> {
+    change(call, url, text, page)?;
+    tell_now(page, url)
+}
+
+/// Tells behind an answer what has become of the location.
+fn tell_now(page: &mut Page, url: &Url) -> Result<(), Halt> {
     tell(page, b"; ")?;
-    tell_url(page, &url)
+    tell_url(page, url)
 }
 
 /// Makes a call that changes a location in its place.

@@ -38,15 +38,27 @@ pub fn over_resolved(alloc: Global, order: &Order<'_>, page: &mut Page) -> Resul
     let (word, rest) = cut_word(order.input)?;
     let url = prepared::location(alloc, rest)?;
     let path = prepared::optional(alloc, word)?;
-    if !order.is_made {
-        return Ok(());
+    if order.is_made {
+        resolve(alloc, order.call, &url, path, page)
+    } else {
+        Ok(())
     }
-    let before = snapshot(&url)?;
-    match order.call {
+}
+
+/// Makes a call over a location and what its path is resolved to.
+fn resolve(
+    alloc: Global,
+    call: &str,
+    url: &Url,
+    path: Option<String>,
+    page: &mut Page,
+) -> Result<(), Halt> {
+    let before = snapshot(url)?;
+    match call {
         "Url::canonicalized" => tell_read(page, url.canonicalized(alloc, |_| path))?,
         _ => return Err(Halt::Unknown),
     }
-    is_kept(&url, &before)
+    is_kept(url, &before)
 }
 
 /// Every part of a location, and its text if it has one.
