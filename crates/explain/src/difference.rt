@@ -1,12 +1,14 @@
 //! What the own text of a location is read as, where the location isn't settled.
 //!
 //! It reads the text again by `Url::reread` and looks for the first of the public fields, in declared order, that is
-//! another one. The field `password` is shown by no answer.
+//! another one. Its contract, memory permitting: there is an answer exactly where the location isn't settled, and a
+//! difference of passwords is told as `redacted` alone. The words are made of the difference or of the error.
 
-ghost use Rattle.std.specs.Prelude.{◌↔◌, IfOk, IsNone};
+ghost use Rattle.std.specs.Prelude.{◌≡◌, ◌≢◌, ◌↔◌, IfOk, IfSome, IsNone, codes, option_map, string_bytes};
 ghost use Rattle.gix_url.specs.Settled.{IsSettled};
 
 use crate::refusal::Refusal;
+use crate::told::hidden_password;
 use bstr::ByteSlice;
 use gix_url::{Error, Scheme, Url};
 use serde::Serialize;
@@ -38,7 +40,11 @@ pub struct Difference {
 impl Reread {
     /// What the text of the location is read as, unless the location is settled.
     pub fn of(alloc: Global, url: &Url) -> Result<Option<Reread>, AllocError>
-        ensures { IfOk result (λ reread. IsNone reread ↔ IsSettled url.now) }
+        ensures settled { IfOk result (λ reread. IsNone reread ↔ IsSettled url.now) }
+        ensures hidden { IfOk result (λ reread. IfSome reread (λ it. IfSome it.difference (λ found.
+            found.field.now ≡ codes "password" →
+            IfSome found.here (λ text. string_bytes text ≡ codes "redacted")
+            × IfSome found.instead (λ text. string_bytes text ≡ codes "redacted")))) }
     {
         if url.is_settled() {
             return Ok(None);
@@ -51,7 +57,12 @@ impl Reread {
     }
 
     /// What is told where the text is read as this location.
-    fn another(alloc: Global, url: &Url, other: &Url) -> Result<Reread, AllocError> {
+    fn another(alloc: Global, url: &Url, other: &Url) -> Result<Reread, AllocError>
+        ensures { IfOk result (λ it. IfSome it.difference (λ found.
+            found.field.now ≡ codes "password" →
+            IfSome found.here (λ text. string_bytes text ≡ codes "redacted")
+            × IfSome found.instead (λ text. string_bytes text ≡ codes "redacted"))) }
+    {
         let difference = first_difference(alloc, url, other)?;
         Ok(Reread {
             words: words(alloc, &difference)?,
@@ -61,7 +72,9 @@ impl Reread {
     }
 
     /// What is told where the text is refused so.
-    fn refused(alloc: Global, error: &Error) -> Result<Reread, AllocError> {
+    fn refused(alloc: Global, error: &Error) -> Result<Reread, AllocError>
+        ensures { IfOk result (λ it. IsNone it.difference) }
+    {
         Ok(Reread {
             difference: None,
             refusal: Some(Refusal::of(alloc, error)?),
@@ -71,11 +84,12 @@ impl Reread {
 }
 
 /// The first public field in which the two differ.
-fn first_difference(
-    alloc: Global,
-    url: &Url,
-    other: &Url,
-) -> Result<Option<Difference>, AllocError> {
+fn first_difference(alloc: Global, url: &Url, other: &Url) -> Result<Option<Difference>, AllocError>
+    ensures { IfOk result (λ difference. IfSome difference (λ found.
+        found.field.now ≡ codes "password" →
+        IfSome found.here (λ text. string_bytes text ≡ codes "redacted")
+        × IfSome found.instead (λ text. string_bytes text ≡ codes "redacted"))) }
+{
     if url.scheme != other.scheme {
         return Ok(Some(Difference {
             field: "scheme",
@@ -87,7 +101,8 @@ fn first_difference(
         return part_difference(alloc, "user", url.user(), other.user());
     }
     if url.password() != other.password() {
-        return part_difference(alloc, "password", hidden(url), hidden(other));
+        let (here, instead) = (hidden_password(url), hidden_password(other));
+        return part_difference(alloc, "password", here, instead);
     }
     if url.host() != other.host() {
         return part_difference(alloc, "host", url.host(), other.host());
@@ -96,11 +111,9 @@ fn first_difference(
 }
 
 /// The first of the public fields behind the host in which the two differ.
-fn later_difference(
-    alloc: Global,
-    url: &Url,
-    other: &Url,
-) -> Result<Option<Difference>, AllocError> {
+fn later_difference(alloc: Global, url: &Url, other: &Url) -> Result<Option<Difference>, AllocError>
+    ensures { IfOk result (λ difference. IfSome difference (λ found. found.field.now ≢ codes "password")) }
+{
     if url.serialize_alternative_form != other.serialize_alternative_form {
         let (here, instead) = (flag_text(url), flag_text(other));
         return part_difference(
@@ -133,7 +146,13 @@ fn part_difference(
     field: &'static str,
     here: Option<&str>,
     instead: Option<&str>,
-) -> Result<Option<Difference>, AllocError> {
+) -> Result<Option<Difference>, AllocError>
+    ensures named { IfOk result (λ difference. IfSome difference (λ found. found.field.now ≡ field.now)) }
+    ensures here { IfOk result (λ difference. IfSome difference (λ found.
+        option_map string_bytes found.here ≡ option_map (λ text. text.now) here.entry)) }
+    ensures instead { IfOk result (λ difference. IfSome difference (λ found.
+        option_map string_bytes found.instead ≡ option_map (λ text. text.now) instead.entry)) }
+{
     Ok(Some(Difference {
         field,
         here: owned(alloc, here)?,
@@ -142,16 +161,13 @@ fn part_difference(
 }
 
 /// A text of its own.
-fn owned(alloc: Global, text: Option<&str>) -> Result<Option<String>, AllocError> {
+fn owned(alloc: Global, text: Option<&str>) -> Result<Option<String>, AllocError>
+    ensures { IfOk result (λ copy. option_map string_bytes copy ≡ option_map (λ it. it.now) text.entry) }
+{
     match text {
         None => Ok(None),
         Some(text) => Ok(Some(String::from_str(alloc, text)?)),
     }
-}
-
-/// A word in place of a password, where there is one.
-fn hidden(url: &Url) -> Option<&'static str> {
-    url.password().map(|_| "redacted")
 }
 
 /// The scheme by its text, and a remote helper as such.

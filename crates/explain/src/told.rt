@@ -157,7 +157,7 @@ impl<'a> Told<'a> {
 }
 
 /// `redacted`, where there is a password.
-fn hidden_password(url: &Url) -> Option<&'static str>
+pub(crate) fn hidden_password(url: &Url) -> Option<&'static str>
     ensures { option_map (λ word. word.now) result ≡ option_map (λ _. codes "redacted") url.now.password }
 {
     url.password().map(|_| "redacted")

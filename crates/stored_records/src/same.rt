@@ -1,5 +1,5 @@
 //! What tests compare, by reference: a test that asserts by itself, and owns what it asserts of, takes the prover
-//! several times as long.
+//! about twice as long.
 
 use std::process::Abort;
 
