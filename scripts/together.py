@@ -5,15 +5,16 @@ the contracts of what it calls, so an edit of one body leaves the goals of all o
 says of each function by itself what is not proved. An edit counts as refused here only where the check names a goal of
 the very function that it changes, or an answer to one of its goals that no longer answers it.
 
-An edit of definitions is tried by a check of the laws alone, and of those that hold the rows of definitions: they have no
-code, and stand on the definitions and on lemmas. It counts as refused here only where the check says of a law that it is
-not proved, and of no lemma that it names what the edit took away.
+An edit of anything else, definitions or a constant, is tried by a check of the laws alone, and of those that hold the
+rows of definitions: they have no code, and stand on definitions, constants and lemmas. It counts as refused here only
+where the check says of a law that it is not proved, and of no lemma that it names what the edit took away.
 
-Every other is left to be tried alone: one that changes a contract or a constant, one that doesn't read, and one that
-these checks have nothing to say of.
+What these checks have nothing to say of is left to be tried alone, as is what doesn't read.
 """
 import re
 
+# The head of an impl: the trait, if it is one of a trait, and the type.
+IMPL = re.compile(r"impl(?:<[^>]*>)? (?:(?:\w+::)*(\w+)(?:<.*>)? for )?(?:\w+::)*(\w+)")
 FUNCTION = re.compile(r"( *)(?:pub(?:\([a-z]+\))? )?(?:const )?(?:extern \"C\" )?fn \w")
 PAIR = re.compile(r"(?m)^file: (?P<file>\S+)|^old: (?P<old>.*)\nnew: ?(?P<new>.*)")
 LAWS = ["--only", "laws", "--only", "rows"]
@@ -121,7 +122,8 @@ def refusals(kit, crate, group, flags, kept, is_whole):
     open_goals = [(it[1], int(it[2]), it.string) for it in map(OPEN_GOAL.match, lines) if it]
     told = {}
     for edit, place in made:
-        file, first, last, _ = place
+        file, _, last, _ = place
+        first = begin_of(crate, place)
         said = next((line for where, at, line in open_goals if where == file and first <= at <= last), None)
         said = said or bad_answer(crate, [it for _, it in made], place, lines)
         if said:
@@ -129,44 +131,64 @@ def refusals(kit, crate, group, flags, kept, is_whole):
     return told
 
 
+def lines_to(crate, place):
+    """The lines of the file up to the one in which the function at a place begins."""
+    with open(f"{crate.folder}/{place[0]}", encoding="utf-8") as it:
+        return it.read().split("\n")[: place[1]]
+
+
+def begin_of(crate, place):
+    """The line of the first attribute of the function at a place, or else that in which it begins: goals are told there."""
+    *above, _ = lines_to(crate, place)
+    while above and above[-1].lstrip().startswith("#["):
+        above.pop()
+    return len(above) + 1
+
+
+def module_of(place):
+    """The module of the function at a place, as the folders of proofs have it."""
+    return re.sub(r"^src/(lib|main)?|\.rt$", "", place[0])
+
+
+def name_at(crate, place):
+    """The name of the function at a place."""
+    return re.search(r"\bfn (\w+)", lines_to(crate, place)[-1])[1]
+
+
+def owner_of(crate, place):
+    """The type that the function at a place is a method of, with the trait behind it, if it is one of a trait."""
+    lines = lines_to(crate, place)
+    heads = [it for it in map(IMPL.match, lines) if it] if lines[-1].startswith(" ") else []
+    return heads[-1][2] + (heads[-1][1] or "") if heads else ""
+
+
 def path_of(crate, place):
     """The path below the crate of the function at a place: its module's, that of its type if it is a method, and its name."""
-    file, first = place[:2]
-    module = re.sub(r"^src/(lib|main)?|\.rt$", "", file).replace("/", "::")
-    with open(f"{crate.folder}/{file}", encoding="utf-8") as it:
-        lines = it.read().split("\n")[:first]
-    types = [it[1] for it in map(re.compile(r"impl(?:<[^>]*>)? (\w+)").match, lines) if it] if lines[-1].startswith(" ") else []
-    return "::".join(it for it in (module, *types[-1:], name_at(crate, file, first)) if it)
-
-
-def name_at(crate, file, first):
-    """The name of the function that begins in a line of a file."""
-    with open(f"{crate.folder}/{file}", encoding="utf-8") as it:
-        return re.search(r"\bfn (\w+)", it.read().split("\n")[first - 1])[1]
+    path = (module_of(place).replace("/", "::"), owner_of(crate, place), name_at(crate, place))
+    return "::".join(it for it in path if it)
 
 
 def bad_answer(crate, places, place, lines):
-    """What is said of the answers of the function at a place, if its name tells it from those at the other places."""
-    name, module = name_at(crate, *place[:2]), place[0].removeprefix("src/").removesuffix(".rt")
-    if [name_at(crate, *it[:2]) for it in places].count(name) > 1:
-        return None
+    """What is said of the answers of the function at a place, if its name, or its type's, tells it from those at the others."""
+    name, owner, module = name_at(crate, place), owner_of(crate, place), module_of(place)
+    alike = [owner_of(crate, it) for it in places if name_at(crate, it) == name]
     for line in lines:
         found = BAD_ANSWER.match(line)
+        if not found or found[2] != name:
+            continue
         # A method's folder is that of its type.
-        if found and found[2] == name and (found[1] == module or found[1].rpartition("/")[2][:1].isupper()):
+        folder = found[1].rpartition("/")[2]
+        is_own = found[1] == module or folder[:1].isupper() if len(alike) == 1 else folder == owner and alike.count(owner) == 1
+        if is_own:
             return line
     return None
 
 
-def is_of_definitions(kit, crate, edit):
-    """Whether the edit changes definitions and nothing else."""
-    texts, why = kit.read_edit(edit, crate.folder)
-    return not why and all(it.startswith("specs/") for it in texts)
-
-
 def refusals_by_laws(kit, crate, edit, flags, kept):
-    """What the check of the laws says against an edit of definitions: the law that is not proved with it, if one isn't."""
-    texts, _ = kit.read_edit(edit, crate.folder)
+    """What the check of the laws says against an edit: the law that is not proved with it, if one isn't."""
+    texts, why = kit.read_edit(edit, crate.folder)
+    if why:
+        return {}
     lines = told_by(kit, crate, texts, [*flags, *LAWS], kept, "only=")
     is_fair = not any(map(GONE.match, lines))
     # The last one counts: a law that users have, if one is open.
