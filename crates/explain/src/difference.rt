@@ -1,8 +1,8 @@
 //! What the own text of a location is read as, where the location isn't settled.
 //!
 //! It reads the text again by `Url::reread` and looks for the first of the public fields, in declared order, that is
-//! another one. Its contract, memory permitting: there is an answer exactly where the location isn't settled, and a
-//! difference of passwords is told as `redacted` alone. The words are made of the difference or of the error.
+//! another one. Its contract, memory permitting: there is an answer exactly where the location isn't settled, and the
+//! texts of a difference named `password` are `redacted`. It says nothing of other differences, nor of the words.
 
 ghost use Rattle.std.specs.Prelude.{◌≡◌, ◌≢◌, ◌↔◌, IfOk, IfSome, IsNone, codes, option_map, string_bytes};
 ghost use Rattle.gix_url.specs.Settled.{IsSettled};
