@@ -1,11 +1,14 @@
 //! What the own text of a location is read as, where the location isn't settled.
 //!
 //! It reads the text again by `Url::reread` and looks for the first of the public fields, in declared order, that is
-//! another one. Its contract, memory permitting: there is an answer exactly where the location isn't settled, and the
-//! texts of a difference named `password` are `redacted`. It says nothing of other differences, nor of the words.
+//! another one. Its contract, memory permitting: there is an answer exactly where the location isn't settled, and a
+//! difference names a public field and tells it of the location and of the one that its text spells, a password as the
+//! word `redacted`. That the field is the first, and the words, are no part of it.
 
-ghost use Rattle.std.specs.Prelude.{◌≡◌, ◌≢◌, ◌↔◌, IfOk, IfSome, IsNone, codes, option_map, string_bytes};
+ghost use Rattle.std.specs.Prelude.{◌≡◌, ◌↔◌, IfOk, IfSome, IsNone, decimal, option_map, string_bytes};
 ghost use Rattle.gix_url.specs.Settled.{IsSettled};
+ghost use Rattle.gix_url.specs.Views.{protocol};
+ghost use Rattle.explain.specs.Differences.{TellsField, TellsReread, flag_word, scheme_words};
 
 use crate::refusal::Refusal;
 use crate::told::hidden_password;
@@ -41,10 +44,7 @@ impl Reread {
     /// What the text of the location is read as, unless the location is settled.
     pub fn of(alloc: Global, url: &Url) -> Result<Option<Reread>, AllocError>
         ensures settled { IfOk result (λ reread. IsNone reread ↔ IsSettled url.now) }
-        ensures hidden { IfOk result (λ reread. IfSome reread (λ it. IfSome it.difference (λ found.
-            found.field.now ≡ codes "password" →
-            IfSome found.here (λ text. string_bytes text ≡ codes "redacted")
-            × IfSome found.instead (λ text. string_bytes text ≡ codes "redacted")))) }
+        ensures told { IfOk result (λ reread. IfSome reread (λ it. IfSome it.difference (TellsReread url.now))) }
     {
         if url.is_settled() {
             return Ok(None);
@@ -58,10 +58,7 @@ impl Reread {
 
     /// What is told where the text is read as this location.
     fn another(alloc: Global, url: &Url, other: &Url) -> Result<Reread, AllocError>
-        ensures { IfOk result (λ it. IfSome it.difference (λ found.
-            found.field.now ≡ codes "password" →
-            IfSome found.here (λ text. string_bytes text ≡ codes "redacted")
-            × IfSome found.instead (λ text. string_bytes text ≡ codes "redacted"))) }
+        ensures { IfOk result (λ it. IfSome it.difference (TellsField url.now other.now)) }
     {
         let difference = first_difference(alloc, url, other)?;
         Ok(Reread {
@@ -85,10 +82,7 @@ impl Reread {
 
 /// The first public field in which the two differ.
 fn first_difference(alloc: Global, url: &Url, other: &Url) -> Result<Option<Difference>, AllocError>
-    ensures { IfOk result (λ difference. IfSome difference (λ found.
-        found.field.now ≡ codes "password" →
-        IfSome found.here (λ text. string_bytes text ≡ codes "redacted")
-        × IfSome found.instead (λ text. string_bytes text ≡ codes "redacted"))) }
+    ensures { IfOk result (λ difference. IfSome difference (TellsField url.now other.now)) }
 {
     if url.scheme != other.scheme {
         return Ok(Some(Difference {
@@ -112,7 +106,7 @@ fn first_difference(alloc: Global, url: &Url, other: &Url) -> Result<Option<Diff
 
 /// The first of the public fields behind the host in which the two differ.
 fn later_difference(alloc: Global, url: &Url, other: &Url) -> Result<Option<Difference>, AllocError>
-    ensures { IfOk result (λ difference. IfSome difference (λ found. found.field.now ≢ codes "password")) }
+    ensures { IfOk result (λ difference. IfSome difference (TellsField url.now other.now)) }
 {
     if url.serialize_alternative_form != other.serialize_alternative_form {
         let (here, instead) = (flag_text(url), flag_text(other));
@@ -171,7 +165,9 @@ fn owned(alloc: Global, text: Option<&str>) -> Result<Option<String>, AllocError
 }
 
 /// The scheme by its text, and a remote helper as such.
-fn scheme_name(alloc: Global, scheme: &Scheme) -> Result<String, AllocError> {
+fn scheme_name(alloc: Global, scheme: &Scheme) -> Result<String, AllocError>
+    ensures { IfOk result (λ name. string_bytes name ≡ scheme_words (protocol scheme.now)) }
+{
     match scheme {
         Scheme::Ext | Scheme::Helper(_) => format!(in alloc; "helper {scheme}"),
         Scheme::File
@@ -184,7 +180,9 @@ fn scheme_name(alloc: Global, scheme: &Scheme) -> Result<String, AllocError> {
 }
 
 /// The port in decimal.
-fn port_text(alloc: Global, port: Option<u16>) -> Result<Option<String>, AllocError> {
+fn port_text(alloc: Global, port: Option<u16>) -> Result<Option<String>, AllocError>
+    ensures { IfOk result (λ text. option_map string_bytes text ≡ option_map decimal port) }
+{
     match port {
         None => Ok(None),
         Some(port) => Ok(Some(port.to_string(alloc)?)),
@@ -192,7 +190,9 @@ fn port_text(alloc: Global, port: Option<u16>) -> Result<Option<String>, AllocEr
 }
 
 /// The flag of the location in a word.
-fn flag_text(url: &Url) -> &'static str {
+fn flag_text(url: &Url) -> &'static str
+    ensures { result.now ≡ flag_word url.now.flag }
+{
     if url.serialize_alternative_form {
         "true"
     } else {

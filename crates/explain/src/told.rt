@@ -6,6 +6,7 @@
 
 ghost use Rattle.std.specs.Prelude.{◌≡◌, ◌↔◌, IfOk, IsTrue, codes, option_map};
 ghost use Rattle.gix_url.specs.GitClass.{AgreesWithGit};
+ghost use Rattle.gix_url.specs.Display.{hidden_password};
 ghost use Rattle.gix_url.specs.Settled.{IsSettled};
 
 use crate::difference::Reread;
@@ -158,7 +159,7 @@ impl<'a> Told<'a> {
 
 /// `redacted`, where there is a password.
 pub(crate) fn hidden_password(url: &Url) -> Option<&'static str>
-    ensures { option_map (λ word. word.now) result ≡ option_map (λ _. codes "redacted") url.now.password }
+    ensures { option_map (λ word. word.now) result ≡ hidden_password url.now.password }
 {
     url.password().map(|_| "redacted")
 }
