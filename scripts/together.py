@@ -178,7 +178,10 @@ def bad_answer(crate, places, place, lines):
             continue
         # A method's folder is that of its type.
         folder = found[1].rpartition("/")[2]
-        is_own = found[1] == module or folder[:1].isupper() if len(alike) == 1 else folder == owner and alike.count(owner) == 1
+        if len(alike) > 1:
+            is_own = folder == owner and alike.count(owner) == 1
+        else:
+            is_own = found[1] == module or folder[:1].isupper()
         if is_own:
             return line
     return None

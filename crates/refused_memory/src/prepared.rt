@@ -19,16 +19,22 @@ pub fn location(alloc: Global, input: &[u8]) -> Result<Url, Halt> {
         Some(parts) => Url::from_stored(alloc, record(alloc, parts)?),
         None => parse(alloc, BStr::new(input)),
     };
-    match made {
-        Ok(url) => Ok(url),
-        Err(_) => Err(Halt::Unprepared),
-    }
+    made.map_err(unprepared)
+}
+
+/// What was not made, whatever the error.
+fn unprepared(error: Error) -> Halt {
+    drop(error);
+    Halt::Unprepared
 }
 
 /// The error that a text is refused with.
 pub fn refusal(alloc: Global, input: &[u8]) -> Result<Error, Halt> {
     match parse(alloc, BStr::new(input)) {
-        Ok(_) => Err(Halt::Unprepared),
+        Ok(url) => {
+            drop(url);
+            Err(Halt::Unprepared)
+        }
         Err(Error::Memory) => Err(Halt::Unprepared),
         Err(error) => Ok(error),
     }

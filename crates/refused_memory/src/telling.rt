@@ -21,10 +21,12 @@ pub fn tell_argument(page: &mut Page, argument: ArgumentSafety<'_>) -> Result<()
 
 /// Tells a location by its parts, or why there is none.
 pub fn tell_read(page: &mut Page, answer: Result<Url, Error>) -> Result<(), Halt> {
-    match answer {
-        Ok(url) => tell_url(page, &url),
-        Err(error) => tell_error(page, &error),
-    }
+    let told = match &answer {
+        Ok(url) => tell_url(page, url),
+        Err(error) => tell_error(page, error),
+    };
+    drop(answer);
+    told
 }
 
 /// Tells a location by its parts, as `prepared` reads them.

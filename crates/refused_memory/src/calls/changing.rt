@@ -12,19 +12,21 @@ use std::alloc::Global;
 /// Makes a call that changes a location. The text is the first word of the input, and the location the rest.
 pub fn over_changed(alloc: Global, order: &Order<'_>, page: &mut Page) -> Result<(), Halt> {
     let (word, rest) = cut_word(order.input)?;
-    let mut url = prepared::location(alloc, rest)?;
     let text = prepared::optional(alloc, word)?;
+    let mut url = prepared::location(alloc, rest)?;
     match order.call {
-        _ if !order.is_made => Ok(()),
-        "Url::with_request_alternate_form" => tell_now(
-            page,
-            &url.with_request_alternate_form(true),
-        ),
-        call => change_and_tell(call, &mut url, text, page),
+        _ if !order.is_made => drop(url),
+        "Url::with_request_alternate_form" => tell_flagged(url, page)?,
+        call => {
+            let told = change_and_tell(call, &mut url, text, page);
+            drop(url);
+            told?
+        }
     }
+    Ok(())
 }
 
-/// Makes a call that changes a location in its place, and tells what has become of it.
+/// Makes a call that changes a location, and tells what has become of it.
 fn change_and_tell(
     call: &str,
     url: &mut Url,
@@ -33,6 +35,14 @@ fn change_and_tell(
 ) -> Result<(), Halt> {
     change(call, url, text, page)?;
     tell_now(page, url)
+}
+
+/// Asks for the other form of a location, and tells what has become of it.
+fn tell_flagged(url: Url, page: &mut Page) -> Result<(), Halt> {
+    let url = url.with_request_alternate_form(true);
+    let told = tell_now(page, &url);
+    drop(url);
+    told
 }
 
 /// Tells behind an answer what has become of the location.

@@ -13,12 +13,20 @@ use std::alloc::Global;
 /// Makes a call that borrows a location. It may take memory.
 pub fn over_location(alloc: Global, order: &Order<'_>, page: &mut Page) -> Result<(), Halt> {
     let url = prepared::location(alloc, order.input)?;
-    if !order.is_made {
-        return Ok(());
-    }
-    let before = snapshot(&url)?;
-    borrow(alloc, order.call, &url, page)?;
-    is_kept(&url, &before)
+    let told = if order.is_made {
+        borrow_and_compare(alloc, order.call, &url, page)
+    } else {
+        Ok(())
+    };
+    drop(url);
+    told
+}
+
+/// Makes a call over a location, and checks that the location is as it was.
+fn borrow_and_compare(alloc: Global, call: &str, url: &Url, page: &mut Page) -> Result<(), Halt> {
+    let before = snapshot(url)?;
+    borrow(alloc, call, url, page)?;
+    is_kept(url, &before)
 }
 
 /// Makes a call over a location.
@@ -36,13 +44,15 @@ fn borrow(alloc: Global, call: &str, url: &Url, page: &mut Page) -> Result<(), H
 /// Makes a call that borrows a location and takes what a path is resolved to: the first word of the input, or `none`.
 pub fn over_resolved(alloc: Global, order: &Order<'_>, page: &mut Page) -> Result<(), Halt> {
     let (word, rest) = cut_word(order.input)?;
-    let url = prepared::location(alloc, rest)?;
     let path = prepared::optional(alloc, word)?;
-    if order.is_made {
+    let url = prepared::location(alloc, rest)?;
+    let told = if order.is_made {
         resolve(alloc, order.call, &url, path, page)
     } else {
         Ok(())
-    }
+    };
+    drop(url);
+    told
 }
 
 /// Makes a call over a location and what its path is resolved to.
@@ -84,14 +94,31 @@ fn is_kept(url: &Url, before: &Page) -> Result<(), Halt> {
 /// Makes a call that borrows the path, the query and the fragment of a location.
 pub fn over_components(alloc: Global, order: &Order<'_>, page: &mut Page) -> Result<(), Halt> {
     let url = prepared::location(alloc, order.input)?;
-    let Ok(parts) = url.path_query_fragment(alloc) else {
-        return Err(Halt::Unprepared);
+    let told = match url.path_query_fragment(alloc) {
+        Ok(parts) => cut_if_made(alloc, order, parts, page),
+        Err(error) => {
+            drop(error);
+            Err(Halt::Unprepared)
+        }
     };
-    if order.is_made {
+    drop(url);
+    told
+}
+
+/// Makes a call that borrows the path, the query and the fragment of a location, unless the order ends before it.
+fn cut_if_made(
+    alloc: Global,
+    order: &Order<'_>,
+    parts: PathComponents<'_>,
+    page: &mut Page,
+) -> Result<(), Halt> {
+    let told = if order.is_made {
         cut(alloc, order.call, &parts, page)
     } else {
         Ok(())
-    }
+    };
+    drop(parts);
+    told
 }
 
 /// Makes a call over the path, the query and the fragment of a location.

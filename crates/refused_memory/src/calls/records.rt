@@ -4,7 +4,7 @@ use crate::halt::Halt;
 use crate::order::Order;
 use crate::page::Page;
 use crate::prepared;
-use crate::telling::{tell_json, tell_read, tell_url};
+use crate::telling::{tell_json, tell_read};
 use bstr::BString;
 use gix_url::stored::StoredUrl;
 use gix_url::testing::TestUrlExtension;
@@ -14,16 +14,25 @@ use std::alloc::Global;
 /// Makes a call over a record.
 pub fn over_record(alloc: Global, order: &Order<'_>, page: &mut Page) -> Result<(), Halt> {
     let record = prepared::record(alloc, order.input)?;
-    if !order.is_made {
-        return Ok(());
-    }
     match order.call {
-        "Url::from_stored" => tell_read(page, Url::from_stored(alloc, record)),
-        "Url::from_parts" => tell_read(page, from_parts(alloc, record)),
-        "Url::from_parts_unchecked" => tell_url(page, &from_parts_unchecked(record)),
-        "serde_json::to_string" => tell_json(page, serde_json::to_string(alloc, &record)),
-        _ => Err(Halt::Unknown),
+        _ if !order.is_made => drop(record),
+        "Url::from_stored" => tell_read(page, Url::from_stored(alloc, record))?,
+        "Url::from_parts" => tell_read(page, from_parts(alloc, record))?,
+        "Url::from_parts_unchecked" => tell_read(page, Ok(from_parts_unchecked(record)))?,
+        "serde_json::to_string" => tell_as_json(alloc, record, page)?,
+        _ => {
+            drop(record);
+            return Err(Halt::Unknown);
+        }
     }
+    Ok(())
+}
+
+/// Tells the text of a record in JSON.
+fn tell_as_json(alloc: Global, record: StoredUrl, page: &mut Page) -> Result<(), Halt> {
+    let json = serde_json::to_string(alloc, &record);
+    drop(record);
+    tell_json(page, json)
 }
 
 /// What is made of the parts of a record but its spelling.

@@ -4,7 +4,7 @@ use crate::halt::Halt;
 use crate::order::{Order, text};
 use crate::page::{Page, empty_page, tell, tell_bool, written};
 use crate::prepared;
-use crate::telling::{tell_named, tell_of_json, tell_read, tell_run, tell_split, tell_url};
+use crate::telling::{tell_named, tell_of_json, tell_read, tell_run, tell_split};
 use bstr::BStr;
 use gix_url::lines::{RunError, fault_line, run, status};
 use gix_url::parse::parse;
@@ -14,22 +14,42 @@ use std::io::Write;
 
 /// Makes a call over a text, for which nothing is prepared.
 pub fn over_text(alloc: Global, order: &Order<'_>, page: &mut Page) -> Result<(), Halt> {
-    if !order.is_made {
-        return Ok(());
+    if order.is_made {
+        read(alloc, order.call, order.input, page)
+    } else {
+        Ok(())
     }
-    let input = order.input;
-    match order.call {
+}
+
+/// Makes a call that reads a location.
+fn read(alloc: Global, call: &str, input: &[u8], page: &mut Page) -> Result<(), Halt> {
+    match call {
         "parse::parse" => tell_read(page, parse(alloc, BStr::new(input))),
         "Url::from_bytes" => tell_read(page, Url::from_bytes(alloc, BStr::new(input))),
         "Url::from_text" => tell_read(page, Url::from_text(alloc, text(input)?)),
-        "Url::default_in" => tell_url(page, &Url::default_in(alloc)),
+        "Url::default_in" => tell_read(page, Ok(Url::default_in(alloc))),
+        _ => read_part(alloc, call, input, page),
+    }
+}
+
+/// Makes a call that reads a part of a location, a record of one, or lines.
+fn read_part(alloc: Global, call: &str, input: &[u8], page: &mut Page) -> Result<(), Halt> {
+    match call {
         "Scheme::from_text" => tell_named(page, Scheme::from_text(alloc, text(input)?)),
         "ipv6::is_ipv6" => tell_bool(page, ipv6::is_ipv6(text(input)?)),
         "expand_path::parse" => tell_split(page, expand_path::parse(alloc, BStr::new(input))),
         "serde_json::from_str" => tell_of_json(page, serde_json::from_str(alloc, text(input)?)),
         "lines::run" => answer_lines(alloc, input, page),
-        "lines::fault_line" => tell(page, fault_line(&RunError::Memory).as_bytes()),
-        "lines::status" => tell_bool(page, status(&Err(RunError::Memory)) == 2),
+        _ => over_fault(call, page),
+    }
+}
+
+/// Makes a call over the fault of a run.
+fn over_fault(call: &str, page: &mut Page) -> Result<(), Halt> {
+    let outcome = Err(RunError::Memory);
+    match (call, &outcome) {
+        ("lines::fault_line", Err(fault)) => tell(page, fault_line(fault).as_bytes()),
+        ("lines::status", outcome) => tell_bool(page, status(outcome) == 2),
         _ => Err(Halt::Unknown),
     }
 }

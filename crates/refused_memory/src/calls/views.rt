@@ -16,11 +16,13 @@ use std::io::Write;
 /// Makes a call that looks at a location.
 pub fn over_view(alloc: Global, order: &Order<'_>, page: &mut Page) -> Result<(), Halt> {
     let url = prepared::location(alloc, order.input)?;
-    if order.is_made {
+    let told = if order.is_made {
         look(order.call, &url, page)
     } else {
         Ok(())
-    }
+    };
+    drop(url);
+    told
 }
 
 /// Makes a call over a location.
