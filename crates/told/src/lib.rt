@@ -15,32 +15,61 @@ use std::test::Fail;
 
 /// The parts of a location that are there: its scheme, user, password, host, port, flag, spelling and path.
 pub fn told_parts(alloc: Global, url: &Url) -> Result<String, Fail> {
-    let mut out = told_front(alloc, url)?;
+    let mut out = String::new(alloc);
+    let told = tell_parts(&mut out, url);
+    finished(out, told)
+}
+
+/// What was told, if all of it was.
+fn finished(out: String, told: Result<(), Fail>) -> Result<String, Fail> {
+    match told {
+        Ok(()) => Ok(out),
+        Err(fault) => {
+            drop(out);
+            Err(fault)
+        }
+    }
+}
+
+/// Tells the parts of a location.
+fn tell_parts(out: &mut String, url: &Url) -> Result<(), Fail> {
+    tell_front(out, url)?;
     let spelled = url.original_path();
     if spelled.as_bytes() != url.path.as_bytes() {
         write!(out, " spelled={spelled}")?;
     }
-    write!(out, " path={}", url.path.as_bstr())?;
-    Ok(out)
+    Ok(write!(out, " path={}", url.path.as_bstr())?)
 }
 
 /// The same without spelling and path.
 pub fn told_front(alloc: Global, url: &Url) -> Result<String, Fail> {
     let mut out = String::new(alloc);
-    out.push_str(variant(&url.scheme))?;
-    if let Scheme::Helper(name) | Scheme::HelperUrl(name) = &url.scheme {
-        write!(out, " {name}")?;
-    }
-    put(&mut out, "user", &url.user)?;
-    put(&mut out, "password", &url.password)?;
-    put(&mut out, "host", &url.host)?;
+    let told = tell_front(&mut out, url);
+    finished(out, told)
+}
+
+/// Tells the parts of a location but spelling and path.
+fn tell_front(out: &mut String, url: &Url) -> Result<(), Fail> {
+    tell_scheme(out, &url.scheme)?;
+    put(out, "user", &url.user)?;
+    put(out, "password", &url.password)?;
+    put(out, "host", &url.host)?;
     if let Some(port) = url.port {
         write!(out, " port={port}")?;
     }
     if url.serialize_alternative_form {
         out.push_str(" flag")?;
     }
-    Ok(out)
+    Ok(())
+}
+
+/// Tells a scheme by its variant, and its name if it has one.
+fn tell_scheme(out: &mut String, scheme: &Scheme) -> Result<(), Fail> {
+    out.push_str(variant(scheme))?;
+    if let Scheme::Helper(name) | Scheme::HelperUrl(name) = scheme {
+        write!(out, " {name}")?;
+    }
+    Ok(())
 }
 
 /// A text of a location, where it is there.
@@ -67,46 +96,79 @@ fn variant(scheme: &Scheme) -> &'static str {
 
 /// Whether a location is settled, and its text; or why it has none. Where the calls that write disagree, that is told.
 pub fn told_text(alloc: Global, url: &Url) -> Result<String, Fail> {
-    let mut out = String::new(alloc);
     let mut bytes = Vec::new(alloc);
     let outcome = url.write_to(&mut bytes);
-    let agree = match url.to_bstring(alloc) {
+    let is_written = outcome.is_ok();
+    drop(outcome);
+    let text = url.to_bstring(alloc);
+    let mut out = String::new(alloc);
+    let told = tell_text(&mut out, url, &text, is_written, bytes.as_slice());
+    drop(text);
+    finished(out, told)
+}
+
+/// Tells what the calls that write answered: the text, whether the writer was told that it is written, and what it
+/// holds.
+fn tell_text(
+    out: &mut String,
+    url: &Url,
+    text: &Result<BString, Error>,
+    is_written: bool,
+    bytes: &[u8],
+) -> Result<(), Fail> {
+    let agree = match text {
         Ok(text) => {
-            let class = if url.is_settled() {
-                "settled"
-            } else {
-                "unsettled"
-            };
-            write!(out, "{class} {text}")?;
-            let length = url.text_len() == Ok(text.len() as u128);
-            length && outcome.is_ok() && bytes.as_slice() == text.as_bytes()
+            write!(out, "{} {text}", class_name(url))?;
+            is_written && bytes == text.as_bytes() && url.text_len() == Ok(text.len() as u128)
         }
         Err(Error::Unwritable(fault)) => {
-            write!(out, "unwritable {}", fault_name(fault))?;
-            let length = url.text_len() == Err(fault);
-            length && outcome.is_err() && bytes.is_empty() && !url.is_settled()
+            write!(out, "unwritable {}", fault_name(*fault))?;
+            is_unwritable(url, *fault) && !is_written && bytes.is_empty()
         }
-        Err(_other) => {
-            out.push_str("another error")?;
-            true
-        }
+        Err(_other) => return Ok(out.push_str("another error")?),
     };
     if !agree {
         out.push_str(", and the calls that write disagree")?;
     }
-    Ok(out)
+    Ok(())
+}
+
+/// Whether the calls that tell of the text know of this fault.
+fn is_unwritable(url: &Url, fault: WriteFault) -> bool {
+    url.text_len() == Err(fault) && !url.is_settled()
+}
+
+/// The name of the class of a location.
+fn class_name(url: &Url) -> &'static str {
+    if url.is_settled() {
+        "settled"
+    } else {
+        "unsettled"
+    }
 }
 
 /// An answer: the parts of a location, whether it is settled, and its text; or an error.
 pub fn told_answer(alloc: Global, answer: Result<Url, Error>) -> Result<String, Fail> {
-    match answer {
-        Err(error) => told_error(alloc, &error),
-        Ok(url) => {
-            let mut out = told_parts(alloc, &url)?;
-            write!(out, ", {}", told_text(alloc, &url)?)?;
-            Ok(out)
-        }
-    }
+    let told = match &answer {
+        Err(error) => told_error(alloc, error),
+        Ok(url) => told_location(alloc, url),
+    };
+    drop(answer);
+    told
+}
+
+/// The parts of a location, whether it is settled, and its text.
+fn told_location(alloc: Global, url: &Url) -> Result<String, Fail> {
+    let text = told_text(alloc, url)?;
+    let mut out = String::new(alloc);
+    let told = tell_both(&mut out, url, text.as_str());
+    finished(out, told)
+}
+
+/// Tells the parts of a location, and a text behind them.
+fn tell_both(out: &mut String, url: &Url, text: &str) -> Result<(), Fail> {
+    tell_parts(out, url)?;
+    Ok(write!(out, ", {text}")?)
 }
 
 /// The name of a fault of writing.
@@ -122,24 +184,28 @@ fn fault_name(fault: WriteFault) -> &'static str {
 /// An error's name, then its fault and the form, or the name that it tells, where it has them.
 pub fn told_error(alloc: Global, error: &Error) -> Result<String, Fail> {
     let mut out = String::new(alloc);
+    let told = tell_error(&mut out, error);
+    finished(out, told)
+}
+
+/// Tells an error's name, and what it has.
+fn tell_error(out: &mut String, error: &Error) -> Result<(), Fail> {
     match error {
-        Error::EmptyLocal => out.push_str("EmptyLocal")?,
-        Error::MissingPath { kind, .. } => write!(out, "MissingPath {}", kind_name(*kind))?,
-        Error::NotUtf8 { kind, .. } => write!(out, "NotUtf8 {}", kind_name(*kind))?,
-        Error::TooLong { shown, total } => write!(out, "TooLong {} of {total}", shown.len())?,
-        Error::BadUrl { kind, fault, .. } => {
-            write!(
-                out,
-                "BadUrl {} {}",
-                url_fault_name(*fault),
-                kind_name(*kind)
-            )?
-        }
-        Error::HelperName { name } => write!(out, "HelperName {name}")?,
-        Error::Unwritable(fault) => write!(out, "Unwritable {}", fault_name(*fault))?,
-        _ => out.push_str("another error")?,
+        Error::EmptyLocal => Ok(out.push_str("EmptyLocal")?),
+        Error::MissingPath { kind, .. } => Ok(write!(out, "MissingPath {}", kind_name(*kind))?),
+        Error::NotUtf8 { kind, .. } => Ok(write!(out, "NotUtf8 {}", kind_name(*kind))?),
+        Error::TooLong { shown, total } => Ok(write!(out, "TooLong {} of {total}", shown.len())?),
+        Error::BadUrl { kind, fault, .. } => tell_bad_url(out, *fault, *kind),
+        Error::HelperName { name } => Ok(write!(out, "HelperName {name}")?),
+        Error::Unwritable(fault) => Ok(write!(out, "Unwritable {}", fault_name(*fault))?),
+        _ => Ok(out.push_str("another error")?),
     }
-    Ok(out)
+}
+
+/// Tells what is wrong with a form.
+fn tell_bad_url(out: &mut String, fault: UrlFault, kind: UrlKind) -> Result<(), Fail> {
+    let (fault, kind) = (url_fault_name(fault), kind_name(kind));
+    Ok(write!(out, "BadUrl {fault} {kind}")?)
 }
 
 /// The name of a form.
