@@ -81,12 +81,17 @@ fn failures(rt: &impl Abort, alloc: Global, at_most: usize, failure: Failure) ->
     None
 }
 
+/// Checks a number of failures.
+fn is_count(rt: &impl Abort, found: Option<usize>, count: usize, at_most: usize) {
+    assert_eq!(rt; found, Some(count), "{at_most} bytes a call");
+}
+
 /// Checks the number of failures of a writer that takes at most so many bytes a call, in both ways to fail.
 fn fails(rt: &impl Abort, alloc: Global, at_most: usize, count: usize) {
     let by_error = failures(rt, alloc, at_most, Failure::Error(gone()));
     let by_nothing = failures(rt, alloc, at_most, Failure::TakesNothing);
-    assert_eq!(rt; by_error, Some(count), "{at_most} bytes a call");
-    assert_eq!(rt; by_nothing, Some(count), "{at_most} bytes a call");
+    is_count(rt, by_error, count, at_most);
+    is_count(rt, by_nothing, count, at_most);
 }
 
 #[test]

@@ -12,25 +12,30 @@ use told::boxes::boxed;
 
 /// A location with this path and this spelling of it.
 fn spelled(alloc: Global, path: &[u8], spelling: &[u8]) -> Result<Box<Url>, Fail> {
+    let host = String::from_str(alloc, "h")?;
+    let path = Vec::from_slice(alloc, path)?;
+    let spelling = Vec::from_slice(alloc, spelling)?;
     let record = StoredUrl {
         scheme: Scheme::Https,
         user: None,
         password: None,
-        host: Some(String::from_str(alloc, "h")?),
+        host: Some(host),
         serialize_alternative_form: false,
         port: None,
-        path: Vec::from_slice(alloc, path)?,
-        path_with_percent_escapes: Some(Vec::from_slice(alloc, spelling)?),
+        path,
+        path_with_percent_escapes: Some(spelling),
     };
     boxed(alloc, Url::from_stored(alloc, record)?)
 }
 
 /// Whether a character was refused.
-fn is_refused(read: &Result<Url, Error>) -> bool {
-    match read {
+fn is_refused(read: Result<Url, Error>) -> bool {
+    let is_told = match &read {
         Err(Error::BadUrl { fault, .. }) => *fault == UrlFault::BadCharacter,
         _ => false,
-    }
+    };
+    drop(read);
+    is_told
 }
 
 /// Checks what the path of a location is made of, and that the location is unsettled.
@@ -65,7 +70,7 @@ fn broken_escapes_are_bytes(rt: HostRuntime) -> Result<(), Fail> {
 /// Checks how a location is written, and that its text is refused.
 fn is_not_read_again(rt: &impl Abort, alloc: Global, url: &Url, text: &[u8]) -> Result<(), Fail> {
     same::bytes(rt, url.to_bstring(alloc)?.as_bytes(), text);
-    same::holds(rt, is_refused(&url.reread(alloc)), "a bad character");
+    same::holds(rt, is_refused(url.reread(alloc)), "a bad character");
     Ok(())
 }
 

@@ -71,7 +71,9 @@ fn in_place(
         calls = calls.saturating_add(1);
         given
     });
-    Ok((told(outcome.as_ref().err()), calls))
+    let told = told(outcome.as_ref().err());
+    drop(outcome);
+    Ok((told, calls))
 }
 
 /// Whether this outcome is that of the copy, and a copy is the location that was canonicalized in place.
@@ -80,6 +82,19 @@ fn agree(copy: &Result<Url, Error>, outcome: &str, url: &Url) -> bool {
         Ok(copy) => outcome == told(None) && copy == url,
         Err(error) => outcome == told(Some(error)),
     }
+}
+
+/// The same in place, and checks that it is alike in this copy.
+fn in_place_as(
+    rt: &impl Abort,
+    alloc: Global,
+    url: &mut Url,
+    answer: Option<&str>,
+    copy: &Result<Url, Error>,
+) -> Result<(&'static str, u8), Fail> {
+    let told = in_place(alloc, url, answer)?;
+    same::holds(rt, agree(copy, told.0, url), "the copy is alike");
+    Ok(told)
 }
 
 /// Canonicalizes a location by a resolver that answers this, in place and in a copy, which have to agree. Checks the
@@ -91,10 +106,10 @@ fn canonicalize(
     answer: Option<&str>,
     wanted: (&str, u8),
 ) -> Result<(), Fail> {
-    let copied = in_a_copy(rt, alloc, url, answer)?;
-    let told = in_place(alloc, url, answer)?;
-    same::holds(rt, agree(&copied.0, told.0, url), "the copy is alike");
-    are_wanted(rt, told, copied.1, wanted);
+    let (copy, calls) = in_a_copy(rt, alloc, url, answer)?;
+    let told = in_place_as(rt, alloc, url, answer, &copy);
+    drop(copy);
+    are_wanted(rt, told?, calls, wanted);
     Ok(())
 }
 
@@ -139,6 +154,13 @@ fn the_answer_is_the_path(rt: HostRuntime) -> Result<(), Fail> {
     takes(&rt, rt.alloc(), "file:///a%20b", "/c", "file:///c")
 }
 
+/// Whether a location stays since its path is not found.
+fn is_unresolved(outcome: Result<(), Error>) -> bool {
+    let is_told = matches!(&outcome, Err(Error::Unresolved));
+    drop(outcome);
+    is_told
+}
+
 /// Whether the resolver is asked for this path, and a refusal of it is told.
 fn is_asked_for(url: &mut Url, path: &str) -> bool {
     let mut right = false;
@@ -146,7 +168,7 @@ fn is_asked_for(url: &mut Url, path: &str) -> bool {
         right = asked == path;
         None
     });
-    right && matches!(&outcome, Err(Error::Unresolved))
+    is_unresolved(outcome) && right
 }
 
 #[test]
@@ -178,8 +200,14 @@ fn keeps(
 fn a_path_that_is_no_text_stays(rt: HostRuntime) -> Result<(), Fail> {
     let mut url = read(rt.alloc(), "/")?;
     url.path.push(0xff)?;
-    let (answer, wanted) = (Some("/b"), ("not UTF-8", 0));
-    keeps(&rt, rt.alloc(), &mut url, answer, wanted, b"/\xff")
+    keeps(
+        &rt,
+        rt.alloc(),
+        &mut url,
+        Some("/b"),
+        ("not UTF-8", 0),
+        b"/\xff",
+    )
 }
 
 #[test]
@@ -218,7 +246,9 @@ fn other_schemes_stay(rt: HostRuntime) -> Result<(), Fail> {
 
 /// Checks the path that the file system has for a location.
 fn is_really<R: Files + AllocGlobal + Abort>(rt: &R, url: &Url, path: &str) -> Result<(), Fail> {
-    same::bytes(rt, real(rt, url)?.path.as_bytes(), path.as_bytes());
+    let real = real(rt, url)?;
+    same::bytes(rt, real.path.as_bytes(), path.as_bytes());
+    drop(real);
     Ok(())
 }
 
@@ -239,7 +269,7 @@ fn the_root_of_the_file_system(rt: HostRuntime) -> Result<(), Fail> {
 #[test]
 fn what_the_file_system_lacks(rt: HostRuntime) -> Result<(), Fail> {
     let mut url = read(rt.alloc(), "/no such folder/at all")?;
-    let is_told = matches!(&resolve(&rt, &mut url), Err(Error::Unresolved));
+    let is_told = is_unresolved(resolve(&rt, &mut url));
     same::holds(&rt, is_told, "nothing is there");
     Ok(())
 }

@@ -1,9 +1,9 @@
 //! Path, query and fragment of locations: rows, and a plain second reading of random paths.
 
-use crate::plain_components::{plainly_told, random_path};
+use crate::plain_components::{plainly_told, put, random_path};
 use crate::same;
 use bstr::BString;
-use gix_url::{PathComponents, QueryText, Url};
+use gix_url::{Error, PathComponents, QueryText, Url};
 use std::alloc::Global;
 use std::process::Abort;
 use std::test::Fail;
@@ -51,29 +51,34 @@ fn tell_term(told: &mut Vec<u8>, text: &QueryText<'_>) -> Result<(), Fail> {
         QueryText::Borrowed(_) => (b"<", b">"),
         QueryText::Owned(_) => (b"{", b"}"),
     };
-    told.extend_from_slice(before)?;
-    told.extend_from_slice(text.as_bstr().as_bytes())?;
-    told.extend_from_slice(behind)?;
+    put(told, before)?;
+    put(told, text.as_bstr().as_bytes())?;
+    put(told, behind)
+}
+
+/// Tells the pairs of a query.
+fn tell_query(told: &mut Vec<u8>, pairs: &[(QueryText<'_>, QueryText<'_>)]) -> Result<(), Fail> {
+    put(told, b" ?")?;
+    for pair in pairs {
+        put(told, b" ")?;
+        tell_term(told, &pair.0)?;
+        put(told, b"=")?;
+        tell_term(told, &pair.1)?;
+    }
     Ok(())
 }
 
 /// Tells what a path is made of, as the tables tell it.
 fn tell(told: &mut Vec<u8>, parts: &PathComponents<'_>) -> Result<(), Fail> {
-    told.extend_from_slice(parts.path.as_bytes())?;
+    put(told, parts.path.as_bytes())?;
     if let Some(pairs) = &parts.query {
-        told.extend_from_slice(b" ?")?;
-        for pair in pairs {
-            told.extend_from_slice(b" ")?;
-            tell_term(told, &pair.0)?;
-            told.extend_from_slice(b"=")?;
-            tell_term(told, &pair.1)?;
-        }
+        tell_query(told, pairs.as_slice())?;
     }
-    if let Some(fragment) = &parts.fragment {
-        told.extend_from_slice(b" #")?;
-        told.extend_from_slice(fragment.as_bytes())?;
-    }
-    Ok(())
+    let Some(fragment) = &parts.fragment else {
+        return Ok(());
+    };
+    put(told, b" #")?;
+    put(told, fragment.as_bytes())
 }
 
 /// What a path is made of, told so.
@@ -265,14 +270,22 @@ fn random_paths_read_plainly(rt: HostRuntime) -> Result<(), Fail> {
     Ok(())
 }
 
+/// A box of the location that was read, if there is one.
+fn found(alloc: Global, read: Result<Url, Error>) -> Result<Option<Box<Url>>, Fail> {
+    match read {
+        Ok(url) => Ok(Some(boxed(alloc, url)?)),
+        Err(error) => {
+            drop(error);
+            Ok(None)
+        }
+    }
+}
+
 /// What a URL of HTTP with this path is read as, if it is one.
 fn read_with(alloc: Global, path: &[u8]) -> Result<Option<Box<Url>>, Fail> {
     let mut text = BString::from_slice(alloc, b"http://h/")?;
     text.extend_from_slice(path)?;
-    match Url::from_bytes(alloc, text.as_bstr()) {
-        Ok(url) => Ok(Some(boxed(alloc, url)?)),
-        Err(_) => Ok(None),
-    }
+    found(alloc, Url::from_bytes(alloc, text.as_bstr()))
 }
 
 /// A location of HTTP with the path of this number: what a text with it is read as, if it is a URL.

@@ -18,8 +18,11 @@ use std::test::Fail;
 fn expand(rt: &(impl Env + AllocGlobal), path: BStr<'_>) -> Result<String, Error> {
     let (user, rest) = expand_path::parse(rt.alloc(), path)?;
     let home = env::home_dir(rt).ok().flatten();
-    let home = home.as_ref().map(|home| home.as_path().as_str());
-    expand_path::expand_path(rt.alloc(), user.as_ref(), rest.as_bstr(), home)
+    let folder = home.as_ref().map(|home| home.as_path().as_str());
+    let outcome = expand_path::expand_path(rt.alloc(), user.as_ref(), rest.as_bstr(), folder);
+    drop(user);
+    drop(home);
+    outcome
 }
 
 /// The path, where all users have their home folders in `/home`.
@@ -88,6 +91,7 @@ fn is_resolved(
     let (outcome, calls) = with_home(rt, alloc, user, path.as_bytes(), Some(home))?;
     same::calls(rt, calls, u8::from(user.is_some()), path);
     lies_at(rt, &outcome, whole);
+    drop(outcome);
     Ok(())
 }
 
@@ -116,6 +120,7 @@ fn has_no_home(rt: &impl Abort, alloc: Global, user: &ForUser) -> Result<(), Fai
     let (outcome, calls) = with_home(rt, alloc, Some(user), b"/a", None)?;
     same::calls(rt, calls, 1, "/a");
     has_none(rt, &outcome, user, "none");
+    drop(outcome);
     Ok(())
 }
 
@@ -126,8 +131,9 @@ fn users_without_a_home(rt: HostRuntime) -> Result<(), Fail> {
 }
 
 /// Checks that the path was no text.
-fn is_not_utf8(rt: &impl Abort, outcome: &Result<String, Error>) {
-    let is_told = matches!(outcome, Err(Error::PathNotUtf8));
+fn is_not_utf8(rt: &impl Abort, outcome: Result<String, Error>) {
+    let is_told = matches!(&outcome, Err(Error::PathNotUtf8));
+    drop(outcome);
     same::holds(rt, is_told, "the path is no text");
 }
 
@@ -135,11 +141,9 @@ fn is_not_utf8(rt: &impl Abort, outcome: &Result<String, Error>) {
 fn is_no_text(rt: &impl Abort, alloc: Global, user: Option<&ForUser>) -> Result<(), Fail> {
     let (outcome, calls) = with_home(rt, alloc, user, b"/\xff", Some("/h"))?;
     same::calls(rt, calls, 0, "what is no text");
-    is_not_utf8(rt, &outcome);
-    is_not_utf8(
-        rt,
-        &expand_path::expand_path(alloc, user, BStr::new(b"/\xff"), Some("/h")),
-    );
+    is_not_utf8(rt, outcome);
+    let outcome = expand_path::expand_path(alloc, user, BStr::new(b"/\xff"), Some("/h"));
+    is_not_utf8(rt, outcome);
     Ok(())
 }
 
@@ -197,8 +201,10 @@ fn is_expanded(
 fn needs_both(rt: &impl Abort, alloc: Global, user: &ForUser, path: &str, home: &str) {
     let outcome = expand_path::expand_path(alloc, Some(user), BStr::from(path), None);
     has_none(rt, &outcome, user, "no home at all");
+    drop(outcome);
     let outcome = expand_path::expand_path(alloc, None, BStr::from(path), Some(home));
     lies_at(rt, &outcome, path);
+    drop(outcome);
 }
 
 #[test]
@@ -215,6 +221,7 @@ fn expansions_by_a_home(rt: HostRuntime) -> Result<(), Fail> {
 fn lies_in_home(rt: &impl Abort, alloc: Global, user: &ForUser, whole: Option<&str>) {
     let outcome = in_home(alloc, Some(user), BStr::from("/r"));
     is_found(rt, &outcome, user, whole, "/home");
+    drop(outcome);
 }
 
 #[test]
@@ -257,6 +264,10 @@ fn lies_in(
 
 #[test]
 fn the_home_of_the_environment(rt: HostRuntime) -> Result<(), Fail> {
+    let home = env::home_dir(&rt)?;
     let outcome = expand(&rt, BStr::from("/~/a"));
-    lies_in(&rt, rt.alloc(), &outcome, &env::home_dir(&rt)?)
+    let told = lies_in(&rt, rt.alloc(), &outcome, &home);
+    drop(outcome);
+    drop(home);
+    told
 }

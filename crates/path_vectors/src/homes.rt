@@ -114,7 +114,10 @@ fn is_expanded_plainly(
 ) -> Result<(), Fail> {
     let (user, left) = expand_path::parse(alloc, BStr::new(path))?;
     let outcome = expand_path::expand_path(alloc, user.as_ref(), left.as_bstr(), Some(home));
-    lies_as_read(rt, alloc, &outcome, name, (left.as_bstr(), home))
+    drop(user);
+    let told = lies_as_read(rt, alloc, &outcome, name, (left.as_bstr(), home));
+    drop(outcome);
+    told
 }
 
 /// Checks where what is left of a path lies below a home folder, by the second reading.

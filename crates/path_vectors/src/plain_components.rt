@@ -39,19 +39,17 @@ impl Piece {
     fn push(&mut self, byte: u8) -> Result<(), Fail> {
         if byte == b'+' {
             self.has_plus = true;
-            self.bytes.extend_from_slice(b" ")?;
+            put(&mut self.bytes, b" ")
         } else {
-            self.bytes.extend_from_slice(&[byte])?;
+            put(&mut self.bytes, &[byte])
         }
-        Ok(())
     }
 
     /// Tells the piece, lent or not.
     fn tell(&self, told: &mut Vec<u8>, escaped: bool) -> Result<(), Fail> {
-        told.extend_from_slice(if self.has_plus { b"{" } else { b"<" })?;
+        put(told, if self.has_plus { b"{" } else { b"<" })?;
         tell(told, self.bytes.as_slice(), escaped)?;
-        told.extend_from_slice(if self.has_plus { b"}" } else { b">" })?;
-        Ok(())
+        put(told, if self.has_plus { b"}" } else { b">" })
     }
 }
 
@@ -83,9 +81,9 @@ impl Field {
         if self.is_empty {
             return Ok(());
         }
-        told.extend_from_slice(b" ")?;
+        put(told, b" ")?;
         self.name.tell(told, escaped)?;
-        told.extend_from_slice(b"=")?;
+        put(told, b"=")?;
         self.value.tell(told, escaped)
     }
 }
@@ -112,6 +110,11 @@ fn escape(text: &[u8]) -> Option<u8> {
     }
 }
 
+/// Puts bytes behind others.
+pub fn put(told: &mut Vec<u8>, bytes: &[u8]) -> Result<(), Fail> {
+    Ok(told.extend_from_slice(bytes)?)
+}
+
 /// Tells a piece: decoded where escapes stand for their bytes.
 fn tell(told: &mut Vec<u8>, piece: &[u8], escaped: bool) -> Result<(), Fail> {
     let mut skipped = 0u8;
@@ -122,10 +125,10 @@ fn tell(told: &mut Vec<u8>, piece: &[u8], escaped: bool) -> Result<(), Fail> {
         }
         match escape(&piece[at..]) {
             Some(byte) if escaped => {
-                told.extend_from_slice(&[byte])?;
+                put(told, &[byte])?;
                 skipped = 2;
             }
-            _ => told.extend_from_slice(&[piece[at]])?,
+            _ => put(told, &[piece[at]])?,
         }
     }
     Ok(())
@@ -157,30 +160,33 @@ impl Reading {
         match (self.place, byte) {
             (Place::Path, b'?') => {
                 self.place = Place::Query;
-                self.told_query.extend_from_slice(b" ?")?;
+                put(&mut self.told_query, b" ?")
             }
             (Place::Path, b'#') | (Place::Query, b'#') => {
                 self.place = Place::Fragment;
-                self.fragment.extend_from_slice(b" #")?;
+                put(&mut self.fragment, b" #")
             }
-            (Place::Query, b'&') => {
-                self.field.tell(&mut self.told_query, escaped)?;
-                self.field = Field::empty(alloc);
-            }
-            (Place::Path, _) => self.path.extend_from_slice(&[byte])?,
-            (Place::Query, _) => self.field.push(byte)?,
-            (Place::Fragment, _) => self.fragment.extend_from_slice(&[byte])?,
+            (Place::Query, b'&') => self.end_field(alloc, escaped),
+            (Place::Path, _) => put(&mut self.path, &[byte]),
+            (Place::Query, _) => self.field.push(byte),
+            (Place::Fragment, _) => put(&mut self.fragment, &[byte]),
         }
+    }
+
+    /// Tells the field that ends here, and begins the next.
+    fn end_field(&mut self, alloc: Global, escaped: bool) -> Result<(), Fail> {
+        self.field.tell(&mut self.told_query, escaped)?;
+        self.field = Field::empty(alloc);
         Ok(())
     }
 
     /// Tells what was read; an empty path is the root.
     fn tell(&self, told: &mut Vec<u8>, escaped: bool) -> Result<(), Fail> {
         if self.path.is_empty() {
-            told.extend_from_slice(b"/")?;
+            put(told, b"/")?;
         }
         tell(told, self.path.as_slice(), escaped)?;
-        told.extend_from_slice(self.told_query.as_slice())?;
+        put(told, self.told_query.as_slice())?;
         self.field.tell(told, escaped)?;
         tell(told, self.fragment.as_slice(), escaped)
     }

@@ -27,12 +27,18 @@ type Example = (&'static str, &'static [u8], &'static str, &'static str);
 
 /// What the library reads in a text.
 fn told(alloc: Global, text: &[u8]) -> Result<String, Fail> {
+    let read = read(alloc, text)?;
     let mut out = String::new(alloc);
-    match &*read(alloc, text)? {
-        Err(error) => write!(out, "refused {}", flaw(error))?,
-        Ok(url) => tell(&mut out, url)?,
-    }
+    tell_reading(&mut out, &read)?;
     Ok(out)
+}
+
+/// Tells what was read, or why it was refused.
+fn tell_reading(out: &mut String, read: &Result<Url, Error>) -> Result<(), Fail> {
+    match read {
+        Err(error) => Ok(write!(out, "refused {}", flaw(error))?),
+        Ok(url) => tell(out, url),
+    }
 }
 
 /// What is read in a text, or why it is refused.
@@ -45,6 +51,11 @@ fn tell(out: &mut String, url: &Url) -> Result<(), Fail> {
     out.push_str(url.scheme.as_str())?;
     put(out, "user", url.user())?;
     put(out, "password", url.password())?;
+    tell_place(out, url)
+}
+
+/// Tells host, port and path of a location, where they are there.
+fn tell_place(out: &mut String, url: &Url) -> Result<(), Fail> {
     put(out, "host", url.host())?;
     if let Some(port) = url.port {
         write!(out, " port={port}")?;
@@ -56,9 +67,14 @@ fn tell(out: &mut String, url: &Url) -> Result<(), Fail> {
 /// Whether the text is let by: Git is said to read in it what the library does, and it is the text that is written.
 fn is_let_by(alloc: Global, text: &[u8]) -> Result<bool, Fail> {
     match &*read(alloc, text)? {
-        Err(_) => Ok(false),
-        Ok(url) => Ok(url.agrees_with_git() && url.to_bstring(alloc)?.as_bytes() == text),
+        Ok(url) if url.agrees_with_git() => is_written(alloc, url, text),
+        _ => Ok(false),
     }
+}
+
+/// Whether this is the text that is written for a location.
+fn is_written(alloc: Global, url: &Url, text: &[u8]) -> Result<bool, Fail> {
+    Ok(url.to_bstring(alloc)?.as_bytes() == text)
 }
 
 /// A part, where it is there.
@@ -67,6 +83,11 @@ fn put(out: &mut String, name: &str, part: Option<&str>) -> Result<(), Fail> {
         write!(out, " {name}={part}")?;
     }
     Ok(())
+}
+
+/// Checks whether it is so, of a text of this class.
+fn is(rt: &impl Abort, found: bool, want: bool, class: &str) {
+    assert_eq!(rt; found, want, "{class}");
 }
 
 /// Checks what is read in the text of an example, whether that is what Git reads in it, and that it is let by if it is.
@@ -78,8 +99,8 @@ fn is_as_stored(
     is_alike: bool,
 ) {
     assert_eq!(rt; told, ours);
-    assert_eq!(rt; told == git, is_alike, "{class}");
-    assert_eq!(rt; is_let_by, is_alike, "{class}");
+    is(rt, told == git, is_alike, class);
+    is(rt, is_let_by, is_alike, class);
 }
 
 /// Checks texts that are all read alike, or all read differently.

@@ -43,36 +43,55 @@ struct LineAnswer {
 
 /// What is said of bytes.
 fn said(alloc: Global, bytes: &[u8]) -> Result<LineAnswer, Error> {
-    match Url::from_bytes(alloc, BStr::new(bytes)) {
-        Ok(url) => said_of(alloc, bytes, &url),
+    let read = Url::from_bytes(alloc, BStr::new(bytes));
+    let said = match &read {
+        Ok(url) => said_of(alloc, bytes, url),
         Err(Error::Memory) => Err(Error::Memory),
-        Err(error) => Ok(LineAnswer {
-            reading: Reading::Refused(String::from_str(alloc, flaw(&error))?),
-            written: None,
-            agrees_with_git: false,
-        }),
-    }
+        Err(error) => said_refused(alloc, error),
+    };
+    drop(read);
+    said
+}
+
+/// What is said of bytes that are refused.
+fn said_refused(alloc: Global, error: &Error) -> Result<LineAnswer, Error> {
+    let flaw = String::from_str(alloc, flaw(error))?;
+    Ok(LineAnswer {
+        reading: Reading::Refused(flaw),
+        written: None,
+        agrees_with_git: false,
+    })
 }
 
 /// What is said of bytes and of what they are read as.
 fn said_of(alloc: Global, bytes: &[u8], url: &Url) -> Result<LineAnswer, Error> {
+    let written = written(alloc, bytes, url)?;
     let parts = url.to_stored(alloc)?;
-    let agrees_with_git = url.agrees_with_git();
-    let (reading, written) = if !url.is_settled() {
-        (Reading::Unsettled(parts), None)
+    let reading = if !url.is_settled() {
+        Reading::Unsettled(parts)
+    } else if written.is_none() {
+        Reading::Same(parts)
     } else {
-        let text = url.to_bstring(alloc)?.into_vec();
-        if text.as_slice() == bytes {
-            (Reading::Same(parts), None)
-        } else {
-            (Reading::Settled(parts), Some(text))
-        }
+        Reading::Settled(parts)
     };
     Ok(LineAnswer {
         reading,
         written,
-        agrees_with_git,
+        agrees_with_git: url.agrees_with_git(),
     })
+}
+
+/// The text of a settled location, where it isn't the bytes.
+fn written(alloc: Global, bytes: &[u8], url: &Url) -> Result<Option<Vec<u8>>, Error> {
+    if !url.is_settled() {
+        return Ok(None);
+    }
+    let text = url.to_bstring(alloc)?.into_vec();
+    if text.as_slice() == bytes {
+        Ok(None)
+    } else {
+        Ok(Some(text))
+    }
 }
 
 /// The name of what is wrong with a text.
@@ -95,7 +114,9 @@ fn flaw(error: &Error) -> &'static str {
 /// The answer to a line.
 fn answer(alloc: Global, line: &[u8]) -> Result<String, AllocError> {
     let said = said(alloc, line).map_err(|_| AllocError)?;
-    serde_json::to_string(alloc, &said).map_err(|_| AllocError)
+    let told = serde_json::to_string(alloc, &said);
+    drop(said);
+    told.map_err(|_| AllocError)
 }
 
 fn main(rt: HostRuntime) -> io::Result<()> {
