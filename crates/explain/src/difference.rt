@@ -50,9 +50,16 @@ impl Reread {
             return Ok(None);
         }
         match url.reread(alloc) {
-            Ok(other) => Ok(Some(Reread::another(alloc, url, &other)?)),
-            Err(Error::Memory) => Err(AllocError),
-            Err(error) => Ok(Some(Reread::refused(alloc, &error)?)),
+            Ok(other) => {
+                let another = Reread::another(alloc, url, &other);
+                drop(other);
+                Ok(Some(another?))
+            }
+            Err(error) => {
+                let refused = Reread::refused(alloc, &error);
+                drop(error);
+                Ok(Some(refused?))
+            }
         }
     }
 
@@ -68,14 +75,17 @@ impl Reread {
         })
     }
 
-    /// What is told where the text is refused so.
+    /// What is told where the text is refused so, unless it is memory that was wanting.
     fn refused(alloc: Global, error: &Error) -> Result<Reread, AllocError>
         ensures { IfOk result (λ it. IsNone it.difference) }
     {
+        if matches!(error, Error::Memory) {
+            return Err(AllocError);
+        }
         Ok(Reread {
+            words: format!(in alloc; "its own text is refused: {error}")?,
             difference: None,
             refusal: Some(Refusal::of(alloc, error)?),
-            words: format!(in alloc; "its own text is refused: {error}")?,
         })
     }
 }

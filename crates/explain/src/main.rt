@@ -50,13 +50,24 @@ fn asked(rt: &(impl Env + AllocGlobal + Print + Eprint)) -> Result<Layout, u8> {
         let _ = rt.eprintln("explain: the arguments are no text, or memory is refused");
         return Err(2);
     };
-    match options(rt.alloc(), words.as_slice()) {
-        Ok(given) if given.get_flag("json") => Ok(Layout::Json),
-        Ok(_) => Ok(Layout::People),
+    let given = options(rt.alloc(), words.as_slice());
+    let layout = match &given {
+        Ok(given) => Ok(layout_of(given)),
         Err(error) => {
             let _ = error.print(rt);
             Err(if error.use_stderr() { 2 } else { 0 })
         }
+    };
+    drop(given);
+    layout
+}
+
+/// The layout that the options ask for.
+fn layout_of(given: &ArgMatches<'_>) -> Layout {
+    if given.get_flag("json") {
+        Layout::Json
+    } else {
+        Layout::People
     }
 }
 
@@ -67,6 +78,11 @@ fn words(rt: &(impl Env + AllocGlobal)) -> io::Result<Vec<String>> {
 
 /// The options of the command line, or what is printed in place of an answer.
 fn options<'a>(alloc: Global, words: &'a [String]) -> Result<ArgMatches<'a>, clap::Error> {
+    command(alloc)?.try_get_matches_from(words)
+}
+
+/// What the program is and takes on its command line.
+fn command<'a>(alloc: Global) -> Result<Command<'a>, AllocError> {
     let json = Arg::new(alloc, "json")
         .long("json")
         .help("Answer each line by one JSON object on a line")
@@ -74,8 +90,7 @@ fn options<'a>(alloc: Global, words: &'a [String]) -> Result<ArgMatches<'a>, cla
     Command::new(alloc, "explain")
         .version("0.40.1")
         .about("Tells what each line of the standard input means as a Git location")
-        .arg(json)?
-        .try_get_matches_from(words)
+        .arg(json)
 }
 
 /// Answers all lines of the input, each as soon as it is read. `Ok(true)` says that every line is settled.
@@ -88,15 +103,26 @@ fn run<B: BufRead + Drop, W: Write>(
     let mut all = true;
     let mut number = 0u64;
     for line in input.split(alloc, b'\n') {
-        let line = line.map_err(RunError::Read)?;
         number = number.saturating_add(1);
-        let (answer, is_settled) = answered(alloc, number, line.as_slice(), layout)?;
-        output
-            .write_all(answer.as_str().as_bytes())
-            .map_err(RunError::Write)?;
-        all &= is_settled;
+        all &= answer_line(alloc, number, line, output, layout)?;
     }
     Ok(all)
+}
+
+/// Writes the answer to a line. `Ok(true)` says that the line is settled.
+fn answer_line<W: Write>(
+    alloc: Global,
+    number: u64,
+    line: io::Result<Vec<u8>>,
+    output: &mut W,
+    layout: Layout,
+) -> Result<bool, RunError> {
+    let line = line.map_err(RunError::Read)?;
+    let (answer, is_settled) = answered(alloc, number, line.as_slice(), layout)?;
+    output
+        .write_all(answer.as_str().as_bytes())
+        .map_err(RunError::Write)?;
+    Ok(is_settled)
 }
 
 /// The answer to a line, and whether the line is settled.
@@ -106,11 +132,13 @@ fn answered(
     line: &[u8],
     layout: Layout,
 ) -> Result<(String, bool), AllocError> {
-    match parse(alloc, BStr::new(line)) {
-        Ok(url) => told_location(alloc, number, &url, layout),
-        Err(Error::Memory) => Err(AllocError),
-        Err(error) => Ok((told_refusal(alloc, number, &error, layout)?, false)),
-    }
+    let read = parse(alloc, BStr::new(line));
+    let answer = match &read {
+        Ok(url) => told_location(alloc, number, url, layout),
+        Err(error) => told_error(alloc, number, error, layout),
+    };
+    drop(read);
+    answer
 }
 
 /// What is told of a location, and whether it is settled.
@@ -121,7 +149,10 @@ fn told_location(
     layout: Layout,
 ) -> Result<(String, bool), AllocError> {
     let told = Told::of(alloc, url)?;
-    Ok((laid_out(alloc, number, url, &told, layout)?, told.settled))
+    let is_settled = told.settled;
+    let answer = laid_out(alloc, number, url, &told, layout);
+    drop(told);
+    Ok((answer?, is_settled))
 }
 
 /// The answer to a line that is read as a location.
@@ -145,6 +176,19 @@ fn laid_out(
     }
 }
 
+/// What is told of a line that is read as no location: that it isn't settled, and why, unless memory is wanting.
+fn told_error(
+    alloc: Global,
+    number: u64,
+    error: &Error,
+    layout: Layout,
+) -> Result<(String, bool), AllocError> {
+    match error {
+        Error::Memory => Err(AllocError),
+        error => Ok((told_refusal(alloc, number, error, layout)?, false)),
+    }
+}
+
 /// What is told of a line that is refused.
 fn told_refusal(
     alloc: Global,
@@ -153,7 +197,7 @@ fn told_refusal(
     layout: Layout,
 ) -> Result<String, AllocError> {
     let refusal = Refusal::of(alloc, error)?;
-    match layout {
+    let answer = match layout {
         Layout::People => shown::refusal(alloc, number, &refusal),
         Layout::Json => json(
             alloc,
@@ -163,7 +207,9 @@ fn told_refusal(
                 refusal: Some(&refusal),
             },
         ),
-    }
+    };
+    drop(refusal);
+    answer
 }
 
 /// The answer as one line of JSON. All parts of an answer have a JSON, so only memory can be wanting.

@@ -4,7 +4,7 @@
 //! uses what `told` and `refusal` found, and has no contract: `scripts/hostile people` shows its answers.
 
 use crate::refusal::Refusal;
-use crate::told::{Arguments, Components, Home, Safety, Told};
+use crate::told::{Arguments, Components, Field, Home, Safety, Told};
 use gix_url::Url;
 use std::alloc::{AllocError, Global};
 use std::fmt::{Display, Write};
@@ -16,20 +16,31 @@ pub fn location(
     url: &Url,
     told: &Told<'_>,
 ) -> Result<String, AllocError> {
-    let mut out = format!(in alloc; "line {number}: {}, ", told.form)?;
-    match &told.reread {
-        None => out.push_str("settled\n")?,
-        Some(reread) => writeln!(out, "not settled: {}", reread.words)?,
-    }
-    if let Some(text) = &told.text {
-        row(&mut out, "text", format_args!("{text:?}"))?;
-        row(&mut out, "git", format_args!("{}", reading_of_git(told)))?;
-    }
-    row(&mut out, "scheme", format_args!("{}", told.scheme))?;
+    let mut out = String::new(alloc);
+    heading(&mut out, number, told)?;
+    text(&mut out, told)?;
     parts(&mut out, url, told)?;
     components(&mut out, &told.components)?;
     on_files(&mut out, told)?;
     Ok(out)
+}
+
+/// The heading of a location.
+fn heading(out: &mut String, number: u64, told: &Told<'_>) -> Result<(), AllocError> {
+    let form = told.form;
+    match &told.reread {
+        None => writeln!(out, "line {number}: {form}, settled"),
+        Some(reread) => writeln!(out, "line {number}: {form}, not settled: {}", reread.words),
+    }
+}
+
+/// The rows of the text, with what Git reads in it.
+fn text(out: &mut String, told: &Told<'_>) -> Result<(), AllocError> {
+    let Some(text) = &told.text else {
+        return Ok(());
+    };
+    row(out, "text", format_args!("{text:?}"))?;
+    row(out, "git", reading_of_git(told))
 }
 
 /// A refusal: its heading.
@@ -45,27 +56,46 @@ fn row<D: Display + Drop>(out: &mut String, name: &str, what: D) -> Result<(), A
 /// The rows of the parts, with what they are to a command line.
 fn parts(out: &mut String, url: &Url, told: &Told<'_>) -> Result<(), AllocError> {
     let Arguments { user, host, path } = told.arguments;
-    if let Some(name) = told.user {
-        row(out, "user", format_args!("{name:?}, {}", judgement(user)))?;
-    }
+    row(out, "scheme", told.scheme)?;
+    argument(out, "user", told.user, user)?;
     if let Some(password) = told.password {
-        row(out, "password", format_args!("{password}"))?;
+        row(out, "password", password)?;
     }
-    if let Some(name) = told.host {
-        row(out, "host", format_args!("{name:?}, {}", judgement(host)))?;
+    argument(out, "host", told.host, host)?;
+    port(out, told)?;
+    paths(out, url, path)
+}
+
+/// The row of a user or a host.
+fn argument(
+    out: &mut String,
+    name: &str,
+    part: Option<&str>,
+    safety: Safety,
+) -> Result<(), AllocError> {
+    match part {
+        None => Ok(()),
+        Some(part) => row(out, name, format_args!("{part:?}, {}", judgement(safety))),
     }
+}
+
+/// The row of the port, or of the one that the scheme stands for.
+fn port(out: &mut String, told: &Told<'_>) -> Result<(), AllocError> {
     match (told.port, told.port_or_default) {
-        (Some(port), _) => row(out, "port", format_args!("{port}"))?,
-        (None, Some(port)) => row(out, "port", format_args!("{port} by default"))?,
-        (None, None) => {}
+        (Some(port), _) => row(out, "port", port),
+        (None, Some(port)) => row(out, "port", format_args!("{port} by default")),
+        (None, None) => Ok(()),
     }
-    let shown = url.path.as_bstr();
-    row(out, "path", format_args!("{shown:?}, {}", judgement(path)))?;
-    if url.original_path().as_bytes() != url.path.as_bytes() {
-        let spelled = url.original_path();
-        row(out, "spelled", format_args!("{spelled:?}"))?;
+}
+
+/// The rows of the path, and of how it was spelled where that is another text.
+fn paths(out: &mut String, url: &Url, safety: Safety) -> Result<(), AllocError> {
+    let (path, spelled) = (url.path.as_bstr(), url.original_path());
+    row(out, "path", format_args!("{path:?}, {}", judgement(safety)))?;
+    if spelled.as_bytes() == path.as_bytes() {
+        return Ok(());
     }
-    Ok(())
+    row(out, "spelled", format_args!("{spelled:?}"))
 }
 
 /// What Git reads in the text of the location, in words.
@@ -94,16 +124,19 @@ fn components(out: &mut String, told: &Components<'_>) -> Result<(), AllocError>
     }
     row(out, "path alone", format_args!("{:?}", told.path.as_str()))?;
     if let Some(fields) = &told.query {
-        for field in fields {
-            row(
-                out,
-                "query",
-                format_args!("{:?} is {:?}", field.name, field.value),
-            )?;
-        }
+        query(out, fields)?;
     }
-    if let Some(fragment) = &told.fragment {
-        row(out, "fragment", format_args!("{:?}", fragment.as_str()))?;
+    match &told.fragment {
+        None => Ok(()),
+        Some(fragment) => row(out, "fragment", format_args!("{:?}", fragment.as_str())),
+    }
+}
+
+/// The rows of a query.
+fn query(out: &mut String, fields: &[Field]) -> Result<(), AllocError> {
+    for field in fields {
+        let Field { name, value } = field;
+        row(out, "query", format_args!("{name:?} is {value:?}"))?;
     }
     Ok(())
 }
@@ -111,18 +144,23 @@ fn components(out: &mut String, told: &Components<'_>) -> Result<(), AllocError>
 /// The rows of what a path means on a system of files.
 fn on_files(out: &mut String, told: &Told<'_>) -> Result<(), AllocError> {
     if let Some(home) = &told.home {
-        let Home { user, below } = home;
-        match user {
-            None => row(
-                out,
-                "home",
-                format_args!("of the current user, below it {below:?}"),
-            )?,
-            Some(user) => row(out, "home", format_args!("of {user:?}, below it {below:?}"))?,
-        }
+        home_folder(out, home)?;
     }
-    if let Some(path) = &told.shell_path {
-        row(out, "to a shell", format_args!("{path:?}"))?;
+    match &told.shell_path {
+        None => Ok(()),
+        Some(path) => row(out, "to a shell", format_args!("{path:?}")),
     }
-    Ok(())
+}
+
+/// The row of a home folder.
+fn home_folder(out: &mut String, home: &Home) -> Result<(), AllocError> {
+    let Home { user, below } = home;
+    match user {
+        None => row(
+            out,
+            "home",
+            format_args!("of the current user, below it {below:?}"),
+        ),
+        Some(user) => row(out, "home", format_args!("of {user:?}, below it {below:?}")),
+    }
 }

@@ -117,12 +117,12 @@ pub enum Safety {
 
 impl fmt::Display for Form {
     fn fmt<W: fmt::Write>(&self, f: &mut fmt::Formatter<W>) -> fmt::Result {
-        match self {
-            Form::RemoteHelper => f.write_str("remote helper"),
-            Form::Url => f.write_str("URL"),
-            Form::Scp => f.write_str("scp form"),
-            Form::Local => f.write_str("local path"),
-        }
+        f.write_str(match self {
+            Form::RemoteHelper => "remote helper",
+            Form::Url => "URL",
+            Form::Scp => "scp form",
+            Form::Local => "local path",
+        })
     }
 }
 
@@ -134,7 +134,24 @@ impl<'a> Told<'a> {
         ensures settled { IfOk result (λ told. IsTrue told.settled ↔ IsSettled url.now) }
         ensures agrees { IfOk result (λ told. IsTrue told.agrees_with_git ↔ AgreesWithGit url.now) }
     {
-        Ok(Told {
+        let texts = both(Texts::of(alloc, url)?, Meaning::of(alloc, url))?;
+        let ((texts, meaning), reread) = both(texts, Reread::of(alloc, url))?;
+        Ok(Told::put_together(url, texts, meaning, reread))
+    }
+
+    /// What is told of this location, with what was made of it.
+    fn put_together(
+        url: &'a Url,
+        texts: Texts<'a>,
+        meaning: Meaning<'a>,
+        reread: Option<Reread>,
+    ) -> Told<'a>
+        ensures hidden { option_map (λ word. word.now) result.password
+            ≡ option_map (λ _. codes "redacted") url.now.password }
+        ensures settled { IsTrue result.settled ↔ IsSettled url.now }
+        ensures agrees { IsTrue result.agrees_with_git ↔ AgreesWithGit url.now }
+    {
+        Told {
             form: form_of(url),
             scheme: url.scheme.as_str(),
             user: url.user(),
@@ -142,19 +159,67 @@ impl<'a> Told<'a> {
             host: url.host(),
             port: url.port,
             port_or_default: url.port_or_default(),
-            path: url.path.as_bytes().to_str_lossy(alloc)?,
+            path: texts.path,
             path_is_utf8: url.path.as_bytes().to_str().is_ok(),
-            original_path: url.original_path().as_bytes().to_str_lossy(alloc)?,
-            components: components_of(alloc, url)?,
-            home: home_of(alloc, url)?,
-            shell_path: shell_path_of(alloc, url)?,
+            original_path: texts.original_path,
+            components: meaning.components,
+            home: meaning.home,
+            shell_path: meaning.shell_path,
             arguments: arguments_of(url),
-            text: text_of(alloc, url)?,
+            text: texts.text,
             settled: url.is_settled(),
             agrees_with_git: is_read_alike(url),
-            reread: Reread::of(alloc, url)?,
+            reread,
+        }
+    }
+}
+
+/// The texts that are told of a location.
+#[derive(Drop)]
+struct Texts<'a> {
+    path: CowStr<'a>,
+    original_path: CowStr<'a>,
+    text: Option<String>,
+}
+
+impl<'a> Texts<'a> {
+    /// The texts of this location.
+    fn of(alloc: Global, url: &'a Url) -> Result<Texts<'a>, AllocError> {
+        let path = url.path.as_bytes().to_str_lossy(alloc)?;
+        let original = url.original_path().as_bytes().to_str_lossy(alloc);
+        let ((path, original_path), text) = both(both(path, original)?, text_of(alloc, url))?;
+        Ok(Texts {
+            path,
+            original_path,
+            text,
         })
     }
+}
+
+/// What is told of the path of a location.
+#[derive(Drop)]
+struct Meaning<'a> {
+    components: Components<'a>,
+    home: Option<Home>,
+    shell_path: Option<String>,
+}
+
+impl<'a> Meaning<'a> {
+    /// What the path of this location means.
+    fn of(alloc: Global, url: &'a Url) -> Result<Meaning<'a>, AllocError> {
+        let on_files = both(home_of(alloc, url)?, shell_path_of(alloc, url))?;
+        let ((home, shell_path), components) = both(on_files, components_of(alloc, url))?;
+        Ok(Meaning {
+            components,
+            home,
+            shell_path,
+        })
+    }
+}
+
+/// Both of two things, unless memory was wanting for the second.
+fn both<A: Drop, B: Drop>(first: A, second: Result<B, AllocError>) -> Result<(A, B), AllocError> {
+    Ok((first, second?))
 }
 
 /// `redacted`, where there is a password.
@@ -187,7 +252,8 @@ fn form_of(url: &Url) -> Form {
 }
 
 /// The calls below fail for want of memory alone.
-fn no_memory(_: Error) -> AllocError {
+fn no_memory(error: Error) -> AllocError {
+    drop(error);
     AllocError
 }
 
@@ -199,16 +265,35 @@ fn lossy(alloc: Global, bytes: BStr<'_>) -> Result<String, AllocError> {
 /// Path, query and fragment of the location.
 fn components_of<'a>(alloc: Global, url: &'a Url) -> Result<Components<'a>, AllocError> {
     let parts = url.path_query_fragment(alloc).map_err(no_memory)?;
-    let query = query(alloc, &parts)?;
-    let fragment = match parts.fragment {
-        None => None,
-        Some(fragment) => Some(fragment.as_bytes().to_str_lossy(alloc)?),
-    };
+    let components = told_components(alloc, &parts);
+    drop(parts);
+    components
+}
+
+/// What is told of path, query and fragment.
+fn told_components<'a>(
+    alloc: Global,
+    parts: &PathComponents<'a>,
+) -> Result<Components<'a>, AllocError> {
+    let path = parts.path.as_bytes().to_str_lossy(alloc)?;
+    let path = both(path, told_fragment(alloc, parts.fragment))?;
+    let ((path, fragment), query) = both(path, query(alloc, parts))?;
     Ok(Components {
-        path: parts.path.as_bytes().to_str_lossy(alloc)?,
+        path,
         query,
         fragment,
     })
+}
+
+/// The fragment.
+fn told_fragment<'a>(
+    alloc: Global,
+    fragment: Option<BStr<'a>>,
+) -> Result<Option<CowStr<'a>>, AllocError> {
+    match fragment {
+        None => Ok(None),
+        Some(fragment) => Ok(Some(fragment.as_bytes().to_str_lossy(alloc)?)),
+    }
 }
 
 /// The fields of the query.
@@ -218,12 +303,23 @@ fn query(alloc: Global, parts: &PathComponents<'_>) -> Result<Option<Vec<Field>>
     };
     let mut fields = Vec::new(alloc);
     for (name, value) in pairs {
-        fields.push(Field {
-            name: lossy(alloc, name.as_bstr())?,
-            value: lossy(alloc, value.as_bstr())?,
-        })?;
+        push_field(alloc, &mut fields, name.as_bstr(), value.as_bstr())?;
     }
     Ok(Some(fields))
+}
+
+/// Adds a field of the query.
+fn push_field(
+    alloc: Global,
+    fields: &mut Vec<Field>,
+    name: BStr<'_>,
+    value: BStr<'_>,
+) -> Result<(), AllocError> {
+    fields.push(Field {
+        name: lossy(alloc, name)?,
+        value: lossy(alloc, value)?,
+    })?;
+    Ok(())
 }
 
 /// Whether the path is one of a system of files, which a shell may take.
@@ -231,17 +327,34 @@ fn is_of_files(url: &Url) -> bool {
     matches!(&url.scheme, Scheme::File | Scheme::Ssh | Scheme::Git)
 }
 
-/// Whose home folder the path begins in. A URL of Secure Shell or Git, and the scp form, have lost the `/` before `~`.
+/// Whose home folder the path begins in.
 fn home_of(alloc: Global, url: &Url) -> Result<Option<Home>, AllocError> {
     if !is_of_files(url) {
         return Ok(None);
     }
+    let path = path_of_files(alloc, url)?;
+    let (user, below) = expand_path::parse(alloc, path.as_bstr()).map_err(no_memory)?;
+    let home = told_home(alloc, &user, below.as_bstr());
+    drop(user);
+    home
+}
+
+/// The path with the `/` before `~` that a URL of Secure Shell or Git, and the scp form, have lost.
+fn path_of_files(alloc: Global, url: &Url) -> Result<BString, AllocError> {
     let mut path = BString::new(Vec::new(alloc));
     if url.path.starts_with(b"~") && !matches!(&url.scheme, Scheme::File) {
         path.push(b'/')?;
     }
     path.extend_from_slice(url.path.as_bytes())?;
-    let (user, below) = expand_path::parse(alloc, path.as_bstr()).map_err(no_memory)?;
+    Ok(path)
+}
+
+/// What is told of a home folder and the path below it.
+fn told_home(
+    alloc: Global,
+    user: &Option<ForUser>,
+    below: BStr<'_>,
+) -> Result<Option<Home>, AllocError> {
     let user = match user {
         None => return Ok(None),
         Some(ForUser::Current) => None,
@@ -249,7 +362,7 @@ fn home_of(alloc: Global, url: &Url) -> Result<Option<Home>, AllocError> {
     };
     Ok(Some(Home {
         user,
-        below: lossy(alloc, below.as_bstr())?,
+        below: lossy(alloc, below)?,
     }))
 }
 
