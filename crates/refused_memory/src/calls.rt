@@ -21,16 +21,23 @@ pub fn carry_out(alloc: Global, order: &Order<'_>, page: &mut Page) -> Result<()
     match order.over {
         "text" => texts::over_text(alloc, order, page),
         "refusal" => texts::over_refusal(alloc, order, page),
-        "location" => locations::over_location(alloc, order, page),
-        "view" => views::over_view(alloc, order, page),
-        "components" => locations::over_components(alloc, order, page),
-        "resolved" => locations::over_resolved(alloc, order, page),
-        "changed" => changing::over_changed(alloc, order, page),
         "record" => records::over_record(alloc, order, page),
         "scheme" => schemes::over_scheme(alloc, order, page),
         "path" => homes::over_path(alloc, order, page),
         "user" => homes::over_user(alloc, order, page),
         "home" => homes::over_home(alloc, order, page),
+        _ => carry_out_over_location(alloc, order, page),
+    }
+}
+
+/// Carries out an order over a location.
+fn carry_out_over_location(alloc: Global, order: &Order<'_>, page: &mut Page) -> Result<(), Halt> {
+    match order.over {
+        "location" => locations::over_location(alloc, order, page),
+        "view" => views::over_view(alloc, order, page),
+        "components" => locations::over_components(alloc, order, page),
+        "resolved" => locations::over_resolved(alloc, order, page),
+        "changed" => changing::over_changed(alloc, order, page),
         _ => Err(Halt::Unknown),
     }
 }

@@ -29,10 +29,15 @@ fn main(rt: HostRuntime) -> io::Result<()> {
     let size = rt.stdin().read(&mut buffer)?;
     let mut page = empty_page();
     let outcome = carry_out(rt.alloc(), &buffer[..size], &mut page);
-    let mut out = rt.stdout();
-    match outcome {
-        Ok(()) => out.write_all(written(&page))?,
-        Err(halt) => out.write_all(halt.words().as_bytes())?,
-    }
+    answer(&mut rt.stdout(), outcome, &page)
+}
+
+/// Writes what was told, or why the order was not carried out.
+fn answer<W: Write>(out: &mut W, outcome: Result<(), Halt>, page: &Page) -> io::Result<()> {
+    let line = match outcome {
+        Ok(()) => written(page),
+        Err(halt) => halt.words().as_bytes(),
+    };
+    out.write_all(line)?;
     out.write_all(b"\n")
 }

@@ -25,17 +25,21 @@ impl<'a> Order<'a> {
         let (verb, rest) = cut_word(line)?;
         let (over, rest) = cut_word(rest)?;
         let (call, input) = cut_word(rest)?;
-        let is_made = match verb {
-            "call" => true,
-            "prepare" => false,
-            _ => return Err(Halt::Unknown),
-        };
         Ok(Order {
-            is_made,
+            is_made: is_call(verb)?,
             over,
             call,
             input,
         })
+    }
+}
+
+/// Whether the verb is `call`, and not `prepare`.
+fn is_call(verb: &str) -> Result<bool, Halt> {
+    match verb {
+        "call" => Ok(true),
+        "prepare" => Ok(false),
+        _ => Err(Halt::Unknown),
     }
 }
 

@@ -42,7 +42,7 @@ pub fn refusal(alloc: Global, input: &[u8]) -> Result<Error, Halt> {
 
 /// The record of parts.
 pub fn record(alloc: Global, told: &[u8]) -> Result<StoredUrl, Halt> {
-    let (scheme, mut rest) = cut_scheme(alloc, told)?;
+    let (scheme, parts) = cut_scheme(alloc, told)?;
     let mut record = StoredUrl {
         scheme,
         user: None,
@@ -53,13 +53,25 @@ pub fn record(alloc: Global, told: &[u8]) -> Result<StoredUrl, Halt> {
         path: Vec::new(alloc),
         path_with_percent_escapes: None,
     };
+    match put_all(alloc, &mut record, parts) {
+        Ok(()) => Ok(record),
+        Err(halt) => {
+            drop(record);
+            Err(halt)
+        }
+    }
+}
+
+/// Puts all parts behind the scheme into a record.
+fn put_all(alloc: Global, record: &mut StoredUrl, parts: &[u8]) -> Result<(), Halt> {
+    let mut rest = parts;
     for _part in 0..7 {
         if let Some(path) = rest.strip_prefix(b"path=") {
             record.path = Vec::from_slice(alloc, path)?;
-            return Ok(record);
+            return Ok(());
         }
         let (part, behind) = cut_word(rest)?;
-        put(alloc, &mut record, part)?;
+        put(alloc, record, part)?;
         rest = behind;
     }
     Err(Halt::Unprepared)
@@ -68,16 +80,37 @@ pub fn record(alloc: Global, told: &[u8]) -> Result<StoredUrl, Halt> {
 /// Puts a part into a record.
 fn put(alloc: Global, record: &mut StoredUrl, part: &str) -> Result<(), Halt> {
     match part.split_once('=') {
-        Some(("user", text)) => record.user = Some(String::from_str(alloc, text)?),
-        Some(("password", text)) => record.password = Some(String::from_str(alloc, text)?),
-        Some(("host", text)) => record.host = Some(String::from_str(alloc, text)?),
-        Some(("port", digits)) => record.port = digits.parse().ok(),
+        Some(("user", text)) => put_text(alloc, &mut record.user, text),
+        Some(("password", text)) => put_text(alloc, &mut record.password, text),
+        Some(("host", text)) => put_text(alloc, &mut record.host, text),
         Some(("spelled", text)) => {
-            record.path_with_percent_escapes = Some(Vec::from_slice(alloc, text.as_bytes())?)
+            put_bytes(
+                alloc,
+                &mut record.path_with_percent_escapes,
+                text.as_bytes(),
+            )
         }
-        None if part == "flag" => record.serialize_alternative_form = true,
-        _ => return Err(Halt::Unprepared),
+        Some(("port", digits)) => {
+            record.port = digits.parse().ok();
+            Ok(())
+        }
+        None if part == "flag" => {
+            record.serialize_alternative_form = true;
+            Ok(())
+        }
+        _ => Err(Halt::Unprepared),
     }
+}
+
+/// Puts a text into its place in a record.
+fn put_text(alloc: Global, place: &mut Option<String>, text: &str) -> Result<(), Halt> {
+    *place = Some(String::from_str(alloc, text)?);
+    Ok(())
+}
+
+/// Puts bytes into their place in a record.
+fn put_bytes(alloc: Global, place: &mut Option<Vec<u8>>, bytes: &[u8]) -> Result<(), Halt> {
+    *place = Some(Vec::from_slice(alloc, bytes)?);
     Ok(())
 }
 

@@ -35,19 +35,31 @@ pub fn tell_url(page: &mut Page, url: &Url) -> Result<(), Halt> {
     tell_part(page, " user=", url.user.as_deref())?;
     tell_part(page, " password=", url.password.as_deref())?;
     tell_part(page, " host=", url.host.as_deref())?;
-    if let Some(port) = url.port {
+    tell_port_and_flag(page, url.port, url.serialize_alternative_form)?;
+    let (path, spelled) = (url.path.as_bytes(), url.original_path().as_bytes());
+    tell_paths(
+        page,
+        if spelled == path { None } else { Some(spelled) },
+        path,
+    )
+}
+
+/// Tells a port that may be missing, and the flag where it is set.
+fn tell_port_and_flag(page: &mut Page, port: Option<u16>, is_set: bool) -> Result<(), Halt> {
+    if let Some(port) = port {
         write!(page, " port={port}")?;
     }
-    if url.serialize_alternative_form {
-        tell(page, b" flag")?;
-    }
-    let spelled = url.original_path();
-    if spelled.as_bytes() != url.path.as_bytes() {
+    tell(page, if is_set { b" flag" } else { b"" })
+}
+
+/// Tells a spelling that may be missing, and a path.
+fn tell_paths(page: &mut Page, spelled: Option<&[u8]>, path: &[u8]) -> Result<(), Halt> {
+    if let Some(spelled) = spelled {
         tell(page, b" spelled=")?;
-        tell(page, spelled.as_bytes())?;
+        tell(page, spelled)?;
     }
     tell(page, b" path=")?;
-    tell(page, url.path.as_bytes())
+    tell(page, path)
 }
 
 /// Tells a part that may be missing.
@@ -74,34 +86,42 @@ pub fn tell_scheme(page: &mut Page, scheme: &Scheme) -> Result<(), Halt> {
 
 /// Tells a scheme, or why there is none.
 pub fn tell_named(page: &mut Page, answer: Result<Scheme, Error>) -> Result<(), Halt> {
-    match answer {
-        Ok(scheme) => tell_scheme(page, &scheme),
-        Err(error) => tell_error(page, &error),
-    }
+    let told = match &answer {
+        Ok(scheme) => tell_scheme(page, scheme),
+        Err(error) => tell_error(page, error),
+    };
+    drop(answer);
+    told
 }
 
 /// Tells bytes, or why there are none.
 pub fn tell_bytes(page: &mut Page, answer: Result<BString, Error>) -> Result<(), Halt> {
-    match answer {
+    let told = match &answer {
         Ok(bytes) => tell(page, bytes.as_bytes()),
-        Err(error) => tell_error(page, &error),
-    }
+        Err(error) => tell_error(page, error),
+    };
+    drop(answer);
+    told
 }
 
 /// Tells a text, or why there is none.
 pub fn tell_text(page: &mut Page, answer: Result<String, Error>) -> Result<(), Halt> {
-    match answer {
+    let told = match &answer {
         Ok(text) => tell(page, text.as_bytes()),
-        Err(error) => tell_error(page, &error),
-    }
+        Err(error) => tell_error(page, error),
+    };
+    drop(answer);
+    told
 }
 
 /// Tells a user, or why there is none.
 pub fn tell_user_copy(page: &mut Page, answer: Result<ForUser, Error>) -> Result<(), Halt> {
-    match answer {
-        Ok(user) => tell_user(page, &user),
-        Err(error) => tell_error(page, &error),
-    }
+    let told = match &answer {
+        Ok(user) => tell_user(page, user),
+        Err(error) => tell_error(page, error),
+    };
+    drop(answer);
+    told
 }
 
 /// Tells a user and a path, or why there are none.
@@ -109,17 +129,22 @@ pub fn tell_split(
     page: &mut Page,
     answer: Result<(Option<ForUser>, BString), Error>,
 ) -> Result<(), Halt> {
-    match answer {
-        Ok((user, path)) => {
-            match &user {
-                None => tell(page, b"none")?,
-                Some(user) => tell_user(page, user)?,
-            }
-            tell(page, b" ")?;
-            tell(page, path.as_bytes())
-        }
-        Err(error) => tell_error(page, &error),
+    let told = match &answer {
+        Ok((user, path)) => tell_user_and_path(page, user, path),
+        Err(error) => tell_error(page, error),
+    };
+    drop(answer);
+    told
+}
+
+/// Tells a user that may be missing, and a path.
+fn tell_user_and_path(page: &mut Page, user: &Option<ForUser>, path: &BString) -> Result<(), Halt> {
+    match user {
+        None => tell(page, b"none")?,
+        Some(user) => tell_user(page, user)?,
     }
+    tell(page, b" ")?;
+    tell(page, path.as_bytes())
 }
 
 /// Tells a path, the names and values of a query, and a fragment, or why there are none.
@@ -127,10 +152,12 @@ pub fn tell_components(
     page: &mut Page,
     answer: Result<PathComponents<'_>, Error>,
 ) -> Result<(), Halt> {
-    match answer {
-        Ok(parts) => tell_parts(page, &parts),
-        Err(error) => tell_error(page, &error),
-    }
+    let told = match &answer {
+        Ok(parts) => tell_parts(page, parts),
+        Err(error) => tell_error(page, error),
+    };
+    drop(answer);
+    told
 }
 
 /// Tells a path, the names and values of a query, and a fragment.
@@ -139,13 +166,18 @@ fn tell_parts(page: &mut Page, parts: &PathComponents<'_>) -> Result<(), Halt> {
     if let Some(pairs) = &parts.query {
         tell(page, b" ?")?;
         for (name, value) in pairs {
-            tell(page, b" ")?;
-            tell_term(page, name)?;
-            tell(page, b"=")?;
-            tell_term(page, value)?;
+            tell_field(page, name, value)?;
         }
     }
     tell_fragment(page, &parts.fragment)
+}
+
+/// Tells a name and a value of a query.
+fn tell_field(page: &mut Page, name: &QueryText<'_>, value: &QueryText<'_>) -> Result<(), Halt> {
+    tell(page, b" ")?;
+    tell_term(page, name)?;
+    tell(page, b"=")?;
+    tell_term(page, value)
 }
 
 /// Tells a fragment that may be missing.
@@ -172,18 +204,22 @@ pub fn tell_term(page: &mut Page, term: &QueryText<'_>) -> Result<(), Halt> {
 
 /// Tells a name or a value, or why there is none.
 pub fn tell_copied_term(page: &mut Page, answer: Result<QueryText<'_>, Error>) -> Result<(), Halt> {
-    match answer {
-        Ok(term) => tell_term(page, &term),
-        Err(error) => tell_error(page, &error),
-    }
+    let told = match &answer {
+        Ok(term) => tell_term(page, term),
+        Err(error) => tell_error(page, error),
+    };
+    drop(answer);
+    told
 }
 
 /// Tells a record by its parts, or why there is none.
 pub fn tell_stored(page: &mut Page, answer: Result<StoredUrl, Error>) -> Result<(), Halt> {
-    match answer {
-        Ok(stored) => tell_record(page, &stored),
-        Err(error) => tell_error(page, &error),
-    }
+    let told = match &answer {
+        Ok(stored) => tell_record(page, stored),
+        Err(error) => tell_error(page, error),
+    };
+    drop(answer);
+    told
 }
 
 /// Tells a record by its parts.
@@ -192,26 +228,19 @@ pub fn tell_record(page: &mut Page, stored: &StoredUrl) -> Result<(), Halt> {
     tell_part(page, " user=", stored.user.as_deref())?;
     tell_part(page, " password=", stored.password.as_deref())?;
     tell_part(page, " host=", stored.host.as_deref())?;
-    if let Some(port) = stored.port {
-        write!(page, " port={port}")?;
-    }
-    if stored.serialize_alternative_form {
-        tell(page, b" flag")?;
-    }
-    if let Some(spelling) = &stored.path_with_percent_escapes {
-        tell(page, b" spelled=")?;
-        tell(page, spelling.as_slice())?;
-    }
-    tell(page, b" path=")?;
-    tell(page, stored.path.as_slice())
+    tell_port_and_flag(page, stored.port, stored.serialize_alternative_form)?;
+    let spelled = stored.path_with_percent_escapes.as_deref();
+    tell_paths(page, spelled, stored.path.as_slice())
 }
 
 /// Tells a text of JSON, or why there is none.
 pub fn tell_json(page: &mut Page, answer: Result<String, serde_json::Error>) -> Result<(), Halt> {
-    match answer {
+    let told = match &answer {
         Ok(json) => tell(page, json.as_bytes()),
-        Err(error) => tell_json_error(page, &error),
-    }
+        Err(error) => tell_json_error(page, error),
+    };
+    drop(answer);
+    told
 }
 
 /// Tells a record of JSON, or why there is none.
@@ -219,10 +248,12 @@ pub fn tell_of_json(
     page: &mut Page,
     answer: Result<StoredUrl, serde_json::Error>,
 ) -> Result<(), Halt> {
-    match answer {
-        Ok(stored) => tell_record(page, &stored),
-        Err(error) => tell_json_error(page, &error),
-    }
+    let told = match &answer {
+        Ok(stored) => tell_record(page, stored),
+        Err(error) => tell_json_error(page, error),
+    };
+    drop(answer);
+    told
 }
 
 /// Tells why there is no JSON.

@@ -63,8 +63,10 @@ fn change(call: &str, url: &mut Url, text: Option<String>, page: &mut Page) -> R
 
 /// Tells how a change ended.
 fn tell_outcome(page: &mut Page, outcome: Result<(), Error>) -> Result<(), Halt> {
-    match outcome {
+    let told = match &outcome {
         Ok(()) => tell(page, b"done"),
-        Err(error) => tell_error(page, &error),
-    }
+        Err(error) => tell_error(page, error),
+    };
+    drop(outcome);
+    told
 }

@@ -27,14 +27,26 @@ pub fn over_user(alloc: Global, order: &Order<'_>, page: &mut Page) -> Result<()
     let Some(user) = prepared::user(alloc, text(order.input)?)? else {
         return Err(Halt::Unprepared);
     };
-    if !order.is_made {
-        return Ok(());
-    }
     match order.call {
-        "ForUser::clone" => tell_user_copy(page, user.clone(alloc)),
-        "ForUser:Eq" => tell_bool(page, user == user),
-        "ForUser:Ord" => tell_bool(page, user.cmp(&user) == Ordering::Equal),
+        _ if !order.is_made => {
+            drop(user);
+            Ok(())
+        }
         "ForUser:into" => tell_name(page, user),
+        call => {
+            let told = borrow(alloc, call, &user, page);
+            drop(user);
+            told
+        }
+    }
+}
+
+/// Makes a call that borrows a user.
+fn borrow(alloc: Global, call: &str, user: &ForUser, page: &mut Page) -> Result<(), Halt> {
+    match call {
+        "ForUser::clone" => tell_user_copy(page, user.clone(alloc)),
+        "ForUser:Eq" => tell_bool(page, *user == *user),
+        "ForUser:Ord" => tell_bool(page, user.cmp(user) == Ordering::Equal),
         _ => Err(Halt::Unknown),
     }
 }
@@ -50,30 +62,57 @@ fn tell_name(page: &mut Page, user: ForUser) -> Result<(), Halt> {
 
 /// Makes a call over a user, a home folder and a path: two words of the input, and the rest.
 pub fn over_home(alloc: Global, order: &Order<'_>, page: &mut Page) -> Result<(), Halt> {
-    let (user, rest) = cut_word(order.input)?;
-    let (home, path) = cut_word(rest)?;
-    let user = prepared::user(alloc, user)?;
-    let home = prepared::optional(alloc, home)?;
-    if !order.is_made {
-        return Ok(());
+    let (word, rest) = cut_word(order.input)?;
+    let user = prepared::user(alloc, word)?;
+    let told = expand_and_compare(alloc, order, &user, rest, page);
+    drop(user);
+    told
+}
+
+/// Expands a path, unless the order ends before it, and checks that the user is as it was.
+fn expand_and_compare(
+    alloc: Global,
+    order: &Order<'_>,
+    user: &Option<ForUser>,
+    input: &[u8],
+    page: &mut Page,
+) -> Result<(), Halt> {
+    let before = snapshot(user)?;
+    let (word, path) = cut_word(input)?;
+    let home = prepared::optional(alloc, word)?;
+    if order.is_made {
+        expand(alloc, order.call, user.as_ref(), home, path, page)?;
+    } else {
+        drop(home);
     }
-    let path = BStr::new(path);
-    let before = snapshot(&user)?;
-    match order.call {
-        "expand_path::with" => tell_text(
-            page,
-            expand_path::with(alloc, user.as_ref(), path, |_| home),
-        )?,
-        "expand_path::expand_path" => tell_text(
-            page,
-            expand_path::expand_path(alloc, user.as_ref(), path, home.as_deref()),
-        )?,
-        _ => return Err(Halt::Unknown),
-    }
-    if written(&snapshot(&user)?) == written(&before) {
+    if written(&snapshot(user)?) == written(&before) {
         Ok(())
     } else {
         Err(Halt::Changed)
+    }
+}
+
+/// Makes a call that expands a path.
+fn expand(
+    alloc: Global,
+    call: &str,
+    user: Option<&ForUser>,
+    home: Option<String>,
+    path: &[u8],
+    page: &mut Page,
+) -> Result<(), Halt> {
+    let path = BStr::new(path);
+    match call {
+        "expand_path::with" => { tell_text(page, expand_path::with(alloc, user, path, |_| home)) }
+        "expand_path::expand_path" => {
+            let answer = expand_path::expand_path(alloc, user, path, home.as_deref());
+            drop(home);
+            tell_text(page, answer)
+        }
+        _ => {
+            drop(home);
+            Err(Halt::Unknown)
+        }
     }
 }
 

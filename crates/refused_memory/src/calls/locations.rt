@@ -44,15 +44,28 @@ fn borrow(alloc: Global, call: &str, url: &Url, page: &mut Page) -> Result<(), H
 /// Makes a call that borrows a location and takes what a path is resolved to: the first word of the input, or `none`.
 pub fn over_resolved(alloc: Global, order: &Order<'_>, page: &mut Page) -> Result<(), Halt> {
     let (word, rest) = cut_word(order.input)?;
-    let path = prepared::optional(alloc, word)?;
     let url = prepared::location(alloc, rest)?;
-    let told = if order.is_made {
-        resolve(alloc, order.call, &url, path, page)
-    } else {
-        Ok(())
-    };
+    let told = resolve_and_compare(alloc, order, &url, word, page);
     drop(url);
     told
+}
+
+/// Resolves the path of a location, unless the order ends before it, and checks that the location is as it was.
+fn resolve_and_compare(
+    alloc: Global,
+    order: &Order<'_>,
+    url: &Url,
+    word: &str,
+    page: &mut Page,
+) -> Result<(), Halt> {
+    let before = snapshot(url)?;
+    let path = prepared::optional(alloc, word)?;
+    if order.is_made {
+        resolve(alloc, order.call, url, path, page)?;
+    } else {
+        drop(path);
+    }
+    is_kept(url, &before)
 }
 
 /// Makes a call over a location and what its path is resolved to.
@@ -63,12 +76,13 @@ fn resolve(
     path: Option<String>,
     page: &mut Page,
 ) -> Result<(), Halt> {
-    let before = snapshot(url)?;
     match call {
-        "Url::canonicalized" => tell_read(page, url.canonicalized(alloc, |_| path))?,
-        _ => return Err(Halt::Unknown),
+        "Url::canonicalized" => tell_read(page, url.canonicalized(alloc, |_| path)),
+        _ => {
+            drop(path);
+            Err(Halt::Unknown)
+        }
     }
-    is_kept(url, &before)
 }
 
 /// Every part of a location, and its text if it has one.
@@ -126,8 +140,15 @@ fn cut(alloc: Global, call: &str, parts: &PathComponents<'_>, page: &mut Page) -
     match call {
         "PathComponents::clone" => tell_components(page, parts.clone(alloc)),
         "PathComponents:Eq" => tell_bool(page, *parts == *parts),
-        "QueryText::clone" => tell_copied_term(page, first_name(parts)?.clone(alloc)),
-        "QueryText::as_bstr" => tell(page, first_name(parts)?.as_bstr().as_bytes()),
+        _ => cut_term(alloc, call, first_name(parts)?, page),
+    }
+}
+
+/// Makes a call over the name of a field.
+fn cut_term(alloc: Global, call: &str, name: &QueryText<'_>, page: &mut Page) -> Result<(), Halt> {
+    match call {
+        "QueryText::clone" => tell_copied_term(page, name.clone(alloc)),
+        "QueryText::as_bstr" => tell(page, name.as_bstr().as_bytes()),
         _ => Err(Halt::Unknown),
     }
 }

@@ -65,10 +65,13 @@ fn answer_lines(alloc: Global, input: &[u8], page: &mut Page) -> Result<(), Halt
 /// Makes a call over the error that a text is refused with.
 pub fn over_refusal(alloc: Global, order: &Order<'_>, page: &mut Page) -> Result<(), Halt> {
     let error = prepared::refusal(alloc, order.input)?;
-    if !order.is_made {
-        return Ok(());
-    }
-    show(order.call, &error, page)
+    let told = if order.is_made {
+        show(order.call, &error, page)
+    } else {
+        Ok(())
+    };
+    drop(error);
+    told
 }
 
 /// Shows an error, and tells whether it was shown.

@@ -36,6 +36,13 @@ fn look(call: &str, url: &Url, page: &mut Page) -> Result<(), Halt> {
         "Url::port_or_default" => tell_port(page, url.port_or_default()),
         "Url::path_is_root" => tell_bool(page, url.path_is_root()),
         "Url::original_path" => tell(page, url.original_path().as_bytes()),
+        _ => hand_out(call, url, page),
+    }
+}
+
+/// Makes a call that hands a part of a location to a command.
+fn hand_out(call: &str, url: &Url, page: &mut Page) -> Result<(), Halt> {
+    match call {
         "Url::user_as_argument" => tell_argument(page, url.user_as_argument()),
         "Url::host_as_argument" => tell_argument(page, url.host_as_argument()),
         "Url::user_argument_safe" => tell_option(page, url.user_argument_safe()),
