@@ -134,8 +134,8 @@ impl<'a> Told<'a> {
         ensures settled { IfOk result (λ told. IsTrue told.settled ↔ IsSettled url.now) }
         ensures agrees { IfOk result (λ told. IsTrue told.agrees_with_git ↔ AgreesWithGit url.now) }
     {
-        let texts = both(Texts::of(alloc, url)?, Meaning::of(alloc, url))?;
-        let ((texts, meaning), reread) = both(texts, Reread::of(alloc, url))?;
+        let found = both(Texts::of(alloc, url)?, Meaning::of(alloc, url))?;
+        let ((texts, meaning), reread) = both(found, Reread::of(alloc, url))?;
         Ok(Told::put_together(url, texts, meaning, reread))
     }
 
