@@ -73,11 +73,18 @@ fn options_are_kept_out(rt: HostRuntime) -> Result<(), Fail> {
     Ok(())
 }
 
+/// Checks the path that is served.
+fn serves(rt: &impl Abort, url: &Url, want: &[u8]) {
+    match served(url) {
+        None => same::holds(rt, false, "a path"),
+        Some(path) => same::bytes(rt, path.as_bytes(), want),
+    }
+}
+
 #[test]
 fn a_path_is_served(rt: HostRuntime) -> Result<(), Fail> {
     let url = read(rt.alloc(), "ssh://host/repo")?;
-    let path = served(&url).ok_or("a path")?;
-    same::bytes(&rt, path.as_bytes(), b"/repo");
+    serves(&rt, &url, b"/repo");
     Ok(())
 }
 

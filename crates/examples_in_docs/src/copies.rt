@@ -1,10 +1,12 @@
 //! Examples of copies, of order, and of stored locations.
 
+use crate::owned::answered;
 use crate::same;
 use gix_url::{Error, Scheme, Url};
 use std::alloc::{AllocError, Global};
+use std::process::Abort;
 use std::test::Fail;
-use told::boxes::{boxed, read};
+use told::boxes::read;
 
 fn twice(alloc: Global, scheme: Scheme) -> Result<(Scheme, Scheme), Error> {
     let copy = scheme.clone(alloc)?;
@@ -45,14 +47,19 @@ fn copies_are_equal(rt: HostRuntime) -> Result<(), Fail> {
     Ok(())
 }
 
+/// Checks how a location is written.
+fn is_written(rt: &impl Abort, alloc: Global, url: &Url, want: &[u8]) -> Result<(), Fail> {
+    let text = url.to_bstring(alloc)?;
+    same::bytes(rt, text.as_bytes(), want);
+    Ok(())
+}
+
 #[test]
 fn a_copy_is_changed(rt: HostRuntime) -> Result<(), Fail> {
     let host = String::from_str(rt.alloc(), "m")?;
     let url = read(rt.alloc(), "https://h/p")?;
-    let copy = boxed(rt.alloc(), mirror(rt.alloc(), &url, host)?)?;
-    let text = copy.to_bstring(rt.alloc())?;
-    same::bytes(&rt, text.as_bytes(), b"https://m/p");
-    Ok(())
+    let copy = answered(rt.alloc(), mirror(rt.alloc(), &url, host))?;
+    is_written(&rt, rt.alloc(), &copy, b"https://m/p")
 }
 
 /// Three remotes in order.
@@ -98,7 +105,7 @@ fn a_location_is_stored(rt: HostRuntime) -> Result<(), Fail> {
 #[test]
 fn a_location_is_restored(rt: HostRuntime) -> Result<(), Fail> {
     let url = read(rt.alloc(), "https://h/a%2Fb")?;
-    let again = boxed(rt.alloc(), url_of(rt.alloc(), RECORD).ok_or("a location")?)?;
+    let again = answered(rt.alloc(), url_of(rt.alloc(), RECORD).ok_or("a location"))?;
     same::holds(&rt, again == url, "the same location");
     Ok(())
 }

@@ -13,6 +13,8 @@ mod copies;
 #[cfg(test)]
 mod files;
 #[cfg(test)]
+mod owned;
+#[cfg(test)]
 mod parts;
 #[cfg(test)]
 mod paths;

@@ -1,5 +1,6 @@
 //! Examples of schemes, addresses, and the small parts of an answer.
 
+use crate::owned::answered;
 use crate::same;
 use bstr::BStr;
 use gix_url::expand_path::ForUser;
@@ -8,7 +9,7 @@ use gix_url::{Error, PathComponents, QueryText, Scheme, Url};
 use std::alloc::Global;
 use std::process::Abort;
 use std::test::Fail;
-use told::boxes::{boxed, read};
+use told::boxes::read;
 
 fn is_web(alloc: Global, name: &str) -> Result<bool, Error> {
     let scheme = Scheme::from_text(alloc, name)?;
@@ -77,19 +78,40 @@ fn a_user_is_copied(rt: HostRuntime) -> Result<(), Fail> {
     Ok(())
 }
 
+/// Checks the value of the first field of a query.
+fn has_no_value(rt: &impl Abort, pairs: &[(QueryText<'_>, QueryText<'_>)]) -> Result<(), Fail> {
+    match pairs.first() {
+        None => Err(Fail::new("a field")),
+        Some((_, value)) => {
+            same::holds(rt, is_empty(value), "an empty value");
+            Ok(())
+        }
+    }
+}
+
 /// Checks the value of the first field.
 fn begins_with_nothing(rt: &impl Abort, parts: &PathComponents<'_>) -> Result<(), Fail> {
-    let pairs = parts.query.as_ref().ok_or("a query")?;
-    let (_, value) = pairs.first().ok_or("a field")?;
-    same::holds(rt, is_empty(value), "an empty value");
-    Ok(())
+    match &parts.query {
+        None => Err(Fail::new("a query")),
+        Some(pairs) => has_no_value(rt, pairs.as_slice()),
+    }
+}
+
+/// Checks the fragment of components.
+fn ends_with(rt: &impl Abort, parts: &PathComponents<'_>, want: &[u8]) -> Result<(), Fail> {
+    match fragment_of(parts) {
+        None => Err(Fail::new("a fragment")),
+        Some(fragment) => {
+            same::bytes(rt, fragment.as_bytes(), want);
+            Ok(())
+        }
+    }
 }
 
 #[test]
 fn parts_of_answers(rt: HostRuntime) -> Result<(), Fail> {
     let url = read(rt.alloc(), "http://h/?a#b")?;
-    let parts = boxed(rt.alloc(), url.path_query_fragment(rt.alloc())?)?;
-    let fragment = fragment_of(&parts).ok_or("a fragment")?;
-    same::bytes(&rt, fragment.as_bytes(), b"b");
+    let parts = answered(rt.alloc(), url.path_query_fragment(rt.alloc()))?;
+    ends_with(&rt, &parts, b"b")?;
     begins_with_nothing(&rt, &parts)
 }

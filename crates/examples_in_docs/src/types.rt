@@ -1,5 +1,6 @@
 //! Examples of the types: errors, forms, schemes, users, components.
 
+use crate::owned::answered;
 use crate::same;
 use gix_url::expand_path::ForUser;
 use gix_url::lines::{self, RunError};
@@ -8,7 +9,7 @@ use gix_url::{Error, PathComponents, QueryText, Scheme, Url, UrlFault, WriteErro
 use std::alloc::Global;
 use std::process::Abort;
 use std::test::Fail;
-use told::boxes::{boxed, read};
+use told::boxes::read;
 
 /// Whether the same text can be read at another time: nothing is wrong with it.
 fn is_passing(error: &Error) -> bool {
@@ -82,26 +83,39 @@ fn tells(rt: &impl Abort, error: &Error, port: bool, scp: bool) {
     same::holds(rt, !is_passing(error), "it will be refused again");
 }
 
-#[test]
-fn refusals_are_told_apart(rt: HostRuntime) -> Result<(), Fail> {
-    for &(text, port, scp) in REFUSED.as_slice() {
-        match &Url::from_text(rt.alloc(), text) {
-            Ok(_) => same::holds(&rt, false, text),
-            Err(error) => tells(&rt, error, port, scp),
-        }
+/// Checks that a text is refused, and what for.
+fn is_refused(rt: &impl Abort, answer: &Result<Url, Error>, text: &str, port: bool, scp: bool) {
+    match answer {
+        Ok(_) => same::holds(rt, false, text),
+        Err(error) => tells(rt, error, port, scp),
     }
-    Ok(())
+}
+
+#[test]
+fn refusals_are_told_apart(rt: HostRuntime) {
+    for &(text, port, scp) in REFUSED.as_slice() {
+        let answer = Url::from_text(rt.alloc(), text);
+        is_refused(&rt, &answer, text, port, scp);
+        drop(answer);
+    }
+}
+
+/// Checks that a location isn't written, as it lacks a host.
+fn is_not_written(rt: &impl Abort, alloc: Global, url: &Url) {
+    let mut out = Vec::new(alloc);
+    let outcome = url.write_to(&mut out);
+    match &outcome {
+        Ok(()) => same::holds(rt, false, "it has no text"),
+        Err(error) => same::holds(rt, lacks_host(error), "it lacks a host"),
+    }
+    drop(outcome);
 }
 
 #[test]
 fn what_has_no_text_is_told(rt: HostRuntime) -> Result<(), Fail> {
-    let mut out = Vec::new(rt.alloc());
     let mut url = read(rt.alloc(), "https://u@h/p")?;
     url.host = None;
-    match &url.write_to(&mut out) {
-        Ok(()) => same::holds(&rt, false, "it has no text"),
-        Err(error) => same::holds(&rt, lacks_host(error), "it lacks a host"),
-    }
+    is_not_written(&rt, rt.alloc(), &url);
     Ok(())
 }
 
@@ -122,20 +136,38 @@ fn ports_are_named(rt: HostRuntime) -> Result<(), Fail> {
     Ok(())
 }
 
-/// Checks that the name of the first field is copied.
-fn keeps(rt: &impl Abort, alloc: Global, parts: &PathComponents<'_>) -> Result<(), Fail> {
-    let pairs = parts.query.as_ref().ok_or("a query")?;
-    let (name, _) = pairs.first().ok_or("a field")?;
-    let copy = kept(alloc, name)?;
-    same::holds(rt, copy == *name, "the copy of a name");
+/// Checks that a name is copied.
+fn keeps(rt: &impl Abort, alloc: Global, name: &QueryText<'_>) -> Result<(), Fail> {
+    let copy = answered(alloc, kept(alloc, name))?;
+    same::holds(rt, *copy == *name, "the copy of a name");
     Ok(())
+}
+
+/// Checks that the name of the first field is copied.
+fn keeps_first(
+    rt: &impl Abort,
+    alloc: Global,
+    pairs: &[(QueryText<'_>, QueryText<'_>)],
+) -> Result<(), Fail> {
+    match pairs.first() {
+        None => Err(Fail::new("a field")),
+        Some((name, _)) => keeps(rt, alloc, name),
+    }
+}
+
+/// Checks that all components are copied.
+fn keeps_all(rt: &impl Abort, alloc: Global, parts: &PathComponents<'_>) -> Result<(), Fail> {
+    let copy = answered(alloc, both(alloc, parts))?;
+    same::holds(rt, *copy == *parts, "the copy of all");
+    match &parts.query {
+        None => Err(Fail::new("a query")),
+        Some(pairs) => keeps_first(rt, alloc, pairs.as_slice()),
+    }
 }
 
 #[test]
 fn components_are_copied(rt: HostRuntime) -> Result<(), Fail> {
     let url = read(rt.alloc(), "http://h/?a+b=c")?;
-    let parts = boxed(rt.alloc(), url.path_query_fragment(rt.alloc())?)?;
-    let copy = boxed(rt.alloc(), both(rt.alloc(), &parts)?)?;
-    same::holds(&rt, copy == parts, "the copy of all");
-    keeps(&rt, rt.alloc(), &parts)
+    let parts = answered(rt.alloc(), url.path_query_fragment(rt.alloc()))?;
+    keeps_all(&rt, rt.alloc(), &parts)
 }

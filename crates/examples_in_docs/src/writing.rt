@@ -1,5 +1,6 @@
 //! Examples of bytes read, and of locations written.
 
+use crate::owned::answered;
 use crate::same;
 use bstr::{BStr, BString};
 use gix_url::lines::{self, RunError};
@@ -96,7 +97,7 @@ fn bytes_are_told_apart(rt: HostRuntime) -> Result<(), Fail> {
 
 #[test]
 fn bytes_are_read(rt: HostRuntime) -> Result<(), Fail> {
-    let url = boxed(rt.alloc(), of_line(rt.alloc(), b"/srv/repo")?)?;
+    let url = answered(rt.alloc(), of_line(rt.alloc(), b"/srv/repo"))?;
     same::text(&rt, url.scheme.as_str(), "file");
     Ok(())
 }
@@ -150,17 +151,32 @@ fn what_comes_back_is_stored(rt: HostRuntime) -> Result<(), Fail> {
     Ok(())
 }
 
+/// Checks the text for Git of what a text is read as, or that there is none.
+fn is_handed_on(
+    rt: &impl Abort,
+    alloc: Global,
+    (text, url): (&str, &Url),
+    want: Option<&[u8]>,
+) -> Result<(), Fail> {
+    let written = for_git(alloc, url)?;
+    let found = written.as_ref().map(|written| written.as_bytes());
+    same::holds(rt, found == want, text);
+    Ok(())
+}
+
+/// Texts, and the text for Git of what they are read as.
+static FOR_GIT: [(&str, Option<&[u8]>); 4] = [
+    ("ssh://u:p@h/p", None),
+    ("https://h/p", None),
+    ("ssh://[::1]:22/p", None),
+    ("ssh://@h/p", Some(b"ssh://h/p")),
+];
+
 #[test]
 fn what_git_reads_alike_is_handed_on(rt: HostRuntime) -> Result<(), Fail> {
-    let alloc = rt.alloc();
-    for text in ["ssh://u:p@h/p", "https://h/p", "ssh://[::1]:22/p"] {
-        let url = read(alloc, text)?;
-        same::holds(&rt, for_git(alloc, &url)?.is_none(), text);
-    }
-    let url = read(alloc, "ssh://@h/p")?;
-    match for_git(alloc, &url)? {
-        None => same::holds(&rt, false, "it is written anew"),
-        Some(written) => same::bytes(&rt, written.as_bytes(), b"ssh://h/p"),
+    for &(text, want) in FOR_GIT.as_slice() {
+        let url = read(rt.alloc(), text)?;
+        is_handed_on(&rt, rt.alloc(), (text, &url), want)?;
     }
     Ok(())
 }
