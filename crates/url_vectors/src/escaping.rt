@@ -55,7 +55,8 @@ fn with_names(alloc: Global, byte: u8) -> Result<String, Fail> {
 /// Checks how a location of HTTP is written once its path is this byte.
 fn is_escaped(rt: &impl Abort, alloc: Global, url: &mut Url, byte: u8) -> Result<(), Fail> {
     url.path = BString::from_slice(alloc, &[b'/', byte])?;
-    is_written_as(rt, alloc, url, with_path(alloc, byte)?.as_str())
+    is_written_as(rt, alloc, url, with_path(alloc, byte)?.as_str());
+    Ok(())
 }
 
 /// A location of HTTP with this byte for its user and its password.
@@ -67,8 +68,10 @@ fn named(alloc: Global, byte: u8) -> Result<Box<Url>, Fail> {
 
 /// Checks how a location of HTTP with this byte for its user and its password is written.
 fn is_escaped_in_names(rt: &impl Abort, alloc: Global, byte: u8) -> Result<(), Fail> {
+    let text = with_names(alloc, byte)?;
     let url = named(alloc, byte)?;
-    is_written_as(rt, alloc, &url, with_names(alloc, byte)?.as_str())
+    is_written_as(rt, alloc, &url, text.as_str());
+    Ok(())
 }
 
 #[test]

@@ -18,6 +18,8 @@ mod making;
 #[cfg(test)]
 mod names;
 #[cfg(test)]
+mod owned;
+#[cfg(test)]
 mod reading_short;
 #[cfg(test)]
 mod reading_transports;

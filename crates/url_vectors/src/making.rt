@@ -109,8 +109,7 @@ fn is_made(rt: &impl Abort, alloc: Global, parts: &Parts, want: &str) -> Result<
         path.as_bytes(),
         flag,
     )?;
-    same::text(rt, told_answer(alloc, answer)?.as_str(), want);
-    Ok(())
+    same::tells(rt, told_answer(alloc, answer), want)
 }
 
 #[test]

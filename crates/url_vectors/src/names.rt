@@ -1,12 +1,12 @@
 //! IPv6 texts, and the names and ports of schemes.
 
+use crate::owned::answered;
 use crate::same;
 use gix_url::Scheme;
 use gix_url::ipv6::is_ipv6;
 use std::alloc::Global;
 use std::process::Abort;
 use std::test::Fail;
-use told::boxes::boxed;
 
 /// Texts that are addresses.
 static ADDRESSES: [&str; 10] = [
@@ -77,10 +77,9 @@ static SCHEMES: [(&str, &str, Option<u16>); 11] = [
 ];
 
 /// Checks the text of a scheme, and how it is shown.
-fn is_named(rt: &impl Abort, alloc: Global, scheme: &Scheme, name: &str) -> Result<(), Fail> {
+fn is_named(rt: &impl Abort, alloc: Global, scheme: &Scheme, name: &str) {
     same::text(rt, scheme.as_str(), name);
-    same::text(rt, scheme.to_string(alloc)?.as_str(), name);
-    Ok(())
+    same::says(rt, scheme.to_string(alloc), name);
 }
 
 /// Checks the port of the scheme that a text names, and whether the scheme has a variant of its own.
@@ -93,8 +92,8 @@ fn is_told(rt: &impl Abort, scheme: &Scheme, text: &str, port: Option<u16>) {
 #[test]
 fn schemes(rt: HostRuntime) -> Result<(), Fail> {
     for &(text, name, port) in SCHEMES.as_slice() {
-        let scheme = boxed(rt.alloc(), Scheme::from_text(rt.alloc(), text)?)?;
-        is_named(&rt, rt.alloc(), &scheme, name)?;
+        let scheme = answered(rt.alloc(), Scheme::from_text(rt.alloc(), text))?;
+        is_named(&rt, rt.alloc(), &scheme, name);
         is_told(&rt, &scheme, text, port);
     }
     Ok(())

@@ -2,6 +2,7 @@
 
 use crate::edges::{EDGES, location};
 use crate::long::joined;
+use crate::owned::answered;
 use crate::rows::is_spelled;
 use crate::same;
 use bstr::BStr;
@@ -10,7 +11,7 @@ use gix_url::parse::parse;
 use std::alloc::Global;
 use std::process::Abort;
 use std::test::Fail;
-use told::boxes::{boxed, read};
+use told::boxes::read;
 use told::{told_answer, told_front};
 
 /// Whether two locations have the same public fields before the path.
@@ -35,15 +36,18 @@ fn is_again(alloc: Global, url: &Url, again: &Url) -> Result<bool, Fail> {
 
 /// Whether the location comes back from its text with its public fields and its text.
 fn comes_back(alloc: Global, url: &Url) -> Result<bool, Fail> {
-    match &url.reread(alloc) {
+    let answer = url.reread(alloc);
+    let is_back = match &answer {
         Ok(again) => is_again(alloc, url, again),
         Err(_) => Ok(false),
-    }
+    };
+    drop(answer);
+    is_back
 }
 
 /// Checks that a text is read as a settled location, which comes back.
 fn is_settled(rt: &impl Abort, alloc: Global, text: &[u8]) -> Result<(), Fail> {
-    let url = boxed(alloc, parse(alloc, BStr::new(text))?)?;
+    let url = answered(alloc, parse(alloc, BStr::new(text)))?;
     let back = comes_back(alloc, &url)?;
     same::holds_of(rt, url.is_settled(), BStr::new(text));
     same::holds_of(rt, back, BStr::new(text));
@@ -81,7 +85,7 @@ fn the_longest_location_comes_back(rt: HostRuntime) -> Result<(), Fail> {
 
 /// Checks that a location comes back from its text, and is spelled so then.
 fn is_spelled_again(rt: &impl Abort, alloc: Global, url: &Url, spelled: &str) -> Result<(), Fail> {
-    let again = boxed(alloc, url.reread(alloc)?)?;
+    let again = answered(alloc, url.reread(alloc))?;
     is_spelled(rt, &again, spelled);
     same::holds(rt, is_again(alloc, url, &again)?, spelled);
     Ok(())
@@ -96,8 +100,7 @@ fn the_spelling_is_that_of_the_text(rt: HostRuntime) -> Result<(), Fail> {
 
 /// Checks what the text of a location is read as.
 fn is_read_as(rt: &impl Abort, alloc: Global, url: &Url, want: &str) -> Result<(), Fail> {
-    same::text(rt, told_answer(alloc, url.reread(alloc))?.as_str(), want);
-    Ok(())
+    same::tells(rt, told_answer(alloc, url.reread(alloc)), want)
 }
 
 /// Texts of unsettled locations, and what the text that they are written as is read as.

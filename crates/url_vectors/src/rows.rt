@@ -11,9 +11,8 @@ use std::test::Fail;
 use told::{keeps, told_error, told_parts, told_text};
 
 /// Checks the bytes that a location is written as.
-pub fn is_written_as(rt: &impl Abort, alloc: Global, url: &Url, text: &str) -> Result<(), Fail> {
-    same::bytes(rt, url.to_bstring(alloc)?.as_bytes(), text.as_bytes());
-    Ok(())
+pub fn is_written_as(rt: &impl Abort, alloc: Global, url: &Url, text: &str) {
+    same::gives(rt, url.to_bstring(alloc), text.as_bytes());
 }
 
 /// Checks that a location has no host.
@@ -29,13 +28,16 @@ pub fn reads(
     parts: &str,
     written: &str,
 ) -> Result<(), Fail> {
-    match &Url::from_text(alloc, text) {
+    let answer = Url::from_text(alloc, text);
+    let told = match &answer {
         Ok(url) => is(rt, alloc, url, parts, written),
         Err(error) => {
             is_no_error(rt, text, error);
             Ok(())
         }
-    }
+    };
+    drop(answer);
+    told
 }
 
 /// Tells the error that a text is refused with, which should be read.
@@ -45,9 +47,8 @@ fn is_no_error(rt: &impl Abort, text: &str, error: &Error) {
 
 /// Checks a location, part by part, and how it is written.
 fn is(rt: &impl Abort, alloc: Global, url: &Url, parts: &str, written: &str) -> Result<(), Fail> {
-    same::text(rt, told_parts(alloc, url)?.as_str(), parts);
-    same::text(rt, told_text(alloc, url)?.as_str(), written);
-    Ok(())
+    same::tells(rt, told_parts(alloc, url), parts)?;
+    same::tells(rt, told_text(alloc, url), written)
 }
 
 /// Checks each row of a table: a text, what it is read as, part by part, and how that is written.
@@ -60,11 +61,16 @@ pub fn reads_all(rt: &impl Abort, alloc: Global, rows: &[(&str, &str, &str)]) ->
 
 /// Checks that bytes are refused with this error, which keeps them.
 pub fn refuses(rt: &impl Abort, alloc: Global, bytes: &[u8], error: &str) -> Result<(), Fail> {
-    match &parse(alloc, BStr::new(bytes)) {
-        Ok(_) => same::holds_of(rt, false, BStr::new(bytes)),
-        Err(found) => is_error(rt, alloc, found, bytes, error)?,
-    }
-    Ok(())
+    let answer = parse(alloc, BStr::new(bytes));
+    let told = match &answer {
+        Ok(_) => {
+            same::holds_of(rt, false, BStr::new(bytes));
+            Ok(())
+        }
+        Err(found) => is_error(rt, alloc, found, bytes, error),
+    };
+    drop(answer);
+    told
 }
 
 /// Checks the error that bytes are refused with.
@@ -75,7 +81,7 @@ fn is_error(
     bytes: &[u8],
     error: &str,
 ) -> Result<(), Fail> {
-    same::text(rt, told_error(alloc, found)?.as_str(), error);
+    same::tells(rt, told_error(alloc, found), error)?;
     same::holds_of(rt, keeps(found, bytes), BStr::new(bytes));
     Ok(())
 }

@@ -1,8 +1,10 @@
 //! What tests compare, by reference: a test that asserts by itself, and owns what it asserts of, takes the prover
 //! about twice as long.
 
-use bstr::BStr;
+use bstr::{BStr, BString};
+use std::fmt::Debug;
 use std::process::Abort;
+use std::test::Fail;
 
 /// Checks that these are the bytes.
 pub fn bytes(rt: &impl Abort, found: &[u8], want: &[u8]) {
@@ -37,4 +39,34 @@ pub fn holds(rt: &impl Abort, found: bool, words: &str) {
 /// Checks that it is so, of what is told.
 pub fn holds_of(rt: &impl Abort, found: bool, whose: BStr<'_>) {
     assert!(rt; found, "{whose}");
+}
+
+/// Fails, as a call failed with this error.
+fn failed<E: Debug>(rt: &impl Abort, error: &E) {
+    assert!(rt; false, "error: {error:?}");
+}
+
+/// Checks that a call answered these bytes.
+pub fn gives<E: Debug + Drop>(rt: &impl Abort, answer: Result<BString, E>, want: &[u8]) {
+    match &answer {
+        Ok(found) => bytes(rt, found.as_bytes(), want),
+        Err(error) => failed(rt, error),
+    }
+    drop(answer);
+}
+
+/// Checks that a call answered this text.
+pub fn says<E: Debug + Drop>(rt: &impl Abort, answer: Result<String, E>, want: &str) {
+    match &answer {
+        Ok(found) => text(rt, found.as_str(), want),
+        Err(error) => failed(rt, error),
+    }
+    drop(answer);
+}
+
+/// Checks what was told.
+pub fn tells(rt: &impl Abort, told: Result<String, Fail>, want: &str) -> Result<(), Fail> {
+    let told = told?;
+    text(rt, told.as_str(), want);
+    Ok(())
 }

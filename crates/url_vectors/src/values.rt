@@ -14,8 +14,7 @@ use told::{told_text, unchecked};
 
 /// Checks how a location is written.
 fn is_written(rt: &impl Abort, alloc: Global, url: &Url, written: &str) -> Result<(), Fail> {
-    same::text(rt, told_text(alloc, url)?.as_str(), written);
-    Ok(())
+    same::tells(rt, told_text(alloc, url), written)
 }
 
 #[test]
@@ -75,16 +74,15 @@ static SHOWN: [(&str, &str); 10] = [
 ];
 
 /// Checks how a location is shown.
-fn is_shown(rt: &impl Abort, alloc: Global, url: &Url, shown: &str) -> Result<(), Fail> {
-    same::text(rt, url.to_string(alloc)?.as_str(), shown);
-    Ok(())
+fn is_shown(rt: &impl Abort, alloc: Global, url: &Url, shown: &str) {
+    same::says(rt, url.to_string(alloc), shown);
 }
 
 #[test]
 fn what_a_person_is_shown(rt: HostRuntime) -> Result<(), Fail> {
     for &(text, shown) in SHOWN.as_slice() {
         let url = read(rt.alloc(), text)?;
-        is_shown(&rt, rt.alloc(), &url, shown)?;
+        is_shown(&rt, rt.alloc(), &url, shown);
     }
     Ok(())
 }
@@ -92,7 +90,8 @@ fn what_a_person_is_shown(rt: HostRuntime) -> Result<(), Fail> {
 #[test]
 fn a_path_that_is_no_text_is_shown(rt: HostRuntime) -> Result<(), Fail> {
     let url = unchecked(rt.alloc(), "File", None, None, None, None, b"/\xff", true)?;
-    is_shown(&rt, rt.alloc(), &url, "/\u{fffd}")
+    is_shown(&rt, rt.alloc(), &url, "/\u{fffd}");
+    Ok(())
 }
 
 #[test]
