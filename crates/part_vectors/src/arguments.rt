@@ -9,13 +9,16 @@ use std::process::Abort;
 use std::test::Fail;
 use told::boxes::read;
 
-/// Texts, and what the user, the host and the path of each are to a command line.
-static JUDGED: [(
-    &str,
+/// A text, and what the user, the host and the path of its location are to a command line.
+type Judged = (
+    &'static str,
     ArgumentSafety<'static>,
     ArgumentSafety<'static>,
-    Option<&str>,
-); 13] = [
+    Option<&'static str>,
+);
+
+/// Texts, and what the parts of each are to a command line.
+static JUDGED: [Judged; 13] = [
     ("ssh://h/p", Absent, Usable("h"), Some("/p")),
     (
         "ssh://-Fconfig@host/repo",
@@ -62,17 +65,14 @@ fn some_path(path: Option<&str>) -> Option<BStr<'_>> {
     }
 }
 
-/// Checks what the parts of the location of a text are to a command line.
-fn are_judged(
-    rt: &impl Abort,
-    url: &Url,
-    text: &str,
-    user: ArgumentSafety<'_>,
-    host: ArgumentSafety<'_>,
-    path: Option<&str>,
-) {
-    is(rt, text, &url.user_as_argument(), &user);
-    is(rt, text, &url.host_as_argument(), &host);
+/// Checks what the user and the host of the location of a text are to a command line.
+fn are_judged(rt: &impl Abort, url: &Url, (text, user, host, _): &Judged) {
+    is(rt, text, &url.user_as_argument(), user);
+    is(rt, text, &url.host_as_argument(), host);
+}
+
+/// Checks which parts of the location of a text may be handed to a command.
+fn are_handed_on(rt: &impl Abort, url: &Url, &(text, user, host, path): &Judged) {
     is(rt, text, &url.user_argument_safe(), &usable(user));
     is(rt, text, &url.host_argument_safe(), &usable(host));
     is(rt, text, &url.path_argument_safe(), &some_path(path));
@@ -80,9 +80,10 @@ fn are_judged(
 
 #[test]
 fn parts_as_arguments(rt: HostRuntime) -> Result<(), Fail> {
-    for &(text, user, host, path) in JUDGED.as_slice() {
-        let url = read(rt.alloc(), text)?;
-        are_judged(&rt, &url, text, user, host, path);
+    for row in JUDGED.as_slice() {
+        let url = read(rt.alloc(), row.0)?;
+        are_judged(&rt, &url, row);
+        are_handed_on(&rt, &url, row);
     }
     Ok(())
 }

@@ -1,11 +1,11 @@
 //! What a log holds: not the field `password` of a location, and no byte of a text that was refused.
 
-use crate::checks::{is_text, is_wrong};
+use crate::checks::{is_told, is_wrong, lacks_memory};
 use bstr::{BStr, BString};
 use gix_url::expand_path::ForUser;
 use gix_url::parse::parse;
 use gix_url::{Error, Url, WriteFault};
-use std::alloc::Global;
+use std::alloc::{AllocError, Global};
 use std::fmt::Debug;
 use std::process::Abort;
 use std::test::Fail;
@@ -24,23 +24,28 @@ static SCHEMES: [&str; 8] = [
     "HelperUrl x",
 ];
 
-/// Checks that what is logged shows this, and no password.
-fn is_hidden(rt: &impl Abort, shown: &str, word: &str) {
+/// Checks that what is shown holds this, and no password.
+fn holds(rt: &impl Abort, shown: &str, word: &str) {
     assert!(rt;
         !shown.contains("secret") && shown.contains(word),
         "{word} in {shown}"
     );
 }
 
+/// Checks that what is logged shows this, and no password.
+fn is_hidden(rt: &impl Abort, logged: Result<String, AllocError>, word: &str) {
+    match &logged {
+        Ok(shown) => holds(rt, shown.as_str(), word),
+        Err(_) => lacks_memory(rt),
+    }
+    drop(logged);
+}
+
 /// Checks that a log of a location shows `redacted` in place of its password, on one line and on many.
-fn hides(rt: &impl Abort, alloc: Global, url: &Url) -> Result<(), Fail> {
-    is_hidden(
-        rt,
-        format!(in alloc; "{url:?}")?.as_str(),
-        "password: Some(\"redacted\")",
-    );
-    is_hidden(rt, format!(in alloc; "{url:#?}")?.as_str(), "\"redacted\"");
-    Ok(())
+fn hides(rt: &impl Abort, alloc: Global, url: &Url) {
+    let word = "password: Some(\"redacted\")";
+    is_hidden(rt, format!(in alloc; "{url:?}"), word);
+    is_hidden(rt, format!(in alloc; "{url:#?}"), "\"redacted\"");
 }
 
 /// Checks logs of a location with a password, of this scheme, user and flag.
@@ -53,7 +58,8 @@ fn hide(
 ) -> Result<(), Fail> {
     let (password, host) = (Some("secret"), Some("h"));
     let url = unchecked(alloc, scheme, user, password, host, None, b"/p", flag)?;
-    hides(rt, alloc, &url)
+    hides(rt, alloc, &url);
+    Ok(())
 }
 
 /// Users and flags.
@@ -86,7 +92,7 @@ static SECRET: [&str; 4] = [
 fn a_location_that_was_read(rt: HostRuntime) -> Result<(), Fail> {
     for &text in SECRET.as_slice() {
         let url = read(rt.alloc(), text)?;
-        hides(&rt, rt.alloc(), &url)?;
+        hides(&rt, rt.alloc(), &url);
     }
     Ok(())
 }
@@ -106,16 +112,15 @@ static LOGGED: [(&str, &str); 2] = [
 ];
 
 /// Checks what a log holds of a location.
-fn shows(rt: &impl Abort, alloc: Global, url: &Url, shown: &str) -> Result<(), Fail> {
-    is_text(rt, format!(in alloc; "{url:?}")?.as_str(), shown);
-    Ok(())
+fn shows(rt: &impl Abort, alloc: Global, url: &Url, shown: &str) {
+    is_told(rt, format!(in alloc; "{url:?}"), shown);
 }
 
 #[test]
 fn all_other_parts_are_shown(rt: HostRuntime) -> Result<(), Fail> {
     for &(text, shown) in LOGGED.as_slice() {
         let url = read(rt.alloc(), text)?;
-        shows(&rt, rt.alloc(), &url, shown)?;
+        shows(&rt, rt.alloc(), &url, shown);
     }
     Ok(())
 }
@@ -163,32 +168,25 @@ static REFUSED: [(&[u8], &str); 11] = [
 ];
 
 /// Checks logs of an error: all of one on one line, and that one on many lines holds no password.
-fn logs<T: Debug + Drop>(
-    rt: &impl Abort,
-    alloc: Global,
-    error: T,
-    shown: &str,
-) -> Result<(), Fail> {
-    is_text(rt, format!(in alloc; "{error:?}")?.as_str(), shown);
-    is_hidden(rt, format!(in alloc; "{error:#?}")?.as_str(), "");
-    Ok(())
+fn logs<T: Debug + Drop>(rt: &impl Abort, alloc: Global, error: T, shown: &str) {
+    is_told(rt, format!(in alloc; "{error:?}"), shown);
+    is_hidden(rt, format!(in alloc; "{error:#?}"), "");
+    drop(error);
 }
 
 /// Checks that there is no location of these bytes, and what a log holds of the error.
-fn refuses(rt: &impl Abort, alloc: Global, bytes: &[u8], shown: &str) -> Result<(), Fail> {
+fn refuses(rt: &impl Abort, alloc: Global, bytes: &[u8], shown: &str) {
     match parse(alloc, BStr::new(bytes)) {
         Ok(url) => is_wrong(rt, url),
-        Err(error) => logs(rt, alloc, error, shown)?,
+        Err(error) => logs(rt, alloc, error, shown),
     }
-    Ok(())
 }
 
 #[test]
-fn a_text_that_was_refused(rt: HostRuntime) -> Result<(), Fail> {
+fn a_text_that_was_refused(rt: HostRuntime) {
     for &(bytes, shown) in REFUSED.as_slice() {
-        refuses(&rt, rt.alloc(), bytes, shown)?;
+        refuses(&rt, rt.alloc(), bytes, shown);
     }
-    Ok(())
 }
 
 #[test]
@@ -202,7 +200,8 @@ fn a_text_that_is_too_long(rt: HostRuntime) -> Result<(), Fail> {
         rt.alloc(),
         text.as_bytes(),
         "TooLong { shown: 1031 bytes, total: 2016 }",
-    )
+    );
+    Ok(())
 }
 
 /// The errors that hold no text, numbered as in [`TEXTLESS`].
@@ -228,16 +227,16 @@ static TEXTLESS: [&str; 6] = [
 ];
 
 #[test]
-fn errors_that_hold_no_text(rt: HostRuntime) -> Result<(), Fail> {
+fn errors_that_hold_no_text(rt: HostRuntime) {
     for (number, shown) in TEXTLESS.as_slice().iter().enumerate() {
-        logs(&rt, rt.alloc(), textless(number), shown)?;
+        logs(&rt, rt.alloc(), textless(number), shown);
     }
-    Ok(())
 }
 
 #[test]
 fn the_name_of_a_helper(rt: HostRuntime) -> Result<(), Fail> {
     let name = BString::from_slice(rt.alloc(), b"-u:secret")?;
     let shown = "HelperName { name: 9 bytes }";
-    logs(&rt, rt.alloc(), Error::HelperName { name }, shown)
+    logs(&rt, rt.alloc(), Error::HelperName { name }, shown);
+    Ok(())
 }

@@ -3,7 +3,7 @@
 ghost use Rattle.std.specs.Prelude.{◌≡◌, ◌↔◌, IfErr, IfOk, IsSorted, IsTrue};
 ghost use Rattle.gix_url.specs.declared.error.Error.TheVariants as error;
 
-use crate::checks::is;
+use crate::checks::{answered, is};
 use bstr::{BStr, BString};
 use gix_url::laws::law_order;
 use gix_url::{Error, Scheme, Url};
@@ -87,14 +87,19 @@ fn equal(rt: &impl Abort, one: (usize, &Url), other: (usize, &Url)) {
     agree(rt, alike == same, one.0, other.0);
 }
 
+/// Checks how a location compares with all of them.
+fn compare_with_all(rt: &impl Abort, one: (usize, &Url), urls: &[Url]) {
+    for other in urls.iter().enumerate() {
+        compare(rt, one, other);
+        equal(rt, one, other);
+    }
+}
+
 #[test]
 fn each_pair_by_its_first_difference(rt: HostRuntime) -> Result<(), Fail> {
     let urls = read_all(rt.alloc(), IN_ORDER.as_slice())?;
     for one in urls.iter().enumerate() {
-        for other in urls.iter().enumerate() {
-            compare(&rt, one, other);
-            equal(&rt, one, other);
-        }
+        compare_with_all(&rt, one, urls.as_slice());
     }
     Ok(())
 }
@@ -128,24 +133,24 @@ fn a_list_is_sorted(rt: HostRuntime) -> Result<(), Fail> {
 }
 
 /// Numbers the keys in the order in which they come, whatever they are. A key that comes again keeps its last number.
-fn numbered<K: Ord + Drop>(alloc: Global, keys: Vec<K>) -> Result<BTreeMap<K, usize>, Fail> {
+fn numbered<K: Ord + Drop>(alloc: Global, keys: Vec<K>) -> Result<Box<BTreeMap<K, usize>>, Fail> {
     let mut numbers = BTreeMap::new(alloc);
     for (number, key) in keys.into_iter().enumerate() {
         numbers.insert(key, number).map_err(|_| "out of memory")?;
     }
-    Ok(numbers)
+    boxed(alloc, numbers)
 }
 
 /// The same by their hashes.
 fn numbered_by_hash<K: Eq + Hash + Drop>(
     alloc: Global,
     keys: Vec<K>,
-) -> Result<HashMap<K, usize>, Fail> {
+) -> Result<Box<HashMap<K, usize>>, Fail> {
     let mut numbers = HashMap::new(alloc);
     for (number, key) in keys.into_iter().enumerate() {
         numbers.insert(key, number).map_err(|_| "out of memory")?;
     }
-    Ok(numbers)
+    boxed(alloc, numbers)
 }
 
 /// Checks the number of a location, if it has one, by order and by hash.
@@ -171,6 +176,16 @@ fn are_numbered(
         let url = read(alloc, text)?;
         is_numbered(rt, by_order, by_hash, &url, Some(&number));
     }
+    is_not_numbered(rt, alloc, by_order, by_hash)
+}
+
+/// Checks that the location of another text has no number.
+fn is_not_numbered(
+    rt: &impl Abort,
+    alloc: Global,
+    by_order: &BTreeMap<Url, usize>,
+    by_hash: &HashMap<Url, usize>,
+) -> Result<(), Fail> {
     let url = read(alloc, "http://h/%61?")?;
     is_numbered(rt, by_order, by_hash, &url, None);
     Ok(())
@@ -183,12 +198,15 @@ fn locations_are_keys(rt: HostRuntime) -> Result<(), Fail> {
     are_numbered(&rt, rt.alloc(), &by_order, &by_hash)
 }
 
+/// Checks that two schemes are to each other what they should be.
+fn schemes_agree(rt: &impl Abort, is_so: bool, scheme: &Scheme, other: &Scheme) {
+    assert!(rt; is_so, "{scheme} and {other}");
+}
+
 /// Checks that a scheme comes before another.
 fn comes_before(rt: &impl Abort, scheme: &Scheme, next: &Scheme) {
-    assert!(rt;
-        scheme.cmp(next) == Ordering::Less && scheme < next,
-        "{scheme} and {next}"
-    );
+    let less = scheme.cmp(next) == Ordering::Less && scheme < next;
+    schemes_agree(rt, less, scheme, next);
 }
 
 /// The scheme of a helper.
@@ -216,7 +234,7 @@ fn schemes_by_kind_and_name(rt: HostRuntime) -> Result<(), Fail> {
 
 /// Checks whether two schemes are equal.
 fn is_scheme(rt: &impl Abort, scheme: &Scheme, other: &Scheme, same: bool) {
-    assert!(rt; (scheme == other) == same, "{scheme} and {other}");
+    schemes_agree(rt, (scheme == other) == same, scheme, other);
 }
 
 /// Checks that two schemes are equal, and hashed alike.
@@ -236,16 +254,22 @@ fn schemes_of_one_kind_and_name(rt: HostRuntime) -> Result<(), Fail> {
 
 /// A copy.
 fn copied(alloc: Global, url: &Url) -> Result<Box<Url>, Fail> {
-    boxed(alloc, url.clone(alloc)?)
+    answered(alloc, url.clone(alloc))
 }
 
 /// Checks that a copy is equal to the original, which has this place, until it is changed.
 fn changes_alone(rt: &impl Abort, alloc: Global, place: usize, url: &Url) -> Result<(), Fail> {
-    let mut changed = copied(alloc, url)?;
-    equal(rt, (place, &changed), (place, url));
-    changed.path = BString::from_slice(alloc, b"another")?;
-    equal(rt, (usize::MAX, &changed), (place, url));
+    let path = BString::from_slice(alloc, b"another")?;
+    let mut copy = copied(alloc, url)?;
+    change(rt, &mut copy, path, (place, url));
     Ok(())
+}
+
+/// Checks that a copy is equal to the original until its path is changed.
+fn change(rt: &impl Abort, copy: &mut Url, path: BString, url: (usize, &Url)) {
+    equal(rt, (url.0, &*copy), url);
+    copy.path = path;
+    equal(rt, (usize::MAX, &*copy), url);
 }
 
 /// A copy of what the text is read as, which is there no more.
@@ -257,9 +281,15 @@ fn copy_of(alloc: Global, text: &str) -> Result<Box<Url>, Fail> {
 /// Checks that a copy is equal to the original, and that neither notices what becomes of the other.
 fn copies(rt: &impl Abort, alloc: Global, place: usize, text: &str) -> Result<(), Fail> {
     let url = read(alloc, text)?;
-    let copy = copy_of(alloc, text)?;
-    equal(rt, (place, &copy), (place, &url));
+    equals_copy(rt, alloc, (place, &url), text)?;
     changes_alone(rt, alloc, place, &url)
+}
+
+/// Checks that a location is equal to a copy of what the text is read as.
+fn equals_copy(rt: &impl Abort, alloc: Global, url: (usize, &Url), text: &str) -> Result<(), Fail> {
+    let copy = copy_of(alloc, text)?;
+    equal(rt, (url.0, &copy), url);
+    Ok(())
 }
 
 /// A text with every part.
@@ -275,26 +305,29 @@ fn copies_stand_alone(rt: HostRuntime) -> Result<(), Fail> {
 
 /// Checks that a copy of a scheme is equal to it.
 fn copies_alike(rt: &impl Abort, alloc: Global, scheme: &Scheme) -> Result<(), Fail> {
-    let copy = boxed(alloc, scheme.clone(alloc)?)?;
+    let copy = answered(alloc, scheme.clone(alloc))?;
     is_copy(rt, scheme, &copy);
     Ok(())
+}
+
+/// Checks that a copy of the scheme that a text names is equal to it.
+fn copies_scheme(rt: &impl Abort, alloc: Global, text: &str) -> Result<(), Fail> {
+    let url = read(alloc, text)?;
+    copies_alike(rt, alloc, &url.scheme)
 }
 
 #[test]
 fn copies_of_schemes(rt: HostRuntime) -> Result<(), Fail> {
     for &text in IN_ORDER.as_slice() {
-        let url = read(rt.alloc(), text)?;
-        copies_alike(&rt, rt.alloc(), &url.scheme)?;
+        copies_scheme(&rt, rt.alloc(), text)?;
     }
     Ok(())
 }
 
 #[test]
 fn copies_of_bytes(rt: HostRuntime) -> Result<(), Fail> {
-    let url = boxed(
-        rt.alloc(),
-        Url::from_bytes(rt.alloc(), BStr::new(b"/\xff"))?,
-    )?;
+    let answer = Url::from_bytes(rt.alloc(), BStr::new(b"/\xff"));
+    let url = answered(rt.alloc(), answer)?;
     changes_alone(&rt, rt.alloc(), 0, &url)
 }
 
@@ -316,9 +349,11 @@ fn equals_its_copy(alloc: Global, url: &Url) -> Result<bool, Error>
     Ok(copy == *url)
 }
 
-/// Checks whether two locations are one.
-fn is_one(rt: &impl Abort, url: &Url, other: &Url, one: bool) {
-    is(rt, "one value", &are_one(url, other), &one);
+/// Checks whether a location is one with what a text is read as.
+fn is_one(rt: &impl Abort, alloc: Global, url: &Url, text: &str, one: bool) -> Result<(), Fail> {
+    let other = read(alloc, text)?;
+    is(rt, "one value", &are_one(url, &other), &one);
+    Ok(())
 }
 
 /// Checks that a copy of the location is equal to it.
@@ -330,9 +365,8 @@ fn is_copied(rt: &impl Abort, alloc: Global, url: &Url) -> Result<(), Fail> {
 #[test]
 fn equal_locations_are_one(rt: HostRuntime) -> Result<(), Fail> {
     let url = read(rt.alloc(), "http://h/%61")?;
-    let same_fields = read(rt.alloc(), "http://h/a")?;
-    is_one(&rt, &url, &same_fields, false);
-    let same_text = read(rt.alloc(), "http://h/%61")?;
-    is_one(&rt, &url, &same_text, true);
+    // the same fields, and the same text
+    is_one(&rt, rt.alloc(), &url, "http://h/a", false)?;
+    is_one(&rt, rt.alloc(), &url, "http://h/%61", true)?;
     is_copied(&rt, rt.alloc(), &url)
 }

@@ -1,6 +1,6 @@
 //! Parts looked at and exchanged, and the location that has none.
 
-use crate::checks::{is, is_text};
+use crate::checks::{answered, is, is_text};
 use bstr::{BStr, BString};
 use gix_url::{Scheme, Url};
 use std::alloc::Global;
@@ -103,21 +103,28 @@ fn no_user(rt: HostRuntime) -> Result<(), Fail> {
     written(&rt, alloc, &url, "settled ssh://example.com/gitoxide")
 }
 
-/// Exchanges the password of a location, and checks the one before.
-fn exchanges(rt: &impl Abort, url: &mut Url, password: Option<String>, before: &str) {
+/// Exchanges the password of a location, and checks the one before and how the location is written then.
+fn exchanges(
+    rt: &impl Abort,
+    alloc: Global,
+    url: &mut Url,
+    password: Option<String>,
+    (before, want): (&str, &str),
+) -> Result<(), Fail> {
     let kept = url.set_password(password);
     is_part(rt, "the password before", kept.as_deref(), Some(before));
+    written(rt, alloc, url, want)
 }
 
 #[test]
 fn another_password(rt: HostRuntime) -> Result<(), Fail> {
     let password = "n:w".to_string(rt.alloc())?;
     let mut url = read(rt.alloc(), "https://u:old@h:8080/a%20b")?;
-    exchanges(&rt, &mut url, Some(password), "old");
+    let told = ("old", "settled https://u:n:w@h:8080/a%20b");
+    exchanges(&rt, rt.alloc(), &mut url, Some(password), told)?;
     is_part(&rt, "the password", url.password(), Some("n:w"));
-    written(&rt, rt.alloc(), &url, "settled https://u:n:w@h:8080/a%20b")?;
-    exchanges(&rt, &mut url, None, "n:w");
-    written(&rt, rt.alloc(), &url, "settled https://u@h:8080/a%20b")
+    let told = ("n:w", "settled https://u@h:8080/a%20b");
+    exchanges(&rt, rt.alloc(), &mut url, None, told)
 }
 
 /// Texts, whether the form that is no URL is asked for, and how the location is written then.
@@ -141,12 +148,19 @@ fn is_formed(
     written(rt, alloc, url, want)
 }
 
+/// What the text is read as, with the form that is no URL, or without.
+fn formed(alloc: Global, text: &str, flag: bool) -> Result<Box<Url>, Fail> {
+    boxed(
+        alloc,
+        Url::from_text(alloc, text)?.with_request_alternate_form(flag),
+    )
+}
+
 #[test]
 fn another_form(rt: HostRuntime) -> Result<(), Fail> {
     let alloc = rt.alloc();
     for &(text, flag, want) in FORMS.as_slice() {
-        let url = Url::from_text(alloc, text)?.with_request_alternate_form(flag);
-        let url = boxed(alloc, url)?;
+        let url = formed(alloc, text, flag)?;
         is_formed(&rt, alloc, &url, flag, want)?;
     }
     Ok(())
@@ -165,12 +179,18 @@ fn the_location_with_nothing_in_it(rt: HostRuntime) -> Result<(), Fail> {
     has_nothing(&rt, rt.alloc(), &url)
 }
 
+/// Puts a host and a path into a location.
+fn fill(alloc: Global, url: &mut Url) -> Result<(), Fail> {
+    url.host = Some("h".to_string(alloc)?);
+    url.path = BString::from_slice(alloc, b"/p")?;
+    Ok(())
+}
+
 #[test]
 fn parts_put_into_nothing(rt: HostRuntime) -> Result<(), Fail> {
     let alloc = rt.alloc();
     let mut url = boxed(alloc, Url::default_in(alloc))?;
-    url.host = Some("h".to_string(alloc)?);
-    url.path = BString::from_slice(alloc, b"/p")?;
+    fill(alloc, &mut url)?;
     written(&rt, alloc, &url, "settled ssh://h/p")
 }
 
@@ -222,19 +242,24 @@ static DEFAULTS: [(&str, Option<u16>); 8] = [
 fn ports_of_schemes(rt: HostRuntime) -> Result<(), Fail> {
     let alloc = rt.alloc();
     for &(text, port) in DEFAULTS.as_slice() {
-        let scheme = boxed(alloc, Scheme::from_text(alloc, text)?)?;
+        let scheme = answered(alloc, Scheme::from_text(alloc, text))?;
         is(&rt, text, &scheme.default_port(), &port);
     }
     Ok(())
+}
+
+/// What the text is read as, with another user and in the form of a URL.
+fn with_user(alloc: Global, text: &str, user: String) -> Result<Box<Url>, Fail> {
+    let mut url = Url::from_text(alloc, text)?;
+    let _ = url.set_user(Some(user));
+    boxed(alloc, url.with_request_alternate_form(false))
 }
 
 #[test]
 fn setters_keep_the_spelling(rt: HostRuntime) -> Result<(), Fail> {
     let alloc = rt.alloc();
     let user = "u".to_string(alloc)?;
-    let mut url = Url::from_text(alloc, "https://host/my%20repo")?;
-    let _ = url.set_user(Some(user));
-    let url = boxed(alloc, url.with_request_alternate_form(false))?;
+    let url = with_user(alloc, "https://host/my%20repo", user)?;
     spelled(&rt, &url, "/my%20repo");
     written(&rt, alloc, &url, "settled https://u@host/my%20repo")
 }

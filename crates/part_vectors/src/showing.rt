@@ -63,9 +63,11 @@ fn with_password(
     unchecked(alloc, scheme, user, password, host, None, path, flag)
 }
 
-/// Schemes of every kind that has a text beside a password, the path, the flag, and what is shown for the user `u` and the
-/// host `h`.
-static SHOWN: [(&str, &[u8], bool, &str); 14] = [
+/// A scheme, a path, a flag, and what is shown for the user `u` and the host `h`.
+type Shown = (&'static str, &'static [u8], bool, &'static str);
+
+/// Rows of every kind of scheme that has a text beside a password.
+static SHOWN: [Shown; 14] = [
     ("File", b"/p", false, "file://u:redacted@h/p"),
     ("File", b"/p", true, "file://u:redacted@h/p"),
     ("File", b"/\xff", true, "file://u:redacted@h/\u{fffd}"),
@@ -100,15 +102,26 @@ fn shows(rt: &impl Abort, alloc: Global, url: &Url, shown: &str) {
     }
 }
 
+/// The location of a row, with this password.
+fn location(alloc: Global, row: &Shown, password: &str) -> Result<Box<Url>, Fail> {
+    let &(scheme, path, flag, _) = row;
+    let (user, host) = (Some("u"), Some("h"));
+    with_password(alloc, scheme, user, host, path, flag, password)
+}
+
+/// Checks what is shown of a row with each password.
+fn shows_none(rt: &impl Abort, alloc: Global, row: &Shown) -> Result<(), Fail> {
+    for &password in PASSWORDS.as_slice() {
+        let url = location(alloc, row, password)?;
+        shows(rt, alloc, &url, row.3);
+    }
+    Ok(())
+}
+
 #[test]
 fn no_password_is_shown(rt: HostRuntime) -> Result<(), Fail> {
-    let alloc = rt.alloc();
-    for &(scheme, path, flag, shown) in SHOWN.as_slice() {
-        for &password in PASSWORDS.as_slice() {
-            let (user, host) = (Some("u"), Some("h"));
-            let url = with_password(alloc, scheme, user, host, path, flag, password)?;
-            shows(&rt, alloc, &url, shown);
-        }
+    for row in SHOWN.as_slice() {
+        shows_none(&rt, rt.alloc(), row)?;
     }
     Ok(())
 }
@@ -176,17 +189,23 @@ fn shows_a_front(rt: &impl Abort, alloc: Global, url: &Url, shown: &str) {
 
 #[test]
 fn a_formatter_that_fails_was_shown_no_password(rt: HostRuntime) -> Result<(), Fail> {
-    let alloc = rt.alloc();
-    for &(scheme, path, flag, shown) in SHOWN.as_slice() {
-        let (user, host) = (Some("u"), Some("h"));
-        let url = with_password(alloc, scheme, user, host, path, flag, "secret")?;
-        shows_a_front(&rt, alloc, &url, shown);
+    for row in SHOWN.as_slice() {
+        let url = location(rt.alloc(), row, "secret")?;
+        shows_a_front(&rt, rt.alloc(), &url, row.3);
     }
     Ok(())
 }
 
-/// Schemes, users, hosts and paths that have no text beside a password.
-static TEXTLESS: [(&str, Option<&str>, Option<&str>, &[u8]); 9] = [
+/// A scheme, a user, a host and a path.
+type Textless = (
+    &'static str,
+    Option<&'static str>,
+    Option<&'static str>,
+    &'static [u8],
+);
+
+/// Rows that have no text beside a password.
+static TEXTLESS: [Textless; 9] = [
     ("Ext", None, None, b"p"),
     ("Helper a", None, None, b"p"),
     ("Helper -", Some("u"), Some("h"), b"p"),
@@ -208,13 +227,19 @@ fn shows_nothing(rt: &impl Abort, alloc: Global, url: &Url) {
     }
 }
 
+/// Checks that nothing is shown of a row with this flag.
+fn has_no_text(rt: &impl Abort, alloc: Global, row: &Textless, flag: bool) -> Result<(), Fail> {
+    let &(scheme, user, host, path) = row;
+    let url = with_password(alloc, scheme, user, host, path, flag, "secret")?;
+    shows_nothing(rt, alloc, &url);
+    Ok(())
+}
+
 #[test]
 fn nothing_is_shown_where_there_is_no_text(rt: HostRuntime) -> Result<(), Fail> {
-    for &(scheme, user, host, path) in TEXTLESS.as_slice() {
-        for flag in [false, true] {
-            let url = with_password(rt.alloc(), scheme, user, host, path, flag, "secret")?;
-            shows_nothing(&rt, rt.alloc(), &url);
-        }
+    for row in TEXTLESS.as_slice() {
+        has_no_text(&rt, rt.alloc(), row, false)?;
+        has_no_text(&rt, rt.alloc(), row, true)?;
     }
     Ok(())
 }
