@@ -33,9 +33,17 @@ pub fn location(alloc: Global, parts: &Parts) -> Result<Box<Url>, Fail> {
     )
 }
 
+/// Parts of a location, how it is written, and what its text is read as.
+pub type Edge = (Parts, &'static str, &'static str);
+
+/// The edges. Only this function names their table: each that does takes the prover long.
+pub fn edges() -> &'static [Edge] {
+    EDGES.as_slice()
+}
+
 /// Locations of these parts, how they are written, and what their text is read as. Nearly all are just outside the
 /// settled class.
-pub static EDGES: [(Parts, &str, &str); 38] = [
+static EDGES: [Edge; 38] = [
     (
         ("Https", Some("u"), Some(""), Some("h"), None, "/p", false),
         "unsettled https://u:@h/p",

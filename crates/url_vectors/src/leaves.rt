@@ -14,13 +14,13 @@ use told::unchecked;
 struct Place(&'static str, &'static str);
 
 /// HTTP, whose hosts are read strictly.
-const WEB: Place = Place("http://", "/p");
+static WEB: Place = Place("http://", "/p");
 /// A path of HTTP.
-const WEB_PATH: Place = Place("http://h/", "");
+static WEB_PATH: Place = Place("http://h/", "");
 /// Git's own protocol.
-const GIT: Place = Place("git://", "/p");
+static GIT: Place = Place("git://", "/p");
 /// Any other scheme.
-const OTHER: Place = Place("x://", "/p");
+static OTHER: Place = Place("x://", "/p");
 
 impl Place {
     /// The text with this host and port.
@@ -204,28 +204,28 @@ fn other_schemes_need_no_host(rt: HostRuntime) -> Result<(), Fail> {
     Ok(())
 }
 
-/// Users, passwords and paths, and the text of HTTP that they are written in.
-static WRITTEN: [(&str, &str, &str, &str); 3] = [
+/// A user, a password and a path, and the text of HTTP that they are written in.
+type Written = (&'static str, &'static str, &'static str, &'static str);
+
+/// What is escaped in each place.
+static WRITTEN: [Written; 3] = [
     ("a@b:c", "a@b:c", "/", "https://a%40b%3Ac:a%40b:c@h/"),
     ("ö", "ö", "/ö", "https://%C3%B6:%C3%B6@h/%C3%B6"),
     ("u", "p", "/a b%?#", "https://u:p@h/a%20b%25?#"),
 ];
 
+/// The location of HTTP of a row.
+fn location(alloc: Global, row: &Written) -> Result<Box<Url>, Fail> {
+    let (user, password, host) = (Some(row.0), Some(row.1), Some("h"));
+    let path = row.2.as_bytes();
+    unchecked(alloc, "Https", user, password, host, None, path, false)
+}
+
 #[test]
 fn escapes_that_are_written(rt: HostRuntime) -> Result<(), Fail> {
-    for &(user, password, path, written) in WRITTEN.as_slice() {
-        let (user, password, path) = (Some(user), Some(password), path.as_bytes());
-        let url = unchecked(
-            rt.alloc(),
-            "Https",
-            user,
-            password,
-            Some("h"),
-            None,
-            path,
-            false,
-        )?;
-        is_written_as(&rt, rt.alloc(), &url, written);
+    for row in WRITTEN.as_slice() {
+        let url = location(rt.alloc(), row)?;
+        is_written_as(&rt, rt.alloc(), &url, row.3);
     }
     Ok(())
 }

@@ -1,6 +1,6 @@
 //! What locations are read as from their own text.
 
-use crate::edges::{EDGES, location};
+use crate::edges::{edges, location};
 use crate::long::joined;
 use crate::owned::answered;
 use crate::rows::is_spelled;
@@ -139,7 +139,7 @@ fn a_text_can_be_too_long_to_be_read(rt: HostRuntime) -> Result<(), Fail> {
 
 #[test]
 fn what_the_text_of_parts_is_read_as(rt: HostRuntime) -> Result<(), Fail> {
-    for (parts, _, again) in EDGES.as_slice() {
+    for (parts, _, again) in edges() {
         let url = location(rt.alloc(), parts)?;
         is_read_as(&rt, rt.alloc(), &url, again)?;
     }
@@ -170,7 +170,7 @@ fn comes_back_if_settled(
 
 #[test]
 fn unsettled_edges_do_not_come_back(rt: HostRuntime) -> Result<(), Fail> {
-    for (parts, _, _) in EDGES.as_slice() {
+    for (parts, _, _) in edges() {
         let url = location(rt.alloc(), parts)?;
         comes_back_if_settled(&rt, rt.alloc(), parts.0, &url)?;
     }

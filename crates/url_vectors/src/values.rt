@@ -1,6 +1,6 @@
 //! Values that no text is read as: how they are written, and what a person is shown.
 
-use crate::edges::{EDGES, location};
+use crate::edges::{edges, location};
 use crate::rows::is_spelled;
 use crate::same;
 use bstr::BString;
@@ -19,7 +19,7 @@ fn is_written(rt: &impl Abort, alloc: Global, url: &Url, written: &str) -> Resul
 
 #[test]
 fn edges_of_the_settled_class(rt: HostRuntime) -> Result<(), Fail> {
-    for (parts, written, _) in EDGES.as_slice() {
+    for (parts, written, _) in edges() {
         let url = location(rt.alloc(), parts)?;
         is_written(&rt, rt.alloc(), &url, written)?;
     }
