@@ -62,8 +62,7 @@ fn hosts_are_wanted(rt: HostRuntime) {
 fn another_user_is_written(rt: HostRuntime) -> Result<(), Fail> {
     let user = String::from_str(rt.alloc(), "byron")?;
     let url = read(rt.alloc(), "ssh://git@h/p")?;
-    let text = as_user(rt.alloc(), &url, user)?;
-    same::bytes(&rt, text.as_bytes(), b"ssh://byron@h/p");
+    same::gives(&rt, as_user(rt.alloc(), &url, user), b"ssh://byron@h/p");
     Ok(())
 }
 
@@ -85,9 +84,7 @@ fn names_of_a_query_are_read(rt: HostRuntime) -> Result<(), Fail> {
 }
 
 #[test]
-fn a_path_lies_at_home(rt: HostRuntime) -> Result<(), Fail> {
-    let alloc = rt.alloc();
-    let path = path_at_home(alloc, BStr::new(b"/~bob/r"), Some("/home/al"))?;
-    same::text(&rt, path.as_str(), "/home/bob/r");
-    Ok(())
+fn a_path_lies_at_home(rt: HostRuntime) {
+    let path = path_at_home(rt.alloc(), BStr::new(b"/~bob/r"), Some("/home/al"));
+    same::says(&rt, path, "/home/bob/r");
 }

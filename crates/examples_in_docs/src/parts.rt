@@ -111,14 +111,11 @@ fn a_user_is_exchanged(rt: HostRuntime) -> Result<(), Fail> {
 fn a_location_is_made(rt: HostRuntime) -> Result<(), Fail> {
     let host = String::from_str(rt.alloc(), "h")?;
     let url = boxed(rt.alloc(), at_host(rt.alloc(), host))?;
-    let text = url.to_bstring(rt.alloc())?;
-    same::bytes(&rt, text.as_bytes(), b"ssh://h/");
+    same::gives(&rt, url.to_bstring(rt.alloc()), b"ssh://h/");
     Ok(())
 }
 
 #[test]
-fn a_location_becomes_a_path(rt: HostRuntime) -> Result<(), Fail> {
-    let path = as_path(rt.alloc())?;
-    same::bytes(&rt, path.as_bytes(), b"/path");
-    Ok(())
+fn a_location_becomes_a_path(rt: HostRuntime) {
+    same::gives(&rt, as_path(rt.alloc()), b"/path");
 }

@@ -56,45 +56,38 @@ fn expand(rt: &(impl Env + AllocGlobal), path: BStr<'_>) -> Result<String, Error
 #[test]
 fn a_query_is_searched(rt: HostRuntime) -> Result<(), Fail> {
     let url = read(rt.alloc(), "https://h/info/refs?service=git-upload-pack")?;
-    same::holds(
-        &rt,
-        asks_for(rt.alloc(), &url, b"git-upload-pack")?,
-        "fetch",
-    );
-    same::holds(
-        &rt,
-        !asks_for(rt.alloc(), &url, b"git-receive-pack")?,
-        "push",
-    );
+    let fetches = asks_for(rt.alloc(), &url, b"git-upload-pack");
+    same::answers(&rt, fetches, &true, "fetch");
+    let pushes = asks_for(rt.alloc(), &url, b"git-receive-pack");
+    same::answers(&rt, pushes, &false, "push");
     Ok(())
 }
 
 #[test]
-fn a_home_folder_is_named(rt: HostRuntime) -> Result<(), Fail> {
-    same::holds(&rt, is_own(rt.alloc(), BStr::new(b"/~/repo"))?, "home");
-    same::holds(&rt, !is_own(rt.alloc(), BStr::new(b"/~bob/repo"))?, "bob");
-    Ok(())
+fn a_home_folder_is_named(rt: HostRuntime) {
+    let current = is_own(rt.alloc(), BStr::new(b"/~/repo"));
+    same::answers(&rt, current, &true, "home");
+    let named = is_own(rt.alloc(), BStr::new(b"/~bob/repo"));
+    same::answers(&rt, named, &false, "bob");
 }
 
 #[test]
 fn a_path_goes_to_a_shell(rt: HostRuntime) -> Result<(), Fail> {
-    let text = remote_path(rt.alloc(), Url::from_text(rt.alloc(), "/~bob/repo")?)?;
-    same::bytes(&rt, text.as_bytes(), b"~bob/repo");
+    let url = Url::from_text(rt.alloc(), "/~bob/repo")?;
+    same::gives(&rt, remote_path(rt.alloc(), url), b"~bob/repo");
     Ok(())
 }
 
 #[test]
 fn a_home_folder_is_entered(rt: HostRuntime) -> Result<(), Fail> {
     let (user, below) = expand_path::parse(rt.alloc(), BStr::new(b"/~bob/repo"))?;
-    let path = in_home(rt.alloc(), user.as_ref(), below.as_bstr())?;
-    same::text(&rt, path.as_str(), "/home/bob/repo");
+    let path = in_home(rt.alloc(), user.as_ref(), below.as_bstr());
+    same::says(&rt, path, "/home/bob/repo");
     Ok(())
 }
 
 #[test]
-fn no_home_folder_is_entered(rt: HostRuntime) -> Result<(), Fail> {
+fn no_home_folder_is_entered(rt: HostRuntime) {
     // Without a user the environment isn't asked for anything that counts.
-    let path = expand(&rt, BStr::new(b"/srv/repo"))?;
-    same::text(&rt, path.as_str(), "/srv/repo");
-    Ok(())
+    same::says(&rt, expand(&rt, BStr::new(b"/srv/repo")), "/srv/repo");
 }

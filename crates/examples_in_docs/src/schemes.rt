@@ -42,11 +42,10 @@ fn fragment_of<'a>(parts: &PathComponents<'a>) -> Option<BStr<'a>> {
 }
 
 #[test]
-fn schemes_are_told_apart(rt: HostRuntime) -> Result<(), Fail> {
+fn schemes_are_told_apart(rt: HostRuntime) {
     for (name, is) in [("https", true), ("HTTPS", false)] {
-        same::is(&rt, is_web(rt.alloc(), name)?, is, name);
+        same::answers(&rt, is_web(rt.alloc(), name), &is, name);
     }
-    Ok(())
 }
 
 #[test]
@@ -79,39 +78,39 @@ fn a_user_is_copied(rt: HostRuntime) -> Result<(), Fail> {
 }
 
 /// Checks the value of the first field of a query.
-fn has_no_value(rt: &impl Abort, pairs: &[(QueryText<'_>, QueryText<'_>)]) -> Result<(), Fail> {
+fn has_no_value(rt: &impl Abort, pairs: &[(QueryText<'_>, QueryText<'_>)]) {
     match pairs.first() {
-        None => Err(Fail::new("a field")),
-        Some((_, value)) => {
-            same::holds(rt, is_empty(value), "an empty value");
-            Ok(())
-        }
+        None => same::holds(rt, false, "a field"),
+        Some((_, value)) => same::holds(rt, is_empty(value), "an empty value"),
     }
 }
 
 /// Checks the value of the first field.
-fn begins_with_nothing(rt: &impl Abort, parts: &PathComponents<'_>) -> Result<(), Fail> {
+fn begins_with_nothing(rt: &impl Abort, parts: &PathComponents<'_>) {
     match &parts.query {
-        None => Err(Fail::new("a query")),
+        None => same::holds(rt, false, "a query"),
         Some(pairs) => has_no_value(rt, pairs.as_slice()),
     }
 }
 
 /// Checks the fragment of components.
-fn ends_with(rt: &impl Abort, parts: &PathComponents<'_>, want: &[u8]) -> Result<(), Fail> {
+fn ends_with(rt: &impl Abort, parts: &PathComponents<'_>, want: &[u8]) {
     match fragment_of(parts) {
-        None => Err(Fail::new("a fragment")),
-        Some(fragment) => {
-            same::bytes(rt, fragment.as_bytes(), want);
-            Ok(())
-        }
+        None => same::holds(rt, false, "a fragment"),
+        Some(fragment) => same::bytes(rt, fragment.as_bytes(), want),
     }
+}
+
+/// Checks the fragment and the query of a location.
+fn has_parts(rt: &impl Abort, alloc: Global, url: &Url) -> Result<(), Fail> {
+    let parts = answered(alloc, url.path_query_fragment(alloc))?;
+    ends_with(rt, &parts, b"b");
+    begins_with_nothing(rt, &parts);
+    Ok(())
 }
 
 #[test]
 fn parts_of_answers(rt: HostRuntime) -> Result<(), Fail> {
     let url = read(rt.alloc(), "http://h/?a#b")?;
-    let parts = answered(rt.alloc(), url.path_query_fragment(rt.alloc()))?;
-    ends_with(&rt, &parts, b"b")?;
-    begins_with_nothing(&rt, &parts)
+    has_parts(&rt, rt.alloc(), &url)
 }

@@ -137,37 +137,36 @@ fn ports_are_named(rt: HostRuntime) -> Result<(), Fail> {
 }
 
 /// Checks that a name is copied.
-fn keeps(rt: &impl Abort, alloc: Global, name: &QueryText<'_>) -> Result<(), Fail> {
-    let copy = answered(alloc, kept(alloc, name))?;
-    same::holds(rt, *copy == *name, "the copy of a name");
-    Ok(())
+fn keeps(rt: &impl Abort, alloc: Global, name: &QueryText<'_>) {
+    same::answers(rt, kept(alloc, name), name, "the copy of a name");
 }
 
 /// Checks that the name of the first field is copied.
-fn keeps_first(
-    rt: &impl Abort,
-    alloc: Global,
-    pairs: &[(QueryText<'_>, QueryText<'_>)],
-) -> Result<(), Fail> {
+fn keeps_first(rt: &impl Abort, alloc: Global, pairs: &[(QueryText<'_>, QueryText<'_>)]) {
     match pairs.first() {
-        None => Err(Fail::new("a field")),
+        None => same::holds(rt, false, "a field"),
         Some((name, _)) => keeps(rt, alloc, name),
     }
 }
 
-/// Checks that all components are copied.
-fn keeps_all(rt: &impl Abort, alloc: Global, parts: &PathComponents<'_>) -> Result<(), Fail> {
-    let copy = answered(alloc, both(alloc, parts))?;
-    same::holds(rt, *copy == *parts, "the copy of all");
+/// Checks that the name of the first field of components is copied.
+fn keeps_query(rt: &impl Abort, alloc: Global, parts: &PathComponents<'_>) {
     match &parts.query {
-        None => Err(Fail::new("a query")),
+        None => same::holds(rt, false, "a query"),
         Some(pairs) => keeps_first(rt, alloc, pairs.as_slice()),
     }
+}
+
+/// Checks that the components of a location are copied.
+fn are_kept(rt: &impl Abort, alloc: Global, url: &Url) -> Result<(), Fail> {
+    let parts = answered(alloc, url.path_query_fragment(alloc))?;
+    same::answers(rt, both(alloc, &parts), &*parts, "the copy of all");
+    keeps_query(rt, alloc, &parts);
+    Ok(())
 }
 
 #[test]
 fn components_are_copied(rt: HostRuntime) -> Result<(), Fail> {
     let url = read(rt.alloc(), "http://h/?a+b=c")?;
-    let parts = answered(rt.alloc(), url.path_query_fragment(rt.alloc()))?;
-    keeps_all(&rt, rt.alloc(), &parts)
+    are_kept(&rt, rt.alloc(), &url)
 }
