@@ -23,16 +23,35 @@ use std::io::{self, BufRead, BufReader};
 fn answer(alloc: Global, line: &str) -> Result<String, AllocError> {
     match serde_json::from_str(alloc, line) {
         Ok(stored) => stored_again(alloc, stored).ok_or(AllocError),
-        Err(error) if error.is_memory() => Err(AllocError),
-        Err(_) => String::from_str(alloc, "refused"),
+        Err(error) => refused(alloc, error),
+    }
+}
+
+/// The answer to a line that is refused. There is none where memory was.
+fn refused(alloc: Global, error: serde_json::Error) -> Result<String, AllocError> {
+    let is_memory = error.is_memory();
+    drop(error);
+    if is_memory {
+        Err(AllocError)
+    } else {
+        String::from_str(alloc, "refused")
     }
 }
 
 /// The location of a record, as a record again. There is none where memory is refused.
 fn stored_again(alloc: Global, stored: StoredUrl) -> Option<String> {
     let url = Url::from_stored(alloc, stored).ok()?;
+    let record = record_of(alloc, &url);
+    drop(url);
+    record
+}
+
+/// The record of a location. There is none where memory is refused.
+fn record_of(alloc: Global, url: &Url) -> Option<String> {
     let stored = url.to_stored(alloc).ok()?;
-    serde_json::to_string(alloc, &stored).ok()
+    let record = serde_json::to_string(alloc, &stored).ok();
+    drop(stored);
+    record
 }
 
 fn main(rt: HostRuntime) -> io::Result<()> {

@@ -2,12 +2,13 @@
 
 use crate::json::{PARTS, of_path, with, without};
 use crate::same;
+use bstr::BString;
 use gix_url::stored::StoredUrl;
 use gix_url::{Scheme, Url};
 use std::alloc::Global;
 use std::process::Abort;
 use std::test::Fail;
-use told::boxes::{boxed, read};
+use told::boxes::read;
 
 /// Paths and spellings of records, and those of the locations that they stand for.
 static SPELLINGS: [((&[u8], &[u8]), (&[u8], &[u8])); 9] = [
@@ -53,15 +54,14 @@ static SCHEMES: [(&str, &str); 8] = [
 
 /// The location of a record.
 fn restored(alloc: Global, record: &str) -> Result<Box<Url>, Fail> {
-    boxed(
-        alloc,
-        Url::from_stored(alloc, serde_json::from_str(alloc, record)?)?,
-    )
+    let stored = serde_json::from_str(alloc, record)?;
+    same::answered(alloc, Url::from_stored(alloc, stored))
 }
 
 /// What is stored of the location of a record.
 fn stored(alloc: Global, record: &str) -> Result<Box<StoredUrl>, Fail> {
-    boxed(alloc, restored(alloc, record)?.to_stored(alloc)?)
+    let url = restored(alloc, record)?;
+    same::answered(alloc, url.to_stored(alloc))
 }
 
 /// A path and its spelling.
@@ -110,62 +110,70 @@ fn restored_of(alloc: Global, host: &str, path: &[u8], spelling: &[u8]) -> Resul
 }
 
 /// Checks how a location is written.
-fn is_written(rt: &impl Abort, alloc: Global, url: &Url, text: &str) -> Result<(), Fail> {
-    same::bytes(rt, url.to_bstring(alloc)?.as_bytes(), text.as_bytes());
-    Ok(())
+fn is_written(rt: &impl Abort, alloc: Global, url: &Url, text: &str) {
+    same::gives(rt, url.to_bstring(alloc), text.as_bytes());
 }
 
 /// What the text of a location is read as.
 fn read_again(alloc: Global, url: &Url) -> Result<Box<Url>, Fail> {
     let text = url.to_bstring(alloc)?;
-    boxed(alloc, Url::from_bytes(alloc, text.as_bstr())?)
+    same::answered(alloc, Url::from_bytes(alloc, text.as_bstr()))
 }
 
 /// Checks a location with a spelling that no text is read with, once it has come to stand for the path.
 fn is_spelled_oddly(rt: &impl Abort, alloc: Global, url: &Url) -> Result<(), Fail> {
-    is_written(rt, alloc, url, "https://h/a<b")?;
+    is_written(rt, alloc, url, "https://h/a<b");
     same::holds(rt, !url.is_settled(), "it is unsettled");
-    is_written(rt, alloc, &*read_again(alloc, url)?, "https://h/a%3Cb")
+    let again = read_again(alloc, url)?;
+    is_written(rt, alloc, &again, "https://h/a%3Cb");
+    Ok(())
 }
 
 #[test]
 fn the_spelling_is_written(rt: HostRuntime) -> Result<(), Fail> {
     for &(host, path, spelling, text) in TEXTS.as_slice() {
         let url = restored_of(rt.alloc(), host, path, spelling)?;
-        is_written(&rt, rt.alloc(), &url, text)?;
+        is_written(&rt, rt.alloc(), &url, text);
     }
+    Ok(())
+}
+
+#[test]
+fn an_odd_spelling_is_written(rt: HostRuntime) -> Result<(), Fail> {
+    let path = BString::from_slice(rt.alloc(), b"/a<b")?;
     let mut url = restored_of(rt.alloc(), "h", b"/x", b"/a<b")?;
-    url.path = bstr::BString::from_slice(rt.alloc(), b"/a<b")?;
+    url.path = path;
     is_spelled_oddly(&rt, rt.alloc(), &url)
 }
 
-/// Checks all parts of a location, of which the scheme is this one.
-fn has_all_parts(rt: &impl Abort, url: &Url, scheme: &str) {
+/// Checks the scheme, the port and the flag of a location.
+fn is_of_scheme(rt: &impl Abort, url: &Url, scheme: &str) {
+    let is_helper = matches!(&url.scheme, Scheme::Helper(_));
     same::text(rt, url.scheme.as_str(), scheme);
-    same::optional(rt, url.user.as_deref(), Some("u"));
-    same::optional(rt, url.password.as_deref(), Some("secret"));
-    same::optional(rt, url.host.as_deref(), Some("h"));
-    same::is(
-        rt,
-        matches!(&url.scheme, Scheme::Helper(_)),
-        scheme == "a",
-        "a helper",
-    );
+    same::is(rt, is_helper, scheme == "a", "a helper");
     same::holds(rt, url.port == Some(8080), "the port");
     same::holds(rt, !url.serialize_alternative_form, "the flag");
 }
 
+/// Checks the user, the password and the host of a location.
+fn has_names(rt: &impl Abort, url: &Url) {
+    same::optional(rt, url.user.as_deref(), Some("u"));
+    same::optional(rt, url.password.as_deref(), Some("secret"));
+    same::optional(rt, url.host.as_deref(), Some("h"));
+}
+
 /// Checks the record that is stored of a location.
 fn is_stored_as(rt: &impl Abort, alloc: Global, url: &Url, record: &str) -> Result<(), Fail> {
-    let stored = url.to_stored(alloc)?;
-    same::text(rt, serde_json::to_string(alloc, &stored)?.as_str(), record);
+    let stored = same::answered(alloc, url.to_stored(alloc))?;
+    same::says(rt, serde_json::to_string(alloc, &*stored), record);
     Ok(())
 }
 
 /// Checks that the parts of a record come back, of which the scheme is this one.
 fn comes_back(rt: &impl Abort, alloc: Global, record: &str, scheme: &str) -> Result<(), Fail> {
     let url = restored(alloc, record)?;
-    has_all_parts(rt, &url, scheme);
+    is_of_scheme(rt, &url, scheme);
+    has_names(rt, &url);
     is_stored_as(rt, alloc, &url, record)
 }
 
@@ -186,8 +194,9 @@ fn restored_without(alloc: Global, name: &str) -> Result<Box<Url>, Fail> {
 
 /// Checks that this part may be missing, and is null then.
 fn may_be_missing(rt: &impl Abort, alloc: Global, name: &str) -> Result<(), Fail> {
+    let record = with(alloc, name, "null")?;
     let url = restored_without(alloc, name)?;
-    is_stored_as(rt, alloc, &url, with(alloc, name, "null")?.as_str())
+    is_stored_as(rt, alloc, &url, record.as_str())
 }
 
 #[test]
@@ -217,29 +226,30 @@ static EXAMPLE: &str =
     "{\"scheme\":\"Https\",\"user\":null,\"password\":null,\"host\":\"h\",\"serialize_alternative_form\":false,\"port\":null,\"path\":[47,97,47,98],\"path_with_percent_escapes\":[47,97,37,50,70,98]}";
 
 /// Checks that a record is read as the location of the examples.
-fn is_back(rt: &impl Abort, alloc: Global, back: &Option<Url>) -> Result<(), Fail> {
-    match back {
+fn is_back(rt: &impl Abort, alloc: Global, back: Option<Url>) {
+    match &back {
         None => same::holds(rt, false, "the record is read"),
-        Some(back) => is_written(rt, alloc, back, "https://h/a%2Fb")?,
+        Some(back) => is_written(rt, alloc, back, "https://h/a%2Fb"),
     }
-    Ok(())
+    drop(back);
 }
 
 /// Checks the record that the first example answers, and what the second one makes of it.
-fn work(rt: &impl Abort, alloc: Global, json: Option<&str>) -> Result<(), Fail> {
+fn work(rt: &impl Abort, alloc: Global, json: Option<&str>) {
     same::optional(rt, json, Some(EXAMPLE));
-    is_back(rt, alloc, &url_of(alloc, json.unwrap_or("")))
+    is_back(rt, alloc, url_of(alloc, json.unwrap_or("")));
 }
 
 #[test]
 fn the_examples_work(rt: HostRuntime) -> Result<(), Fail> {
     let url = read(rt.alloc(), "https://h/a%2Fb")?;
-    work(&rt, rt.alloc(), json_of(rt.alloc(), &url).as_deref())
+    work(&rt, rt.alloc(), json_of(rt.alloc(), &url).as_deref());
+    Ok(())
 }
 
 /// How a record is shown.
 fn shown(alloc: Global, record: &str) -> Result<String, Fail> {
-    let stored: StoredUrl = serde_json::from_str(alloc, record)?;
+    let stored: Box<StoredUrl> = same::answered(alloc, serde_json::from_str(alloc, record))?;
     Ok(format!(in alloc; "{stored:?}")?)
 }
 

@@ -1,7 +1,12 @@
 //! What tests compare, by reference: a test that asserts by itself, and owns what it asserts of, takes the prover
 //! about twice as long.
 
+use bstr::BString;
+use std::alloc::Global;
+use std::fmt::Debug;
 use std::process::Abort;
+use std::test::Fail;
+use told::boxes::boxed;
 
 /// Checks that these are the bytes.
 pub fn bytes(rt: &impl Abort, found: &[u8], want: &[u8]) {
@@ -26,4 +31,35 @@ pub fn is(rt: &impl Abort, found: bool, want: bool, words: &str) {
 /// Checks that it is so.
 pub fn holds(rt: &impl Abort, found: bool, words: &str) {
     assert!(rt; found, "{words}");
+}
+
+/// Fails, as a call failed with this error.
+fn failed<E: Debug>(rt: &impl Abort, error: &E) {
+    assert!(rt; false, "error: {error:?}");
+}
+
+/// Checks that a call answered these bytes.
+pub fn gives<E: Debug + Drop>(rt: &impl Abort, answer: Result<BString, E>, want: &[u8]) {
+    match &answer {
+        Ok(found) => bytes(rt, found.as_bytes(), want),
+        Err(error) => failed(rt, error),
+    }
+    drop(answer);
+}
+
+/// Checks that a call answered this text.
+pub fn says<E: Debug + Drop>(rt: &impl Abort, answer: Result<String, E>, want: &str) {
+    match &answer {
+        Ok(found) => text(rt, found.as_str(), want),
+        Err(error) => failed(rt, error),
+    }
+    drop(answer);
+}
+
+/// A box of what a call answered, unless it failed.
+pub fn answered<T: Drop, E: Debug + Drop>(
+    alloc: Global,
+    answer: Result<T, E>,
+) -> Result<Box<T>, Fail> {
+    boxed(alloc, answer?)
 }
