@@ -1,5 +1,5 @@
-//! What tests compare, by reference: a test that asserts by itself, and owns what it asserts of, takes the prover
-//! about twice as long.
+//! What tests compare, by reference, and what calls answered, which is dropped here by name: a test that asserts by
+//! itself, and owns what it asserts of, takes the prover far longer.
 
 use bstr::BString;
 use std::fmt::Debug;

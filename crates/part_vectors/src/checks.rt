@@ -1,4 +1,4 @@
-//! What tests of several modules check.
+//! What tests of several modules check, and boxes of what calls answer.
 
 use std::alloc::{AllocError, Global};
 use std::fmt::{Debug, Display};
