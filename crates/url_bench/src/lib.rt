@@ -19,10 +19,7 @@ use std::alloc::Global;
 pub extern "C" fn url_bench_parse(alloc: Global, bytes: &[u8]) -> bool
     ensures { IsTrue result → (v : Location) × Spells bytes.now v }
 {
-    let read = Url::from_bytes(alloc, BStr::new(bytes));
-    let is_read = read.is_ok();
-    drop(read);
-    is_read
+    matches!(Url::from_bytes(alloc, BStr::new(bytes)), Ok(_))
 }
 
 /// The length of the text of the location that the bytes are read as, or 0 where there is none.
@@ -31,27 +28,12 @@ pub extern "C" fn url_bench_write(alloc: Global, bytes: &[u8]) -> usize
     ensures { 0 < result → (v : Location) × (text : List ℕ)
         × Spells bytes.now v × (spec.text v ≡ Ok text) × (length text ≡ result) }
 {
-    match Url::from_bytes(alloc, BStr::new(bytes)) {
-        Ok(url) => written_len(alloc, url),
-        Err(error) => {
-            drop(error);
-            0
-        }
-    }
-}
-
-/// The length of the text of the location, or 0 where there is none.
-fn written_len(alloc: Global, url: Url) -> usize
-    ensures { 0 < result → (text : List ℕ) × (spec.text url ≡ Ok text) × (length text ≡ result) }
-{
-    let written = url.to_bstring(alloc);
-    drop(url);
-    match written {
+    let Ok(url) = Url::from_bytes(alloc, BStr::new(bytes)) else {
+        return 0;
+    };
+    match url.to_bstring(alloc) {
         Ok(text) => text.as_bytes().len(),
-        Err(error) => {
-            drop(error);
-            0
-        }
+        Err(_) => 0,
     }
 }
 
@@ -60,11 +42,8 @@ fn written_len(alloc: Global, url: Url) -> usize
 pub extern "C" fn url_bench_settled(alloc: Global, bytes: &[u8]) -> bool
     ensures { IsTrue result → (v : Location) × Spells bytes.now v × IsSettled v }
 {
-    let read = Url::from_bytes(alloc, BStr::new(bytes));
-    let is_settled = match &read {
+    match Url::from_bytes(alloc, BStr::new(bytes)) {
         Ok(url) => url.is_settled(),
         Err(_) => false,
-    };
-    drop(read);
-    is_settled
+    }
 }
