@@ -13,8 +13,8 @@ What these checks have nothing to say of is left to be tried alone, as is what d
 """
 import re
 
-# The head of an impl: the trait, if it is one of a trait, and the type.
-IMPL = re.compile(r"impl(?:<[^>]*>)? (?:(?:\w+::)*(\w+)(?:<.*>)? for )?(?:\w+::)*(\w+)")
+# The head of an impl: its parameters, the trait, if it is one of a trait, and the type.
+IMPL = re.compile(r"impl(?:<([^>]*)>)? (?:(.*) for )?(.*?)(?: \{)?$")
 FUNCTION = re.compile(r"( *)(?:pub(?:\([a-z]+\))? )?(?:const )?(?:extern \"C\" )?fn \w")
 PAIR = re.compile(r"(?m)^file: (?P<file>\S+)|^old: (?P<old>.*)\nnew: ?(?P<new>.*)")
 LAWS = ["--only", "laws", "--only", "rows"]
@@ -159,13 +159,21 @@ def owner_of(crate, place):
     """The type that the function at a place is a method of, with the trait behind it, if it is one of a trait."""
     lines = lines_to(crate, place)
     heads = [it for it in map(IMPL.match, lines) if it] if lines[-1].startswith(" ") else []
-    return heads[-1][2] + (heads[-1][1] or "") if heads else ""
+    return joined_names(*heads[-1].groups(default="")) if heads else ""
+
+
+def joined_names(parameters, of_trait, of_type):
+    """A type and a trait as names of functions have them: their last names, each with its arguments, but for parameters."""
+    unnamed, words = {it.split(":")[0].strip() for it in parameters.split(",")}, []
+    for it in (of_type, of_trait):
+        head, _, arguments = it.partition("<")
+        words += [head.rpartition("::")[2], *re.findall(r"(?<!')\b\w+", arguments)]
+    return "".join(it[:1].upper() + it[1:] for it in words if it not in unnamed)
 
 
 def path_of(crate, place):
-    """The path below the crate of the function at a place: its module's, that of its type if it is a method, and its name."""
-    path = (module_of(place).replace("/", "::"), owner_of(crate, place), name_at(crate, place))
-    return "::".join(it for it in path if it)
+    """The end of the path of the function at a place, which tells it from others: its type or its module, and its name."""
+    return "::".join(it for it in (owner_of(crate, place) or module_of(place).replace("/", "::"), name_at(crate, place)) if it)
 
 
 def bad_answer(crate, places, place, lines):

@@ -1,12 +1,13 @@
 //! The program `explain`: tells a person, or another program, what each line of its standard input means as a location.
 //!
-//! It stands on the public calls of `gix_url` alone. `told` finds what is said of a location, `difference` what its own
-//! text is read as, `refusal` why a line is refused, `shown` lays all of that out for people; with `--json` it goes out
-//! as one object a line. Each answer is written as soon as its line is read. The status is 0 where every line is settled,
-//! 1 where one is not, and 2 where the run was cut short or the options are wrong.
+//! It stands on the public calls of `gix_url` alone. `told` finds what is said of a location, `path` what its path
+//! means, `difference` what its own text is read as, `refusal` why a line is refused, `shown` lays all of that out for
+//! people; with `--json` it goes out as one object a line. Each answer is written as soon as its line is read. The status
+//! is 0 where every line is settled, 1 where one is not, and 2 where the run was cut short or the options are wrong.
 #![tactic(auto)]
 
 mod difference;
+mod path;
 mod refusal;
 mod shown;
 mod told;

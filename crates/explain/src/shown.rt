@@ -3,8 +3,9 @@
 //! Texts stand in quotes with their control characters escaped, so that no line of input can speak to a terminal. It
 //! uses what `told` and `refusal` found, and has no contract: `scripts/hostile people` shows its answers.
 
+use crate::path::{Components, Field, Home};
 use crate::refusal::Refusal;
-use crate::told::{Arguments, Components, Field, Home, Safety, Told};
+use crate::told::{Arguments, Safety, Told};
 use gix_url::Url;
 use std::alloc::{AllocError, Global};
 use std::fmt::{Display, Write};

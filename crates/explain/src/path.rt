@@ -1,0 +1,182 @@
+//! What the path of a location means: its components, the home folder that it begins in, and what a shell takes.
+//!
+//! It uses the public calls of `gix_url`, and has no contract but that it can't abort. Bytes that are no UTF-8 are told
+//! as U+FFFD.
+
+use crate::told::both;
+use bstr::{BStr, BString, ByteSlice};
+use gix_url::expand_path::{self, ForUser};
+use gix_url::{Error, PathComponents, Scheme, Url};
+use serde::Serialize;
+use std::alloc::{AllocError, Global};
+use std::borrow::CowStr;
+
+/// What is told of the path of a location.
+#[derive(Drop)]
+pub struct Meaning<'a> {
+    pub components: Components<'a>,
+    pub home: Option<Home>,
+    pub shell_path: Option<String>,
+}
+
+impl<'a> Meaning<'a> {
+    /// What the path of this location means.
+    pub fn of(alloc: Global, url: &'a Url) -> Result<Meaning<'a>, AllocError> {
+        let on_files = both(home_of(alloc, url)?, shell_path_of(alloc, url))?;
+        let ((home, shell_path), components) = both(on_files, components_of(alloc, url))?;
+        Ok(Meaning {
+            components,
+            home,
+            shell_path,
+        })
+    }
+}
+
+/// What a path is made of.
+#[derive(Drop, Serialize)]
+pub struct Components<'a> {
+    pub path: CowStr<'a>,
+    pub query: Option<Vec<Field>>,
+    pub fragment: Option<CowStr<'a>>,
+}
+
+/// A field of a query.
+#[derive(Drop, Serialize)]
+pub struct Field {
+    pub name: String,
+    pub value: String,
+}
+
+/// A home folder that a path begins in.
+#[derive(Drop, Serialize)]
+pub struct Home {
+    /// The name of the user; the current one has none.
+    pub user: Option<String>,
+    /// The path below the folder.
+    pub below: String,
+}
+
+/// The calls below fail for want of memory alone.
+fn no_memory(error: Error) -> AllocError {
+    drop(error);
+    AllocError
+}
+
+/// Bytes as a text of their own.
+fn lossy(alloc: Global, bytes: BStr<'_>) -> Result<String, AllocError> {
+    bytes.to_string(alloc)
+}
+
+/// Path, query and fragment of the location.
+fn components_of<'a>(alloc: Global, url: &'a Url) -> Result<Components<'a>, AllocError> {
+    let parts = url.path_query_fragment(alloc).map_err(no_memory)?;
+    let components = told_components(alloc, &parts);
+    drop(parts);
+    components
+}
+
+/// What is told of path, query and fragment.
+fn told_components<'a>(
+    alloc: Global,
+    parts: &PathComponents<'a>,
+) -> Result<Components<'a>, AllocError> {
+    let path = parts.path.as_bytes().to_str_lossy(alloc)?;
+    let path = both(path, told_fragment(alloc, parts.fragment))?;
+    let ((path, fragment), query) = both(path, query(alloc, parts))?;
+    Ok(Components {
+        path,
+        query,
+        fragment,
+    })
+}
+
+/// The fragment.
+fn told_fragment<'a>(
+    alloc: Global,
+    fragment: Option<BStr<'a>>,
+) -> Result<Option<CowStr<'a>>, AllocError> {
+    match fragment {
+        None => Ok(None),
+        Some(fragment) => Ok(Some(fragment.as_bytes().to_str_lossy(alloc)?)),
+    }
+}
+
+/// The fields of the query.
+fn query(alloc: Global, parts: &PathComponents<'_>) -> Result<Option<Vec<Field>>, AllocError> {
+    let Some(pairs) = &parts.query else {
+        return Ok(None);
+    };
+    let mut fields = Vec::new(alloc);
+    for (name, value) in pairs {
+        push_field(alloc, &mut fields, name.as_bstr(), value.as_bstr())?;
+    }
+    Ok(Some(fields))
+}
+
+/// Adds a field of the query.
+fn push_field(
+    alloc: Global,
+    fields: &mut Vec<Field>,
+    name: BStr<'_>,
+    value: BStr<'_>,
+) -> Result<(), AllocError> {
+    fields.push(Field {
+        name: lossy(alloc, name)?,
+        value: lossy(alloc, value)?,
+    })?;
+    Ok(())
+}
+
+/// Whether the path is one of a system of files, which a shell may take.
+fn is_of_files(url: &Url) -> bool {
+    matches!(&url.scheme, Scheme::File | Scheme::Ssh | Scheme::Git)
+}
+
+/// Whose home folder the path begins in.
+fn home_of(alloc: Global, url: &Url) -> Result<Option<Home>, AllocError> {
+    if !is_of_files(url) {
+        return Ok(None);
+    }
+    let path = path_of_files(alloc, url)?;
+    let (user, below) = expand_path::parse(alloc, path.as_bstr()).map_err(no_memory)?;
+    let home = told_home(alloc, &user, below.as_bstr());
+    drop(user);
+    home
+}
+
+/// The path with the `/` before `~` that a URL of Secure Shell or Git, and the scp form, have lost.
+fn path_of_files(alloc: Global, url: &Url) -> Result<BString, AllocError> {
+    let mut path = BString::new(Vec::new(alloc));
+    if url.path.starts_with(b"~") && !matches!(&url.scheme, Scheme::File) {
+        path.push(b'/')?;
+    }
+    path.extend_from_slice(url.path.as_bytes())?;
+    Ok(path)
+}
+
+/// What is told of a home folder and the path below it.
+fn told_home(
+    alloc: Global,
+    user: &Option<ForUser>,
+    below: BStr<'_>,
+) -> Result<Option<Home>, AllocError> {
+    let user = match user {
+        None => return Ok(None),
+        Some(ForUser::Current) => None,
+        Some(ForUser::Name(name)) => Some(lossy(alloc, name.as_bstr())?),
+    };
+    Ok(Some(Home {
+        user,
+        below: lossy(alloc, below)?,
+    }))
+}
+
+/// The path as a shell takes it.
+fn shell_path_of(alloc: Global, url: &Url) -> Result<Option<String>, AllocError> {
+    if !is_of_files(url) {
+        return Ok(None);
+    }
+    let path = BString::from_slice(alloc, url.path.as_bytes())?;
+    let path = expand_path::for_shell(alloc, path).map_err(no_memory)?;
+    Ok(Some(lossy(alloc, path.as_bstr())?))
+}
