@@ -84,21 +84,26 @@ def groups_of(kit, crate, edits, lanes):
 
 
 def joined(crate, group):
-    """The texts of the files with the edits of the group made, and which were made: one that no longer fits is left out."""
-    texts, made = {}, []
+    """The texts of the files with the edits of the group made, and which were made.
+
+    Each is made where its text stands in the file as it is, since another's new text may read the same. One whose text
+    doesn't stand there once is left out.
+    """
+    texts, changes, made = {}, {}, []
     for edit, place in group:
-        changed = dict(texts)
-        for file, old, new in pairs_of(edit):
-            if file not in changed:
-                with open(f"{crate.folder}/{file}", encoding="utf-8") as it:
-                    changed[file] = it.read()
-            if changed[file].count(old) != 1:
-                break
-            changed[file] = changed[file].replace(old, new)
-        else:
-            texts = changed
+        found = pairs_of(edit)
+        for file in {file for file, _, _ in found} - texts.keys():
+            with open(f"{crate.folder}/{file}", encoding="utf-8") as it:
+                texts[file] = it.read()
+        if all(texts[file].count(old) == 1 for file, old, _ in found):
+            for file, old, new in found:
+                changes.setdefault(file, []).append((texts[file].find(old), old, new))
             made.append((edit, place))
-    return texts, made
+    for file, found in changes.items():
+        # From the last place to the first, so that none moves.
+        for at, old, new in sorted(found, reverse=True):
+            texts[file] = texts[file][:at] + new + texts[file][at + len(old) :]
+    return {file: texts[file] for file in changes}, made
 
 
 def told_by(kit, crate, texts, flags, kept, last):
