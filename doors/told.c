@@ -48,12 +48,6 @@ void put_number(line *out, size_t number) {
     put(out, digits, (size_t)snprintf(digits, sizeof digits, "%zu", number));
 }
 
-static void put_part(line *out, const char *name, gix_url_text part) {
-    if (!part.at) return;
-    put_word(out, name);
-    put_text(out, part);
-}
-
 bool is_same(gix_url_text one, gix_url_text other) {
     return !one.at == !other.at && one.len == other.len && (one.len == 0 || memcmp(one.at, other.at, one.len) == 0);
 }
@@ -63,21 +57,6 @@ bool has_same_fields(const gix_url *one, const gix_url *other) {
         && is_same(one->password, other->password) && is_same(one->host, other->host)
         && one->alternative == other->alternative && one->has_port == other->has_port && one->port == other->port
         && is_same(one->path, other->path);
-}
-
-void tell_parts(line *out, const gix_url *url) {
-    static const char *const names[] = {"File", "Git", "Ssh", "Http", "Https", "Ext", "Helper", "HelperUrl"};
-    gix_url_seen seen;
-    HOLDS(gix_url_look(url, &seen) == GIX_URL_OK);
-    put_word(out, names[url->scheme]);
-    put_part(out, " ", url->name);
-    put_part(out, " user=", url->user);
-    put_part(out, " password=", url->password);
-    put_part(out, " host=", url->host);
-    if (url->has_port) put_word(out, " port="), put_number(out, url->port);
-    if (url->alternative) put_word(out, " flag");
-    if (!is_same(seen.original_path, url->path)) put_part(out, " spelled=", seen.original_path);
-    put_part(out, " path=", url->path);
 }
 
 char *text_of_location(putter *call, const gix_url *url, size_t *len, gix_url_error *error, gix_url_problem *problem) {
@@ -94,72 +73,28 @@ char *text_of_location(putter *call, const gix_url *url, size_t *len, gix_url_er
     return text;
 }
 
-void tell_written(line *out, const gix_url *url) {
-    size_t len;
-    gix_url_error error;
-    gix_url_problem problem;
-    bool settled, agrees;
-    HOLDS(gix_url_is_settled(url, &settled) == GIX_URL_OK && gix_url_agrees_with_git(url, &agrees) == GIX_URL_OK);
-    HOLDS(settled || !agrees);
-    char *text = text_of_location(gix_url_write, url, &len, &error, &problem);
-    if (!text) {
-        HOLDS(error == GIX_URL_UNWRITABLE && !settled);
-        put_word(out, "unwritable ");
-        put_word(out, gix_url_write_fault_name(problem.write_fault));
-        return;
-    }
-    put_word(out, settled ? "settled " : "unsettled ");
-    put(out, text, len);
-    free(text);
-}
-
-void tell_error(line *out, gix_url_error error, const gix_url_problem *problem) {
-    put_word(out, gix_url_error_name(error));
-    if (problem->fault) put_word(out, " "), put_word(out, gix_url_fault_name(problem->fault));
-    if (problem->write_fault) put_word(out, " "), put_word(out, gix_url_write_fault_name(problem->write_fault));
-    if (problem->kind) put_word(out, " "), put_word(out, gix_url_kind_name(problem->kind));
-}
-
-void tell_answer(line *out, gix_url_error error, const gix_url *url, const gix_url_problem *problem) {
-    if (error != GIX_URL_OK) {
-        tell_error(out, error, problem);
-        return;
-    }
-    tell_parts(out, url);
-    put_word(out, ", ");
-    tell_written(out, url);
-}
-
-static void put_judged(line *out, gix_url_argument judged, gix_url_text part) {
-    static const char *const words[] = {"absent", "usable ", "dangerous "};
-    put_word(out, words[judged]);
-    put_text(out, part);
-    put_word(out, ", ");
-}
-
-void tell_judged(line *out, const gix_url *url) {
-    gix_url_seen seen;
-    HOLDS(gix_url_look(url, &seen) == GIX_URL_OK);
-    put_judged(out, seen.user, url->user);
-    put_judged(out, seen.host, url->host);
-    if (seen.path_is_usable) put_text(out, url->path);
-    else put_word(out, "no path");
-}
-
-void tell_components(line *out, const gix_url *url) {
-    gix_url_components parts;
+gix_url_pair *components_of(const gix_url *url, gix_url_components *parts) {
     size_t needed, needed_pairs, again, pairs_again;
-    gix_url_error error = gix_url_path_query_fragment(url, NULL, 0, NULL, 0, &parts, &needed, &needed_pairs);
+    gix_url_error error = gix_url_path_query_fragment(url, NULL, 0, NULL, 0, parts, &needed, &needed_pairs);
     HOLDS(error == GIX_URL_NO_ROOM || (error == GIX_URL_OK && needed == 0 && needed_pairs == 0));
     gix_url_pair *pairs = (gix_url_pair *)malloc(needed_pairs * sizeof *pairs + 1);
     char *room = at_wall(1, NULL, needed);
     HOLDS(pairs);
     if (needed > 0)
-        HOLDS(gix_url_path_query_fragment(url, room + 1, needed - 1, pairs, needed_pairs, &parts, NULL, NULL) == GIX_URL_NO_ROOM);
+        HOLDS(gix_url_path_query_fragment(url, room + 1, needed - 1, pairs, needed_pairs, parts, NULL, NULL) == GIX_URL_NO_ROOM);
     if (needed_pairs > 0)
-        HOLDS(gix_url_path_query_fragment(url, room, needed, pairs, needed_pairs - 1, &parts, NULL, NULL) == GIX_URL_NO_ROOM);
-    HOLDS(gix_url_path_query_fragment(url, room, needed, pairs, needed_pairs, &parts, &again, &pairs_again) == GIX_URL_OK);
-    HOLDS(again == needed && pairs_again == needed_pairs && parts.pair_count == needed_pairs);
+        HOLDS(gix_url_path_query_fragment(url, room, needed, pairs, needed_pairs - 1, parts, NULL, NULL) == GIX_URL_NO_ROOM);
+    HOLDS(gix_url_path_query_fragment(url, room, needed, pairs, needed_pairs, parts, &again, &pairs_again) == GIX_URL_OK);
+    HOLDS(again == needed && pairs_again == needed_pairs && parts->pair_count == needed_pairs);
+    size_t bytes = 0;
+    for (size_t i = 0; i < parts->pair_count; i++) bytes += pairs[i].name_len + pairs[i].value_len;
+    HOLDS(bytes == parts->query.len);
+    return pairs;
+}
+
+void tell_components(line *out, const gix_url *url) {
+    gix_url_components parts;
+    gix_url_pair *pairs = components_of(url, &parts);
     put_text(out, parts.path);
     if (parts.query.at) put_word(out, " ?");
     const char *at = parts.query.at;
@@ -168,7 +103,6 @@ void tell_components(line *out, const gix_url *url) {
         put_word(out, ">=<"), put(out, at, pairs[i].value_len), at += pairs[i].value_len;
         put_word(out, ">");
     }
-    HOLDS(!parts.query.at || at == parts.query.at + parts.query.len);
     if (parts.fragment.at) put_word(out, " #"), put_text(out, parts.fragment);
     free(pairs);
 }

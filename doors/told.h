@@ -1,4 +1,4 @@
-/* Locations and answers, told in one line as the tables of tests have them, and memory that ends at a wall. */
+/* Lines of text, the calls of the library in room that is just large enough, and memory that ends at a wall. */
 #ifndef TOLD_H
 #define TOLD_H
 
@@ -18,14 +18,6 @@ void put_text(line *out, gix_url_text text);
 void put_word(line *out, const char *word);
 void put_number(line *out, size_t number);
 
-/* What is read of an input, its text among it; or the error. */
-void tell_answer(line *out, gix_url_error error, const gix_url *url, const gix_url_problem *problem);
-void tell_parts(line *out, const gix_url *url);
-void tell_written(line *out, const gix_url *url);
-void tell_error(line *out, gix_url_error error, const gix_url_problem *problem);
-void tell_judged(line *out, const gix_url *url);
-void tell_components(line *out, const gix_url *url);
-
 /* What is read of an input, or made of parts, in room that is just large enough: the room is to be freed. */
 char *read_input(gix_url_text input, gix_url *url, gix_url_error *error, gix_url_problem *problem);
 char *make_parts(const gix_url *parts, gix_url *url, gix_url_error *error, gix_url_problem *problem);
@@ -33,6 +25,11 @@ char *make_parts(const gix_url *parts, gix_url *url, gix_url_error *error, gix_u
 /* The text of a location, and what it is shown as: a block to be freed, or null and the error. */
 typedef gix_url_error putter(const gix_url *, char *, size_t, size_t *, gix_url_problem *);
 char *text_of_location(putter *call, const gix_url *url, size_t *len, gix_url_error *error, gix_url_problem *problem);
+
+/* What the path of a location is made of, and the lengths of the query, a block to be freed. The components stay until
+ * the next call that answers in room. */
+gix_url_pair *components_of(const gix_url *url, gix_url_components *parts);
+void tell_components(line *out, const gix_url *url);
 
 bool is_same(gix_url_text one, gix_url_text other);
 bool has_same_fields(const gix_url *one, const gix_url *other);

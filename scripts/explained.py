@@ -3,9 +3,9 @@
 
     explained.py FOLDER     writes stdin, stdout, args and status there, and names the rows of docs/GRAMMAR.md that differ
 
-What a location is, is asked of `oracle.py`; what is said of it is put together here, and not by the library. Whether Git
-reads the same is the rule by hand of docs/GIT.md, in `git_classes.py`. The texts of the table in docs/GRAMMAR.md are among
-the lines, and the last line lacks its end.
+What a location is, is asked of `oracle.py`, and in whose home folder its path begins of `plain_paths.py`; what is said
+of it is put together here, and not by the library. Whether Git reads the same is the rule by hand of docs/GIT.md, in
+`git_classes.py`. The texts of the table in docs/GRAMMAR.md are among the lines, and the last line lacks its end.
 """
 import itertools
 import json
@@ -14,6 +14,7 @@ import sys
 
 sys.dont_write_bytecode = True
 import oracle
+import plain_paths
 from git_classes import Case, Reading, is_careful
 
 HELPERS = [b"a::b://c", b"ext::sh -c x", b"a::", b"ssh::address", b"a::\xff"]
@@ -55,10 +56,8 @@ def form(v):
 
 def home_split(path):
     """The user, empty for the current one, and the path below the home folder; None where the path has no user."""
-    if not path.startswith(b"/~"):
-        return None
-    name, _, rest = path[2:].partition(b"/")
-    return lossy(name), "/" + lossy(rest)
+    found = plain_paths.home_split(path)
+    return found and (lossy(found[0]), lossy(found[1]))
 
 
 def is_of_files(v):
@@ -77,8 +76,7 @@ def home(v):
 def shell_path(v):
     if not is_of_files(v):
         return None
-    found = home_split(v.path)
-    return lossy(v.path) if found is None else "~" + found[0] + found[1]
+    return lossy(plain_paths.shell_path(v.path))
 
 
 def judged(t):

@@ -1,16 +1,28 @@
-"""The rows of what Git reads in texts that are written out (`crates/gix_url/specs/GitRows.antt`), as Git is asked for them."""
+"""The texts that are written out with what Git reads in them, as Git is asked for them: the rows that are proved of the
+definition (`crates/gix_url/specs/GitRows.antt`), and the examples of `vectors/git.jsonl`.
+
+An example is a row there that reads a text. Its member `class` is the class of `git_classes.py` in which Git and this
+library read different things, or `alike`, and `git` is what Git reads, or the word for why it is refused. Of a text
+that is read here other rows say whether it is settled, what is written, and whether Git is said to agree.
+"""
 import re
+from collections import namedtuple
 
 from git_classes import Reading
 from kit import ROOT
+from row_text import bytes_of, text_of
 
 ROWS = f"{ROOT}/crates/gix_url/specs/GitRows.antt"
 TEXT = r'codes "((?:[^"\\]|\\.)*)"'
 ROW = re.compile(r"GitReads \((codes .*?)\) (?:\((by_ssh|by_git|on_this_machine) (.*)\)|reading\))")
 NAMED = {"tab": 9, "newline": 10}
+# The calls over a text that is read.
+CALLS = ("Url::is_settled", "Url::to_bstring", "Url::agrees_with_git")
+# Where an example stands, its class, its text, and what Git and this library read in it.
+Example = namedtuple("Example", "place class_name text git ours")
 
 
-def text_of(term):
+def text_of_term(term):
     """The bytes of a term: texts and bytes one behind the other."""
     pieces = re.findall(rf"{TEXT}|\b(\w+) ∷", term)
     return b"".join(bytes([NAMED[byte] if byte in NAMED else int(byte)]) if byte else text.encode() for text, byte in pieces)
@@ -31,5 +43,52 @@ def git_rows():
     with open(ROWS, encoding="utf-8") as it:
         lines = [line for line in it if re.search(r"GitReads \(codes ", line)]
     rows = [ROW.search(line) for line in lines]
-    found = {text_of(row[1]): reading_of(row[2], row[3]) if row[2] else None for row in rows}
+    found = {text_of_term(row[1]): reading_of(row[2], row[3]) if row[2] else None for row in rows}
     return {text: reading for text, reading in found.items() if 0 not in text}
+
+
+def told(reading):
+    """A reading in one line, as the examples have it."""
+    if not isinstance(reading, Reading):
+        return f"refused {reading}"
+    parts = zip(reading._fields[1:], reading[1:])
+    words = [f" {name}={it if isinstance(it, int) else text_of(it)}" for name, it in parts if it is not None]
+    return reading.protocol + "".join(words)
+
+
+def read_here(outcome):
+    """What this library reads, by the outcome of the call: a reading, or the name of the error."""
+    if "error" in outcome:
+        name, *more = outcome["error"].split()
+        return more[0] if name == "BadUrl" else name
+    scheme, _, name = outcome["scheme"].partition(" ")
+    if name or scheme in ("Http", "Https", "Ext"):
+        return Reading(f"helper {name or scheme.lower()}", None, None, None, None, None)
+    user, password, host = (bytes_of(outcome[it]) if it in outcome else None for it in ("user", "password", "host"))
+    return Reading(scheme.lower(), user, password, host or None, outcome.get("port"), bytes_of(outcome["path"]))
+
+
+def examples(table):
+    """The examples among rows, with what the rows expect to be read here."""
+    return [
+        Example(it.place, it.class_name, bytes_of(it.members["text"]), it.git, read_here(it.expected))
+        for it in table
+        if it.git is not None
+    ]
+
+
+def example_faults(table):
+    """What is wrong with the examples among rows.
+
+    Where the rows expect the same reading as Git's, and nowhere else, they have the text let by: Git is said to agree,
+    and it is the text that is written. Such an example is in no class but `alike`.
+    """
+    expected = {(it.members.get("call"), str(it.members.get("url"))): it.expected for it in table}
+    for it in examples(table):
+        said = [expected.get((call, text_of(it.text))) for call in CALLS]
+        if isinstance(it.ours, Reading) and None in said:
+            yield f"{it.place}: over the text that it reads there is no row for one of {', '.join(CALLS)}"
+        is_let_by = said[1:] == [text_of(it.text), True]
+        if len({is_let_by, told(it.ours) == it.git, it.class_name == "alike"}) > 1:
+            words = "let by" if is_let_by else "not let by"
+            yield f"{it.place}: {it.class_name}, {words}: Git reads {it.git!r}, and here is read {told(it.ours)!r}"

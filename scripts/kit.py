@@ -1,4 +1,5 @@
 """What the scripts share: the toolchain's command `rt` as a module, copies of the tree, and what the gate built of it."""
+import functools
 import hashlib
 import importlib.machinery
 import importlib.util
@@ -65,11 +66,23 @@ def copy_tree(to, keep=lambda name: True):
             shutil.copy2(f"{ROOT}/{name}", f"{to}/{name}", follow_symlinks=False)
 
 
+@functools.cache
+def tried():
+    """The crates whose tests are run and not proved, each with its line of tried.txt."""
+    with open(f"{ROOT}/tried.txt", encoding="utf-8") as it:
+        return {line.partition(":")[0]: line for line in it if not line.startswith("#")}
+
+
+def is_proved(name):
+    """Whether a file stands in none of those crates."""
+    return not name.startswith(tuple(f"crates/{it}/" for it in tried()))
+
+
 def sources():
-    """A number for the sources of all crates, by their names and their bytes."""
+    """A number for the sources of all crates that are proved, by their names and their bytes."""
     number = hashlib.sha256()
     for name in sorted(git("ls-files", "-z", "--cached", "--others", "--exclude-standard", "crates", "crates.txt")):
-        if os.path.isfile(f"{ROOT}/{name}"):
+        if is_proved(name) and os.path.isfile(f"{ROOT}/{name}"):
             with open(f"{ROOT}/{name}", "rb") as it:
                 number.update(f"{name}\0{os.path.getsize(it.name)}\0".encode() + it.read())
     return number.hexdigest()
@@ -101,3 +114,8 @@ def built(name, *words):
     if ran.returncode:
         sys.exit(f"{name} is not proved\n{ran.stdout}")
     return f"{ROOT}/crates/{name}/out/{file}"
+
+
+def program(name):
+    """The program of a crate: the one that the environment names, as ANSWERS for `answers`, or as `built` has it."""
+    return os.environ.get(name.upper()) or built(name, "run")

@@ -9,7 +9,7 @@ allows. It is slow and plain on purpose, and stands on Python 3 alone.
     oracle.py rows FILE             worked rows as JSON: names each row that comes out otherwise
     oracle.py laws LENGTH [PREFIX]  every text of at most LENGTH delimiter bytes behind a prefix, against the laws
     oracle.py values                small values of every scheme, against the laws of written texts
-    oracle.py short-inputs FOLDER   writes the stored run of the crate `short_inputs`: inputs, answers, status
+    oracle.py short-inputs FOLDER   writes the stored run of the crate `locations`: inputs, answers, status
 
 The parts: bytes and escapes; addresses and hosts; the grammar; the text; the settled class; flaws; refusals by the
 order of checks; laws; rows; the command line.
@@ -1121,7 +1121,7 @@ SCP_FRONTS = [
 SCP_PATHS = ["p", "", "/p", "/~a", "//p", ":p", "~a/b", "[::2]:p", "//", "p:q"]
 HELPERS = ["a::", "a::b", "A1+.-::b", "1::b", "ext::", "ext::sh -c x", "ext:::", "a:::b", "a::b://c", "a::b::c", "-a::b", "a b::c", "a/b::c",
            "\u00e9::c", "::x", "::", ":::", "http::h", "[a]::b", "a%::b"]
-LOCALS = ["/", "/a", ".", "..", "./a:b", "/x::y", "[::1]", "[a", "a", "~a", "%41", " ", "\\", "C/:x", "/a://b", "a/b:c@d", "@", "?", "#"]
+LOCALS = ["/", "/a", "/srv/repo.git", ".", "..", "./a:b", "/x::y", "[::1]", "[a", "a", "~a", "%41", " ", "\\", "C/:x", "/a://b", "a/b:c@d", "@", "?", "#"]
 TWO_FAULTS = [
     "http:// h%/", "1x:// h/", "1x://h%2/", "\u00e9://h\\/", "http://a\\b/%FF", "http://u:%FF@h/%FF", "http://%FF:%FF@h/", "http://%FF@h:x/",
     "http://u:%FF@[h/", "http://u@:x/", "http://@:0/", "http://u@/%FF", "x://u@", "ssh://u@", "ssh://", "git://", "ssh://h:x", "git://h:65536",

@@ -1,72 +1,28 @@
 """Refused memory: counts the requests of each call, and refuses each of them in turn.
 
-The rows are those of crates/refused_memory/rows.txt, and the program of that crate makes the calls. Each request goes by
-`refuse.c`, which the toolchain's compiler builds: `rt try --fail-alloc N` counts the same, but builds anew for each N.
+The rows are those of all tables in `vectors/`, and the program `answers` makes the calls, an order a run: one run ends
+before the call and one makes it, so what the call asks for is the difference. Each request goes by `refuse.c`, which the
+toolchain's compiler builds: `rt try --fail-alloc N` counts the same, but builds anew for each N.
 """
+import collections
 import concurrent.futures
 import itertools
+import json
 import os
-import re
 import subprocess
 
-from kit import ROOT, built, load_kit
+import rows
+from kit import ROOT, load_kit, program
 
-ROWS = f"{ROOT}/crates/refused_memory/rows.txt"
+# Of the rows that a line stands for, as many are taken at most.
+OF_A_LINE = 20
+# A longer order comes through the pipe in pieces, and then how often memory is asked for to read it is another thing each time.
+LONGEST = 60_000
 LINES = b"/a\nhttp://u%41:p@h/a%20b\nhttp://h:0/\nssh+git:///p\nh%41:p\nuser@[::1]:p\na::b\n\n"
 ANSWER = (
-    b"settled\t/a\nsettled\thttp://uA:p@h/a%20b\nrefused\tBadUrl BadPort\nunsettled\tssh\nsettled\th%41:p\nsettled\tuser@[::1]:p\n"
-    b"settled\ta::b\nrefused\tEmptyLocal\n"
+    b"settled\t/a\nsettled\thttp://uA:p@h/a%20b\nrefused\tBadUrl BadPort\nunsettled\tssh\nsettled\th%41:p\n"
+    b"settled\tuser@[::1]:p\nsettled\ta::b\nrefused\tEmptyLocal\n"
 )
-
-
-class Row:
-    """A call over an input, the most requests that it may make, and its answer."""
-
-    def __init__(self, line):
-        requests, self.over, self.call, given, answer = map(str.strip, line.split("|"))
-        self.requests, self.given, self.answer = int(requests), spelled(given), spelled(answer)
-        self.name = f"{self.call} of {given[:60]}"
-
-    def order(self, verb):
-        return b" ".join([verb, self.over.encode(), self.call.encode(), self.given])
-
-
-def spelled(text):
-    """The bytes that a table spells."""
-    text = re.sub(r"\((\S+?)\)\*(\d+)", lambda it: it[1] * int(it[2]), text)
-    return re.sub(rb"\\(n|t|x(..))", lambda it: bytes([int(it[2], 16)]) if it[2] else {b"n": b"\n", b"t": b"\t"}[it[1]], text.encode())
-
-
-def rows():
-    with open(ROWS, encoding="utf-8") as it:
-        return [Row(line.rstrip("\n")) for line in it if line[:1].isdigit()]
-
-
-def public_calls():
-    """The names of the public functions of the library, but for the laws."""
-    names = set()
-    for at, _, files in os.walk(f"{ROOT}/crates/gix_url/src"):
-        for file in files:
-            owner = module = file.removesuffix(".rt")
-            with open(f"{at}/{file}", encoding="utf-8") as it:
-                for line in it:
-                    found = re.match(r"impl(?:<[^>]*>)? (?:.* for )?(\w+)", line) or re.match(r"(})", line)
-                    if found:
-                        owner = module if found[1] == "}" else found[1]
-                    found = re.match(r" *pub fn (\w+)", line)
-                    if found and not found[1].startswith("law_"):
-                        names.add(f"{owner}::{found[1]}")
-    return names
-
-
-def program_calls():
-    """The names of the calls that the program makes."""
-    names = set()
-    for at, _, files in os.walk(f"{ROOT}/crates/refused_memory/src/calls"):
-        for file in files:
-            with open(f"{at}/{file}", encoding="utf-8") as it:
-                names.update(re.findall(r'^ +"(\w+:[\w:]+)" =>', it.read(), re.M))
-    return names
 
 
 class Ran:
@@ -90,40 +46,85 @@ class Ran:
 def build_shim(room):
     """Builds what stands before the allocator."""
     clang, shim = f"{load_kit().rtlib.KIT}/toolchain/bin/clang", f"{room}/refuse.so"
-    subprocess.run([clang, "-O1", "-shared", "-fPIC", "-nostdlib", "-fuse-ld=lld", "-o", shim, f"{ROOT}/scripts/refuse.c"], check=True)
+    flags = ["-O1", "-shared", "-fPIC", "-nostdlib", "-fuse-ld=lld"]
+    subprocess.run([clang, *flags, "-o", shim, f"{ROOT}/scripts/refuse.c"], check=True)
     return shim
+
+
+def sampled(table):
+    """The rows, but of those that one line stands for only the first ones, and none with a very long order."""
+    seen = collections.Counter()
+    for row in table:
+        seen[row.place] += 1
+        if seen[row.place] <= OF_A_LINE and len(row.order()) <= LONGEST:
+            yield row
+
+
+def refused_outcome(row):
+    """What the call of a row has to tell where its memory is refused: that, and else what the row expects."""
+    call = row.members["call"]
+    if call == "expand_path::with":
+        return [rows.MEMORY, row.expected[1]]
+    if call == "Url::canonicalized":
+        return [[rows.MEMORY, 0], row.expected[1]]
+    if call == "lines::run":
+        return {"outcome": rows.MEMORY, "status": 2, "out": ""}
+    return rows.MEMORY
+
+
+def tells_memory(row, ran):
+    """Whether a run told that memory was refused to the call of a row, and nothing else."""
+    try:
+        return ran.status == 0 and json.loads(ran.out) == refused_outcome(row)
+    except ValueError:
+        return False
+
+
+def ample_fault(row, prepared, ample):
+    """What is wrong with the runs without and with the call of a row, where memory is ample."""
+    if (prepared.status, prepared.out) != (0, b"\n"):
+        return f"{row.place}: what the call is over is not prepared: {prepared.out!r}: {row.order()}"
+    if ample.status:
+        return f"{row.place}: the program ended with status {ample.status}: {row.order()}"
+    return row.fault(ample.out.decode(errors="replace"))
 
 
 class Calls:
     """Runs the program of the calls."""
 
     def __init__(self, shim):
-        self.shim, self.path = shim, built("refused_memory", "run")
+        self.shim, self.path = shim, program("answers")
 
-    def run(self, order, refused=0):
-        return Ran([self.path], self.shim, order, refused)
+    def run(self, row, is_made, refused=0):
+        """A run over the order of a row. The orders with and without the call are equally long, and are read alike."""
+        order = row.order(prepare=not is_made) + ("" if is_made else " ")
+        return Ran([self.path], self.shim, f"{order}\n".encode(), refused)
 
     def faults(self, row):
-        """What is wrong with the call of a row, the requests that it makes, and how many of them were refused."""
-        prepared, ample = self.run(row.order(b"prepare")), self.run(row.order(b"call"))
-        if (prepared.status, prepared.out) != (0, b"\n"):
-            return [f"{row.name}: its input is not prepared: {prepared.out!r}"], 0, 0
-        if (ample.status, ample.out) != (0, row.answer + b"\n"):
-            return [f"{row.name}: answers {ample.out!r}, and not {row.answer!r}"], 0, 0
-        before, last = len(prepared.requests), len(ample.requests)
-        faults = [f"{row.name}: makes {last - before} requests for memory, and may make {row.requests}"] * (last - before > row.requests)
-        for number in range(before + 1, last + 1):
-            refused = self.run(row.order(b"call"), number)
-            if not refused.is_refused():
-                faults.append(f"{row.name}: request {number - before} is not made again")
-            elif (refused.status, refused.out) != (0, b"Memory\n"):
-                faults.append(f"{row.name}: with request {number - before} refused it answers {refused.out!r}")
-        return faults, last - before, last - before
+        """What is wrong with the call of a row, and how many requests it makes."""
+        prepared, ample = self.run(row, False), self.run(row, True)
+        fault = ample_fault(row, prepared, ample)
+        if fault:
+            return [fault], 0
+        before, made, found = len(prepared.requests), len(ample.requests) - len(prepared.requests), []
+        if row.requests is not None and made > row.requests:
+            found.append(f"{row.place}: makes {made} requests for memory, and may make {row.requests}: {row.order()}")
+        for number in range(1, made + 1):
+            found += self.refuse(row, before, number)
+        return found, made
+
+    def refuse(self, row, before, number):
+        """What is wrong where a request of the call is refused, which comes behind those that were made before it."""
+        ran = self.run(row, True, before + number)
+        if not ran.is_refused():
+            yield f"{row.place}: request {number} is not made again: {row.order()}"
+        elif not tells_memory(row, ran):
+            yield f"{row.place}: with request {number} refused it tells {ran.out!r}: {row.order()}"
 
 
 def starved_program(shim):
     """What is wrong where the program `locations` is refused each of its requests, and how many were."""
-    path, faults = built("locations", "run"), []
+    path, faults = program("locations"), []
     for number in itertools.count(1):
         ran = Ran([path], shim, LINES, number)
         want = (2, b"", b"locations: out of memory\n") if ran.is_refused() else (1, ANSWER, b"")
@@ -133,15 +134,23 @@ def starved_program(shim):
             return faults, number - 1
 
 
+def lower(row, faults, made):
+    """Tells that a call makes fewer requests than its row says."""
+    if faults or row.requests is None or made >= row.requests:
+        return []
+    return [f"{row.place}: makes {made} requests, and the row says {row.requests}"]
+
+
 def check(room):
     """Counts and refuses, and says what is wrong and what was done."""
-    table, shim = rows(), build_shim(room)
-    calls, named = Calls(shim), {it.call for it in table}
-    faults = [f"{it} has no row" for it in sorted((public_calls() | program_calls()) - named)]
-    with concurrent.futures.ThreadPoolExecutor(os.cpu_count()) as lanes:
-        told = list(lanes.map(calls.faults, table))
-    faults += [fault for it, _, _ in told for fault in it]
-    lower = [f"{row.name}: makes {made} requests, and the row says {row.requests}" for row, (bad, made, _) in zip(table, told) if not bad and made < row.requests]
-    starved, refused = starved_program(shim)
-    said = f"{len(table)} rows of {len(named)} calls, {sum(it[1] for it in told)} requests counted and each refused; `locations` refused {refused} times"
-    return faults + starved, [*lower, said]
+    table, shim = [*sampled(rows.rows())], build_shim(room)
+    with concurrent.futures.ThreadPoolExecutor(2 * os.cpu_count()) as lanes:
+        found = list(lanes.map(Calls(shim).faults, table))
+    faults, refused = starved_program(shim)
+    faults = [it for told, _ in found for it in told] + faults
+    told = [it for row, (bad, made) in zip(table, found) for it in lower(row, bad, made)]
+    counted, calls = sum(made for _, made in found), {it.members["call"] for it in table}
+    if not counted:
+        faults.append("no request was counted: the program's memory doesn't come by the shim")
+    said = f"{len(table)} rows of {len(calls)} calls, {counted} requests counted and each refused"
+    return faults, [*told, f"{said}; `locations` refused {refused} times"]

@@ -1,12 +1,9 @@
 //! Examples of copies, of order, and of stored locations.
 
-use crate::owned::answered;
-use crate::same;
+use bstr::BStr;
 use gix_url::{Error, Scheme, Url};
 use std::alloc::{AllocError, Global};
-use std::process::Abort;
 use std::test::Fail;
-use told::boxes::read;
 
 fn twice(alloc: Global, scheme: Scheme) -> Result<(Scheme, Scheme), Error> {
     let copy = scheme.clone(alloc)?;
@@ -41,70 +38,40 @@ fn url_of(alloc: Global, json: &str) -> Option<Url> {
 }
 
 #[test]
-fn copies_are_equal(rt: HostRuntime) -> Result<(), Fail> {
+fn copies_are_equal_until_they_are_changed(rt: HostRuntime) -> Result<(), Fail> {
     let (one, other) = twice(rt.alloc(), Scheme::from_text(rt.alloc(), "x")?)?;
-    same::holds(&rt, one == other, "the copy");
+    assert!(rt; one == other);
+    let url = Url::from_text(rt.alloc(), "https://h/p")?;
+    let copy = mirror(rt.alloc(), &url, String::from_str(rt.alloc(), "m")?)?;
+    let text = copy.to_bstring(rt.alloc())?;
+    assert_eq!(rt; text.as_bstr(), BStr::from("https://m/p"));
     Ok(())
 }
 
 #[test]
-fn a_copy_is_changed(rt: HostRuntime) -> Result<(), Fail> {
-    let host = String::from_str(rt.alloc(), "m")?;
-    let url = read(rt.alloc(), "https://h/p")?;
-    let copy = answered(rt.alloc(), mirror(rt.alloc(), &url, host))?;
-    same::gives(&rt, copy.to_bstring(rt.alloc()), b"https://m/p");
-    Ok(())
-}
-
-/// Three remotes in order.
-fn remotes(alloc: Global) -> Result<Vec<Url>, Fail> {
-    let mut remotes = Vec::new(alloc);
+fn remotes_are_known_and_put_into_order(rt: HostRuntime) -> Result<(), Fail> {
+    let mut remotes = Vec::new(rt.alloc());
     for text in ["ssh://h/p", "/p", "git://h/p"] {
-        remotes.push(Url::from_text(alloc, text)?)?;
+        remotes.push(Url::from_text(rt.alloc(), text)?)?;
     }
     sort(&mut remotes)?;
-    Ok(remotes)
-}
-
-#[test]
-fn remotes_are_put_into_order(rt: HostRuntime) -> Result<(), Fail> {
-    let remotes = remotes(rt.alloc())?;
-    let first = remotes.first().map(|remote| remote.scheme.as_str());
-    same::optional(&rt, first, Some("file"));
-    Ok(())
-}
-
-#[test]
-fn remotes_are_known(rt: HostRuntime) -> Result<(), Fail> {
-    let remotes = remotes(rt.alloc())?;
+    assert_eq!(rt; remotes[0].scheme.as_str(), "file");
     for (text, known) in [("git://h/p", true), ("git://h/q", false)] {
-        let remote = read(rt.alloc(), text)?;
-        same::is(&rt, is_known(remotes.as_slice(), &remote), known, text);
+        let remote = Url::from_text(rt.alloc(), text)?;
+        assert_eq!(rt; is_known(remotes.as_slice(), &remote), known, "{text}");
     }
     Ok(())
 }
 
-/// The record that the documentation shows, which the text below it stands for.
+/// The record that the documentation shows.
 static RECORD: &str =
     "{\"scheme\":\"Https\",\"user\":null,\"password\":null,\"host\":\"h\",\"serialize_alternative_form\":false,\"port\":null,\"path\":[47,97,47,98],\"path_with_percent_escapes\":[47,97,37,50,70,98]}";
 
 #[test]
-fn a_location_is_stored(rt: HostRuntime) -> Result<(), Fail> {
-    let url = read(rt.alloc(), "https://h/a%2Fb")?;
+fn locations_are_stored_and_restored(rt: HostRuntime) -> Result<(), Fail> {
+    let url = Url::from_text(rt.alloc(), "https://h/a%2Fb")?;
     let json = json_of(rt.alloc(), &url);
-    same::optional(&rt, json.as_deref(), Some(RECORD));
-    Ok(())
-}
-
-/// Checks that the same location was restored.
-fn is_same(rt: &impl Abort, again: Option<Url>, url: &Url) {
-    same::holds(rt, again.as_ref() == Some(url), "the same location");
-    drop(again);
-}
-
-#[test]
-fn a_location_is_restored(rt: HostRuntime) -> Result<(), Fail> {
-    let url = read(rt.alloc(), "https://h/a%2Fb")?;
-    is_same(&rt, url_of(rt.alloc(), RECORD), &url);
+    assert_eq!(rt; json.as_deref(), Some(RECORD));
+    assert!(rt; url_of(rt.alloc(), RECORD).as_ref() == Some(&url));
     Ok(())
 }

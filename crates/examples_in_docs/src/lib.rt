@@ -1,30 +1,13 @@
-//! The examples of the documents and of the doc comments, each as it stands there, and a test that runs it.
+//! The examples of the documents and of the doc comments, each as it stands there, and tests that run them.
 //!
-//! `scripts/documents` refuses a block of code in a document that stands in no such crate. Those of `docs/CALLING.md` are
-//! in `crates/user_proofs`.
-#![tactic(auto)]
+//! `scripts/documents` refuses a block of code in a document that stands in no such crate; those of `docs/CALLING.md`
+//! are in `crates/user_proofs`. An example here shows a call and has no contract: it is compiled and run, by
+//! `scripts/tried`, and not proved.
 
-#[cfg(test)]
-mod arguments;
-#[cfg(test)]
 mod coming;
-#[cfg(test)]
 mod copies;
-#[cfg(test)]
-mod files;
-#[cfg(test)]
-mod owned;
-#[cfg(test)]
 mod parts;
-#[cfg(test)]
 mod paths;
-#[cfg(test)]
 mod reading;
-#[cfg(test)]
-mod same;
-#[cfg(test)]
-mod schemes;
-#[cfg(test)]
 mod types;
-#[cfg(test)]
 mod writing;

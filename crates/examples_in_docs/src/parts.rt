@@ -1,12 +1,9 @@
-//! Examples of parts looked at and exchanged.
+//! Examples of parts: looked at, exchanged, and handed to commands.
 
-use crate::same;
-use bstr::BString;
-use gix_url::{Error, Url};
+use bstr::{BStr, BString};
+use gix_url::{ArgumentSafety, Error, Url};
 use std::alloc::{AllocError, Global};
-use std::process::Abort;
 use std::test::Fail;
-use told::boxes::{boxed, read};
 
 fn at_host(alloc: Global, host: String) -> Url {
     let mut url = Url::default_in(alloc);
@@ -49,73 +46,101 @@ fn as_path(alloc: Global) -> Result<BString, Error> {
     url.to_bstring(alloc) // `/path`
 }
 
-/// Texts; whether the user is `git`, a password is wanted, the host is here, and a repository is named.
-static ROWS: [(&str, bool, bool, bool, bool); 5] = [
-    ("ssh://git@host/repo", true, true, false, true),
-    ("https://user@host/repo", false, true, false, true),
-    ("https://user:x@host/", false, false, false, false),
-    ("ssh://[::1]/repo", false, false, true, true),
-    ("git://[::1]/repo", false, false, false, true),
-];
+/// A user that may not be handed to a command.
+#[derive(Clone, Copy, Debug)]
+struct Refused;
 
-/// Checks the user and the password of a location.
-fn names(rt: &impl Abort, url: &Url, git: bool, asks: bool) {
-    same::is(rt, is_git(url), git, "the user git");
-    same::is(rt, asks_for_password(url), asks, "it asks for a password");
+fn ssh_user<'a>(url: &'a Url) -> Result<Option<&'a str>, Refused> {
+    match url.user_as_argument() {
+        ArgumentSafety::Absent => Ok(None),
+        ArgumentSafety::Usable(user) => Ok(Some(user)),
+        ArgumentSafety::Dangerous(_) => Err(Refused),
+    }
 }
 
-/// Checks where a location leads.
-fn leads(rt: &impl Abort, url: &Url, here: bool, repository: bool) {
-    same::is(rt, is_here(url), here, "this machine");
-    same::is(rt, names_a_repository(url), repository, "a repository");
+fn is_refused(url: &Url) -> bool {
+    // `Dangerous("-Fconfig")` of `ssh://-Fconfig@host/repo`, `Absent` of `ssh://host/repo`
+    matches!(url.user_as_argument(), ArgumentSafety::Dangerous(_))
+}
+
+fn is_refused_host(url: &Url) -> bool {
+    // `Dangerous("-h")` of `ssh://-h/repo`, `Usable("::1")` of `ssh://[::1]/repo`
+    matches!(url.host_as_argument(), ArgumentSafety::Dangerous(_))
+}
+
+fn user_or_git(url: &Url) -> &str {
+    url.user_argument_safe().unwrap_or("git")
+}
+
+fn can_connect(url: &Url) -> bool {
+    url.host_argument_safe().is_some()
+}
+
+fn served(url: &Url) -> Option<BStr<'_>> {
+    url.path_argument_safe() // `/repo` of `ssh://host/repo`, none of `ssh://host/-repo`
 }
 
 #[test]
 fn parts_are_looked_at(rt: HostRuntime) -> Result<(), Fail> {
-    for &(text, git, asks, here, repository) in ROWS.as_slice() {
-        let url = read(rt.alloc(), text)?;
-        names(&rt, &url, git, asks);
-        leads(&rt, &url, here, repository);
+    // Whether the user is `git`, a password is wanted, the host is here, and a repository is named.
+    for (text, git, asks, here, repository) in [
+        ("ssh://git@host/repo", true, true, false, true),
+        ("https://user@host/repo", false, true, false, true),
+        ("https://user:x@host/", false, false, false, false),
+        ("ssh://[::1]/repo", false, false, true, true),
+        ("git://[::1]/repo", false, false, false, true),
+    ] {
+        let url = Url::from_text(rt.alloc(), text)?;
+        assert_eq!(rt; is_git(&url), git, "{text}");
+        assert_eq!(rt; asks_for_password(&url), asks, "{text}");
+        assert_eq!(rt; is_here(&url), here, "{text}");
+        assert_eq!(rt; names_a_repository(&url), repository, "{text}");
     }
-    Ok(())
-}
-
-#[test]
-fn services_are_told_apart(rt: HostRuntime) -> Result<(), Fail> {
-    let one = read(rt.alloc(), "https://host/repo")?;
+    let one = Url::from_text(rt.alloc(), "https://host/repo")?;
     for (text, is) in [("https://host:443/repo", true), ("http://host/repo", false)] {
-        let other = read(rt.alloc(), text)?;
-        same::is(&rt, is_same_service(&one, &other), is, text);
+        let other = Url::from_text(rt.alloc(), text)?;
+        assert_eq!(rt; is_same_service(&one, &other), is, "{text}");
     }
     Ok(())
 }
 
 #[test]
-fn a_password_is_taken_away(rt: HostRuntime) -> Result<(), Fail> {
-    let mut url = read(rt.alloc(), "https://user:x@host/p")?;
+fn parts_are_exchanged(rt: HostRuntime) -> Result<(), Fail> {
+    let mut url = Url::from_text(rt.alloc(), "https://user:x@host/p")?;
     without_password(&mut url);
-    same::optional(&rt, url.password(), None);
-    Ok(())
-}
-
-#[test]
-fn a_user_is_exchanged(rt: HostRuntime) -> Result<(), Fail> {
-    let mut url = read(rt.alloc(), "https://user:x@host/p")?;
+    assert_eq!(rt; url.password(), None);
     let before = as_git(rt.alloc(), &mut url)?;
-    same::optional(&rt, before.as_deref(), Some("user"));
-    same::optional(&rt, url.user(), Some("git"));
+    assert_eq!(rt; before.as_deref(), Some("user"));
+    assert_eq!(rt; url.user(), Some("git"));
+    let url = at_host(rt.alloc(), String::from_str(rt.alloc(), "h")?);
+    let text = url.to_bstring(rt.alloc())?;
+    assert_eq!(rt; text.as_bstr(), BStr::from("ssh://h/"));
+    assert_eq!(rt; as_path(rt.alloc())?.as_bstr(), BStr::from("/path"));
     Ok(())
 }
 
 #[test]
-fn a_location_is_made(rt: HostRuntime) -> Result<(), Fail> {
-    let host = String::from_str(rt.alloc(), "h")?;
-    let url = boxed(rt.alloc(), at_host(rt.alloc(), host))?;
-    same::gives(&rt, url.to_bstring(rt.alloc()), b"ssh://h/");
+fn options_are_kept_out(rt: HostRuntime) -> Result<(), Fail> {
+    // Whether the user is refused, the host is refused, and a command can connect; and the user that it gets.
+    for (text, user, host, reached, handed) in [
+        ("ssh://-Fconfig@host/repo", true, false, true, "git"),
+        ("ssh://host/repo", false, false, true, "git"),
+        ("ssh://git@host/repo", false, false, true, "git"),
+        ("ssh://-h/repo", false, true, false, "git"),
+        ("-oProxyCommand=x:repo", false, true, false, "git"),
+        ("ssh://me@[::1]/repo", false, false, true, "me"),
+        ("/repo", false, false, false, "git"),
+    ] {
+        let url = Url::from_text(rt.alloc(), text)?;
+        assert_eq!(rt; is_refused(&url), user, "{text}");
+        assert_eq!(rt; ssh_user(&url).is_err(), user, "{text}");
+        assert_eq!(rt; is_refused_host(&url), host, "{text}");
+        assert_eq!(rt; can_connect(&url), reached, "{text}");
+        assert_eq!(rt; user_or_git(&url), handed, "{text}");
+    }
+    let url = Url::from_text(rt.alloc(), "ssh://host/repo")?;
+    assert_eq!(rt; served(&url), Some(BStr::from("/repo")));
+    let url = Url::from_text(rt.alloc(), "ssh://host/-repo")?;
+    assert_eq!(rt; served(&url), None);
     Ok(())
-}
-
-#[test]
-fn a_location_becomes_a_path(rt: HostRuntime) {
-    same::gives(&rt, as_path(rt.alloc()), b"/path");
 }

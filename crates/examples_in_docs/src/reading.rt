@@ -1,12 +1,10 @@
-//! Examples of reading and of reading back.
+//! Examples of texts and bytes that are read, of what is read again, and of a location made of parts.
 
-use crate::same;
-use bstr::BString;
+use bstr::{BStr, BString};
+use gix_url::parse::parse;
 use gix_url::{Error, Scheme, Url};
 use std::alloc::Global;
-use std::process::Abort;
 use std::test::Fail;
-use told::boxes::{boxed, read};
 
 /// The host that a text names, if the location can be written and read again.
 fn host_of(alloc: Global, text: &str) -> Result<Option<String>, Error> {
@@ -37,40 +35,51 @@ fn remote(alloc: Global, user: String, host: String, path: BString) -> Result<Ur
     )
 }
 
-/// Checks the host that a text names.
-fn names(rt: &impl Abort, alloc: Global, text: &str, wanted: Option<&str>) -> Result<(), Fail> {
-    let host = host_of(alloc, text)?;
-    same::optional(rt, host.as_deref(), wanted);
-    Ok(())
+/// Whether bytes that somebody sent spell a location.
+fn is_location(alloc: Global, bytes: &[u8]) -> Result<bool, Error> {
+    match parse(alloc, BStr::new(bytes)) {
+        Ok(_) => Ok(true),
+        Err(Error::Memory) => Err(Error::Memory),
+        Err(_) => Ok(false),
+    }
+}
+
+fn of_line(alloc: Global, line: &[u8]) -> Result<Url, Error> {
+    Url::from_bytes(alloc, BStr::new(line))
+}
+
+fn port_of(alloc: Global, text: &str) -> Result<Option<u16>, Error> {
+    Ok(Url::from_text(alloc, text)?.port) // 22 of `ssh://h:22/p`, none of `h:22/p`
 }
 
 #[test]
-fn a_host_is_named_by_what_comes_back(rt: HostRuntime) -> Result<(), Fail> {
-    let text = "ssh://git@example.com/gitoxide";
-    names(&rt, rt.alloc(), text, Some("example.com"))?;
-    names(&rt, rt.alloc(), "[host]::path", None)
-}
-
-#[test]
-fn the_host_of_another_text(rt: HostRuntime) -> Result<(), Fail> {
+fn hosts_that_come_back_are_named(rt: HostRuntime) -> Result<(), Fail> {
+    let host = host_of(rt.alloc(), "ssh://git@example.com/gitoxide")?;
+    assert_eq!(rt; host.as_deref(), Some("example.com"));
+    assert!(rt; host_of(rt.alloc(), "[host]::path")?.is_none());
     for (text, is) in [("http://h/p", true), ("file://x:%20/p", false)] {
-        let url = read(rt.alloc(), text)?;
-        same::answers(&rt, names_the_same_host(rt.alloc(), &url), &is, text);
+        let url = Url::from_text(rt.alloc(), text)?;
+        assert_eq!(rt; names_the_same_host(rt.alloc(), &url)?, is, "{text}");
     }
     Ok(())
 }
 
-/// A remote of `git` on the host `h`.
-fn remote_of_git(alloc: Global) -> Result<Url, Fail> {
-    let user = String::from_str(alloc, "git")?;
-    let host = String::from_str(alloc, "h")?;
-    let path = BString::from_slice(alloc, b"/p")?;
-    Ok(remote(alloc, user, host, path)?)
+#[test]
+fn bytes_are_read(rt: HostRuntime) -> Result<(), Fail> {
+    assert!(rt; is_location(rt.alloc(), b"h:p")?);
+    assert!(rt; !is_location(rt.alloc(), b"h:")?);
+    assert_eq!(rt; of_line(rt.alloc(), b"/srv/repo")?.scheme.as_str(), "file");
+    assert_eq!(rt; port_of(rt.alloc(), "ssh://h:22/p")?, Some(22));
+    assert_eq!(rt; port_of(rt.alloc(), "h:22/p")?, None);
+    Ok(())
 }
 
 #[test]
-fn a_remote_of_parts(rt: HostRuntime) -> Result<(), Fail> {
-    let url = boxed(rt.alloc(), remote_of_git(rt.alloc())?)?;
-    same::gives(&rt, url.to_bstring(rt.alloc()), b"ssh://git@h/p");
+fn a_remote_is_made_of_parts(rt: HostRuntime) -> Result<(), Fail> {
+    let user = String::from_str(rt.alloc(), "git")?;
+    let host = String::from_str(rt.alloc(), "h")?;
+    let path = BString::from_slice(rt.alloc(), b"/p")?;
+    let text = remote(rt.alloc(), user, host, path)?.to_bstring(rt.alloc())?;
+    assert_eq!(rt; text.as_bstr(), BStr::from("ssh://git@h/p"));
     Ok(())
 }

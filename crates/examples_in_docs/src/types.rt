@@ -1,15 +1,13 @@
-//! Examples of the types: errors, forms, schemes, users, components.
+//! Examples of the types: errors, forms, schemes, addresses, users, components.
 
-use crate::owned::answered;
-use crate::same;
+use bstr::BStr;
 use gix_url::expand_path::ForUser;
+use gix_url::ipv6::is_ipv6;
 use gix_url::lines::{self, RunError};
 use gix_url::parse::UrlKind;
 use gix_url::{Error, PathComponents, QueryText, Scheme, Url, UrlFault, WriteError, WriteFault};
 use std::alloc::Global;
-use std::process::Abort;
 use std::test::Fail;
-use told::boxes::read;
 
 /// Whether the same text can be read at another time: nothing is wrong with it.
 fn is_passing(error: &Error) -> bool {
@@ -69,104 +67,90 @@ fn ended(rt: &impl Eprint, outcome: &Result<bool, RunError>) -> u8 {
     lines::status(outcome)
 }
 
-/// Texts; whether what they are refused for is a bad port, and whether it is a scp form without a path.
-static REFUSED: [(&str, bool, bool); 3] = [
-    ("http://h:x/", true, false),
-    ("h:", false, true),
-    ("ssh://h", false, false),
-];
-
-/// Checks what a text is refused for.
-fn tells(rt: &impl Abort, error: &Error, port: bool, scp: bool) {
-    same::is(rt, has_bad_port(error), port, "a bad port");
-    same::is(rt, is_scp(error), scp, "an scp form");
-    same::holds(rt, !is_passing(error), "it will be refused again");
+fn is_web(alloc: Global, name: &str) -> Result<bool, Error> {
+    let scheme = Scheme::from_text(alloc, name)?;
+    Ok(matches!(scheme, Scheme::Http | Scheme::Https)) // of `https`, but not of `HTTPS`
 }
 
-/// Checks that a text is refused, and what for.
-fn is_refused(rt: &impl Abort, answer: &Result<Url, Error>, text: &str, port: bool, scp: bool) {
-    match answer {
-        Ok(_) => same::holds(rt, false, text),
-        Err(error) => tells(rt, error, port, scp),
-    }
+fn protocol_of(url: &Url) -> &str {
+    url.scheme.as_str() // `ssh` of `git@host:repo` and of `ssh+git://host/repo`
 }
 
-#[test]
-fn refusals_are_told_apart(rt: HostRuntime) {
-    for &(text, port, scp) in REFUSED.as_slice() {
-        let answer = Url::from_text(rt.alloc(), text);
-        is_refused(&rt, &answer, text, port, scp);
-        drop(answer);
-    }
+fn port_of(scheme: &Scheme) -> u16 {
+    scheme.default_port().unwrap_or(0) // 9418 of `Scheme::Git`, 0 of `Scheme::File`
 }
 
-/// Checks that a location isn't written, as it lacks a host.
-fn is_not_written(rt: &impl Abort, alloc: Global, url: &Url) {
-    let mut out = Vec::new(alloc);
-    let outcome = url.write_to(&mut out);
-    match &outcome {
-        Ok(()) => same::holds(rt, false, "it has no text"),
-        Err(error) => same::holds(rt, lacks_host(error), "it lacks a host"),
-    }
-    drop(outcome);
+fn needs_brackets(host: &str) -> bool {
+    is_ipv6(host) // `::1`, but neither `[::1]` nor `fe80::1%eth0`
+}
+
+fn two_of(alloc: Global, user: ForUser) -> Result<(ForUser, ForUser), Error> {
+    let copy = user.clone(alloc)?;
+    Ok((user, copy))
+}
+
+fn is_empty(value: &QueryText<'_>) -> bool {
+    value.as_bstr().as_bytes().is_empty()
+}
+
+fn fragment_of<'a>(parts: &PathComponents<'a>) -> Option<BStr<'a>> {
+    parts.fragment
 }
 
 #[test]
-fn what_has_no_text_is_told(rt: HostRuntime) -> Result<(), Fail> {
-    let mut url = read(rt.alloc(), "https://u@h/p")?;
+fn errors_are_told_apart(rt: HostRuntime) -> Result<(), Fail> {
+    // Whether what a text is refused for is a bad port, and whether it is an scp form without a path.
+    for (text, port, scp) in [
+        ("http://h:x/", true, false),
+        ("h:", false, true),
+        ("ssh://h", false, false),
+    ] {
+        let Err(error) = Url::from_text(rt.alloc(), text) else {
+            return Err(Fail::from(text));
+        };
+        assert_eq!(rt; has_bad_port(&error), port, "{text}");
+        assert_eq!(rt; is_scp(&error), scp, "{text}");
+        assert!(rt; !is_passing(&error), "{text}");
+    }
+    let mut url = Url::from_text(rt.alloc(), "https://u@h/p")?;
     url.host = None;
-    is_not_written(&rt, rt.alloc(), &url);
+    let outcome = url.write_to(&mut Vec::new(rt.alloc()));
+    assert!(rt; matches!(&outcome, Err(error) if lacks_host(error)));
+    assert_eq!(rt; ended(&rt, &Ok(false)), 1);
     Ok(())
 }
 
 #[test]
-fn variants_are_told_apart(rt: HostRuntime) {
-    same::holds(&rt, is_encrypted(&Scheme::Ssh), "ssh is encrypted");
-    same::holds(&rt, !is_encrypted(&Scheme::Http), "http isn't");
-    same::holds(&rt, is_current(&ForUser::Current), "the current user");
-    same::holds(&rt, ended(&rt, &Ok(false)) == 1, "the status");
-}
-
-#[test]
-fn ports_are_named(rt: HostRuntime) -> Result<(), Fail> {
+fn schemes_and_hosts_are_told_apart(rt: HostRuntime) -> Result<(), Fail> {
+    assert!(rt; is_encrypted(&Scheme::Ssh) && !is_encrypted(&Scheme::Http));
+    assert!(rt; is_web(rt.alloc(), "https")? && !is_web(rt.alloc(), "HTTPS")?);
+    assert_eq!(rt; port_of(&Scheme::Git), 9418);
+    assert_eq!(rt; port_of(&Scheme::File), 0);
+    for text in ["git@host:repo", "ssh+git://host/repo"] {
+        let url = Url::from_text(rt.alloc(), text)?;
+        assert_eq!(rt; protocol_of(&url), "ssh", "{text}");
+    }
     for (text, is) in [("ssh://h:22/p", true), ("h:22/p", false)] {
-        let url = read(rt.alloc(), text)?;
-        same::is(&rt, names_port(&url), is, text);
+        let url = Url::from_text(rt.alloc(), text)?;
+        assert_eq!(rt; names_port(&url), is, "{text}");
     }
-    Ok(())
-}
-
-/// Checks that a name is copied.
-fn keeps(rt: &impl Abort, alloc: Global, name: &QueryText<'_>) {
-    same::answers(rt, kept(alloc, name), name, "the copy of a name");
-}
-
-/// Checks that the name of the first field is copied.
-fn keeps_first(rt: &impl Abort, alloc: Global, pairs: &[(QueryText<'_>, QueryText<'_>)]) {
-    match pairs.first() {
-        None => same::holds(rt, false, "a field"),
-        Some((name, _)) => keeps(rt, alloc, name),
+    for (host, is) in [("::1", true), ("[::1]", false), ("fe80::1%eth0", false)] {
+        assert_eq!(rt; needs_brackets(host), is, "{host}");
     }
-}
-
-/// Checks that the name of the first field of components is copied.
-fn keeps_query(rt: &impl Abort, alloc: Global, parts: &PathComponents<'_>) {
-    match &parts.query {
-        None => same::holds(rt, false, "a query"),
-        Some(pairs) => keeps_first(rt, alloc, pairs.as_slice()),
-    }
-}
-
-/// Checks that the components of a location are copied.
-fn are_kept(rt: &impl Abort, alloc: Global, url: &Url) -> Result<(), Fail> {
-    let parts = answered(alloc, url.path_query_fragment(alloc))?;
-    same::answers(rt, both(alloc, &parts), &*parts, "the copy of all");
-    keeps_query(rt, alloc, &parts);
     Ok(())
 }
 
 #[test]
-fn components_are_copied(rt: HostRuntime) -> Result<(), Fail> {
-    let url = read(rt.alloc(), "http://h/?a+b=c")?;
-    are_kept(&rt, rt.alloc(), &url)
+fn users_and_components_are_copied(rt: HostRuntime) -> Result<(), Fail> {
+    assert!(rt; is_current(&ForUser::Current));
+    let (one, other) = two_of(rt.alloc(), ForUser::Current)?;
+    assert!(rt; one == other);
+    let url = Url::from_text(rt.alloc(), "http://h/?a+b#c")?;
+    let parts = url.path_query_fragment(rt.alloc())?;
+    assert!(rt; both(rt.alloc(), &parts)? == parts);
+    assert_eq!(rt; fragment_of(&parts), Some(BStr::from("c")));
+    let (name, value) = &parts.query.as_ref().ok_or("it has a query")?[0];
+    assert!(rt; kept(rt.alloc(), name)? == *name);
+    assert!(rt; is_empty(value) && !is_empty(name));
+    Ok(())
 }

@@ -14,13 +14,13 @@ ghost use Rattle.gix_url.specs.Text as spec;
 ghost use Rattle.gix_url.specs.Value.{Location, fields};
 ghost use Rattle.gix_url.specs.Value.Protocol.{ssh};
 
+use crate::boxes::{boxed, read};
 use bstr::{BStr, BString};
 use gix_url::laws::{law_git, law_separation, law_value};
 use gix_url::{Error, Scheme, Url};
 use std::alloc::Global;
 use std::process::Abort;
 use std::test::Fail;
-use told::boxes::{boxed, read};
 
 /// The host that a text names, if the location can be written and read again.
 fn host_of(alloc: Global, text: &str) -> Result<Option<String>, Error>

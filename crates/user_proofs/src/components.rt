@@ -5,12 +5,12 @@ ghost use Rattle.gix_url.specs.Components.{Components, PartsOf};
 ghost use Rattle.gix_url.specs.Settled.{IsSettled, IsWeb};
 ghost use Rattle.gix_url.specs.declared.error.Error.TheVariants as error;
 
+use crate::boxes::read;
 use gix_url::laws::{law_components, law_separation, law_value};
 use gix_url::{Error, Url};
 use std::alloc::Global;
 use std::process::Abort;
 use std::test::Fail;
-use told::boxes::read;
 
 /// Whether the paths of two locations are made of the same.
 fn are_made_alike(alloc: Global, one: &Url, other: &Url) -> Result<bool, Error>

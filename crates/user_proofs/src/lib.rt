@@ -2,8 +2,12 @@
 #![tactic(auto)]
 
 #[cfg(test)]
+mod boxes;
+#[cfg(test)]
 mod calling;
 #[cfg(test)]
 mod components;
 #[cfg(test)]
 mod stored;
+#[cfg(test)]
+mod values;

@@ -130,10 +130,10 @@ impl fmt::Display for UrlFault {
 impl fmt::Display for WriteFault {
     fn fmt(&self, f: &mut fmt::Formatter<'_>) -> fmt::Result {
         f.write_str(match self {
-            WriteFault::HelperName => "the name of the remote helper is no such name",
-            WriteFault::HelperParts => "a remote helper has a user, a password, a host or a port",
+            WriteFault::HelperName => "the remote helper has no valid name",
+            WriteFault::HelperParts => "a remote helper comes with a user, a password, a host or a port",
             WriteFault::RelativeSsh => {
-                "a relative path of Secure Shell needs a host, and neither a password nor a port"
+                "a relative path of Secure Shell comes without a host, or with a password or a port"
             }
             WriteFault::UserWithoutHost => "a user comes without a host",
         })
@@ -148,7 +148,10 @@ impl fmt::Display for Error {
             Error::MissingPath { kind, .. } => write!(f, "the {kind} has no path"),
             Error::NotUtf8 { kind, .. } => write!(f, "the {kind} is not UTF-8"),
             Error::TooLong { total, .. } => {
-                write!(f, "the scheme or the authority is longer than 1024 bytes, in a text of {total} bytes")
+                write!(
+                    f,
+                    "the scheme or the authority of the URL is longer than 1024 bytes, in a text of {total} bytes"
+                )
             }
             Error::BadUrl { kind, fault, .. } => write!(f, "the {kind} has {fault}"),
             Error::HelperName { .. } => f.write_str("the remote helper has no valid name"),

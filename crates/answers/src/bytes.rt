@@ -1,0 +1,62 @@
+//! Bytes as text of JSON, and back: a byte that is no part of UTF-8 is the character U+EF00 with that byte added.
+
+use crate::halt::Halt;
+use crate::tell::Out;
+use bstr::ByteSlice;
+use std::alloc::Global;
+use std::io::{self, Write};
+
+/// The character for the byte 0, which with bytes past ASCII added gives the characters for those.
+const FIRST: u32 = 0xEF00;
+
+/// The bytes that a text stands for.
+pub fn decoded(alloc: Global, text: &str) -> Result<Vec<u8>, Halt> {
+    let mut bytes = Vec::with_capacity(alloc, text.len())?;
+    for character in text.chars() {
+        push(&mut bytes, character)?;
+    }
+    Ok(bytes)
+}
+
+/// Puts the bytes that a character stands for behind others.
+fn push(bytes: &mut Vec<u8>, character: char) -> Result<(), Halt> {
+    let code = u32::from(character);
+    match u8::try_from(code.wrapping_sub(FIRST)) {
+        Ok(byte) if !byte.is_ascii() => Ok(bytes.push(byte)?),
+        _ => {
+            let mut room = [0u8; 4];
+            let text = character.encode_utf8(&mut room);
+            Ok(bytes.extend_from_slice(text.as_bytes())?)
+        }
+    }
+}
+
+/// Writes bytes as a text of JSON.
+pub fn write_quoted(out: &mut Out, bytes: &[u8]) -> io::Result<()> {
+    out.write_all(b"\"")?;
+    write_inside(out, bytes)?;
+    out.write_all(b"\"")
+}
+
+/// Writes bytes as the inside of a text of JSON.
+pub fn write_inside(out: &mut Out, bytes: &[u8]) -> io::Result<()> {
+    for chunk in bytes.utf8_chunks() {
+        for &byte in chunk.valid().as_bytes() {
+            write_byte(out, byte)?;
+        }
+        for &byte in chunk.invalid() {
+            write!(out, "\\u{:04x}", FIRST + u32::from(byte))?;
+        }
+    }
+    Ok(())
+}
+
+/// Writes a byte of a text of UTF-8.
+fn write_byte(out: &mut Out, byte: u8) -> io::Result<()> {
+    match byte {
+        b'"' => out.write_all(b"\\\""),
+        b'\\' => out.write_all(b"\\\\"),
+        0..=31 | 127 => write!(out, "\\u{byte:04x}"),
+        _ => out.write_all(&[byte]),
+    }
+}

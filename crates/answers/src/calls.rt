@@ -1,0 +1,647 @@
+//! The table of calls, a line each, by what they are over.
+//!
+//! The names are those of the public functions of the library; behind a single colon stands what a trait gives. Each
+//! function makes what its calls are over, and then makes the call, unless the order ends there.
+
+use crate::halt::Halt;
+use crate::order::{Order, unknown};
+use crate::parts::first_name;
+use crate::shown::{show, show_debug};
+use crate::tell::{Out, Taking, lent, tell_member, tell_name, told};
+use crate::{errors, made};
+use bstr::{BStr, BString};
+use gix_url::expand_path::{self, ForUser};
+use gix_url::lines::{fault_line, run, status};
+use gix_url::parse::parse;
+use gix_url::stored::StoredUrl;
+use gix_url::testing::TestUrlExtension;
+use gix_url::{Error, PathComponents, Scheme, Url, WriteError, ipv6, laws};
+use std::alloc::Global;
+use std::hash::{DefaultHasher, Hash, Hasher};
+use std::io::Write;
+
+/// Makes the call of an order, by what it is over.
+pub fn make(alloc: Global, order: &Order<'_>, out: &mut Out) -> Result<(), Halt> {
+    let order = *order;
+    if order.has("url") {
+        over_url(alloc, order, out)
+    } else if order.has("record") {
+        over_record(alloc, order, out)
+    } else if order.has("scheme") {
+        over_scheme(alloc, order, out)
+    } else if order.has("path") {
+        over_path(alloc, order, out)
+    } else if order.has("user") {
+        over_user(alloc, order, out)
+    } else if order.has("text") && order.name() == "lines::run" {
+        over_lines(alloc, order, out)
+    } else if order.has("text") && order.name() != "Error:fmt" {
+        over_text(alloc, order, out)
+    } else if order.has("json") {
+        over_json(alloc, order, out)
+    } else {
+        over_error(alloc, order, out)
+    }
+}
+
+/// Calls that read a text, or judge it.
+fn over_text(alloc: Global, order: Order<'_>, out: &mut Out) -> Result<(), Halt> {
+    let bytes = order.bytes(alloc, "text")?;
+    let outcome = read(alloc, order, BStr::new(bytes.as_slice()), out);
+    drop(bytes);
+    outcome
+}
+
+/// Calls over bytes, or over the text that they are.
+fn read(alloc: Global, order: Order<'_>, bytes: BStr<'_>, out: &mut Out) -> Result<(), Halt> {
+    let text = order.needed("text")?;
+    match order.call() {
+        "parse::parse" => told(out, parse(alloc, bytes)),
+        "Url::from_bytes" => told(out, Url::from_bytes(alloc, bytes)),
+        "Url::from_text" => told(out, Url::from_text(alloc, text)),
+        "Scheme::from_text" => told(out, Scheme::from_text(alloc, text)),
+        "ipv6::is_ipv6" => lent(out, &ipv6::is_ipv6(text)),
+        "expand_path::parse" => told(out, expand_path::parse(alloc, bytes)),
+        call => unknown(call),
+    }
+}
+
+/// Calls that answer lines. The answers go into memory that is taken before: a line is a byte at the least, and its
+/// answer is at most 40 bytes longer than thrice the line.
+fn over_lines(alloc: Global, order: Order<'_>, out: &mut Out) -> Result<(), Halt> {
+    let bytes = order.bytes(alloc, "text")?;
+    let mut answers = Vec::with_capacity(alloc, bytes.len().saturating_mul(44).saturating_add(44))?;
+    if order.call().is_empty() {
+        return Ok(());
+    }
+    let mut left = bytes.as_slice();
+    let outcome = run(alloc, &mut left, &mut answers);
+    let is_cut_short = outcome.is_ok() && !left.is_empty();
+    tell_name(out, "{", "outcome")?;
+    lent(out, &outcome)?;
+    tell_name(out, ",", "status")?;
+    lent(out, &status(&outcome))?;
+    drop(outcome);
+    tell_name(out, ",", "out")?;
+    lent(out, &BStr::new(answers.as_slice()))?;
+    if is_cut_short {
+        tell_member(out, "left", &Some(BStr::new(left)))?;
+    }
+    Ok(out.write_all(b"}")?)
+}
+
+/// Calls that look at a location or copy it, and leave it as it was; others take what is made of it, too.
+fn over_url(alloc: Global, order: Order<'_>, out: &mut Out) -> Result<(), Halt> {
+    let url = made::url(alloc, order, "url")?;
+    match given_of(order.name()) {
+        Some(name) => change(alloc, order, url, name, out),
+        None => {
+            let before = hashed(&url);
+            let outcome = look_or_copy(alloc, order, &url, out);
+            let is_changed = hashed(&url) != before;
+            drop(url);
+            if is_changed {
+                Err(Halt::Changed)
+            } else {
+                outcome
+            }
+        }
+    }
+}
+
+/// What a hasher makes of a value.
+fn hashed<T: Hash>(value: &T) -> u64 {
+    let mut hasher = DefaultHasher::new();
+    value.hash(&mut hasher);
+    hasher.finish()
+}
+
+/// Calls over a location, and over another one beside it.
+fn look_or_copy(alloc: Global, order: Order<'_>, url: &Url, out: &mut Out) -> Result<(), Halt> {
+    if order.has("other") {
+        return over_two(alloc, order, url, out);
+    }
+    match order.call() {
+        "Url::clone" => told(out, url.clone(alloc)),
+        "Url:Clone" => told(out, copy_apart(alloc, url)),
+        "Url::reread" => told(out, url.reread(alloc)),
+        "Url::to_bstring" => told(out, url.to_bstring(alloc)),
+        "Url::to_stored" => told(out, url.to_stored(alloc)),
+        "Url::path_query_fragment" => told(out, url.path_query_fragment(alloc)),
+        "Url:fmt" => show(out, order.style(), url),
+        "laws::law_value" => lent(out, &laws::law_value(url)),
+        _ => look(alloc, order, url, out),
+    }
+}
+
+/// Whether a copy of a location, made of one that is there no more, is equal to it and has its hash: as it is, and with
+/// another path.
+fn copy_apart(alloc: Global, url: &Url) -> Result<((bool, bool), (bool, bool)), Error> {
+    let original = url.clone(alloc)?;
+    let copied = original.clone(alloc);
+    drop(original);
+    let mut copy = copied?;
+    let before = alike(&copy, url);
+    copy.path = BString::new(Vec::new(alloc));
+    let behind = alike(&copy, url);
+    drop(copy);
+    Ok((before, behind))
+}
+
+/// Calls that look at a location.
+fn look(alloc: Global, order: Order<'_>, url: &Url, out: &mut Out) -> Result<(), Halt> {
+    match order.call() {
+        "Url::is_settled" => lent(out, &url.is_settled()),
+        "Url::agrees_with_git" => lent(out, &url.agrees_with_git()),
+        "Url::user" => lent(out, &url.user()),
+        "Url::password" => lent(out, &url.password()),
+        "Url::host" => lent(out, &url.host()),
+        "Url::port_or_default" => lent(out, &url.port_or_default()),
+        "Url::path_is_root" => lent(out, &url.path_is_root()),
+        "Url::original_path" => lent(out, &url.original_path()),
+        "Url::text_len" => lent(out, &url.text_len()),
+        _ => hand_out(alloc, order, url, out),
+    }
+}
+
+/// Calls that hand a part of a location to a command, or write it.
+fn hand_out(alloc: Global, order: Order<'_>, url: &Url, out: &mut Out) -> Result<(), Halt> {
+    match order.call() {
+        "Url::user_as_argument" => lent(out, &url.user_as_argument()),
+        "Url::host_as_argument" => lent(out, &url.host_as_argument()),
+        "Url::user_argument_safe" => lent(out, &url.user_argument_safe()),
+        "Url::host_argument_safe" => lent(out, &url.host_argument_safe()),
+        "Url::path_argument_safe" => lent(out, &url.path_argument_safe()),
+        "Url::write_to" => write_to(url, out),
+        _ => over_components(alloc, order, url, out),
+    }
+}
+
+/// Writes a location to a writer that takes no memory.
+fn write_to(url: &Url, out: &mut Out) -> Result<(), Halt> {
+    tell_name(out, "{", "written")?;
+    out.write_all(b"\"")?;
+    let outcome = url.write_to(&mut Taking { out });
+    out.write_all(b"\"")?;
+    match outcome {
+        Ok(()) => {}
+        Err(WriteError::Fault(fault)) => tell_member(out, "fault", &Some(fault))?,
+        Err(WriteError::Io(error)) => return Err(Halt::NotTold(error)),
+    }
+    Ok(out.write_all(b"}")?)
+}
+
+/// Calls over a path, a query and a fragment.
+fn over_components(alloc: Global, order: Order<'_>, url: &Url, out: &mut Out) -> Result<(), Halt> {
+    match order.name() {
+        "PathComponents::clone" | "QueryText::clone" | "QueryText::as_bstr" => {}
+        _ => return unknown(order.call()),
+    }
+    let parts = components(alloc, url)?;
+    let outcome = cut(alloc, order, &parts, out);
+    drop(parts);
+    outcome
+}
+
+/// What the path of a location is made of.
+fn components(alloc: Global, url: &Url) -> Result<PathComponents<'_>, Halt> {
+    url.path_query_fragment(alloc).map_err(made::unprepared)
+}
+
+/// Calls over a path, a query and a fragment, and over the first name of the query.
+fn cut(
+    alloc: Global,
+    order: Order<'_>,
+    parts: &PathComponents<'_>,
+    out: &mut Out,
+) -> Result<(), Halt> {
+    match order.call() {
+        "PathComponents::clone" => told(out, parts.clone(alloc)),
+        "QueryText::clone" => told(out, first_name(parts)?.clone(alloc)),
+        "QueryText::as_bstr" => lent(out, &first_name(parts)?.as_bstr()),
+        call => unknown(call),
+    }
+}
+
+/// Calls over two locations.
+fn over_two(alloc: Global, order: Order<'_>, url: &Url, out: &mut Out) -> Result<(), Halt> {
+    let other = made::url(alloc, order, "other")?;
+    let outcome = match order.name() {
+        "PathComponents:Eq" => over_two_paths(alloc, order, url, &other, out),
+        _ => compare(order, url, &other, out),
+    };
+    drop(other);
+    outcome
+}
+
+/// Calls over what two paths are made of.
+fn over_two_paths(
+    alloc: Global,
+    order: Order<'_>,
+    url: &Url,
+    other: &Url,
+    out: &mut Out,
+) -> Result<(), Halt> {
+    let parts = components(alloc, url)?;
+    let others = components(alloc, other)?;
+    let is_made = !order.call().is_empty();
+    let are_equal = is_made && parts == others;
+    drop(parts);
+    drop(others);
+    if is_made {
+        lent(out, &are_equal)
+    } else {
+        Ok(())
+    }
+}
+
+/// Calls that compare two values: by their order, by their partial order, by equality and by their hashes.
+fn compare<T: Ord + Hash>(order: Order<'_>, one: &T, other: &T, out: &mut Out) -> Result<(), Halt> {
+    match order.call() {
+        "Url:Ord" | "Scheme:Ord" | "ForUser:Ord" => {
+            let orders = (one.cmp(other), one.partial_cmp(other));
+            lent(out, &(orders, alike(one, other)))
+        }
+        call => unknown(call),
+    }
+}
+
+/// Whether two values are equal, and whether they have one hash.
+fn alike<T: Eq + Hash>(one: &T, other: &T) -> (bool, bool) {
+    (one == other, hashed(one) == hashed(other))
+}
+
+/// The member that a call takes beside a location that it changes or takes.
+fn given_of(name: &str) -> Option<&'static str> {
+    match name {
+        "Url::set_user" => Some("user"),
+        "Url::set_password" => Some("password"),
+        "Url::canonicalize" | "Url::canonicalized" => Some("answer"),
+        "Url::with_request_alternate_form" => Some("alternative"),
+        _ => None,
+    }
+}
+
+/// Calls that change a location or take it: what the call returns, and what has become of the location.
+fn change(
+    alloc: Global,
+    order: Order<'_>,
+    mut url: Url,
+    name: &str,
+    out: &mut Out,
+) -> Result<(), Halt> {
+    let text = order.owned(alloc, name)?;
+    let path = BString::from_slice(alloc, url.path.as_bytes())?;
+    match order.call() {
+        "Url::set_user" => told(out, (url.set_user(text), url)),
+        "Url::set_password" => told(out, (url.set_password(text), url)),
+        "Url::with_request_alternate_form" => {
+            told(out, url.with_request_alternate_form(order.is(name)))
+        }
+        "Url::canonicalize" => canonicalize(url, &path, text, out),
+        "Url::canonicalized" => canonicalized(alloc, url, &path, text, out),
+        call => {
+            drop(url);
+            unknown(call)
+        }
+    }
+}
+
+/// What it counts that a path is asked for: once, and of another path a hundred times.
+fn times(path: &BString, asked: &str) -> u8 {
+    if path.as_bytes() == asked.as_bytes() {
+        1
+    } else {
+        100
+    }
+}
+
+/// Canonicalizes a location in its place, and tells how often its path was asked for.
+fn canonicalize(
+    mut url: Url,
+    path: &BString,
+    answer: Option<String>,
+    out: &mut Out,
+) -> Result<(), Halt> {
+    let mut asked = 0u8;
+    let outcome = url.canonicalize(|one| {
+        asked = asked.saturating_add(times(path, one));
+        answer
+    });
+    told(out, ((outcome, asked), url))
+}
+
+/// Canonicalizes a copy of a location, and tells how often its path was asked for.
+fn canonicalized(
+    alloc: Global,
+    url: Url,
+    path: &BString,
+    answer: Option<String>,
+    out: &mut Out,
+) -> Result<(), Halt> {
+    let mut asked = 0u8;
+    let outcome = url.canonicalized(alloc, |one| {
+        asked = asked.saturating_add(times(path, one));
+        answer
+    });
+    told(out, ((outcome, asked), url))
+}
+
+/// Calls over a record of parts.
+fn over_record(alloc: Global, order: Order<'_>, out: &mut Out) -> Result<(), Halt> {
+    let Some(parts) = order.object("record") else {
+        return Err(Halt::Unprepared);
+    };
+    let record = made::record(alloc, parts)?;
+    match order.call() {
+        "Url::from_stored" => told(out, Url::from_stored(alloc, record)),
+        "Url::from_parts" => told(out, from_parts(alloc, record)),
+        "Url::from_parts_unchecked" => told(out, from_parts_unchecked(record)),
+        "StoredUrl:to_json" => to_json(alloc, record, out),
+        call => {
+            drop(record);
+            unknown(call)
+        }
+    }
+}
+
+/// Tells the text of a record in JSON.
+fn to_json(alloc: Global, record: StoredUrl, out: &mut Out) -> Result<(), Halt> {
+    let json = serde_json::to_string(alloc, &record);
+    drop(record);
+    told(out, json)
+}
+
+/// What is made of the parts of a record but its spelling.
+fn from_parts(alloc: Global, record: StoredUrl) -> Result<Url, Error> {
+    Url::from_parts(
+        alloc,
+        record.scheme,
+        record.user,
+        record.password,
+        record.host,
+        record.port,
+        BString::new(record.path),
+        record.serialize_alternative_form,
+    )
+}
+
+/// The location of the parts of a record but its spelling.
+fn from_parts_unchecked(record: StoredUrl) -> Url {
+    <Url as TestUrlExtension>::from_parts_unchecked(
+        record.scheme,
+        record.user,
+        record.password,
+        record.host,
+        record.port,
+        BString::new(record.path),
+        record.serialize_alternative_form,
+    )
+}
+
+/// Calls over the JSON of a record.
+fn over_json(alloc: Global, order: Order<'_>, out: &mut Out) -> Result<(), Halt> {
+    let json = order.needed("json")?;
+    if order.name() == "StoredUrl:Debug" {
+        return show_record(alloc, order, json, out);
+    }
+    match order.call() {
+        "StoredUrl:from_json" => told(out, of_json(alloc, json)),
+        "StoredUrl:again" => again(alloc, json, out),
+        call => unknown(call),
+    }
+}
+
+/// The record of a text of JSON.
+fn of_json(alloc: Global, json: &str) -> Result<StoredUrl, serde_json::Error> {
+    serde_json::from_str(alloc, json)
+}
+
+/// Shows the record of a text of JSON.
+fn show_record(alloc: Global, order: Order<'_>, json: &str, out: &mut Out) -> Result<(), Halt> {
+    let Ok(record) = of_json(alloc, json) else {
+        return Err(Halt::Unprepared);
+    };
+    let shown = match order.call() {
+        "" => Ok(()),
+        _ => show_debug(out, &record),
+    };
+    drop(record);
+    shown
+}
+
+/// Restores the location of a text of JSON, and tells the JSON that is stored of it.
+fn again(alloc: Global, json: &str, out: &mut Out) -> Result<(), Halt> {
+    match of_json(alloc, json) {
+        Err(error) => told(out, Err::<(), serde_json::Error>(error)),
+        Ok(record) => match Url::from_stored(alloc, record) {
+            Err(error) => told(out, error),
+            Ok(url) => store(alloc, url, out),
+        },
+    }
+}
+
+/// Tells the JSON that is stored of a location.
+fn store(alloc: Global, url: Url, out: &mut Out) -> Result<(), Halt> {
+    let stored = url.to_stored(alloc);
+    drop(url);
+    match stored {
+        Err(error) => told(out, error),
+        Ok(record) => to_json(alloc, record, out),
+    }
+}
+
+/// Calls over a scheme.
+fn over_scheme(alloc: Global, order: Order<'_>, out: &mut Out) -> Result<(), Halt> {
+    let scheme = made::scheme(alloc, order.needed("scheme")?)?;
+    let outcome = look_at_scheme(alloc, order, &scheme, out);
+    drop(scheme);
+    outcome
+}
+
+/// Calls that look at a scheme, or at another one beside it.
+fn look_at_scheme(
+    alloc: Global,
+    order: Order<'_>,
+    scheme: &Scheme,
+    out: &mut Out,
+) -> Result<(), Halt> {
+    match order.call() {
+        "Scheme::clone" => told(out, scheme.clone(alloc)),
+        "Scheme::as_str" => lent(out, &scheme.as_str()),
+        "Scheme::default_port" => lent(out, &scheme.default_port()),
+        "Scheme:fmt" => show(out, order.style(), scheme),
+        _ => over_two_schemes(alloc, order, scheme, out),
+    }
+}
+
+/// Compares a scheme with another one.
+fn over_two_schemes(
+    alloc: Global,
+    order: Order<'_>,
+    scheme: &Scheme,
+    out: &mut Out,
+) -> Result<(), Halt> {
+    let Some(told) = order.text("other") else {
+        return unknown(order.call());
+    };
+    let other = made::scheme(alloc, told)?;
+    let outcome = compare(order, scheme, &other, out);
+    drop(other);
+    outcome
+}
+
+/// Calls over a path, and over a user and a home folder beside it.
+fn over_path(alloc: Global, order: Order<'_>, out: &mut Out) -> Result<(), Halt> {
+    let path = BString::new(order.bytes(alloc, "path")?);
+    let user = made::user(alloc, order, "user")?;
+    let before = user.as_ref().map(hashed);
+    let outcome = match order.call() {
+        "expand_path::for_shell" => told(out, expand_path::for_shell(alloc, path)),
+        _ => over_home(alloc, order, &user, &path, out),
+    };
+    let is_changed = user.as_ref().map(hashed) != before;
+    drop(user);
+    if is_changed {
+        Err(Halt::Changed)
+    } else {
+        outcome
+    }
+}
+
+/// Calls over a user, a path and a home folder.
+fn over_home(
+    alloc: Global,
+    order: Order<'_>,
+    user: &Option<ForUser>,
+    path: &BString,
+    out: &mut Out,
+) -> Result<(), Halt> {
+    let home = order.owned(alloc, "home")?;
+    match order.call() {
+        "expand_path::with" => expand_with(alloc, user, path.as_bstr(), home, out),
+        "expand_path::expand_path" => {
+            let (user, path) = (user.as_ref(), path.as_bstr());
+            told(
+                out,
+                expand_path::expand_path(alloc, user, path, home.as_deref()),
+            )
+        }
+        call => unknown(call),
+    }
+}
+
+/// Expands a path, and tells how often the home folder of the user was asked for; of another one it would be a hundred.
+fn expand_with(
+    alloc: Global,
+    user: &Option<ForUser>,
+    path: BStr<'_>,
+    home: Option<String>,
+    out: &mut Out,
+) -> Result<(), Halt> {
+    let mut asked = 0u8;
+    let outcome = expand_path::with(alloc, user.as_ref(), path, |one| {
+        asked = asked.saturating_add(if Some(one) == user.as_ref() { 1 } else { 100 });
+        home
+    });
+    told(out, (outcome, asked))
+}
+
+/// Calls over a user, and over another one beside it.
+fn over_user(alloc: Global, order: Order<'_>, out: &mut Out) -> Result<(), Halt> {
+    let Some(user) = made::user(alloc, order, "user")? else {
+        return Err(Halt::Unprepared);
+    };
+    match order.call() {
+        "ForUser:into" => told(out, Option::<BString>::from(user)),
+        _ => {
+            let outcome = look_at_user(alloc, order, &user, out);
+            drop(user);
+            outcome
+        }
+    }
+}
+
+/// Calls that look at a user, or at another one beside it.
+fn look_at_user(
+    alloc: Global,
+    order: Order<'_>,
+    user: &ForUser,
+    out: &mut Out,
+) -> Result<(), Halt> {
+    let other = made::user(alloc, order, "other")?;
+    let outcome = match (&other, order.call()) {
+        (Some(other), _) => compare(order, user, other, out),
+        (None, "ForUser::clone") => told(out, user.clone(alloc)),
+        (None, call) => unknown(call),
+    };
+    drop(other);
+    outcome
+}
+
+/// Calls over an error, a form or a fault; and what is over nothing.
+fn over_error(alloc: Global, order: Order<'_>, out: &mut Out) -> Result<(), Halt> {
+    if order.name() == "Error:fmt" {
+        return show_error(alloc, order, out);
+    }
+    let style = order.style();
+    match order.call() {
+        "UrlKind:fmt" => show(out, style, &errors::kind(order.needed("kind")?)?),
+        "UrlFault:fmt" => show(out, style, &errors::fault(order.needed("fault")?)?),
+        "WriteFault:fmt" => show(out, style, &errors::write_fault(order.needed("fault")?)?),
+        "WriteError:fmt" => show(out, style, &errors::write_error(order)?),
+        "RunError:fmt" => show(out, style, &errors::run_error(order)?),
+        "lines::fault_line" => lent(out, &fault_line(&errors::run_error(order)?)),
+        "lines::status" => lent(out, &status(&errors::outcome(order)?)),
+        "Url::default_in" => told(out, Url::default_in(alloc)),
+        _ => over_nothing(order, out),
+    }
+}
+
+/// Shows an error.
+fn show_error(alloc: Global, order: Order<'_>, out: &mut Out) -> Result<(), Halt> {
+    let error = errors::error(alloc, order)?;
+    let shown = match order.call() {
+        "" => Ok(()),
+        _ => show(out, order.style(), &error),
+    };
+    drop(error);
+    shown
+}
+
+/// Laws, which hold of all values, and whose calls do nothing.
+fn over_nothing(order: Order<'_>, out: &mut Out) -> Result<(), Halt> {
+    match order.call() {
+        "laws::law_address_test" => lent(out, &laws::law_address_test()),
+        "laws::law_sets" => lent(out, &laws::law_sets()),
+        "laws::law_arguments" => lent(out, &laws::law_arguments()),
+        "laws::law_separation" => lent(out, &laws::law_separation()),
+        "laws::law_stored" => lent(out, &laws::law_stored()),
+        "laws::law_closed" => lent(out, &laws::law_closed()),
+        "laws::law_order" => lent(out, &laws::law_order()),
+        "laws::law_scheme_order" => lent(out, &laws::law_scheme_order()),
+        _ => over_nothing_else(order, out),
+    }
+}
+
+/// The other laws, and calls over judgements of parts.
+fn over_nothing_else(order: Order<'_>, out: &mut Out) -> Result<(), Halt> {
+    match order.call() {
+        "laws::law_refusals" => lent(out, &laws::law_refusals()),
+        "laws::law_lines" => lent(out, &laws::law_lines()),
+        "laws::law_components" => lent(out, &laws::law_components()),
+        "laws::law_git" => lent(out, &laws::law_git()),
+        "laws::law_homes" => lent(out, &laws::law_homes()),
+        "laws::law_user_order" => lent(out, &laws::law_user_order()),
+        "laws::law_hidden_password" => lent(out, &laws::law_hidden_password()),
+        "ArgumentSafety:Eq" => over_judgements(order, out),
+        call => unknown(call),
+    }
+}
+
+/// Whether a judgement of a part is equal to a copy of it, and to another one.
+fn over_judgements(order: Order<'_>, out: &mut Out) -> Result<(), Halt> {
+    let one = made::judgement(order, "one");
+    let copy = one;
+    lent(out, &(one == copy, one == made::judgement(order, "other")))
+}

@@ -1,0 +1,236 @@
+//! Errors as JSON, by their names and their fields; and errors made of that.
+
+use crate::halt::Halt;
+use crate::order::Order;
+use crate::tell::{Out, Tell, tell_member, tell_name};
+use bstr::{BStr, BString};
+use gix_url::lines::RunError;
+use gix_url::parse::{UrlKind, parse};
+use gix_url::{Error, UrlFault, WriteError, WriteFault};
+use std::alloc::Global;
+use std::io::{self, ErrorKind, Write};
+
+impl Tell for Error {
+    fn tell(&self, out: &mut Out) -> io::Result<()> {
+        out.write_all(b"{\"error\":\"")?;
+        tell_fields(out, self)?;
+        out.write_all(b"}")
+    }
+}
+
+/// Tells the name of an error of reading, with the form and the fault, and the text that it keeps.
+fn tell_fields(out: &mut Out, error: &Error) -> io::Result<()> {
+    match error {
+        Error::MissingPath { kind, input } => {
+            write!(out, "MissingPath {kind:?}\"")?;
+            tell_kept(out, input)
+        }
+        Error::NotUtf8 { kind, input } => {
+            write!(out, "NotUtf8 {kind:?}\"")?;
+            tell_kept(out, input)
+        }
+        Error::BadUrl { kind, fault, input } => {
+            write!(out, "BadUrl {fault:?} {kind:?}\"")?;
+            tell_kept(out, input)
+        }
+        Error::TooLong { shown, total } => {
+            out.write_all(b"TooLong\"")?;
+            tell_kept(out, shown)?;
+            write!(out, ",\"total\":{total}")
+        }
+        _ => tell_other(out, error),
+    }
+}
+
+/// Tells the bytes that an error keeps.
+fn tell_kept(out: &mut Out, bytes: &BString) -> io::Result<()> {
+    tell_member(out, "kept", &Some(bytes.as_bstr()))
+}
+
+/// Tells the name of any other error, and the name of the helper or the user.
+fn tell_other(out: &mut Out, error: &Error) -> io::Result<()> {
+    match error {
+        Error::HelperName { name } => {
+            out.write_all(b"HelperName\"")?;
+            tell_kept(out, name)
+        }
+        Error::NoHome(user) => {
+            out.write_all(b"NoHome\"")?;
+            tell_name(out, ",", "user")?;
+            user.tell(out)
+        }
+        Error::Unwritable(fault) => write!(out, "Unwritable {fault:?}\""),
+        _ => write!(out, "{error:?}\""),
+    }
+}
+
+impl Tell for WriteFault {
+    fn tell(&self, out: &mut Out) -> io::Result<()> {
+        write!(out, "{{\"error\":\"Unwritable {self:?}\"}}")
+    }
+}
+
+impl Tell for RunError {
+    fn tell(&self, out: &mut Out) -> io::Result<()> {
+        let name = match self {
+            RunError::Memory => "Memory",
+            RunError::Read(_) => "Read",
+            RunError::Write(_) => "Write",
+        };
+        write!(out, "{{\"error\":\"{name}\"}}")
+    }
+}
+
+impl Tell for serde_json::Error {
+    fn tell(&self, out: &mut Out) -> io::Result<()> {
+        if self.is_memory() {
+            return out.write_all(b"{\"error\":\"Memory\"}");
+        }
+        write!(out, "{{\"error\":\"{self}\",\"column\":{}}}", self.column())
+    }
+}
+
+/// The form of this name.
+pub fn kind(name: &str) -> Result<UrlKind, Halt> {
+    match name {
+        "Url" => Ok(UrlKind::Url),
+        "Scp" => Ok(UrlKind::Scp),
+        "Local" => Ok(UrlKind::Local),
+        _ => Err(Halt::Unprepared),
+    }
+}
+
+/// The fault of a URL of this name.
+pub fn fault(name: &str) -> Result<UrlFault, Halt> {
+    match name {
+        "NoScheme" => Ok(UrlFault::NoScheme),
+        "BadPort" => Ok(UrlFault::BadPort),
+        "BadCharacter" => Ok(UrlFault::BadCharacter),
+        "HostRequired" => Ok(UrlFault::HostRequired),
+        _ => Err(Halt::Unprepared),
+    }
+}
+
+/// The fault of writing of this name.
+pub fn write_fault(name: &str) -> Result<WriteFault, Halt> {
+    match name {
+        "HelperName" => Ok(WriteFault::HelperName),
+        "HelperParts" => Ok(WriteFault::HelperParts),
+        "RelativeSsh" => Ok(WriteFault::RelativeSsh),
+        "UserWithoutHost" => Ok(WriteFault::UserWithoutHost),
+        _ => Err(Halt::Unprepared),
+    }
+}
+
+/// The error that a text is refused with, or the error of this name and these fields.
+pub fn error(alloc: Global, order: Order<'_>) -> Result<Error, Halt> {
+    match order.object("error") {
+        Some(told) => error_of(alloc, told),
+        None => match parse(alloc, BStr::new(order.bytes(alloc, "text")?.as_slice())) {
+            Err(error) => Ok(error),
+            Ok(url) => {
+                drop(url);
+                Err(Halt::Unprepared)
+            }
+        },
+    }
+}
+
+/// The error of this name and these fields.
+fn error_of(alloc: Global, told: Order<'_>) -> Result<Error, Halt> {
+    let kept = BString::new(told.bytes(alloc, "kept")?);
+    let (name, rest) = told
+        .needed("error")?
+        .split_once(' ')
+        .unwrap_or((told.needed("error")?, ""));
+    match name {
+        "MissingPath" => Ok(Error::MissingPath {
+            kind: kind(rest)?,
+            input: kept,
+        }),
+        "NotUtf8" => Ok(Error::NotUtf8 {
+            kind: kind(rest)?,
+            input: kept,
+        }),
+        "TooLong" => Ok(Error::TooLong {
+            shown: kept,
+            total: 2016,
+        }),
+        "HelperName" => Ok(Error::HelperName { name: kept }),
+        "BadUrl" => bad_url(rest, kept),
+        "NoHome" => no_home(alloc, told),
+        _ => bare_error(name, rest),
+    }
+}
+
+/// The error of a form with a fault.
+fn bad_url(names: &str, input: BString) -> Result<Error, Halt> {
+    let Some((fault_name, kind_name)) = names.split_once(' ') else {
+        return Err(Halt::Unprepared);
+    };
+    Ok(Error::BadUrl {
+        kind: kind(kind_name)?,
+        fault: fault(fault_name)?,
+        input,
+    })
+}
+
+/// The error that no home is known for a user.
+fn no_home(alloc: Global, told: Order<'_>) -> Result<Error, Halt> {
+    match crate::made::user(alloc, told, "user")? {
+        Some(user) => Ok(Error::NoHome(user)),
+        None => Err(Halt::Unprepared),
+    }
+}
+
+/// The error of this name that keeps no text.
+fn bare_error(name: &str, rest: &str) -> Result<Error, Halt> {
+    match name {
+        "Memory" => Ok(Error::Memory),
+        "EmptyLocal" => Ok(Error::EmptyLocal),
+        "Unwritable" => Ok(Error::Unwritable(write_fault(rest)?)),
+        "PathNotUtf8" => Ok(Error::PathNotUtf8),
+        "Unresolved" => Ok(Error::Unresolved),
+        _ => Err(Halt::Unprepared),
+    }
+}
+
+/// The error of a stream with the kind and the words that an order tells.
+fn stream_error(order: Order<'_>) -> io::Error {
+    let kind = match order.text("kind") {
+        Some("BrokenPipe") => ErrorKind::BrokenPipe,
+        Some("StorageFull") => ErrorKind::StorageFull,
+        _ => ErrorKind::Other,
+    };
+    match order.text("cause") {
+        Some("nobody reads") => io::Error::new(kind, "nobody reads"),
+        Some("no room is left") => io::Error::new(kind, "no room is left"),
+        _ => io::Error::from(kind),
+    }
+}
+
+/// The error of a run that an order tells.
+pub fn run_error(order: Order<'_>) -> Result<RunError, Halt> {
+    match order.needed("error")? {
+        "Memory" => Ok(RunError::Memory),
+        "Read" => Ok(RunError::Read(stream_error(order))),
+        "Write" => Ok(RunError::Write(stream_error(order))),
+        _ => Err(Halt::Unprepared),
+    }
+}
+
+/// The error of writing that an order tells: a fault, or that of a stream.
+pub fn write_error(order: Order<'_>) -> Result<WriteError, Halt> {
+    match order.text("fault") {
+        Some(name) => Ok(WriteError::Fault(write_fault(name)?)),
+        None => Ok(WriteError::Io(stream_error(order))),
+    }
+}
+
+/// The outcome of a run that an order tells.
+pub fn outcome(order: Order<'_>) -> Result<Result<bool, RunError>, Halt> {
+    if order.has("error") {
+        return Ok(Err(run_error(order)?));
+    }
+    Ok(Ok(order.is("settled")))
+}

@@ -1,0 +1,54 @@
+//! Makes calls of the library and tells how each ended: what `scripts/vectors` asks for the rows of `vectors/`.
+//!
+//! Each line of the standard input is an order, one call as JSON, and is answered by one line of JSON. `order` reads
+//! orders, `made` makes what calls are over, `calls` is the table of calls, `tell` and `parts` tell outcomes.
+//!
+//! All memory but the call's own is taken before the call is made, and an order can end there: so `scripts/hostile` can
+//! count the requests of a call, and refuse each of them.
+#![tactic(auto)]
+
+mod bytes;
+mod calls;
+mod errors;
+mod halt;
+mod made;
+mod order;
+mod parts;
+mod shown;
+mod tell;
+
+use halt::Halt;
+use order::Order;
+use serde_json::Value;
+use std::alloc::Global;
+use std::io::{self, BufRead, BufReader, BufWriter, Write};
+use tell::Out;
+
+/// Carries out the order of a line.
+fn carry_out(alloc: Global, line: &[u8], out: &mut Out) -> Result<(), Halt> {
+    let Ok(members) = Value::from_slice(alloc, line) else {
+        return Err(Halt::Unread);
+    };
+    let outcome = calls::make(alloc, &Order::new(&members), out);
+    drop(members);
+    outcome
+}
+
+/// Answers the order of a line.
+fn answer(alloc: Global, line: &[u8], out: &mut Out) -> io::Result<()> {
+    match carry_out(alloc, line, out) {
+        Ok(()) => {}
+        Err(Halt::NotTold(error)) => return Err(error),
+        Err(halt) => write!(out, "{{\"halt\":\"{}\"}}", halt.words())?,
+    }
+    out.write_all(b"\n")
+}
+
+fn main(rt: HostRuntime) -> io::Result<()> {
+    let alloc = rt.alloc();
+    let mut out = BufWriter::new(alloc, rt.stdout())?;
+    for line in BufReader::new(alloc, rt.reader())?.split(alloc, b'\n') {
+        answer(alloc, line?.as_slice(), &mut out)?;
+    }
+    out.flush()
+}

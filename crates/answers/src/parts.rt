@@ -1,0 +1,174 @@
+//! Outcomes of the library's own types as JSON: locations and records by their parts, schemes, users, what a path is made
+//! of, and what a part is to a command.
+
+use crate::halt::Halt;
+use crate::tell::{Out, Tell, tell_member, tell_name};
+use bstr::BStr;
+use gix_url::expand_path::ForUser;
+use gix_url::stored::StoredUrl;
+use gix_url::{ArgumentSafety, PathComponents, QueryText, Scheme, Url};
+use std::io::{self, Write};
+
+impl Tell for Scheme {
+    fn tell(&self, out: &mut Out) -> io::Result<()> {
+        match self {
+            Scheme::File => out.write_all(b"\"File\""),
+            Scheme::Git => out.write_all(b"\"Git\""),
+            Scheme::Ssh => out.write_all(b"\"Ssh\""),
+            Scheme::Http => out.write_all(b"\"Http\""),
+            Scheme::Https => out.write_all(b"\"Https\""),
+            Scheme::Ext => out.write_all(b"\"Ext\""),
+            Scheme::Helper(name) => tell_named(out, "Helper ", name.as_bytes()),
+            Scheme::HelperUrl(name) => tell_named(out, "HelperUrl ", name.as_bytes()),
+        }
+    }
+}
+
+/// Tells a name behind a word, as one text.
+fn tell_named(out: &mut Out, word: &str, name: &[u8]) -> io::Result<()> {
+    write!(out, "\"{word}")?;
+    crate::bytes::write_inside(out, name)?;
+    out.write_all(b"\"")
+}
+
+/// Tells the parts of a location or a record, but its path and its spelling: the texts are user, password and host.
+fn tell_front(
+    out: &mut Out,
+    scheme: &Scheme,
+    texts: [Option<&str>; 3],
+    port: Option<u16>,
+    alternative: bool,
+) -> io::Result<()> {
+    let [user, password, host] = texts;
+    tell_name(out, "{", "scheme")?;
+    scheme.tell(out)?;
+    tell_member(out, "user", &user)?;
+    tell_member(out, "password", &password)?;
+    tell_member(out, "host", &host)?;
+    tell_member(out, "port", &port)?;
+    tell_member(out, "alternative", &alternative.then_some(true))
+}
+
+/// Tells a path, and its spelling if it has one, and ends the parts.
+fn tell_path(out: &mut Out, path: &[u8], spelling: Option<&[u8]>) -> io::Result<()> {
+    tell_member(out, "path", &Some(BStr::new(path)))?;
+    if let Some(spelling) = spelling {
+        tell_member(out, "spelling", &Some(BStr::new(spelling)))?;
+    }
+    out.write_all(b"}")
+}
+
+impl Tell for Url {
+    fn tell(&self, out: &mut Out) -> io::Result<()> {
+        let texts = [&self.user, &self.password, &self.host].map(Option::as_deref);
+        tell_front(
+            out,
+            &self.scheme,
+            texts,
+            self.port,
+            self.serialize_alternative_form,
+        )?;
+        let (path, spelling) = (self.path.as_bytes(), self.original_path().as_bytes());
+        tell_path(
+            out,
+            path,
+            if spelling == path {
+                None
+            } else {
+                Some(spelling)
+            },
+        )
+    }
+}
+
+impl Tell for StoredUrl {
+    fn tell(&self, out: &mut Out) -> io::Result<()> {
+        let texts = [&self.user, &self.password, &self.host].map(Option::as_deref);
+        tell_front(
+            out,
+            &self.scheme,
+            texts,
+            self.port,
+            self.serialize_alternative_form,
+        )?;
+        tell_path(
+            out,
+            self.path.as_slice(),
+            self.path_with_percent_escapes.as_deref(),
+        )
+    }
+}
+
+impl Tell for ForUser {
+    fn tell(&self, out: &mut Out) -> io::Result<()> {
+        match self {
+            ForUser::Current => out.write_all(b"\"~\""),
+            ForUser::Name(name) => tell_named(out, "~", name.as_bytes()),
+        }
+    }
+}
+
+impl Tell for ArgumentSafety<'_> {
+    fn tell(&self, out: &mut Out) -> io::Result<()> {
+        match self {
+            ArgumentSafety::Absent => out.write_all(b"null"),
+            ArgumentSafety::Usable(text) => tell_judged(out, "usable", text),
+            ArgumentSafety::Dangerous(text) => tell_judged(out, "dangerous", text),
+        }
+    }
+}
+
+/// Tells what a text is to a command.
+fn tell_judged(out: &mut Out, word: &str, text: &str) -> io::Result<()> {
+    tell_name(out, "{", word)?;
+    text.tell(out)?;
+    out.write_all(b"}")
+}
+
+impl Tell for QueryText<'_> {
+    fn tell(&self, out: &mut Out) -> io::Result<()> {
+        match self {
+            QueryText::Borrowed(_) => self.as_bstr().tell(out),
+            QueryText::Owned(_) => {
+                tell_name(out, "{", "owned")?;
+                self.as_bstr().tell(out)?;
+                out.write_all(b"}")
+            }
+        }
+    }
+}
+
+impl Tell for PathComponents<'_> {
+    fn tell(&self, out: &mut Out) -> io::Result<()> {
+        tell_name(out, "{", "path")?;
+        self.path.tell(out)?;
+        if let Some(fields) = &self.query {
+            tell_fields(out, fields.as_slice())?;
+        }
+        tell_member(out, "fragment", &self.fragment)?;
+        out.write_all(b"}")
+    }
+}
+
+/// Tells the names and the values of a query.
+fn tell_fields(out: &mut Out, fields: &[(QueryText<'_>, QueryText<'_>)]) -> io::Result<()> {
+    tell_name(out, ",", "query")?;
+    let mut before = "[";
+    for (name, value) in fields {
+        write!(out, "{before}")?;
+        crate::tell::tell_pair(out, name, value)?;
+        before = ",";
+    }
+    out.write_all(if fields.is_empty() { b"[]" } else { b"]" })
+}
+
+/// The first name of a query.
+pub fn first_name<'a, 'b>(parts: &'b PathComponents<'a>) -> Result<&'b QueryText<'a>, Halt> {
+    match &parts.query {
+        Some(fields) => match fields.first() {
+            Some((name, _)) => Ok(name),
+            None => Err(Halt::Unprepared),
+        },
+        None => Err(Halt::Unprepared),
+    }
+}

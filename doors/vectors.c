@@ -1,0 +1,327 @@
+/* Carries out the orders of the standard input, a line each, by the calls of gix_url.h, and tells how each call ended,
+ * in a line of JSON, as the program `answers` does. scripts/bindings.py writes orders and says how they are written. */
+#define _GNU_SOURCE
+#include "told.h"
+
+#include <string.h>
+#include <sys/types.h>
+
+/* An order: members, each a name and a value. */
+enum { MOST = 16 };
+typedef struct order {
+    const char *names[MOST];
+    gix_url_text values[MOST];
+    size_t count;
+} order;
+
+static const gix_url_text none = {NULL, 0};
+
+static int digit(char c) { return c <= '9' ? c - '0' : c - 'a' + 10; }
+
+/* Takes the escapes out of a value, in its place: `\x` with two digits is a byte. */
+static gix_url_text unescaped(char *value) {
+    size_t len = 0;
+    for (const char *from = value; *from; len++) {
+        bool is_escape = *from == '\\';
+        value[len] = is_escape ? (char)(16 * digit(from[2]) + digit(from[3])) : *from;
+        from += is_escape ? 4 : 1;
+    }
+    return (gix_url_text){value, len};
+}
+
+/* The order of a line, in its place. */
+static order order_of(char *line) {
+    order order = {.count = 0};
+    for (char *member; (member = strsep(&line, "\t"));) {
+        char *value = strchr(member, '=');
+        HOLDS(value && order.count < MOST);
+        *value = '\0';
+        order.names[order.count] = member;
+        order.values[order.count++] = unescaped(value + 1);
+    }
+    return order;
+}
+
+/* The value of a member; none where there is no such member. */
+static gix_url_text value(const order *order, const char *name) {
+    for (size_t i = 0; i < order->count; i++)
+        if (strcmp(order->names[i], name) == 0) return order->values[i];
+    return none;
+}
+
+static bool is_word(gix_url_text text, const char *word) {
+    return text.at && text.len == strlen(word) && memcmp(text.at, word, text.len) == 0;
+}
+
+static const char *const schemes[] = {"File", "Git", "Ssh", "Http", "Https", "Ext", "Helper", "HelperUrl"};
+
+/* Stores the scheme that is told, with the name behind a space. */
+static void set_scheme(gix_url *url, gix_url_text told) {
+    HOLDS(told.at);
+    const char *space = memchr(told.at, ' ', told.len);
+    size_t len = space ? (size_t)(space - told.at) : told.len;
+    if (space) url->name = (gix_url_text){space + 1, told.len - len - 1};
+    for (int i = 0; i < 8; i++)
+        if (is_word((gix_url_text){told.at, len}, schemes[i])) url->scheme = (gix_url_scheme)i;
+}
+
+/* The part of a location: the member `url.host` for the location `url` and the part `host`. */
+static gix_url_text part(const order *order, const char *whole, const char *name) {
+    char both[32];
+    snprintf(both, sizeof both, "%s.%s", whole, name);
+    return value(order, both);
+}
+
+/* The location of these parts, as they are. */
+static gix_url location(const order *order, const char *whole) {
+    gix_url url;
+    memset(&url, 0, sizeof url);
+    set_scheme(&url, part(order, whole, "scheme"));
+    url.user = part(order, whole, "user");
+    url.password = part(order, whole, "password");
+    url.host = part(order, whole, "host");
+    url.alternative = is_word(part(order, whole, "alternative"), "true");
+    gix_url_text port = part(order, whole, "port");
+    url.has_port = port.at != NULL;
+    url.port = url.has_port ? (uint16_t)atoi(port.at) : 0;
+    url.path = part(order, whole, "path");
+    if (!url.path.at) url.path = (gix_url_text){"", 0};
+    url.spelling = part(order, whole, "spelling");
+    return url;
+}
+
+/* Bytes as the inside of a text of JSON: U+EF00 with the byte added for a byte past ASCII. */
+static void put_inside(line *out, gix_url_text text) {
+    for (size_t i = 0; i < text.len; i++) {
+        unsigned char byte = (unsigned char)text.at[i];
+        char escape[8];
+        bool is_plain = byte >= 32 && byte < 127 && byte != '"' && byte != '\\';
+        if (!is_plain) snprintf(escape, sizeof escape, "\\u%s%02x", byte < 128 ? "00" : "ef", byte);
+        if (is_plain) put(out, text.at + i, 1);
+        else put_word(out, escape);
+    }
+}
+
+static void put_quoted(line *out, gix_url_text text) {
+    if (!text.at) {
+        put_word(out, "null");
+        return;
+    }
+    put_word(out, "\"");
+    put_inside(out, text);
+    put_word(out, "\"");
+}
+
+/* A further member of an object, if there is a text for it. */
+static void put_member(line *out, const char *name, gix_url_text text) {
+    if (!text.at) return;
+    put_word(out, ",\""), put_word(out, name), put_word(out, "\":");
+    put_quoted(out, text);
+}
+
+static void put_truth(line *out, bool is) { put_word(out, is ? "true" : "false"); }
+
+static gix_url_seen seen_of(const gix_url *url) {
+    gix_url_seen seen;
+    HOLDS(gix_url_look(url, &seen) == GIX_URL_OK);
+    return seen;
+}
+
+static void tell_url(line *out, const gix_url *url) {
+    gix_url_text spelling = seen_of(url).original_path;
+    put_word(out, "{\"scheme\":\""), put_word(out, schemes[url->scheme]);
+    if (url->name.at) put_word(out, " "), put_inside(out, url->name);
+    put_word(out, "\"");
+    put_member(out, "user", url->user);
+    put_member(out, "password", url->password);
+    put_member(out, "host", url->host);
+    if (url->has_port) put_word(out, ",\"port\":"), put_number(out, url->port);
+    if (url->alternative) put_word(out, ",\"alternative\":true");
+    put_member(out, "path", url->path);
+    if (!is_same(spelling, url->path)) put_member(out, "spelling", spelling);
+    put_word(out, "}");
+}
+
+/* Tells an error by its names. Of a text that is too long the front is told that is fit to be shown. */
+static void tell_error(line *out, gix_url_error error, const gix_url_problem *problem, gix_url_text refused) {
+    put_word(out, "{\"error\":\""), put_word(out, gix_url_error_name(error));
+    if (problem->fault) put_word(out, " "), put_word(out, gix_url_fault_name(problem->fault));
+    if (problem->write_fault) put_word(out, " "), put_word(out, gix_url_write_fault_name(problem->write_fault));
+    if (problem->kind) put_word(out, " "), put_word(out, gix_url_kind_name(problem->kind));
+    put_word(out, "\"");
+    if (error == GIX_URL_TOO_LONG) {
+        HOLDS(problem->shown <= refused.len);
+        put_member(out, "kept", (gix_url_text){refused.at, problem->shown});
+        put_word(out, ",\"total\":"), put_number(out, problem->total);
+    }
+    put_word(out, "}");
+}
+
+static void parse(line *out, gix_url_text input) {
+    gix_url url;
+    gix_url_error error;
+    gix_url_problem problem;
+    char *room = read_input(input, &url, &error, &problem);
+    if (error == GIX_URL_OK) tell_url(out, &url);
+    else tell_error(out, error, &problem, input);
+    free(room);
+}
+
+/* The text that these parts are written as; none where there is no such text. It is to be freed. */
+static gix_url_text written(const gix_url *url, gix_url_error *error, gix_url_problem *problem) {
+    gix_url_text text = none;
+    text.at = text_of_location(gix_url_write, url, &text.len, error, problem);
+    return text;
+}
+
+static void from_parts(line *out, const order *order) {
+    gix_url url, parts = location(order, "record");
+    gix_url_error error;
+    gix_url_problem problem;
+    gix_url_text text = written(&parts, &error, &problem);
+    char *room = make_parts(&parts, &url, &error, &problem);
+    if (error == GIX_URL_OK) tell_url(out, &url);
+    else tell_error(out, error, &problem, text);
+    free(room);
+    free((char *)text.at);
+}
+
+static void to_bstring(line *out, const gix_url *url) {
+    gix_url_error error;
+    gix_url_problem problem;
+    gix_url_text text = written(url, &error, &problem);
+    if (text.at) put_quoted(out, text);
+    else tell_error(out, error, &problem, none);
+    free((char *)text.at);
+}
+
+static void text_len(line *out, const gix_url *url) {
+    size_t len;
+    gix_url_problem problem;
+    gix_url_error error = gix_url_write(url, NULL, 0, &len, &problem);
+    if (error == GIX_URL_OK || error == GIX_URL_NO_ROOM) put_number(out, len);
+    else tell_error(out, error, &problem, none);
+}
+
+static void fmt(line *out, const gix_url *url) {
+    size_t len;
+    gix_url_error error;
+    gix_url_problem problem;
+    char *room = text_of_location(gix_url_display, url, &len, &error, &problem);
+    put_word(out, "{\"shown\":\"");
+    if (room) put_inside(out, (gix_url_text){room, len});
+    put_word(out, room ? "\"}" : "\",\"failed\":true}");
+    free(room);
+}
+
+static void path_query_fragment(line *out, const gix_url *url) {
+    gix_url_components parts;
+    gix_url_pair *pairs = components_of(url, &parts);
+    put_word(out, "{\"path\":"), put_quoted(out, parts.path);
+    if (parts.query.at) put_word(out, ",\"query\":[");
+    const char *at = parts.query.at;
+    for (size_t i = 0; i < parts.pair_count; i++) {
+        put_word(out, i ? ",[" : "["), put_quoted(out, (gix_url_text){at, pairs[i].name_len}), at += pairs[i].name_len;
+        put_word(out, ","), put_quoted(out, (gix_url_text){at, pairs[i].value_len}), at += pairs[i].value_len;
+        put_word(out, "]");
+    }
+    if (parts.query.at) put_word(out, "]");
+    put_member(out, "fragment", parts.fragment);
+    put_word(out, "}");
+    free(pairs);
+}
+
+/* What a part is to a command line. */
+static void tell_judged(line *out, gix_url_argument judged, gix_url_text text) {
+    static const char *const fronts[] = {"null", "{\"usable\":", "{\"dangerous\":"};
+    put_word(out, fronts[judged]);
+    if (judged == GIX_URL_ABSENT) return;
+    put_quoted(out, text);
+    put_word(out, "}");
+}
+
+/* Tells a part of a location, or what is seen of it, if the call is one of those. */
+static bool tell_part(line *out, gix_url_text call, const gix_url *url) {
+    gix_url_seen seen = seen_of(url);
+    if (is_word(call, "Url::user")) put_quoted(out, url->user);
+    else if (is_word(call, "Url::password")) put_quoted(out, url->password);
+    else if (is_word(call, "Url::host")) put_quoted(out, url->host);
+    else if (is_word(call, "Url::original_path")) put_quoted(out, seen.original_path);
+    else if (is_word(call, "Url::path_is_root")) put_truth(out, seen.path_is_root);
+    else if (is_word(call, "Url::port_or_default") && seen.has_port) put_number(out, seen.port);
+    else if (is_word(call, "Url::port_or_default")) put_quoted(out, none);
+    else if (is_word(call, "Url::user_as_argument")) tell_judged(out, seen.user, url->user);
+    else if (is_word(call, "Url::host_as_argument")) tell_judged(out, seen.host, url->host);
+    else if (is_word(call, "Url::user_argument_safe")) put_quoted(out, seen.user == GIX_URL_USABLE ? url->user : none);
+    else if (is_word(call, "Url::host_argument_safe")) put_quoted(out, seen.host == GIX_URL_USABLE ? url->host : none);
+    else if (is_word(call, "Url::path_argument_safe")) put_quoted(out, seen.path_is_usable ? url->path : none);
+    else return false;
+    return true;
+}
+
+/* Tells what a call over a location answers; what isn't settled is not for Git. */
+static void tell_call(line *out, gix_url_text call, const gix_url *url) {
+    bool settled, agrees;
+    HOLDS(gix_url_is_settled(url, &settled) == GIX_URL_OK);
+    HOLDS(gix_url_agrees_with_git(url, &agrees) == GIX_URL_OK);
+    HOLDS(settled || !agrees);
+    if (is_word(call, "Url::is_settled")) put_truth(out, settled);
+    else if (is_word(call, "Url::agrees_with_git")) put_truth(out, agrees);
+    else if (is_word(call, "Url::to_bstring")) to_bstring(out, url);
+    else if (is_word(call, "Url::text_len")) text_len(out, url);
+    else if (is_word(call, "Url:fmt")) fmt(out, url);
+    else if (is_word(call, "Url::path_query_fragment")) path_query_fragment(out, url);
+    else if (!tell_part(out, call, url)) put_word(out, "{\"halt\":\"no such call\"}");
+}
+
+/* Makes a call over what a text is read as, or over parts as they are. */
+static void over_url(line *out, gix_url_text call, const order *order) {
+    gix_url url;
+    gix_url_error error = GIX_URL_OK;
+    gix_url_problem problem;
+    gix_url_text text = value(order, "url");
+    char *room = NULL;
+    if (text.at) room = read_input(text, &url, &error, &problem);
+    else url = location(order, "url");
+    if (error == GIX_URL_OK) tell_call(out, call, &url);
+    else put_word(out, "{\"halt\":\"not prepared\"}");
+    free(room);
+}
+
+static void scheme_text(line *out, gix_url_text told) {
+    gix_url url;
+    memset(&url, 0, sizeof url);
+    set_scheme(&url, told);
+    put_quoted(out, gix_url_scheme_text(&url));
+}
+
+static void carry_out(line *out, const order *order) {
+    gix_url_text call = value(order, "call");
+    if (is_word(call, "parse::parse")) parse(out, value(order, "text"));
+    else if (is_word(call, "Url::from_parts")) from_parts(out, order);
+    else if (is_word(call, "Scheme::as_str")) scheme_text(out, value(order, "scheme"));
+    else over_url(out, call, order);
+}
+
+/* Answers a line, which is shown where something doesn't hold. */
+static void answer(const char *input, size_t len) {
+    line out = {0};
+    char *copy = strndup(input, len);
+    HOLDS(copy);
+    about((gix_url_text){input, len});
+    order order = order_of(copy);
+    carry_out(&out, &order);
+    put_word(&out, "\n");
+    fwrite(out.at, 1, out.len, stdout);
+    free(out.at);
+    free(copy);
+}
+
+int main(void) {
+    char *input = NULL;
+    size_t room = 0;
+    ssize_t len;
+    while ((len = getline(&input, &room, stdin)) > 0) answer(input, strcspn(input, "\n"));
+    free(input);
+    return 0;
+}

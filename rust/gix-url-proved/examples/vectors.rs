@@ -1,0 +1,347 @@
+//! Carries out the orders of the standard input, a line each, by the calls of the crate, and tells how each call ended,
+//! in a line of JSON, as the program `answers` does. `scripts/bindings.py` writes orders and says how they are written.
+
+use gix_url_proved::parse::{parse, Error, UrlFault, UrlKind, WriteFault};
+use gix_url_proved::{ArgumentSafety, PathComponents, Scheme, Url};
+use std::collections::BTreeMap;
+use std::fmt::{Debug, Display, Write};
+use std::hash::{DefaultHasher, Hash, Hasher};
+use std::io::Read;
+
+/// The members of an order, by their names.
+struct Order(BTreeMap<String, Vec<u8>>);
+
+/// The text of these bytes, which orders have only UTF-8 for.
+fn utf8(bytes: &[u8]) -> String {
+    String::from_utf8(bytes.to_vec()).expect("the text of an order is UTF-8")
+}
+
+/// A value without its escapes: `\x` with two digits is a byte.
+fn unescaped(mut value: &[u8]) -> Vec<u8> {
+    let mut bytes = Vec::new();
+    while let [first, rest @ ..] = value {
+        if *first == b'\\' {
+            bytes.push(u8::from_str_radix(&utf8(&rest[1..3]), 16).expect("two digits"));
+            value = &rest[3..];
+        } else {
+            bytes.push(*first);
+            value = rest;
+        }
+    }
+    bytes
+}
+
+impl Order {
+    /// The order of a line.
+    fn of(line: &[u8]) -> Order {
+        let member = |member: &[u8]| {
+            let at = member.iter().position(|byte| *byte == b'=').expect("a member has a value");
+            (utf8(&member[..at]), unescaped(&member[at + 1..]))
+        };
+        Order(line.split(|byte| *byte == b'\t').map(member).collect())
+    }
+
+    /// The bytes of a member; none where it isn't there.
+    fn bytes(&self, name: &str) -> &[u8] {
+        self.0.get(name).map_or(&[], Vec::as_slice)
+    }
+
+    /// The text of a member, if it is there.
+    fn text(&self, name: &str) -> Option<String> {
+        self.0.get(name).map(|value| utf8(value))
+    }
+
+    /// The location of a member: what its text is read as, or the parts as they are.
+    fn url(&self, name: &str) -> Option<Url> {
+        self.0.get(name).map_or_else(|| self.parts(name), |text| parse(text).ok())
+    }
+
+    /// The location of these parts, as they are.
+    fn parts(&self, name: &str) -> Option<Url> {
+        let part = |part: &str| format!("{name}.{part}");
+        let mut url = Url::default();
+        url.scheme = scheme(&self.text(&part("scheme"))?);
+        url.user = self.text(&part("user"));
+        url.password = self.text(&part("password"));
+        url.host = self.text(&part("host"));
+        url.port = self.text(&part("port")).map(|port| port.parse().expect("a port"));
+        url.serialize_alternative_form = self.bytes(&part("alternative")) == b"true";
+        url.path = self.bytes(&part("path")).to_vec();
+        Some(url)
+    }
+
+    /// The error that a text is refused with, or the error of these names, which keeps these bytes.
+    fn error(&self) -> Option<Error> {
+        let Some(names) = self.text("error.error") else { return parse(self.bytes("text")).err() };
+        let kept = self.bytes("error.kept").to_vec();
+        Some(match names.split(' ').collect::<Vec<&str>>().as_slice() {
+            ["Memory"] => Error::Memory,
+            ["EmptyLocal"] => Error::EmptyLocal,
+            ["MissingPath", name] => Error::MissingPath { kind: kind(name)?, input: kept },
+            ["NotUtf8", name] => Error::NotUtf8 { kind: kind(name)?, input: kept },
+            ["TooLong"] => Error::TooLong { shown: kept, total: 2016 },
+            ["BadUrl", fault, name] => Error::BadUrl { kind: kind(name)?, fault: url_fault(fault)?, input: kept },
+            ["HelperName"] => Error::HelperName { name: kept },
+            ["Unwritable", fault] => Error::Unwritable(write_fault(fault)?),
+            _ => return None,
+        })
+    }
+}
+
+/// The scheme that a text tells, with its name behind a space.
+fn scheme(told: &str) -> Scheme {
+    match told.split_once(' ') {
+        Some(("Helper", name)) => Scheme::Helper(name.to_owned()),
+        Some((_, name)) => Scheme::HelperUrl(name.to_owned()),
+        None => Scheme::from(told.to_lowercase().as_str()),
+    }
+}
+
+/// The one of these values that has this name.
+fn named<T: Debug>(values: impl IntoIterator<Item = T>, name: &str) -> Option<T> {
+    values.into_iter().find(|value| format!("{value:?}") == name)
+}
+
+fn kind(name: &str) -> Option<UrlKind> {
+    named([UrlKind::Url, UrlKind::Scp, UrlKind::Local], name)
+}
+
+fn url_fault(name: &str) -> Option<UrlFault> {
+    named([UrlFault::NoScheme, UrlFault::BadPort, UrlFault::BadCharacter, UrlFault::HostRequired], name)
+}
+
+fn write_fault(name: &str) -> Option<WriteFault> {
+    use WriteFault::{HelperName, HelperParts, RelativeSsh, UserWithoutHost};
+    named([HelperName, HelperParts, RelativeSsh, UserWithoutHost], name)
+}
+
+/// Bytes as a text of JSON: U+EF00 with the byte added for a byte past ASCII.
+fn quoted(bytes: impl AsRef<[u8]>) -> String {
+    let character = |byte: &u8| match byte {
+        0..=31 | b'"' | b'\\' | 127 => format!("\\u{byte:04x}"),
+        128.. => format!("\\uef{byte:02x}"),
+        _ => char::from(*byte).to_string(),
+    };
+    format!("\"{}\"", bytes.as_ref().iter().map(character).collect::<String>())
+}
+
+/// What is told of a value that may be missing.
+fn or_null(told: Option<String>) -> String {
+    told.unwrap_or("null".to_owned())
+}
+
+/// An object of the members that have a value.
+fn object<const COUNT: usize>(members: [(&str, Option<String>); COUNT]) -> String {
+    let member = |(name, value): (&str, Option<String>)| Some(format!("\"{name}\":{}", value?));
+    format!("{{{}}}", members.into_iter().filter_map(member).collect::<Vec<_>>().join(","))
+}
+
+fn told_scheme(scheme: &Scheme) -> String {
+    quoted(match scheme {
+        Scheme::Helper(name) => format!("Helper {name}"),
+        Scheme::HelperUrl(name) => format!("HelperUrl {name}"),
+        named => format!("{named:?}"),
+    })
+}
+
+fn told_url(url: &Url) -> String {
+    object([
+        ("scheme", Some(told_scheme(&url.scheme))),
+        ("user", url.user.as_ref().map(quoted)),
+        ("password", url.password.as_ref().map(quoted)),
+        ("host", url.host.as_ref().map(quoted)),
+        ("port", url.port.map(|port| port.to_string())),
+        ("alternative", url.serialize_alternative_form.then(|| "true".to_owned())),
+        ("path", Some(quoted(&url.path))),
+        ("spelling", Some(url.original_path()).filter(|spelling| *spelling != url.path).map(quoted)),
+    ])
+}
+
+fn told_error(error: &Error) -> String {
+    let (name, kept, total) = match error {
+        Error::Memory | Error::EmptyLocal => (format!("{error:?}"), None, None),
+        Error::MissingPath { kind, input } => (format!("MissingPath {kind:?}"), Some(input), None),
+        Error::NotUtf8 { kind, input } => (format!("NotUtf8 {kind:?}"), Some(input), None),
+        Error::TooLong { shown, total } => ("TooLong".to_owned(), Some(shown), Some(total)),
+        Error::BadUrl { kind, fault, input } => (format!("BadUrl {fault:?} {kind:?}"), Some(input), None),
+        Error::HelperName { name } => ("HelperName".to_owned(), Some(name), None),
+        Error::Unwritable(fault) => (format!("Unwritable {fault:?}"), None, None),
+    };
+    object([("error", Some(quoted(name))), ("kept", kept.map(quoted)), ("total", total.map(usize::to_string))])
+}
+
+fn told_answer(answer: Result<Url, Error>) -> String {
+    answer.map_or_else(|error| told_error(&error), |url| told_url(&url))
+}
+
+fn told_judged(judged: ArgumentSafety<'_>) -> String {
+    match judged {
+        ArgumentSafety::Absent => or_null(None),
+        ArgumentSafety::Usable(text) => object([("usable", Some(quoted(text)))]),
+        ArgumentSafety::Dangerous(text) => object([("dangerous", Some(quoted(text)))]),
+    }
+}
+
+fn told_components(parts: &PathComponents<'_>) -> String {
+    let query = parts.query.as_ref().map(|pairs| {
+        let pairs: Vec<String> =
+            pairs.iter().map(|(name, value)| format!("[{},{}]", quoted(name), quoted(value))).collect();
+        format!("[{}]", pairs.join(","))
+    });
+    object([("path", Some(quoted(&parts.path))), ("query", query), ("fragment", parts.fragment.as_ref().map(quoted))])
+}
+
+/// What is written of a location, and why nothing is.
+fn write(url: &Url) -> (Vec<u8>, Option<Error>) {
+    let mut written = Vec::new();
+    let error = url.write_to(&mut written).err();
+    (written, error.map(|error| *error.into_inner().expect("no text").downcast().expect("an error of the crate")))
+}
+
+fn told_written(url: &Url) -> String {
+    let (written, error) = write(url);
+    object([("written", Some(quoted(written))), ("fault", error.as_ref().map(told_error))])
+}
+
+/// The text of a location, which each call that writes it tells alike.
+fn told_text(url: &Url) -> String {
+    match url.text() {
+        Ok(text) => {
+            assert_eq!((url.to_bstring(), write(url)), (text.clone(), (text.clone(), None)));
+            quoted(text)
+        }
+        Err(error) => {
+            assert_eq!(write(url), (Vec::new(), Some(error.clone())));
+            told_error(&error)
+        }
+    }
+}
+
+/// What is shown of a value in a style, and whether that failed.
+fn told_shown(value: &impl Display, style: &str) -> String {
+    let mut text = String::new();
+    let outcome = match style {
+        "{:#}" => write!(text, "{value:#}"),
+        "{:>40}" => write!(text, "{value:>40}"),
+        "{:.3}" => write!(text, "{value:.3}"),
+        "{:+}" => write!(text, "{value:+}"),
+        "{:*^#60.7}" => write!(text, "{value:*^#60.7}"),
+        _ => write!(text, "{value}"),
+    };
+    object([("shown", Some(quoted(text))), ("failed", outcome.is_err().then(|| "true".to_owned()))])
+}
+
+/// The order and the partial order of two values, whether they are equal, and whether they have one hash.
+fn told_order<T: Ord + Hash>(one: &T, other: &T) -> String {
+    let hash = |value: &T| {
+        let mut hasher = DefaultHasher::new();
+        value.hash(&mut hasher);
+        hasher.finish()
+    };
+    let partly = or_null(one.partial_cmp(other).map(|order| quoted(format!("{order:?}"))));
+    let wholly = quoted(format!("{:?}", one.cmp(other)));
+    format!("[[{wholly},{partly}],[{},{}]]", one == other, hash(one) == hash(other))
+}
+
+/// Calls that change a location or take it: what the call answers, and what has become of the location.
+fn change(order: &Order, call: &str, mut url: Url) -> Option<String> {
+    let old = match call {
+        "Url::set_user" => url.set_user(order.text("user")),
+        "Url::set_password" => url.set_password(order.text("password")),
+        "Url::with_request_alternate_form" => {
+            return Some(told_url(&url.with_request_alternate_form(order.bytes("alternative") == b"true")))
+        }
+        _ => return None,
+    };
+    Some(format!("[{},{}]", or_null(old.map(quoted)), told_url(&url)))
+}
+
+/// Calls that look at a location, at its path, or at another one beside it.
+fn look(order: &Order, call: &str, url: &Url) -> Option<String> {
+    Some(match call {
+        "Url::clone" => told_url(&url.clone()),
+        "Url::to_bstring" => told_text(url),
+        "Url::write_to" => told_written(url),
+        "Url:fmt" => told_shown(url, &order.text("style").unwrap_or_default()),
+        "Url::is_settled" => url.is_settled().to_string(),
+        "Url::agrees_with_git" => url.agrees_with_git().to_string(),
+        "Url::path_query_fragment" => told_components(&url.path_query_fragment()),
+        "PathComponents::clone" => told_components(&url.path_query_fragment().clone()),
+        "PathComponents:Eq" => (url.path_query_fragment() == order.url("other")?.path_query_fragment()).to_string(),
+        "Url:Ord" => told_order(url, &order.url("other")?),
+        _ => return look_at_part(call, url),
+    })
+}
+
+/// Calls that look at a part of a location.
+fn look_at_part(call: &str, url: &Url) -> Option<String> {
+    Some(match call {
+        "Url::user" => or_null(url.user().map(quoted)),
+        "Url::password" => or_null(url.password().map(quoted)),
+        "Url::host" => or_null(url.host().map(quoted)),
+        "Url::port_or_default" => or_null(url.port_or_default().map(|port| port.to_string())),
+        "Url::path_is_root" => url.path_is_root().to_string(),
+        "Url::original_path" => quoted(url.original_path()),
+        "Url::user_as_argument" => told_judged(url.user_as_argument()),
+        "Url::host_as_argument" => told_judged(url.host_as_argument()),
+        "Url::user_argument_safe" => or_null(url.user_argument_safe().map(quoted)),
+        "Url::host_argument_safe" => or_null(url.host_argument_safe().map(quoted)),
+        "Url::path_argument_safe" => or_null(url.path_argument_safe().map(quoted)),
+        _ => return None,
+    })
+}
+
+/// Calls over a scheme.
+fn over_scheme(order: &Order, call: &str, scheme: &Scheme) -> Option<String> {
+    Some(match call {
+        "Scheme::clone" => told_scheme(&scheme.clone()),
+        "Scheme::as_str" => quoted(scheme.as_str()),
+        "Scheme:fmt" => told_shown(scheme, &order.text("style").unwrap_or_default()),
+        "Scheme:Ord" => told_order(scheme, &self::scheme(&order.text("other")?)),
+        _ => return None,
+    })
+}
+
+/// Calls over a text, parts, an error or a fault, or over nothing.
+fn over_others(order: &Order, call: &str) -> Option<String> {
+    let (text, style) = (order.bytes("text"), order.text("style").unwrap_or_default());
+    let name = |member| order.text(member).unwrap_or_default();
+    Some(match call {
+        "parse::parse" => told_answer(parse(text)),
+        "Url::from_bytes" => told_answer(Url::from_bytes(text)),
+        "Url::from_text" => told_answer(Url::try_from(utf8(text).as_str())),
+        "Scheme::from_text" => told_scheme(&Scheme::from(utf8(text).as_str())),
+        "Url::from_parts" => told_answer(from_parts(order.parts("record")?)),
+        "Url::default_in" => told_url(&Url::default()),
+        "Error:fmt" => told_shown(&order.error()?, &style),
+        "UrlKind:fmt" => told_shown(&kind(&name("kind"))?, &style),
+        "UrlFault:fmt" => told_shown(&url_fault(&name("fault"))?, &style),
+        "WriteFault:fmt" => told_shown(&write_fault(&name("fault"))?, &style),
+        _ => return None,
+    })
+}
+
+fn from_parts(it: Url) -> Result<Url, Error> {
+    Url::from_parts(it.scheme, it.user, it.password, it.host, it.port, it.path, it.serialize_alternative_form)
+}
+
+/// Makes the call of an order, by what it is over.
+fn carry_out(order: &Order) -> Option<String> {
+    let call = order.text("call")?;
+    if let Some(url) = order.url("url") {
+        return look(order, &call, &url).or_else(|| change(order, &call, url));
+    }
+    match order.text("scheme") {
+        Some(told) => over_scheme(order, &call, &scheme(&told)),
+        None => over_others(order, &call),
+    }
+}
+
+fn main() {
+    let mut all = Vec::new();
+    std::io::stdin().read_to_end(&mut all).expect("the standard input can be read");
+    for line in all.split_inclusive(|byte| *byte == b'\n') {
+        let told = carry_out(&Order::of(line.strip_suffix(b"\n").unwrap_or(line)));
+        println!("{}", told.unwrap_or(r#"{"halt":"not carried out"}"#.to_owned()));
+    }
+}

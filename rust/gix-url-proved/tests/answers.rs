@@ -1,0 +1,131 @@
+//! The short inputs and the remotes that the door for C is tested with too, whose answers are those of the program
+//! `locations`: `scripts/doors` writes those of the remotes. What errors keep, the order, and a spelling that lapses.
+
+use gix_url_proved::parse::{parse, Error};
+use gix_url_proved::Url;
+use std::fs;
+
+/// The bytes of a file of the repository, which `GIX_URL_REPOSITORY` may name.
+fn file(name: &str) -> Vec<u8> {
+    let here = concat!(env!("CARGO_MANIFEST_DIR"), "/../..");
+    let repository = std::env::var("GIX_URL_REPOSITORY").unwrap_or(here.to_owned());
+    let path = format!("{repository}/{name}");
+    fs::read(&path).unwrap_or_else(|error| panic!("{path}: {error}: call scripts/doors first"))
+}
+
+fn lossy(bytes: &[u8]) -> String {
+    String::from_utf8_lossy(bytes).into_owned()
+}
+
+/// The error in the words of `locations`: its name, and what is wrong with a URL.
+fn told_error(error: &Error) -> String {
+    match error {
+        Error::MissingPath { .. } => "MissingPath".to_owned(),
+        Error::NotUtf8 { .. } => "NotUtf8".to_owned(),
+        Error::TooLong { .. } => "TooLong".to_owned(),
+        Error::BadUrl { fault, .. } => format!("BadUrl {fault:?}"),
+        other => format!("{other:?}"),
+    }
+}
+
+/// The answer of the program `locations` to a line.
+fn answer(line: &[u8]) -> Vec<u8> {
+    let url = match parse(line) {
+        Ok(url) => url,
+        Err(error) => return format!("refused\t{}", told_error(&error)).into_bytes(),
+    };
+    comes_back(&url);
+    assert!(url.is_settled() || !url.agrees_with_git());
+    match url.text() {
+        Ok(text) if url.is_settled() => [b"settled\t", text.as_slice()].concat(),
+        Ok(_) => format!("unsettled\t{}", url.scheme).into_bytes(),
+        Err(_) => format!("unwritable\t{}", url.scheme).into_bytes(),
+    }
+}
+
+/// A settled location comes back from its text with the same public fields; and from its parts, which have no spelling,
+/// if those are settled.
+fn comes_back(url: &Url) {
+    if !url.is_settled() {
+        return;
+    }
+    let fields = |url: &Url| {
+        let mut all = Url::default();
+        all.clone_from(url);
+        (all.scheme, all.user, all.password, all.host, all.serialize_alternative_form, all.port, all.path)
+    };
+    let again = parse(&url.to_bstring()).unwrap();
+    assert_eq!(fields(&again), fields(url));
+    let mut parts = Url::default();
+    (parts.scheme, parts.user, parts.password, parts.host, parts.serialize_alternative_form, parts.port, parts.path) =
+        fields(url);
+    if !parts.is_settled() {
+        return;
+    }
+    let (scheme, user, password, host, flag, port, path) = fields(url);
+    let made = Url::from_parts(scheme, user, password, host, port, path, flag).unwrap();
+    assert_eq!(fields(&made), fields(url));
+}
+
+fn answers_alike(inputs: &str, wanted: &str) {
+    let (inputs, wanted) = (file(inputs), file(wanted));
+    let lines = inputs.strip_suffix(b"\n").unwrap().split(|byte| *byte == b'\n');
+    let mut answers = wanted.strip_suffix(b"\n").unwrap().split(|byte| *byte == b'\n');
+    for line in lines {
+        assert_eq!(lossy(&answer(line)), lossy(answers.next().unwrap()), "{}", lossy(line));
+    }
+    assert!(answers.next().is_none());
+}
+
+#[test]
+fn short_inputs() {
+    answers_alike("crates/locations/stdin", "crates/locations/stdout");
+}
+
+#[test]
+fn remotes() {
+    answers_alike("out/doors/remotes", "out/doors/remotes.wanted");
+}
+
+#[test]
+fn errors_keep_what_was_refused() {
+    let input = b"http://h:x/".as_slice();
+    assert!(matches!(parse(input), Err(Error::BadUrl { input: kept, .. }) if kept == input));
+    let long = [b"http://".as_slice(), &[b'a'; 1993]].concat();
+    let shown = long[..1031].to_vec();
+    assert_eq!(parse(&long), Err(Error::TooLong { shown, total: 2000 }));
+    assert_eq!(parse(b"http://user:secret@h:x/").unwrap_err().to_string(), "the URL has an invalid port");
+}
+
+#[test]
+fn order_is_that_of_the_fields() {
+    let urls: Vec<Url> = [
+        "/b",
+        "file:///b",
+        "git://h/a",
+        "h:a",
+        "ssh://h/a",
+        "ssh://u@h/a",
+        "http://h/",
+        "https://h/",
+        "a::b",
+        "x://h/",
+    ]
+    .iter()
+    .map(|text| Url::try_from(*text).unwrap())
+    .collect();
+    let mut sorted = urls.clone();
+    sorted.sort();
+    let schemes: Vec<&str> = sorted.iter().map(|url| url.scheme.as_str()).collect();
+    assert_eq!(schemes, ["file", "file", "git", "ssh", "ssh", "ssh", "http", "https", "a", "x"]);
+    assert!(urls[1] < urls[0], "no flag comes first");
+    assert_eq!(urls[2], urls[2].clone());
+}
+
+#[test]
+fn a_spelling_that_became_the_path_counts_as_none() {
+    let mut url = parse(b"http://h/a%20b").unwrap();
+    url.path = b"/a%20b".to_vec();
+    assert_eq!(url.original_path(), b"/a%20b");
+    assert_eq!(url.to_bstring(), b"http://h/a%2520b");
+}

@@ -1,0 +1,161 @@
+"""Who carries out the orders of `scripts/vectors`: the program `answers`, or the binding for C or for Rust, by a small
+program in that language, `doors/vectors.c` or the example `vectors` of the crate.
+
+A binding takes an order as one line of members `name=value`, parted by tabs, so that its program needs no reader of
+JSON. A location made of parts is flat, as `url.host=h`. `\\x` with two digits is a control character, a backslash or a
+byte that is no part of UTF-8. The outcome is told in JSON as by `answers`, but for bytes past ASCII, each of which is
+told as U+EF00 with the byte added; so outcomes are compared by the bytes that their texts stand for.
+
+Neither binding tells whether a name or a value of a query is owned: `{"owned": text}` is compared as the text. An error
+of C keeps no bytes, so `kept` is left out, but for a text that is too long, of which it tells how much is to be shown.
+"""
+import os
+import re
+import subprocess
+import sys
+
+from kit import ROOT, program
+
+FOLDER = f"{ROOT}/out/doors"
+
+# Calls that both bindings have, and those that one of them has.
+BOTH = {
+    "parse::parse", "Scheme::as_str", "Url::agrees_with_git", "Url::from_parts", "Url::host", "Url::host_argument_safe",
+    "Url::host_as_argument", "Url::is_settled", "Url::original_path", "Url::password", "Url::path_argument_safe",
+    "Url::path_is_root", "Url::path_query_fragment", "Url::port_or_default", "Url::to_bstring", "Url::user",
+    "Url::user_argument_safe", "Url::user_as_argument", "Url:fmt"}
+ONLY_C = {"Url::text_len"}
+ONLY_RUST = {
+    "Error:fmt", "PathComponents::clone", "PathComponents:Eq", "Scheme::clone", "Scheme::from_text", "Scheme:Ord",
+    "Scheme:fmt", "Url::clone", "Url::default_in", "Url::from_bytes", "Url::from_text", "Url::set_password",
+    "Url::set_user", "Url::with_request_alternate_form", "Url::write_to", "Url:Ord", "UrlFault:fmt", "UrlKind:fmt",
+    "WriteFault:fmt"}
+# Members that an order for a binding may have.
+MEMBERS = {
+    "call", "text", "url", "other", "record", "scheme", "user", "password", "alternative", "style", "kind", "fault",
+    "error"}
+# Errors of calls that no binding has.
+FOREIGN = {"NoHome", "PathNotUtf8", "Unresolved"}
+# The bytes past ASCII, by the characters that they are told as, and as Python has them.
+LONE = {0xEF00 + byte: 0xDC00 + byte for byte in range(0x80, 0x100)}
+
+
+def escaped(text):
+    """A text of an order in the flat form."""
+    return re.sub(r"[\0-\x1f\x7f\\\uef80-\uefff]", lambda it: f"\\x{ord(it[0]) & 0xFF:02x}", text)
+
+
+def flat(members, front=""):
+    """The members of an order in the flat form."""
+    for name, value in members.items():
+        if isinstance(value, dict):
+            yield from flat(value, f"{front}{name}.")
+        elif isinstance(value, bool):
+            yield f"{front}{name}={str(value).lower()}"
+        elif value is not None:
+            yield f"{front}{name}={escaped(str(value))}"
+
+
+def run(words, **environment):
+    """Runs a command that builds; where it fails it has said why."""
+    if subprocess.run(words, cwd=ROOT, env={**os.environ, **environment}, check=False).returncode:
+        sys.exit(f"vectors: this failed: {' '.join(words)}")
+
+
+class Answers:
+    """The program `answers`: it has every call, and takes an order as JSON."""
+
+    name, calls = "answers", frozenset()
+
+    def command(self):
+        return program("answers")
+
+    def has(self, _row):
+        return True
+
+    def makes(self, _row):
+        """Whether what a row is over can be made."""
+        return True
+
+    def order(self, row):
+        return row.order()
+
+    def seen(self, outcome):
+        """An outcome, as far as it is told."""
+        return outcome
+
+
+class Binding(Answers):
+    """A binding, by the program of it that the environment names, as VECTORS_C, or that is built."""
+
+    def command(self):
+        return os.environ.get(f"VECTORS_{self.name.upper()}") or self.built()
+
+    def has(self, row):
+        return row.members["call"] in self.calls
+
+    def makes(self, row):
+        return MEMBERS.issuperset(row.members)
+
+    def order(self, row):
+        return "\t".join(flat(row.members))
+
+    def seen(self, outcome):
+        if isinstance(outcome, str):
+            return outcome.translate(LONE).encode("utf-8", "surrogateescape").hex()
+        if isinstance(outcome, list):
+            return [self.seen(it) for it in outcome]
+        if not isinstance(outcome, dict):
+            return outcome
+        if set(outcome) == {"owned"}:
+            return self.seen(outcome["owned"])
+        return {name: self.seen(it) for name, it in outcome.items() if self.tells(name, outcome)}
+
+    def tells(self, _name, _outcome):
+        """Whether the binding tells a member of an outcome."""
+        return True
+
+    def built(self):
+        """The program, which is built over the library of `scripts/doors`."""
+        if not os.path.isfile(f"{FOLDER}/libgix_url.a"):
+            sys.exit("vectors: there is no out/doors/libgix_url.a: call scripts/doors first")
+        return self.build()
+
+
+class C(Binding):
+    name, calls = "c", BOTH | ONLY_C
+
+    def makes(self, row):
+        """All but other styles than the plain one, and parts that are a record of the older form: C restores parts."""
+        url = row.members.get("url")
+        is_older = isinstance(url, dict) and "spelling" in url and url["spelling"] == url.get("path", "")
+        return super().makes(row) and row.members.get("style") is None and not is_older
+
+    def tells(self, name, outcome):
+        return name != "kept" or "total" in outcome
+
+    def build(self):
+        file = f"{FOLDER}/vectors"
+        sources = ["doors/vectors.c", "doors/told.c", f"{FOLDER}/libgix_url.a"]
+        run([os.environ.get("CC", "cc"), "-std=c11", "-O1", *sources, "-o", file])
+        return file
+
+
+class Rust(Binding):
+    name, calls = "rust", BOTH | ONLY_RUST
+
+    def makes(self, row):
+        """All but a location with a spelling, an error that the crate doesn't have, and what its own `Debug` shows."""
+        parts = [it for it in map(row.members.get, ("url", "other", "error")) if isinstance(it, dict)]
+        is_foreign = any(it.get("spelling") is not None or it.get("error") in FOREIGN for it in parts)
+        return super().makes(row) and not is_foreign and "?" not in (row.members.get("style") or "")
+
+    def build(self):
+        folder = f"{FOLDER}/cargo"
+        words = ["cargo", "build", "--offline", "--quiet", "--example", "vectors"]
+        manifest = "rust/gix-url-proved/Cargo.toml"
+        run([*words, "--manifest-path", manifest], GIX_URL_LIB=FOLDER, CARGO_TARGET_DIR=folder)
+        return f"{folder}/debug/examples/vectors"
+
+
+WHO = {it.name: it for it in (Answers(), C(), Rust())}

@@ -1,0 +1,103 @@
+"""Lines of tables that stand for many rows, by the member that says so.
+
+  in_order   a list of values for a call that compares two: all pairs of them. Each is less than those behind it, equal to
+             itself alone, and has a hash of its own
+  over       all choices of a value for each member that it names, as in `{"style": ["{:#}", null], "url.password": ["x", ""]}`;
+             null is none
+  fronts     the name of a text, which is cut short at each length but its own
+  each       the first and the last of some characters, or `"bytes"` for all bytes: every `*` in the texts of the line is each
+             of them in turn. The outcomes are what the second reading gives, and `settled` says in how many rows `url` is
+             settled
+  random     how many random paths the call is over, the same each time, with the outcomes that `plain_paths.py` reads
+"""
+import itertools
+
+import plain_paths
+from recomputed import location, oracle, outcome
+from row_text import joined, text_of
+
+# The member of the first of two values that a call compares.
+COMPARED = {"Url:Ord": "url", "Scheme:Ord": "scheme", "ForUser:Ord": "user"}
+
+
+def pairs(members, values):
+    """The rows of all pairs of values that stand in order."""
+    name = COMPARED[members["call"]]
+    for one, other in itertools.product(range(len(values)), repeat=2):
+        word = "Less" if one < other else "Greater" if one > other else "Equal"
+        outcome = [[word, word], [one == other, one == other]]
+        yield {**members, name: values[one], "other": values[other], "is": outcome}
+
+
+def put(members, name, value):
+    """Members with a value under this name, where `url.password` is a member of a member."""
+    first, _, rest = name.partition(".")
+    return {**members, first: put(members.get(first, {}), rest, value) if rest else value}
+
+
+def choices(members, over):
+    """The rows of all choices of values, one for each member that is named."""
+    for values in itertools.product(*over.values()):
+        row = members
+        for name, value in zip(over, values):
+            row = put(row, name, value)
+        yield row
+
+
+def fronts(members, name):
+    """The rows of a text that is cut short."""
+    whole = joined(members[name])
+    return ({**members, name: whole[:size]} for size in range(len(whole)))
+
+
+def characters(ends):
+    """The characters from the first to the last of two, or those for all bytes."""
+    if ends == "bytes":
+        return [text_of(bytes([it])) for it in range(256)]
+    first, last = ends
+    return [chr(it) for it in range(ord(first), ord(last) + 1)]
+
+
+def filled(value, character):
+    """A value with a character for each `*` in its texts."""
+    if isinstance(value, dict):
+        return {name: filled(it, character) for name, it in value.items()}
+    return value.replace("*", character) if isinstance(value, str) else value
+
+
+def each(members, ends):
+    """The rows of all these characters, with the outcomes of the second reading."""
+    wanted = members["settled"]
+    found = [filled({name: it for name, it in members.items() if name != "settled"}, it) for it in characters(ends)]
+    settled = sum(oracle.settled(location(it["url"])) for it in found)
+    if wanted != settled:
+        raise ValueError(f"the locations of {settled} of the {len(found)} rows are settled")
+    if "is" in members or members.get("from") != "oracle":
+        raise ValueError("the outcomes of a line with each are from the oracle, and not told")
+    return [{**it, "is": outcome(it)} for it in found]
+
+
+def in_texts(value):
+    """A value with its bytes as texts of a row."""
+    if isinstance(value, dict):
+        return {name: in_texts(it) for name, it in value.items()}
+    if isinstance(value, list):
+        return [in_texts(it) for it in value]
+    return text_of(value) if isinstance(value, bytes) else value
+
+
+def random_rows(members, number):
+    """The rows over random paths, with what is read of them plainly."""
+    for given, outcome in plain_paths.cases(members["call"], number):
+        yield {**members, **in_texts(given), "is": in_texts(outcome)}
+
+
+WAYS = {"in_order": pairs, "over": choices, "fronts": fronts, "each": each, "random": random_rows}
+
+
+def expanded(members):
+    """The rows that a line stands for: itself, if no member says that it stands for many."""
+    for name, way in WAYS.items():
+        if name in members:
+            return way({it: value for it, value in members.items() if it != name}, members[name])
+    return [members]

@@ -1,0 +1,179 @@
+"""What the second reading of `scripts/oracle.py` gives for rows of the tables in `vectors/`.
+
+A row whose expectation is from `oracle` is worked out again here, so that no such expectation stands by its word alone.
+The table of calls names those that the second reading knows, each with the function that gives the outcome of a row.
+"""
+import json
+
+import oracle
+from row_text import bytes_of, text_of
+
+def scheme(told):
+    """The scheme that a row tells, as in `Http` or `Helper a`."""
+    variant, mark, name = told.partition(" ")
+    return (variant, bytes_of(name)) if mark else (variant,)
+
+
+def told_scheme(of):
+    return text_of(b" ".join([of[0].encode(), *of[1:]]))
+
+
+def location(told):
+    """The location that a row tells: what a text is read as, or parts as they are."""
+    if isinstance(told, str):
+        found = oracle.spells(bytes_of(told))
+        if found is None:
+            raise ValueError(f"{told!r} is refused by the second reading")
+        return found
+    text = {name: bytes_of(it) for name, it in told.items() if isinstance(it, str)}
+    return oracle.location(
+        scheme(told["scheme"]), text.get("path", b""), told.get("alternative", False), text.get("user"),
+        text.get("password"), text.get("host"), told.get("port"), text.get("spelling"))
+
+
+def told_location(of):
+    """A location as rows tell it: the parts that are there, and the spelling where it is another than the path."""
+    return told_parts(of, None if oracle.matching(of) == of.path else oracle.matching(of))
+
+
+def told_parts(of, spelling):
+    """The parts that are there, with this spelling."""
+    parts = {"scheme": told_scheme(of.scheme), "user": of.user, "password": of.password, "host": of.host,
+             "port": of.port, "alternative": of.flag or None, "path": of.path, "spelling": spelling}
+    return {name: text_of(it) if isinstance(it, bytes) else it for name, it in parts.items() if it is not None}
+
+
+def refused(given):
+    """The error that bytes are refused with, and what it keeps of them."""
+    name, kind, fault = oracle.refusal(given)
+    if name == "TooLong":
+        return {"error": name, "kept": text_of(oracle.shown(given)), "total": len(given)}
+    error = {"error": " ".join(it for it in (name, fault, kind) if it)}
+    return error if kind is None else {**error, "kept": text_of(given)}
+
+
+def read(given):
+    found = oracle.spells(given)
+    return refused(given) if found is None else told_location(found)
+
+
+def written(of, call=text_of):
+    """What a call gives for the text of a location, or why that has none."""
+    text = oracle.text(of)
+    return {"error": f"Unwritable {text.name}"} if isinstance(text, oracle.Fault) else call(text)
+
+
+def write_to(of):
+    text = written(of)
+    return {"written": text} if isinstance(text, str) else {"written": "", "fault": text}
+
+
+def original_path(of):
+    spelling = oracle.matching(of)
+    return text_of(of.path if spelling is None else spelling)
+
+
+def reread(of):
+    """What the text of a location is read as; a settled one has to come back."""
+    if oracle.settled(of) and oracle.comes_back(of) is None:
+        raise ValueError(f"{told_location(of)} is settled, and its text isn't read as the same")
+    return written(of, read)
+
+
+def from_parts(parts):
+    """What the text of parts is read as; HTTP keeps the path that was given, unless that is empty, and no spelling."""
+    given = location({name: it for name, it in parts.items() if name != "spelling"})
+    if given.scheme[0] == "Helper" and not oracle.is_helper_name(given.scheme[1]):
+        return {"error": "HelperName", "kept": text_of(given.scheme[1])}
+    made = reread(given)
+    if given.scheme not in oracle.HTTP_SCHEMES or "error" in made:
+        return made
+    path = text_of(given.path) or made["path"]
+    return {name: path if name == "path" else it for name, it in made.items() if name != "spelling"}
+
+
+def record(of):
+    """A location as its record is told: with the spelling that it retains, whether or not that still is one of its path."""
+    return told_parts(of, of.spelling)
+
+
+def json_again(text):
+    """The record of the location that the JSON of a record is restored as, as JSON in the order of the record's members."""
+    names = ["scheme", "user", "password", "host", "serialize_alternative_form", "port", "path", "path_with_percent_escapes"]
+    told = {name: json.loads(text).get(name) for name in names}
+    path, spelling = (None if told[it] is None else bytes(told[it]) for it in names[-2:])
+    back = oracle.migrated(oracle.location(None, path, False, spelling=spelling))
+    path, spelling = list(back.path), None if back.spelling is None else list(back.spelling)
+    return json.dumps({**told, "path": path, "path_with_percent_escapes": spelling}, separators=(",", ":"), ensure_ascii=False)
+
+
+def display(of):
+    shown = oracle.display(of)
+    return {"shown": "", "failed": True} if shown is None else {"shown": shown}
+
+
+def run(given):
+    """What the program of lines answers, and the status that it ends with."""
+    answers = [oracle.answer_line(it) for it in oracle.lines_of(given)]
+    outcome = all(it.startswith(b"settled\t") for it in answers)
+    out = b"".join(it + b"\n" for it in answers)
+    return {"outcome": outcome, "status": 0 if outcome else 1, "out": text_of(out)}
+
+
+def over_text(call):
+    return lambda row: call(bytes_of(row["text"]))
+
+
+def over_url(call):
+    return lambda row: call(location(row["url"]))
+
+
+def over_scheme(call):
+    return lambda row: call(scheme(row["scheme"]))
+
+
+# The outcome of a row, by the name of its call and its style.
+CALLS = {
+    "parse::parse": over_text(read),
+    "Url::from_text": over_text(read),
+    "Url::from_bytes": over_text(read),
+    "Url::to_bstring": over_url(written),
+    "Url::write_to": over_url(write_to),
+    "Url::text_len": over_url(lambda url: written(url, len)),
+    "Url::original_path": over_url(original_path),
+    "Url::clone": over_url(told_location),
+    "Url::with_request_alternate_form": lambda row: told_location(location(row["url"])._replace(flag=row["alternative"])),
+    "Url::path_is_root": over_url(lambda url: url.path == b"/"),
+    "Url::to_stored": over_url(record),
+    "Url::from_stored": lambda row: told_location(oracle.migrated(location(row["record"]))),
+    "StoredUrl:again": lambda row: json_again(row["json"]),
+    "Url::is_settled": over_url(oracle.settled),
+    "Url::agrees_with_git": over_url(oracle.agrees_with_git),
+    "Url::reread": over_url(reread),
+    "Url::from_parts": lambda row: from_parts(row["record"]),
+    "Url:fmt": over_url(display),
+    "Scheme::from_text": over_text(lambda text: told_scheme(oracle.scheme_of(text))),
+    "Scheme::as_str": over_scheme(lambda it: text_of(oracle.as_str(it))),
+    "Scheme:fmt": over_scheme(lambda it: {"shown": text_of(oracle.as_str(it))}),
+    "ipv6::is_ipv6": over_text(oracle.ip6),
+    "lines::run": over_text(run),
+}
+
+
+def outcome(members):
+    """What the second reading gives for a row of these members."""
+    name = members["call"] + members.get("style", "")
+    if name not in CALLS:
+        raise ValueError(f"the second reading knows nothing of {name}")
+    return CALLS[name](members)
+
+
+def recomputed_fault(row):
+    """What is wrong with a row by the second reading, if anything is."""
+    try:
+        given = outcome(row.members)
+    except ValueError as error:
+        return f"{row.place}: {error}"
+    if json.dumps(given, sort_keys=True) == json.dumps(row.expected, sort_keys=True):
+        return None
+    return f"{row.place}: {row.order()}\n  expected {json.dumps(row.expected)}\n  oracle   {json.dumps(given)}"

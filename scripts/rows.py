@@ -1,0 +1,109 @@
+"""The rows of the tables in `vectors/`: a line of JSON each, a call with what it is over, and the outcome that is expected.
+
+Beside the call and its members a row has `is`, the outcome, `from`, where the expectation comes from, and `requests` where
+the requests of the call for memory are counted. How a line spells long texts
+is told in `row_text.py`, and how it stands for many rows in `many_rows.py`.
+
+Of JSON that is refused a row may expect less than the whole: `{"refused": true}`, whatever the words are; words that end
+in `…`, which are the front of those that are told; and a `column` of two numbers, between which that column lies.
+The rows of `vectors/git.jsonl` that read a text have `class` and `git`, of which `git_rows.py` tells.
+"""
+import glob
+import json
+import os
+import sys
+
+from kit import ROOT
+from many_rows import expanded
+from recomputed import recomputed_fault
+from row_text import joined
+
+FOLDER = f"{ROOT}/vectors"
+# Where an expectation may come from, and nothing in this library is among it.
+SOURCES = {"crate", "oracle", "reading", "git", "hand", "rfc"}
+# The members of a row that are no part of the order.
+OWN = {"is", "from", "requests", "note", "class", "git"}
+# Errors that keep the text that they are about.
+KEEPING = ("MissingPath", "NotUtf8", "BadUrl")
+MEMORY = {"error": "Memory"}
+
+
+def keeps(outcome, text):
+    """The outcome with the text that an error keeps, where the row leaves it out: the text of the call."""
+    if not isinstance(outcome, dict) or not isinstance(text, str) or "kept" in outcome:
+        return outcome
+    name = str(outcome.get("error", "")).split(" ")[0]
+    if name in KEEPING:
+        return {**outcome, "kept": text}
+    return outcome
+
+
+def is_refusal(told):
+    """Whether an outcome is an error, and not that memory was refused."""
+    return isinstance(told, dict) and "error" in told and told != MEMORY
+
+
+def fits(expected, told):
+    """Whether an outcome is the expected one; or, of JSON that is refused, whether it is as much as is expected of it."""
+    if expected == {"refused": True}:
+        return is_refusal(told)
+    if isinstance(expected, dict) and str(expected.get("error", "")).endswith("…"):
+        first, last = expected.get("column", (0, float("inf")))
+        begins = is_refusal(told) and told["error"].startswith(expected["error"][:-1])
+        return begins and first <= told.get("column", 0) <= last
+    # As JSON, since Python takes 1 for true.
+    return json.dumps(told, sort_keys=True) == json.dumps(expected, sort_keys=True)
+
+
+class Row:
+    """A call, and the outcome that is expected."""
+
+    def __init__(self, place, members):
+        self.place, self.source, self.requests = place, members.get("from"), members.get("requests")
+        self.class_name, self.git = members.get("class"), members.get("git")
+        self.members = {name: joined(it) for name, it in members.items() if name not in OWN}
+        self.expected = keeps(joined(members.get("is")), self.members.get("text"))
+
+    def order(self, **more):
+        return json.dumps({**self.members, **more})
+
+    def fault(self, line, seen=lambda outcome: outcome):
+        """What is wrong with what was told, if anything is, by what is seen of an outcome."""
+        try:
+            if fits(seen(self.expected), seen(json.loads(line))):
+                return None
+        except ValueError:
+            pass
+        return f"{self.place}: {self.order()}\n  expected {json.dumps(self.expected)}\n  told     {line}"
+
+
+def lines(topic):
+    """The lines of a table that tell rows: where each stands, and its members."""
+    file = f"{FOLDER}/{topic}.jsonl"
+    with open(file, encoding="utf-8") as it:
+        for number, line in enumerate(it, 1):
+            if line.strip() and not line.startswith("#"):
+                place = f"{os.path.basename(file)}:{number}"
+                try:
+                    yield place, json.loads(line)
+                except ValueError as error:
+                    sys.exit(f"vectors: {place}: {error}")
+
+
+def topics():
+    return sorted(os.path.basename(it).removesuffix(".jsonl") for it in glob.glob(f"{FOLDER}/*.jsonl"))
+
+
+def rows(named=()):
+    """All rows of the tables, or of those that are named."""
+    unknown = sorted({*named} - {*topics()})
+    if unknown:
+        sys.exit(f"vectors: there is no table {unknown[0]}; there are {', '.join(topics())}")
+    return [Row(place, it) for topic in named or topics() for place, members in lines(topic) for it in expanded(members)]
+
+
+def source_faults(table):
+    """The rows whose expectation comes from nowhere that is known, or from the second reading, which gives another."""
+    unknown = [f"{it.place}: its expectation is from {it.source!r}" for it in table if it.source not in SOURCES]
+    faults = (recomputed_fault(it) for it in table if it.source == "oracle")
+    return unknown + [it for it in faults if it]
