@@ -136,8 +136,9 @@ gix_url_error gix_url_is_settled(const gix_url *url, bool *settled);
  * another text that was read as the location it says nothing: of ssh://@h/p, which is written as ssh://h/p, the answer is
  * yes, and Git would give Secure Shell the word @h, which it refuses. What Git reads is a definition. No proof says that
  * Git keeps to it: a second reading of it was compared with git 2.39.5 on Linux. The answer is no for what Git hands to a
- * remote helper, HTTP among it, for an empty user of Secure Shell, for what isn't settled, and for some texts that Git
- * reads alike, among them those with brackets or an escape; docs/GIT.md has the cases. */
+ * remote helper, HTTP among it, for an empty user of Secure Shell, for a local path that begins with ~, for what isn't
+ * settled, and for some texts that Git reads alike, among them those with brackets or an escape; docs/GIT.md has the
+ * cases. */
 gix_url_error gix_url_agrees_with_git(const gix_url *url, bool *agrees);
 
 /* Puts the text of the location into the room, and stores its length, on GIX_URL_NO_ROOM too. No byte 0 is added.

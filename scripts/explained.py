@@ -30,11 +30,11 @@ URLS = [
 FILES = [b"file:///p", b"file://h/~bob/x", b"file://x:%20/p"]
 SCPS = [b"git@example.com:a/b.git", b"a@b@h:p", b"u:p@h:x", b"h:/~a", b"h:~", b"[FE80::1%Eth0]:p", b"user@[::1]:path",
         b"user@::1:p", b"[host]::path", b"[ssh]::p", b"-h:-p", b"C:/x", b"h:22/p", b"h:/p"]
-LOCALS = [b"/srv/repo.git", b"./a:b", b"[::1]", b"/~bob/r", b"/~", b"/~/x\xff", b"/~\xff/x", b"/\xff", b"/-rf", b"a"]
+LOCALS = [b"/srv/repo.git", b"./a:b", b"[::1]", b"/~bob/r", b"~bob/r", b"./~/r", b"/~", b"/~/x\xff", b"/~\xff/x", b"/\xff", b"/-rf", b"a"]
 REFUSED = [b"", b"file://host", b"ssh://h", b"host:", b"http://h/\xff", b"h:\xff", b"file://\xff/p", b"x:///" + b"a" * 1024, b"./a://b",
            b"http://h:0/", b"[a@b:22]:p", b"http://", b"::address", b"http://h/%2", b"a b:p"]
 # The first is written as another text, in which Git reads the same; of each other one part of the rule alone says no.
-GIT = [b"ssh://@h/p", b"@h:p", b"ssh://u:p@h/p", b"git://u@h/p", b"h:a~u/p", b"h:-p", b"rsync:p", b"/a[b", b"/a]b"]
+GIT = [b"ssh://@h/p", b"@h:p", b"ssh://u:p@h/p", b"git://u@h/p", b"h:a~u/p", b"h:-p", b"rsync:p", b"/a[b", b"/a]b", b"~/r"]
 
 FORMS = {"Ext": "remote_helper", "Helper": "remote_helper"}
 PORTS = {"Http": 80, "Https": 443, "Ssh": 22, "Git": 9418}
@@ -65,11 +65,10 @@ def is_of_files(v):
 
 
 def home(v):
-    """Paths of Secure Shell and Git are kept without the `/` before `~`."""
-    if not is_of_files(v):
+    """Paths of Secure Shell and Git are kept without the `/` before `~`. Git looks for no home folder in `/~` of this machine."""
+    if v.scheme[0] not in ("Ssh", "Git"):
         return None
-    is_cut = v.scheme != ("File",) and v.path.startswith(b"~")
-    found = home_split(b"/" + v.path if is_cut else v.path)
+    found = home_split(b"/" + v.path if v.path.startswith(b"~") else v.path)
     return found and {"user": found[0] or None, "below": found[1]}
 
 

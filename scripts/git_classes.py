@@ -11,6 +11,10 @@ from functools import cached_property
 
 # What a side reads: the protocol, `helper NAME` for what Git hands to another program, and the parts that are there.
 Reading = namedtuple("Reading", "protocol user password host port path")
+# What is told in place of a protocol where Git's reading isn't one place: a local path that begins with `~`, of which
+# `git fetch`, `git push` and `git ls-remote` look below a home folder and `git clone` takes the path as it is; and a word
+# that OpenSSH reads as a URL.
+HOME, SECURE_URL = "home", "url of ssh"
 ESCAPE = re.compile(rb"%([0-9A-Fa-f]{2})")
 # What Git takes for a URL.
 URL = re.compile(rb"[0-9A-Za-z][0-9A-Za-z+.-]*://(.*)", re.S)
@@ -42,6 +46,11 @@ class Case:
     def protocol(self):
         """The protocol of a text that both sides read, or of one that Git alone refuses."""
         return self.ours.protocol if isinstance(self.ours, Reading) else None
+
+    @cached_property
+    def git_protocol(self):
+        """The protocol that Git reads."""
+        return self.git.protocol if isinstance(self.git, Reading) else None
 
     @cached_property
     def rest(self):
@@ -93,7 +102,7 @@ def user_in_brackets(case):
 
 
 def bracket_behind_at(case):
-    is_local = case.protocol == "file" and case.rest is None and "protocol" not in case.differing
+    is_local = case.protocol == "file" and case.rest is None and case.git_protocol in (None, "file", HOME)
     return ALL | {"protocol"} | without_path(case) if not is_local and b"@[" in case.cut else ()
 
 
@@ -143,6 +152,10 @@ def byte_before_tilde(case):
 def brackets_in_local(case):
     is_local = case.protocol == "file" and not case.text.startswith(b"file://")
     return {"path"} | without_path(case) if is_local and re.search(rb"(\A|@)\[.*\]", case.text, re.S) else ()
+
+
+def home_of_local(case):
+    return {"protocol"} if case.git_protocol == HOME else ()
 
 
 def escape_of_zero(case):
@@ -206,6 +219,7 @@ CLASSES = {
     "byte-before-tilde": byte_before_tilde,
     "escape-in-file": escape_in_file,
     "brackets-in-local": brackets_in_local,
+    "home-of-local": home_of_local,
     "escape-of-zero": escape_of_zero,
     "brackets-of-git": brackets_of_git,
     "colon-of-host": colon_of_host,
@@ -236,7 +250,9 @@ def is_careful(case, is_same):
     is_known = password is None and not any((it or b"").startswith(b"-") for it in (user, host, path))
     if case.ours.protocol == "ssh":
         return is_known and user != b"" and host is not None and (path.startswith(b"/") or path[1:2] != b"~")
-    return is_known and user is None and (host is None or case.ours.protocol == "git")
+    if case.ours.protocol == "git":
+        return is_known and user is None
+    return is_known and user is None and host is None and not path.startswith(b"~")
 
 
 def class_of(case, classes):

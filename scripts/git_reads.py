@@ -83,7 +83,9 @@ def secure_ports(named, found):
 
 
 def user_cuts(word):
-    """User and host of a word: it is cut at its last `@`."""
+    """User and host of a word: it is cut at its last `@`. OpenSSH reads a word that begins with `ssh://` as a URL."""
+    if word.startswith(b"ssh://"):
+        return []
     alone = [] if b"@" in word else [(None, word)]
     return alone + [(name, host) for name, host in cuts(word, b"@") if name and b"@" not in host]
 
@@ -117,7 +119,9 @@ def reads_other(text):
     is_remote = any(b"/" not in front for front, _ in cuts(text, b":"))
     is_local = b":" not in text or any(b":" not in front for front, _ in cuts(text, b"/"))
     remote = [it for place, path in places(b":", text) for it in reaches_secure(place, from_tilde(path))] if is_remote else []
-    return remote + [ON_THIS_MACHINE._replace(path=path) for _, path in host_ends(text) if is_local and path and path[:1] != b"-"]
+    # `-` begins an option, and `~` a home folder or a name.
+    paths = [path for _, path in host_ends(text) if is_local and path and path[:1] not in (b"-", b"~")]
+    return remote + [ON_THIS_MACHINE._replace(path=path) for path in paths]
 
 
 def git_reads(text):

@@ -667,7 +667,9 @@ def agrees_with_git(v):
         return False
     if kind == "Ssh":
         return v.path[1:2] != b"~" and v.user != b""
-    return (v.user if kind == "Git" else v.host) is None
+    if kind == "Git":
+        return v.user is None
+    return v.host is None and not v.path.startswith(b"~")
 
 
 # ---------------------------------------------------------------------------------------------------------------

@@ -132,12 +132,13 @@ fn is_of_files(url: &Url) -> bool {
     matches!(&url.scheme, Scheme::File | Scheme::Ssh | Scheme::Git)
 }
 
-/// Whose home folder the path begins in.
+/// Whose home folder the path begins in, at the other side of Secure Shell or of `git://`. A path of this machine begins in
+/// none: Git takes `/~bob/r` as it is.
 fn home_of(alloc: Global, url: &Url) -> Result<Option<Home>, AllocError> {
-    if !is_of_files(url) {
+    if !matches!(&url.scheme, Scheme::Ssh | Scheme::Git) {
         return Ok(None);
     }
-    let path = path_of_files(alloc, url)?;
+    let path = path_with_slash(alloc, url)?;
     let (user, below) = expand_path::parse(alloc, path.as_bstr()).map_err(no_memory)?;
     let home = told_home(alloc, &user, below.as_bstr());
     drop(user);
@@ -145,9 +146,9 @@ fn home_of(alloc: Global, url: &Url) -> Result<Option<Home>, AllocError> {
 }
 
 /// The path with the `/` before `~` that a URL of Secure Shell or Git, and the scp form, have lost.
-fn path_of_files(alloc: Global, url: &Url) -> Result<BString, AllocError> {
+fn path_with_slash(alloc: Global, url: &Url) -> Result<BString, AllocError> {
     let mut path = BString::new(Vec::new(alloc));
-    if url.path.starts_with(b"~") && !matches!(&url.scheme, Scheme::File) {
+    if url.path.starts_with(b"~") {
         path.push(b'/')?;
     }
     path.extend_from_slice(url.path.as_bytes())?;

@@ -43,7 +43,7 @@ pub struct Told<'a> {
     pub original_path: CowStr<'a>,
     /// Path, query and fragment.
     pub components: Components<'a>,
-    /// Whose home folder the path begins in, on a system of files.
+    /// Whose home folder the path begins in, at the other side of Secure Shell or of `git://`.
     pub home: Option<Home>,
     /// The path as a shell takes it, on a system of files.
     pub shell_path: Option<String>,

@@ -163,7 +163,8 @@ pub data UserCut (word : List ℕ) (user : Option (List ℕ)) (host : List ℕ) 
   with_user : (name : List ℕ) → 0 < length name → FreeOf at_sign host → word ≡ name ++ at_sign ∷ host
       → user ≡ Some name → UserCut word user host
 
--- what Secure Shell reaches: it gets a word, a port and a path, and neither word nor path may be an option
+-- what Secure Shell reaches: it gets a word, a port and a path. Neither word nor path may be an option, and OpenSSH reads
+-- a word that begins with `ssh://` as a URL
 pub record ReachesSecure (place path : List ℕ) (reading : GitReading) : Type 0 where
   pub named : List ℕ
   pub found : Option ℕ
@@ -175,6 +176,7 @@ pub record ReachesSecure (place path : List ℕ) (reading : GitReading) : Type 0
   pub secure : SecurePort named found word port
   pub word_safe : is_option_like word ≡ false
   pub path_safe : is_option_like path ≡ false
+  pub no_url : (rest : List ℕ) → ¬ (word ≡ codes "ssh://" ++ rest)
   pub split : UserCut word user host
   pub value : reading ≡ record {
     protocol = ssh;
@@ -228,7 +230,8 @@ abbrev pub IsLocal : List ℕ → Type 0
 IsLocal t = FreeOf colon t
     ⊎ ((front : List ℕ) × (rest : List ℕ) × FreeOf colon front × (t ≡ front ++ slash ∷ rest))
 
--- what Git reads in a text that it gets whole and takes for no option
+-- what Git reads in a text that it gets whole and takes for no option. A local path that begins with `~` has no reading:
+-- `git clone` takes it as it is, and `git fetch`, `git push` and `git ls-remote` look below a home folder
 pub data ReadsGiven (t : List ℕ) (reading : GitReading) : Type 0 where
   secure_url : (rest place path : List ℕ) → OwnUrl ssh t rest → CutsPlace slash rest place path
       → ReachesSecure place (from_tilde (slash ∷ path)) reading → ReadsGiven t reading
@@ -239,7 +242,8 @@ pub data ReadsGiven (t : List ℕ) (reading : GitReading) : Type 0 where
   scp_form : (place path : List ℕ) → IsNoUrl t → IsRemote t → CutsPlace colon t place path
       → ReachesSecure place (from_tilde path) reading → ReadsGiven t reading
   local_path : (passed path : List ℕ) → IsNoUrl t → IsLocal t → HostEnd t passed path
-      → 0 < length path → is_option_like path ≡ false → reading ≡ on_this_machine path
+      → 0 < length path → is_option_like path ≡ false → begins_with tilde path ≡ false
+      → reading ≡ on_this_machine path
       → ReadsGiven t reading
 
 -- what Git reads in a text: byte 0 ends what it gets, and a text that begins with `-` is an option

@@ -2,7 +2,7 @@
 use Rattle.std.specs.Prelude.{◌≡◌, ℕ, Bool, true, false, ◌||◌, ◌==◌, List, [], ◌∷◌, codes, Some, None, IfSome, Ok}
 use Rattle.gix_url.specs.Value.{Protocol, Location}
 use Rattle.gix_url.specs.Value.Protocol.{file, git, ssh}
-use Rattle.gix_url.specs.Bytes.{percent_sign, left_bracket, right_bracket, tilde, Lacks}
+use Rattle.gix_url.specs.Bytes.{percent_sign, left_bracket, right_bracket, tilde, Lacks, begins_with}
 use Rattle.gix_url.specs.Text.{text}
 use Rattle.gix_url.specs.Settled.{IsValue, IsSettled}
 use Rattle.gix_url.specs.Arguments.{is_option_like}
@@ -36,11 +36,11 @@ pub record IsRsync (v : Location) : Type 0 where
   pub host : v.host ≡ Some (codes "rsync")
 
 -- what Git's own transports ask besides: a path and a user of Secure Shell, and not the host `rsync` alone; no user
--- for `git://`, no host for a file
+-- for `git://`; no host for a file, and a path that doesn't begin with `~`
 abbrev pub SuitsTransport : Protocol → Location → Type 0
 SuitsTransport ssh v = (is_tilde_second v.path ≡ false) × (¬ IsRsync v) × ¬ (v.user ≡ Some [])
 SuitsTransport git v = v.user ≡ None
-SuitsTransport file v = v.host ≡ None
+SuitsTransport file v = (v.host ≡ None) × (begins_with tilde v.path ≡ false)
 SuitsTransport _ v = ⊥
 
 -- the location is of the class

@@ -1,5 +1,6 @@
 -- Rows: what Git reads in texts that are written out, as git 2.39.5 told it (`git fetch-pack --diag-url`, `git ls-remote`);
--- of the end of a line in `git://`, where that transport is allowed. OpenSSH told that it refuses the word `@h` (`ssh -G`).
+-- of the end of a line in `git://`, where that transport is allowed. OpenSSH 9.2 told that it refuses the word `@h`, and reads
+-- `ssh://u@x:22` as user `u`, host `x` and port 22 (`ssh -G`). Of `~/x` `git clone` takes another repository than `git fetch`.
 -- A text with byte 0 can't be given to a command.
 use Rattle.std.specs.Prelude.{ℕ, List, ◌∷◌, ◌++◌, codes, Option, Some, None}
 use Rattle.gix_url.specs.Value.Protocol.{git, ssh}
@@ -22,6 +23,8 @@ GitUrlRows =
     × GitReads (codes "ssh://h:" ++ tab ∷ codes "22/p") (by_ssh None (Some (codes "h")) (Some 22) (codes "/p"))
     × GitReads (codes "ssh://h:-0/p") (by_ssh None (Some (codes "h")) (Some 0) (codes "/p"))
     × GitReads (codes "ssh://h:-5/p") (by_ssh None (Some (codes "h:-5")) None (codes "/p"))
+    × GitReads (codes "ssh://h:65535/p") (by_ssh None (Some (codes "h")) (Some 65535) (codes "/p"))
+    × GitReads (codes "ssh://h:65536/p") (by_ssh None (Some (codes "h:65536")) None (codes "/p"))
     × GitReads (codes "ssh://h:/p") (by_ssh None (Some (codes "h")) None (codes "/p"))
     × GitReads (codes "ssh://[h/p") (by_ssh None (Some (codes "[h")) None (codes "/p"))
     × GitReads (codes "ssh://h/@[x]/p") (by_ssh (Some (codes "h/")) (Some (codes "x")) None (codes "/p"))
@@ -32,6 +35,8 @@ GitUrlRows =
     × GitReads (codes "git://h/p%00q") (by_git (codes "h") None (codes "/p%00q"))
     × GitReads (codes "git://u@h:22/p") (by_git (codes "u@h") (Some 22) (codes "/p"))
     × GitReads (codes "file://h/p") (on_this_machine (codes "/p"))
+    × GitReads (codes "file://~/x") (on_this_machine (codes "/x"))
+    × GitReads (codes "file:///~/x") (on_this_machine (codes "/~/x"))
 
 -- other texts
 abbrev pub GitTextRows : Type 0
@@ -41,6 +46,8 @@ GitTextRows =
     × GitReads (codes "h:a~u/p") (by_ssh None (Some (codes "h")) None (codes "~u/p"))
     × GitReads (codes "/srv/a@[b]/c") (on_this_machine (codes "]/c"))
     × GitReads (codes "./a:b") (on_this_machine (codes "./a:b"))
+    × GitReads (codes "./~/x") (on_this_machine (codes "./~/x"))
+    × GitReads (codes "/~root/x") (on_this_machine (codes "/~root/x"))
 
 -- texts that Git refuses, takes for an option or hands to a remote helper, and one that it doesn't get whole
 abbrev pub NoGitRows : Type 0
@@ -50,6 +57,9 @@ NoGitRows =
     × ((reading : GitReading) → ¬ GitReads (codes "ssh://-h/p") reading)
     × ((reading : GitReading) → ¬ GitReads (codes "u@h:-p") reading)
     × ((reading : GitReading) → ¬ GitReads (codes "@h:p") reading)
+    × ((reading : GitReading) → ¬ GitReads (codes "ssh://[ssh://u@x:22]/p") reading)
+    × ((reading : GitReading) → ¬ GitReads (codes "~/x") reading)
+    × ((reading : GitReading) → ¬ GitReads (codes "~root/x") reading)
     × ((reading : GitReading) → ¬ GitReads (codes "rsync:p") reading)
     × ((reading : GitReading) → ¬ GitReads (codes "h::p") reading)
     × ((reading : GitReading) → ¬ GitReads (codes "::p") reading)

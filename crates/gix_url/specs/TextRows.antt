@@ -1,13 +1,14 @@
 -- Rows: what the definitions say of escapes, of names, of written texts and of stored locations.
-use Rattle.std.specs.Prelude.{◌≡◌, true, false, [], codes, Some, Ok, Err}
+use Rattle.std.specs.Prelude.{◌≡◌, true, false, [], codes, Some, None, Ok, Err}
 use Rattle.percent_encoding.specs.Percent.{percent_encode, percent_decode}
 use Rattle.gix_url.specs.declared.error.WriteFault.TheVariants as write
 use Rattle.gix_url.specs.Value.{path_alone}
 use Rattle.gix_url.specs.Value.Protocol.{file, git, ssh, http, https, ext, helper, helper_url}
 use Rattle.gix_url.specs.Escapes.{is_sound, path_set, password_set, user_set, escaped_percents}
 use Rattle.gix_url.specs.Hosts.{normal_host}
-use Rattle.gix_url.specs.Schemes.{protocol_of}
+use Rattle.gix_url.specs.Schemes.{protocol_of, default_port_of}
 use Rattle.gix_url.specs.Grammar.{from_home, or_root}
+use Rattle.gix_url.specs.Arguments.{path_argument}
 use Rattle.gix_url.specs.Text.{text}
 use Rattle.gix_url.specs.Records.{migrated}
 use Rattle.gix_url.specs.Examples.{o_umlaut, no_text, at_host, with_spelling}
@@ -38,7 +39,7 @@ HostRows =
     × (normal_host (codes "A~B") ≡ codes "A~B")
     × (normal_host (codes "*.Q_R-S") ≡ codes "*.q_r-s")
 
--- protocols by their schemes
+-- protocols by their schemes, and the ports that they stand for
 abbrev pub SchemeRows : Type 0
 SchemeRows =
     (protocol_of (codes "git+ssh") ≡ ssh)
@@ -48,8 +49,12 @@ SchemeRows =
     × (protocol_of (codes "ext") ≡ ext)
     × (protocol_of (codes "HTTP") ≡ helper_url (codes "HTTP"))
     × (protocol_of (codes "ftp") ≡ helper_url (codes "ftp"))
+    × (default_port_of git ≡ Some 9418)
+    × (default_port_of ssh ≡ Some 22)
+    × (default_port_of http ≡ Some 80)
+    × (default_port_of https ≡ Some 443)
 
--- paths below a home folder
+-- paths below a home folder, and paths as arguments
 abbrev pub PathRows : Type 0
 PathRows =
     (from_home (codes "/~a") ≡ codes "~a")
@@ -58,6 +63,11 @@ PathRows =
     × (from_home (codes "//~a") ≡ codes "//~a")
     × (from_home (codes "/") ≡ codes "/")
     × (or_root [] ≡ codes "/")
+    × (path_argument (codes "/-x") ≡ None)
+    × (path_argument (codes "-x") ≡ None)
+    × (path_argument (codes "~/x") ≡ None)
+    × (path_argument (codes "/x-") ≡ Some (codes "/x-"))
+    × (path_argument (codes "/") ≡ Some (codes "/"))
 
 -- ---- texts
 

@@ -30,7 +30,8 @@ impl Url {
     /// was compared with git 2.39.5 on Linux, text by text. `docs/GIT.md` has the cases.
     ///
     /// The answer is no for what Git hands to a remote helper, HTTP among it, for an empty user of Secure Shell (`@h:p`),
-    /// and for what comes from an unsettled location. It is no for some texts that Git reads alike, too: with `%` or
+    /// for a local path that begins with `~`, where `git fetch` and `git push` open a home folder's path and `git clone` this
+    /// one, and for what comes from an unsettled location. It is no for some texts that Git reads alike, too: with `%` or
     /// brackets, those of an address among them; with a host that begins with `-`, of `git://` or behind a user
     /// (`u@-h:p`); and with a `~` behind the one that begins the path (`ssh://h/~~a`).
     ///
@@ -83,7 +84,7 @@ fn suits_transport(url: &Url) -> bool
             && !is_rsync(url)
             && !has_empty_user(url),
         Scheme::Git => url.user.is_none(),
-        Scheme::File => url.host.is_none(),
+        Scheme::File => url.host.is_none() && !starts_with_byte(url.path.as_bytes(), b'~'),
         Scheme::Http | Scheme::Https | Scheme::Ext | Scheme::Helper(_) | Scheme::HelperUrl(_) =>
             false,
     }

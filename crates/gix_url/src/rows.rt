@@ -27,7 +27,7 @@ fn law_escapes()
     ensures { EscapeRows }
 {}
 
-/// Hosts, schemes and paths in their normal forms.
+/// Hosts, schemes and paths: their normal forms, the ports of schemes, and paths as arguments.
 fn law_names()
     ensures hosts { HostRows }
     ensures schemes { SchemeRows }

@@ -243,8 +243,8 @@ impl Url {
     /// which it refuses. What Git reads is a definition. No proof says that Git keeps to it: a second reading of it was
     /// compared with git 2.39.5 on Linux.
     ///
-    /// The answer is no for what Git hands to a remote helper, HTTP among it, for an empty user of Secure Shell, and for
-    /// what isn't settled. It is no for some texts that Git reads alike, among them those with brackets or an escape.
+    /// The answer is no for what Git hands to a remote helper, HTTP among it, for an empty user of Secure Shell, for a local
+    /// path that begins with `~`, and for what isn't settled. It is no for some texts that Git reads alike, among them those with brackets or an escape.
     ///
     /// ```
     /// use gix_url_proved::{parse, Url};

@@ -14,13 +14,13 @@ escape_rows = (refl, refl, refl, refl, refl, refl, refl, refl, refl, refl, refl)
 pub host_rows : HostRows
 host_rows = (refl, refl, refl)
 
--- protocols by their schemes
+-- protocols by their schemes, and the ports that they stand for
 pub scheme_rows : SchemeRows
-scheme_rows = (refl, refl, refl, refl, refl, refl, refl)
+scheme_rows = (refl, refl, refl, refl, refl, refl, refl, refl, refl, refl, refl)
 
--- paths below a home folder
+-- paths below a home folder, and paths as arguments
 pub path_rows : PathRows
-path_rows = (refl, refl, refl, refl, refl, refl)
+path_rows = (refl, refl, refl, refl, refl, refl, refl, refl, refl, refl, refl)
 
 -- texts in the form that is no URL
 pub other_text_rows : OtherTextRows

@@ -2,7 +2,7 @@
 use Rattle.std.proofs.Common.{◌≡◌, ◌∙◌, ℕ, ◌<◌, false, ◌⊎◌, inl, inr, List, [], ◌∷◌, ◌++◌, length, Option, Some, None, Ok, IfSome, IsUtf8, codes, refl, sym, ap, subst, arith, append_assoc}
 use Rattle.gix_url.specs.Value.{Protocol, Location}
 use Rattle.gix_url.specs.Value.Protocol.{file, git, ssh, http, https, ext, helper, helper_url}
-use Rattle.gix_url.specs.Bytes.{slash, colon, at_sign, left_bracket, FreeOf}
+use Rattle.gix_url.specs.Bytes.{slash, colon, at_sign, left_bracket, tilde, FreeOf, begins_with}
 use Rattle.gix_url.specs.Grammar.{ScpFront, IsNeither, IsScpShaped, SpellsScp}
 use Rattle.gix_url.specs.Arguments.{is_option_like}
 use Rattle.gix_url.specs.Text.{raw_user, raw_host, text}
@@ -67,12 +67,12 @@ local_no_url t plain neither no_scp = record {
 }
 
 -- a settled local path
-local_alike : (v : Location) → v.scheme ≡ file → AgreesWithGit v → IsSettledLocal v → IsReadAlike v
-local_alike v e a h =
+local_alike : (v : Location) → v.scheme ≡ file → AgreesWithGit v → begins_with tilde v.path ≡ false → IsSettledLocal v → IsReadAlike v
+local_alike v e a homeless h =
     let (t, has, lacks) = a.plain in
     let written : text v ≡ Ok v.path = flagged_text v e h in
     let plain = plain_text v t v.path has lacks written in
-    read_alike v v.path (on_this_machine v.path) (machine_reading v e h.alone.no_user h.no_host h.alone.no_port) written a a.no_option.path (ReadsGiven.local_path [] v.path (local_no_url v.path plain h.neither h.no_scp) (local_text v.path plain h.neither h.no_scp) (nothing_passed v.path plain.left) h.nonempty a.no_option.path refl)
+    read_alike v v.path (on_this_machine v.path) (machine_reading v e h.alone.no_user h.no_host h.alone.no_port) written a a.no_option.path (ReadsGiven.local_path [] v.path (local_no_url v.path plain h.neither h.no_scp) (local_text v.path plain h.neither h.no_scp) (nothing_passed v.path plain.left) h.nonempty a.no_option.path homeless refl)
 
 -- ---- the scp form
 
@@ -158,7 +158,7 @@ scp_reads v host h t a second other named free =
     let word = word_of v.user host in
     let portless = portless_free word t.no_colon in
     let front = (free_parts left_bracket word (colon ∷ v.path) free).0 in
-    let reached = secure_reached v.user host None word v.path (HostAndPort.none (lacks_brackets word front) portless.before) portless.secure t.name.no_at t.name.normal.unbracketed.nonempty named a.no_option.user (host_safe v host t.there a.no_option) a.no_option.path in
+    let reached = secure_reached v.user host None word v.path (HostAndPort.none (lacks_brackets word front) portless.before) portless.secure t.no_slash t.name.no_at t.name.normal.unbracketed.nonempty named a.no_option.user (host_safe v host t.there a.no_option) a.no_option.path in
     ReadsGiven.scp_form word v.path (scp_no_url v host h t other) record { front = word; rest = v.path; joined = refl; no_slash = t.no_slash } (place_cut colon (word ++ colon ∷ v.path) word v.path free t.no_colon refl) (subst (λ p. ReachesSecure word p (secure_reading v.user (Some host) None v.path)) (sym (from_tilde_kept v.path second)) reached)
 
 -- with a path behind it a word is no option where it is none itself
@@ -182,8 +182,8 @@ scp_alike v e is a suits h =
 
 -- by protocol
 alike_by : (p : Protocol) (v : Location) → v.scheme ≡ p → IsValue v → AgreesWithGit v → SuitsTransport p v → IsSettledBy p v → IsReadAlike v
-alike_by file v e is a suits (inl h) = local_alike v e a h
-alike_by file v e is a suits (inr h) = file_url_alike v e a suits h
+alike_by file v e is a suits (inl h) = local_alike v e a suits.1 h
+alike_by file v e is a suits (inr h) = file_url_alike v e a suits.0 h
 alike_by ssh v e is a suits (inl h) = scp_alike v e is a suits h
 alike_by ssh v e is a suits (inr h) = secure_url_alike v e is a suits.2 h
 alike_by git v e is a suits h = git_url_alike v e is a suits h

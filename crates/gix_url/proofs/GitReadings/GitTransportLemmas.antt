@@ -13,7 +13,7 @@ use Rattle.gix_url.specs.Settled.{IsValue, IsNormalName, IsBareHost, IsBracketed
 use Rattle.gix_url.specs.SettledParts.{IsHosted}
 use Rattle.gix_url.specs.Git.{GitReading, HostAndPort, SecurePort, UserCut, ReachesSecure, ReachesGit, CutsPlace, OwnUrl, ReadsGiven, GitReads}
 use Rattle.gix_url.specs.GitClass.{is_contested, HasNoOption, AgreesWithGit, own_reading, IsReadAlike}
-use Rattle.gix_url.proofs.Texts.CutLemmas.{free-append, free_of_lacked, free_parts}
+use Rattle.gix_url.proofs.Texts.CutLemmas.{free-append, free_of_lacked, free_parts, not_free}
 use Rattle.gix_url.proofs.Texts.EscapeLemmas.{no_line}
 use Rattle.gix_url.proofs.Addresses.AddressLemmas.{address_two_colons}
 use Rattle.gix_url.proofs.Closed.SettledLemmas.{one_text, written_git, written_secure}
@@ -79,9 +79,13 @@ word_split (Some (b ∷ u)) host named free = UserCut.with_user (b ∷ u) (omega
 nonempty_kept : (t : List ℕ) → 0 < length t → unless_empty t ≡ Some t
 nonempty_kept t some = some_kept t (λ e. absurd (omega (arith, ap length e, some)))
 
+-- without a `/` it is no URL
+no_secure_url : (word : List ℕ) → FreeOf slash word → (rest : List ℕ) → ¬ (word ≡ codes "ssh://" ++ rest)
+no_secure_url word free rest e = not_free slash (codes "ssh:") (slash ∷ rest) (subst (λ t. FreeOf slash t) e free)
+
 -- it is reached where user and host are one word
-pub secure_reached : (user : Option (List ℕ)) (host : List ℕ) (port : Option ℕ) (place path : List ℕ) → HostAndPort place (word_of user host) port → SecurePort (word_of user host) port (word_of user host) port → FreeOf at_sign host → 0 < length host → ¬ (user ≡ Some []) → IfSome user (λ u. is_option_like u ≡ false) → is_option_like host ≡ false → is_option_like path ≡ false → ReachesSecure place path (secure_reading user (Some host) port path)
-secure_reached user host port place path cut secure free some named user_safe host_safe path_safe = record {
+pub secure_reached : (user : Option (List ℕ)) (host : List ℕ) (port : Option ℕ) (place path : List ℕ) → HostAndPort place (word_of user host) port → SecurePort (word_of user host) port (word_of user host) port → FreeOf slash (word_of user host) → FreeOf at_sign host → 0 < length host → ¬ (user ≡ Some []) → IfSome user (λ u. is_option_like u ≡ false) → is_option_like host ≡ false → is_option_like path ≡ false → ReachesSecure place path (secure_reading user (Some host) port path)
+secure_reached user host port place path cut secure no_slash free some named user_safe host_safe path_safe = record {
   named = word_of user host;
   found = port;
   word = word_of user host;
@@ -92,6 +96,7 @@ secure_reached user host port place path cut secure free some named user_safe ho
   secure = secure;
   word_safe = word_safe user host user_safe host_safe;
   path_safe = path_safe;
+  no_url = no_secure_url (word_of user host) no_slash;
   split = word_split user host named free;
   value = ap (λ h. secure_reading user h port path) (sym (nonempty_kept host some));
 }
@@ -251,7 +256,8 @@ secure_url_reads v host is t kind safe named there =
     let place = word_of v.user host ++ port_part v.port in
     let rest = place ++ slash ∷ t.pathed.rest in
     let read = place_read v host is t (bare_portless (raw_user v.user) host t.user.no_colon kind) in
-    let reached = secure_reached v.user host v.port place v.path read.cut read.secure t.hosted.no_at (bare_nonempty host kind) named safe.user (host_safe v host there safe) safe.path in
+    let no_slash = free-append slash (raw_user v.user) host t.user.no_slash t.hosted.no_slash in
+    let reached = secure_reached v.user host v.port place v.path read.cut read.secure no_slash t.hosted.no_at (bare_nonempty host kind) named safe.user (host_safe v host there safe) safe.path in
     ReadsGiven.secure_url rest place t.pathed.rest (own_url ssh (codes "ssh") rest refl t.plain.percent) (transport_cut v host is t) (subst (λ p. ReachesSecure place p (secure_reading v.user (Some host) v.port v.path)) (sym t.pathed.meant) reached)
 
 -- a settled URL of Secure Shell

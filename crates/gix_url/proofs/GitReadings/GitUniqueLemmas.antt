@@ -63,7 +63,7 @@ brackets_not_lacked t front inside behind h (LacksHostBrackets.unclosed other re
     not_free right_bracket inside behind (subst (λ s. FreeOf right_bracket s) (sym same.1) free)
 
 -- one front is passed over
-host_end_unique : (t passed rest other more : List ℕ) → HostEnd t passed rest → HostEnd t other more → (passed ≡ other) × (rest ≡ more)
+pub host_end_unique : (t passed rest other more : List ℕ) → HostEnd t passed rest → HostEnd t other more → (passed ≡ other) × (rest ≡ more)
 host_end_unique t passed rest other more (HostEnd.brackets f i b h p r) (HostEnd.brackets f' i' b' h' p' r') =
     let same = brackets_unique t f i b f' i' b' h h' in
     (p ∙ ap (λ x. x ++ left_bracket ∷ i) same.0 ∙ ap (λ x. f' ++ left_bracket ∷ x) same.1 ∙ sym p', r ∙ ap (λ x. right_bracket ∷ x) same.2 ∙ sym r')
@@ -321,32 +321,32 @@ reads_alike t r o (ReadsGiven.secure_url x place path u c h) (ReadsGiven.secure_
 reads_alike t r o (ReadsGiven.secure_url x place path u c h) (ReadsGiven.git_url x' place' path' u' c' h') = apart ssh git t x x' refl refl (λ e. cc) u u'
 reads_alike t r o (ReadsGiven.secure_url x place path u c h) (ReadsGiven.file_url x' place' path' u' c' h') = apart ssh file t x x' refl refl (λ e. cc) u u'
 reads_alike t r o (ReadsGiven.secure_url x place path u c h) (ReadsGiven.scp_form place' path' n m c' h') = own_no_other ssh t x u n
-reads_alike t r o (ReadsGiven.secure_url x place path u c h) (ReadsGiven.local_path p' path' n l e some safe is) = own_no_other ssh t x u n
+reads_alike t r o (ReadsGiven.secure_url x place path u c h) (ReadsGiven.local_path p' path' n l e some safe low is) = own_no_other ssh t x u n
 reads_alike t r o (ReadsGiven.git_url x place path u c h) (ReadsGiven.secure_url x' place' path' u' c' h') = apart git ssh t x x' refl refl (λ e. cc) u u'
 reads_alike t r o (ReadsGiven.git_url x place path u c h) (ReadsGiven.git_url x' place' path' u' c' h') =
     let same = url_cut_unique git t x x' place place' path path' refl u u' c c' in
     git_paths place place' (from_tilde (slash ∷ path)) (from_tilde (slash ∷ path')) r o same.0 (ap (λ p. from_tilde (slash ∷ p)) same.1) h h'
 reads_alike t r o (ReadsGiven.git_url x place path u c h) (ReadsGiven.file_url x' place' path' u' c' h') = apart git file t x x' refl refl (λ e. cc) u u'
 reads_alike t r o (ReadsGiven.git_url x place path u c h) (ReadsGiven.scp_form place' path' n m c' h') = own_no_other git t x u n
-reads_alike t r o (ReadsGiven.git_url x place path u c h) (ReadsGiven.local_path p' path' n l e some safe is) = own_no_other git t x u n
+reads_alike t r o (ReadsGiven.git_url x place path u c h) (ReadsGiven.local_path p' path' n l e some safe low is) = own_no_other git t x u n
 reads_alike t r o (ReadsGiven.file_url x place path u c h) (ReadsGiven.secure_url x' place' path' u' c' h') = apart file ssh t x x' refl refl (λ e. cc) u u'
 reads_alike t r o (ReadsGiven.file_url x place path u c h) (ReadsGiven.git_url x' place' path' u' c' h') = apart file git t x x' refl refl (λ e. cc) u u'
 reads_alike t r o (ReadsGiven.file_url x place path u c h) (ReadsGiven.file_url x' place' path' u' c' h') =
     h ∙ ap (λ p. on_this_machine (slash ∷ p)) (url_cut_unique file t x x' place place' path path' refl u u' c c').1 ∙ sym h'
 reads_alike t r o (ReadsGiven.file_url x place path u c h) (ReadsGiven.scp_form place' path' n m c' h') = own_no_other file t x u n
-reads_alike t r o (ReadsGiven.file_url x place path u c h) (ReadsGiven.local_path p' path' n l e some safe is) = own_no_other file t x u n
+reads_alike t r o (ReadsGiven.file_url x place path u c h) (ReadsGiven.local_path p' path' n l e some safe low is) = own_no_other file t x u n
 reads_alike t r o (ReadsGiven.scp_form place path n m c h) (ReadsGiven.secure_url x' place' path' u' c' h') = own_no_other ssh t x' u' n
 reads_alike t r o (ReadsGiven.scp_form place path n m c h) (ReadsGiven.git_url x' place' path' u' c' h') = own_no_other git t x' u' n
 reads_alike t r o (ReadsGiven.scp_form place path n m c h) (ReadsGiven.file_url x' place' path' u' c' h') = own_no_other file t x' u' n
 reads_alike t r o (ReadsGiven.scp_form place path n m c h) (ReadsGiven.scp_form place' path' n' m' c' h') =
     let same = place_unique colon t place path place' path' c c' in
     secure_paths place place' (from_tilde path) (from_tilde path') r o same.0 (ap from_tilde same.1) h h'
-reads_alike t r o (ReadsGiven.scp_form place path n m c h) (ReadsGiven.local_path p' path' n' l e some safe is) = remote_not_local t m l
-reads_alike t r o (ReadsGiven.local_path p path n l e some safe is) (ReadsGiven.secure_url x' place' path' u' c' h') = own_no_other ssh t x' u' n
-reads_alike t r o (ReadsGiven.local_path p path n l e some safe is) (ReadsGiven.git_url x' place' path' u' c' h') = own_no_other git t x' u' n
-reads_alike t r o (ReadsGiven.local_path p path n l e some safe is) (ReadsGiven.file_url x' place' path' u' c' h') = own_no_other file t x' u' n
-reads_alike t r o (ReadsGiven.local_path p path n l e some safe is) (ReadsGiven.scp_form place' path' n' m c' h') = remote_not_local t m l
-reads_alike t r o (ReadsGiven.local_path p path n l e some safe is) (ReadsGiven.local_path p' path' n' l' e' some' safe' is') =
+reads_alike t r o (ReadsGiven.scp_form place path n m c h) (ReadsGiven.local_path p' path' n' l e some safe low is) = remote_not_local t m l
+reads_alike t r o (ReadsGiven.local_path p path n l e some safe low is) (ReadsGiven.secure_url x' place' path' u' c' h') = own_no_other ssh t x' u' n
+reads_alike t r o (ReadsGiven.local_path p path n l e some safe low is) (ReadsGiven.git_url x' place' path' u' c' h') = own_no_other git t x' u' n
+reads_alike t r o (ReadsGiven.local_path p path n l e some safe low is) (ReadsGiven.file_url x' place' path' u' c' h') = own_no_other file t x' u' n
+reads_alike t r o (ReadsGiven.local_path p path n l e some safe low is) (ReadsGiven.scp_form place' path' n' m c' h') = remote_not_local t m l
+reads_alike t r o (ReadsGiven.local_path p path n l e some safe low is) (ReadsGiven.local_path p' path' n' l' e' some' safe' low' is') =
     is ∙ ap on_this_machine (host_end_unique t p path p' path' e e').1 ∙ sym is'
 
 -- Git reads one thing in a text

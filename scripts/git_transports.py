@@ -1,0 +1,318 @@
+"""What Git's transports come to: the words that Git gives their programs, what OpenSSH makes of them, and the repositories
+that Git's commands open on this machine.
+
+In place of Secure Shell, of the connection of `git://` and of `git-upload-pack` stand scripts that show what they get and
+end, so Git goes all its way and nothing is connected to. OpenSSH is asked what it makes of a word by `ssh -G`, which
+connects to nothing either. The repositories are made anew in a folder of their own, which holds the home folder too.
+"""
+import os
+import re
+import shutil
+import subprocess
+import tempfile
+from concurrent.futures import ThreadPoolExecutor
+
+from git_classes import HOME, SECURE_URL, Reading
+
+# What Git reads, and to which program it hands a text: no transport but `ssh` is allowed.
+ASK_GIT = r"""
+for text; do
+  git ls-remote -- "$text" 2>&1; printf '\0'
+  git fetch-pack --diag-url "$text" 2>&1; printf '\0'
+done
+"""
+# It shows its words, each with byte 1 behind it, between byte 1 and byte 2.
+SHOW = r"""#!/bin/sh
+{ printf '\001'; printf '%s\001' "$@"; printf '\002'; } >&2
+exit 1
+"""
+# It shows the request that Git sends behind them, whose first four digits are its length, with byte 3 for each byte 0.
+SHOW_REQUEST = r"""#!/bin/sh
+length=$(dd bs=1 count=4 2>/dev/null)
+{
+  printf '\001'; printf '%s\001' "$@"
+  dd bs=1 count=$((0x$length - 4)) 2>/dev/null | tr '\000' '\003'
+  printf '\001\002'
+} >&2
+exit 1
+"""
+ASK_PROGRAMS = r"""
+for text; do git ls-remote --upload-pack="$SHOW" -- "$text" 2>&1; printf '\0'; done
+"""
+ASK_SECURE_SHELL = r"""
+while [ $# -gt 0 ]; do ssh -F "$SETTINGS" -G ${2:+-p "$2"} "$1" x 2>&1; printf '\0'; shift 2; done
+"""
+# OpenSSH names this user where the word names none.
+NO_USER = b"not-named"
+PLAIN_WORD = re.compile(rb"([A-Za-z0-9_-]+@)?[A-Za-z0-9.-]+")
+GIT_PORT, SECURE_PORT = 9418, 22
+
+
+def alone(room, **more):
+    """An environment with a home folder of its own, which sees no settings but these."""
+    words = {"HOME": f"{room}/home", "PATH": os.environ["PATH"], "LC_ALL": "C", "GIT_CONFIG_NOSYSTEM": "1"}
+    return {**words, "GIT_CONFIG_GLOBAL": os.devnull, **more}
+
+
+def run(folder, environment, *words):
+    return subprocess.run(words, cwd=folder, env=environment, stdin=subprocess.DEVNULL, stdout=subprocess.PIPE, stderr=subprocess.DEVNULL)
+
+
+def put(path, text, mode=0o600):
+    with open(path, "w", encoding="utf-8") as it:
+        it.write(text)
+    os.chmod(path, mode)
+    return path
+
+
+def answers_of(ask, room, environment, words, each=1, answers=1):
+    """What a loop of the shell answers to words, asked side by side: to each so many words it gives so many answers."""
+    def said(some):
+        found = run(room, environment, "sh", "-c", ask, "sh", *some).stdout.split(b"\0")
+        if len(found) != len(some) * answers // each + 1:
+            raise ValueError("not each text is answered")
+        return found[:-1]
+
+    parts = [words[at : at + 200] for at in range(0, len(words), 200)]
+    with ThreadPoolExecutor(os.cpu_count()) as lanes:
+        return [it for found in lanes.map(said, parts) for it in found]
+
+
+def shown(answer):
+    """The words that a program has shown in an answer; None where none was started."""
+    found = re.search(rb"\x01(.*)\x01\x02", answer, re.S)
+    return found and found[1].split(b"\x01")
+
+
+# ---- the words for the programs
+
+def ask_git(texts):
+    """What Git says of texts: of each the transport with the words for Secure Shell, and the reading."""
+    with tempfile.TemporaryDirectory(prefix="witness-") as room:
+        show = put(f"{room}/show", SHOW, 0o700)
+        environment = alone(room, GIT_ALLOW_PROTOCOL="ssh", GIT_SSH=show, GIT_SSH_VARIANT="ssh")
+        run(room, environment, "git", "init", "--quiet")
+        said = answers_of(ASK_GIT, room, environment, texts, answers=2)
+        return list(zip(said[::2], said[1::2]))
+
+
+def ask_programs(texts):
+    """What Git answers to texts of `git://` and of this machine, where both are allowed."""
+    with tempfile.TemporaryDirectory(prefix="programs-") as room:
+        show, proxy = put(f"{room}/show", SHOW, 0o700), put(f"{room}/proxy", SHOW_REQUEST, 0o700)
+        environment = alone(room, GIT_ALLOW_PROTOCOL="git:file", GIT_PROXY_COMMAND=proxy, SHOW=show)
+        run(room, environment, "git", "init", "--quiet")
+        return dict(zip(texts, answers_of(ASK_PROGRAMS, room, environment, texts)))
+
+
+def quoted(text):
+    """A text as Git quotes it for a shell."""
+    return b"'" + re.sub(rb"(['!])", rb"'\\\1'", text) + b"'"
+
+
+def secure_words(reading):
+    """What Secure Shell gets for a reading: its last two words, and the port that stands among its options."""
+    user = b"" if reading.user is None else reading.user + b"@"
+    return user + (reading.host or b""), b"git-upload-pack " + quoted(reading.path), reading.port
+
+
+def secure_pair(words):
+    """The word that Secure Shell gets, and the port among its options."""
+    return words[-2], int(words[words.index(b"-p") + 1]) if b"-p" in words[:-2] else None
+
+
+def has_secure_words(words, reading):
+    """Whether Secure Shell has got these words for the reading."""
+    word, port = secure_pair(words)
+    return (word, words[-1], port) == secure_words(reading)
+
+
+def has_git_words(words, reading):
+    """Whether the connection of `git://` has got host and port of the reading, and its path in the request."""
+    host, port, request = words
+    asked = re.match(rb"\S+ (.*?)\x03host=", request, re.S)
+    number = GIT_PORT if reading.port is None else reading.port
+    return asked is not None and (host, int(port), asked[1]) == (reading.host or b"", number, reading.path)
+
+
+def is_blocked(text, answer):
+    """Whether Git refuses a text of `git://` by a rule of its own: for an end of a line, or, before such a program, for a
+    host or a port that begins with `-`."""
+    if b"%0a" in text.lower():
+        return answer.startswith(b"fatal: newline is forbidden")
+    return re.match(rb"fatal: strange (hostname|port) '-", answer) is not None
+
+
+def program_fault(text, answer, reading):
+    """What is wrong with the words that a program got for a reading, if anything is. Behind an empty path Git looks at the
+    byte past the text's end, so there the path isn't compared."""
+    words = shown(answer)
+    if reading.protocol == "git" and (b"%0a" in text.lower() or words is None):
+        return None if words is None and is_blocked(text, answer) else f"Git answers {answer!r}"
+    if words is None:
+        return f"no program is started: {answer!r}"
+    if reading.path == b"":
+        return None
+    if reading.protocol in ("file", HOME):
+        return None if words == [reading.path] else f"git-upload-pack gets {words}"
+    has_words = has_secure_words if reading.protocol == "ssh" else has_git_words
+    return None if has_words(words, reading) else f"the program gets {words}"
+
+
+def program_faults(readings, answers):
+    """The texts for whose readings a program gets other words, each with what is wrong. For Secure Shell the answers have
+    the words; the others are asked again."""
+    own = {text: it for text, it in readings.items() if isinstance(it, Reading) and it.protocol in ("ssh", "git", "file", HOME)}
+    asked = ask_programs([text for text, it in own.items() if it.protocol != "ssh"])
+    faults = ((text, program_fault(text, asked.get(text, answers[text]), it)) for text, it in own.items())
+    return [(text, fault) for text, fault in faults if fault]
+
+
+# ---- OpenSSH
+
+def ask_secure_shell(pairs):
+    """What OpenSSH answers to words, each with a port or none."""
+    words = [it for word, port in pairs for it in (word, b"" if port is None else b"%d" % port)]
+    with tempfile.TemporaryDirectory(prefix="secure-") as room:
+        settings = put(f"{room}/settings", f"User {NO_USER.decode()}\n")
+        return dict(zip(pairs, answers_of(ASK_SECURE_SHELL, room, alone(room, SETTINGS=settings), words, each=2)))
+
+
+def secure_fault(answer, reading):
+    """What is wrong with what OpenSSH makes of the word for a reading, if anything is. Its host is the one that it gives
+    itself: beside it stands the host that it would look for, in lower case."""
+    user = NO_USER if reading.user is None else reading.user
+    port = SECURE_PORT if reading.port is None else reading.port
+    found = re.search(rb"(?:\A|\n)host (.*?)\nuser (.*?)\nhostname .*?\nport ([0-9]+)\n", answer, re.S)
+    heard = found and (found[1], found[2], int(found[3]))
+    return None if heard == (reading.host or b"", user, port) else f"OpenSSH reads {answer[:200]!r}"
+
+
+def is_refused(answer):
+    """Whether OpenSSH refuses a word."""
+    return not re.search(rb"\nport [0-9]+\n", answer)
+
+
+def heard_fault(answer, reading):
+    """What is wrong with what OpenSSH makes of the word for what Git reads, if anything is. It must refuse a word with an
+    empty user, and read a word that is a URL as another user and host; it may refuse others, as with port 0."""
+    if reading == "empty user":
+        return None if is_refused(answer) else "OpenSSH doesn't refuse it"
+    if reading.protocol == SECURE_URL:
+        return None if secure_fault(answer, reading) else "OpenSSH doesn't read the word as a URL"
+    return None if is_refused(answer) else secure_fault(answer, reading)
+
+
+def has_word(reading):
+    """Whether Secure Shell gets a word for what Git reads."""
+    return reading == "empty user" or isinstance(reading, Reading) and reading.protocol in ("ssh", SECURE_URL)
+
+
+def chosen(pairs):
+    """The words of which OpenSSH is asked: those with anything but a plain user and a plain host, and of others every tenth."""
+    plain = [it for it in pairs if PLAIN_WORD.fullmatch(it[0])]
+    return [*{*pairs}.difference(plain), *plain[::10]]
+
+
+def secure_faults(readings, answers):
+    """The texts of whose word OpenSSH makes something else, each with what is wrong."""
+    if not shutil.which("ssh"):
+        print("OpenSSH isn't installed, and isn't asked")
+        return []
+    pairs = {text: secure_pair(shown(answers[text])) for text, it in readings.items() if has_word(it)}
+    heard = ask_secure_shell(chosen(dict.fromkeys(pairs.values())))
+    print(f"{len(heard):,} words were given to OpenSSH, which refuses {sum(map(is_refused, heard.values())):,} of them")
+    faults = ((text, heard_fault(heard[pair], readings[text])) for text, pair in pairs.items() if pair in heard)
+    return [(text, fault) for text, fault in faults if fault]
+
+
+# ---- repositories
+
+HERE, HOMES = "here", "home"
+# The repositories, below the room.
+REPOSITORIES = ("home/x", "here/x", "here/~/x", "here/~no-such-user/x", "here/a:b", "here/]/c", "here/a@[b]/c")
+# A text, with the room's path where `{}` stands; the repository that `git ls-remote`, `git fetch` and `git push` open, and
+# the one that `git clone` takes: none where it is refused.
+OPENED = (
+    ("~/x", "home/x", "here/~/x"),
+    ("~no-such-user/x", None, "here/~no-such-user/x"),
+    ("./~/x", "here/~/x", "here/~/x"),
+    ("{}/here/~/x", "here/~/x", "here/~/x"),
+    ("file://{}/here/~/x", "here/~/x", "here/~/x"),
+    ("file://~{}/here/~/x", "here/~/x", "here/~/x"),
+    ("/~/x", None, None),
+    ("file:///~/x", None, None),
+    ("x", "here/x", "here/x"),
+    ("./a:b", "here/a:b", "here/a:b"),
+    ("a@[b]/c", "here/]/c", "here/]/c"),
+)
+
+
+class Room:
+    """Repositories in a folder, each with a commit of its own, by which it is known."""
+
+    def __init__(self, room):
+        self.room, self.here = room, f"{room}/{HERE}"
+        people = {f"GIT_{it}_{part}": "x" for it in ("AUTHOR", "COMMITTER") for part in ("NAME", "EMAIL")}
+        self.environment = alone(room, GIT_ALLOW_PROTOCOL="file", **people)
+        os.makedirs(f"{room}/{HOMES}")
+        run(room, self.environment, "git", "init", "--quiet", self.here)
+        self.tree = self.said("write-tree")
+        self.known = {self.made(it): it for it in REPOSITORIES}
+        self.commit = self.said("commit-tree", "-m", "pushed", self.tree)
+
+    def said(self, *words):
+        return run(self.here, self.environment, "git", *words).stdout.decode().strip()
+
+    def made(self, name):
+        """The commit of a repository, which is made."""
+        path = f"{self.room}/{name}"
+        commit = self.said("commit-tree", "-m", name, self.tree)
+        self.said("init", "--quiet", "--bare", "--initial-branch=main", path)
+        self.said("push", "--quiet", f"file://{path}", f"{commit}:refs/heads/main")
+        return commit
+
+    def pushed(self, text):
+        """The repository into which Git pushes."""
+        self.said("push", "--quiet", text, f"{self.commit}:refs/heads/pushed")
+        found = [it for it in REPOSITORIES if self.said("--git-dir", f"{self.room}/{it}", "branch", "--list", "pushed")]
+        for it in found:
+            self.said("--git-dir", f"{self.room}/{it}", "branch", "--quiet", "-D", "pushed")
+        return found[0] if len(found) == 1 else None
+
+    def opened(self, text):
+        """The repositories that the commands open, each with the command's name: none where it opens none."""
+        listed = self.said("ls-remote", text, "HEAD").partition("\t")[0]
+        self.said("update-ref", "-d", "FETCH_HEAD")
+        self.said("fetch", "--quiet", text)
+        fetched = self.said("rev-parse", "--quiet", "--verify", "FETCH_HEAD")
+        with tempfile.TemporaryDirectory(dir=self.room) as clone:
+            self.said("clone", "--quiet", "--bare", text, f"{clone}/x")
+            cloned = self.said("--git-dir", f"{clone}/x", "rev-parse", "--quiet", "--verify", "HEAD")
+        known = self.known.get
+        return {"ls-remote": known(listed), "fetch": known(fetched), "push": self.pushed(text), "clone": known(cloned)}
+
+
+def opened_faults(agreeing):
+    """What is wrong with the repositories that Git opens: each text must open those of the table; and of a text of which
+    `agreeing` gives a path, as `agrees_with_git` says yes to it, all commands must open the repository at that path, and
+    where none is there no other."""
+    with tempfile.TemporaryDirectory(prefix="opened-") as folder:
+        room = Room(os.path.realpath(folder))
+        texts = {it[0].format(room.room): it for it in OPENED}
+        paths = agreeing([it.encode() for it in texts])
+        for text, (name, fetched, cloned) in texts.items():
+            found = room.opened(text)
+            if found != {"ls-remote": fetched, "fetch": fetched, "push": fetched, "clone": cloned}:
+                yield f"{name}: Git opens {found}"
+            path = paths[text.encode()]
+            if path is not None and set(found.values()) != {room_name(room, path)}:
+                yield f"{name}: agrees_with_git lets it through with the path {path!r}, and Git opens {found}"
+        if not any(paths.values()) or all(paths.values()):
+            yield "agrees_with_git says the same of all texts"
+
+
+def room_name(room, path):
+    """The repository at a path, by its name; None where none is there."""
+    found = os.path.relpath(os.path.realpath(os.path.join(room.here, path.decode())), room.room)
+    return found if found in REPOSITORIES else None
