@@ -33,10 +33,7 @@ fn a_reader_fails_at_each_call(rt: HostRuntime) -> Result<(), Fail> {
                 Err(RunError::Read(error)) => comes_back(&rt, error, Some(fault))?,
                 _ => assert!(rt; false, "call {calls} is the reader's fault"),
             }
-            assert!(rt;
-                out.taken.is_empty(),
-                "an answer to a part of the input: {calls} calls"
-            );
+            assert!(rt; out.taken.is_empty(), "{calls} calls: a part is answered");
         }
     }
     Ok(())
@@ -46,11 +43,8 @@ fn a_reader_fails_at_each_call(rt: HostRuntime) -> Result<(), Fail> {
 fn a_byte_a_call_is_answered(rt: HostRuntime) -> Result<(), Fail> {
     let mut out = FailingWriter::new(rt.alloc(), 1, ANSWER.len(), None);
     // The last call tells that the input ends.
-    let is_settled = run(
-        rt.alloc(),
-        &mut reader(INPUT.len() + 1, FAULTS[0]),
-        &mut out,
-    )?;
+    let mut input = reader(INPUT.len() + 1, FAULTS[0]);
+    let is_settled = run(rt.alloc(), &mut input, &mut out)?;
     assert!(rt; !is_settled);
     assert_eq!(rt; out.taken.as_slice(), ANSWER);
     Ok(())

@@ -1,9 +1,11 @@
 //! Showing a location to people: its text, with the field `password` hidden.
 //!
-//! It uses `writer`. Its contract: what is shown is the text with another password in place of the location's own,
-//! whatever width, precision and flags are asked for, so that two locations that differ in nothing but their passwords
-//! look alike; where there is no text nothing is shown. It takes no memory. What a formatter was handed before it failed
-//! is shown by tests to be a front of that.
+//! It uses `writer`. Its contract: where showing succeeds, what was shown is the text with another password in place of
+//! the location's own, whatever width, precision and flags are asked for, so that two locations that differ in nothing
+//! but their passwords look alike; where there is no text it fails, and nothing is shown. It takes no memory.
+//!
+//! What a formatter was handed before it failed is in no contract: `fmt::Write` says what a call of a writer did only
+//! where it returned `Ok`, so no clause can speak of the others. Tests show that it is a front of the right text.
 
 ghost use Rattle.std.specs.Prelude.{◌≡◌, None, IsErr, option_map, string_bytes};
 ghost use Rattle.std.specs.Fmt.{DisplaysOnOk, DisplaysStyledOnOk};
@@ -56,8 +58,9 @@ pub(crate) fn hidden_password(password: &Option<String>) -> Option<&str>
     }
 }
 
-/// Locations that differ in nothing but what their fields `password` hold look alike, so nobody learns from what is
-/// shown what stands in that field. Of other fields, which may hold a secret too, it says nothing.
+/// Locations that differ in nothing but what their fields `password` hold have the same text to be shown, so nobody learns
+/// what is in that field from what was shown where `Display` returned `Ok`. Of other fields, which may hold a secret too,
+/// it says nothing.
 pub fn law_hidden_password()
     ensures hidden { HidesPassword }
 {}

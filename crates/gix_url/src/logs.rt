@@ -2,7 +2,7 @@
 //!
 //! It uses `impls` for the word that stands in place of a password. A location shows every part but that field; an
 //! error shows the length of a text that was refused, and never its bytes. Otherwise the shape is the one that a
-//! derive gives. It takes no memory.
+//! derive gives. It takes no memory. The builders of std have no contract, so what they write is shown by tests.
 //!
 //! Nothing else is hidden. A secret may also stand where the grammar puts no password, and a log shows it there: as the
 //! user of `https://token@h/p`; in the host of `file://u:secret@h/p`, which is `u:secret@h`; in the path of

@@ -213,8 +213,10 @@ impl fmt::Display for Scheme {
 
     ghost output = { λ scheme. Some (protocol_text (protocol scheme)) };
 
+    ghost styled_output = { λ scheme _. Some (protocol_text (protocol scheme)) };
+
+    /// The text of [`Scheme::as_str`]. Width, precision and flags change nothing.
     fn fmt<W: fmt::Write>(&self, f: &mut fmt::Formatter<W>) -> fmt::Result {
-        let text = self.as_str();
-        write!(f, "{text}")
+        f.write_str(self.as_str())
     }
 }

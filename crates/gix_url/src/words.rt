@@ -1,7 +1,7 @@
 //! The words of forms and faults, as the errors say them to people.
 //!
-//! It uses `error` alone and takes no memory. Its contract: the words are those of the definitions, so they depend on
-//! nothing but the form or the fault.
+//! It uses `error` alone and takes no memory. Its contract: the words are those of the definitions, whatever width,
+//! precision and flags are asked for, so they depend on nothing but the form or the fault.
 
 ghost use Rattle.std.specs.Prelude.{Some};
 ghost use Rattle.gix_url.specs.Words.{kind_words, url_fault_words, write_fault_words};
@@ -11,6 +11,8 @@ use std::fmt;
 
 impl fmt::Display for UrlKind {
     ghost output = { λ kind. Some (kind_words kind) };
+
+    ghost styled_output = { λ kind _. Some (kind_words kind) };
 
     /// `URL`, `scp form` or `local path`.
     fn fmt<W: fmt::Write>(&self, f: &mut fmt::Formatter<W>) -> fmt::Result {
@@ -25,6 +27,8 @@ impl fmt::Display for UrlKind {
 impl fmt::Display for UrlFault {
     ghost output = { λ fault. Some (url_fault_words fault) };
 
+    ghost styled_output = { λ fault _. Some (url_fault_words fault) };
+
     /// What the URL has, or lacks: the words continue `the URL has`, or `the scp form has`.
     fn fmt<W: fmt::Write>(&self, f: &mut fmt::Formatter<W>) -> fmt::Result {
         match self {
@@ -38,6 +42,8 @@ impl fmt::Display for UrlFault {
 
 impl fmt::Display for WriteFault {
     ghost output = { λ fault. Some (write_fault_words fault) };
+
+    ghost styled_output = { λ fault _. Some (write_fault_words fault) };
 
     /// Which parts of the location don't go together.
     fn fmt<W: fmt::Write>(&self, f: &mut fmt::Formatter<W>) -> fmt::Result {
