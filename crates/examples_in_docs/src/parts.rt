@@ -32,6 +32,11 @@ fn names_a_repository(url: &Url) -> bool {
     !url.path_is_root()
 }
 
+fn is_plain(alloc: Global, text: &str) -> Result<bool, Error> {
+    let url = Url::from_text(alloc, text)?;
+    Ok(!url.has_spelling()) // of `https://host/my`, but not of `https://host/%6dy`
+}
+
 fn as_git(alloc: Global, url: &mut Url) -> Result<Option<String>, AllocError> {
     let git = String::from_str(alloc, "git")?;
     Ok(url.set_user(Some(git)))
@@ -95,6 +100,9 @@ fn parts_are_looked_at(rt: HostRuntime) -> Result<(), Fail> {
         assert_eq!(rt; asks_for_password(&url), asks, "{text}");
         assert_eq!(rt; is_here(&url), here, "{text}");
         assert_eq!(rt; names_a_repository(&url), repository, "{text}");
+    }
+    for (text, is) in [("https://host/my", true), ("https://host/%6dy", false)] {
+        assert_eq!(rt; is_plain(rt.alloc(), text)?, is, "{text}");
     }
     let one = Url::from_text(rt.alloc(), "https://host/repo")?;
     for (text, is) in [("https://host:443/repo", true), ("http://host/repo", false)] {

@@ -12,5 +12,7 @@ pub mod WrittenScpLemmas
 pub mod KeptLemmas
 pub mod FileLemmas
 pub mod AgainLemmas
+pub mod StrippedLemmas
+pub mod UnspelledLemmas
 pub mod RereadLemmas
 pub mod FromPartsLemmas

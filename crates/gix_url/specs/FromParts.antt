@@ -10,7 +10,7 @@ use Rattle.gix_url.specs.Value.Protocol.{file, git, ssh, http, https, ext, helpe
 use Rattle.gix_url.specs.Bytes.{is_helper_name}
 use Rattle.gix_url.specs.Text.{text}
 use Rattle.gix_url.specs.Settled.{IsSettled}
-use Rattle.gix_url.specs.Readings.{Reads, ReadsAgain}
+use Rattle.gix_url.specs.Readings.{Reads}
 
 -- the location with these parts, and no spelling
 abbrev pub of_parts : Protocol → Option (List ℕ) → Option (List ℕ) → Option (List ℕ) → Option ℕ
@@ -67,6 +67,11 @@ ReadsKept given b (Ok v) = (read : Location) × Reads b (Ok read)
     × (v ≡ keeping given.scheme given.path read)
 ReadsKept given b (Err e) = Reads b (Err e)
 
+-- what making a location of settled parts answers: them as they are, or want of memory
+abbrev pub GivesBack : Location → Result Location Error → Type 0
+GivesBack given (Ok v) = v ≡ given
+GivesBack given (Err e) = e ≡ error.Memory
+
 -- what making a location of parts answers
 pub record MadeOf (given : Location) (result : Result Location Error) : Type 0 where
   -- a name that no remote helper can have is refused, and told
@@ -78,4 +83,4 @@ pub record MadeOf (given : Location) (result : Result Location Error) : Type 0 w
   -- else their text is read
   pub read : (t : List ℕ) → text given ≡ Ok t → ReadsKept given t result
   -- settled parts come back as they are
-  pub settled : IsSettled given → ReadsAgain given result
+  pub settled : IsSettled given → GivesBack given result

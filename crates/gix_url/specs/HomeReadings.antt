@@ -1,5 +1,5 @@
--- What the calls on home folders answer: words that name the types of the code.
-use Rattle.std.specs.Prelude.{◌≡◌, ℕ, false, ◌⊎◌, List, [], ◌∷◌, ◌++◌, Option, Some, None, MatchOption, Result, Ok, Err, String, string_bytes}
+-- What the calls on home folders and on canonical paths answer: words that name the types of the code.
+use Rattle.std.specs.Prelude.{◌≡◌, ℕ, false, ◌⊎◌, List, [], ◌∷◌, ◌++◌, Option, Some, None, MatchOption, Result, Ok, Err, String, string_bytes, IsUtf8}
 use Rattle.std.specs.Global.{Global}
 use Rattle.std.specs.Borrow.{Bor}
 use Rattle.bstr.specs.Owned.{bstring_bytes}
@@ -7,6 +7,8 @@ use Rattle.gix_url.specs.declared.expand_path.ForUser.{ForUser}
 use Rattle.gix_url.specs.declared.expand_path.ForUser.TheVariants.{Current, Name}
 use Rattle.gix_url.specs.declared.error.Error.{Error}
 use Rattle.gix_url.specs.declared.error.Error.TheVariants as error
+use Rattle.gix_url.specs.Value.{Location}
+use Rattle.gix_url.specs.Value.Protocol.{file}
 use Rattle.gix_url.specs.Bytes.{slash, tilde, FreeOf}
 use Rattle.gix_url.specs.Settled.{begins_at_home}
 use Rattle.gix_url.specs.Paths.{EndsInPiece, IsIdle, LiesBelow}
@@ -58,3 +60,16 @@ AnswersExpanded home user path (Err error.Memory) = Unit {0}
 AnswersExpanded home user path (Err (error.NoHome who)) = (user ≡ Some (user_of who))
     × Expands home user path None
 AnswersExpanded home user path (Err _) = ⊥
+
+-- why a path wasn't expanded: it is no text, its user has no home folder, or memory ran out
+abbrev pub IsUnexpanded : Option HomeUser → List ℕ → Error → Type 0
+IsUnexpanded user path error.PathNotUtf8 = ¬ IsUtf8 path
+IsUnexpanded user path (error.NoHome who) = IsUtf8 path × (user ≡ Some (user_of who))
+IsUnexpanded user path error.Memory = IsUtf8 path
+IsUnexpanded user path _ = ⊥
+
+-- why the path of a location wasn't resolved: it is that of a local one, and no text, or the resolver has none for it
+abbrev pub IsUnresolved : Location → Error → Type 0
+IsUnresolved v error.PathNotUtf8 = (v.scheme ≡ file) × ¬ IsUtf8 v.path
+IsUnresolved v error.Unresolved = (v.scheme ≡ file) × IsUtf8 v.path
+IsUnresolved v _ = ⊥

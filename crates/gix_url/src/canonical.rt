@@ -1,11 +1,13 @@
 //! Canonical paths: a local location with its path resolved.
 //!
 //! It uses `location`, `copy` and `error`. What resolves a path is handed in as a closure. Its contract: the path of a
-//! local location becomes what the closure answers, and nothing else changes; after a refusal nothing did.
+//! local location becomes what the closure answers, and nothing else changes; after an error nothing did, and which
+//! errors come where is said.
 
-ghost use Rattle.std.specs.Prelude.{◌≡◌, ◌⊎◌, Err, IsUtf8, MatchOption, MatchResult, None, Ok, Some, string_bytes};
+ghost use Rattle.std.specs.Prelude.{◌≡◌, ◌⊎◌, Err, IfErr, IfOk, IsUtf8, MatchOption, MatchResult, None, Ok, Some, string_bytes};
 ghost use Rattle.std.specs.Fn.{FnOnceReturnsAt, FnOnceTakesAt};
 ghost use Rattle.std.specs.Bool.{MatchBool};
+ghost use Rattle.gix_url.specs.HomeReadings.{IsUnresolved};
 ghost use Rattle.gix_url.specs.Value.Protocol.{file};
 ghost use Rattle.gix_url.specs.Views.{protocol};
 
@@ -19,8 +21,8 @@ impl Url {
     /// Puts what `resolve` answers for the path in its place, if the location is a local one.
     ///
     /// `resolve` is called once, with the path, where the scheme is `File` and the path is text. Its answer becomes the
-    /// path as it is, without a copy. A location of any other scheme stays as it is, and `resolve` is not called. This
-    /// takes no memory but what `resolve` takes.
+    /// path as it is, without a copy. A location of any other scheme stays as it is, and `resolve` is not called. No other
+    /// part changes. This takes no memory but what `resolve` takes.
     ///
     /// # Errors
     ///
@@ -50,6 +52,9 @@ impl Url {
             × FnOnceReturnsAt F.FnOnce resolve self.old.path answer
             × MatchOption answer ((result ≡ Err Error.Unresolved) × (self.new ≡ self.old))
             (λ text. (result ≡ Ok tt) × (self.new ≡ record self.old { path = string_bytes text })) }
+        ensures kept { record self.new { path = self.old.path } ≡ self.old }
+        ensures refused { IfErr result (IsUnresolved self.old) }
+        ensures unchanged { IfErr result (λ e. self.new ≡ self.old) }
     {
         if !is_file(&self.scheme) {
             return Ok(());
@@ -67,7 +72,7 @@ impl Url {
     }
 
     /// A copy of the location with what `resolve` answers for the path in its place, if the location is a local one:
-    /// [`Url::clone`], and then [`Url::canonicalize`] of the copy.
+    /// [`Url::clone`], and then [`Url::canonicalize`] of the copy. All other parts are those of the location.
     ///
     /// # Errors
     ///
@@ -101,6 +106,8 @@ impl Url {
             × (v ≡ record self.now { path = string_bytes text }))
             (λ e. (e ≡ Error.Memory)
             ⊎ ((e ≡ Error.Unresolved) × FnOnceReturnsAt F.FnOnce resolve self.now.path None)) }
+        ensures kept { IfOk result (λ v. record v { path = self.now.path } ≡ self.now) }
+        ensures refused { IfErr result (λ e. (e ≡ Error.Memory) ⊎ IsUnresolved self.now e) }
     {
         let mut copy = self.clone(alloc)?;
         copy.canonicalize(resolve)?;

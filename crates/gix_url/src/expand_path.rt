@@ -12,7 +12,7 @@ ghost use Rattle.gix_url.specs.Settled.{begins_at_home};
 ghost use Rattle.gix_url.specs.Homes.{ForShell, HomeFolder, SplitsHome};
 ghost use Rattle.gix_url.specs.Homes.HomeUser.{current, named};
 ghost use Rattle.gix_url.specs.HomeOrder.{user_name};
-ghost use Rattle.gix_url.specs.HomeReadings.{AnswersExpanded, Expansion, user_of};
+ghost use Rattle.gix_url.specs.HomeReadings.{AnswersExpanded, Expansion, IsUnexpanded, user_of};
 
 mod order;
 mod paths;
@@ -181,12 +181,14 @@ pub fn with<F: FnOnce(&ForUser) -> Option<String> + Drop>(
     ensures no_text { ¬ IsUtf8 (bstr_bytes path.entry) → result ≡ Err Error.PathNotUtf8 }
     ensures userless { user.entry ≡ None
         → IfOk result (λ s. string_bytes s ≡ bstr_bytes path.entry) }
-    ensures refused { IsUtf8 (bstr_bytes path.entry) → user.entry ≡ None
+    ensures memory { IsUtf8 (bstr_bytes path.entry) → user.entry ≡ None
         → IfErr result (λ e. e ≡ Error.Memory) }
     ensures at_home { IsUtf8 (bstr_bytes path.entry) → IfSome user.entry (λ u. (answer : _)
         × FnOnceReturnsAt F.FnOnce home u.now answer
         × Expansion (λ folder. option_map string_bytes answer ≡ folder) (user_of u.now)
         (bstr_bytes path.entry) result) }
+    ensures refused { IfErr result
+        (IsUnexpanded (option_map user_of (option_copied user.entry)) (bstr_bytes path.entry)) }
 {
     let Ok(text) = path.as_bytes().to_str() else {
         return Err(Error::PathNotUtf8);
@@ -228,15 +230,17 @@ pub fn expand_path(
     ensures expanded { IsUtf8 (bstr_bytes path.entry) → AnswersExpanded
         (option_copied home.entry) (option_map user_of (option_copied user.entry))
         (bstr_bytes path.entry) result }
+    ensures refused { IfErr result
+        (IsUnexpanded (option_map user_of (option_copied user.entry)) (bstr_bytes path.entry)) }
 {
-    let Ok(text) = path.as_bytes().to_str() else {
+    let Ok(path) = path.as_bytes().to_str() else {
         return Err(Error::PathNotUtf8);
     };
     match user {
-        None => Ok(String::from_str(alloc, text)?),
+        None => Ok(String::from_str(alloc, path)?),
         Some(user) => {
             let folder = home_folder(alloc, user, home)?;
-            entered(alloc, folder, user, text)
+            entered(alloc, folder, user, path)
         }
     }
 }

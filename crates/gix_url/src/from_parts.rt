@@ -1,7 +1,7 @@
 //! A location made of its parts: their text is written once, and what comes out is what that text is read as.
 //!
 //! It uses `reread`, and `bytes` for the names of remote helpers. Its contract: the answer is what is read of the text
-//! of the parts, and HTTP keeps the path that was given; a name that no remote helper can have and a fault of that
+//! of the parts, and HTTP keeps the path that was given; settled parts come back equal; a name that no remote helper can have and a fault of that
 //! text are refused as such.
 
 ghost use Rattle.std.specs.Prelude.{◌≡◌, None, Some, IfErr, IfOk, option_map, string_bytes};
@@ -13,6 +13,7 @@ use crate::bytes::is_helper_name;
 use crate::error::Error;
 use crate::location::Url;
 use crate::scheme::Scheme;
+use crate::value_law::law_value;
 use bstr::BString;
 use std::alloc::Global;
 
@@ -20,8 +21,8 @@ impl Url {
     /// The location that the text of these parts means: they are written as one text, and that is read.
     ///
     /// What comes out may have other parts than were given: a `https` host `h` with the path `repo` is written
-    /// `https://hrepo`, which names the host `hrepo`. Settled parts come back as they were given. `Http` and `Https` keep
-    /// the given path unless it is empty, and no spelling of it; where the text meant another path, what comes out may
+    /// `https://hrepo`, which names the host `hrepo`. Settled parts come back equal: every public field as it was given,
+    /// and no spelling. `Http` and `Https` keep the given path unless it is empty, and no spelling of it; where the text meant another path, what comes out may
     /// be unsettled, see [`Url::is_settled`]. The last argument asks for the form that is no URL, where the scheme has
     /// one; what comes out has the form of the text.
     ///
@@ -71,6 +72,7 @@ impl Url {
             path,
             spelling: None,
         };
+        law_value(&given);
         let read = given.reread(alloc)?;
         Ok(keep_path(given, read))
     }

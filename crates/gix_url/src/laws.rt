@@ -14,6 +14,7 @@ ghost use Rattle.gix_url.specs.Laws.{Apart, Closed, EqualIsSame, Exact, ExactByF
 ghost use Rattle.gix_url.specs.Order.{fed_location, fed_protocol, location_cmp, location_eq, protocol_cmp, protocol_eq};
 ghost use Rattle.gix_url.specs.Records.{KeepsMeaning, MigratedOnce, Migrates, RespelledOnce};
 ghost use Rattle.gix_url.specs.Refusals.{Decided, Exclusive, Flawless};
+ghost use Rattle.gix_url.specs.Safeguards.{SettledWithoutPassword, SettledWithoutSpelling, WebSettledWithoutSpelling};
 
 pub use crate::address_law::law_address_test;
 pub use crate::argument::law_arguments;
@@ -176,6 +177,22 @@ pub fn law_lines()
 pub fn law_components()
     ensures one { OneComponents }
     ensures equal { EqualComponents }
+{}
+
+/// A settled location stays settled where a part of it is left out.
+///
+/// - `password`: without its password it is settled exactly where it has none, or its user isn't empty. An empty user is
+///   written only before a password, so `http://:secret@host/` isn't settled without it. Who hides passwords from
+///   logs and from other programs keeps a location that comes back.
+/// - `web_spelling`: a settled location of HTTP is settled without its spelling. Who keeps the public fields alone, and
+///   makes a location of them by [`Url::from_parts`](crate::Url::from_parts), loses no settled one.
+/// - `spelling`: so it is with each kind but the URLs of Secure Shell, of Git and of other schemes. One of these is
+///   settled without its spelling exactly where its path has neither `%` nor white space, and, if it has no host, the
+///   text of its public fields is short enough.
+pub fn law_stripped()
+    ensures password { SettledWithoutPassword }
+    ensures web_spelling { WebSettledWithoutSpelling }
+    ensures spelling { SettledWithoutSpelling }
 {}
 
 /// Git reads the same place.

@@ -1,13 +1,13 @@
 //! The parts of a location: looked at, exchanged, and the location that has none of them.
 //!
-//! It uses `location` and `scheme` alone, and takes no memory. Its contracts: what is handed out is the field; what is
-//! stored stands there from then on, the old value comes back, and no other part changes.
+//! It uses `location` and `scheme` alone, and takes no memory. Its contracts: what is handed out is the field, and of
+//! the spelling of the path whether it is retained; what is stored stands there from then on, the old value comes back, and no other part changes.
 
-ghost use Rattle.std.specs.Prelude.{◌≡◌, ◌↔◌, IsTrue, [], ◌∷◌, false, option_map, string_bytes};
+ghost use Rattle.std.specs.Prelude.{◌≡◌, ◌↔◌, IsSome, IsTrue, [], ◌∷◌, false, option_map, string_bytes};
 ghost use Rattle.std.specs.Option.{option_or};
 ghost use Rattle.gix_url.specs.Bytes.{slash};
 ghost use Rattle.gix_url.specs.Schemes.{default_port_of};
-ghost use Rattle.gix_url.specs.Value.{path_alone};
+ghost use Rattle.gix_url.specs.Value.{fields, path_alone};
 ghost use Rattle.gix_url.specs.Value.Protocol.{ssh};
 
 use crate::location::Url;
@@ -123,6 +123,25 @@ impl Url {
         ensures { IsTrue result ↔ (self.now.path ≡ slash ∷ []) }
     {
         self.path.as_bytes() == b"/".as_slice()
+    }
+
+    /// Whether a spelling of the path is retained, with its escapes. It takes no memory.
+    ///
+    /// Reading retains the spelling of a path in which an escape is. The spelling is no public field, but equality,
+    /// order and hash see it, and the text of the location has it where it still stands for the path. Where there is
+    /// none, the location is its public fields and nothing else: two such locations with the same fields are equal.
+    ///
+    /// ```
+    /// fn is_plain(alloc: Global, text: &str) -> Result<bool, Error> {
+    ///     let url = Url::from_text(alloc, text)?;
+    ///     Ok(!url.has_spelling()) // of `https://host/my`, but not of `https://host/%6dy`
+    /// }
+    /// ```
+    pub fn has_spelling(&self) -> bool
+        ensures retained { IsTrue result ↔ IsSome self.now.spelling }
+        ensures bare { result ≡ false → fields self.now ≡ self.now }
+    {
+        self.spelling.is_some()
     }
 
     /// Stores another user, or none, and hands back the one before. It takes no memory; no other part changes.

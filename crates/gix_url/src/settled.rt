@@ -1,12 +1,12 @@
 //! The settled class, decided. What is in it comes back: its text reads as the same fields and is written the same again.
 //!
 //! It may use every test of bytes, of addresses, of lengths and of forms, and the pieces of the writer. Its
-//! contract: the answer is yes exactly for the settled class, and so is the answer for each kind of location. It
-//! takes no memory.
+//! contract: the answer is yes exactly for the settled class, and so is the answer for each kind of location; and the
+//! location is a value of which the laws speak. It takes no memory.
 
 ghost use Rattle.std.specs.Prelude.{◌↔◌, IsTrue};
 ghost use Rattle.gix_url.specs.Pieces.{AreOwn};
-ghost use Rattle.gix_url.specs.Settled.{IsSettled};
+ghost use Rattle.gix_url.specs.Settled.{IsSettled, IsValue};
 ghost use Rattle.gix_url.specs.SettledParts.{IsSettledNamed};
 
 mod host;
@@ -18,6 +18,7 @@ mod url;
 
 use crate::location::Url;
 use crate::scheme::Scheme;
+use crate::value_law::law_value;
 use crate::writer::piece::Pieces;
 use local::{is_settled_file, is_settled_helper, is_settled_local};
 use scp::is_settled_scp;
@@ -33,6 +34,9 @@ impl Url {
     /// Of what is read most is settled; `[host]::path` isn't, whose text `host::path` names a helper, nor is a location
     /// with a field that was changed so that its text means another place.
     ///
+    /// The contract says too that the location is a value of which the laws speak (`value`), so a proof that asks this
+    /// meets the premise of [`law_separation`](crate::laws::law_separation) and of the other laws.
+    ///
     /// ```
     /// /// The text to store for a location, if others read it as the same.
     /// fn to_store(alloc: Global, url: &Url) -> Result<Option<BString>, Error> {
@@ -43,8 +47,10 @@ impl Url {
     /// }
     /// ```
     pub fn is_settled(&self) -> bool
-        ensures { IsTrue result ↔ IsSettled self.now }
+        ensures decided { IsTrue result ↔ IsSettled self.now }
+        ensures value { IsValue self.now }
     {
+        law_value(self);
         self.is_settled_as(None)
     }
 

@@ -40,7 +40,7 @@ white_left_out : (b : ℕ) (bs : List ℕ) → is_ascii_whitespace b ≡ true �
 white_left_out b bs white = rw white refl
 
 -- and any other byte is not
-other_left_in : (b : ℕ) (bs : List ℕ) → is_ascii_whitespace b ≡ false → without_white_space (b ∷ bs) ≡ b ∷ without_white_space bs
+pub other_left_in : (b : ℕ) (bs : List ℕ) → is_ascii_whitespace b ≡ false → without_white_space (b ∷ bs) ≡ b ∷ without_white_space bs
 other_left_in b bs other = rw other refl
 
 -- white space leaves the stage as it is
@@ -208,7 +208,7 @@ limit_by_length front [] whole short all = all
 limit_by_length front (b ∷ back) whole short all = short
 
 -- a text is no shorter than what is left of it without white space
-without_shorter : (text : List ℕ) → length (without_white_space text) ≤ length text
+pub without_shorter : (text : List ℕ) → length (without_white_space text) ≤ length text
 without_shorter text =
     let both = length-filter_both (λ b. not (is_ascii_whitespace b)) (λ b. not (not (is_ascii_whitespace b))) (λ b. refl) text in
     omega (arith, both)

@@ -37,7 +37,7 @@ https_protocol : IsUrlProtocol https
 https_protocol = record { scheme_text = refl; not_file = refl; protocol = refl; not_ext = λ e. cc }
 
 -- what a reader finds in the text of a settled location of HTTP
-web_readable : (v : Location) → IsWeb v → IsValue v → IsSettledWeb v → (host : List ℕ) × IsReadable v (Some host)
+pub web_readable : (v : Location) → IsWeb v → IsValue v → IsSettledWeb v → (host : List ℕ) × IsReadable v (Some host)
 web_readable v (inl e) is h =
     let (host, there, web) = h.host in
     let writes = web_host_written v host (inl e) web h.port is.port in
@@ -71,40 +71,52 @@ web_again v (inr e) is h =
 ssh_protocol : IsUrlProtocol ssh
 ssh_protocol = record { scheme_text = refl; not_file = refl; protocol = refl; not_ext = λ e. cc }
 
--- a settled URL of Secure Shell comes back
-secure_again : (v : Location) → v.scheme ≡ ssh → IsValue v → IsSettledSecure v → (back : ComesBack v) × IsSettled back.reread
-secure_again v e is h =
+-- what a reader finds in the text of a settled URL of Secure Shell
+pub secure_readable : (v : Location) → v.scheme ≡ ssh → IsValue v → IsSettledSecure v → (named : List ℕ) × IsReadable v (Some named)
+secure_readable v e is h =
     let (host, there, unbracketed) = h.host in
     let (named, writes, peels) = bare_host_written v host e unbracketed (subst (λ o. IfSome o IsUtf8) there is.host) is.port in
     let (path, homed, raw) = transport_path_written v (inl e) h.path (path_of v h.common) h.raw in
-    let readable = url_readable v ssh (Some named) e ssh_protocol h.common (authority_with_host bare v host named h.common is there writes) (λ need. refl) (host, peels, there) path (written_secure v e h.path) in
-    url_again v ssh (Some named) e h.common readable (written_secure v e h.path) (written_secure (as_read v) e homed) (λ c. inr record { common = c; host = (host, there, unbracketed); path = homed; raw = raw })
+    (named, url_readable v ssh (Some named) e ssh_protocol h.common (authority_with_host bare v host named h.common is there writes) (λ need. refl) (host, peels, there) path (written_secure v e h.path))
+
+-- a settled URL of Secure Shell comes back
+secure_again : (v : Location) → v.scheme ≡ ssh → IsValue v → IsSettledSecure v → (back : ComesBack v) × IsSettled back.reread
+secure_again v e is h =
+    let (named, readable) = secure_readable v e is h in
+    let (path, homed, raw) = transport_path_written v (inl e) h.path (path_of v h.common) h.raw in
+    url_again v ssh (Some named) e h.common readable (written_secure v e h.path) (written_secure (as_read v) e homed) (λ c. inr record { common = c; host = h.host; path = homed; raw = raw })
 
 -- ---- Git's own protocol
 
 git_protocol : IsUrlProtocol git
 git_protocol = record { scheme_text = refl; not_file = refl; protocol = refl; not_ext = λ e. cc }
 
--- a settled URL of Git's own protocol comes back
-git_again : (v : Location) → v.scheme ≡ git → IsValue v → IsSettledGit v → (back : ComesBack v) × IsSettled back.reread
-git_again v e is h =
+-- what a reader finds in the text of a settled URL of Git's own protocol
+pub git_readable : (v : Location) → v.scheme ≡ git → IsValue v → IsSettledGit v → (host : List ℕ) × IsReadable v (Some host)
+git_readable v e is h =
     let (host, there, bracketed) = h.host in
     let writes = bracketed_host_written bare v host (λ e. cc) (ap keeps_host e) bracketed (subst (λ o. IfSome o IsUtf8) there is.host) is.port in
     let (path, homed, raw) = transport_path_written v (inr e) h.path (path_of v h.common) h.raw in
-    let readable = url_readable v git (Some host) e git_protocol h.common (authority_with_host bare v host host h.common is there writes) (λ need. refl) there path (written_git v e) in
-    url_again v git (Some host) e h.common readable (written_git v e) (written_git (as_read v) e) (λ c. record { common = c; host = (host, there, bracketed); path = homed; raw = raw })
+    (host, url_readable v git (Some host) e git_protocol h.common (authority_with_host bare v host host h.common is there writes) (λ need. refl) there path (written_git v e))
+
+-- a settled URL of Git's own protocol comes back
+git_again : (v : Location) → v.scheme ≡ git → IsValue v → IsSettledGit v → (back : ComesBack v) × IsSettled back.reread
+git_again v e is h =
+    let (host, readable) = git_readable v e is h in
+    let (path, homed, raw) = transport_path_written v (inr e) h.path (path_of v h.common) h.raw in
+    url_again v git (Some host) e h.common readable (written_git v e) (written_git (as_read v) e) (λ c. record { common = c; host = h.host; path = homed; raw = raw })
 
 -- ---- other schemes
 
 -- what a scheme isn't that has no name of its own
-record IsOther (name : List ℕ) : Type 0 where
+pub record IsOther (name : List ℕ) : Type 0 where
   pub not_ssh : is_ssh_scheme name ≡ false
   pub not_web : is_web_scheme name ≡ false
   pub not_file : bytes_eq name (codes "file") ≡ false
   pub not_git : bytes_eq name (codes "git") ≡ false
   pub not_ext : bytes_eq name (codes "ext") ≡ false
 
-other_scheme : (name : List ℕ) → is_known_scheme name ≡ false → IsOther name
+pub other_scheme : (name : List ℕ) → is_known_scheme name ≡ false → IsOther name
 other_scheme name h =
     let ssh_named = or_parts (is_ssh_scheme name) _ h in
     let web_named = or_parts (is_web_scheme name) _ ssh_named.1 in
@@ -136,23 +148,28 @@ helper_url_protocol name spelled h = record {
   not_ext = λ e. cc;
 }
 
--- a settled URL of another scheme, with its host or without one
-other_by : (name : List ℕ) (v : Location) (host : Option (List ℕ)) → v.scheme ≡ helper_url name → v.host ≡ host → IsValue v → IsSettledHelperUrl name v → (back : ComesBack v) × IsSettled back.reread
-other_by name v None e there is h =
+-- what a reader finds in the text of a settled URL of another scheme, with its host or without one
+pub other_readable : (name : List ℕ) (v : Location) (host : Option (List ℕ)) → v.scheme ≡ helper_url name → v.host ≡ host → IsValue v → IsSettledHelperUrl name v → IsReadable v host
+other_readable name v None e there is h =
     let other = other_scheme name h.unknown in
     let (path, raw) = other_path_written v name e h.path (path_of v h.common) h.raw in
     let authority = authority_without_host (mode_of name) v h.common there in
     let required : requires_host name ≡ true → IsSome {T = List ℕ} None = λ need. subst IsSome there (h.hosted (sym (other_hosted name other) ∙ need)) in
-    let readable = url_readable v (helper_url name) None e (helper_url_protocol name h.scheme_text other) h.common authority required there (subst (λ web. WritesPath web v) (sym other.not_web) path) (written_other v name e h.scheme_text) in
-    url_again v (helper_url name) None e h.common readable (written_other v name e h.scheme_text) (written_other (as_read v) name e h.scheme_text) (λ c. record { common = c; scheme_text = h.scheme_text; unknown = h.unknown; host = h.host; hosted = h.hosted; path = h.path; raw = raw })
-other_by name v (Some host) e there is h =
+    url_readable v (helper_url name) None e (helper_url_protocol name h.scheme_text other) h.common authority required there (subst (λ web. WritesPath web v) (sym other.not_web) path) (written_other v name e h.scheme_text)
+other_readable name v (Some host) e there is h =
     let other = other_scheme name h.unknown in
     let bracketed = subst (λ o. IfSome o IsBracketedHost) there h.host in
     let writes = bracketed_host_written loose v host (λ e. cc) (ap keeps_host e) bracketed (subst (λ o. IfSome o IsUtf8) there is.host) is.port in
     let (path, raw) = other_path_written v name e h.path (path_of v h.common) h.raw in
     let authority = subst (λ mode. Authority mode (authority_text v) v.user v.password (Some host) v.port × IsAuthorityPiece (authority_text v)) (sym (other_mode name other)) (authority_with_host loose v host host h.common is there writes) in
-    let readable = url_readable v (helper_url name) (Some host) e (helper_url_protocol name h.scheme_text other) h.common authority (λ need. refl) there (subst (λ web. WritesPath web v) (sym other.not_web) path) (written_other v name e h.scheme_text) in
-    url_again v (helper_url name) (Some host) e h.common readable (written_other v name e h.scheme_text) (written_other (as_read v) name e h.scheme_text) (λ c. record { common = c; scheme_text = h.scheme_text; unknown = h.unknown; host = h.host; hosted = h.hosted; path = h.path; raw = raw })
+    url_readable v (helper_url name) (Some host) e (helper_url_protocol name h.scheme_text other) h.common authority (λ need. refl) there (subst (λ web. WritesPath web v) (sym other.not_web) path) (written_other v name e h.scheme_text)
+
+-- a settled URL of another scheme comes back
+other_again : (name : List ℕ) (v : Location) → v.scheme ≡ helper_url name → IsValue v → IsSettledHelperUrl name v → (back : ComesBack v) × IsSettled back.reread
+other_again name v e is h =
+    let readable = other_readable name v v.host e refl is h in
+    let (path, raw) = other_path_written v name e h.path (path_of v h.common) h.raw in
+    url_again v (helper_url name) v.host e h.common readable (written_other v name e h.scheme_text) (written_other (as_read v) name e h.scheme_text) (λ c. record { common = c; scheme_text = h.scheme_text; unknown = h.unknown; host = h.host; hosted = h.hosted; path = h.path; raw = raw })
 
 -- ---- all kinds
 
@@ -167,7 +184,7 @@ again_by http v e is h = web_again v (inl e) is h
 again_by https v e is h = web_again v (inr e) is h
 again_by ext v e is h = ext_again v e h
 again_by (helper name) v e is h = helper_again name v e h.1 h.0
-again_by (helper_url name) v e is h = other_by name v v.host e refl is h
+again_by (helper_url name) v e is h = other_again name v e is h
 
 -- a settled location comes back as a settled one
 pub settled_again : (v : Location) → IsValue v → IsSettled v → (back : ComesBack v) × IsSettled back.reread

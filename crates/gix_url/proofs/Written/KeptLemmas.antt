@@ -150,7 +150,7 @@ local_by_fields v w same h =
     }
 
 -- of the kinds that keep their bytes, the class looks at the fields alone
-settled_by_fields : (protocol : Protocol) (v w : Location) → fields w ≡ fields v → keeps_bytes protocol v.flag ≡ true → IsSettledBy protocol w → IsSettledBy protocol v
+pub settled_by_fields : (protocol : Protocol) (v w : Location) → fields w ≡ fields v → keeps_bytes protocol v.flag ≡ true → IsSettledBy protocol w → IsSettledBy protocol v
 settled_by_fields file v w same keeps (inl h) = inl (local_by_fields v w same h)
 settled_by_fields file v w same keeps (inr h) = absurd (both_ways v.flag (sym (ap (λ l. l.flag) same) ∙ h.unflagged) keeps)
 settled_by_fields ext v w same keeps h = helper_by_fields (codes "ext") v w same h

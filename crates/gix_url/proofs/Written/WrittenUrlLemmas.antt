@@ -90,7 +90,7 @@ text_piece v named h =
     subst IsEscapedPiece (sym (canonical_cut v)) (joined_escaped (protocol_text v.scheme) (codes "://" ++ (authority_text v ++ canonical_path v)) (scheme_piece (protocol_text v.scheme) h.scheme.scheme_text).piece.escaped marked)
 
 -- no path starts in the authority
-web_starts : (web : Bool) (b : ℕ) → is_path_start web b ≡ true → is_path_start true b ≡ true
+pub web_starts : (web : Bool) (b : ℕ) → is_path_start web b ≡ true → is_path_start true b ≡ true
 web_starts true b h = h
 web_starts false b h = grind (arith, nat_tests)
 

@@ -11,4 +11,4 @@ named None v b spelled settled same = tt
 named (Some h) v b spelled settled same = (v, spelled, settled, sym same)
 
 pub returns-clause-named : goal.returns-clause-named
-returns-clause-named c = named _ c.in_ok-url.url _ c.in_ok-url.ensures.found (c.if-not-is_settled.ensures.0 refl) (ap (λ v. v.host) c.url.view_is)
+returns-clause-named c = named _ c.in_ok-url.url _ c.in_ok-url.ensures.found (c.if-not-is_settled.ensures.decided.0 refl) (ap (λ v. v.host) c.url.view_is)

@@ -10,4 +10,4 @@ returns-in_err-checked c =
     invalid_made _ _ c.in_err-checked.field-0.0 (is ∙ ap (λ x. Err x) same) c.in_err-checked.ensures.named
 
 pub returns : goal.returns
-returns c = rw (← c.in_ok-checked.ensures.ok) (read_made _ c.in_ok-read.read c.keep_path.result refl c.in_ok-checked.ensures.valid c.keep_path.ensures c.in_ok-read.ensures.read c.in_ok-read.ensures.fault c.in_ok-read.ensures.settled)
+returns c = rw (← c.in_ok-checked.ensures.ok) (read_made _ c.in_ok-read.read c.keep_path.result refl c.law_value.ensures.value c.in_ok-checked.ensures.valid c.keep_path.ensures c.in_ok-read.ensures.read c.in_ok-read.ensures.fault c.in_ok-read.ensures.settled)
