@@ -35,13 +35,18 @@ pub fn make(alloc: Global, order: &Order<'_>, out: &mut Out) -> Result<(), Halt>
         over_user(alloc, order, out)
     } else if order.has("text") && order.name() == "lines::run" {
         over_lines(alloc, order, out)
-    } else if order.has("text") && order.name() != "Error:fmt" {
+    } else if order.has("text") && !is_over_error(order.name()) {
         over_text(alloc, order, out)
     } else if order.has("json") {
         over_json(alloc, order, out)
     } else {
         over_error(alloc, order, out)
     }
+}
+
+/// Whether a call is over an error, which may be told by the text that is refused with it.
+fn is_over_error(name: &str) -> bool {
+    name == "Error:fmt" || name == "Error::is_memory"
 }
 
 /// Calls that read a text, or judge it.
@@ -582,8 +587,8 @@ fn look_at_user(
 
 /// Calls over an error, a form or a fault; and what is over nothing.
 fn over_error(alloc: Global, order: Order<'_>, out: &mut Out) -> Result<(), Halt> {
-    if order.name() == "Error:fmt" {
-        return show_error(alloc, order, out);
+    if is_over_error(order.name()) {
+        return look_at_error(alloc, order, out);
     }
     let style = order.style();
     match order.call() {
@@ -599,15 +604,16 @@ fn over_error(alloc: Global, order: Order<'_>, out: &mut Out) -> Result<(), Halt
     }
 }
 
-/// Shows an error.
-fn show_error(alloc: Global, order: Order<'_>, out: &mut Out) -> Result<(), Halt> {
+/// Calls that look at an error, or show it.
+fn look_at_error(alloc: Global, order: Order<'_>, out: &mut Out) -> Result<(), Halt> {
     let error = errors::error(alloc, order)?;
-    let shown = match order.call() {
-        "" => Ok(()),
-        _ => show(out, order.style(), &error),
+    let outcome = match order.call() {
+        "Error::is_memory" => lent(out, &error.is_memory()),
+        "Error:fmt" => show(out, order.style(), &error),
+        call => unknown(call),
     };
     drop(error);
-    shown
+    outcome
 }
 
 /// Laws, which hold of all values, and whose calls do nothing.

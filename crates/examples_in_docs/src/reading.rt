@@ -1,7 +1,6 @@
 //! Examples of texts and bytes that are read, of what is read again, and of a location made of parts.
 
 use bstr::{BStr, BString};
-use gix_url::parse::parse;
 use gix_url::{Error, Scheme, Url};
 use std::alloc::Global;
 use std::test::Fail;
@@ -35,15 +34,6 @@ fn remote(alloc: Global, user: String, host: String, path: BString) -> Result<Ur
     )
 }
 
-/// Whether bytes that somebody sent spell a location.
-fn is_location(alloc: Global, bytes: &[u8]) -> Result<bool, Error> {
-    match parse(alloc, BStr::new(bytes)) {
-        Ok(_) => Ok(true),
-        Err(Error::Memory) => Err(Error::Memory),
-        Err(_) => Ok(false),
-    }
-}
-
 fn of_line(alloc: Global, line: &[u8]) -> Result<Url, Error> {
     Url::from_bytes(alloc, BStr::new(line))
 }
@@ -66,8 +56,6 @@ fn hosts_that_come_back_are_named(rt: HostRuntime) -> Result<(), Fail> {
 
 #[test]
 fn bytes_are_read(rt: HostRuntime) -> Result<(), Fail> {
-    assert!(rt; is_location(rt.alloc(), b"h:p")?);
-    assert!(rt; !is_location(rt.alloc(), b"h:")?);
     assert_eq!(rt; of_line(rt.alloc(), b"/srv/repo")?.scheme.as_str(), "file");
     assert_eq!(rt; port_of(rt.alloc(), "ssh://h:22/p")?, Some(22));
     assert_eq!(rt; port_of(rt.alloc(), "h:22/p")?, None);

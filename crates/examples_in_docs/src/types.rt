@@ -14,6 +14,11 @@ fn is_passing(error: &Error) -> bool {
     matches!(error, Error::Memory)
 }
 
+/// Whether something is wrong with what was given, and not that memory was refused.
+fn is_refusal(error: &Error) -> bool {
+    !error.is_memory()
+}
+
 fn has_bad_port(error: &Error) -> bool {
     matches!(
         error,
@@ -110,8 +115,9 @@ fn errors_are_told_apart(rt: HostRuntime) -> Result<(), Fail> {
         };
         assert_eq!(rt; has_bad_port(&error), port, "{text}");
         assert_eq!(rt; is_scp(&error), scp, "{text}");
-        assert!(rt; !is_passing(&error), "{text}");
+        assert!(rt; is_refusal(&error) && !is_passing(&error), "{text}");
     }
+    assert!(rt; !is_refusal(&Error::Memory));
     let mut url = Url::from_text(rt.alloc(), "https://u@h/p")?;
     url.host = None;
     let outcome = url.write_to(&mut Vec::new(rt.alloc()));

@@ -1,2 +1,3 @@
 -- Bytes spell one location at most.
 pub mod UniqueLemmas
+pub mod AnsweredLemmas

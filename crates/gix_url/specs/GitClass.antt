@@ -63,11 +63,11 @@ own_reading v = record {
   path = v.path;
 }
 
--- the location has a text, and Git reads it as the location's own parts
+-- the location has a text, and Git reads whatever its text is as the location's own parts
 pub record IsReadAlike (v : Location) : Type 0 where
   pub written : List ℕ
   pub has_text : text v ≡ Ok written
-  pub read : GitReads written (own_reading v)
+  pub read : (t : List ℕ) → text v ≡ Ok t → GitReads t (own_reading v)
 
 -- so it is with each location of the class
 abbrev pub ReadAlike : Type 0

@@ -11,6 +11,7 @@ use Rattle.gix_url.specs.Escapes.{has_percent}
 use Rattle.gix_url.specs.Grammar.{IsNeither, ScpShape, IsAddressed, SpellsHelper, SpellsUrl, SpellsFile, SpellsScpBefore, SpellsLocal, Spells}
 use Rattle.gix_url.specs.Text.{has_colon, text}
 use Rattle.gix_url.specs.Settled.{IsValue, HasFittingText, IsSettled, IsWeb}
+use Rattle.gix_url.specs.Readings.{IsAgain}
 use Rattle.gix_url.specs.Components.{Components, PartsOf}
 use Rattle.gix_url.specs.Records.{migrated}
 use Rattle.gix_url.specs.Order.{text_cmp, location_cmp, fed_protocol, fed_location}
@@ -34,6 +35,11 @@ pub record ComesBack (v : Location) : Type 0 where
 abbrev pub SettledAgain : Type 0
 SettledAgain = (v : Location) → IsValue v → IsSettled v
     → (back : ComesBack v) × IsSettled back.reread
+
+-- what is read of a settled location's text, whatever it is, is the location again
+abbrev pub ReadAgain : Type 0
+ReadAgain = (v w : Location) (t : List ℕ) → IsValue v → IsSettled v → text v ≡ Ok t → Spells t w
+    → IsAgain v w
 
 -- settled locations with one text have the same fields
 abbrev pub TextDecides : Type 0

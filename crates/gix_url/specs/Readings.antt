@@ -1,5 +1,5 @@
 -- What a call answers: words for results that name the errors of the code.
-use Rattle.std.specs.Prelude.{◌≡◌, ℕ, List, [], Option, Result, Ok, Err, IfOk, IfErr}
+use Rattle.std.specs.Prelude.{◌≡◌, ◌⊎◌, ℕ, List, [], Option, Result, Ok, Err, IfOk, IfErr}
 use Rattle.std.specs.Io.KnownBytes.{Appends}
 use Rattle.bstr.specs.declared.bstring.BString.{BString}
 use Rattle.bstr.specs.Owned.{bstring_bytes}
@@ -14,12 +14,11 @@ use Rattle.gix_url.specs.Text.{text}
 use Rattle.gix_url.specs.Settled.{IsSettled}
 use Rattle.gix_url.specs.Flaws.{Flaw}
 
--- no value fits, unless memory ran out
+-- memory ran out, or no value fits
 abbrev pub NoneBut : (Location → Type 0) → Error → Type 0
-NoneBut fits error.Memory = Unit {0}
-NoneBut fits _ = (v : Location) → ¬ fits v
+NoneBut fits e = (e ≡ error.Memory) ⊎ ((v : Location) → ¬ fits v)
 
--- the bytes spell no location, unless memory ran out
+-- memory ran out, or the bytes spell no location
 abbrev pub Refuses : List ℕ → Error → Type 0
 Refuses b e = NoneBut (Spells b) e
 
@@ -33,6 +32,8 @@ pub record Reads (b : List ℕ) (result : Result Location Error) : Type 0 where
   pub flaw : IfErr result (Flaw b)
   -- the empty text is refused as such
   pub empty : b ≡ [] → result ≡ Err error.EmptyLocal
+  -- where they spell a location it is answered, unless memory ran out
+  pub answered : (v : Location) → Spells b v → (result ≡ Ok v) ⊎ (result ≡ Err error.Memory)
 
 -- the location has the public fields and the text of the other, and is settled
 pub record IsAgain (v again : Location) : Type 0 where
@@ -67,6 +68,5 @@ Written contents old new (Err f) r = (r ≡ Err (Fault f)) × (new ≡ old)
 
 -- the error of a text that was asked for: memory ran out, or it is the fault of a location without text
 abbrev pub IsUnwritten : Result (List ℕ) WriteFault → Error → Type 0
-IsUnwritten r error.Memory = Unit {0}
-IsUnwritten r (error.Unwritable fault) = r ≡ Err fault
-IsUnwritten r _ = ⊥
+IsUnwritten r e = (e ≡ error.Memory)
+    ⊎ ((fault : WriteFault) × (e ≡ error.Unwritable fault) × (r ≡ Err fault))

@@ -3,7 +3,7 @@
 //! No call answers an error whose contract doesn't name it. The words of an error hold no byte of the text that was
 //! refused, in which a password may stand; those of `TooLong` tell its length.
 
-ghost use Rattle.std.specs.Prelude.{◌≡◌};
+ghost use Rattle.std.specs.Prelude.{◌≡◌, ◌↔◌, IsTrue};
 
 use crate::expand_path::ForUser;
 use bstr::BString;
@@ -150,6 +150,23 @@ pub enum Error {
     /// The path could not be resolved.
     #[error("the path can't be resolved")]
     Unresolved,
+}
+
+impl Error {
+    /// Whether memory was refused. No other error comes for that, and this one says nothing of what was given: the same
+    /// call can succeed later. It takes no memory.
+    ///
+    /// ```
+    /// /// Whether something is wrong with what was given, and not that memory was refused.
+    /// fn is_refusal(error: &Error) -> bool {
+    ///     !error.is_memory()
+    /// }
+    /// ```
+    pub fn is_memory(&self) -> bool
+        ensures { IsTrue result ↔ (self.now ≡ Error.Memory) }
+    {
+        matches!(self, Error::Memory)
+    }
 }
 
 impl From<AllocError> for Error {

@@ -10,7 +10,7 @@ ghost use Rattle.gix_url.specs.AnswerLaws.{LineForLine, OneLine, OneSplit};
 ghost use Rattle.gix_url.specs.ComponentLaws.{EqualComponents, OneComponents};
 ghost use Rattle.gix_url.specs.Git.{OneGitReading};
 ghost use Rattle.gix_url.specs.GitClass.{ReadAlike};
-ghost use Rattle.gix_url.specs.Laws.{Apart, Closed, EqualIsSame, Exact, ExactByFields, FedAlike, KeepsEarlier, LocationsFedApart, ProtocolsFedApart, SameComponents, SettledAgain, SpellingLast, TextDecides, TiedIsEqual, Unchanged, Unique, Writable};
+ghost use Rattle.gix_url.specs.Laws.{Apart, Closed, EqualIsSame, Exact, ExactByFields, FedAlike, KeepsEarlier, LocationsFedApart, ProtocolsFedApart, ReadAgain, SameComponents, SettledAgain, SpellingLast, TextDecides, TiedIsEqual, Unchanged, Unique, Writable};
 ghost use Rattle.gix_url.specs.Order.{fed_location, fed_protocol, location_cmp, location_eq, protocol_cmp, protocol_eq};
 ghost use Rattle.gix_url.specs.Records.{KeepsMeaning, MigratedOnce, Migrates, RespelledOnce};
 ghost use Rattle.gix_url.specs.Refusals.{Decided, Exclusive, Flawless};
@@ -29,6 +29,7 @@ pub use crate::value_law::law_value;
 ///   location of its input.
 /// - `settled_again`: the text of a settled location spells a location with the same public fields, which is settled
 ///   and has that text. Rewriters of remotes read back what they wrote. (Each `Url` is such a value: `law_value`.)
+/// - `read_again`: whatever is read of that text, by any reader that keeps to the grammar, is that location again.
 /// - `text_decides`: two settled locations whose texts are equal have equal public fields. Matchers of credentials compare
 ///   texts.
 /// - `components`: what is read of a settled location of HTTP has the same path, query and fragment.
@@ -56,6 +57,7 @@ pub use crate::value_law::law_value;
 pub fn law_separation()
     ensures unique { Unique }
     ensures settled_again { SettledAgain }
+    ensures read_again { ReadAgain }
     ensures text_decides { TextDecides }
     ensures components { SameComponents }
     ensures before { KeepsEarlier }

@@ -48,12 +48,20 @@ use url::read_url;
 /// what it names stands in the bytes. [`Error::Memory`] where memory is refused.
 ///
 /// ```
-/// /// Whether bytes that somebody sent spell a location.
-/// fn is_location(alloc: Global, bytes: &[u8]) -> Result<bool, Error> {
+/// /// Whether bytes that somebody sent spell a location; where memory is refused there is no answer.
+/// fn is_location(alloc: Global, bytes: &[u8]) -> Result<bool, Error>
+///     ensures decided { IfOk result (λ is. IsTrue is ↔ (v : Location) × Spells bytes.now v) }
+///     ensures memory { IfErr result (λ e. e ≡ error.Memory) }
+/// {
 ///     match parse(alloc, BStr::new(bytes)) {
 ///         Ok(_) => Ok(true),
-///         Err(Error::Memory) => Err(Error::Memory),
-///         Err(_) => Ok(false),
+///         Err(error) => {
+///             if error.is_memory() {
+///                 Err(error)
+///             } else {
+///                 Ok(false)
+///             }
+///         }
 ///     }
 /// }
 /// ```

@@ -47,10 +47,11 @@ plain_text v t whole has lacks is = uncontested whole (subst (λ x. Lacks is_con
 -- what is read in a given text, is read alike where the text is the location's
 pub read_alike : (v : Location) (whole : List ℕ) (reading : GitReading) → own_reading v ≡ reading → text v ≡ Ok whole → AgreesWithGit v → is_option_like whole ≡ false → ReadsGiven whole reading → IsReadAlike v
 read_alike v whole reading value has a safe reads =
-    let (t, is, lacks) = a.plain in record {
+    let (t, is, lacks) = a.plain in
+    let read : GitReads whole (own_reading v) = subst (λ r. GitReads whole r) (sym value) record { whole = (plain_text v t whole is lacks has).zero_free; no_option = safe; reads = reads } in record {
       written = whole;
       has_text = has;
-      read = subst (λ r. GitReads whole r) (sym value) record { whole = (plain_text v t whole is lacks has).zero_free; no_option = safe; reads = reads };
+      read = λ s written. subst (λ x. GitReads x (own_reading v)) (one_text has written) read;
     }
 
 -- ---- what Secure Shell reaches

@@ -249,8 +249,7 @@ front_at_colon b front rest cut lacks = record { joined = cut.joined; shape = pl
 
 -- where nothing fits, nothing fits unless memory ran out
 pub none_but : (fits : Location → Type 0) → ((v : Location) → ¬ fits v) → (e : Error) → NoneBut fits e
-none_but fits none error.Memory = tt
-none_but fits none _ = none
+none_but fits none e = inr none
 
 -- a text whose length is tested to be 0 is empty
 pub nil_tested : (t : List ℕ) → true ≡ (length t == 0) → t ≡ []
@@ -412,8 +411,8 @@ spelled_as_plain b front path s v h =
 
 -- what is refused of a wider form is refused of a narrower one
 pub none_weaker : (fits more : Location → Type 0) → ((v : Location) → more v → fits v) → (e : Error) → NoneBut fits e → NoneBut more e
-none_weaker fits more within error.Memory h = tt
-none_weaker fits more within _ h = λ v k. h v (within v k)
+none_weaker fits more within e (inl memory) = inl memory
+none_weaker fits more within e (inr none) = inr (λ v k. none v (within v k))
 
 -- a URL that is too long, or no text, is none
 pub unfit_url : (b front rest : List ℕ) → OtherShape b front rest → ¬ Fits front rest → (v : Location) → ¬ SpellsUrl b v

@@ -187,3 +187,14 @@ read_made v w made bare is valid kept read fault settled = record {
   read = λ t h. (w, read t h, kept);
   settled = λ h. kept ∙ parts_back v w bare is h (settled h) read;
 }
+
+-- what the text was refused with is the answer
+pub refused_made : (v : Location) (r : Result Location Error) (e : Error) → r ≡ Err e → invalid_name v.scheme ≡ None
+    → ((t : List ℕ) → text v ≡ Ok t → Reads t (Err e)) → ((f : WriteFault) → text v ≡ Err f → (let answered : Result Location Error = Err e in answered ≡ Err (error.Unwritable f))) → (IsSettled v → e ≡ error.Memory)
+    → MadeOf v r
+refused_made v r e is valid read fault settled = subst (MadeOf v) (sym is) record {
+  helper_name = λ n h. absurd (cc);
+  fault = λ also f h. fault f h;
+  read = read;
+  settled = settled;
+}

@@ -1,5 +1,5 @@
 -- What a settled location is read as, from its own text.
-use Rattle.std.proofs.Common.{◌≡◌, ℕ, List, Result, Ok, Err, refl, sym, ap, subst, ◌∙◌}
+use Rattle.std.proofs.Common.{◌≡◌, inl, inr, ℕ, List, Result, Ok, Err, refl, sym, ap, subst, ◌∙◌}
 use Rattle.std.specs.Prelude.{IfOk, IfErr}
 use Rattle.bstr.specs.declared.bstring.BString.{BString}
 use Rattle.bstr.specs.Owned.{bstring_bytes}
@@ -10,7 +10,8 @@ use Rattle.gix_url.specs.Value.{Location}
 use Rattle.gix_url.specs.Grammar.{Spells}
 use Rattle.gix_url.specs.Text.{text}
 use Rattle.gix_url.specs.Settled.{IsValue, IsSettled}
-use Rattle.gix_url.specs.Readings.{Refuses, Reads, IsAgain, SpellsAgain, WritesAgain, ReadsAgain}
+use Rattle.gix_url.specs.Laws.{ReadAgain}
+use Rattle.gix_url.specs.Readings.{Reads, IsAgain, SpellsAgain, WritesAgain, ReadsAgain}
 use Rattle.gix_url.proofs.Closed.SettledLemmas.{one_text}
 use Rattle.gix_url.proofs.Unique.UniqueLemmas.{spells_unique}
 use Rattle.gix_url.proofs.Written.AgainLemmas.{settled_again}
@@ -25,6 +26,12 @@ text_again v s is h written =
       again = record { same_fields = back.same_fields; same_text = back.same_text ∙ sym back.has_text; settled = again };
     }
 
+-- and whatever else is read of it is that location too
+pub read_alone : ReadAgain
+read_alone v w t is h written spelled =
+    let again = text_again v t is h written in
+    subst (IsAgain v) (spells_unique t again.back w again.spelled spelled) again.again
+
 -- what writing a settled location into memory answers: its text, or want of memory
 pub written_again : (v : Location) (t : List ℕ) (r : Result BString Error) → IsValue v → Ok t ≡ text v → IfOk r (λ s. bstring_bytes s ≡ t) → IfErr r (λ e. e ≡ error.Memory)
     → IsSettled v → WritesAgain v r
@@ -38,15 +45,9 @@ settled_has_text v f is h fault =
     let both = fault ∙ back.has_text in
     cc
 
--- bytes that spell a location are refused for want of memory alone
-memory_alone : (b : List ℕ) (w : Location) → Spells b w → (e : Error) → Refuses b e → e ≡ error.Memory
-memory_alone b w spelled error.Memory h = refl
-memory_alone b w spelled _ h = absurd (h w spelled)
-
 -- what is read of the bytes that spell a location again is that location
 pub read_again : (v : Location) (b input : List ℕ) (r : Result Location Error) → input ≡ b → SpellsAgain v b → Reads input r → ReadsAgain v r
 read_again v b input r same h reads = read_as v b r h (subst (λ s. Reads s r) same reads)
   where
     read_as : (v : Location) (b : List ℕ) (r : Result Location Error) → SpellsAgain v b → Reads b r → ReadsAgain v r
-    read_as v b (Ok w) h reads = subst (IsAgain v) (spells_unique b h.back w h.spelled reads.found) h.again
-    read_as v b (Err e) h reads = memory_alone b h.back h.spelled e reads.refused
+    read_as v b r h reads = elim (reads.answered h.back h.spelled) [ inl it ↦ subst (ReadsAgain v) (sym it) h.again | inr memory ↦ subst (ReadsAgain v) (sym memory) refl ]

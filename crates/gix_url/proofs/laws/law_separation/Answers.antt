@@ -3,12 +3,14 @@ use Rattle.gix_url.proofs.Unique.UniqueLemmas.{spells_unique}
 use Rattle.gix_url.proofs.Parted.ComponentLemmas.{same_components}
 use Rattle.gix_url.proofs.Readings.FormLemmas.{spelled_from_before, spelled_to_before}
 use Rattle.gix_url.proofs.Written.AgainLemmas.{settled_again, text_decides}
+use Rattle.gix_url.proofs.Written.RereadLemmas.{read_alone}
 use Rattle.gix_url.proofs.laws.law_separation.Goals as goal
 
 pub returns : goal.returns
 returns c = record {
   unique = spells_unique;
   settled_again = settled_again;
+  read_again = read_alone;
   text_decides = text_decides;
   components = same_components;
   before = λ b v. (spelled_from_before b v, spelled_to_before b v);

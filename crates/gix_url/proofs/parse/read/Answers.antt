@@ -1,5 +1,5 @@
 -- What is refused as a text of one form is refused.
-use Rattle.std.proofs.Common.{sym, subst}
+use Rattle.std.proofs.Common.{inr, sym, subst}
 use Rattle.std.proofs.lemmas.Result.{IfErr-weaker}
 use Rattle.gix_url.specs.Grammar.{Spells, SpellsScp, SpellsScpBefore}
 use Rattle.gix_url.specs.Readings.{NoneBut, Refuses}
@@ -7,7 +7,7 @@ use Rattle.gix_url.proofs.Readings.ShapeLemmas.{none_weaker, spelled_as_addresse
 use Rattle.gix_url.proofs.parse.read.Goals as goal
 
 pub returns-in-Empty-clause-refused : goal.returns-in-Empty-clause-refused
-returns-in-Empty-clause-refused c = λ v. subst (λ b. Spells b v → ⊥) (sym c.in-Empty.ensures) (empty_unspelled v)
+returns-in-Empty-clause-refused c = inr λ v. subst (λ b. Spells b v → ⊥) (sym c.in-Empty.ensures) (empty_unspelled v)
 
 pub returns-in-Addressed-clause-refused : goal.returns-in-Addressed-clause-refused
 returns-in-Addressed-clause-refused c =

@@ -1,6 +1,6 @@
 -- A text and a fault exclude each other, and a fault is told as it is; a settled location has a text, which spells it
 -- again.
-use Rattle.std.proofs.Common.{ap, sym, ◌∙◌, Err}
+use Rattle.std.proofs.Common.{inr, ap, refl, sym, ◌∙◌, Err}
 use Rattle.gix_url.specs.declared.error.Error.TheVariants.{Unwritable}
 use Rattle.gix_url.proofs.Written.PieceLemmas.{same_fault}
 use Rattle.gix_url.proofs.Written.RereadLemmas.{written_again, settled_has_text}
@@ -13,7 +13,7 @@ pub returns-in-Err-clause-fault : goal.returns-in-Err-clause-fault
 returns-in-Err-clause-fault c = λ f none. ap (λ g. Err (Unwritable g)) (same_fault _ c.in-Err.fault f c.in-Err.ensures none)
 
 pub returns-in-Err-clause-refused : goal.returns-in-Err-clause-refused
-returns-in-Err-clause-refused c = sym c.in-Err.ensures
+returns-in-Err-clause-refused c = inr (c.in-Err.fault, refl, sym c.in-Err.ensures)
 
 pub returns-in-Ok-clause-settled : goal.returns-in-Ok-clause-settled
 returns-in-Ok-clause-settled c = written_again c.args.self.now _ c.collect_in.result c.law_value.ensures.value c.in-Ok.ensures c.collect_in.ensures.text c.collect_in.ensures.memory
