@@ -145,10 +145,10 @@ class Rust(Binding):
     name, calls = "rust", BOTH | ONLY_RUST
 
     def makes(self, row):
-        """All but a location with a spelling, an error that the crate doesn't have, and what its own `Debug` shows."""
+        """All but a location with a spelling, and an error that the crate doesn't have."""
         parts = [it for it in map(row.members.get, ("url", "other", "error")) if isinstance(it, dict)]
         is_foreign = any(it.get("spelling") is not None or it.get("error") in FOREIGN for it in parts)
-        return super().makes(row) and not is_foreign and "?" not in (row.members.get("style") or "")
+        return super().makes(row) and not is_foreign
 
     def build(self):
         folder = f"{FOLDER}/cargo"

@@ -6,7 +6,7 @@ use gix_url_proved::{ArgumentSafety, PathComponents, Scheme, Url};
 use std::collections::BTreeMap;
 use std::fmt::{Debug, Display, Write};
 use std::hash::{DefaultHasher, Hash, Hasher};
-use std::io::Read;
+use std::io::{self, Read};
 
 /// The members of an order, by their names.
 struct Order(BTreeMap<String, Vec<u8>>);
@@ -191,11 +191,26 @@ fn told_components(parts: &PathComponents<'_>) -> String {
     object([("path", Some(quoted(&parts.path))), ("query", query), ("fragment", parts.fragment.as_ref().map(quoted))])
 }
 
+/// A writer that takes one byte a call.
+#[derive(Default)]
+struct Sips(Vec<u8>);
+
+impl io::Write for Sips {
+    fn write(&mut self, bytes: &[u8]) -> io::Result<usize> {
+        self.0.extend(bytes.first());
+        Ok(bytes.len().min(1))
+    }
+
+    fn flush(&mut self) -> io::Result<()> {
+        Ok(())
+    }
+}
+
 /// What is written of a location, and why nothing is.
 fn write(url: &Url) -> (Vec<u8>, Option<Error>) {
-    let mut written = Vec::new();
+    let mut written = Sips::default();
     let error = url.write_to(&mut written).err();
-    (written, error.map(|error| *error.into_inner().expect("no text").downcast().expect("an error of the crate")))
+    (written.0, error.map(|error| *error.into_inner().expect("no text").downcast().expect("an error of the crate")))
 }
 
 fn told_written(url: &Url) -> String {
@@ -218,7 +233,7 @@ fn told_text(url: &Url) -> String {
 }
 
 /// What is shown of a value in a style, and whether that failed.
-fn told_shown(value: &impl Display, style: &str) -> String {
+fn told_shown(value: &(impl Display + Debug), style: &str) -> String {
     let mut text = String::new();
     let outcome = match style {
         "{:#}" => write!(text, "{value:#}"),
@@ -226,6 +241,8 @@ fn told_shown(value: &impl Display, style: &str) -> String {
         "{:.3}" => write!(text, "{value:.3}"),
         "{:+}" => write!(text, "{value:+}"),
         "{:*^#60.7}" => write!(text, "{value:*^#60.7}"),
+        "{:?}" => write!(text, "{value:?}"),
+        "{:#?}" => write!(text, "{value:#?}"),
         _ => write!(text, "{value}"),
     };
     object([("shown", Some(quoted(text))), ("failed", outcome.is_err().then(|| "true".to_owned()))])

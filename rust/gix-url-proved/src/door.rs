@@ -10,6 +10,9 @@ use crate::{ArgumentSafety, Scheme, Url};
 
 const OK: u32 = 0;
 const NO_ROOM: u32 = 102;
+/// What room holds before a call. A debug build looks for it behind each error, and there it is a byte that is rarely
+/// written.
+const BLANK: u8 = if cfg!(debug_assertions) { 0xA5 } else { 0 };
 
 /// What of a location is a number.
 #[repr(C)]
@@ -174,16 +177,18 @@ fn scheme(number: u8, name: String) -> Scheme {
 }
 
 /// Calls with room, and once more with as much as is needed where it was too little. The call answers its number and how
-/// many bytes it needs.
+/// many bytes it needs; an error, other than that there is too little room, leaves the room as it was.
 fn with_room(ample: usize, mut call: impl FnMut(&mut [u8]) -> (u32, usize)) -> (u32, Vec<u8>) {
-    let mut room = vec![0; ample];
+    let mut room = vec![BLANK; ample];
     let (mut code, mut needed) = call(&mut room);
     if code == NO_ROOM {
-        room.resize(needed, 0);
+        room = vec![BLANK; needed];
         (code, needed) = call(&mut room);
     }
     if code == OK {
         room.truncate(needed);
+    } else {
+        debug_assert!(room.iter().all(|byte| *byte == BLANK), "error {code} leaves something in the room");
     }
     (code, room)
 }

@@ -12,6 +12,7 @@
 //! ```
 
 mod door;
+mod logs;
 pub mod parse;
 mod scheme;
 mod url;

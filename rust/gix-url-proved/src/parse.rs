@@ -59,9 +59,9 @@ pub enum WriteFault {
     UserWithoutHost,
 }
 
-/// Why a text or a value was refused. The words that it is shown by don't show what was refused, which may hold a
-/// password; the fields do, and so does `Debug`.
-#[derive(Clone, Debug, PartialEq, Eq)]
+/// Why a text or a value was refused. What was refused may hold a password: neither the words that the error is shown by
+/// nor `Debug` show a byte of it, and the fields hold it.
+#[derive(Clone, PartialEq, Eq)]
 pub enum Error {
     /// Memory was refused.
     Memory,

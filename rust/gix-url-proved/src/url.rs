@@ -329,22 +329,6 @@ impl fmt::Display for Url {
     }
 }
 
-impl fmt::Debug for Url {
-    /// Shows all parts, with `redacted` in place of the field `password`.
-    fn fmt(&self, f: &mut fmt::Formatter<'_>) -> fmt::Result {
-        f.debug_struct("Url")
-            .field("scheme", &self.scheme)
-            .field("user", &self.user)
-            .field("password", &self.password.as_ref().map(|_| "redacted"))
-            .field("host", &self.host)
-            .field("serialize_alternative_form", &self.serialize_alternative_form)
-            .field("port", &self.port)
-            .field("path", &self.path)
-            .field("spelling", &self.spelling)
-            .finish()
-    }
-}
-
 impl TryFrom<&str> for Url {
     type Error = Error;
 

@@ -1,0 +1,92 @@
+//! What a log may hold of a location and of an error: `Debug`, without the field `password` and without refused texts.
+//!
+//! A location shows every part but that field; an error shows the length of a text that was refused, and never its
+//! bytes. Otherwise the shape is the one that a derive gives, with bytes as a text. Nothing else is hidden: a secret may
+//! also stand where the grammar puts no password, as the user of `https://token@h/p`, and a log shows it there.
+
+use crate::parse::Error;
+use crate::Url;
+use std::fmt::{self, Write};
+
+impl fmt::Debug for Url {
+    /// Shows all parts, with `redacted` in place of the field `password`.
+    fn fmt(&self, f: &mut fmt::Formatter<'_>) -> fmt::Result {
+        f.debug_struct("Url")
+            .field("scheme", &self.scheme)
+            .field("user", &self.user)
+            .field("password", &self.password.as_ref().map(|_| "redacted"))
+            .field("host", &self.host)
+            .field("serialize_alternative_form", &self.serialize_alternative_form)
+            .field("port", &self.port)
+            .field("path", &Text(&self.path))
+            .field("spelling", &self.spelling.as_deref().map(Text))
+            .finish()
+    }
+}
+
+impl fmt::Debug for Error {
+    /// Shows the fields, with the length of a text in place of its bytes.
+    ///
+    /// ```
+    /// let error = gix_url_proved::parse(b"ssh://user:secret@h:99999/p").unwrap_err();
+    /// assert_eq!(format!("{error:?}"), "BadUrl { kind: Url, fault: BadPort, input: 27 bytes }");
+    /// ```
+    fn fmt(&self, f: &mut fmt::Formatter<'_>) -> fmt::Result {
+        match self {
+            Error::Memory => f.write_str("Memory"),
+            Error::EmptyLocal => f.write_str("EmptyLocal"),
+            Error::MissingPath { kind, input } => {
+                f.debug_struct("MissingPath").field("kind", kind).field("input", &Length::of(input)).finish()
+            }
+            Error::NotUtf8 { kind, input } => {
+                f.debug_struct("NotUtf8").field("kind", kind).field("input", &Length::of(input)).finish()
+            }
+            Error::TooLong { shown, total } => {
+                f.debug_struct("TooLong").field("shown", &Length::of(shown)).field("total", total).finish()
+            }
+            Error::BadUrl { kind, fault, input } => f
+                .debug_struct("BadUrl")
+                .field("kind", kind)
+                .field("fault", fault)
+                .field("input", &Length::of(input))
+                .finish(),
+            Error::HelperName { name } => f.debug_struct("HelperName").field("name", &Length::of(name)).finish(),
+            Error::Unwritable(fault) => f.debug_tuple("Unwritable").field(fault).finish(),
+        }
+    }
+}
+
+/// What is shown in place of bytes: how many they are.
+struct Length(usize);
+
+impl Length {
+    fn of(bytes: &[u8]) -> Length {
+        Length(bytes.len())
+    }
+}
+
+impl fmt::Debug for Length {
+    fn fmt(&self, f: &mut fmt::Formatter<'_>) -> fmt::Result {
+        write!(f, "{} bytes", self.0)
+    }
+}
+
+/// Bytes as a text in quotes, with an escape for what doesn't print and for each byte that is part of no character.
+struct Text<'a>(&'a [u8]);
+
+impl fmt::Debug for Text<'_> {
+    fn fmt(&self, f: &mut fmt::Formatter<'_>) -> fmt::Result {
+        f.write_char('"')?;
+        for chunk in self.0.utf8_chunks() {
+            for character in chunk.valid().chars() {
+                match u8::try_from(character) {
+                    Ok(b'\0') => f.write_str("\\0")?,
+                    Ok(byte) if byte.is_ascii() => write!(f, "{}", byte.escape_ascii())?,
+                    _ => write!(f, "{}", character.escape_debug())?,
+                }
+            }
+            write!(f, "{}", chunk.invalid().escape_ascii())?;
+        }
+        f.write_char('"')
+    }
+}
