@@ -20,7 +20,7 @@ MOST_BYTES = 6
 OWN_BYTES = 2_000_000
 MOST_GROWTH = 4
 # Bytes that a call of the system reads, at the least, and how many such calls the program makes beside.
-LEAST_READ = 4096
+LEAST_READ = 1024
 OWN_READS = 1000
 # A program that takes longer is stopped.
 MOST_SECONDS = 120
