@@ -24,7 +24,8 @@ URLS = [
     b"http://h/?#", b"git://[::1]:9418/r", b"git://FE80::1/p", b"HTTP://H/p", b"x://", b"x://FE80::1/p", b"http://:x@h/",
     b"http://:@h/", b"http://a@b@h/", b"ssh://[::1]:22/p", b"ssh://%5Bx/p", b"ssh://h/%7Ea", b"ssh://h/~/r", b"git://h/~bob/r",
     b"ssh://host/~a%20b", b"ssh://h:0/p", b"ftp://a:b:c/p", b"http://[FE80::1%25Eth0]:/p", b"http://h%41:/p", b"ssh+git:///p",
-    b"ssh://[]/p", b"git://]/p", b"ssh://-Fconfig@host/repo", b"ssh://-h/-r", b"http://h/a<b", b"http://h/%1B%22", b"ext://a/b",
+    b"ssh://[]/p", b"git://]/p", b"ssh://-Fconfig@host/repo", b"ssh://-h/-r", b"http://h/a<b", b"http://h/%1B%22",
+    b"ssh://a%1Bb@h/p", b"http://u:p%1B@h/?a%1Bb=c%1Bd#f%1Bg", b"git://h/~b%1Bo/r", b"x://h%1B/p", b"ext://a/b",
     "http://ä:ö@h/ü".encode(), b"http://h%41/~x", b"http://h:/p", b"http://h:00080/",
     b"http://" + "ö".encode() * 400 + b"@h/"]
 FILES = [b"file:///p", b"file://h/~bob/x", b"file://x:%20/p"]

@@ -1,4 +1,4 @@
-"""Refused memory: counts the requests of each call, and refuses each of them in turn.
+"""Refused memory: counts the requests of each call and the bytes that they ask for, and refuses each of them in turn.
 
 The rows are those of all tables in `vectors/`, and the program `answers` makes the calls, an order a run: one run ends
 before the call and one makes it, so what the call asks for is the difference. Each request goes by `refuse.c`, which the
@@ -9,6 +9,7 @@ import concurrent.futures
 import itertools
 import json
 import os
+import re
 import subprocess
 
 import rows
@@ -29,18 +30,17 @@ class Ran:
     """A run of a program whose requests are counted, with one of them refused; with none for 0."""
 
     def __init__(self, words, shim, given, refused):
-        reader, writer = os.pipe()
-        env = {"LD_PRELOAD": shim, "REFUSED": str(refused), "REQUESTS_TO": str(writer)}
-        try:
-            ran = subprocess.run(words, input=given, env=env, pass_fds=[writer], capture_output=True, timeout=60)
-        finally:
-            os.close(writer)
-            with open(reader, "rb") as it:
-                self.requests = it.read()
+        with open(os.memfd_create("requests"), "rb") as told:
+            env = {"LD_PRELOAD": shim, "REFUSED": str(refused), "REQUESTS_TO": str(told.fileno())}
+            ran = subprocess.run(words, input=given, env=env, pass_fds=[told.fileno()], capture_output=True, timeout=60)
+            told.seek(0)
+            self.told = told.read()
         self.status, self.out, self.err = ran.returncode, ran.stdout, ran.stderr
+        # How many bytes each request asks for.
+        self.requests = [*map(int, re.findall(rb"\d+", self.told))]
 
     def is_refused(self):
-        return b"-" in self.requests
+        return b"-" in self.told
 
 
 def build_shim(room):
@@ -80,6 +80,14 @@ def tells_memory(row, ran):
         return False
 
 
+def asked_faults(row, asked):
+    """What is wrong with the requests of the call of a row, of which the bytes are given that each asks for."""
+    if row.requests is not None and len(asked) > row.requests:
+        yield f"{row.place}: makes {len(asked)} requests for memory, and may make {row.requests}: {row.order()}"
+    if row.bytes is not None and sum(asked) > row.bytes:
+        yield f"{row.place}: asks for {sum(asked)} bytes of memory, and may ask for {row.bytes}: {row.order()}"
+
+
 def ample_fault(row, prepared, ample):
     """What is wrong with the runs without and with the call of a row, where memory is ample."""
     if (prepared.status, prepared.out) != (0, b"\n"):
@@ -106,12 +114,12 @@ class Calls:
         fault = ample_fault(row, prepared, ample)
         if fault:
             return [fault], 0
-        before, made, found = len(prepared.requests), len(ample.requests) - len(prepared.requests), []
-        if row.requests is not None and made > row.requests:
-            found.append(f"{row.place}: makes {made} requests for memory, and may make {row.requests}: {row.order()}")
-        for number in range(1, made + 1):
+        before = len(prepared.requests)
+        asked = ample.requests[before:]
+        found = [*asked_faults(row, asked)]
+        for number in range(1, len(asked) + 1):
             found += self.refuse(row, before, number)
-        return found, made
+        return found, len(asked)
 
     def refuse(self, row, before, number):
         """What is wrong where a request of the call is refused, which comes behind those that were made before it."""

@@ -1,6 +1,6 @@
-// Stands before the allocator of the C library, under LD_PRELOAD: each request for memory writes a byte to the file
-// descriptor that REQUESTS_TO names, and the request whose number REFUSED names is refused. The Nth `+` of what was
-// written is the Nth request, and a `-` is the one that was refused.
+// Stands before the allocator of the C library, under LD_PRELOAD: each request for memory writes a word to the file
+// descriptor that REQUESTS_TO names, and the request whose number REFUSED names is refused. A word is how many bytes are
+// asked for, and a `+`, or a `-` for the request that was refused: the Nth word is the Nth request.
 
 extern void *__libc_malloc(unsigned long size);
 extern void *__libc_realloc(void *old, unsigned long size);
@@ -10,12 +10,21 @@ extern long write(int file, const void *bytes, unsigned long size);
 
 static int requests;
 
-static int is_refused(void) {
+static void tell(unsigned long size, char end) {
+  char word[32], *at = word + sizeof word;
+  *--at = end;
+  do
+    *--at = '0' + size % 10;
+  while (size /= 10);
+  write(atoi(getenv("REQUESTS_TO")), at, word + sizeof word - at);
+}
+
+static int is_refused(unsigned long size) {
   int refused = ++requests == atoi(getenv("REFUSED"));
-  write(atoi(getenv("REQUESTS_TO")), refused ? "-" : "+", 1);
+  tell(size, refused ? '-' : '+');
   return refused;
 }
 
-void *malloc(unsigned long size) { return is_refused() ? 0 : __libc_malloc(size); }
+void *malloc(unsigned long size) { return is_refused(size) ? 0 : __libc_malloc(size); }
 
-void *realloc(void *old, unsigned long size) { return is_refused() ? 0 : __libc_realloc(old, size); }
+void *realloc(void *old, unsigned long size) { return is_refused(size) ? 0 : __libc_realloc(old, size); }

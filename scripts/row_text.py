@@ -1,4 +1,4 @@
-"""Bytes as the texts of rows, and texts that a row spells in pieces."""
+"""Bytes as the texts of rows, and texts and lists that a row spells in pieces."""
 
 # The characters of rows for bytes that are no part of UTF-8, by those that Python has for them.
 CHARACTERS = {0xDC00 + byte: 0xEF00 + byte for byte in range(0x80, 0x100)}
@@ -16,9 +16,16 @@ def bytes_of(text):
 
 
 def joined(value):
-    """A value with its texts put together: `{"joined": [..]}` is pieces, each a text, or a text and how often it stands there."""
+    """A value with its texts and its lists put together.
+
+    `{"joined": [..]}` is the text of these pieces, each a text, or a text and how often it stands there; and
+    `{"repeated": [value, count]}` is the list that has the value so often.
+    """
     if isinstance(value, dict) and set(value) == {"joined"}:
         return "".join(it if isinstance(it, str) else it[0] * it[1] for it in value["joined"])
+    if isinstance(value, dict) and set(value) == {"repeated"}:
+        repeated, count = value["repeated"]
+        return [joined(repeated)] * count
     if isinstance(value, dict):
         return {name: joined(it) for name, it in value.items()}
     return [joined(it) for it in value] if isinstance(value, list) else value

@@ -1,7 +1,7 @@
 """The rows of the tables in `vectors/`: a line of JSON each, a call with what it is over, and the outcome that is expected.
 
-Beside the call and its members a row has `is`, the outcome, `from`, where the expectation comes from, and `requests` where
-the requests of the call for memory are counted. How a line spells long texts
+Beside the call and its members a row has `is`, the outcome, `from`, where the expectation comes from, and `requests` and
+`bytes` where the requests of the call for memory are counted, and the bytes that they ask for. How a line spells long texts
 is told in `row_text.py`, and how it stands for many rows in `many_rows.py`.
 
 Of JSON that is refused a row may expect less than the whole: `{"refused": true}`, whatever the words are; words that end
@@ -22,7 +22,7 @@ FOLDER = f"{ROOT}/vectors"
 # Where an expectation may come from, and nothing in this library is among it.
 SOURCES = {"crate", "oracle", "reading", "git", "hand", "rfc"}
 # The members of a row that are no part of the order.
-OWN = {"is", "from", "requests", "note", "class", "git"}
+OWN = {"is", "from", "requests", "bytes", "note", "class", "git"}
 # Errors that keep the text that they are about.
 KEEPING = ("MissingPath", "NotUtf8", "BadUrl")
 MEMORY = {"error": "Memory"}
@@ -59,7 +59,8 @@ class Row:
     """A call, and the outcome that is expected."""
 
     def __init__(self, place, members):
-        self.place, self.source, self.requests = place, members.get("from"), members.get("requests")
+        self.place, self.source = place, members.get("from")
+        self.requests, self.bytes = members.get("requests"), members.get("bytes")
         self.class_name, self.git = members.get("class"), members.get("git")
         self.members = {name: joined(it) for name, it in members.items() if name not in OWN}
         self.expected = keeps(joined(members.get("is")), self.members.get("text"))

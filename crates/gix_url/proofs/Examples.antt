@@ -10,3 +10,4 @@ pub mod RowGitLemmas
 pub mod RowFlawLemmas
 pub mod RowLengthLemmas
 pub mod RowRefusalLemmas
+pub mod RowRunLemmas

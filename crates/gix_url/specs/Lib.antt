@@ -53,6 +53,7 @@ pub mod ClassRows
 pub mod HomeRows
 pub mod GitRows
 pub mod RefusalRows
+pub mod RunRows
 -- What serves the proofs of the readers, of the writer and of the settled test alone.
 pub mod Cuts
 pub mod Walks

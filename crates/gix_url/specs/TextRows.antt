@@ -6,10 +6,11 @@ use Rattle.gix_url.specs.Value.{path_alone}
 use Rattle.gix_url.specs.Value.Protocol.{file, git, ssh, http, https, ext, helper, helper_url}
 use Rattle.gix_url.specs.Escapes.{is_sound, path_set, password_set, user_set, escaped_percents}
 use Rattle.gix_url.specs.Hosts.{normal_host}
-use Rattle.gix_url.specs.Schemes.{protocol_of, default_port_of}
+use Rattle.gix_url.specs.Schemes.{protocol_of, default_port_of, requires_host}
 use Rattle.gix_url.specs.Grammar.{from_home, or_root}
 use Rattle.gix_url.specs.Arguments.{path_argument}
 use Rattle.gix_url.specs.Text.{text}
+use Rattle.gix_url.specs.Settled.{is_ftp}
 use Rattle.gix_url.specs.Records.{migrated}
 use Rattle.gix_url.specs.Examples.{o_umlaut, no_text, at_host, with_spelling}
 
@@ -39,7 +40,7 @@ HostRows =
     × (normal_host (codes "A~B") ≡ codes "A~B")
     × (normal_host (codes "*.Q_R-S") ≡ codes "*.q_r-s")
 
--- protocols by their schemes, and the ports that they stand for
+-- protocols by their schemes, the ports that they stand for, and which schemes need a host
 abbrev pub SchemeRows : Type 0
 SchemeRows =
     (protocol_of (codes "git+ssh") ≡ ssh)
@@ -53,6 +54,10 @@ SchemeRows =
     × (default_port_of ssh ≡ Some 22)
     × (default_port_of http ≡ Some 80)
     × (default_port_of https ≡ Some 443)
+    × (requires_host (codes "ftp") ≡ true)
+    × (requires_host (codes "ftps") ≡ true)
+    × (requires_host (codes "x") ≡ false)
+    × (is_ftp (codes "ftps") ≡ true)
 
 -- paths below a home folder, and paths as arguments
 abbrev pub PathRows : Type 0

@@ -9,6 +9,7 @@ ghost use Rattle.gix_url.specs.GitRows.{GitTextRows, GitUrlRows, NoGitRows};
 ghost use Rattle.gix_url.specs.HomeRows.{ExpandedRows, ParentRows, PieceRows, RawPartRows, SpelledPartRows, SplitRows};
 ghost use Rattle.gix_url.specs.NameRows.{AuthorityRows, LengthRows, LiteralAgain, LiteralRows, NameRows, NoAuthorityRows, NoNameRows, NormalAgain};
 ghost use Rattle.gix_url.specs.RefusalRows.{CornerRows, FlawlessRows, NoCornerRows, NoNameFlawRows, NoPartFlawRows, NoUrlFlawRow};
+ghost use Rattle.gix_url.specs.RunRows.{KeptRows, ReadRow, UnwrittenRow};
 ghost use Rattle.gix_url.specs.TextRows.{EscapeRows, FaultRows, HostRows, OtherTextRows, PathRows, RecordRows, SchemeRows, UrlTextRows, UserTextRows};
 
 /// Classes of bytes, with all their members.
@@ -113,6 +114,13 @@ fn law_class()
     ensures web { UnsettledWebRows }
     ensures urls { UnsettledUrlRows }
     ensures others { UnsettledOtherRows }
+{}
+
+/// What runs and errors hold on to where something failed.
+fn law_failures()
+    ensures unwritten { UnwrittenRow }
+    ensures read { ReadRow }
+    ensures kept { KeptRows }
 {}
 
 /// Corners of what is read.

@@ -14,9 +14,9 @@ escape_rows = (refl, refl, refl, refl, refl, refl, refl, refl, refl, refl, refl)
 pub host_rows : HostRows
 host_rows = (refl, refl, refl)
 
--- protocols by their schemes, and the ports that they stand for
+-- protocols by their schemes, the ports that they stand for, and which schemes need a host
 pub scheme_rows : SchemeRows
-scheme_rows = (refl, refl, refl, refl, refl, refl, refl, refl, refl, refl, refl)
+scheme_rows = (refl, refl, refl, refl, refl, refl, refl, refl, refl, refl, refl, refl, refl, refl, refl)
 
 -- paths below a home folder, and paths as arguments
 pub path_rows : PathRows
