@@ -1,26 +1,233 @@
-/* Null pointers, no lengths, and structs that hold no location: each is answered. */
+/* What each call leaves behind: with each pointer null in turn, with structs that hold no location, with a location without a
+ * text, and with room that is one too small. All that a call may store into is compared byte by byte with what stood there. */
 #include "told.h"
 
 #include <string.h>
 
+#define TEXT(word) {word, sizeof word - 1}
+
 static gix_url_text text(const char *word) { return (gix_url_text){word, strlen(word)}; }
 
-static void of_reading(void) {
+/* What the calls store into. */
+typedef struct places {
     gix_url url;
-    size_t needed = 77;
+    gix_url_seen seen;
+    gix_url_components parts;
+    gix_url_pair pairs[2];
+    bool is;
+    size_t len, count;
     gix_url_problem problem;
     char room[64];
-    HOLDS(gix_url_parse("/a", 2, room, sizeof room, NULL, NULL, NULL) == GIX_URL_NULL);
-    HOLDS(gix_url_parse(NULL, 0, room, sizeof room, &url, NULL, NULL) == GIX_URL_EMPTY_LOCAL);
-    HOLDS(gix_url_parse(NULL, 5, NULL, 5, &url, NULL, NULL) == GIX_URL_EMPTY_LOCAL);
-    HOLDS(gix_url_parse("/a", 0, room, sizeof room, &url, NULL, NULL) == GIX_URL_EMPTY_LOCAL);
-    HOLDS(gix_url_parse("/a", 2, NULL, 64, &url, &needed, NULL) == GIX_URL_NO_ROOM && needed == 2);
-    HOLDS(gix_url_parse("/a", 2, room, 0, &url, NULL, NULL) == GIX_URL_NO_ROOM);
-    HOLDS(gix_url_parse("/a", 2, room, 1, &url, NULL, NULL) == GIX_URL_NO_ROOM);
-    HOLDS(gix_url_parse("/a", 2, room, 2, &url, NULL, NULL) == GIX_URL_OK && url.path.at == room && url.path.len == 2);
-    HOLDS(gix_url_parse("a\0b", 3, room, 3, &url, NULL, NULL) == GIX_URL_OK && memcmp(room, "a\0b", 3) == 0);
-    HOLDS(gix_url_parse("http://h:x/", 11, room, sizeof room, &url, NULL, &problem) == GIX_URL_BAD_URL);
-    HOLDS(problem.kind == GIX_URL_KIND_URL && problem.fault == GIX_URL_BAD_PORT && problem.write_fault == 0);
+} places;
+
+/* The pointers that a call takes: what it is about, and the places of its answer. */
+enum { SUBJECT = 1, ROOM = 2, PAIRS = 4, ANSWER = 8, LENGTH = 16, COUNT = 32, PROBLEM = 64, POINTERS = 128 };
+
+/* The calls, with one of these pointers null. */
+typedef gix_url_error caller(const gix_url *url, places *to, size_t room, int null);
+#define OR_NULL(pointer, place) (null == (pointer) ? NULL : (place))
+
+static gix_url_error parse(const gix_url *url, places *to, size_t room, int null) {
+    return gix_url_parse(OR_NULL(SUBJECT, url->path.at), url->path.len, OR_NULL(ROOM, to->room), room, OR_NULL(ANSWER, &to->url),
+                         OR_NULL(LENGTH, &to->len), OR_NULL(PROBLEM, &to->problem));
+}
+
+static gix_url_error make(const gix_url *url, places *to, size_t room, int null) {
+    return gix_url_from_parts(OR_NULL(SUBJECT, url), OR_NULL(ROOM, to->room), room, OR_NULL(ANSWER, &to->url),
+                              OR_NULL(LENGTH, &to->len), OR_NULL(PROBLEM, &to->problem));
+}
+
+static gix_url_error settle(const gix_url *url, places *to, size_t room, int null) {
+    (void)room;
+    return gix_url_is_settled(OR_NULL(SUBJECT, url), OR_NULL(ANSWER, &to->is));
+}
+
+static gix_url_error agree(const gix_url *url, places *to, size_t room, int null) {
+    (void)room;
+    return gix_url_agrees_with_git(OR_NULL(SUBJECT, url), OR_NULL(ANSWER, &to->is));
+}
+
+static gix_url_error write(const gix_url *url, places *to, size_t room, int null) {
+    return gix_url_write(OR_NULL(SUBJECT, url), OR_NULL(ROOM, to->room), room, OR_NULL(LENGTH, &to->len),
+                         OR_NULL(PROBLEM, &to->problem));
+}
+
+static gix_url_error show(const gix_url *url, places *to, size_t room, int null) {
+    return gix_url_display(OR_NULL(SUBJECT, url), OR_NULL(ROOM, to->room), room, OR_NULL(LENGTH, &to->len),
+                           OR_NULL(PROBLEM, &to->problem));
+}
+
+static gix_url_error look(const gix_url *url, places *to, size_t room, int null) {
+    (void)room;
+    return gix_url_look(OR_NULL(SUBJECT, url), OR_NULL(ANSWER, &to->seen));
+}
+
+static gix_url_error part(const gix_url *url, places *to, size_t room, int null) {
+    return gix_url_path_query_fragment(OR_NULL(SUBJECT, url), OR_NULL(ROOM, to->room), room, OR_NULL(PAIRS, to->pairs), 2,
+                                       OR_NULL(ANSWER, &to->parts), OR_NULL(LENGTH, &to->len), OR_NULL(COUNT, &to->count));
+}
+
+/* Each call with the pointers that it takes, and those of them that may not be null. */
+enum { OF_READ, OF_MAKE, OF_SETTLED, OF_AGREES, OF_WRITE, OF_SHOW, OF_LOOK, OF_PARTS, CALLS };
+static const struct {
+    caller *call;
+    int takes, wants;
+} calls[CALLS] = {
+    [OF_READ] = {parse, SUBJECT | ROOM | ANSWER | LENGTH | PROBLEM, ANSWER},
+    [OF_MAKE] = {make, SUBJECT | ROOM | ANSWER | LENGTH | PROBLEM, SUBJECT | ANSWER},
+    [OF_SETTLED] = {settle, SUBJECT | ANSWER, SUBJECT | ANSWER},
+    [OF_AGREES] = {agree, SUBJECT | ANSWER, SUBJECT | ANSWER},
+    [OF_WRITE] = {write, SUBJECT | ROOM | LENGTH | PROBLEM, SUBJECT | LENGTH},
+    [OF_SHOW] = {show, SUBJECT | ROOM | LENGTH | PROBLEM, SUBJECT | LENGTH},
+    [OF_LOOK] = {look, SUBJECT | ANSWER, SUBJECT | ANSWER},
+    [OF_PARTS] = {part, SUBJECT | ROOM | PAIRS | ANSWER | LENGTH | COUNT, SUBJECT | ANSWER},
+};
+
+/* What a call is to answer: an error with its problem, or GIX_URL_OK with as many bytes, and for components so many pairs. */
+typedef struct answer {
+    gix_url_error error;
+    gix_url_problem problem;
+    size_t len, count;
+} answer;
+
+/* The same with this pointer null, in room of this size. */
+static answer answer_with(int call, answer wanted, size_t room, int null) {
+    if (null & calls[call].wants) wanted.error = GIX_URL_NULL;
+    else if (null == SUBJECT) wanted = (answer){.error = GIX_URL_EMPTY_LOCAL};
+    else if (wanted.error == GIX_URL_OK && (room < wanted.len || (null == ROOM && wanted.len) || (null == PAIRS && wanted.count)))
+        wanted.error = GIX_URL_NO_ROOM;
+    return wanted;
+}
+
+/* Stores what is to be stored beside the answer itself. */
+static void store(int call, const answer *answer, int null, places *to) {
+    int stored = answer->error == GIX_URL_NULL ? 0 : calls[call].takes & ~null;
+    if (stored & PROBLEM) memcpy(&to->problem, &answer->problem, sizeof to->problem);
+    if (answer->error != GIX_URL_OK && answer->error != GIX_URL_NO_ROOM) return;
+    if (stored & LENGTH) to->len = answer->len;
+    if (stored & COUNT) to->count = answer->count;
+}
+
+/* Takes over what only GIX_URL_OK stores, which other tests look at. */
+static void take_over(const answer *answer, const places *got, places *to) {
+    memcpy(to->room, got->room, answer->len);
+    memcpy(to->pairs, got->pairs, answer->count * sizeof *to->pairs);
+    memcpy(&to->url, &got->url, sizeof to->url);
+    memcpy(&to->seen, &got->seen, sizeof to->seen);
+    memcpy(&to->parts, &got->parts, sizeof to->parts);
+    memcpy(&to->is, &got->is, sizeof to->is);
+}
+
+static void answers_so(int call, const gix_url *url, answer wanted, size_t room, int null) {
+    static places got, kept;
+    memset(&got, 0xA5, sizeof got);
+    memset(&kept, 0xA5, sizeof kept);
+    wanted = answer_with(call, wanted, room, null);
+    HOLDS(calls[call].call(url, &got, room, null) == wanted.error);
+    store(call, &wanted, null, &kept);
+    if (wanted.error == GIX_URL_OK) take_over(&wanted, &got, &kept);
+    HOLDS(memcmp(&got, &kept, sizeof got) == 0);
+}
+
+/* The call answers so with no pointer null and with each in turn; and in room of just as many bytes, and of one less. */
+static void answers(int call, const gix_url *url, answer wanted) {
+    about(url->path);
+    for (int null = 0; null < POINTERS; null = null ? 2 * null : 1)
+        if (null == 0 || null & calls[call].takes) answers_so(call, url, wanted, sizeof((places *)0)->room, null);
+    answers_so(call, url, wanted, wanted.len, 0);
+    if (wanted.len) answers_so(call, url, wanted, wanted.len - 1, 0);
+}
+
+/* Inputs, and what reading them answers. */
+static const struct {
+    gix_url_text input;
+    answer read;
+} inputs[] = {
+    {TEXT("/a"), {.len = 2}},
+    {TEXT("a\0b"), {.len = 3}},
+    {TEXT("http://u:secret@h/a?b=c#d"), {.len = 16}},
+    {TEXT(""), {GIX_URL_EMPTY_LOCAL, {0}, 0, 0}},
+    {TEXT("http://h:x/"), {GIX_URL_BAD_URL, {.kind = GIX_URL_KIND_URL, .fault = GIX_URL_BAD_PORT}, 0, 0}},
+    {TEXT("ssh://h"), {GIX_URL_MISSING_PATH, {.kind = GIX_URL_KIND_URL}, 0, 0}},
+    {TEXT("http://h/\xff"), {GIX_URL_NOT_UTF8, {.kind = GIX_URL_KIND_URL}, 0, 0}},
+};
+
+#define NO_LOCATION {GIX_URL_NO_LOCATION, {0}, 0, 0}
+#define UNWRITABLE(why) {GIX_URL_UNWRITABLE, {.write_fault = (why)}, 0, 0}
+
+/* Locations, and what the calls answer that make, write, show and take apart; those that look at one answer as the last. */
+static const struct {
+    gix_url url;
+    answer made, written, shown, parted;
+} locations[] = {
+    {{.scheme = GIX_URL_HTTP, .user = TEXT("u"), .password = TEXT("secret"), .host = TEXT("h"), .path = TEXT("/a?b=c#d")},
+     {.len = 16}, {.len = 25}, {.len = 27}, {.len = 5, .count = 1}},
+    {{.scheme = (gix_url_scheme)8}, NO_LOCATION, NO_LOCATION, NO_LOCATION, NO_LOCATION},
+    {{.scheme = (gix_url_scheme)256}, NO_LOCATION, NO_LOCATION, NO_LOCATION, NO_LOCATION},
+    {{.scheme = GIX_URL_HELPER, .name = TEXT("\xff")}, NO_LOCATION, NO_LOCATION, NO_LOCATION, NO_LOCATION},
+    {{.user = TEXT("\xc3")}, NO_LOCATION, NO_LOCATION, NO_LOCATION, NO_LOCATION},
+    {{.password = TEXT("\xc3")}, NO_LOCATION, NO_LOCATION, NO_LOCATION, NO_LOCATION},
+    {{.host = TEXT("\xff")}, NO_LOCATION, NO_LOCATION, NO_LOCATION, NO_LOCATION},
+    {{.scheme = GIX_URL_SSH, .user = TEXT("u"), .password = TEXT("secret"), .path = TEXT("/p")},
+     UNWRITABLE(GIX_URL_WRITE_USER_WITHOUT_HOST), UNWRITABLE(GIX_URL_WRITE_USER_WITHOUT_HOST),
+     UNWRITABLE(GIX_URL_WRITE_USER_WITHOUT_HOST), {.len = 2}},
+    {{.scheme = GIX_URL_SSH, .host = TEXT("h"), .password = TEXT("secret"), .path = TEXT("p")},
+     UNWRITABLE(GIX_URL_WRITE_RELATIVE_SSH), UNWRITABLE(GIX_URL_WRITE_RELATIVE_SSH),
+     UNWRITABLE(GIX_URL_WRITE_RELATIVE_SSH), {.len = 1}},
+    {{.scheme = GIX_URL_HELPER, .name = TEXT("a"), .password = TEXT("secret"), .path = TEXT("x")},
+     UNWRITABLE(GIX_URL_WRITE_HELPER_PARTS), UNWRITABLE(GIX_URL_WRITE_HELPER_PARTS), UNWRITABLE(GIX_URL_WRITE_HELPER_PARTS),
+     {.len = 1}},
+    {{.scheme = GIX_URL_HELPER, .name = TEXT("-a"), .path = TEXT("x")}, {GIX_URL_HELPER_NAME, {0}, 0, 0},
+     UNWRITABLE(GIX_URL_WRITE_HELPER_NAME), UNWRITABLE(GIX_URL_WRITE_HELPER_NAME), {.len = 1}},
+};
+
+static void of_tables(void) {
+    for (size_t i = 0; i < sizeof inputs / sizeof *inputs; i++) {
+        gix_url about_input = {.path = inputs[i].input};
+        answers(OF_READ, &about_input, inputs[i].read);
+    }
+    for (size_t i = 0; i < sizeof locations / sizeof *locations; i++) {
+        const gix_url *url = &locations[i].url;
+        const answer looked = {.error = locations[i].parted.error};
+        answers(OF_MAKE, url, locations[i].made);
+        answers(OF_WRITE, url, locations[i].written);
+        answers(OF_SHOW, url, locations[i].shown);
+        answers(OF_PARTS, url, locations[i].parted);
+        answers(OF_SETTLED, url, looked);
+        answers(OF_AGREES, url, looked);
+        answers(OF_LOOK, url, looked);
+    }
+}
+
+/* Room for pairs whose size is no number counts as none. */
+static void of_pair_room(void) {
+    const gix_url url = {.scheme = GIX_URL_HTTP, .host = TEXT("h"), .path = TEXT("/?b=c")};
+    static const size_t rooms[] = {SIZE_MAX, SIZE_MAX / 2 + 2, SIZE_MAX / sizeof(gix_url_pair) + 1};
+    for (size_t i = 0; i < sizeof rooms / sizeof *rooms; i++) {
+        places got, kept;
+        memset(&got, 0xA5, sizeof got);
+        memcpy(&kept, &got, sizeof got);
+        kept.len = 3, kept.count = 1;
+        gix_url_error error = gix_url_path_query_fragment(&url, got.room, sizeof got.room, got.pairs, rooms[i], &got.parts,
+                                                          &got.len, &got.count);
+        HOLDS(error == GIX_URL_NO_ROOM);
+        HOLDS(memcmp(&got, &kept, sizeof got) == 0);
+    }
+}
+
+/* Long parts are no reason for an error. */
+static void of_long_parts(void) {
+    static char bytes[100000];
+    memset(bytes, 'a', sizeof bytes);
+    const gix_url_text part = {bytes, sizeof bytes};
+    const gix_url locations[] = {{.user = part, .host = TEXT("h")}, {.password = part}, {.host = part}, {.path = part},
+                                 {.path = TEXT("/"), .spelling = part}, {.scheme = GIX_URL_HELPER, .name = part}};
+    for (size_t i = 0; i < sizeof locations / sizeof *locations; i++)
+        for (int call = OF_SETTLED; call < CALLS; call++) {
+            places got;
+            gix_url_error error = calls[call].call(&locations[i], &got, sizeof got.room, 0);
+            HOLDS(error == GIX_URL_OK || error == GIX_URL_NO_ROOM);
+        }
 }
 
 /* A text that is too long tells how much of it is shown, and its length. */
@@ -34,64 +241,38 @@ static void of_length(void) {
     HOLDS(problem.shown == 1031 && problem.total == 2000 && problem.kind == GIX_URL_KIND_NONE);
 }
 
-static void of_calls(void) {
-    gix_url url, again;
-    bool settled, agrees = true;
-    size_t len = 77, pairs;
+/* Of a null pointer no length counts; a struct without parts is the file URL of an empty path. */
+static void of_nothing(void) {
+    const gix_url_text no = {NULL, 9};
+    gix_url url = {.name = no, .user = no, .password = no, .host = no, .path = no, .spelling = no}, read;
     gix_url_seen seen;
     gix_url_components parts;
-    gix_url_problem problem;
+    bool is = true;
+    size_t len = 77, pairs;
     char room[64];
-    memset(&url, 0, sizeof url);
-    HOLDS(gix_url_is_settled(NULL, &settled) == GIX_URL_NULL && gix_url_is_settled(&url, NULL) == GIX_URL_NULL);
-    HOLDS(gix_url_agrees_with_git(NULL, &agrees) == GIX_URL_NULL && gix_url_agrees_with_git(&url, NULL) == GIX_URL_NULL);
-    HOLDS(gix_url_write(NULL, room, 64, &len, NULL) == GIX_URL_NULL && gix_url_write(&url, room, 64, NULL, NULL) == GIX_URL_NULL);
-    HOLDS(gix_url_display(NULL, room, 64, &len, NULL) == GIX_URL_NULL && gix_url_display(&url, room, 64, NULL, NULL) == GIX_URL_NULL);
-    HOLDS(gix_url_look(NULL, &seen) == GIX_URL_NULL && gix_url_look(&url, NULL) == GIX_URL_NULL);
-    HOLDS(gix_url_path_query_fragment(NULL, room, 64, NULL, 0, &parts, NULL, NULL) == GIX_URL_NULL);
-    HOLDS(gix_url_path_query_fragment(&url, room, 64, NULL, 0, NULL, NULL, NULL) == GIX_URL_NULL);
-    HOLDS(gix_url_from_parts(NULL, room, 64, &again, NULL, NULL) == GIX_URL_NULL && gix_url_from_parts(&url, room, 64, NULL, NULL, NULL) == GIX_URL_NULL);
-    /* A struct of zeros is the file URL of an empty path. */
+    HOLDS(gix_url_parse(NULL, 0, room, sizeof room, &read, NULL, NULL) == GIX_URL_EMPTY_LOCAL);
+    HOLDS(gix_url_parse(NULL, 5, NULL, 5, &read, NULL, NULL) == GIX_URL_EMPTY_LOCAL);
+    HOLDS(gix_url_parse("/a", 0, room, sizeof room, &read, NULL, NULL) == GIX_URL_EMPTY_LOCAL);
     HOLDS(gix_url_write(&url, NULL, 0, &len, NULL) == GIX_URL_NO_ROOM && len == strlen("file://"));
     HOLDS(gix_url_look(&url, &seen) == GIX_URL_OK && seen.user == GIX_URL_ABSENT && !seen.has_port && !seen.path_is_usable);
     HOLDS(gix_url_path_query_fragment(&url, NULL, 0, NULL, 9, &parts, &len, &pairs) == GIX_URL_OK && len == 0 && pairs == 0);
     HOLDS(!parts.query.at && !parts.fragment.at && parts.path.at && parts.path.len == 0);
-    /* What has no text tells why. */
     url.scheme = GIX_URL_SSH, url.user = text("u"), url.path = text("/p");
-    HOLDS(gix_url_write(&url, room, 64, &len, &problem) == GIX_URL_UNWRITABLE && problem.write_fault == GIX_URL_WRITE_USER_WITHOUT_HOST);
-    HOLDS(problem.fault == 0 && gix_url_display(&url, room, 64, &len, &problem) == GIX_URL_UNWRITABLE);
-    HOLDS(gix_url_is_settled(&url, &settled) == GIX_URL_OK && !settled);
-    HOLDS(gix_url_agrees_with_git(&url, &agrees) == GIX_URL_OK && !agrees);
-    HOLDS(gix_url_from_parts(&url, room, 64, &again, NULL, &problem) == GIX_URL_UNWRITABLE && problem.write_fault == GIX_URL_WRITE_USER_WITHOUT_HOST);
+    HOLDS(gix_url_is_settled(&url, &is) == GIX_URL_OK && !is);
+    is = true;
+    HOLDS(gix_url_agrees_with_git(&url, &is) == GIX_URL_OK && !is);
 }
 
-/* Both questions to a struct that holds no location are answered so, and nothing is stored. */
-static bool is_no_location(const gix_url *url) {
-    bool settled = true, agrees = true;
-    gix_url_error first = gix_url_is_settled(url, &settled), second = gix_url_agrees_with_git(url, &agrees);
-    return first == GIX_URL_NO_LOCATION && second == GIX_URL_NO_LOCATION && settled && agrees;
-}
-
-/* Structs that hold no location, and a spelling that is the path, which counts as none. */
-static void of_locations(void) {
-    gix_url url;
+/* A spelling that is the path counts as none, and so does one that is null. */
+static void of_spellings(void) {
     size_t len;
     char room[64];
-    memset(&url, 0, sizeof url);
-    url.scheme = GIX_URL_HTTP, url.host = text("h"), url.path = text("/a%20b"), url.spelling = text("/a%20b");
+    gix_url url = {.scheme = GIX_URL_HTTP, .host = TEXT("h"), .path = TEXT("/a%20b"), .spelling = TEXT("/a%20b")};
     HOLDS(gix_url_write(&url, room, 64, &len, NULL) == GIX_URL_OK && len == strlen("http://h/a%2520b"));
     HOLDS(memcmp(room, "http://h/a%2520b", len) == 0);
     url.spelling = text("/a%2520b");
     HOLDS(gix_url_write(&url, room, 64, &len, NULL) == GIX_URL_OK && memcmp(room, "http://h/a%2520b", len) == 0);
-    url.host = (gix_url_text){"\xff", 1};
-    HOLDS(is_no_location(&url) && gix_url_write(&url, room, 64, &len, NULL) == GIX_URL_NO_LOCATION);
-    url.host = text("h"), url.user = (gix_url_text){"\xc3", 1};
-    HOLDS(gix_url_display(&url, room, 64, &len, NULL) == GIX_URL_NO_LOCATION);
-    url.user = (gix_url_text){NULL, 9}, url.scheme = (gix_url_scheme)8;
-    HOLDS(is_no_location(&url));
-    url.scheme = (gix_url_scheme)256;
-    HOLDS(is_no_location(&url));
-    url.scheme = GIX_URL_HTTP, url.path = (gix_url_text){"/\xff\0", 3}, url.spelling = (gix_url_text){NULL, 3};
+    url.path = (gix_url_text){"/\xff\0", 3}, url.spelling = (gix_url_text){NULL, 3};
     HOLDS(gix_url_write(&url, room, 64, &len, NULL) == GIX_URL_OK && memcmp(room, "http://h/%FF%00", len) == 0);
 }
 
@@ -102,10 +283,12 @@ static void of_names(void) {
 }
 
 int main(void) {
-    of_reading();
+    of_tables();
+    of_pair_room();
+    of_long_parts();
     of_length();
-    of_calls();
-    of_locations();
+    of_nothing();
+    of_spellings();
     of_names();
     return 0;
 }

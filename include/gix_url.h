@@ -9,11 +9,21 @@
  * stay as long as the location is used. No call keeps a pointer past its return. Calls may run in several threads, as
  * long as no room is shared.
  *
- * Any pointer may be null: a null part is a part that isn't there, a null input or path is empty, and a null struct or
- * answer is answered GIX_URL_NULL. A pointer that isn't null points to as many bytes as its length says. Room, and what
- * an answer is stored in, lie apart from what the call reads.
+ * Any pointer may be null: a null part is a part that isn't there, a null input or path is empty, null room has no bytes
+ * and null pairs no places, whatever the length beside them; where needed, needed_pairs or problem is null, it is not
+ * stored. Any other null pointer is an error, GIX_URL_NULL. A pointer that isn't null points to as many bytes as its
+ * length says. Room, and what an answer is stored in, lie apart from what the call reads.
  *
- * Each call answers GIX_URL_OK (0) or an error, and stores its answer only then, where nothing else is said. */
+ * Each call returns GIX_URL_OK (0) or an error, and leaves behind:
+ *
+ *   GIX_URL_OK       the answer, all of it, and a problem that is all 0
+ *   GIX_URL_NO_ROOM  the lengths that are needed (needed, needed_pairs, len), and a problem that is all 0
+ *   GIX_URL_NULL     nothing; the problem is as it was
+ *   any other error  the problem, and nothing else
+ *
+ * All else keeps each byte that it held: the room, pairs, url, settled, agrees, len, seen, components, needed and
+ * needed_pairs. So a call that fails leaves no part of a location in the room, and no password. On GIX_URL_OK the bytes of
+ * the room behind the answer are kept. */
 #ifndef GIX_URL_H
 #define GIX_URL_H
 
@@ -36,8 +46,9 @@ typedef enum gix_url_error {
     GIX_URL_BAD_URL = 6,       /* the text is no URL, or the host of the scp form is none */
     GIX_URL_HELPER_NAME = 7,   /* the name of a remote helper is no such name */
     GIX_URL_UNWRITABLE = 8,    /* the location has no text */
-    GIX_URL_NO_LOCATION = 101, /* the struct holds no location: no such scheme, or a name, user, password or host that
-                                  is not UTF-8 */
+    GIX_URL_NO_LOCATION = 101, /* the struct holds no location: its scheme is none of the eight, or its user, its password,
+                                  its host or the name that its scheme takes is there and is not UTF-8. Each call that
+                                  is given such a struct returns this, or GIX_URL_MEMORY; with another struct none does */
     GIX_URL_NO_ROOM = 102,     /* the answer doesn't fit into the room; how much is needed is told */
     GIX_URL_NULL = 103         /* a pointer that may not be null is */
 } gix_url_error;
@@ -68,7 +79,7 @@ typedef enum gix_url_write_fault {
     GIX_URL_WRITE_USER_WITHOUT_HOST = 4
 } gix_url_write_fault;
 
-/* What is told of an error beside its number. What doesn't belong to the error is 0. */
+/* What is told of an error beside its number. What doesn't belong to the error is 0; for GIX_URL_OK it all is. */
 typedef struct gix_url_problem {
     gix_url_kind kind;               /* MISSING_PATH, NOT_UTF8, BAD_URL */
     gix_url_fault fault;             /* BAD_URL */
@@ -185,8 +196,9 @@ typedef struct gix_url_components {
 } gix_url_components;
 
 /* Takes the path of a location apart. The components point into the room, and the lengths of names and values are stored
- * in pairs, which has pair_room places. On GIX_URL_NO_ROOM nothing is stored but needed and needed_pairs, which tell how
- * many bytes of room and how many places it takes; they are stored on GIX_URL_OK too, and may be null. */
+ * in pairs, which has pair_room places; a number of places past SIZE_MAX bytes counts as 0. On GIX_URL_NO_ROOM nothing is
+ * stored but needed and needed_pairs, which tell how many bytes of room and how many places it takes; they are stored on
+ * GIX_URL_OK too, and may be null. */
 gix_url_error gix_url_path_query_fragment(const gix_url *url, char *room, size_t room_len, gix_url_pair *pairs,
                                           size_t pair_room, gix_url_components *components, size_t *needed,
                                           size_t *needed_pairs);

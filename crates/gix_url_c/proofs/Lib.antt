@@ -1,2 +1,5 @@
 -- The lemmas that the proofs of functions cite.
+pub mod GivenLemmas
 pub mod PartedLemmas
+pub mod ProblemLemmas
+pub mod ShownLemmas

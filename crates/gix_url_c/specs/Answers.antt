@@ -1,5 +1,5 @@
 -- What the calls answer: which answer of the library was told, and how.
-use Rattle.std.specs.Prelude.{◌≡◌, ℕ, Bool, IsTrue, ◌↔◌, ◌⊎◌, List, length, Option, Result, Ok, Err, IfSome}
+use Rattle.std.specs.Prelude.{◌≡◌, ℕ, Bool, IsTrue, ◌↔◌, List, length, Option, Some, None, Result, Ok, Err}
 use Rattle.gix_url.specs.declared.error.Error.{Error}
 use Rattle.gix_url.specs.declared.error.WriteFault.{WriteFault}
 use Rattle.gix_url.specs.Value.{Location}
@@ -11,7 +11,7 @@ use Rattle.gix_url.specs.Text.{text}
 use Rattle.gix_url.specs.Display.{display}
 use Rattle.gix_url_c.specs.declared.codes.Problem.{Problem}
 use Rattle.gix_url_c.specs.declared.handed.Made.{Made}
-use Rattle.gix_url_c.specs.Codes.{memory, unwritable, error_code, problem_of, problem_numbered, write_fault_number}
+use Rattle.gix_url_c.specs.Codes.{ok, unwritable, error_code, problem_of, problem_numbered, write_fault_number}
 use Rattle.gix_url_c.specs.Handed.{HandsOut, Puts}
 
 -- an answer is told: a location handed out, or an error by its numbers
@@ -29,23 +29,30 @@ TellsMade parts made old new problem code = (answer : Result Location Error) × 
 
 -- whether the location is settled is told
 abbrev pub TellsSettled : Location → Bool → ℕ → Type 0
-TellsSettled v settled code = (code ≡ 0) × (IsTrue settled ↔ IsSettled v)
+TellsSettled v settled code = (code ≡ ok) × (IsTrue settled ↔ IsSettled v)
 
 -- whether the location is of the class in whose texts Git reads the same place is told
 abbrev pub TellsAgreement : Location → Bool → ℕ → Type 0
-TellsAgreement v agrees code = (code ≡ 0) × (IsTrue agrees ↔ AgreesWithGit v)
+TellsAgreement v agrees code = (code ≡ ok) × (IsTrue agrees ↔ AgreesWithGit v)
+
+-- a fault of writing is told
+abbrev pub TellsFault : WriteFault → Problem → ℕ → Type 0
+TellsFault f problem code = (code ≡ unwritable) × (problem ≡ problem_numbered 0 (write_fault_number f) 0 0)
+
+-- a text is told
+abbrev pub PutsText : List ℕ → List ℕ → List ℕ → ℕ → ℕ → Type 0
+PutsText t old new len code = (len ≡ length t) × Puts t old new code
 
 -- a text is told, or the fault for which there is none
 abbrev pub TellsText : Result (List ℕ) WriteFault → List ℕ → List ℕ → ℕ → Problem → ℕ → Type 0
-TellsText (Ok t) old new len problem code = (code ≡ memory) ⊎ ((len ≡ length t) × Puts t old new code)
-TellsText (Err f) old new len problem code = (code ≡ memory) ⊎ ((code ≡ unwritable) × (problem ≡ problem_numbered 0 (write_fault_number f) 0 0))
-
--- a text is told that is this one, where there is one
-abbrev pub TellsShown : Option (List ℕ) → List ℕ → List ℕ → ℕ → ℕ → Type 0
-TellsShown shown old new len code = (t : List ℕ) × IfSome shown (λ s. t ≡ s) × (len ≡ length t) × Puts t old new code
+TellsText (Ok t) old new len problem code = PutsText t old new len code
+TellsText (Err f) old new len problem code = TellsFault f problem code
 
 -- what the location is shown as is told, or the fault for which it has no text
+abbrev pub TellsShown : Option (List ℕ) → Result (List ℕ) WriteFault → List ℕ → List ℕ → ℕ → Problem → ℕ → Type 0
+TellsShown (Some shown) r old new len problem code = PutsText shown old new len code
+TellsShown None r old new len problem code = (f : WriteFault) × (r ≡ Err f) × TellsFault f problem code
+
+-- the same of this location
 abbrev pub TellsDisplay : Location → List ℕ → List ℕ → ℕ → Problem → ℕ → Type 0
-TellsDisplay v old new len problem code =
-    (code ≡ memory) ⊎ (TellsShown (display v) old new len code
-    ⊎ ((f : WriteFault) × (text v ≡ Err f) × (code ≡ unwritable) × (problem ≡ problem_numbered 0 (write_fault_number f) 0 0)))
+TellsDisplay v old new len problem code = TellsShown (display v) (text v) old new len problem code

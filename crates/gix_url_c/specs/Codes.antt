@@ -1,5 +1,5 @@
 -- The numbers by which C is told what a call answers.
-use Rattle.std.specs.Prelude.{◌≡◌, ℕ, ◌⊎◌, length}
+use Rattle.std.specs.Prelude.{◌≡◌, ℕ, ◌⊎◌, Bool, not, nat_lt, ◌&&◌, length}
 use Rattle.bstr.specs.Owned.{bstring_bytes}
 use Rattle.gix_url.specs.declared.error.UrlKind.{UrlKind}
 use Rattle.gix_url.specs.declared.error.UrlKind.TheVariants as kind
@@ -10,6 +10,10 @@ use Rattle.gix_url.specs.declared.error.WriteFault.TheVariants as unwritten
 use Rattle.gix_url.specs.declared.error.Error.{Error}
 use Rattle.gix_url.specs.declared.error.Error.TheVariants as error
 use Rattle.gix_url_c.specs.declared.codes.Problem.{Problem}
+
+-- the call was answered
+abbrev pub ok : ℕ
+ok = 0
 
 -- memory was refused
 abbrev pub memory : ℕ
@@ -65,24 +69,36 @@ write_fault_number unwritten.UserWithoutHost = 4
 abbrev pub problem_numbered : ℕ → ℕ → ℕ → ℕ → Problem
 problem_numbered kind fault shown total = record { kind = kind; fault = fault; shown = shown; total = total }
 
+-- what is told where there is no more to tell than the number
+abbrev pub no_problem : Problem
+no_problem = problem_numbered 0 0 0 0
+
 -- what is told of an error: the form, the fault, the length of the front that it shows, and that of the whole
 abbrev pub problem_of : Error → Problem
-problem_of error.Memory = problem_numbered 0 0 0 0
-problem_of error.EmptyLocal = problem_numbered 0 0 0 0
+problem_of error.Memory = no_problem
+problem_of error.EmptyLocal = no_problem
 problem_of (error.MissingPath kind input) = problem_numbered (kind_number kind) 0 0 0
 problem_of (error.NotUtf8 kind input) = problem_numbered (kind_number kind) 0 0 0
 problem_of (error.TooLong shown total) = problem_numbered 0 0 (length (bstring_bytes shown)) total
 problem_of (error.BadUrl kind fault input) = problem_numbered (kind_number kind) (fault_number fault) 0 0
-problem_of (error.HelperName name) = problem_numbered 0 0 0 0
+problem_of (error.HelperName name) = no_problem
 problem_of (error.Unwritable fault) = problem_numbered 0 (write_fault_number fault) 0 0
-problem_of (error.NoHome user) = problem_numbered 0 0 0 0
-problem_of error.PathNotUtf8 = problem_numbered 0 0 0 0
-problem_of error.Unresolved = problem_numbered 0 0 0 0
+problem_of (error.NoHome user) = no_problem
+problem_of error.PathNotUtf8 = no_problem
+problem_of error.Unresolved = no_problem
+
+-- the number is that of an error of reading or of writing, of which more may be told
+abbrev pub has_problem : ℕ → Bool
+has_problem code = nat_lt memory code && not (nat_lt unwritable code)
 
 -- memory was refused, or what was given is no location, as it is said
 abbrev pub IsUnmade : ℕ → Type 0 → Type 0
 IsUnmade code none = (code ≡ memory) ⊎ ((code ≡ no_location) × none)
 
--- no location is made, or else this holds
+-- memory was refused, or else this holds
+abbrev pub UnlessMemory : ℕ → Type 0 → Type 0
+UnlessMemory code holds = (code ≡ memory) ⊎ holds
+
+-- no location is made; or else what was given is one, and this holds
 abbrev pub Unless : ℕ → Type 0 → Type 0 → Type 0
-Unless code none holds = IsUnmade code none ⊎ holds
+Unless code none holds = IsUnmade code none ⊎ ((¬ none) × holds)

@@ -1,10 +1,10 @@
 -- A location as C gets it: numbers, and the bytes of all parts one behind the other.
-use Rattle.std.specs.Prelude.{◌≡◌, ℕ, Bool, true, false, MatchBool, ◌⊎◌, nat_lt, List, [], ◌++◌, length, drop, Option, Some, None}
+use Rattle.std.specs.Prelude.{◌≡◌, ℕ, Bool, true, false, MatchBool, nat_lt, List, [], ◌++◌, length, drop, Option, Some, None}
 use Rattle.gix_url.specs.Value.{Protocol, Location}
 use Rattle.gix_url.specs.Value.Protocol.{file, git, ssh, http, https, ext, helper, helper_url}
 use Rattle.gix_url_c.specs.declared.given.Front.{Front}
 use Rattle.gix_url_c.specs.declared.handed.Made.{Made}
-use Rattle.gix_url_c.specs.Codes.{memory, no_room}
+use Rattle.gix_url_c.specs.Codes.{ok, no_room, UnlessMemory}
 
 -- the number of a protocol
 abbrev pub protocol_number : Protocol → ℕ
@@ -77,8 +77,8 @@ abbrev pub Puts : List ℕ → List ℕ → List ℕ → ℕ → Type 0
 Puts bytes old new code =
     MatchBool (nat_lt (length old) (length bytes))
     ((code ≡ no_room) × (new ≡ old))
-    ((code ≡ 0) × (new ≡ bytes ++ drop (length bytes) old))
+    ((code ≡ ok) × (new ≡ bytes ++ drop (length bytes) old))
 
 -- the location was handed out, unless memory was refused
 abbrev pub HandsOut : Location → Made → List ℕ → List ℕ → ℕ → Type 0
-HandsOut v made old new code = (code ≡ memory) ⊎ ((made ≡ made_of v) × Puts (bytes_of v) old new code)
+HandsOut v made old new code = UnlessMemory code ((made ≡ made_of v) × Puts (bytes_of v) old new code)

@@ -1,5 +1,6 @@
 pub mod Given
 pub mod Codes
+pub mod Left
 pub mod Handed
 pub mod Answers
 pub mod Looks

@@ -1,9 +1,9 @@
 -- Components as C gets them: numbers, and the bytes of all of them one behind the other.
-use Rattle.std.specs.Prelude.{◌≡◌, ℕ, MatchBool, ◌⊎◌, nat_lt, ◌||◌, List, [], ◌∷◌, ◌++◌, length, drop, Option, Some, None}
+use Rattle.std.specs.Prelude.{◌≡◌, ℕ, MatchBool, nat_lt, ◌||◌, List, [], ◌∷◌, ◌++◌, length, drop, Option, Some, None}
 use Rattle.gix_url.specs.Value.{Location}
 use Rattle.gix_url.specs.Components.{Components, PartsOf}
 use Rattle.gix_url_c.specs.declared.components.Parted.{Parted}
-use Rattle.gix_url_c.specs.Codes.{memory, no_room}
+use Rattle.gix_url_c.specs.Codes.{ok, no_room}
 use Rattle.gix_url_c.specs.Handed.{is_there, or_nothing}
 
 -- the names and values, or none
@@ -49,10 +49,10 @@ abbrev pub PutsBoth : List ℕ → List ℕ → List ℕ → List ℕ → List �
 PutsBoth bytes lengths old_room new_room old_lengths new_lengths code =
     MatchBool (nat_lt (length old_room) (length bytes) || nat_lt (length old_lengths) (length lengths))
     ((code ≡ no_room) × (new_room ≡ old_room) × (new_lengths ≡ old_lengths))
-    ((code ≡ 0) × (new_room ≡ bytes ++ drop (length bytes) old_room) × (new_lengths ≡ lengths ++ drop (length lengths) old_lengths))
+    ((code ≡ ok) × (new_room ≡ bytes ++ drop (length bytes) old_room) × (new_lengths ≡ lengths ++ drop (length lengths) old_lengths))
 
--- the components of the location are told, unless memory was refused
+-- the components of the location are told
 abbrev pub TellsParts : Location → Parted → List ℕ → List ℕ → List ℕ → List ℕ → ℕ → Type 0
 TellsParts v told old_room new_room old_lengths new_lengths code =
-    (code ≡ memory) ⊎ ((c : Components) × PartsOf v c × (told ≡ parted c)
-    × PutsBoth (component_bytes c) (pair_lengths (pairs_of c.query)) old_room new_room old_lengths new_lengths code)
+    (c : Components) × PartsOf v c × (told ≡ parted c)
+    × PutsBoth (component_bytes c) (pair_lengths (pairs_of c.query)) old_room new_room old_lengths new_lengths code

@@ -3,7 +3,7 @@
 //! It uses the library's errors alone. Its contract: the numbers are those of the definitions, which the header repeats.
 
 ghost use Rattle.std.specs.Prelude.{◌≡◌};
-ghost use Rattle.gix_url_c.specs.Codes.{error_code, fault_number, kind_number, problem_numbered, problem_of, write_fault_number};
+ghost use Rattle.gix_url_c.specs.Codes.{error_code, fault_number, kind_number, no_problem, problem_numbered, problem_of, write_fault_number};
 
 use gix_url::parse::UrlKind;
 use gix_url::{Error, UrlFault, WriteFault};
@@ -70,8 +70,15 @@ pub(crate) fn told_of(error: &Error) -> Problem
         | Error::HelperName { .. }
         | Error::NoHome(_)
         | Error::PathNotUtf8
-        | Error::Unresolved => numbered(0, 0, 0, 0),
+        | Error::Unresolved => no_problem(),
     }
+}
+
+/// What is told where there is no more to tell than the number.
+pub(crate) fn no_problem() -> Problem
+    ensures { result ≡ no_problem }
+{
+    numbered(0, 0, 0, 0)
 }
 
 /// What is told of a location without a text.

@@ -1,13 +1,15 @@
 //! The export that takes the path of a location apart: path, query and fragment.
 //!
-//! It uses `given`. Its contract: what is told are the components of the location.
+//! It uses `given`. Its contract: what is told are the components of the location. With an error the room and the lengths
+//! are as they were, and the numbers are, except with 102.
 
-ghost use Rattle.std.specs.Prelude.{◌≡◌, ◌++◌, IfOk, OnOk, length, map, option_map};
+ghost use Rattle.std.specs.Prelude.{◌≡◌, ◌++◌, ◌⊎◌, IfOk, OnOk, length, map, option_map};
 ghost use Rattle.bstr.specs.BStr.{bstr_bytes};
 ghost use Rattle.gix_url.specs.ComponentViews.{components, pair_bytes};
-ghost use Rattle.gix_url_c.specs.Codes.{Unless};
+ghost use Rattle.gix_url_c.specs.Codes.{Unless, UnlessMemory, no_room, ok};
 ghost use Rattle.gix_url_c.specs.Given.{IsNone, given};
 ghost use Rattle.gix_url_c.specs.Handed.{is_there, or_nothing};
+ghost use Rattle.gix_url_c.specs.Left.{LeavesLengths, LeavesRoom};
 ghost use Rattle.gix_url_c.specs.Parted.{PutsBoth, TellsParts, component_bytes, joined_pair, joined_pairs, lengths_of_pair, pair_lengths, pairs_of, parted};
 
 use crate::codes::{MEMORY, NO_ROOM, OK};
@@ -53,7 +55,10 @@ pub extern "C" fn gix_url_c_components(
     room: &mut [u8],
     lengths: &mut [usize],
 ) -> u32
-    ensures { Unless result (IsNone front.now name.now user.now password.now host.now) (TellsParts (given front.now name.now user.now password.now host.now path.now spelling.now) told.new room.old room.new lengths.old lengths.new result) }
+    ensures told { Unless result (IsNone front.now name.now user.now password.now host.now) (TellsParts (given front.now name.now user.now password.now host.now path.now spelling.now) told.new room.old room.new lengths.old lengths.new result) }
+    ensures room { LeavesRoom result room.old room.new }
+    ensures lengths { LeavesRoom result lengths.old lengths.new }
+    ensures numbers { LeavesLengths result told.old told.new }
 {
     match located(alloc, front, name, user, password, host, path, spelling) {
         Ok(url) => part(alloc, &url, told, room, lengths),
@@ -63,7 +68,10 @@ pub extern "C" fn gix_url_c_components(
 
 /// Tells the components of the location.
 fn part(alloc: Global, url: &Url, told: &mut Parted, room: &mut [u8], lengths: &mut [usize]) -> u32
-    ensures { TellsParts url.now told.new room.old room.new lengths.old lengths.new result }
+    ensures told { UnlessMemory result (TellsParts url.now told.new room.old room.new lengths.old lengths.new result) }
+    ensures room { LeavesRoom result room.old room.new }
+    ensures lengths { LeavesRoom result lengths.old lengths.new }
+    ensures numbers { LeavesLengths result told.old told.new }
 {
     let Ok(parts) = url.path_query_fragment(alloc) else {
         return MEMORY;
@@ -176,7 +184,10 @@ fn numbered(parts: &PathComponents<'_>, bytes: usize) -> Parted
 
 /// Copies both to the fronts of their rooms, if both fit.
 fn put_both(bytes: &[u8], measured: &[usize], room: &mut [u8], lengths: &mut [usize]) -> u32
-    ensures { PutsBoth bytes.now measured.now room.old room.new lengths.old lengths.new result }
+    ensures put { PutsBoth bytes.now measured.now room.old room.new lengths.old lengths.new result }
+    ensures room { LeavesRoom result room.old room.new }
+    ensures lengths { LeavesRoom result lengths.old lengths.new }
+    ensures code { (result ≡ ok) ⊎ (result ≡ no_room) }
 {
     if room.len() < bytes.len() || lengths.len() < measured.len() {
         return NO_ROOM;

@@ -81,6 +81,7 @@ pub(crate) fn located(
     spelling: &[u8],
 ) -> Result<Url, u32>
     ensures made { IfOk result (λ url. url ≡ given front.now name.now user.now password.now host.now path.now spelling.now) }
+    ensures whole { IfOk result (λ _. ¬ IsNone front.now name.now user.now password.now host.now) }
     ensures refused { IfErr result (λ code. IsUnmade code (IsNone front.now name.now user.now password.now host.now)) }
 {
     match made(alloc, front, name, user, password, host, path, spelling) {
@@ -103,6 +104,7 @@ fn made(
     spelling: &[u8],
 ) -> Result<Url, Unmade>
     ensures made { IfOk result (λ url. url ≡ given front.now name.now user.now password.now host.now path.now spelling.now) }
+    ensures whole { IfOk result (λ _. ¬ IsNone front.now name.now user.now password.now host.now) }
     ensures refused { IfErr result (λ e. e ≡ Unmade.NoLocation → IsNone front.now name.now user.now password.now host.now) }
 {
     law_stored();
@@ -136,6 +138,7 @@ pub(crate) fn is_spelled(is_there: bool, spelling: &[u8], path: &[u8]) -> bool
 /// The scheme of this number, and of this name where it holds one.
 fn scheme(alloc: Global, number: u8, name: &[u8]) -> Result<Scheme, Unmade>
     ensures made { IfOk result (λ scheme. protocol scheme ≡ protocol_numbered number name.now) }
+    ensures known { IfOk result (λ _. ¬ IsNoScheme number name.now) }
     ensures refused { IfErr result (λ e. e ≡ Unmade.NoLocation → IsNoScheme number name.now) }
 {
     match number {
@@ -154,6 +157,7 @@ fn scheme(alloc: Global, number: u8, name: &[u8]) -> Result<Scheme, Unmade>
 /// A copy of a text that may be missing.
 fn text(alloc: Global, is_there: bool, bytes: &[u8]) -> Result<Option<String>, Unmade>
     ensures made { IfOk result (λ text. option_map string_bytes text ≡ present is_there bytes.now) }
+    ensures known { IfOk result (λ _. ¬ IsNoText is_there bytes.now) }
     ensures refused { IfErr result (λ e. e ≡ Unmade.NoLocation → IsNoText is_there bytes.now) }
 {
     if !is_there {
@@ -165,6 +169,7 @@ fn text(alloc: Global, is_there: bool, bytes: &[u8]) -> Result<Option<String>, U
 /// A copy of bytes that are to be text.
 fn owned(alloc: Global, bytes: &[u8]) -> Result<String, Unmade>
     ensures made { IfOk result (λ text. string_bytes text ≡ bytes.now) }
+    ensures known { IfOk result (λ _. IsUtf8 bytes.now) }
     ensures refused { IfErr result (λ e. e ≡ Unmade.NoLocation → ¬ IsUtf8 bytes.now) }
 {
     match str::from_utf8(bytes) {

@@ -8,6 +8,7 @@ ghost use Rattle.std.specs.Vec.{vec_items};
 ghost use Rattle.gix_url.specs.Stored.{recorded_location};
 ghost use Rattle.gix_url.specs.Views.{protocol};
 ghost use Rattle.gix_url_c.specs.Handed.{HandsOut, bytes_of, front_of, is_there, made_of, or_nothing, or_zero, protocol_name, protocol_number};
+ghost use Rattle.gix_url_c.specs.Left.{LeavesLengths, LeavesRoom};
 
 use crate::codes::MEMORY;
 use crate::given::Front;
@@ -38,7 +39,9 @@ pub struct Made {
 
 /// Hands the location out, if its parts fit into the room.
 pub(crate) fn hand_out(alloc: Global, url: &Url, made: &mut Made, room: &mut [u8]) -> u32
-    ensures { HandsOut url.now made.new room.old room.new result }
+    ensures told { HandsOut url.now made.new room.old room.new result }
+    ensures room { LeavesRoom result room.old room.new }
+    ensures lengths { LeavesLengths result made.old made.new }
 {
     let Ok(stored) = url.to_stored(alloc) else {
         return MEMORY;

@@ -1,9 +1,9 @@
 //! `gix_url` for C: a static library over its public calls.
 //!
 //! A location is numbers ([`given::Front`]) and the bytes of its parts, all of them the caller's: no call keeps a
-//! pointer, and nothing has to be freed. What a call answers goes into the caller's room, as far as it fits. Each export
+//! pointer, and nothing has to be freed. What a call answers goes into the caller's room, if it fits. Each export
 //! makes a location of what is given (`given`), makes one call of the library, and tells its answer by numbers (`codes`)
-//! and bytes (`handed`, `room`); its contract says what that call promises.
+//! and bytes (`handed`, `room`); its contract says what that call promises, and that all else is as it was with an error.
 //!
 //! A slice is a pointer and a length to C, and a `Global` is nothing. Pointers aren't null: the C file that is linked
 //! with this library (`c/gix_url.c`) sees to that, and has the types of `include/gix_url.h`.

@@ -1,13 +1,14 @@
 //! The export that looks at a location: what its parts are to a command line, its original path and its port.
 //!
-//! It uses `given`. Its contract: what is told is what the library's calls answer.
+//! It uses `given`. Its contract: what is told is what the library's calls answer; with an error the answer is as it was.
 
 ghost use Rattle.std.specs.Prelude.{◌≡◌, ◌↔◌, IsTrue, if◌then◌else◌};
 ghost use Rattle.gix_url.specs.Views.{judgement};
 ghost use Rattle.gix_url.specs.Text.{original_path};
-ghost use Rattle.gix_url_c.specs.Codes.{Unless};
+ghost use Rattle.gix_url_c.specs.Codes.{Unless, ok};
 ghost use Rattle.gix_url_c.specs.Given.{IsNone, given, present};
 ghost use Rattle.gix_url_c.specs.Handed.{is_there, or_nothing, or_zero};
+ghost use Rattle.gix_url_c.specs.Left.{LeavesRoom};
 ghost use Rattle.gix_url_c.specs.Looks.{Looks, judgement_number};
 
 use crate::codes::OK;
@@ -53,7 +54,8 @@ pub extern "C" fn gix_url_c_look(
     spelling: &[u8],
     seen: &mut Seen,
 ) -> u32
-    ensures { Unless result (IsNone front.now name.now user.now password.now host.now) ((result ≡ 0) × Looks (given front.now name.now user.now password.now host.now path.now spelling.now) seen.new) }
+    ensures told { Unless result (IsNone front.now name.now user.now password.now host.now) ((result ≡ ok) × Looks (given front.now name.now user.now password.now host.now path.now spelling.now) seen.new) }
+    ensures left { LeavesRoom result seen.old seen.new }
 {
     match located(alloc, front, name, user, password, host, path, spelling) {
         Ok(url) => {

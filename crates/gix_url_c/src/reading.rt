@@ -1,15 +1,17 @@
 //! The exports that make a location: of bytes that are read, and of parts.
 //!
-//! They use `given` and `handed`. Their contracts: what is told is what the library's call answers.
+//! They use `given` and `handed`. Their contracts: what is told is what the library's call answers. With an error the room
+//! is as it was, and the numbers are, except with 102; the problem is that of the error, and all 0 where there is none.
 
 ghost use Rattle.std.specs.Prelude.{None, []};
 ghost use Rattle.gix_url.specs.FromParts.{MadeOf};
 ghost use Rattle.gix_url.specs.Value.{fields};
 ghost use Rattle.gix_url_c.specs.Answers.{Tells, TellsMade, TellsRead};
-ghost use Rattle.gix_url_c.specs.Codes.{Unless};
+ghost use Rattle.gix_url_c.specs.Codes.{Unless, no_problem};
 ghost use Rattle.gix_url_c.specs.Given.{IsNone, given};
+ghost use Rattle.gix_url_c.specs.Left.{LeavesLengths, LeavesProblem, LeavesRoom};
 
-use crate::codes::{Problem, error_code, told_of};
+use crate::codes::{Problem, error_code, no_problem, told_of};
 use crate::given::{Front, located};
 use crate::handed::{Made, hand_out};
 use bstr::{BStr, BString};
@@ -29,7 +31,10 @@ pub extern "C" fn gix_url_c_read(
     room: &mut [u8],
     told: &mut Problem,
 ) -> u32
-    ensures { TellsRead input.now made.new room.old room.new told.new result }
+    ensures told { TellsRead input.now made.new room.old room.new told.new result }
+    ensures room { LeavesRoom result room.old room.new }
+    ensures lengths { LeavesLengths result made.old made.new }
+    ensures problem { LeavesProblem result no_problem told.new }
 {
     tell(alloc, parse(alloc, BStr::new(input)), made, room, told)
 }
@@ -53,8 +58,11 @@ pub extern "C" fn gix_url_c_from_parts(
     room: &mut [u8],
     told: &mut Problem,
 ) -> u32
-    ensures { let parts = fields (given front.now name.now user.now password.now host.now path.now []) in
+    ensures told { let parts = fields (given front.now name.now user.now password.now host.now path.now []) in
         Unless result (IsNone front.now name.now user.now password.now host.now) (TellsMade parts made.new room.old room.new told.new result) }
+    ensures room { LeavesRoom result room.old room.new }
+    ensures lengths { LeavesLengths result made.old made.new }
+    ensures problem { LeavesProblem result no_problem told.new }
 {
     let unspelled = Front {
         has_spelling: false,
@@ -62,7 +70,10 @@ pub extern "C" fn gix_url_c_from_parts(
     };
     match located(alloc, &unspelled, name, user, password, host, path, b"") {
         Ok(url) => tell(alloc, of_parts(alloc, url), made, room, told),
-        Err(code) => code,
+        Err(code) => {
+            *told = no_problem();
+            code
+        }
     }
 }
 
@@ -90,10 +101,16 @@ fn tell(
     room: &mut [u8],
     told: &mut Problem,
 ) -> u32
-    ensures { Tells answer made.new room.old room.new told.new result }
+    ensures told { Tells answer made.new room.old room.new told.new result }
+    ensures room { LeavesRoom result room.old room.new }
+    ensures lengths { LeavesLengths result made.old made.new }
+    ensures problem { LeavesProblem result no_problem told.new }
 {
     match answer {
-        Ok(url) => hand_out(alloc, &url, made, room),
+        Ok(url) => {
+            *told = no_problem();
+            hand_out(alloc, &url, made, room)
+        }
         Err(error) => {
             *told = told_of(&error);
             error_code(&error)

@@ -1,15 +1,20 @@
 //! The caller's room for bytes.
 //!
-//! It uses `codes`. Its contract: bytes go to the front of the room, all of them or none.
+//! It uses `codes`. Its contract: bytes go to the front of the room, all of them, or the room is as it was.
 
-ghost use Rattle.std.specs.Prelude.{◌≡◌, length};
+ghost use Rattle.std.specs.Prelude.{◌≡◌, ◌⊎◌};
+ghost use Rattle.gix_url_c.specs.Answers.{PutsText};
+ghost use Rattle.gix_url_c.specs.Codes.{no_room, ok};
 ghost use Rattle.gix_url_c.specs.Handed.{Puts};
+ghost use Rattle.gix_url_c.specs.Left.{LeavesLengths, LeavesRoom};
 
 use crate::codes::{NO_ROOM, OK};
 
 /// Copies the bytes to the front of the room, if they fit into it.
 pub(crate) fn put(bytes: &[u8], room: &mut [u8]) -> u32
-    ensures { Puts bytes.now room.old room.new result }
+    ensures put { Puts bytes.now room.old room.new result }
+    ensures room { LeavesRoom result room.old room.new }
+    ensures code { (result ≡ ok) ⊎ (result ≡ no_room) }
 {
     if room.len() < bytes.len() {
         return NO_ROOM;
@@ -21,8 +26,9 @@ pub(crate) fn put(bytes: &[u8], room: &mut [u8]) -> u32
 
 /// The same, and tells how many bytes there are.
 pub(crate) fn put_text(bytes: &[u8], room: &mut [u8], len: &mut usize) -> u32
-    ensures length { len.new ≡ length bytes.now }
-    ensures put { Puts bytes.now room.old room.new result }
+    ensures put { PutsText bytes.now room.old room.new len.new result }
+    ensures room { LeavesRoom result room.old room.new }
+    ensures length { LeavesLengths result len.old len.new }
 {
     *len = bytes.len();
     put(bytes, room)

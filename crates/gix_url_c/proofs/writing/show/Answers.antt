@@ -1,13 +1,19 @@
--- Where the text has no length there is none.
-use Rattle.std.proofs.Common.{◌≡◌, refl, sym, ℕ, List, Result, Ok, Err, inr}
-use Rattle.gix_url.specs.declared.error.WriteFault.{WriteFault}
-use Rattle.gix_url.specs.Pieces.{text_length}
+-- What is shown is what there is to be shown, and where the text has no length there is a fault.
+use Rattle.std.proofs.Common.{refl, sym, subst, string_bytes}
+use mathlib.Core.Logic.{inr}
 use Rattle.gix_url.specs.Text.{text}
+use Rattle.gix_url.specs.Display.{display}
+use Rattle.gix_url_c.specs.Answers.{PutsText}
+use Rattle.gix_url_c.proofs.ShownLemmas.{both, shown_as, unshown, unwritten}
 use Rattle.gix_url_c.proofs.writing.show.Goals as goal
 
-unwritten : (r : Result (List ℕ) WriteFault) (f : WriteFault) → text_length r ≡ Err f → r ≡ Err f
-unwritten (Ok t) f h = absurd (cc)
-unwritten (Err g) f h = let same : Err g ≡ Err f = h in cc
+pub returns-in-Err-clause-told : goal.returns-in-Err-clause-told
+returns-in-Err-clause-told c =
+    let fault = unwritten (text c.args.url.now) c.in-Err.fault (sym c.in-Err.ensures) in
+    let nothing = unshown (display c.args.url.now) (text c.args.url.now) c.in-Err.fault (both c.args.url.now) fault in
+    inr (rw nothing (c.in-Err.fault, fault, (refl, c.unwritable.ensures)))
 
-pub returns-in-Err : goal.returns-in-Err
-returns-in-Err c = inr (inr (c.in-Err.fault, unwritten (text c.args.url.now) c.in-Err.fault (sym c.in-Err.ensures), refl, c.unwritable.ensures))
+pub returns-in-Ok-clause-told : goal.returns-in-Ok-clause-told
+returns-in-Ok-clause-told c =
+    let shown = shown_as (display c.args.url.now) (text c.args.url.now) c.in_default.field-0 (string_bytes c.in-Ok.shown) (both c.args.url.now) (sym c.in_default.ensures) c.in-Ok.ensures.ok in
+    inr (rw shown (subst (λ t. PutsText t c.args.room.now c.put_text.new.room c.put_text.new.len c.put_text.result) c.as_bytes.ensures.value c.put_text.ensures.put))
