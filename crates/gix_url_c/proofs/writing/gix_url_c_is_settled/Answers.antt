@@ -5,4 +5,4 @@ use Rattle.gix_url.specs.Settled.{IsSettled}
 use Rattle.gix_url_c.proofs.writing.gix_url_c_is_settled.Goals as goal
 
 pub returns-in-Ok : goal.returns-in-Ok
-returns-in-Ok c = inr (refl, subst (λ v. IsTrue c.is_settled.result ↔ IsSettled v) c.in-Ok.ensures.made c.is_settled.ensures)
+returns-in-Ok c = inr (refl, subst (λ v. IsTrue c.is_settled.result ↔ IsSettled v) c.in-Ok.ensures.made c.is_settled.ensures.decided)
