@@ -6,7 +6,11 @@ mod boxes;
 #[cfg(test)]
 mod calling;
 #[cfg(test)]
+mod changing;
+#[cfg(test)]
 mod components;
+#[cfg(test)]
+mod reading;
 #[cfg(test)]
 mod stored;
 #[cfg(test)]
