@@ -3,7 +3,8 @@
 Many change the body of one function each, and one check can try them together. A function is proved from its own body and
 the contracts of what it calls, so an edit of one body leaves the goals of all other functions as they are, and the check
 says of each function by itself what is not proved. An edit counts as refused here only where the check names a goal of
-the very function that it changes, or an answer to one of its goals that no longer answers it.
+the very function that it changes, or an answer to one of its goals that no longer answers it. The second says less: the
+goal may have another answer, so `refused_by` tells the two apart.
 
 An edit of anything else, definitions or a constant, is tried by a check of the laws alone, and of those that hold the
 rows of definitions: they have no code, and stand on definitions, constants and lemmas. It counts as refused here only
@@ -24,6 +25,13 @@ GONE = re.compile(r"(?:\./)?proofs/.*(has no field|is not in scope|has no `)")
 OPEN_GOAL = re.compile(r"note: (?:\./)?(src/\S+):(\d+):\d+: it is not proved")
 # An answer that doesn't answer its goal: the folders of a function's proof are its module or its type, and its name.
 BAD_ANSWER = re.compile(r"(?:\./)?proofs/(\S+)/(\w+)/(?:Answers|Invariants)\.antt:\d+:\d+: error(?!.*(has no field|is not in scope|has no `|was not admitted))")
+
+
+def refused_by(lines):
+    """What refuses an edit, by lines that a check says: a goal or a law, or only an answer that no longer fits, or else."""
+    if any(OPEN_GOAL.match(it) or OPEN_LAW.match(it) for it in lines):
+        return "goal"
+    return "answer" if any(map(BAD_ANSWER.match, lines)) else "else"
 
 
 def bodies(text):
