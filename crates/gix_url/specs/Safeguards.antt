@@ -1,4 +1,4 @@
--- Laws that keep passwords, options and escapes in their places, and of locations without a password or a spelling: one definition for each.
+-- Laws that keep passwords, options and escapes in their places, and of locations without a password or a spelling.
 use Rattle.std.specs.Prelude.{◌≡◌, ℕ, Bool, true, false, not, ◌⊎◌, ◌↔◌, List, [], Option, Some, None, IsTrue}
 use Rattle.gix_url.specs.declared.escape.TheConstants.{PATH, PASSWORD, USER}
 use Rattle.gix_url.specs.Value.{Protocol, Location, fields}

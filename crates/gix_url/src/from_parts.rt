@@ -1,8 +1,8 @@
 //! A location made of its parts: their text is written once, and what comes out is what that text is read as.
 //!
 //! It uses `reread`, and `bytes` for the names of remote helpers. Its contract: the answer is what is read of the text
-//! of the parts, and HTTP keeps the path that was given; settled parts come back equal; a name that no remote helper can have and a fault of that
-//! text are refused as such.
+//! of the parts, and HTTP keeps the path that was given; settled parts come back equal; a name that no remote helper can
+//! have and a fault of that text are refused as such.
 
 ghost use Rattle.std.specs.Prelude.{◌≡◌, None, Some, IfErr, IfOk, option_map, string_bytes};
 ghost use Rattle.bstr.specs.Owned.{bstring_bytes};
@@ -22,9 +22,9 @@ impl Url {
     ///
     /// What comes out may have other parts than were given: a `https` host `h` with the path `repo` is written
     /// `https://hrepo`, which names the host `hrepo`. Settled parts come back equal: every public field as it was given,
-    /// and no spelling. `Http` and `Https` keep the given path unless it is empty, and no spelling of it; where the text meant another path, what comes out may
-    /// be unsettled, see [`Url::is_settled`]. The last argument asks for the form that is no URL, where the scheme has
-    /// one; what comes out has the form of the text.
+    /// and no spelling. `Http` and `Https` keep the given path unless it is empty, and no spelling of it; where the text
+    /// meant another path, what comes out may be unsettled, see [`Url::is_settled`]. The last argument asks for the form
+    /// that is no URL, where the scheme has one; what comes out has the form of the text.
     ///
     /// What to know of the parts: a path of HTTP holds the query and the fragment; an IPv6 text of Secure Shell stands
     /// without brackets; the port can be 0 outside of HTTP; user and host can begin with `-`, so ask before they go

@@ -28,7 +28,10 @@ fn without_password(alloc: Global, mut url: Url) -> Result<Option<BString>, Erro
 }
 
 /// Gives a local location the path that `resolve` answers: its host is as it was, whatever comes of it.
-fn resolved<F: FnOnce(&str) -> Option<String> + Drop>(url: &mut Url, resolve: F) -> Result<(), Error>
+fn resolved<F: FnOnce(&str) -> Option<String> + Drop>(
+    url: &mut Url,
+    resolve: F,
+) -> Result<(), Error>
     requires { url.old.scheme ≡ file → IsUtf8 url.old.path → FnOnceTakesAt F.FnOnce resolve url.old.path }
     ensures { url.new.host ≡ url.old.host }
 {

@@ -57,7 +57,10 @@ fn locations_are_told_from_other_bytes(rt: HostRuntime) -> Result<(), Fail> {
 /// Checks that the user, the host and the path of what is read of a location's text are those of the location.
 fn comes_back(rt: &impl Abort, alloc: Global, text: &str, url: &Url) -> Result<(), Fail> {
     let back = boxed(alloc, through_text(alloc, url)?)?;
-    assert!(rt; back.user == url.user && back.host == url.host && back.path == url.path, "{text}");
+    assert!(rt;
+        back.user == url.user && back.host == url.host && back.path == url.path,
+        "{text}"
+    );
     Ok(())
 }
 
