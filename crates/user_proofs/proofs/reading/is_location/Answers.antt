@@ -1,5 +1,5 @@
 -- Where no memory was wanting, a refusal says that nothing is spelled.
-use Rattle.std.proofs.Common.{◌≡◌, ◌↔◌, ◌⊎◌, inl, inr, IsTrue, List, ℕ, false, subst}
+use Rattle.std.proofs.Common.{◌≡◌, ◌↔◌, inl, inr, IsTrue, List, ℕ, false, subst}
 use Rattle.std.proofs.lemmas.Bool.{false≢true}
 use Rattle.gix_url.specs.Grammar.{Spells}
 use Rattle.gix_url.specs.Readings.{Refuses}
