@@ -1,5 +1,6 @@
-"""Real ends: the program `locations` with streams that fail, or give and take little at a time."""
+"""Real ends: the program `locations` with streams that fail, or give and take little at a time, and `explain` on a terminal."""
 import os
+import pty
 import subprocess
 import threading
 
@@ -101,16 +102,56 @@ def a_byte_at_a_time(path):
     return (started.wait(60), out), (1, ANSWER)
 
 
+def end_of_a_terminal(path):
+    """The end of input on a terminal, typed behind an unended line, ends the run: what is typed then is left to the shell."""
+    terminal, streams = pty.openpty()
+    started = subprocess.Popen([path], stdin=streams, stdout=subprocess.PIPE, stderr=subprocess.STDOUT)
+    os.write(terminal, b"h:p\x04\x04next\n")
+    try:
+        said = started.communicate(timeout=20)[0]
+    except subprocess.TimeoutExpired:
+        started.kill()
+        return "it reads on", None
+    left = os.read(streams, 100)
+    os.close(streams)
+    os.close(terminal)
+    return (started.returncode, said.startswith(b"line 1: scp form, settled\n"), b"line 2" in said, left), (0, True, False, b"next\n")
+
+
+def behind_head(path):
+    """Where nobody reads on, nothing is said."""
+    lines = b"h:p\n" * 100_000
+    reader, writer = os.pipe()
+    started = subprocess.Popen([path], stdin=subprocess.PIPE, stdout=writer, stderr=subprocess.PIPE)
+    os.close(writer)
+    said = []
+
+    def feed():
+        said.append(started.communicate(lines)[1])
+
+    feeding = threading.Thread(target=feed)
+    feeding.start()
+    os.read(reader, 10)
+    os.close(reader)
+    feeding.join(60)
+    return (started.returncode, said), (2, [b""])
+
+
 ENDS = [
     full_device, closed_output, closed_input, folder_as_input, write_only_input, read_only_output, pipe_closed_before, pipe_closed_early,
     no_standard_error, a_byte_at_a_time,
 ]
 
 
+# Those of `explain`.
+OF_EXPLAIN = [end_of_a_terminal, behind_head]
+
+
 def check(_room):
-    path, faults = built("locations", "run"), []
-    for end in ENDS:
-        got, want = end(path)
-        if got != want:
-            faults.append(f"locations, {end.__name__.replace('_', ' ')}: {got}, and not {want}")
-    return faults, [f"`locations` at {len(ENDS)} real ends"]
+    faults = []
+    for name, ends in (("locations", ENDS), ("explain", OF_EXPLAIN)):
+        for end in ends:
+            got, want = end(built(name, "run"))
+            if got != want:
+                faults.append(f"{name}, {end.__name__.replace('_', ' ')}: {got}, and not {want}")
+    return faults, [f"`locations` at {len(ENDS)} real ends, `explain` at {len(OF_EXPLAIN)}"]

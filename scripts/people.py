@@ -1,14 +1,19 @@
 """What people are shown: the program `explain` over the lines of `crates/explain/people`, whose answers were written by hand.
 
-The crate's one stored run is JSON. Among the lines are some with control characters in each part that is shown, which must not
-reach a terminal.
+The crate's one stored run is JSON. Among the lines are some with control characters in each part that is shown, which must
+not reach a terminal. Each line of the file `alarms` raises an alarm, and no plain remote of 10,000 does.
 """
 import re
 import subprocess
+import sys
 
 from kit import ROOT, built
 
 STORED = f"{ROOT}/crates/explain/people"
+# A remote of HTTP, of Secure Shell or in the scp form, of which nothing has to be said.
+PLAIN = re.compile(rb"(https|ssh)://([\w.-]+@)?[\w.-]+(:\d+)?/[\w./-]+|([\w.-]+@)?[\w.-]+:[\w.][\w./-]*")
+OPTION = re.compile(rb"(^|//|@|/|:)-")
+ALARM = re.compile(rb"; danger: |: refused: |, not settled|^ +git +may read something else", re.M)
 
 
 def stored(name):
@@ -16,13 +21,38 @@ def stored(name):
         return it.read()
 
 
+def shown(lines):
+    """The status and the answers to lines, each with its heading and its rows."""
+    ran = subprocess.run([built("explain", "run")], input=b"".join(it + b"\n" for it in lines), stdout=subprocess.PIPE, timeout=60)
+    return ran.returncode, re.split(rb"(?m)^(?=line \d+: )", ran.stdout)[1:]
+
+
+def written_by_hand():
+    """Where answers differ from those that were written by hand."""
+    wanted = stored("stdout")
+    status, answers = shown(stored("stdin").split(b"\n")[:-1])
+    found = b"".join(answers)
+    yield from (f"people are shown {it!r}" for it in set(found.split(b"\n")) - set(wanted.split(b"\n")))
+    if re.search(r"[^\n\x20-\x7e\xa0-\U0010ffff]", found.decode("utf-8", "replace")):
+        yield "people are shown a control character as it is"
+    if status != 1:
+        yield f"the status is {status}, and not 1"
+    if found != wanted:
+        yield "people are shown other lines, the same in another order, or fewer of them"
+
+
+def false_alarms(lines):
+    """The lines about which people are alarmed."""
+    return [line for line, answer in zip(lines, shown(lines)[1]) if ALARM.search(answer)]
+
+
 def check(_room):
-    ran = subprocess.run([built("explain", "run")], input=stored("stdin"), stdout=subprocess.PIPE, timeout=60)
-    faults = [f"people are shown {it!r}" for it in set(ran.stdout.split(b"\n")) - set(stored("stdout").split(b"\n"))]
-    if re.search(r"[^\n\x20-\x7e\xa0-\U0010ffff]", ran.stdout.decode("utf-8", "replace")):
-        faults.append("people are shown a control character as it is")
-    if ran.returncode != 1:
-        faults.append(f"the status is {ran.returncode}, and not 1")
-    if ran.stdout != stored("stdout") and not faults:
-        faults.append("people are shown the same lines in another order, or fewer of them")
-    return faults, [f"{stored('stdin').count(10)} lines, shown as they were written by hand"]
+    made = subprocess.run([sys.executable, f"{ROOT}/scripts/remotes.py"], stdout=subprocess.PIPE, check=True, timeout=60).stdout
+    plain = [it for it in made.splitlines() if PLAIN.fullmatch(it) and not OPTION.search(it)]
+    bad = stored("alarms").splitlines()
+    faults = [*written_by_hand(), *(f"a false alarm about {it!r}" for it in false_alarms(plain))]
+    faults += [f"no alarm about {it!r}" for it in sorted({*bad} - {*false_alarms(bad)})]
+    if len(plain) < 400:
+        faults.append(f"only {len(plain)} of the remotes are plain")
+    told = [f"{stored('stdin').count(10)} lines, shown as they were written by hand"]
+    return faults, [*told, f"an alarm about each of {len(bad)} remotes, and about none of {len(plain)} plain ones"]

@@ -12,7 +12,7 @@ ghost use Rattle.explain.specs.Differences.{TellsField, TellsReread, flag_word, 
 
 use crate::refusal::Refusal;
 use crate::told::hidden_password;
-use bstr::ByteSlice;
+use bstr::{BStr, ByteSlice};
 use gix_url::{Error, Scheme, Url};
 use serde::Serialize;
 use std::alloc::{AllocError, Global};
@@ -219,7 +219,7 @@ fn words(alloc: Global, difference: &Option<Difference>) -> Result<String, Alloc
         );
     };
     let field = it.field;
-    match (&it.here, &it.instead) {
+    match (bytes(&it.here), bytes(&it.instead)) {
         (Some(here), Some(instead)) => {
             format!(in alloc;
                 "its own text is read with the {field} {instead:?} in place of {here:?}"
@@ -232,5 +232,13 @@ fn words(alloc: Global, difference: &Option<Difference>) -> Result<String, Alloc
             format!(in alloc; "its own text is read with the {field} {instead:?} in place of none")
         }
         (None, None) => format!(in alloc; "its own text is read with another {field}"),
+    }
+}
+
+/// The text as bytes, whose control characters are shown as all others of an answer are.
+fn bytes(text: &Option<String>) -> Option<BStr<'_>> {
+    match text {
+        None => None,
+        Some(text) => Some(BStr::from(text.as_str())),
     }
 }

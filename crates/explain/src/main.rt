@@ -1,11 +1,12 @@
 //! The program `explain`: tells a person, or another program, what each line of its standard input means as a location.
 //!
-//! It stands on the public calls of `gix_url` alone. `told` finds what is said of a location, `path` what its path
-//! means, `difference` what its own text is read as, `refusal` why a line is refused, `shown` lays all of that out for
+//! It uses the public calls of `gix_url` alone. `told` finds what is reported of a location, `path` what its path
+//! means, `danger` what to look out for, `difference` what its own text is read as, `refusal` why a line is refused, `shown` lays all of that out for
 //! people; with `--json` it goes out as one object a line. Each answer is written as soon as its line is read. The status
 //! is 0 where every line is settled, 1 where one is not, and 2 where the run was cut short or the options are wrong.
 #![tactic(auto)]
 
+mod danger;
 mod difference;
 mod path;
 mod refusal;
@@ -21,7 +22,7 @@ use refusal::Refusal;
 use serde::Serialize;
 use std::alloc::{AllocError, Global};
 use std::env;
-use std::io::{self, BufRead, BufReader, Write};
+use std::io::{self, BufRead, BufReader, ErrorKind, Write};
 use std::process::ExitCode;
 use std::rt::Env;
 use told::Told;
@@ -95,31 +96,55 @@ fn command<'a>(alloc: Global) -> Result<Command<'a>, AllocError> {
 }
 
 /// Answers all lines of the input, each as soon as it is read. `Ok(true)` says that every line is settled.
-fn run<B: BufRead + Drop, W: Write>(
+///
+/// Nothing is read after the end of the input, which a terminal would otherwise have to give twice.
+fn run<B: BufRead, W: Write>(
     alloc: Global,
-    input: B,
+    input: &mut B,
     output: &mut W,
     layout: Layout,
 ) -> Result<bool, RunError> {
     let mut all = true;
-    let mut number = 0u64;
-    for line in input.split(alloc, b'\n') {
-        number = number.saturating_add(1);
-        all &= answer_line(alloc, number, line, output, layout)?;
+    for number in 1..u64::MAX {
+        let line = next_line(alloc, input)?;
+        let (bytes, is_ended) = without_end(line.as_slice());
+        if bytes.is_empty() && !is_ended {
+            break;
+        }
+        all &= answer_line(alloc, number, bytes, output, layout)?;
+        if !is_ended {
+            break;
+        }
     }
     Ok(all)
+}
+
+/// The bytes to the end of the line, which is the last of them if the line has one.
+fn next_line<B: BufRead>(alloc: Global, input: &mut B) -> Result<Vec<u8>, RunError> {
+    let mut line = Vec::new(alloc);
+    match input.read_until(b'\n', &mut line) {
+        Ok(_) => Ok(line),
+        Err(error) => Err(RunError::Read(error)),
+    }
+}
+
+/// The line without its end, and whether it has one.
+fn without_end(line: &[u8]) -> (&[u8], bool) {
+    match line.strip_suffix(b"\n") {
+        Some(bytes) => (bytes, true),
+        None => (line, false),
+    }
 }
 
 /// Writes the answer to a line. `Ok(true)` says that the line is settled.
 fn answer_line<W: Write>(
     alloc: Global,
     number: u64,
-    line: io::Result<Vec<u8>>,
+    line: &[u8],
     output: &mut W,
     layout: Layout,
 ) -> Result<bool, RunError> {
-    let line = line.map_err(RunError::Read)?;
-    let (answer, is_settled) = answered(alloc, number, line.as_slice(), layout)?;
+    let (answer, is_settled) = answered(alloc, number, line, layout)?;
     output
         .write_all(answer.as_str().as_bytes())
         .map_err(RunError::Write)?;
@@ -231,11 +256,20 @@ fn main(rt: HostRuntime) -> ExitCode {
     };
     let alloc = rt.alloc();
     let outcome = match BufReader::new(alloc, rt.reader()) {
-        Ok(input) => run(alloc, input, &mut rt.stdout(), layout),
+        Ok(mut input) => run(alloc, &mut input, &mut rt.stdout(), layout),
         Err(_) => Err(RunError::Memory),
     };
-    if let Err(fault) = &outcome {
-        let _ = eprintln!(rt; "explain: {fault}");
-    }
+    report(&rt, &outcome);
     ExitCode::from(lines::status(&outcome))
+}
+
+/// Reports on standard error what cut the run short, except that nobody reads the output any more, as behind `head`.
+fn report(rt: &impl Eprint, outcome: &Result<bool, RunError>) {
+    match outcome {
+        Ok(_) => {}
+        Err(RunError::Write(error)) if error.kind() == ErrorKind::BrokenPipe => {}
+        Err(fault) => {
+            let _ = eprintln!(rt; "explain: {fault}");
+        }
+    }
 }

@@ -1,12 +1,15 @@
 //! Answers laid out for people: a heading, and a row for each thing that is told.
 //!
-//! Texts stand in quotes with their control characters escaped, so that no line of input can speak to a terminal. It
-//! uses what `told` and `refusal` found, and has no contract: `scripts/hostile people` shows its answers.
+//! Texts are in quotes with their control characters escaped, each byte in one way, so that no line of input can speak
+//! to a terminal. It uses what `told`, `danger` and `refusal` found, and has no contract: `scripts/hostile people` shows
+//! its answers.
 
+use crate::danger::dangers;
 use crate::path::{Components, Field, Home};
 use crate::refusal::Refusal;
-use crate::told::{Arguments, Safety, Told};
-use gix_url::Url;
+use crate::told::Told;
+use bstr::BStr;
+use gix_url::{Scheme, Url};
 use std::alloc::{AllocError, Global};
 use std::fmt::{Display, Write};
 
@@ -18,30 +21,32 @@ pub fn location(
     told: &Told<'_>,
 ) -> Result<String, AllocError> {
     let mut out = String::new(alloc);
-    heading(&mut out, number, told)?;
-    text(&mut out, told)?;
+    heading(&mut out, number, url, told)?;
+    text(&mut out, url, told)?;
     parts(&mut out, url, told)?;
     components(&mut out, &told.components)?;
     on_files(&mut out, told)?;
     Ok(out)
 }
 
-/// The heading of a location.
-fn heading(out: &mut String, number: u64, told: &Told<'_>) -> Result<(), AllocError> {
+/// The heading of a location: its form, the verdict and the dangers.
+fn heading(out: &mut String, number: u64, url: &Url, told: &Told<'_>) -> Result<(), AllocError> {
     let form = told.form;
     match &told.reread {
-        None => writeln!(out, "line {number}: {form}, settled"),
-        Some(reread) => writeln!(out, "line {number}: {form}, not settled: {}", reread.words),
-    }
+        None => write!(out, "line {number}: {form}, settled"),
+        Some(reread) => write!(out, "line {number}: {form}, not settled: {}", reread.words),
+    }?;
+    dangers(out, url, told)?;
+    out.push('\n')
 }
 
 /// The rows of the text, with what Git reads in it.
-fn text(out: &mut String, told: &Told<'_>) -> Result<(), AllocError> {
+fn text(out: &mut String, url: &Url, told: &Told<'_>) -> Result<(), AllocError> {
     let Some(text) = &told.text else {
         return Ok(());
     };
-    row(out, "text", format_args!("{text:?}"))?;
-    row(out, "git", reading_of_git(told))
+    quoted(out, "text", text.as_str())?;
+    row(out, "git", reading_of_git(url, told))
 }
 
 /// A refusal: its heading.
@@ -54,30 +59,26 @@ fn row<D: Display + Drop>(out: &mut String, name: &str, what: D) -> Result<(), A
     writeln!(out, "    {name:<12}{what}")
 }
 
-/// The rows of the parts, with what they are to a command line.
+/// A row with a text in quotes.
+fn quoted(out: &mut String, name: &str, text: &str) -> Result<(), AllocError> {
+    let text = BStr::from(text);
+    row(out, name, format_args!("{text:?}"))
+}
+
+/// The rows of the fields.
 fn parts(out: &mut String, url: &Url, told: &Told<'_>) -> Result<(), AllocError> {
-    let Arguments { user, host, path } = told.arguments;
     row(out, "scheme", told.scheme)?;
-    argument(out, "user", told.user, user)?;
+    if let Some(user) = told.user {
+        quoted(out, "user", user)?;
+    }
     if let Some(password) = told.password {
         row(out, "password", password)?;
     }
-    argument(out, "host", told.host, host)?;
-    port(out, told)?;
-    paths(out, url, path)
-}
-
-/// The row of a user or a host.
-fn argument(
-    out: &mut String,
-    name: &str,
-    part: Option<&str>,
-    safety: Safety,
-) -> Result<(), AllocError> {
-    match part {
-        None => Ok(()),
-        Some(part) => row(out, name, format_args!("{part:?}, {}", judgement(safety))),
+    if let Some(host) = told.host {
+        quoted(out, "host", host)?;
     }
+    port(out, told)?;
+    paths(out, url)
 }
 
 /// The row of the port, or of the one that the scheme stands for.
@@ -90,9 +91,9 @@ fn port(out: &mut String, told: &Told<'_>) -> Result<(), AllocError> {
 }
 
 /// The rows of the path, and of how it was spelled where that is another text.
-fn paths(out: &mut String, url: &Url, safety: Safety) -> Result<(), AllocError> {
+fn paths(out: &mut String, url: &Url) -> Result<(), AllocError> {
     let (path, spelled) = (url.path.as_bstr(), url.original_path());
-    row(out, "path", format_args!("{path:?}, {}", judgement(safety)))?;
+    row(out, "path", format_args!("{path:?}"))?;
     if spelled.as_bytes() == path.as_bytes() {
         return Ok(());
     }
@@ -100,21 +101,11 @@ fn paths(out: &mut String, url: &Url, safety: Safety) -> Result<(), AllocError> 
 }
 
 /// What Git reads in the text of the location, in words.
-fn reading_of_git(told: &Told<'_>) -> &'static str {
-    if told.agrees_with_git {
-        "reads the same in its text"
-    } else {
-        "may read something else in its text"
-    }
-}
-
-/// What a part is to a command line, in words.
-fn judgement(safety: Safety) -> &'static str {
-    match safety {
-        Safety::Absent => "absent",
-        Safety::Usable => "safe as an argument",
-        Safety::Dangerous => "unsafe as an argument: it begins with -",
-        Safety::Withheld => "unsafe as an argument: it doesn't begin with /, or begins with /-",
+fn reading_of_git(url: &Url, told: &Told<'_>) -> &'static str {
+    match &url.scheme {
+        _ if told.agrees_with_git => "reads the same in its text",
+        Scheme::Ssh | Scheme::Git | Scheme::File => "may read something else in its text",
+        _ => "hands its text to a remote helper, whose reading was not compared",
     }
 }
 
@@ -123,20 +114,23 @@ fn components(out: &mut String, told: &Components<'_>) -> Result<(), AllocError>
     if told.query.is_none() && told.fragment.is_none() {
         return Ok(());
     }
-    row(out, "path alone", format_args!("{:?}", told.path.as_str()))?;
+    quoted(out, "path alone", told.path.as_str())?;
     if let Some(fields) = &told.query {
         query(out, fields)?;
     }
     match &told.fragment {
         None => Ok(()),
-        Some(fragment) => row(out, "fragment", format_args!("{:?}", fragment.as_str())),
+        Some(fragment) => quoted(out, "fragment", fragment.as_str()),
     }
 }
 
 /// The rows of a query.
 fn query(out: &mut String, fields: &[Field]) -> Result<(), AllocError> {
     for field in fields {
-        let Field { name, value } = field;
+        let (name, value) = (
+            BStr::from(field.name.as_str()),
+            BStr::from(field.value.as_str()),
+        );
         row(out, "query", format_args!("{name:?} is {value:?}"))?;
     }
     Ok(())
@@ -149,19 +143,22 @@ fn on_files(out: &mut String, told: &Told<'_>) -> Result<(), AllocError> {
     }
     match &told.shell_path {
         None => Ok(()),
-        Some(path) => row(out, "to a shell", format_args!("{path:?}")),
+        Some(path) => quoted(out, "to a shell", path.as_str()),
     }
 }
 
 /// The row of a home folder.
 fn home_folder(out: &mut String, home: &Home) -> Result<(), AllocError> {
-    let Home { user, below } = home;
-    match user {
+    let below = BStr::from(home.below.as_str());
+    match &home.user {
         None => row(
             out,
             "home",
             format_args!("of the current user, below it {below:?}"),
         ),
-        Some(user) => row(out, "home", format_args!("of {user:?}, below it {below:?}")),
+        Some(user) => {
+            let user = BStr::from(user.as_str());
+            row(out, "home", format_args!("of {user:?}, below it {below:?}"))
+        }
     }
 }
