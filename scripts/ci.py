@@ -4,7 +4,7 @@
 definitions, and so checks it by one processor. Here slots say how many run at a time, and all that can begin stand in line
 for one; edits, most of which take less, come behind them and fill what they leave. A crate that others stand on waits for
 none. It judges as ever, and runs a check again that memory did not suffice for. A static library, of which `rt ci` keeps
-nothing, is compiled of what its check proved, as programs are.
+no file for later runs, is proved by each, and compiled of what its check proved, as programs are.
 """
 import os
 import sys
@@ -52,8 +52,14 @@ def in_turn(kit, slots):
     return ci
 
 
+def given_anew(give):
+    """What gives a crate what an earlier run made of the same: a static library gets nothing."""
+    return lambda kept, crate, tests, key: (tests or not crate.is_static) and give(kept, crate, tests, key)
+
+
 def main():
     kit = load_kit()
+    kit.Kept.give = given_anew(kit.Kept.give)
     kit.Crate.ci = in_turn(kit, Slots([int(it) for it in sys.argv[1:]]))
     kit.processors, kit.need = lambda: ALL, lambda _: 1
     return kit.main(["ci"])
