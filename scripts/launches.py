@@ -83,7 +83,7 @@ def killed(tree):
     while proofs(tree) < 7:
         time.sleep(0.05)
     started.send_signal(signal.SIGTERM)
-    status = started.wait(10)
+    status = started.wait(30)
     time.sleep(0.2)
     left = subprocess.run(["pgrep", "-s", str(started.pid), "rt"], stdout=subprocess.PIPE, text=True).stdout
     return (status, left), (2, "")
