@@ -59,7 +59,9 @@ def given_anew(give):
 
 def main():
     kit = load_kit()
-    kit.Kept.give = given_anew(kit.Kept.give)
+    # Older toolchains keep nothing for later runs.
+    if hasattr(kit, "Kept"):
+        kit.Kept.give = given_anew(kit.Kept.give)
     kit.Crate.ci = in_turn(kit, Slots([int(it) for it in sys.argv[1:]]))
     kit.processors, kit.need = lambda: ALL, lambda _: 1
     return kit.main(["ci"])

@@ -52,6 +52,11 @@ def load_kit():
     return kit
 
 
+def is_refusal(kit, verdict):
+    """Whether the prover refused an edit. Older toolchains report that by a truth value, newer ones by a word."""
+    return verdict is True or verdict in {getattr(kit, it, True) for it in ("REFUSED", "AT_LIMIT")}
+
+
 def git(*words):
     """What git lists, by its option -z."""
     ran = subprocess.run(["git", *words], cwd=ROOT, stdout=subprocess.PIPE, check=True, text=True)
