@@ -8,23 +8,29 @@
 
 mod danger;
 mod difference;
+mod only;
+mod options;
 mod path;
 mod refusal;
 mod shown;
+mod style;
 mod told;
 
 use bstr::BStr;
-use clap::{Arg, ArgAction, ArgMatches, Command};
-use gix_url::lines::{self, RunError};
+use clap::ArgMatches;
+use gix_url::lines::RunError;
 use gix_url::parse::parse;
 use gix_url::{Error, Url};
+use only::Part;
 use refusal::Refusal;
 use serde::Serialize;
 use std::alloc::{AllocError, Global};
 use std::env;
-use std::io::{self, BufRead, BufReader, ErrorKind, Write};
+use std::fs::File;
+use std::io::{BufRead, BufReader, ErrorKind, IsTerminal, Read, Write};
 use std::process::ExitCode;
 use std::rt::Env;
+use style::{Layout, Seen, Style};
 use told::Told;
 
 /// What is answered to a line: a location or why there is none.
@@ -38,117 +44,152 @@ struct Answer<'b, 'a: 'b> {
     refusal: Option<&'b Refusal>,
 }
 
-/// How answers are laid out.
-#[derive(Clone, Copy)]
-enum Layout {
-    People,
-    Json,
+/// Answers what the command line names. Returns the status to end with.
+fn explained(rt: &HostRuntime, given: &ArgMatches<'_>) -> u8 {
+    let style = options::style(given, is_coloured_by_itself(rt));
+    let mut output = rt.stdout();
+    let mut seen = Seen::NOTHING;
+    let outcome = answer_all(rt, given, &mut output, style, &mut seen);
+    report(rt, &outcome);
+    seen.status(&outcome)
 }
 
-/// The layout that the command line asks for; or the status to end with, once what there is to say was said.
-fn asked(rt: &(impl Env + AllocGlobal + Print + Eprint)) -> Result<Layout, u8> {
-    let Ok(words) = words(rt) else {
-        // Where standard error takes no line, the status still tells of the fault.
-        let _ = rt.eprintln("explain: the arguments are no text, or memory is refused");
-        return Err(2);
-    };
-    let given = options(rt.alloc(), words.as_slice());
-    let layout = match &given {
-        Ok(given) => Ok(layout_of(given)),
-        Err(error) => {
-            let _ = error.print(rt);
-            Err(if error.use_stderr() { 2 } else { 0 })
+/// Whether answers are coloured where the command line leaves it open.
+fn is_coloured_by_itself(rt: &HostRuntime) -> bool {
+    rt.stdout().is_terminal() && !is_set(rt, "NO_COLOR") && is_set(rt, "TERM") && !is_dumb(rt)
+}
+
+/// Whether an environment variable is set, and not empty.
+fn is_set(rt: &(impl Env + AllocGlobal), name: &str) -> bool {
+    env::var(rt, name).is_ok_and(|value| !value.is_empty())
+}
+
+/// Whether the terminal shows text alone.
+fn is_dumb(rt: &(impl Env + AllocGlobal)) -> bool {
+    env::var(rt, "TERM").is_ok_and(|value| value.as_str() == "dumb")
+}
+
+/// Answers the lines of each file, then each text; or the lines of standard input where neither is given.
+fn answer_all<W: Write>(
+    rt: &HostRuntime,
+    given: &ArgMatches<'_>,
+    output: &mut W,
+    style: Style,
+    seen: &mut Seen,
+) -> Result<(), RunError> {
+    let files = given.get_strs("file").unwrap_or(&[]);
+    let texts = given.get_strs("text").unwrap_or(&[]);
+    for file in files {
+        answer_file(rt, file, output, style, seen)?;
+    }
+    for text in texts {
+        if *text == "-" {
+            answer_file(rt, text, output, style, seen)?;
+        } else {
+            answer_line(rt.alloc(), text.as_bytes(), output, style, seen)?;
         }
-    };
-    drop(given);
-    layout
+    }
+    if files.is_empty() && texts.is_empty() {
+        if rt.stdin().is_terminal() {
+            let _ = rt.eprintln(
+                "explain: reads a location a line from the terminal, to Ctrl-D (--help says more)",
+            );
+        }
+        answer_file(rt, "-", output, style, seen)?;
+    }
+    Ok(())
 }
 
-/// The layout that the options ask for.
-fn layout_of(given: &ArgMatches<'_>) -> Layout {
-    if given.get_flag("json") {
-        Layout::Json
-    } else {
-        Layout::People
+/// Answers the lines of a file; `-` is standard input. A file that can't be opened is reported, and the rest goes on.
+fn answer_file<W: Write>(
+    rt: &HostRuntime,
+    file: &str,
+    output: &mut W,
+    style: Style,
+    seen: &mut Seen,
+) -> Result<(), RunError> {
+    if file == "-" {
+        return answer_reader(rt.alloc(), rt.reader(), output, style, seen);
+    }
+    match File::open(rt, file) {
+        Ok(opened) => answer_reader(rt.alloc(), opened, output, style, seen),
+        Err(error) => {
+            let _ = eprintln!(rt; "explain: cannot read {file}: {error}");
+            seen.lacks_file = true;
+            Ok(())
+        }
     }
 }
 
-/// The words of the command line, the program's name first.
-fn words(rt: &(impl Env + AllocGlobal)) -> io::Result<Vec<String>> {
-    Ok(env::args(rt)?.collect(rt.alloc())?)
+/// Answers the lines of a reader.
+fn answer_reader<R: Read + Drop, W: Write>(
+    alloc: Global,
+    reader: R,
+    output: &mut W,
+    style: Style,
+    seen: &mut Seen,
+) -> Result<(), RunError> {
+    match BufReader::new(alloc, reader) {
+        Ok(mut input) => answer_lines(alloc, &mut input, output, style, seen),
+        Err(_) => Err(RunError::Memory),
+    }
 }
 
-/// The options of the command line, or what is printed in place of an answer.
-fn options<'a>(alloc: Global, words: &'a [String]) -> Result<ArgMatches<'a>, clap::Error> {
-    command(alloc)?.try_get_matches_from(words)
-}
-
-/// What the program is and takes on its command line.
-fn command<'a>(alloc: Global) -> Result<Command<'a>, AllocError> {
-    let json = Arg::new(alloc, "json")
-        .long("json")
-        .help("Answer each line by one JSON object on a line")
-        .action(ArgAction::SetTrue);
-    Command::new(alloc, "explain")
-        .version("0.40.1")
-        .about("Tells what each line of the standard input means as a Git location")
-        .arg(json)
-}
-
-/// Answers all lines of the input, each as soon as it is read. `Ok(true)` says that every line is settled.
+/// Answers all lines of the input, each as soon as it is read.
 ///
 /// Nothing is read after the end of the input, which a terminal would otherwise have to give twice.
-fn run<B: BufRead, W: Write>(
+fn answer_lines<B: BufRead, W: Write>(
     alloc: Global,
     input: &mut B,
     output: &mut W,
-    layout: Layout,
-) -> Result<bool, RunError> {
-    let mut all = true;
-    for number in 1..u64::MAX {
-        let line = next_line(alloc, input)?;
-        let (bytes, is_ended) = without_end(line.as_slice());
+    style: Style,
+    seen: &mut Seen,
+) -> Result<(), RunError> {
+    for _turn in 0..u64::MAX {
+        let line = next_line(alloc, input, style.end)?;
+        let (bytes, is_ended) = without_end(line.as_slice(), style.end);
         if bytes.is_empty() && !is_ended {
             break;
         }
-        all &= answer_line(alloc, number, bytes, output, layout)?;
-        if !is_ended {
+        answer_line(alloc, bytes, output, style, seen)?;
+        if !is_ended || style.is_over(seen) {
             break;
         }
     }
-    Ok(all)
+    Ok(())
 }
 
 /// The bytes to the end of the line, which is the last of them if the line has one.
-fn next_line<B: BufRead>(alloc: Global, input: &mut B) -> Result<Vec<u8>, RunError> {
+fn next_line<B: BufRead>(alloc: Global, input: &mut B, end: u8) -> Result<Vec<u8>, RunError> {
     let mut line = Vec::new(alloc);
-    match input.read_until(b'\n', &mut line) {
+    match input.read_until(end, &mut line) {
         Ok(_) => Ok(line),
         Err(error) => Err(RunError::Read(error)),
     }
 }
 
 /// The line without its end, and whether it has one.
-fn without_end(line: &[u8]) -> (&[u8], bool) {
-    match line.strip_suffix(b"\n") {
-        Some(bytes) => (bytes, true),
-        None => (line, false),
+fn without_end(line: &[u8], end: u8) -> (&[u8], bool) {
+    match line.split_last() {
+        Some((last, bytes)) if *last == end => (bytes, true),
+        _ => (line, false),
     }
 }
 
-/// Writes the answer to a line. `Ok(true)` says that the line is settled.
+/// Writes the answer to a line, and notes whether the line is settled.
 fn answer_line<W: Write>(
     alloc: Global,
-    number: u64,
     line: &[u8],
     output: &mut W,
-    layout: Layout,
-) -> Result<bool, RunError> {
-    let (answer, is_settled) = answered(alloc, number, line, layout)?;
+    style: Style,
+    seen: &mut Seen,
+) -> Result<(), RunError> {
+    seen.lines = seen.lines.saturating_add(1);
+    let (answer, is_settled) = answered(alloc, seen.lines, line, style)?;
+    seen.is_settled &= is_settled;
     output
         .write_all(answer.as_str().as_bytes())
-        .map_err(RunError::Write)?;
-    Ok(is_settled)
+        .map_err(RunError::Write)
 }
 
 /// The answer to a line, and whether the line is settled.
@@ -156,15 +197,22 @@ fn answered(
     alloc: Global,
     number: u64,
     line: &[u8],
-    layout: Layout,
+    style: Style,
 ) -> Result<(String, bool), AllocError> {
     let read = parse(alloc, BStr::new(line));
-    let answer = match &read {
-        Ok(url) => told_location(alloc, number, url, layout),
-        Err(error) => told_error(alloc, number, error, layout),
+    let answer = match (&read, style.layout) {
+        (Ok(url), Layout::Quiet) => Ok((String::new(alloc), url.is_settled())),
+        (Ok(url), Layout::Only(part)) => only_part(alloc, url, part),
+        (Ok(url), _) => told_location(alloc, number, url, style),
+        (Err(error), _) => told_error(alloc, number, error, style),
     };
     drop(read);
     answer
+}
+
+/// One part of a location, and whether the location is settled.
+fn only_part(alloc: Global, url: &Url, part: Part) -> Result<(String, bool), AllocError> {
+    Ok((only::line(alloc, url, part)?, url.is_settled()))
 }
 
 /// What is told of a location, and whether it is settled.
@@ -172,11 +220,11 @@ fn told_location(
     alloc: Global,
     number: u64,
     url: &Url,
-    layout: Layout,
+    style: Style,
 ) -> Result<(String, bool), AllocError> {
     let told = Told::of(alloc, url)?;
     let is_settled = told.settled;
-    let answer = laid_out(alloc, number, url, &told, layout);
+    let answer = laid_out(alloc, number, url, &told, style);
     drop(told);
     Ok((answer?, is_settled))
 }
@@ -187,11 +235,11 @@ fn laid_out(
     number: u64,
     url: &Url,
     told: &Told<'_>,
-    layout: Layout,
+    style: Style,
 ) -> Result<String, AllocError> {
-    match layout {
+    match style.layout {
         Layout::People => shown::location(alloc, number, url, told),
-        Layout::Json => json(
+        _ => json(
             alloc,
             &Answer {
                 line: number,
@@ -207,11 +255,13 @@ fn told_error(
     alloc: Global,
     number: u64,
     error: &Error,
-    layout: Layout,
+    style: Style,
 ) -> Result<(String, bool), AllocError> {
-    match error {
-        Error::Memory => Err(AllocError),
-        error => Ok((told_refusal(alloc, number, error, layout)?, false)),
+    match (error, style.layout) {
+        (Error::Memory, _) => Err(AllocError),
+        (_, Layout::Quiet) => Ok((String::new(alloc), false)),
+        (_, Layout::Only(_)) => Ok((String::from_str(alloc, "\n")?, false)),
+        (error, _) => Ok((told_refusal(alloc, number, error, style)?, false)),
     }
 }
 
@@ -220,12 +270,12 @@ fn told_refusal(
     alloc: Global,
     number: u64,
     error: &Error,
-    layout: Layout,
+    style: Style,
 ) -> Result<String, AllocError> {
     let refusal = Refusal::of(alloc, error)?;
-    let answer = match layout {
+    let answer = match style.layout {
         Layout::People => shown::refusal(alloc, number, &refusal),
-        Layout::Json => json(
+        _ => json(
             alloc,
             &Answer {
                 line: number,
@@ -250,23 +300,24 @@ fn json(alloc: Global, answer: &Answer<'_, '_>) -> Result<String, AllocError> {
 }
 
 fn main(rt: HostRuntime) -> ExitCode {
-    let layout = match asked(&rt) {
-        Ok(layout) => layout,
-        Err(status) => return ExitCode::from(status),
+    let Ok(words) = options::words(&rt) else {
+        // Where standard error takes no line, the status still reports the fault.
+        let _ = rt.eprintln("explain: an argument is not UTF-8, or memory is refused");
+        return ExitCode::from(2);
     };
-    let alloc = rt.alloc();
-    let outcome = match BufReader::new(alloc, rt.reader()) {
-        Ok(mut input) => run(alloc, &mut input, &mut rt.stdout(), layout),
-        Err(_) => Err(RunError::Memory),
-    };
-    report(&rt, &outcome);
-    ExitCode::from(lines::status(&outcome))
+    ExitCode::from(match options::given(rt.alloc(), words.as_slice()) {
+        Ok(given) => explained(&rt, &given),
+        Err(error) => {
+            let _ = error.print(&rt);
+            if error.use_stderr() { 2 } else { 0 }
+        }
+    })
 }
 
 /// Reports on standard error what cut the run short, except that nobody reads the output any more, as behind `head`.
-fn report(rt: &impl Eprint, outcome: &Result<bool, RunError>) {
+fn report(rt: &impl Eprint, outcome: &Result<(), RunError>) {
     match outcome {
-        Ok(_) => {}
+        Ok(()) => {}
         Err(RunError::Write(error)) if error.kind() == ErrorKind::BrokenPipe => {}
         Err(fault) => {
             let _ = eprintln!(rt; "explain: {fault}");

@@ -57,7 +57,7 @@ pub struct Home {
 }
 
 /// The calls below fail for want of memory alone.
-fn no_memory(error: Error) -> AllocError {
+pub fn no_memory(error: Error) -> AllocError {
     drop(error);
     AllocError
 }

@@ -231,7 +231,7 @@ fn safety_of(judged: ArgumentSafety<'_>) -> Safety {
 }
 
 /// The text of the location with its password hidden, if it has a text.
-fn text_of(alloc: Global, url: &Url) -> Result<Option<String>, AllocError> {
+pub fn text_of(alloc: Global, url: &Url) -> Result<Option<String>, AllocError> {
     match url.text_len() {
         Ok(_) => Ok(Some(url.to_string(alloc)?)),
         Err(_) => Ok(None),

@@ -1,0 +1,129 @@
+//! One part of each location on a line of its own, for scripts.
+//!
+//! It uses the public calls of `gix_url`, and has no contract but that it can't abort: `scripts/hostile people` shows its
+//! answers. A password is no part that can be asked for.
+
+use crate::path::no_memory;
+use crate::told::text_of;
+use bstr::{BStr, ByteSlice};
+use gix_url::{PathComponents, Scheme, Url};
+use std::alloc::{AllocError, Global};
+use std::fmt::Write;
+
+/// A part of a location.
+#[derive(Clone, Copy)]
+pub enum Part {
+    Scheme,
+    User,
+    Host,
+    Port,
+    Path,
+    Query,
+    Fragment,
+    Text,
+}
+
+impl Part {
+    /// The names of the parts, in declared order.
+    pub const NAMES: [&'static str; 8] = [
+        "scheme", "user", "host", "port", "path", "query", "fragment", "text",
+    ];
+
+    /// The part with this name.
+    pub fn named(name: &str) -> Option<Part> {
+        match name {
+            "scheme" => Some(Part::Scheme),
+            "user" => Some(Part::User),
+            "host" => Some(Part::Host),
+            "port" => Some(Part::Port),
+            "path" => Some(Part::Path),
+            "query" => Some(Part::Query),
+            "fragment" => Some(Part::Fragment),
+            "text" => Some(Part::Text),
+            _ => None,
+        }
+    }
+}
+
+/// The line with a part of the location, empty where it has none. Control characters, backslashes and bytes that are not
+/// UTF-8 are escaped, so it is one line.
+pub fn line(alloc: Global, url: &Url, part: Part) -> Result<String, AllocError> {
+    let mut out = String::new(alloc);
+    match part {
+        Part::Scheme => escaped(&mut out, url.scheme.as_str().as_bytes())?,
+        Part::User => text(&mut out, url.user())?,
+        Part::Host => text(&mut out, url.host())?,
+        Part::Port => port(&mut out, url.port_or_default())?,
+        Part::Path => path(alloc, &mut out, url)?,
+        Part::Query => bytes(&mut out, query(url))?,
+        Part::Fragment => fragment(alloc, &mut out, url)?,
+        Part::Text => own_text(alloc, &mut out, url)?,
+    }
+    out.push('\n')?;
+    Ok(out)
+}
+
+/// Appends a text, if there is one.
+fn text(out: &mut String, text: Option<&str>) -> Result<(), AllocError> {
+    bytes(out, text.map(str::as_bytes))
+}
+
+/// Appends bytes, if there are any.
+fn bytes(out: &mut String, bytes: Option<&[u8]>) -> Result<(), AllocError> {
+    match bytes {
+        None => Ok(()),
+        Some(bytes) => escaped(out, bytes),
+    }
+}
+
+/// Appends a port, if there is one.
+fn port(out: &mut String, port: Option<u16>) -> Result<(), AllocError> {
+    match port {
+        None => Ok(()),
+        Some(port) => write!(out, "{port}"),
+    }
+}
+
+/// Appends the path without query and fragment.
+fn path(alloc: Global, out: &mut String, url: &Url) -> Result<(), AllocError> {
+    let parts = components(alloc, url)?;
+    let path = escaped(out, parts.path.as_bytes());
+    drop(parts);
+    path
+}
+
+/// Appends the fragment, if there is one.
+fn fragment(alloc: Global, out: &mut String, url: &Url) -> Result<(), AllocError> {
+    let parts = components(alloc, url)?;
+    let fragment = bytes(out, parts.fragment.map(|it| it.as_bytes()));
+    drop(parts);
+    fragment
+}
+
+/// Path, query and fragment. The call fails for want of memory alone.
+fn components(alloc: Global, url: &Url) -> Result<PathComponents<'_>, AllocError> {
+    url.path_query_fragment(alloc).map_err(no_memory)
+}
+
+/// The query as it is spelled, percent-encoding included.
+fn query(url: &Url) -> Option<&[u8]> {
+    if !matches!(&url.scheme, Scheme::Http | Scheme::Https) {
+        return None;
+    }
+    let spelled = url.original_path().as_bytes();
+    let front = spelled.split_once_str(b"#").map_or(spelled, |it| it.0);
+    front.split_once_str(b"?").map(|it| it.1)
+}
+
+/// Appends the text of the location with its password hidden, if it has a text.
+fn own_text(alloc: Global, out: &mut String, url: &Url) -> Result<(), AllocError> {
+    let text = text_of(alloc, url)?;
+    let shown = bytes(out, text.as_ref().map(|it| it.as_str().as_bytes()));
+    drop(text);
+    shown
+}
+
+/// Appends bytes, with their control characters, backslashes and bytes that are not UTF-8 escaped.
+fn escaped(out: &mut String, bytes: &[u8]) -> Result<(), AllocError> {
+    write!(out, "{:?}", BStr::new(bytes))
+}

@@ -1,0 +1,132 @@
+//! The command line of `explain`, read by `clap`. It has no contract but that it can't abort.
+
+use crate::only::Part;
+use crate::style::{Layout, Style};
+use clap::{Arg, ArgAction, ArgMatches, Command};
+use std::alloc::{AllocError, Global};
+use std::rt::Env;
+use std::{env, io};
+
+/// What `--help` says behind the options.
+const MORE: &str = "\
+A location is settled if its own text is read as the same location again: what is written then names the same host.
+
+Examples:
+  explain git@github.com:a/b.git
+  git config --get-all remote.origin.url | explain --only host
+
+Exit status: 0 if every line is settled, 1 if one is not, 2 for wrong arguments or a run that was cut short.";
+
+/// The words of the command line, the program's name first.
+pub fn words(rt: &(impl Env + AllocGlobal)) -> io::Result<Vec<String>> {
+    Ok(env::args(rt)?.collect(rt.alloc())?)
+}
+
+/// The options of the command line, or what is printed in place of an answer.
+pub fn given<'a>(alloc: Global, words: &'a [String]) -> Result<ArgMatches<'a>, clap::Error> {
+    command(alloc)?.try_get_matches_from(words)
+}
+
+/// How answers are to be laid out. `auto` decides on colours where the command line leaves that open.
+pub fn style(given: &ArgMatches<'_>, auto: bool) -> Style {
+    Style {
+        layout: layout(given),
+        is_coloured: match given.get_str("color") {
+            Some("always") => true,
+            Some("never") => false,
+            _ => auto,
+        },
+        end: if given.get_flag("null") { 0 } else { b'\n' },
+    }
+}
+
+/// The layout that the options ask for.
+fn layout(given: &ArgMatches<'_>) -> Layout {
+    if given.get_flag("json") {
+        return Layout::Json;
+    }
+    if given.get_flag("quiet") {
+        return Layout::Quiet;
+    }
+    match given.get_str("only").and_then(Part::named) {
+        Some(part) => Layout::Only(part),
+        None => Layout::People,
+    }
+}
+
+/// What the program is and takes on its command line.
+fn command<'a>(alloc: Global) -> Result<Command<'a>, AllocError> {
+    Command::new(alloc, "explain")
+        .version("0.40.1")
+        .about(
+            "Reports what Git locations mean: arguments, or each line of files or of standard input",
+        )
+        .after_help(MORE)
+        .arg(texts(alloc))?
+        .arg(files(alloc))?
+        .arg(null(alloc))?
+        .arg(json(alloc)?)?
+        .arg(only(alloc)?)?
+        .arg(quiet(alloc))?
+        .arg(color(alloc))
+}
+
+fn texts<'a>(alloc: Global) -> Arg<'a> {
+    Arg::new(alloc, "text")
+        .value_name("TEXT")
+        .help("Texts to explain, behind -- where one begins with -; - is standard input")
+        .action(ArgAction::Append)
+        .num_args(0..)
+}
+
+fn files<'a>(alloc: Global) -> Arg<'a> {
+    Arg::new(alloc, "file")
+        .short('f')
+        .long("file")
+        .value_name("FILE")
+        .help("Explain each line of a file; - is standard input")
+        .action(ArgAction::Append)
+}
+
+fn null<'a>(alloc: Global) -> Arg<'a> {
+    Arg::new(alloc, "null")
+        .short('0')
+        .long("null")
+        .help("Lines of the input end with a NUL byte")
+        .action(ArgAction::SetTrue)
+}
+
+fn json<'a>(alloc: Global) -> Result<Arg<'a>, AllocError> {
+    Arg::new(alloc, "json")
+        .long("json")
+        .help("Print one JSON object a line")
+        .action(ArgAction::SetTrue)
+        .conflicts_with("only")?
+        .conflicts_with("quiet")
+}
+
+fn only<'a>(alloc: Global) -> Result<Arg<'a>, AllocError> {
+    Arg::new(alloc, "only")
+        .long("only")
+        .value_name("PART")
+        .help("Print this part of each location, or an empty line")
+        .value_parser(Part::NAMES.as_slice())
+        .conflicts_with("quiet")
+}
+
+fn quiet<'a>(alloc: Global) -> Arg<'a> {
+    Arg::new(alloc, "quiet")
+        .short('q')
+        .long("quiet")
+        .help("Print nothing, and stop at the first line that is not settled")
+        .action(ArgAction::SetTrue)
+}
+
+fn color<'a>(alloc: Global) -> Arg<'a> {
+    Arg::new(alloc, "color")
+        .long("color")
+        .value_name("WHEN")
+        .help("Colour the answers; auto does on a terminal, unless NO_COLOR is set or TERM is dumb")
+        .value_parser(["auto", "always", "never"].as_slice())
+        .default_value("auto")
+}

@@ -1,0 +1,85 @@
+"""The command lines of `locations` and `explain`: what each prints, and its status. The expectations are written by hand."""
+import os
+import pty
+import subprocess
+from collections import namedtuple
+
+from kit import built
+
+# A call: the program, its arguments, its input; its status, what it prints, and a part of what it reports as wrong.
+Call = namedtuple("Call", "program words input status shown reported", defaults=(b"", 0, b"", b""))
+LINES = b"h:p\n\nhttp://h:0/\n"
+WRONG = {"status": 2, "reported": b"error: "}
+
+CALLS = [
+    Call("locations", ["h:p"], **WRONG),
+    Call("locations", ["remotes.txt"], **WRONG),
+    Call("locations", ["--nonsense"], **WRONG),
+    Call("locations", ["--version"], shown=b"locations 0.40.1\n"),
+    Call("locations", [], LINES, 1, b"settled\th:p\nrefused\tEmptyLocal\nrefused\tBadUrl BadPort\n"),
+    Call("locations", ["-n"], LINES, 1, b"1\tsettled\th:p\n2\trefused\tEmptyLocal\n3\trefused\tBadUrl BadPort\n"),
+    Call("locations", ["--with-input"], b"h:p\nHTTP://H/ x\na\tb", 1, b"settled\th:p\th:p\nrefused\tBadUrl BadCharacter\tHTTP://H/ x\nsettled\ta\tb\ta\tb\n"),
+    Call("locations", ["--number", "--with-input"], b"ssh://H/p", 0, b"1\tsettled\tssh://h/p\tssh://H/p\n"),
+    Call("locations", ["--number"], b""),
+    Call("explain", ["--nonsense"], **WRONG),
+    Call("explain", ["--only", "password", "h:p"], **WRONG),
+    Call("explain", ["--json", "--quiet", "h:p"], **WRONG),
+    Call("explain", ["--version"], shown=b"explain 0.40.1\n"),
+    Call("explain", ["--only", "host", "ssh://git@example.com:22/a", "/srv/repo"], shown=b"example.com\n\n"),
+    Call("explain", ["--only", "host", "--", "-h:p"], shown=b"-h\n"),
+    Call("explain", ["--only=scheme"], b"a::b\nhttps://h/\nh:p\n", 0, b"a\nhttps\nssh\n"),
+    Call("explain", ["--only=user"], b"http://u%40x:secret@h/\n/p\n", 0, b"u@x\n\n"),
+    Call("explain", ["--only=port"], b"http://h:8080/\nhttp://h/\n/p\n", 0, b"8080\n80\n\n"),
+    Call("explain", ["--only=path"], b"http://h/a%20b?x#y\nh:p?x#y\n", 0, b"/a b\np?x#y\n"),
+    Call("explain", ["--only=query"], b"http://h/a?x=%41&y#z?w\nhttp://h/a#?\nhttp://h/?\nh:p?x\n", 0, b"x=%41&y\n\n\n\n"),
+    Call("explain", ["--only=fragment"], b"http://h/a?x#%41#\nhttp://h/a\n", 0, b"A#\n\n"),
+    Call("explain", ["--only=text"], b"http://u:secret@h\nnot a://location\n", 1, b"http://u:redacted@h/\n\n"),
+    Call("explain", ["--only=path"], b"/a\x1b[31m\\\xff\n", 0, b"/a\\x1b[31m\\\\\\xff\n"),
+    Call("explain", ["--only=path", "-f", "-", "x"], b"a\nb", 0, b"a\nb\nx\n"),
+    Call("explain", ["--only=path", "x", "-", "y"], b"a\nb\n", 0, b"x\na\nb\ny\n"),
+    Call("explain", ["--only=path", "-0"], b"a\nb\0c\0", 0, b"a\\nb\nc\n"),
+    Call("explain", ["--only=path", "-f", "/no/such/file", "x"], status=2, shown=b"x\n", reported=b"explain: cannot read /no/such/file: "),
+    Call("explain", ["--only=path", "-f", "/", "x"], status=2, reported=b"explain: cannot read"),
+    Call("explain", ["-q"], b"h:p\n/a\n"),
+    Call("explain", ["-q"], b"http://h:0/\nh:p\n", 1),
+    Call("explain", ["-q", b"\xff"], status=2, reported=b"explain: an argument is not UTF-8"),
+    Call("explain", ["-q", ""], status=1),
+    Call("explain", ["--only=path"], b""),
+]
+# What the help of a program says, among other things.
+HELP = {"locations": [b"--number", b"--with-input", b"Examples:\n", b"Exit status: 0 ", b"settled TAB TEXT"],
+        "explain": [b"--only <PART>", b"--quiet", b"--null", b"--file <FILE>", b"Examples:\n", b"Exit status: 0 ", b"A location is settled if "]}
+
+
+def fault_of(call):
+    """What is wrong with a call, if anything is."""
+    ran = subprocess.run([built(call.program, "run"), *call.words], input=call.input, stdout=subprocess.PIPE, stderr=subprocess.PIPE, timeout=60)
+    reports = call.reported in ran.stderr if call.reported else not ran.stderr
+    is_right = ran.returncode == call.status and ran.stdout == call.shown and reports
+    return None if is_right else f"{call.program} {call.words}: {ran.returncode}, {ran.stdout!r}, {ran.stderr!r}"
+
+
+def help_faults(program):
+    ran = subprocess.run([built(program, "run"), "--help"], stdin=subprocess.DEVNULL, stdout=subprocess.PIPE, stderr=subprocess.PIPE, timeout=60)
+    if ran.returncode or ran.stderr:
+        yield f"{program} --help: status {ran.returncode}, {ran.stderr!r}"
+    yield from (f"{program} --help lacks {it!r}" for it in HELP[program] if it not in ran.stdout)
+
+
+def terminal_faults(program):
+    """On a terminal a program that reads it says so, in one line."""
+    terminal, streams = pty.openpty()
+    started = subprocess.Popen([built(program, "run")], stdin=streams, stdout=subprocess.DEVNULL, stderr=subprocess.PIPE)
+    os.write(terminal, b"\x04")
+    said = started.communicate(timeout=20)[1]
+    os.close(streams)
+    os.close(terminal)
+    if started.returncode or said.count(b"\n") != 1 or not said.startswith(program.encode() + b": reads a location a line"):
+        yield f"{program} on a terminal: {started.returncode}, {said!r}"
+
+
+def check(_room):
+    faults = [it for it in map(fault_of, CALLS) if it]
+    for program in HELP:
+        faults += [*help_faults(program), *terminal_faults(program)]
+    return faults, [f"{len(CALLS) + 2 * len(HELP)} command lines"]
