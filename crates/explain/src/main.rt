@@ -1,13 +1,14 @@
 //! The program `explain`: tells a person, or another program, what each line of its standard input means as a location.
 //!
 //! It uses the public calls of `gix_url` alone. `told` finds what is reported of a location, `path` what its path
-//! means, `danger` what to look out for, `difference` what its own text is read as, `refusal` why a line is refused, `shown` lays all of that out for
-//! people; with `--json` it goes out as one object a line. Each answer is written as soon as its line is read. The status
+//! means, `danger` what to look out for, `difference` what its own text is read as, `refusal` why a line is refused, `hint`
+//! what people may have got wrong in it, `shown` lays all of that out for people; with `--json` it goes out as one object a line. Each answer is written as soon as its line is read. The status
 //! is 0 where every line is settled, 1 where one is not, and 2 where the run was cut short or the options are wrong.
 #![tactic(auto)]
 
 mod danger;
 mod difference;
+mod hint;
 mod path;
 mod refusal;
 mod shown;
@@ -18,6 +19,7 @@ use clap::{Arg, ArgAction, ArgMatches, Command};
 use gix_url::lines::{self, RunError};
 use gix_url::parse::parse;
 use gix_url::{Error, Url};
+use hint::{Hint, Reading};
 use refusal::Refusal;
 use serde::Serialize;
 use std::alloc::{AllocError, Global};
@@ -36,6 +38,8 @@ struct Answer<'b, 'a: 'b> {
     location: Option<&'b Told<'a>>,
     /// Why it is read as nothing.
     refusal: Option<&'b Refusal>,
+    /// What may be wrong with the line.
+    hints: &'b [Hint],
 }
 
 /// How answers are laid out.
@@ -160,8 +164,8 @@ fn answered(
 ) -> Result<(String, bool), AllocError> {
     let read = parse(alloc, BStr::new(line));
     let answer = match &read {
-        Ok(url) => told_location(alloc, number, url, layout),
-        Err(error) => told_error(alloc, number, error, layout),
+        Ok(url) => told_location(alloc, number, line, url, layout),
+        Err(error) => told_error(alloc, number, line, error, layout),
     };
     drop(read);
     answer
@@ -171,12 +175,13 @@ fn answered(
 fn told_location(
     alloc: Global,
     number: u64,
+    line: &[u8],
     url: &Url,
     layout: Layout,
 ) -> Result<(String, bool), AllocError> {
     let told = Told::of(alloc, url)?;
     let is_settled = told.settled;
-    let answer = laid_out(alloc, number, url, &told, layout);
+    let answer = laid_out(alloc, number, line, url, &told, layout);
     drop(told);
     Ok((answer?, is_settled))
 }
@@ -185,20 +190,38 @@ fn told_location(
 fn laid_out(
     alloc: Global,
     number: u64,
+    line: &[u8],
     url: &Url,
     told: &Told<'_>,
     layout: Layout,
 ) -> Result<String, AllocError> {
-    match layout {
-        Layout::People => shown::location(alloc, number, url, told),
+    let found = hint::found(alloc, line, Some(reading(url, told)))?;
+    let hints = found.as_slice();
+    let answer = match layout {
+        Layout::People => shown::location(alloc, number, url, told, hints),
         Layout::Json => json(
             alloc,
             &Answer {
                 line: number,
                 location: Some(told),
                 refusal: None,
+                hints,
             },
         ),
+    };
+    drop(found);
+    answer
+}
+
+/// What hints are found by, of a location.
+fn reading<'b>(url: &'b Url, told: &'b Told<'_>) -> Reading<'b> {
+    Reading {
+        form: told.form,
+        scheme: told.scheme,
+        host: told.host,
+        has_user: told.user.is_some(),
+        has_password: told.password.is_some(),
+        path: url.path.as_bytes(),
     }
 }
 
@@ -206,12 +229,13 @@ fn laid_out(
 fn told_error(
     alloc: Global,
     number: u64,
+    line: &[u8],
     error: &Error,
     layout: Layout,
 ) -> Result<(String, bool), AllocError> {
     match error {
         Error::Memory => Err(AllocError),
-        error => Ok((told_refusal(alloc, number, error, layout)?, false)),
+        error => Ok((told_refusal(alloc, number, line, error, layout)?, false)),
     }
 }
 
@@ -219,22 +243,39 @@ fn told_error(
 fn told_refusal(
     alloc: Global,
     number: u64,
+    line: &[u8],
     error: &Error,
     layout: Layout,
 ) -> Result<String, AllocError> {
     let refusal = Refusal::of(alloc, error)?;
+    let answer = laid_out_refusal(alloc, number, line, &refusal, layout);
+    drop(refusal);
+    answer
+}
+
+/// The answer to a line that is refused.
+fn laid_out_refusal(
+    alloc: Global,
+    number: u64,
+    line: &[u8],
+    refusal: &Refusal,
+    layout: Layout,
+) -> Result<String, AllocError> {
+    let found = hint::found(alloc, line, None)?;
+    let hints = found.as_slice();
     let answer = match layout {
-        Layout::People => shown::refusal(alloc, number, &refusal),
+        Layout::People => shown::refusal(alloc, number, refusal, hints),
         Layout::Json => json(
             alloc,
             &Answer {
                 line: number,
                 location: None,
-                refusal: Some(&refusal),
+                refusal: Some(refusal),
+                hints,
             },
         ),
     };
-    drop(refusal);
+    drop(found);
     answer
 }
 

@@ -1,10 +1,11 @@
 //! Answers laid out for people: a heading, and a row for each thing that is told.
 //!
 //! Texts are in quotes with their control characters escaped, each byte in one way, so that no line of input can speak
-//! to a terminal. It uses what `told`, `danger` and `refusal` found, and has no contract: `scripts/hostile people` shows
-//! its answers.
+//! to a terminal. It uses what `told`, `danger`, `refusal` and `hint` found, and has no contract: `scripts/hostile people`
+//! shows its answers.
 
 use crate::danger::dangers;
+use crate::hint::Hint;
 use crate::path::{Components, Field, Home};
 use crate::refusal::Refusal;
 use crate::told::Told;
@@ -19,6 +20,7 @@ pub fn location(
     number: u64,
     url: &Url,
     told: &Told<'_>,
+    found: &[Hint],
 ) -> Result<String, AllocError> {
     let mut out = String::new(alloc);
     heading(&mut out, number, url, told)?;
@@ -26,6 +28,7 @@ pub fn location(
     parts(&mut out, url, told)?;
     components(&mut out, &told.components)?;
     on_files(&mut out, told)?;
+    hints(&mut out, found)?;
     Ok(out)
 }
 
@@ -49,9 +52,25 @@ fn text(out: &mut String, url: &Url, told: &Told<'_>) -> Result<(), AllocError> 
     row(out, "git", reading_of_git(url, told))
 }
 
-/// A refusal: its heading.
-pub fn refusal(alloc: Global, number: u64, refusal: &Refusal) -> Result<String, AllocError> {
-    format!(in alloc; "line {number}: refused: {}\n", refusal.words)
+/// A refusal: its heading and its hints.
+pub fn refusal(
+    alloc: Global,
+    number: u64,
+    refusal: &Refusal,
+    found: &[Hint],
+) -> Result<String, AllocError> {
+    let mut out = String::new(alloc);
+    writeln!(out, "line {number}: refused: {}", refusal.words)?;
+    hints(&mut out, found)?;
+    Ok(out)
+}
+
+/// The rows of the hints.
+fn hints(out: &mut String, found: &[Hint]) -> Result<(), AllocError> {
+    for hint in found {
+        row(out, "hint", hint.sentence())?;
+    }
+    Ok(())
 }
 
 /// A row: a name, and what it is.
