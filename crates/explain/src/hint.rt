@@ -16,8 +16,7 @@ use std::alloc::{AllocError, Global};
 #[derive(Clone, Copy, Serialize)]
 #[serde(rename_all = "snake_case")]
 pub enum Hint {
-    /// Refused; `ssh`, `git`, `http` or `https` before the first `://`, and what follows to the next `/`, behind its last
-    /// `@`, is a host without brackets, one `:`, and a word that begins with a letter or `~`.
+    /// Refused: a URL of `ssh`, `git`, `http` or `https` with a host without brackets, one `:`, and a letter or `~` behind it.
     ColonForSlash,
     /// A local path that begins with the name of a host, `/` and any byte.
     NoScheme,
@@ -43,8 +42,7 @@ pub enum Hint {
     Unencrypted,
     /// The line begins with `git clone`, `git remote add` or `git submodule add`, and a space.
     PastedCommand,
-    /// HTTP, and before any `?` or `#` of the path `/-/tree/` or `/-/blob/`, or on `github.com` two elements, `tree` or
-    /// `blob`, and more.
+    /// HTTP, and the path to a `?` or `#` holds `/-/tree/` or `/-/blob/`, or begins on `github.com` as `/a/b/tree/c` or `/a/b/blob/c`.
     WebPage,
     /// A local path that begins with a user of letters, digits, `_`, `.` and `-`, `@`, the name of a host, `/` and any byte.
     SlashForColon,
