@@ -10,6 +10,7 @@ of it is put together here, and not by the library. Whether Git reads the same i
 import itertools
 import json
 import os
+import re
 import sys
 
 sys.dont_write_bytecode = True
@@ -36,6 +37,14 @@ REFUSED = [b"", b"file://host", b"ssh://h", b"host:", b"http://h/\xff", b"h:\xff
            b"http://h:0/", b"[a@b:22]:p", b"http://", b"::address", b"http://h/%2", b"a b:p"]
 # The first is written as another text, in which Git reads the same; of each other one part of the rule alone says no.
 GIT = [b"ssh://@h/p", b"@h:p", b"ssh://u:p@h/p", b"git://u@h/p", b"h:a~u/p", b"h:-p", b"rsync:p", b"/a[b", b"/a]b", b"~/r"]
+
+# For each hint a line to which it applies, and one that is nearly such a line.
+SLIPS = [b"ssh://git@github.com:a/b.git", b"ssh://git@github.com:22/b.git", b"github.com/a/b", b"repo.git/a/b",
+         b"C:\\Users\\me", b"C:Users", b"HTTPS://github.com/a/b", b"XHTTPS://github.com/a/b", b"git@h:a/b\r", b"git@h:a\rb",
+         "\ufeffgit@h:a/b".encode(), "\ufeff".encode()[:2] + b"/a", b" git@h:a/b", b"/a b", b"./ext::sh", b"./~/a", b"ssh://h/a~",
+         b"https://u:p@h/p", b"https://:@h/p", b"http://u@h/p", b"https://u@h/p", b"git clone git@h:a/b", b"git cloned",
+         b"https://github.com/a/b/tree/main", b"https://github.com/a/b/tree", b"https://h/a/b/-/blob/main/c",
+         b"https://h/a/b/blob/main/c", b"git@github.com/a/b", b"git@localhost/a/b", b"\"git@h:a/b\"", b"\"a'"]
 
 FORMS = {"Ext": "remote_helper", "Helper": "remote_helper"}
 PORTS = {"Http": 80, "Https": 443, "Ssh": 22, "Git": 9418}
@@ -157,9 +166,60 @@ def told(v):
         "text": oracle.display(v), "settled": oracle.settled(v), "agrees_with_git": agrees_with_git(v), "reread": reread(v)}
 
 
+# ---------------------------------------------------------------------------------------------------------------
+# Hints: of each its name and, over a line and what it is read as, where it applies. docs/EXPLAIN.md has them in words.
+
+# Two labels or more, the last one of letters, and not the one that bare repositories end in.
+HOST_NAME = rb"(?:[A-Za-z0-9-]+\.)+(?!git/)[A-Za-z]{2,}"
+COLON_FOR_SLASH = re.compile(rb"(?:ssh|git|https?)://(?:[^/]*@)?[^/@:\[\]]+:[A-Za-z~][^/@:]*(?:/|\Z)")
+CAPITALS = re.compile(rb"(?!(?-i:[a-z+]*:))(?:https?|ssh|git|file|ftps?|git\+ssh|ssh\+git)://", re.I)
+COMMANDS = (b"git clone ", b"git remote add ", b"git submodule add ")
+QUOTES = ((b'"', b'"'), (b"'", b"'"), (b"`", b"`"), (b"<", b">"))
+
+
+def is_form(v, *forms):
+    return v is not None and form(v) in forms
+
+
+def is_scheme(v, *schemes):
+    return v is not None and v.scheme[0] in schemes
+
+
+def is_page(v):
+    """Whether the path goes on behind a repository, as forges show a folder or a file of it."""
+    path = re.split(rb"[?#]", v.path)[0]
+    of_github = v.host == b"github.com" and re.match(rb"/[^/]+/[^/]+/(tree|blob)/[^/]", path)
+    return bool(of_github or re.search(rb"/-/(tree|blob)/", path))
+
+
+HINTS = {
+    "colon_for_slash": lambda line, v: v is None and COLON_FOR_SLASH.match(line),
+    "no_scheme": lambda line, v: is_form(v, "local") and re.match(HOST_NAME + rb"/.", line),
+    "windows_path": lambda line, v: is_form(v, "scp") and re.match(rb"[A-Za-z]:(?:\\|/(?!~))", line),
+    "capital_scheme": lambda line, v: CAPITALS.match(line),
+    "carriage_return": lambda line, v: line.endswith(b"\r"),
+    "byte_order_mark": lambda line, v: line.startswith("\ufeff".encode()),
+    "outer_blank": lambda line, v: line != line.strip(b" \t"),
+    "runs_command": lambda line, v: is_scheme(v, "Ext"),
+    "home_here": lambda line, v: is_form(v, "local") and line.startswith(b"~"),
+    "home_there": lambda line, v: is_scheme(v, "Ssh", "Git") and v.path.startswith(b"~"),
+    "stored_password": lambda line, v: is_scheme(v, "Http", "Https") and v.password is not None,
+    "unencrypted": lambda line, v: is_scheme(v, "Http") and not v.user is v.password is None,
+    "pasted_command": lambda line, v: line.startswith(COMMANDS),
+    "web_page": lambda line, v: is_scheme(v, "Http", "Https") and is_page(v),
+    "slash_for_colon": lambda line, v: is_form(v, "local") and re.match(rb"[\w.-]+@" + HOST_NAME + rb"/.", line),
+    "quotes": lambda line, v: len(line) > 1 and (line[:1], line[-1:]) in QUOTES,
+}
+
+
+def hints(line, v):
+    """The names of the hints that apply to a line, in the order of the list."""
+    return [name for name, applies in HINTS.items() if applies(line, v)]
+
+
 def answer(number, line):
     v = oracle.spells(line)
-    it = {"line": number, "location": v and told(v), "refusal": refusal(line) if v is None else None}
+    it = {"line": number, "location": v and told(v), "refusal": refusal(line) if v is None else None, "hints": hints(line, v)}
     return json.dumps(it, separators=(",", ":"), ensure_ascii=False)
 
 
@@ -205,7 +265,7 @@ def table_faults():
 def stored_run():
     """The files of the stored run. The texts of the table are among its lines."""
     texts = [row[0].strip("`").encode() for row in table()]
-    lines = list(dict.fromkeys([*HELPERS, *URLS, *FILES, *SCPS, *LOCALS, *REFUSED, *GIT, *texts]))
+    lines = list(dict.fromkeys([*HELPERS, *URLS, *FILES, *SCPS, *LOCALS, *REFUSED, *GIT, *SLIPS, *texts]))
     lines.append(b"/the/last")
     answers = "".join(answer(number, line) + "\n" for number, line in enumerate(lines, 1))
     return {"stdin": b"\n".join(lines), "stdout": answers.encode(), "args": b"--json\n", "status": b"1\n"}

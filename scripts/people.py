@@ -1,7 +1,7 @@
 """What people are shown: the program `explain` over the lines of `crates/explain/people`, whose answers were written by hand.
 
 The crate's one stored run is JSON. Among the lines are some with control characters in each part that is shown, which must
-not reach a terminal. Each line of the file `alarms` raises an alarm, and no plain remote of 10,000 does.
+not reach a terminal. Each line of the file `alarms` raises an alarm, and no plain remote of 10,000 does. A hint is one.
 """
 import re
 import subprocess
@@ -13,7 +13,7 @@ STORED = f"{ROOT}/crates/explain/people"
 # A remote of HTTP, of Secure Shell or in the scp form, of which nothing has to be said.
 PLAIN = re.compile(rb"(https|ssh)://([\w.-]+@)?[\w.-]+(:\d+)?/[\w./-]+|([\w.-]+@)?[\w.-]+:[\w.][\w./-]*")
 OPTION = re.compile(rb"(^|//|@|/|:)-")
-ALARM = re.compile(rb"; danger: |: refused: |, not settled|^ +git +may read something else", re.M)
+ALARM = re.compile(rb"; danger: |: refused: |, not settled|^ +git +may read something else|^ +hint ", re.M)
 
 
 def stored(name):

@@ -1,13 +1,15 @@
-//! The program `explain`: tells a person, or another program, what each line of its standard input means as a location.
+//! The program `explain`: reports to a person, or to another program, what texts mean as Git locations.
 //!
-//! It uses the public calls of `gix_url` alone. `told` finds what is reported of a location, `path` what its path
-//! means, `danger` what to look out for, `difference` what its own text is read as, `refusal` why a line is refused, `shown` lays all of that out for
-//! people; with `--json` it goes out as one object a line. Each answer is written as soon as its line is read. The status
-//! is 0 where every line is settled, 1 where one is not, and 2 where the run was cut short or the options are wrong.
+//! It uses the public calls of `gix_url` alone. `options` reads the command line, `answer` finds the answer to a line and
+//! `style` says how it is laid out; here the lines are read and the answers are written, each as soon as its line is read.
+//! The status is 0 where every line is settled, 1 where one is not, and 2 where the run was cut short, a file can't be
+//! opened or the options are wrong.
 #![tactic(auto)]
 
+mod answer;
 mod danger;
 mod difference;
+mod hint;
 mod only;
 mod options;
 mod path;
@@ -16,33 +18,16 @@ mod shown;
 mod style;
 mod told;
 
-use bstr::BStr;
+use answer::Line;
 use clap::ArgMatches;
 use gix_url::lines::RunError;
-use gix_url::parse::parse;
-use gix_url::{Error, Url};
-use only::Part;
-use refusal::Refusal;
-use serde::Serialize;
-use std::alloc::{AllocError, Global};
+use std::alloc::Global;
 use std::env;
 use std::fs::File;
 use std::io::{BufRead, BufReader, ErrorKind, IsTerminal, Read, Write};
 use std::process::ExitCode;
 use std::rt::Env;
-use style::{Layout, Seen, Style};
-use told::Told;
-
-/// What is answered to a line: a location or why there is none.
-#[derive(Clone, Copy, Serialize)]
-struct Answer<'b, 'a: 'b> {
-    /// The number of the line, from 1.
-    line: u64,
-    /// What the line is read as.
-    location: Option<&'b Told<'a>>,
-    /// Why it is read as nothing.
-    refusal: Option<&'b Refusal>,
-}
+use style::{Seen, Style};
 
 /// Answers what the command line names. Returns the status to end with.
 fn explained(rt: &HostRuntime, given: &ArgMatches<'_>) -> u8 {
@@ -185,118 +170,16 @@ fn answer_line<W: Write>(
     seen: &mut Seen,
 ) -> Result<(), RunError> {
     seen.lines = seen.lines.saturating_add(1);
-    let (answer, is_settled) = answered(alloc, seen.lines, line, style)?;
+    let line = Line {
+        number: seen.lines,
+        bytes: line,
+        style,
+    };
+    let (answer, is_settled) = line.answer(alloc)?;
     seen.is_settled &= is_settled;
     output
         .write_all(answer.as_str().as_bytes())
         .map_err(RunError::Write)
-}
-
-/// The answer to a line, and whether the line is settled.
-fn answered(
-    alloc: Global,
-    number: u64,
-    line: &[u8],
-    style: Style,
-) -> Result<(String, bool), AllocError> {
-    let read = parse(alloc, BStr::new(line));
-    let answer = match (&read, style.layout) {
-        (Ok(url), Layout::Quiet) => Ok((String::new(alloc), url.is_settled())),
-        (Ok(url), Layout::Only(part)) => only_part(alloc, url, part),
-        (Ok(url), _) => told_location(alloc, number, url, style),
-        (Err(error), _) => told_error(alloc, number, error, style),
-    };
-    drop(read);
-    answer
-}
-
-/// One part of a location, and whether the location is settled.
-fn only_part(alloc: Global, url: &Url, part: Part) -> Result<(String, bool), AllocError> {
-    Ok((only::line(alloc, url, part)?, url.is_settled()))
-}
-
-/// What is told of a location, and whether it is settled.
-fn told_location(
-    alloc: Global,
-    number: u64,
-    url: &Url,
-    style: Style,
-) -> Result<(String, bool), AllocError> {
-    let told = Told::of(alloc, url)?;
-    let is_settled = told.settled;
-    let answer = laid_out(alloc, number, url, &told, style);
-    drop(told);
-    Ok((answer?, is_settled))
-}
-
-/// The answer to a line that is read as a location.
-fn laid_out(
-    alloc: Global,
-    number: u64,
-    url: &Url,
-    told: &Told<'_>,
-    style: Style,
-) -> Result<String, AllocError> {
-    match style.layout {
-        Layout::People => shown::location(alloc, number, url, told),
-        _ => json(
-            alloc,
-            &Answer {
-                line: number,
-                location: Some(told),
-                refusal: None,
-            },
-        ),
-    }
-}
-
-/// What is told of a line that is read as no location: that it isn't settled, and why, unless memory is wanting.
-fn told_error(
-    alloc: Global,
-    number: u64,
-    error: &Error,
-    style: Style,
-) -> Result<(String, bool), AllocError> {
-    match (error, style.layout) {
-        (Error::Memory, _) => Err(AllocError),
-        (_, Layout::Quiet) => Ok((String::new(alloc), false)),
-        (_, Layout::Only(_)) => Ok((String::from_str(alloc, "\n")?, false)),
-        (error, _) => Ok((told_refusal(alloc, number, error, style)?, false)),
-    }
-}
-
-/// What is told of a line that is refused.
-fn told_refusal(
-    alloc: Global,
-    number: u64,
-    error: &Error,
-    style: Style,
-) -> Result<String, AllocError> {
-    let refusal = Refusal::of(alloc, error)?;
-    let answer = match style.layout {
-        Layout::People => shown::refusal(alloc, number, &refusal),
-        _ => json(
-            alloc,
-            &Answer {
-                line: number,
-                location: None,
-                refusal: Some(&refusal),
-            },
-        ),
-    };
-    drop(refusal);
-    answer
-}
-
-/// The answer as one line of JSON. All parts of an answer have a JSON, so only memory can be wanting.
-fn json(alloc: Global, answer: &Answer<'_, '_>) -> Result<String, AllocError> {
-    match serde_json::to_string(alloc, answer) {
-        Ok(mut line) => {
-            line.push('\n')?;
-            Ok(line)
-        }
-        Err(_) => Err(AllocError),
-    }
 }
 
 fn main(rt: HostRuntime) -> ExitCode {

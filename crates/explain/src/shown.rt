@@ -1,10 +1,12 @@
 //! Answers laid out for people: a heading, and a row for each thing that is told.
 //!
 //! Texts are in quotes with their control characters escaped, each byte in one way, so that no line of input can speak
-//! to a terminal. It uses what `told`, `danger` and `refusal` found, and has no contract: `scripts/hostile people` shows
-//! its answers.
+//! to a terminal. It uses what `told`, `danger`, `refusal` and `hint` found, and has no contract: `scripts/hostile people`
+//! shows its answers.
 
+use crate::answer::Line;
 use crate::danger::dangers;
+use crate::hint::Hint;
 use crate::path::{Components, Field, Home};
 use crate::refusal::Refusal;
 use crate::told::Told;
@@ -16,16 +18,18 @@ use std::fmt::{Display, Write};
 /// A location: its heading and its rows.
 pub fn location(
     alloc: Global,
-    number: u64,
+    line: Line<'_>,
     url: &Url,
     told: &Told<'_>,
+    found: &[Hint],
 ) -> Result<String, AllocError> {
     let mut out = String::new(alloc);
-    heading(&mut out, number, url, told)?;
+    heading(&mut out, line.number, url, told)?;
     text(&mut out, url, told)?;
     parts(&mut out, url, told)?;
     components(&mut out, &told.components)?;
     on_files(&mut out, told)?;
+    hints(&mut out, found)?;
     Ok(out)
 }
 
@@ -49,9 +53,25 @@ fn text(out: &mut String, url: &Url, told: &Told<'_>) -> Result<(), AllocError> 
     row(out, "git", reading_of_git(url, told))
 }
 
-/// A refusal: its heading.
-pub fn refusal(alloc: Global, number: u64, refusal: &Refusal) -> Result<String, AllocError> {
-    format!(in alloc; "line {number}: refused: {}\n", refusal.words)
+/// A refusal: its heading and its hints.
+pub fn refusal(
+    alloc: Global,
+    line: Line<'_>,
+    refusal: &Refusal,
+    found: &[Hint],
+) -> Result<String, AllocError> {
+    let mut out = String::new(alloc);
+    writeln!(out, "line {}: refused: {}", line.number, refusal.words)?;
+    hints(&mut out, found)?;
+    Ok(out)
+}
+
+/// The rows of the hints.
+fn hints(out: &mut String, found: &[Hint]) -> Result<(), AllocError> {
+    for hint in found {
+        row(out, "hint", hint.sentence())?;
+    }
+    Ok(())
 }
 
 /// A row: a name, and what it is.

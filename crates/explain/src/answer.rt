@@ -1,0 +1,139 @@
+//! The answer to a line: what it is read as or why it is refused, in the layout that is asked for.
+//!
+//! `told` finds what is reported of a location, `refusal` why a line is refused, `hint` what people may have got wrong;
+//! `shown` lays that out for people, `only` one part of it, and with `--json` it goes out as one object. It has no
+//! contract but that it can't abort: the stored run and `scripts/hostile` show its answers.
+
+use crate::hint::{self, Hint};
+use crate::only::{self, Part};
+use crate::refusal::Refusal;
+use crate::shown;
+use crate::style::{Layout, Style};
+use crate::told::Told;
+use bstr::BStr;
+use gix_url::parse::parse;
+use gix_url::{Error, Url};
+use serde::Serialize;
+use std::alloc::{AllocError, Global};
+
+/// A line, and how it is answered.
+#[derive(Clone, Copy)]
+pub struct Line<'a> {
+    /// The number of the line, from 1.
+    pub number: u64,
+    /// The line without its end.
+    pub bytes: &'a [u8],
+    pub style: Style,
+}
+
+/// What is answered to a line: a location or why there is none.
+#[derive(Clone, Copy, Serialize)]
+struct Answer<'b, 'a: 'b> {
+    /// The number of the line, from 1.
+    line: u64,
+    /// What the line is read as.
+    location: Option<&'b Told<'a>>,
+    /// Why it is read as nothing.
+    refusal: Option<&'b Refusal>,
+    /// What may be wrong with the line.
+    hints: &'b [Hint],
+}
+
+impl<'l> Line<'l> {
+    /// The answer, and whether the line is settled.
+    pub fn answer(self, alloc: Global) -> Result<(String, bool), AllocError> {
+        let read = parse(alloc, BStr::new(self.bytes));
+        let answer = match (&read, self.style.layout) {
+            (Ok(url), Layout::Quiet) => Ok((String::new(alloc), url.is_settled())),
+            (Ok(url), Layout::Only(part)) => one_part(alloc, url, part),
+            (Ok(url), _) => self.location(alloc, url),
+            (Err(error), _) => self.error(alloc, error),
+        };
+        drop(read);
+        answer
+    }
+
+    /// What is reported of a location, and whether it is settled.
+    fn location(self, alloc: Global, url: &Url) -> Result<(String, bool), AllocError> {
+        let told = Told::of(alloc, url)?;
+        let is_settled = told.settled;
+        let answer = self.laid_out(alloc, url, &told);
+        drop(told);
+        Ok((answer?, is_settled))
+    }
+
+    /// The answer to a line that is read as a location.
+    fn laid_out(self, alloc: Global, url: &Url, told: &Told<'_>) -> Result<String, AllocError> {
+        let found = hint::found(alloc, self.bytes, Some(hint::Reading::of(url, told)))?;
+        let hints = found.as_slice();
+        let answer = match self.style.layout {
+            Layout::Json => json(
+                alloc,
+                &Answer {
+                    line: self.number,
+                    location: Some(told),
+                    refusal: None,
+                    hints,
+                },
+            ),
+            _ => shown::location(alloc, self, url, told, hints),
+        };
+        drop(found);
+        answer
+    }
+
+    /// What is reported of a line that is read as no location: that it isn't settled, and why, unless memory is refused.
+    fn error(self, alloc: Global, error: &Error) -> Result<(String, bool), AllocError> {
+        let answer = match (error, self.style.layout) {
+            (Error::Memory, _) => Err(AllocError),
+            (_, Layout::Quiet) => Ok(String::new(alloc)),
+            (_, Layout::Only(_)) => String::from_str(alloc, "\n"),
+            (error, _) => self.refusal(alloc, error),
+        };
+        Ok((answer?, false))
+    }
+
+    /// What is reported of a line that is refused.
+    fn refusal(self, alloc: Global, error: &Error) -> Result<String, AllocError> {
+        let refusal = Refusal::of(alloc, error)?;
+        let answer = self.laid_out_refusal(alloc, &refusal);
+        drop(refusal);
+        answer
+    }
+
+    /// The answer to a line that is refused.
+    fn laid_out_refusal(self, alloc: Global, refusal: &Refusal) -> Result<String, AllocError> {
+        let found = hint::found(alloc, self.bytes, None)?;
+        let hints = found.as_slice();
+        let answer = match self.style.layout {
+            Layout::Json => json(
+                alloc,
+                &Answer {
+                    line: self.number,
+                    location: None,
+                    refusal: Some(refusal),
+                    hints,
+                },
+            ),
+            _ => shown::refusal(alloc, self, refusal, hints),
+        };
+        drop(found);
+        answer
+    }
+}
+
+/// One part of a location, and whether the location is settled.
+fn one_part(alloc: Global, url: &Url, part: Part) -> Result<(String, bool), AllocError> {
+    Ok((only::line(alloc, url, part)?, url.is_settled()))
+}
+
+/// The answer as one line of JSON. Each part of an answer has a JSON, so it fails for want of memory alone.
+fn json(alloc: Global, answer: &Answer<'_, '_>) -> Result<String, AllocError> {
+    match serde_json::to_string(alloc, answer) {
+        Ok(mut line) => {
+            line.push('\n')?;
+            Ok(line)
+        }
+        Err(_) => Err(AllocError),
+    }
+}
