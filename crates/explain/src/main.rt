@@ -1,7 +1,7 @@
 //! The program `explain`: tells a person, or another program, what each line of its standard input means as a location.
 //!
 //! It uses the public calls of `gix_url` alone. `told` finds what is reported of a location, `path` what its path
-//! means, `danger` what to look out for, `difference` what its own text is read as, `refusal` why a line is refused, `shown` lays all of that out for
+//! means, `danger` what to look out for, `difference` what its own text is read as, `refusal` why a line is refused and `place` where, `shown` lays all of that out for
 //! people; with `--json` it goes out as one object a line. Each answer is written as soon as its line is read. The status
 //! is 0 where every line is settled, 1 where one is not, and 2 where the run was cut short or the options are wrong.
 #![tactic(auto)]
@@ -9,6 +9,7 @@
 mod danger;
 mod difference;
 mod path;
+mod place;
 mod refusal;
 mod shown;
 mod told;
@@ -161,7 +162,7 @@ fn answered(
     let read = parse(alloc, BStr::new(line));
     let answer = match &read {
         Ok(url) => told_location(alloc, number, url, layout),
-        Err(error) => told_error(alloc, number, error, layout),
+        Err(error) => told_error(alloc, number, line, error, layout),
     };
     drop(read);
     answer
@@ -206,12 +207,13 @@ fn laid_out(
 fn told_error(
     alloc: Global,
     number: u64,
+    line: &[u8],
     error: &Error,
     layout: Layout,
 ) -> Result<(String, bool), AllocError> {
     match error {
         Error::Memory => Err(AllocError),
-        error => Ok((told_refusal(alloc, number, error, layout)?, false)),
+        error => Ok((told_refusal(alloc, number, line, error, layout)?, false)),
     }
 }
 
@@ -219,10 +221,11 @@ fn told_error(
 fn told_refusal(
     alloc: Global,
     number: u64,
+    line: &[u8],
     error: &Error,
     layout: Layout,
 ) -> Result<String, AllocError> {
-    let refusal = Refusal::of(alloc, error)?;
+    let refusal = Refusal::of_line(alloc, line, error)?;
     let answer = match layout {
         Layout::People => shown::refusal(alloc, number, &refusal),
         Layout::Json => json(
