@@ -1,11 +1,13 @@
 #!/usr/bin/env python3
 """Writes the stored run of the crate `explain`: its lines, and the JSON that a second reading of the grammar answers.
 
-    explained.py FOLDER     writes stdin, stdout, args and status there, and names the rows of docs/GRAMMAR.md that differ
+    explained.py FOLDER     writes stdin, stdout, args and status there, and names the rows of docs/GRAMMAR.md and of
+                            docs/EXPLAIN.md that differ
 
-What a location is, is asked of `oracle.py`, and in whose home folder its path begins of `plain_paths.py`; what is said
-of it is put together here, and not by the library. Whether Git reads the same is the rule by hand of docs/GIT.md, in
-`git_classes.py`. The texts of the table in docs/GRAMMAR.md are among the lines, and the last line lacks its end.
+What a location is, is asked of `oracle.py`, in whose home folder its path begins of `plain_paths.py`, and where a refused
+line is wrong of `places.py`; what is said of it is put together here, and not by the library. Whether Git reads the same
+is the rule by hand of docs/GIT.md, in `git_classes.py`. The texts of the tables in docs/GRAMMAR.md and docs/EXPLAIN.md
+are among the lines, and the last line lacks its end.
 """
 import itertools
 import json
@@ -15,6 +17,7 @@ import sys
 
 sys.dont_write_bytecode = True
 import oracle
+import places
 import plain_paths
 from git_classes import Case, Reading, is_careful
 
@@ -35,6 +38,10 @@ SCPS = [b"git@example.com:a/b.git", b"a@b@h:p", b"u:p@h:x", b"h:/~a", b"h:~", b"
 LOCALS = [b"/srv/repo.git", b"./a:b", b"[::1]", b"/~bob/r", b"~bob/r", b"./~/r", b"/~", b"/~/x\xff", b"/~\xff/x", b"/\xff", b"/-rf", b"a"]
 REFUSED = [b"", b"file://host", b"ssh://h", b"host:", b"http://h/\xff", b"h:\xff", b"file://\xff/p", b"x:///" + b"a" * 1024, b"./a://b",
            b"http://h:0/", b"[a@b:22]:p", b"http://", b"::address", b"http://h/%2", b"a b:p"]
+# Where the fault is: the first of several, a whole character, a part behind others, and what the table can't show.
+PLACED = [b"x" * 1025 + b"://h/p", b"http://" + b"a" * 1025 + b"/p", b"http://u:p@a\\b/ %2", b"ssh://u:%C3%A9%E2%82@h:1/p",
+          "\u00e9://h/".encode(), "http://b\u00fc\u2003/".encode(), b"ssh://h/\xe2\x82", b"http://[::1%25e%FF]/", b"http://u@:22/",
+          b"http://::1:/", b"[a]b:p", b"user@::1:p", b"git://[a%FFb]:x/p", b"git://[::1]:99999/p", b"http://h/%zz?a b"]
 # The first is written as another text, in which Git reads the same; of each other one part of the rule alone says no.
 GIT = [b"ssh://@h/p", b"@h:p", b"ssh://u:p@h/p", b"git://u@h/p", b"h:a~u/p", b"h:-p", b"rsync:p", b"/a[b", b"/a]b", b"~/r"]
 
@@ -103,12 +110,19 @@ def components(v):
 
 
 def refusal(t):
+    """Why a text is refused that is no line: it has no place."""
     name, kind, fault = oracle.refusal(t)
     words = {"EmptyLocal": "the location is empty",
              "TooLong": f"the scheme or the authority of the URL is longer than 1024 bytes, in a text of {len(t)} bytes",
              "MissingPath": f"the {KINDS.get(kind)} has no path", "NotUtf8": f"the {KINDS.get(kind)} is not UTF-8",
              "BadUrl": f"the {KINDS.get(kind)} has {FAULTS.get(fault)}"}[name]
-    return {"error": name, "kind": kind and kind.lower(), "fault": fault, "words": words}
+    return {"error": name, "kind": kind and kind.lower(), "fault": fault, "at": None, "len": None, "reason": None, "words": words}
+
+
+def refusal_of_line(t):
+    """Why a line is refused, with the place and the words of its fault."""
+    place = places.place(t)
+    return {**refusal(t), **place._asdict(), "words": places.SENTENCES[place.reason]}
 
 
 def field_texts(v):
@@ -219,24 +233,51 @@ def hints(line, v):
 
 def answer(number, line):
     v = oracle.spells(line)
-    it = {"line": number, "location": v and told(v), "refusal": refusal(line) if v is None else None, "hints": hints(line, v)}
+    it = {"line": number, "location": v and told(v), "refusal": refusal_of_line(line) if v is None else None, "hints": hints(line, v)}
     return json.dumps(it, separators=(",", ":"), ensure_ascii=False)
 
 
 # ---------------------------------------------------------------------------------------------------------------
-# The table of texts that surprise, in docs/GRAMMAR.md
+# The tables of texts that surprise, in docs/GRAMMAR.md, and of reasons, in docs/EXPLAIN.md
 
 HEAD = "| Text | Read as | Written | Settled | Why |"
+REASONS_HEAD = "| Reason | Words | Example | `at` | `len` |"
 NAMES = {"remote_helper": "remote helper", "url": "URL", "scp": "scp form", "local": "local path"}
-GRAMMAR = os.path.join(os.path.dirname(os.path.dirname(os.path.realpath(__file__))), "docs", "GRAMMAR.md")
+DOCS = os.path.join(os.path.dirname(os.path.dirname(os.path.realpath(__file__))), "docs")
+
+
+def rows_below(document, head):
+    """The rows of the table with this head, each as its cells."""
+    with open(os.path.join(DOCS, document), encoding="utf-8") as file:
+        lines = file.read().split(head + "\n", 1)[1].splitlines()[1:]
+    rows = itertools.takewhile(lambda line: line.startswith("|"), lines)
+    return [[cell.strip() for cell in line[1:-1].split(" | ")] for line in rows]
 
 
 def table():
-    """The rows of the table: text, three cells that are computed, and a reason."""
-    with open(GRAMMAR, encoding="utf-8") as file:
-        lines = file.read().split(HEAD + "\n", 1)[1].splitlines()[1:]
-    rows = itertools.takewhile(lambda line: line.startswith("|"), lines)
-    return [[cell.strip() for cell in line[1:-1].split(" | ")] for line in rows]
+    """The rows of the texts that surprise: text, three cells that are computed, and a reason."""
+    return rows_below("GRAMMAR.md", HEAD)
+
+
+def reasons():
+    """The rows of the reasons: name, words, an example in backquotes or in words, and its place."""
+    return rows_below("EXPLAIN.md", REASONS_HEAD)
+
+
+def reason_examples():
+    """The examples of the reasons that are shown as they are, each with its row."""
+    return {row[2].strip("`").encode(): row for row in reasons() if row[2].startswith("`")}
+
+
+def reason_faults():
+    """Which rows of the reasons say otherwise than the second reading."""
+    said = {row[0].strip("`"): row[1] for row in reasons()}
+    if list(said.items()) != list(places.SENTENCES.items()):
+        yield f"the reasons of docs/EXPLAIN.md are {said}, and not {places.SENTENCES}"
+    for text, (name, _, _, at, size) in reason_examples().items():
+        found = places.place(text)
+        if [f"`{found.reason}`", str(found.at), str(found.len)] != [name, at, size]:
+            yield f"{text}: the table has {name}, {at} and {size}, and not {found}"
 
 
 def cells(line):
@@ -263,8 +304,8 @@ def table_faults():
 
 
 def stored_run():
-    """The files of the stored run. The texts of the table are among its lines."""
-    texts = [row[0].strip("`").encode() for row in table()]
+    """The files of the stored run. The texts of the tables are among its lines."""
+    texts = [*(row[0].strip("`").encode() for row in table()), *reason_examples(), *PLACED]
     lines = list(dict.fromkeys([*HELPERS, *URLS, *FILES, *SCPS, *LOCALS, *REFUSED, *GIT, *SLIPS, *texts]))
     lines.append(b"/the/last")
     answers = "".join(answer(number, line) + "\n" for number, line in enumerate(lines, 1))
@@ -278,7 +319,7 @@ def main(words):
     if len(words) != 1:
         print(__doc__, file=sys.stderr)
         return 2
-    faults = list(table_faults())
+    faults = [*table_faults(), *reason_faults()]
     print(*faults, sep="\n", end="\n" * bool(faults), file=sys.stderr)
     run = stored_run()
     for name, text in run.items():

@@ -95,7 +95,7 @@ impl<'l> Line<'l> {
 
     /// What is reported of a line that is refused.
     fn refusal(self, alloc: Global, error: &Error) -> Result<String, AllocError> {
-        let refusal = Refusal::of(alloc, error)?;
+        let refusal = Refusal::of_line(alloc, self.bytes, error)?;
         let answer = self.laid_out_refusal(alloc, &refusal);
         drop(refusal);
         answer

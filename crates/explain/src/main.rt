@@ -13,6 +13,7 @@ mod hint;
 mod only;
 mod options;
 mod path;
+mod place;
 mod refusal;
 mod shown;
 mod style;

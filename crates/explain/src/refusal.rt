@@ -1,7 +1,8 @@
-//! Why a line, or the text of a location, is refused: by name, for programs, and in words.
+//! Why a line, or the text of a location, is refused: by name, for programs, and in words; and where in a line.
 //!
-//! It uses the errors of `gix_url`. It has no contract: the stored run shows its answers.
+//! It uses the errors of `gix_url`, and `place`. It has no contract: the stored run shows its answers.
 
+use crate::place::{Form, Place, Refused, find_place};
 use gix_url::parse::UrlKind;
 use gix_url::{Error, UrlFault, WriteFault};
 use serde::Serialize;
@@ -16,24 +17,85 @@ pub struct Refusal {
     pub kind: Option<&'static str>,
     /// The name of what is wrong, where the error tells it.
     pub fault: Option<&'static str>,
+    /// The first byte of the line that is wrong, or where something is missing. A text that is no line has no place.
+    pub at: Option<usize>,
+    /// How many bytes are wrong, none where something is missing.
+    pub len: Option<usize>,
+    /// The name of the very fault that has this place.
+    pub reason: Option<&'static str>,
     /// The same in words, which show nothing of the text.
     pub words: String,
 }
 
 impl Refusal {
-    /// The refusal that an error tells.
+    /// The refusal that an error reports.
     pub fn of(alloc: Global, error: &Error) -> Result<Refusal, AllocError> {
+        Ok(Refusal::placed(error, None, error.to_string(alloc)?))
+    }
+
+    /// The refusal of a line, with the place and the words of its fault.
+    pub fn of_line(alloc: Global, line: &[u8], error: &Error) -> Result<Refusal, AllocError> {
+        match refused(error).and_then(|it| find_place(line, it)) {
+            None => Refusal::of(alloc, error),
+            Some(place) => {
+                let words = place.reason.to_string(alloc)?;
+                Ok(Refusal::placed(error, Some(place), words))
+            }
+        }
+    }
+
+    /// The refusal with this place and these words.
+    fn placed(error: &Error, place: Option<Place>, words: String) -> Refusal {
         let (name, kind, fault) = names(error);
-        Ok(Refusal {
+        Refusal {
             error: name,
             kind,
             fault,
-            words: error.to_string(alloc)?,
-        })
+            at: place.map(|it| it.at),
+            len: place.map(|it| it.len),
+            reason: place.map(|it| it.reason.name()),
+            words,
+        }
     }
 }
 
-/// The names of an error, of the form and of the fault that it tells.
+/// What a line is refused for, if the error is one of reading.
+fn refused(error: &Error) -> Option<Refused> {
+    match error {
+        Error::EmptyLocal => Some(Refused::Empty),
+        Error::MissingPath { kind, .. } => Some(Refused::NoPath(form(*kind)?)),
+        Error::NotUtf8 { .. } => Some(Refused::NotUtf8),
+        Error::TooLong { .. } => Some(Refused::TooLong),
+        Error::BadUrl { kind, fault, .. } => Some(refused_url(form(*kind)?, *fault)),
+        Error::Memory
+        | Error::HelperName { .. }
+        | Error::Unwritable(_)
+        | Error::NoHome(_)
+        | Error::PathNotUtf8
+        | Error::Unresolved => None,
+    }
+}
+
+/// What a URL, or the scp form, is refused for.
+fn refused_url(form: Form, fault: UrlFault) -> Refused {
+    match fault {
+        UrlFault::NoScheme => Refused::NoScheme,
+        UrlFault::BadPort => Refused::BadPort(form),
+        UrlFault::BadCharacter => Refused::BadCharacter(form),
+        UrlFault::HostRequired => Refused::NoHost(form),
+    }
+}
+
+/// The form, if it is one that is refused.
+fn form(kind: UrlKind) -> Option<Form> {
+    match kind {
+        UrlKind::Url => Some(Form::Url),
+        UrlKind::Scp => Some(Form::Scp),
+        UrlKind::Local => None,
+    }
+}
+
+/// The names of an error, of the form and of the fault that it reports.
 fn names(error: &Error) -> (&'static str, Option<&'static str>, Option<&'static str>) {
     match error {
         Error::Memory => ("Memory", None, None),
