@@ -4,7 +4,7 @@ import pty
 import subprocess
 import threading
 
-from kit import built
+from kit import ROOT, built
 
 
 LINES = b"a::b://c\n/srv/repo.git\nhttp://h:0/\n"
@@ -141,6 +141,17 @@ ENDS = [
     full_device, closed_output, closed_input, folder_as_input, write_only_input, read_only_output, pipe_closed_before, pipe_closed_early,
     no_standard_error, a_byte_at_a_time,
 ]
+
+
+def of_itself(path):
+    """What a program prints of itself is what its launcher prints without it: the files `help` and `version` of its crate."""
+    name, said, wanted = os.path.basename(path), [], []
+    for option, file in (("--help", "help"), ("-h", "help"), ("--version", "version"), ("-V", "version")):
+        ran = subprocess.run([path, option], stdin=subprocess.DEVNULL, stdout=subprocess.PIPE, stderr=subprocess.PIPE, timeout=60)
+        said.append((ran.returncode, ran.stdout, ran.stderr))
+        with open(f"{ROOT}/crates/{name}/{file}", "rb") as it:
+            wanted.append((0, it.read(), b""))
+    return said, wanted
 
 
 # Those of `explain`.
