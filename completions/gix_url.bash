@@ -1,0 +1,39 @@
+# Completions of bash for `locations` and `explain`: `source completions/gix_url.bash`
+
+_gix_url_words() {
+  COMPREPLY=($(compgen -W "$1" -- "$2"))
+}
+
+# Behind -- there are texts alone, of which none is completed.
+_gix_url_is_behind_options() {
+  local it
+  for it in "${COMP_WORDS[@]:1:COMP_CWORD-1}"; do
+    [ "$it" = -- ] && return 0
+  done
+  return 1
+}
+
+_gix_url_locations() {
+  COMPREPLY=()
+  _gix_url_is_behind_options || _gix_url_words "--number --with-input --help --version" "${COMP_WORDS[COMP_CWORD]}"
+}
+
+_gix_url_explain() {
+  local now=${COMP_WORDS[COMP_CWORD]} before=${COMP_WORDS[COMP_CWORD - 1]} first=${COMP_WORDS[COMP_CWORD - 2]-}
+  COMPREPLY=()
+  _gix_url_is_behind_options && return
+  # `--only=host` is three words where = breaks words.
+  [ "$now" = = ] && now=""
+  [ "$before" = = ] && before=$first
+  case $before in
+    --only) _gix_url_words "scheme user host port path query fragment text" "$now" ;;
+    --color) _gix_url_words "auto always never" "$now" ;;
+    -f | --file) mapfile -t COMPREPLY < <(compgen -f -- "$now") ;;
+    *) case $now in
+      -*) _gix_url_words "--json --only --quiet --color --file --null --help --version --" "$now" ;;
+    esac ;;
+  esac
+}
+
+complete -F _gix_url_locations locations ./locations
+complete -o filenames -F _gix_url_explain explain ./explain

@@ -1,0 +1,17 @@
+# Completions of fish for `locations` and `explain`: `source completions/gix_url.fish`
+
+complete -c locations -f
+complete -c locations -s n -l number -d "Print the number of each line before its answer"
+complete -c locations -l with-input -d "Print the line itself behind its answer"
+complete -c locations -s h -l help -d "Print help"
+complete -c locations -s V -l version -d "Print version"
+
+complete -c explain -f
+complete -c explain -l json -d "Print one JSON object a line"
+complete -c explain -l only -x -a "scheme user host port path query fragment text" -d "Print this part of each location"
+complete -c explain -s q -l quiet -d "Print nothing, stop at the first line that is not settled"
+complete -c explain -l color -x -a "auto always never" -d "Colour the answers"
+complete -c explain -s f -l file -r -F -d "Explain each line of a file"
+complete -c explain -s 0 -l null -d "Lines of the input end with a NUL byte"
+complete -c explain -s h -l help -d "Print help"
+complete -c explain -s V -l version -d "Print version"
