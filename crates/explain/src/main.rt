@@ -8,6 +8,8 @@
 
 mod danger;
 mod difference;
+mod git;
+mod git_told;
 mod path;
 mod refusal;
 mod shown;
