@@ -2,7 +2,7 @@
 
 Each function is a relation of the definition, and answers all that stands in it to what is given: every cut of the text is
 tried, and what each case asks is asked of it. It takes no word from Git: `scripts/git_witness` lays beside it what Git
-tells. `unread` says why a text has no reading, as `explain` does.
+tells. `unread` says why a text has no reading, by the names that `explain` has for it.
 """
 import re
 
