@@ -5,6 +5,8 @@
 //! Git 2.39.5 reads on Linux (`specs/Git.antt` of `gix_url`; `docs/GIT.md` has it in words), and has no contract but that
 //! it can't abort: `scripts/git_reads.py`, a second reading of the definition, says the same of each text.
 
+ghost use Rattle.std.specs.Prelude.{◌≡◌, ◌+◌, ◌<◌, IfSome, length};
+
 use bstr::ByteSlice;
 use std::alloc::{AllocError, Global};
 
@@ -354,7 +356,9 @@ struct Bracketed<'a> {
 }
 
 /// The host in brackets, which goes to the next `]`.
-fn in_brackets(text: &[u8]) -> Option<Bracketed<'_>> {
+fn in_brackets(text: &[u8]) -> Option<Bracketed<'_>>
+    ensures { IfSome result (λ it. length it.behind.now < length text.now) }
+{
     let (front, rest) = opened_host(text)?;
     let (inside, behind) = cut(rest, b']')?;
     Some(Bracketed {
@@ -366,7 +370,9 @@ fn in_brackets(text: &[u8]) -> Option<Bracketed<'_>> {
 
 /// What stands before a bracket that opens a host and behind it: it is behind the first `@` that stands before one, or
 /// else at the front.
-fn opened_host(text: &[u8]) -> Option<(&[u8], &[u8])> {
+fn opened_host(text: &[u8]) -> Option<(&[u8], &[u8])>
+    ensures { IfSome result (λ it. length it.1.now < length text.now) }
+{
     match text.find(b"@[") {
         Some(at) => Some((text.split_at(at + 1).0, text.split_at(at + 2).1)),
         None => match text {
@@ -377,9 +383,11 @@ fn opened_host(text: &[u8]) -> Option<(&[u8], &[u8])> {
 }
 
 /// What Git passes over to find the end of a host, which is all before the closing `]`, and the rest.
-fn behind_brackets(text: &[u8]) -> (&[u8], &[u8]) {
+fn behind_brackets(text: &[u8]) -> (&[u8], &[u8])
+    ensures { length result.0.now + length result.1.now ≡ length text.now }
+{
     match in_brackets(text) {
-        Some(found) => text.split_at(found.front.len() + 1 + found.inside.len()),
+        Some(found) => text.split_at(text.len() - found.behind.len() - 1),
         None => text.split_at(0),
     }
 }
@@ -413,7 +421,9 @@ fn decode(out: &mut Vec<u8>, text: &[u8]) -> Result<(), AllocError> {
 }
 
 /// The byte of an escape that begins here, unless it is byte 0, and what follows.
-fn escaped(first: u8, tail: &[u8]) -> Option<(u8, &[u8])> {
+fn escaped(first: u8, tail: &[u8]) -> Option<(u8, &[u8])>
+    ensures { IfSome result (λ it. length it.1.now < length tail.now) }
+{
     match tail {
         [high, low, behind @ ..] if first == b'%' => {
             let byte = 16 * digit(*high)? + digit(*low)?;
@@ -428,7 +438,9 @@ fn escaped(first: u8, tail: &[u8]) -> Option<(u8, &[u8])> {
 }
 
 /// The value of a hexadecimal digit of either case.
-fn digit(byte: u8) -> Option<u8> {
+fn digit(byte: u8) -> Option<u8>
+    ensures { IfSome result (λ value. value < 16) }
+{
     match byte {
         b'0'..=b'9' => Some(byte - b'0'),
         b'A'..=b'F' => Some(byte - b'A' + 10),
@@ -438,7 +450,9 @@ fn digit(byte: u8) -> Option<u8> {
 }
 
 /// What stands before and behind the first byte.
-fn cut(text: &[u8], byte: u8) -> Option<(&[u8], &[u8])> {
+fn cut(text: &[u8], byte: u8) -> Option<(&[u8], &[u8])>
+    ensures { IfSome result (λ it. length it.1.now < length text.now) }
+{
     let at = text.find_byte(byte)?;
     Some((text.split_at(at).0, text.split_at(at + 1).1))
 }

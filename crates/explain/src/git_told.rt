@@ -14,6 +14,9 @@ use serde::Serialize;
 use std::alloc::{AllocError, Global};
 use std::fmt::Write;
 
+/// What Git does with a text that it hands to a remote helper.
+pub const HANDED: &str = "hands its text to a remote helper, whose reading was not compared";
+
 /// What Git reads in the text of a location.
 #[derive(Drop, Serialize)]
 pub struct GitReads {
@@ -134,9 +137,6 @@ fn unread(alloc: Global, text: &[u8], why: Unread) -> Result<GitReads, AllocErro
     };
     Ok(without_fields(String::from_str(alloc, words)?, name))
 }
-
-/// What Git does with a text that it hands to a remote helper.
-pub const HANDED: &str = "hands its text to a remote helper, whose reading was not compared";
 
 /// What is told of a local path that begins with `~`.
 fn in_two_places(alloc: Global, text: &[u8]) -> Result<GitReads, AllocError>
