@@ -5,9 +5,9 @@
                             docs/EXPLAIN.md that differ
 
 What a location is, is asked of `oracle.py`, in whose home folder its path begins of `plain_paths.py`, and where a refused
-line is wrong of `places.py`; what is said of it is put together here, and not by the library. Whether Git reads the same
-is the rule by hand of docs/GIT.md, in `git_classes.py`. The texts of the tables in docs/GRAMMAR.md and docs/EXPLAIN.md
-are among the lines, and the last line lacks its end.
+line is wrong of `places.py`; what is said of it is put together here, and not by the library. Whether Git is known to read
+the same is the rule by hand of docs/GIT.md, in `git_classes.py`, and what it reads is asked of `git_reads.py`. The texts of
+the tables in docs/GRAMMAR.md and docs/EXPLAIN.md are among the lines, and the last line lacks its end.
 """
 import itertools
 import json
@@ -20,6 +20,7 @@ import oracle
 import places
 import plain_paths
 from git_classes import Case, Reading, is_careful
+from git_reads import git_reads, unread
 
 HELPERS = [b"a::b://c", b"ext::sh -c x", b"a::", b"ssh::address", b"a::\xff"]
 URLS = [
@@ -44,6 +45,12 @@ PLACED = [b"x" * 1025 + b"://h/p", b"http://" + b"a" * 1025 + b"/p", b"http://u:
           b"http://::1:/", b"[a]b:p", b"user@::1:p", b"git://[a%FFb]:x/p", b"git://[::1]:99999/p", b"http://h/%zz?a b"]
 # The first is written as another text, in which Git reads the same; of each other one part of the rule alone says no.
 GIT = [b"ssh://@h/p", b"@h:p", b"ssh://u:p@h/p", b"git://u@h/p", b"h:a~u/p", b"h:-p", b"rsync:p", b"/a[b", b"/a]b", b"~/r"]
+# In the texts of these Git reads another place, none, or in fact the same.
+READ = [
+    b"git://h%2Fx/p", b"ssh://u@h%40x/p", b"ssh://u@h%2Fx:22/p", b"[u@h]:p", b"ssh://h/@[x]/p", b"u:p@[h]:q", b"[h:22]/x:p", b"[x]@h:p",
+    b"[h:22]:p", b"ssh://:22/p", b"ssh://u:p@h:22/p", b"ssh://u:@[h]/p", b"file:///a%20b", b"/srv/a@[b]/c", b"git://h/p%00q", b"git://h:/p",
+    b"ssh://[ssh://u@x:22]/p", b"git://h/p%0A", b"git://h:%2B22/p", b"/a\0b", b"~", b"~b%20b/r", b"u@-h:p", b"ssh://h/~~a",
+    b"ssh://%5Bssh%3A%2F%2Fu@x%5D/p", b"ssh://h/p%C3%A4", b"git://%40%5Bh%5D/p"]
 
 # For each hint a line to which it applies, and one that is nearly such a line.
 SLIPS = [b"ssh://git@github.com:a/b.git", b"ssh://git@github.com:22/b.git", b"github.com/a/b", b"repo.git/a/b",
@@ -169,6 +176,22 @@ def agrees_with_git(v):
     return answer
 
 
+def read_by_git(v):
+    """What Git reads in the text of the location by the second reading of its definition, unless that is known to be the same.
+
+    A password stands in what is read, which isn't told then.
+    """
+    text = oracle.text(v)
+    if not is_of_files(v) or agrees_with_git(v) or isinstance(text, oracle.Fault):
+        return None
+    found = [*git_reads(text)]
+    same, why = found == [reading(v)], None if found else unread(text)
+    if found and v.password is not None:
+        found, why = [], "Password"
+    protocol, user, _, host, port, path = found[0] if found else [None] * 6
+    return {"protocol": protocol, "user": lossy(user), "host": lossy(host), "port": port, "path": lossy(path), "same": same, "why": why}
+
+
 def told(v):
     spelled = v.path if oracle.matching(v) is None else v.spelling
     return {
@@ -177,7 +200,8 @@ def told(v):
         "port_or_default": PORTS.get(v.scheme[0]) if v.port is None else v.port, "path": lossy(v.path),
         "path_is_utf8": oracle.is_utf8(v.path), "original_path": lossy(spelled), "components": components(v), "home": home(v),
         "shell_path": shell_path(v), "arguments": {"user": judged(v.user), "host": judged(v.host), "path": path_judged(v.path)},
-        "text": oracle.display(v), "settled": oracle.settled(v), "agrees_with_git": agrees_with_git(v), "reread": reread(v)}
+        "text": oracle.display(v), "settled": oracle.settled(v), "agrees_with_git": agrees_with_git(v),
+        "git_reads": read_by_git(v), "reread": reread(v)}
 
 
 # ---------------------------------------------------------------------------------------------------------------
@@ -306,7 +330,7 @@ def table_faults():
 def stored_run():
     """The files of the stored run. The texts of the tables are among its lines."""
     texts = [*(row[0].strip("`").encode() for row in table()), *reason_examples(), *PLACED]
-    lines = list(dict.fromkeys([*HELPERS, *URLS, *FILES, *SCPS, *LOCALS, *REFUSED, *GIT, *SLIPS, *texts]))
+    lines = list(dict.fromkeys([*HELPERS, *URLS, *FILES, *SCPS, *LOCALS, *REFUSED, *GIT, *READ, *SLIPS, *texts]))
     lines.append(b"/the/last")
     answers = "".join(answer(number, line) + "\n" for number, line in enumerate(lines, 1))
     return {"stdin": b"\n".join(lines), "stdout": answers.encode(), "args": b"--json\n", "status": b"1\n"}

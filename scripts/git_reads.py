@@ -2,7 +2,7 @@
 
 Each function is a relation of the definition, and answers all that stands in it to what is given: every cut of the text is
 tried, and what each case asks is asked of it. It takes no word from Git: `scripts/git_witness` lays beside it what Git
-tells.
+tells. `unread` says why a text has no reading, by the names that `explain` has for it.
 """
 import re
 
@@ -12,6 +12,7 @@ PROTOCOLS = {b"ssh": "ssh", b"git+ssh": "ssh", b"ssh+git": "ssh", b"git": "git",
 # An escape, but for that of byte 0.
 GIT_ESCAPE = re.compile(rb"%(?!00)([0-9A-Fa-f]{2})")
 HELPER_FORM = re.compile(rb"[0-9A-Za-z][0-9A-Za-z+.-]*::")
+HELPER_URL = re.compile(rb"([0-9A-Za-z][0-9A-Za-z+.-]*)://")
 ON_THIS_MACHINE = Reading("file", None, None, None, None, b"")
 
 
@@ -90,10 +91,15 @@ def user_cuts(word):
     return alone + [(name, host) for name, host in cuts(word, b"@") if name and b"@" not in host]
 
 
-def reaches_secure(place, path):
+def secure_words(place, path):
+    """What Secure Shell is given for user and host, and for a port."""
     words = [it for named, found in hosts_and_ports(place) for it in secure_ports(named, found)]
-    safe = [(word, port) for word, port in words if word[:1] != b"-" and path[:1] != b"-"]
-    return [Reading("ssh", user, None, host or None, port, path) for word, port in safe for user, host in user_cuts(word)]
+    return [(word, port) for word, port in words if word[:1] != b"-" and path[:1] != b"-"]
+
+
+def reaches_secure(place, path):
+    words = secure_words(place, path)
+    return [Reading("ssh", user, None, host or None, port, path) for word, port in words for user, host in user_cuts(word)]
 
 
 def reaches_git(place, path):
@@ -112,23 +118,65 @@ def reads_url(protocol, place, path):
     return (reaches_secure if protocol == "ssh" else reaches_git)(place, from_tilde(path))
 
 
+def is_remote(text):
+    """Whether a colon stands in the text before any `/`."""
+    return any(b"/" not in front for front, _ in cuts(text, b":"))
+
+
+def is_other(text):
+    """Whether the text is no URL, and not for a remote helper or `rsync`."""
+    return not (b"://" in text or HELPER_FORM.match(text) or text.startswith((b"::", b"rsync:")))
+
+
 def reads_other(text):
     """What is read in a text that is no URL: the scp form and local paths."""
-    if b"://" in text or HELPER_FORM.match(text) or text.startswith((b"::", b"rsync:")):
+    if not is_other(text):
         return []
-    is_remote = any(b"/" not in front for front, _ in cuts(text, b":"))
     is_local = b":" not in text or any(b":" not in front for front, _ in cuts(text, b"/"))
-    remote = [it for place, path in places(b":", text) for it in reaches_secure(place, from_tilde(path))] if is_remote else []
+    remote = [it for place, path in places(b":", text) for it in reaches_secure(place, from_tilde(path))] if is_remote(text) else []
     # `-` begins an option, and `~` a home folder or a name.
     paths = [path for _, path in host_ends(text) if is_local and path and path[:1] not in (b"-", b"~")]
     return remote + [ON_THIS_MACHINE._replace(path=path) for path in paths]
+
+
+def own_urls(text):
+    """The protocol, and what stands behind the `://`, decoded, of a URL of a transport."""
+    urls = [(PROTOCOLS[scheme], rest) for scheme, rest in cuts(text, b"://") if scheme in PROTOCOLS]
+    return [(protocol, GIT_ESCAPE.sub(lambda it: bytes([int(it[1], 16)]), rest)) for protocol, rest in urls]
 
 
 def git_reads(text):
     """All readings of a text."""
     if b"\0" in text or text[:1] == b"-":
         return set()
-    urls = [(PROTOCOLS[scheme], rest) for scheme, rest in cuts(text, b"://") if scheme in PROTOCOLS]
-    decoded = [(protocol, GIT_ESCAPE.sub(lambda it: bytes([int(it[1], 16)]), rest)) for protocol, rest in urls]
-    own = [it for protocol, rest in decoded for place, path in places(b"/", rest) for it in reads_url(protocol, place, b"/" + path)]
+    urls = own_urls(text)
+    own = [it for protocol, rest in urls for place, path in places(b"/", rest) for it in reads_url(protocol, place, b"/" + path)]
     return {*own, *reads_other(text)}
+
+
+# ---- texts without a reading
+
+def is_for_helper(text):
+    """Whether Git hands the text to a remote helper: `name::address`, or a URL of a scheme that isn't Git's own."""
+    scheme = HELPER_URL.match(text)
+    return HELPER_FORM.match(text) or text.startswith(b"::") or (scheme and scheme[1] not in (*PROTOCOLS, b"rsync"))
+
+
+def secure_places(text):
+    """The places and paths of a text that is for Secure Shell."""
+    urls = [(place, b"/" + path) for protocol, rest in own_urls(text) if protocol == "ssh" for place, path in places(b"/", rest)]
+    return [*urls, *(places(b":", text) if is_other(text) and is_remote(text) else [])]
+
+
+def unread(text):
+    """Why a text has no reading."""
+    words = [it for place, path in secure_places(text) for it, _ in secure_words(place, from_tilde(path))]
+    reasons = {
+        "ByteZero": b"\0" in text,
+        "Option": text.startswith(b"-"),
+        "RemoteHelper": is_for_helper(text),
+        "HomeOrHere": is_other(text) and not is_remote(text) and text.startswith(b"~"),
+        "SecureShellUrl": any(it.startswith(b"ssh://") for it in words),
+        "Refused": True,
+    }
+    return next(name for name, is_so in reasons.items() if is_so)

@@ -13,7 +13,8 @@ STORED = f"{ROOT}/crates/explain/people"
 # A remote of HTTP, of Secure Shell or in the scp form, of which nothing has to be said.
 PLAIN = re.compile(rb"(https|ssh)://([\w.-]+@)?[\w.-]+(:\d+)?/[\w./-]+|([\w.-]+@)?[\w.-]+:[\w.][\w./-]*")
 OPTION = re.compile(rb"(^|//|@|/|:)-")
-ALARM = re.compile(rb"; danger: |: refused: |, not settled|^ +git +may read something else|^ +hint ", re.M)
+# In the row of Git all but that the same is read, and that it was not compared.
+ALARM = re.compile(rb"; danger: |: refused: |, not settled|^ +git +(?!reads the same in its text|hands its text to a remote helper)|^ +hint ", re.M)
 
 
 def stored(name):

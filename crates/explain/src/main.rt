@@ -9,6 +9,8 @@
 mod answer;
 mod danger;
 mod difference;
+mod git;
+mod git_told;
 mod hint;
 mod only;
 mod options;

@@ -6,12 +6,13 @@
 
 use crate::answer::Line;
 use crate::danger::dangers;
+use crate::git_told::HANDED;
 use crate::hint::Hint;
 use crate::path::{Components, Field, Home};
 use crate::refusal::Refusal;
 use crate::told::Told;
 use bstr::BStr;
-use gix_url::{Scheme, Url};
+use gix_url::Url;
 use std::alloc::{AllocError, Global};
 use std::fmt::{Display, Write};
 
@@ -25,7 +26,7 @@ pub fn location(
 ) -> Result<String, AllocError> {
     let mut out = String::new(alloc);
     heading(&mut out, line.number, url, told)?;
-    text(&mut out, url, told)?;
+    text(&mut out, told)?;
     parts(&mut out, url, told)?;
     components(&mut out, &told.components)?;
     on_files(&mut out, told)?;
@@ -45,12 +46,12 @@ fn heading(out: &mut String, number: u64, url: &Url, told: &Told<'_>) -> Result<
 }
 
 /// The rows of the text, with what Git reads in it.
-fn text(out: &mut String, url: &Url, told: &Told<'_>) -> Result<(), AllocError> {
+fn text(out: &mut String, told: &Told<'_>) -> Result<(), AllocError> {
     let Some(text) = &told.text else {
         return Ok(());
     };
     quoted(out, "text", text.as_str())?;
-    row(out, "git", reading_of_git(url, told))
+    row(out, "git", reading_of_git(told))
 }
 
 /// A refusal: its heading and its hints.
@@ -121,11 +122,11 @@ fn paths(out: &mut String, url: &Url) -> Result<(), AllocError> {
 }
 
 /// What Git reads in the text of the location, in words.
-fn reading_of_git(url: &Url, told: &Told<'_>) -> &'static str {
-    match &url.scheme {
+fn reading_of_git<'b>(told: &'b Told<'_>) -> &'b str {
+    match &told.git_reads {
         _ if told.agrees_with_git => "reads the same in its text",
-        Scheme::Ssh | Scheme::Git | Scheme::File => "may read something else in its text",
-        _ => "hands its text to a remote helper, whose reading was not compared",
+        Some(reads) => reads.words.as_str(),
+        None => HANDED,
     }
 }
 

@@ -1,7 +1,7 @@
 //! What is told of a location: its form, its parts, what its path means, and what it may be used for.
 //!
-//! It uses the public calls of `gix_url`, `path` for what the path means, and `difference` for a location that isn't
-//! settled. Its contract: where there is a password `redacted` is told, and whether a location is settled and agrees with
+//! It uses the public calls of `gix_url`, `path` for what the path means, `git_told` for what Git reads, and `difference`
+//! for a location that isn't settled. Its contract: where there is a password `redacted` is told, and whether a location is settled and agrees with
 //! Git as the definitions of the library have it. Bytes that are no UTF-8 are told as U+FFFD.
 
 ghost use Rattle.std.specs.Prelude.{◌≡◌, ◌↔◌, IfOk, IsTrue, codes, option_map};
@@ -10,6 +10,7 @@ ghost use Rattle.gix_url.specs.Display.{hidden_password};
 ghost use Rattle.gix_url.specs.Settled.{IsSettled};
 
 use crate::difference::Reread;
+use crate::git_told::GitReads;
 use crate::path::{Components, Home, Meaning};
 use bstr::ByteSlice;
 use gix_url::{ArgumentSafety, Scheme, Url};
@@ -55,6 +56,8 @@ pub struct Told<'a> {
     pub settled: bool,
     /// Whether Git is known to read the same protocol, user, host, port and path in the text of the location.
     pub agrees_with_git: bool,
+    /// What Git reads there, where it isn't known to be the same.
+    pub git_reads: Option<GitReads>,
     /// What its own text is read as, where it is not settled.
     pub reread: Option<Reread>,
 }
@@ -111,8 +114,9 @@ impl<'a> Told<'a> {
         ensures agrees { IfOk result (λ told. IsTrue told.agrees_with_git ↔ AgreesWithGit url.now) }
     {
         let found = both(Texts::of(alloc, url)?, Meaning::of(alloc, url))?;
-        let ((texts, meaning), reread) = both(found, Reread::of(alloc, url))?;
-        Ok(Told::put_together(url, texts, meaning, reread))
+        let found = both(found, GitReads::of(alloc, url))?;
+        let (((texts, meaning), git_reads), reread) = both(found, Reread::of(alloc, url))?;
+        Ok(Told::put_together(url, texts, meaning, git_reads, reread))
     }
 
     /// What is told of this location, with what was made of it.
@@ -120,6 +124,7 @@ impl<'a> Told<'a> {
         url: &'a Url,
         texts: Texts<'a>,
         meaning: Meaning<'a>,
+        git_reads: Option<GitReads>,
         reread: Option<Reread>,
     ) -> Told<'a>
         ensures hidden { option_map (λ word. word.now) result.password
@@ -145,6 +150,7 @@ impl<'a> Told<'a> {
             text: texts.text,
             settled: url.is_settled(),
             agrees_with_git: is_read_alike(url),
+            git_reads,
             reread,
         }
     }
