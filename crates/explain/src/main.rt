@@ -1,16 +1,20 @@
 //! The program `explain`: tells a person, or another program, what each line of its standard input means as a location.
 //!
 //! It uses the public calls of `gix_url` alone. `told` finds what is reported of a location, `path` what its path
-//! means, `danger` what to look out for, `difference` what its own text is read as, `refusal` why a line is refused, `shown` lays all of that out for
-//! people; with `--json` it goes out as one object a line. Each answer is written as soon as its line is read. The status
+//! means, `danger` what to look out for, `difference` what its own text is read as, `refusal` why a line is refused;
+//! `split` cuts the line into pieces, `line` says what of it may be shown, `paint` shows it, and `shown` lays all of that
+//! out for people; with `--json` it goes out as one object a line. Each answer is written as soon as its line is read. The status
 //! is 0 where every line is settled, 1 where one is not, and 2 where the run was cut short or the options are wrong.
 #![tactic(auto)]
 
 mod danger;
 mod difference;
+mod line;
+mod paint;
 mod path;
 mod refusal;
 mod shown;
+mod split;
 mod told;
 
 use bstr::BStr;
@@ -18,6 +22,7 @@ use clap::{Arg, ArgAction, ArgMatches, Command};
 use gix_url::lines::{self, RunError};
 use gix_url::parse::parse;
 use gix_url::{Error, Url};
+use line::SeenLine;
 use refusal::Refusal;
 use serde::Serialize;
 use std::alloc::{AllocError, Global};
@@ -25,13 +30,15 @@ use std::env;
 use std::io::{self, BufRead, BufReader, ErrorKind, Write};
 use std::process::ExitCode;
 use std::rt::Env;
-use told::Told;
+use told::{Told, both, fields_of};
 
 /// What is answered to a line: a location or why there is none.
 #[derive(Clone, Copy, Serialize)]
 struct Answer<'b, 'a: 'b> {
     /// The number of the line, from 1.
     line: u64,
+    /// The line itself, if it may be shown.
+    input: Option<&'b str>,
     /// What the line is read as.
     location: Option<&'b Told<'a>>,
     /// Why it is read as nothing.
@@ -160,8 +167,8 @@ fn answered(
 ) -> Result<(String, bool), AllocError> {
     let read = parse(alloc, BStr::new(line));
     let answer = match &read {
-        Ok(url) => told_location(alloc, number, url, layout),
-        Err(error) => told_error(alloc, number, error, layout),
+        Ok(url) => told_location(alloc, number, line, url, layout),
+        Err(error) => told_error(alloc, number, line, error, layout),
     };
     drop(read);
     answer
@@ -171,30 +178,35 @@ fn answered(
 fn told_location(
     alloc: Global,
     number: u64,
+    line: &[u8],
     url: &Url,
     layout: Layout,
 ) -> Result<(String, bool), AllocError> {
-    let told = Told::of(alloc, url)?;
+    let seen = SeenLine::located(alloc, line, &fields_of(url))?;
+    let (seen, told) = both(seen, Told::of(alloc, url))?;
     let is_settled = told.settled;
-    let answer = laid_out(alloc, number, url, &told, layout);
+    let answer = laid_out(alloc, number, url, &told, &seen, layout);
     drop(told);
+    drop(seen);
     Ok((answer?, is_settled))
 }
 
 /// The answer to a line that is read as a location.
-fn laid_out(
+fn laid_out<'x>(
     alloc: Global,
     number: u64,
     url: &Url,
-    told: &Told<'_>,
+    told: &'x Told<'_>,
+    seen: &'x SeenLine<'_>,
     layout: Layout,
 ) -> Result<String, AllocError> {
     match layout {
-        Layout::People => shown::location(alloc, number, url, told),
+        Layout::People => shown::location(alloc, number, url, told, seen),
         Layout::Json => json(
             alloc,
             &Answer {
                 line: number,
+                input: seen.text(),
                 location: Some(told),
                 refusal: None,
             },
@@ -206,12 +218,13 @@ fn laid_out(
 fn told_error(
     alloc: Global,
     number: u64,
+    line: &[u8],
     error: &Error,
     layout: Layout,
 ) -> Result<(String, bool), AllocError> {
     match error {
         Error::Memory => Err(AllocError),
-        error => Ok((told_refusal(alloc, number, error, layout)?, false)),
+        error => Ok((told_refusal(alloc, number, line, error, layout)?, false)),
     }
 }
 
@@ -219,22 +232,26 @@ fn told_error(
 fn told_refusal(
     alloc: Global,
     number: u64,
+    line: &[u8],
     error: &Error,
     layout: Layout,
 ) -> Result<String, AllocError> {
-    let refusal = Refusal::of(alloc, error)?;
+    let seen = SeenLine::refused(alloc, line)?;
+    let (seen, refusal) = both(seen, Refusal::of(alloc, error))?;
     let answer = match layout {
-        Layout::People => shown::refusal(alloc, number, &refusal),
+        Layout::People => shown::refusal(alloc, number, &refusal, &seen),
         Layout::Json => json(
             alloc,
             &Answer {
                 line: number,
+                input: seen.text(),
                 location: None,
                 refusal: Some(&refusal),
             },
         ),
     };
     drop(refusal);
+    drop(seen);
     answer
 }
 

@@ -5,6 +5,8 @@
 //! its answers.
 
 use crate::danger::dangers;
+use crate::line::SeenLine;
+use crate::paint::{self, Colors};
 use crate::path::{Components, Field, Home};
 use crate::refusal::Refusal;
 use crate::told::Told;
@@ -19,10 +21,14 @@ pub fn location(
     number: u64,
     url: &Url,
     told: &Told<'_>,
+    seen: &SeenLine<'_>,
 ) -> Result<String, AllocError> {
     let mut out = String::new(alloc);
     heading(&mut out, number, url, told)?;
-    text(&mut out, url, told)?;
+    if let Some(cut) = &seen.cut {
+        paint::split(&mut out, cut, Colors::Off)?;
+    }
+    text(&mut out, url, told, seen)?;
     parts(&mut out, url, told)?;
     components(&mut out, &told.components)?;
     on_files(&mut out, told)?;
@@ -40,18 +46,43 @@ fn heading(out: &mut String, number: u64, url: &Url, told: &Told<'_>) -> Result<
     out.push('\n')
 }
 
-/// The rows of the text, with what Git reads in it.
-fn text(out: &mut String, url: &Url, told: &Told<'_>) -> Result<(), AllocError> {
+/// The rows of the text, unless it is the line as it was shown, and of what Git reads in it.
+fn text(
+    out: &mut String,
+    url: &Url,
+    told: &Told<'_>,
+    seen: &SeenLine<'_>,
+) -> Result<(), AllocError> {
     let Some(text) = &told.text else {
         return Ok(());
     };
-    quoted(out, "text", text.as_str())?;
+    if !is_shown(seen, text.as_str()) {
+        quoted(out, "text", text.as_str())?;
+    }
     row(out, "git", reading_of_git(url, told))
 }
 
-/// A refusal: its heading.
-pub fn refusal(alloc: Global, number: u64, refusal: &Refusal) -> Result<String, AllocError> {
-    format!(in alloc; "line {number}: refused: {}\n", refusal.words)
+/// Whether the line was shown whole, and is this text.
+fn is_shown(seen: &SeenLine<'_>, text: &str) -> bool {
+    match (&seen.cut, seen.text()) {
+        (Some(cut), Some(line)) => line == text && !paint::is_long(cut),
+        _ => false,
+    }
+}
+
+/// A refusal: its heading, and the line.
+pub fn refusal(
+    alloc: Global,
+    number: u64,
+    refusal: &Refusal,
+    seen: &SeenLine<'_>,
+) -> Result<String, AllocError> {
+    let mut out = String::new(alloc);
+    writeln!(out, "line {number}: refused: {}", refusal.words)?;
+    if let Some(cut) = &seen.cut {
+        paint::line(&mut out, cut, Colors::Off)?;
+    }
+    Ok(out)
 }
 
 /// A row: a name, and what it is.
