@@ -32,13 +32,15 @@ URLS = [
     b"ssh://[]/p", b"git://]/p", b"ssh://-Fconfig@host/repo", b"ssh://-h/-r", b"http://h/a<b", b"http://h/%1B%22",
     b"ssh://a%1Bb@h/p", b"http://u:p%1B@h/?a%1Bb=c%1Bd#f%1Bg", b"git://h/~b%1Bo/r", b"x://h%1B/p", b"ext://a/b",
     "http://ä:ö@h/ü".encode(), b"http://h%41/~x", b"http://h:/p", b"http://h:00080/",
-    b"http://" + "ö".encode() * 400 + b"@h/"]
+    b"http://" + "ö".encode() * 400 + b"@h/", b"http://u:@h/", b"http://a:b@c:d@h/", b"git://u:p@FE80::1/p", b"ssh://u:p@[::1]:22/~/r",
+    b"ssh://u:p@h%3A/p", b"ssh://u:p@%5Bh%5D/p", b"ssh+git://u:p@h:/p", b"http://u:p@h?a=b#c", "https://u:ö\u200f漢@h/".encode(), b"x://u:p@h%41:/p"]
 FILES = [b"file:///p", b"file://h/~bob/x", b"file://x:%20/p"]
 SCPS = [b"git@example.com:a/b.git", b"a@b@h:p", b"u:p@h:x", b"h:/~a", b"h:~", b"[FE80::1%Eth0]:p", b"user@[::1]:path",
         b"user@::1:p", b"[host]::path", b"[ssh]::p", b"-h:-p", b"C:/x", b"h:22/p", b"h:/p"]
 LOCALS = [b"/srv/repo.git", b"./a:b", b"[::1]", b"/~bob/r", b"~bob/r", b"./~/r", b"/~", b"/~/x\xff", b"/~\xff/x", b"/\xff", b"/-rf", b"a"]
 REFUSED = [b"", b"file://host", b"ssh://h", b"host:", b"http://h/\xff", b"h:\xff", b"file://\xff/p", b"x:///" + b"a" * 1024, b"./a://b",
-           b"http://h:0/", b"[a@b:22]:p", b"http://", b"::address", b"http://h/%2", b"a b:p"]
+           b"http://h:0/", b"[a@b:22]:p", b"http://", b"::address", b"http://h/%2", b"a b:p", b"http://u:secret@h:x/", b"http://u:p@ss@h:x/",
+           b"http://u:secret/x@h/p", b"http://u:@h:x/", b"http://u@h:x/", b"a b://u@h:p@x", b"http://u:secret\xff@h/\xff", b"a@b://h:x/"]
 # Where the fault is: the first of several, a whole character, a part behind others, and what the table can't show.
 PLACED = [b"x" * 1025 + b"://h/p", b"http://" + b"a" * 1025 + b"/p", b"http://u:p@a\\b/ %2", b"ssh://u:%C3%A9%E2%82@h:1/p",
           "\u00e9://h/".encode(), "http://b\u00fc\u2003/".encode(), b"ssh://h/\xe2\x82", b"http://[::1%25e%FF]/", b"http://u@:22/",
@@ -192,6 +194,46 @@ def read_by_git(v):
     return {"protocol": protocol, "user": lossy(user), "host": lossy(host), "port": port, "path": lossy(path), "same": same, "why": why}
 
 
+def host_spellings(place):
+    """The texts that may spell the host in what stands behind the `@`: with and without a port, a colon and brackets."""
+    fronts = [place] + ([place.rpartition(b":")[0]] if b":" in place else [])
+    return fronts + [it[1:-1] for it in fronts if len(it) > 1 and it.startswith(b"[") and it.endswith(b"]")]
+
+
+def is_spelled_by_a_piece(v, place):
+    """Whether a piece of the text spells the host, but for upper case: where brackets or a colon that go are escapes, none does."""
+    decoded = (lambda it: it) if v.scheme in oracle.HTTP_SCHEMES else oracle.dec
+    return any(decoded(it).lower() == v.host.lower() for it in host_spellings(place))
+
+
+def secret_of_refused(line):
+    """What may be a password in a refused line: from the first `:` behind `://` to the last `@`; its place, or None."""
+    begin = line.find(b"://") + 3
+    colon, at = line.find(b":", begin), line.rfind(b"@")
+    return (colon + 1, at) if 3 <= begin <= colon < at else None
+
+
+def secret_of_url(v, line):
+    """The place of the password that is read, or None where no piece of the line is sure to be it."""
+    begin = line.find(b"://") + 3
+    ends = [it for it in (line.find(bytes([mark]), begin) for mark in oracle.path_starts(line[:begin - 3])) if it >= 0]
+    end = min(ends, default=len(line))
+    at = line.rfind(b"@", begin, end)
+    return (line.find(b":", begin) + 1, at) if is_spelled_by_a_piece(v, line[at + 1:end]) else None
+
+
+def shown_line(line):
+    """The line with the word in place of its password; None where it has one and it isn't sure which piece that is."""
+    v = oracle.spells(line)
+    if v is not None and v.password is None:
+        return lossy(line)
+    place = secret_of_refused(line) if v is None else secret_of_url(v, line)
+    if place is None:
+        return lossy(line) if v is None else None
+    hidden = b"redacted" if place[0] < place[1] else b""
+    return lossy(line[:place[0]] + hidden + line[place[1]:])
+
+
 def told(v):
     spelled = v.path if oracle.matching(v) is None else v.spelling
     return {
@@ -257,7 +299,8 @@ def hints(line, v):
 
 def answer(number, line):
     v = oracle.spells(line)
-    it = {"line": number, "location": v and told(v), "refusal": refusal_of_line(line) if v is None else None, "hints": hints(line, v)}
+    it = {"line": number, "input": shown_line(line), "location": v and told(v), "refusal": refusal_of_line(line) if v is None else None,
+          "hints": hints(line, v)}
     return json.dumps(it, separators=(",", ":"), ensure_ascii=False)
 
 

@@ -1,15 +1,17 @@
 //! The answer to a line: what it is read as or why it is refused, in the layout that is asked for.
 //!
-//! `told` finds what is reported of a location, `refusal` why a line is refused, `hint` what people may have got wrong;
+//! `line` finds what of the line may be shown, `told` what is reported of a location, `refusal` why a line is refused,
+//! `hint` what people may have got wrong;
 //! `shown` lays that out for people, `only` one part of it, and with `--json` it goes out as one object. It has no
 //! contract but that it can't abort: the stored run and `scripts/hostile` show its answers.
 
 use crate::hint::{self, Hint};
+use crate::line::SeenLine;
 use crate::only::{self, Part};
 use crate::refusal::Refusal;
 use crate::shown;
 use crate::style::{Layout, Style};
-use crate::told::Told;
+use crate::told::{Told, both, fields_of};
 use bstr::BStr;
 use gix_url::parse::parse;
 use gix_url::{Error, Url};
@@ -31,6 +33,8 @@ pub struct Line<'a> {
 struct Answer<'b, 'a: 'b> {
     /// The number of the line, from 1.
     line: u64,
+    /// The line itself, if it may be shown.
+    input: Option<&'b str>,
     /// What the line is read as.
     location: Option<&'b Told<'a>>,
     /// Why it is read as nothing.
@@ -55,15 +59,23 @@ impl<'l> Line<'l> {
 
     /// What is reported of a location, and whether it is settled.
     fn location(self, alloc: Global, url: &Url) -> Result<(String, bool), AllocError> {
-        let told = Told::of(alloc, url)?;
+        let seen = SeenLine::located(alloc, self.bytes, &fields_of(url))?;
+        let (seen, told) = both(seen, Told::of(alloc, url))?;
         let is_settled = told.settled;
-        let answer = self.laid_out(alloc, url, &told);
+        let answer = self.laid_out(alloc, url, &told, &seen);
         drop(told);
+        drop(seen);
         Ok((answer?, is_settled))
     }
 
     /// The answer to a line that is read as a location.
-    fn laid_out(self, alloc: Global, url: &Url, told: &Told<'_>) -> Result<String, AllocError> {
+    fn laid_out(
+        self,
+        alloc: Global,
+        url: &Url,
+        told: &Told<'_>,
+        seen: &SeenLine<'_>,
+    ) -> Result<String, AllocError> {
         let found = hint::found(alloc, self.bytes, Some(hint::Reading::of(url, told)))?;
         let hints = found.as_slice();
         let answer = match self.style.layout {
@@ -71,12 +83,13 @@ impl<'l> Line<'l> {
                 alloc,
                 &Answer {
                     line: self.number,
+                    input: seen.text(),
                     location: Some(told),
                     refusal: None,
                     hints,
                 },
             ),
-            _ => shown::location(alloc, self, url, told, hints),
+            _ => shown::location(alloc, self, url, told, seen, hints),
         };
         drop(found);
         answer
@@ -95,14 +108,21 @@ impl<'l> Line<'l> {
 
     /// What is reported of a line that is refused.
     fn refusal(self, alloc: Global, error: &Error) -> Result<String, AllocError> {
-        let refusal = Refusal::of_line(alloc, self.bytes, error)?;
-        let answer = self.laid_out_refusal(alloc, &refusal);
+        let seen = SeenLine::refused(alloc, self.bytes)?;
+        let (seen, refusal) = both(seen, Refusal::of_line(alloc, self.bytes, error))?;
+        let answer = self.laid_out_refusal(alloc, &refusal, &seen);
         drop(refusal);
+        drop(seen);
         answer
     }
 
     /// The answer to a line that is refused.
-    fn laid_out_refusal(self, alloc: Global, refusal: &Refusal) -> Result<String, AllocError> {
+    fn laid_out_refusal(
+        self,
+        alloc: Global,
+        refusal: &Refusal,
+        seen: &SeenLine<'_>,
+    ) -> Result<String, AllocError> {
         let found = hint::found(alloc, self.bytes, None)?;
         let hints = found.as_slice();
         let answer = match self.style.layout {
@@ -110,12 +130,13 @@ impl<'l> Line<'l> {
                 alloc,
                 &Answer {
                     line: self.number,
+                    input: seen.text(),
                     location: None,
                     refusal: Some(refusal),
                     hints,
                 },
             ),
-            _ => shown::refusal(alloc, self, refusal, hints),
+            _ => shown::refusal(alloc, self, refusal, seen, hints),
         };
         drop(found);
         answer

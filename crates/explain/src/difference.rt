@@ -10,9 +10,10 @@ ghost use Rattle.gix_url.specs.Settled.{IsSettled};
 ghost use Rattle.gix_url.specs.Views.{protocol};
 ghost use Rattle.explain.specs.Differences.{TellsField, TellsReread, flag_word, scheme_words};
 
+use crate::line::Quoted;
 use crate::refusal::Refusal;
 use crate::told::hidden_password;
-use bstr::{BStr, ByteSlice};
+use bstr::ByteSlice;
 use gix_url::{Error, Scheme, Url};
 use serde::Serialize;
 use std::alloc::{AllocError, Global};
@@ -219,26 +220,24 @@ fn words(alloc: Global, difference: &Option<Difference>) -> Result<String, Alloc
         );
     };
     let field = it.field;
-    match (bytes(&it.here), bytes(&it.instead)) {
+    match (quoted(&it.here), quoted(&it.instead)) {
         (Some(here), Some(instead)) => {
-            format!(in alloc;
-                "its own text is read with the {field} {instead:?} in place of {here:?}"
-            )
+            format!(in alloc; "its own text is read with the {field} {instead} in place of {here}")
         }
         (Some(here), None) => {
-            format!(in alloc; "its own text is read with no {field} in place of {here:?}")
+            format!(in alloc; "its own text is read with no {field} in place of {here}")
         }
         (None, Some(instead)) => {
-            format!(in alloc; "its own text is read with the {field} {instead:?} in place of none")
+            format!(in alloc; "its own text is read with the {field} {instead} in place of none")
         }
         (None, None) => format!(in alloc; "its own text is read with another {field}"),
     }
 }
 
-/// The text as bytes, whose control characters are shown as all others of an answer are.
-fn bytes(text: &Option<String>) -> Option<BStr<'_>> {
+/// The text in quotes.
+fn quoted(text: &Option<String>) -> Option<Quoted<'_>> {
     match text {
         None => None,
-        Some(text) => Some(BStr::from(text.as_str())),
+        Some(text) => Some(Quoted(text.as_str().as_bytes())),
     }
 }

@@ -7,8 +7,9 @@
 ghost use Rattle.std.specs.Prelude.{◌≡◌, IfOk, IfSome, IsSome, None};
 
 use crate::git::{self, GitReading, Protocol, Room, Unread};
+use crate::line::Quoted;
 use crate::told::both;
-use bstr::{BStr, ByteSlice};
+use bstr::ByteSlice;
 use gix_url::{Error, Scheme, Url};
 use serde::Serialize;
 use std::alloc::{AllocError, Global};
@@ -154,15 +155,15 @@ fn two_places(out: &mut String, text: &[u8]) -> Result<(), AllocError> {
         Some(at) => text.split_at(at),
         None => (text, b"".as_slice()),
     };
-    let (here, below) = (BStr::from(text), BStr::from(below));
+    let (here, below) = (Quoted(text), Quoted(below));
     write!(
         out,
-        "clone reads {here:?} in the current folder, fetch and push {below:?} below "
+        "clone reads {here} in the current folder, fetch and push {below} below "
     )?;
     match name {
         [_, user @ ..] if !user.is_empty() => {
-            let user = BStr::from(user);
-            write!(out, "the home of {user:?}")
+            let user = Quoted(user);
+            write!(out, "the home of {user}")
         }
         _ => out.push_str("$HOME"),
     }
@@ -257,12 +258,10 @@ fn difference(
         return Ok(());
     }
     begin(out)?;
-    match (here.map(BStr::from), instead.map(BStr::from)) {
-        (Some(here), Some(instead)) => {
-            write!(out, "the {field} {instead:?} in place of {here:?}")
-        }
-        (Some(here), None) => write!(out, "no {field} in place of {here:?}"),
-        (None, Some(instead)) => write!(out, "the {field} {instead:?} in place of none"),
+    match (here.map(Quoted), instead.map(Quoted)) {
+        (Some(here), Some(instead)) => { write!(out, "the {field} {instead} in place of {here}") }
+        (Some(here), None) => write!(out, "no {field} in place of {here}"),
+        (None, Some(instead)) => write!(out, "the {field} {instead} in place of none"),
         (None, None) => Ok(()),
     }
 }

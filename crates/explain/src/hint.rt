@@ -4,7 +4,8 @@
 //! has no contract but that it can't abort: the stored run shows which hints are found, and `scripts/hostile people` their
 //! sentences, and that no plain remote gets one.
 
-use crate::told::{Form, Told};
+use crate::split::Form;
+use crate::told::Told;
 use bstr::ByteSlice;
 use gix_url::Url;
 use serde::Serialize;

@@ -12,18 +12,22 @@ mod difference;
 mod git;
 mod git_told;
 mod hint;
+mod line;
 mod only;
 mod options;
+mod paint;
 mod path;
 mod place;
 mod refusal;
 mod shown;
+mod split;
 mod style;
 mod told;
 
 use answer::Line;
 use clap::ArgMatches;
 use gix_url::lines::RunError;
+use paint::Colors;
 use std::alloc::Global;
 use std::env;
 use std::fs::File;
@@ -34,7 +38,7 @@ use style::{Seen, Style};
 
 /// Answers what the command line names. Returns the status to end with.
 fn explained(rt: &HostRuntime, given: &ArgMatches<'_>) -> u8 {
-    let style = options::style(given, is_coloured_by_itself(rt));
+    let style = options::style(given, colors_of(rt));
     let mut output = rt.stdout();
     let mut seen = Seen::NOTHING;
     let outcome = answer_all(rt, given, &mut output, style, &mut seen);
@@ -43,18 +47,16 @@ fn explained(rt: &HostRuntime, given: &ArgMatches<'_>) -> u8 {
 }
 
 /// Whether answers are coloured where the command line leaves it open.
-fn is_coloured_by_itself(rt: &HostRuntime) -> bool {
-    rt.stdout().is_terminal() && !is_set(rt, "NO_COLOR") && is_set(rt, "TERM") && !is_dumb(rt)
+fn colors_of(rt: &HostRuntime) -> Colors {
+    let (no_color, term) = (env::var(rt, "NO_COLOR").ok(), env::var(rt, "TERM").ok());
+    let is_terminal = rt.stdout().is_terminal();
+    let is_colored = paint::is_colored(is_terminal, bytes_of(&no_color), bytes_of(&term));
+    if is_colored { Colors::On } else { Colors::Off }
 }
 
-/// Whether an environment variable is set, and not empty.
-fn is_set(rt: &(impl Env + AllocGlobal), name: &str) -> bool {
-    env::var(rt, name).is_ok_and(|value| !value.is_empty())
-}
-
-/// Whether the terminal shows text alone.
-fn is_dumb(rt: &(impl Env + AllocGlobal)) -> bool {
-    env::var(rt, "TERM").is_ok_and(|value| value.as_str() == "dumb")
+/// The bytes of the value of a variable, if it is set.
+fn bytes_of(value: &Option<String>) -> Option<&[u8]> {
+    value.as_ref().map(|it| it.as_str().as_bytes())
 }
 
 /// Answers the lines of each file, then each text; or the lines of standard input where neither is given.

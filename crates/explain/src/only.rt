@@ -3,9 +3,10 @@
 //! It uses the public calls of `gix_url`, and has no contract but that it can't abort: `scripts/hostile people` shows its
 //! answers. A password is no part that can be asked for.
 
+use crate::line::write_shown;
 use crate::path::no_memory;
 use crate::told::text_of;
-use bstr::{BStr, ByteSlice};
+use bstr::ByteSlice;
 use gix_url::{PathComponents, Scheme, Url};
 use std::alloc::{AllocError, Global};
 use std::fmt::Write;
@@ -50,7 +51,7 @@ impl Part {
 pub fn line(alloc: Global, url: &Url, part: Part) -> Result<String, AllocError> {
     let mut out = String::new(alloc);
     match part {
-        Part::Scheme => escaped(&mut out, url.scheme.as_str().as_bytes())?,
+        Part::Scheme => write_shown(&mut out, url.scheme.as_str().as_bytes())?,
         Part::User => text(&mut out, url.user())?,
         Part::Host => text(&mut out, url.host())?,
         Part::Port => port(&mut out, url.port_or_default())?,
@@ -72,7 +73,7 @@ fn text(out: &mut String, text: Option<&str>) -> Result<(), AllocError> {
 fn bytes(out: &mut String, bytes: Option<&[u8]>) -> Result<(), AllocError> {
     match bytes {
         None => Ok(()),
-        Some(bytes) => escaped(out, bytes),
+        Some(bytes) => write_shown(out, bytes),
     }
 }
 
@@ -87,7 +88,7 @@ fn port(out: &mut String, port: Option<u16>) -> Result<(), AllocError> {
 /// Appends the path without query and fragment.
 fn path(alloc: Global, out: &mut String, url: &Url) -> Result<(), AllocError> {
     let parts = components(alloc, url)?;
-    let path = escaped(out, parts.path.as_bytes());
+    let path = write_shown(out, parts.path.as_bytes());
     drop(parts);
     path
 }
@@ -121,9 +122,4 @@ fn own_text(alloc: Global, out: &mut String, url: &Url) -> Result<(), AllocError
     let shown = bytes(out, text.as_ref().map(|it| it.as_str().as_bytes()));
     drop(text);
     shown
-}
-
-/// Appends bytes, with their control characters, backslashes and bytes that are not UTF-8 escaped.
-fn escaped(out: &mut String, bytes: &[u8]) -> Result<(), AllocError> {
-    write!(out, "{:?}", BStr::new(bytes))
 }

@@ -1,6 +1,7 @@
 //! The command line of `explain`, read by `clap`. It has no contract but that it can't abort.
 
 use crate::only::Part;
+use crate::paint::Colors;
 use crate::style::{Layout, Style};
 use clap::{Arg, ArgAction, ArgMatches, Command};
 use std::alloc::{AllocError, Global};
@@ -28,12 +29,12 @@ pub fn given<'a>(alloc: Global, words: &'a [String]) -> Result<ArgMatches<'a>, c
 }
 
 /// How answers are to be laid out. `auto` decides on colours where the command line leaves that open.
-pub fn style(given: &ArgMatches<'_>, auto: bool) -> Style {
+pub fn style(given: &ArgMatches<'_>, auto: Colors) -> Style {
     Style {
         layout: layout(given),
-        is_coloured: match given.get_str("color") {
-            Some("always") => true,
-            Some("never") => false,
+        colors: match given.get_str("color") {
+            Some("always") => Colors::On,
+            Some("never") => Colors::Off,
             _ => auto,
         },
         end: if given.get_flag("null") { 0 } else { b'\n' },

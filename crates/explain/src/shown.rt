@@ -8,10 +8,12 @@ use crate::answer::Line;
 use crate::danger::dangers;
 use crate::git_told::HANDED;
 use crate::hint::Hint;
+use crate::line::{Quoted, SeenLine};
+use crate::paint::{self, Colors};
 use crate::path::{Components, Field, Home};
 use crate::refusal::Refusal;
+use crate::split::Cut;
 use crate::told::Told;
-use bstr::BStr;
 use gix_url::Url;
 use std::alloc::{AllocError, Global};
 use std::fmt::{Display, Write};
@@ -22,11 +24,15 @@ pub fn location(
     line: Line<'_>,
     url: &Url,
     told: &Told<'_>,
+    seen: &SeenLine<'_>,
     found: &[Hint],
 ) -> Result<String, AllocError> {
     let mut out = String::new(alloc);
     heading(&mut out, line.number, url, told)?;
-    text(&mut out, told)?;
+    if let Some(cut) = &seen.cut {
+        paint::split(&mut out, cut, line.style.colors)?;
+    }
+    text(&mut out, told, seen)?;
     parts(&mut out, url, told)?;
     components(&mut out, &told.components)?;
     on_files(&mut out, told)?;
@@ -45,26 +51,53 @@ fn heading(out: &mut String, number: u64, url: &Url, told: &Told<'_>) -> Result<
     out.push('\n')
 }
 
-/// The rows of the text, with what Git reads in it.
-fn text(out: &mut String, told: &Told<'_>) -> Result<(), AllocError> {
+/// The rows of the text, unless it is the line as it was shown, and of what Git reads in it.
+fn text(out: &mut String, told: &Told<'_>, seen: &SeenLine<'_>) -> Result<(), AllocError> {
     let Some(text) = &told.text else {
         return Ok(());
     };
-    quoted(out, "text", text.as_str())?;
+    if !is_shown(seen, text.as_str()) {
+        quoted(out, "text", text.as_str())?;
+    }
     row(out, "git", reading_of_git(told))
 }
 
-/// A refusal: its heading and its hints.
+/// Whether the line was shown whole, and is this text.
+fn is_shown(seen: &SeenLine<'_>, text: &str) -> bool {
+    match (&seen.cut, seen.text()) {
+        (Some(cut), Some(line)) => line == text && !paint::is_long(cut),
+        _ => false,
+    }
+}
+
+/// A refusal: its heading, the line with the fault marked, and its hints.
 pub fn refusal(
     alloc: Global,
     line: Line<'_>,
     refusal: &Refusal,
+    seen: &SeenLine<'_>,
     found: &[Hint],
 ) -> Result<String, AllocError> {
     let mut out = String::new(alloc);
     writeln!(out, "line {}: refused: {}", line.number, refusal.words)?;
+    if let Some(cut) = &seen.cut {
+        refused_line(&mut out, cut, refusal, line.style.colors)?;
+    }
     hints(&mut out, found)?;
     Ok(out)
+}
+
+/// A refused line, with a mark under the fault where its place is known.
+fn refused_line(
+    out: &mut String,
+    cut: &Cut<'_>,
+    refusal: &Refusal,
+    colors: Colors,
+) -> Result<(), AllocError> {
+    match (refusal.at, refusal.len) {
+        (Some(at), Some(len)) => paint::caret(out, cut, at, len, colors),
+        _ => paint::line(out, cut, colors),
+    }
 }
 
 /// The rows of the hints.
@@ -82,8 +115,7 @@ fn row<D: Display + Drop>(out: &mut String, name: &str, what: D) -> Result<(), A
 
 /// A row with a text in quotes.
 fn quoted(out: &mut String, name: &str, text: &str) -> Result<(), AllocError> {
-    let text = BStr::from(text);
-    row(out, name, format_args!("{text:?}"))
+    row(out, name, Quoted(text.as_bytes()))
 }
 
 /// The rows of the fields.
@@ -114,11 +146,11 @@ fn port(out: &mut String, told: &Told<'_>) -> Result<(), AllocError> {
 /// The rows of the path, and of how it was spelled where that is another text.
 fn paths(out: &mut String, url: &Url) -> Result<(), AllocError> {
     let (path, spelled) = (url.path.as_bstr(), url.original_path());
-    row(out, "path", format_args!("{path:?}"))?;
+    row(out, "path", Quoted(path.as_bytes()))?;
     if spelled.as_bytes() == path.as_bytes() {
         return Ok(());
     }
-    row(out, "spelled", format_args!("{spelled:?}"))
+    row(out, "spelled", Quoted(spelled.as_bytes()))
 }
 
 /// What Git reads in the text of the location, in words.
@@ -149,10 +181,10 @@ fn components(out: &mut String, told: &Components<'_>) -> Result<(), AllocError>
 fn query(out: &mut String, fields: &[Field]) -> Result<(), AllocError> {
     for field in fields {
         let (name, value) = (
-            BStr::from(field.name.as_str()),
-            BStr::from(field.value.as_str()),
+            Quoted(field.name.as_str().as_bytes()),
+            Quoted(field.value.as_str().as_bytes()),
         );
-        row(out, "query", format_args!("{name:?} is {value:?}"))?;
+        row(out, "query", format_args!("{name} is {value}"))?;
     }
     Ok(())
 }
@@ -170,16 +202,16 @@ fn on_files(out: &mut String, told: &Told<'_>) -> Result<(), AllocError> {
 
 /// The row of a home folder.
 fn home_folder(out: &mut String, home: &Home) -> Result<(), AllocError> {
-    let below = BStr::from(home.below.as_str());
+    let below = Quoted(home.below.as_str().as_bytes());
     match &home.user {
         None => row(
             out,
             "home",
-            format_args!("of the current user, below it {below:?}"),
+            format_args!("of the current user, below it {below}"),
         ),
         Some(user) => {
-            let user = BStr::from(user.as_str());
-            row(out, "home", format_args!("of {user:?}, below it {below:?}"))
+            let user = Quoted(user.as_str().as_bytes());
+            row(out, "home", format_args!("of {user}, below it {below}"))
         }
     }
 }

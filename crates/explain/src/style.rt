@@ -1,6 +1,7 @@
 //! How answers are laid out, and what was seen while they were given.
 
 use crate::only::Part;
+use crate::paint::Colors;
 use gix_url::lines::RunError;
 
 /// How lines are read and answers laid out.
@@ -8,7 +9,7 @@ use gix_url::lines::RunError;
 pub struct Style {
     pub layout: Layout,
     /// Whether answers for people are coloured.
-    pub is_coloured: bool,
+    pub colors: Colors,
     /// The byte that ends a line of the input.
     pub end: u8,
 }

@@ -12,6 +12,7 @@ ghost use Rattle.gix_url.specs.Settled.{IsSettled};
 use crate::difference::Reread;
 use crate::git_told::GitReads;
 use crate::path::{Components, Home, Meaning};
+use crate::split::{Fields, Form};
 use bstr::ByteSlice;
 use gix_url::{ArgumentSafety, Scheme, Url};
 use serde::Serialize;
@@ -60,16 +61,6 @@ pub struct Told<'a> {
     pub git_reads: Option<GitReads>,
     /// What its own text is read as, where it is not settled.
     pub reread: Option<Reread>,
-}
-
-/// The form that a location is written in.
-#[derive(Clone, Copy, Serialize)]
-#[serde(rename_all = "snake_case")]
-pub enum Form {
-    RemoteHelper,
-    Url,
-    Scp,
-    Local,
 }
 
 /// What the parts of a location are to a command line.
@@ -212,6 +203,27 @@ fn form_of(url: &Url) -> Form {
         | Scheme::Http
         | Scheme::Https
         | Scheme::HelperUrl(_) => Form::Url,
+    }
+}
+
+/// What is read of the location, for the pieces of its line.
+pub(crate) fn fields_of(url: &Url) -> Fields<'_> {
+    Fields {
+        form: form_of(url),
+        scheme: url.scheme.as_str().as_bytes(),
+        user: bytes_of(url.user()),
+        password: bytes_of(url.password()),
+        host: bytes_of(url.host()),
+        port: url.port,
+        path: url.path.as_bytes(),
+    }
+}
+
+/// The bytes of a part.
+fn bytes_of(part: Option<&str>) -> Option<&[u8]> {
+    match part {
+        None => None,
+        Some(text) => Some(text.as_bytes()),
     }
 }
 
