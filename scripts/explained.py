@@ -274,7 +274,7 @@ def is_page(v):
 
 HINTS = {
     "colon_for_slash": lambda line, v: v is None and COLON_FOR_SLASH.match(line),
-    "no_scheme": lambda line, v: is_form(v, "local") and re.match(HOST_NAME + rb"/.", line),
+    "no_scheme": lambda line, v: is_form(v, "local") and re.match(HOST_NAME + rb"/.", line, re.S),
     "windows_path": lambda line, v: is_form(v, "scp") and re.match(rb"[A-Za-z]:(?:\\|/(?!~))", line),
     "capital_scheme": lambda line, v: CAPITALS.match(line),
     "carriage_return": lambda line, v: line.endswith(b"\r"),
@@ -287,7 +287,7 @@ HINTS = {
     "unencrypted": lambda line, v: is_scheme(v, "Http") and not v.user is v.password is None,
     "pasted_command": lambda line, v: line.startswith(COMMANDS),
     "web_page": lambda line, v: is_scheme(v, "Http", "Https") and is_page(v),
-    "slash_for_colon": lambda line, v: is_form(v, "local") and re.match(rb"[\w.-]+@" + HOST_NAME + rb"/.", line),
+    "slash_for_colon": lambda line, v: is_form(v, "local") and re.match(rb"[\w.-]+@" + HOST_NAME + rb"/.", line, re.S),
     "quotes": lambda line, v: len(line) > 1 and (line[:1], line[-1:]) in QUOTES,
 }
 
