@@ -105,7 +105,7 @@ def a_byte_at_a_time(path):
 def end_of_a_terminal(path):
     """The end of input on a terminal, typed behind an unended line, ends the run: what is typed then is left to the shell."""
     terminal, streams = pty.openpty()
-    started = subprocess.Popen([path], stdin=streams, stdout=subprocess.PIPE, stderr=subprocess.STDOUT)
+    started = subprocess.Popen([path], stdin=streams, stdout=subprocess.PIPE, stderr=subprocess.DEVNULL)
     os.write(terminal, b"h:p\x04\x04next\n")
     try:
         said = started.communicate(timeout=20)[0]

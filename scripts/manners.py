@@ -43,6 +43,9 @@ CALLS = [
     Call("explain", ["-q", b"\xff"], status=2, reported=b"explain: an argument is not UTF-8"),
     Call("explain", ["-q", ""], status=1),
     Call("explain", ["--only=path"], b""),
+    Call("explain", ["--color=never", "http://h:0/"], status=1, shown=b"line 1: refused: the port of HTTP must not be 0\n    http://h:0/\n             ^\n"),
+    Call("explain", ["--color=always", "http://h:0/"], status=1,
+         shown=b"line 1: refused: the port of HTTP must not be 0\n    http://h:0/\n             \x1b[1;31m^\x1b[0m\n"),
 ]
 # The options that print what a program is, and the file of its crate that its launcher prints for them.
 OF_ITSELF = {"--help": "help", "-h": "help", "--version": "version", "-V": "version"}
@@ -74,9 +77,29 @@ def terminal_faults(program):
         yield f"{program} on a terminal: {started.returncode}, {said!r}"
 
 
+def is_coloured(**variables):
+    """Whether answers that go to a terminal are coloured, with these variables set."""
+    terminal, streams = pty.openpty()
+    environment = {name: value for name, value in os.environ.items() if name not in ("NO_COLOR", "TERM")}
+    subprocess.run([built("explain", "run"), "h:p"], stdin=subprocess.DEVNULL, stdout=streams, env={**environment, **variables}, timeout=20)
+    shown = os.read(terminal, 4096)
+    os.close(streams)
+    os.close(terminal)
+    return b"\x1b[" in shown
+
+
+def colour_faults():
+    """Answers are coloured on a terminal that can show colours, unless NO_COLOR says otherwise; never elsewhere."""
+    if not is_coloured(TERM="xterm") or not is_coloured(TERM="xterm", NO_COLOR=""):
+        yield "answers are not coloured on a terminal"
+    for variables in ({}, {"TERM": "dumb"}, {"TERM": "xterm", "NO_COLOR": "1"}):
+        if is_coloured(**variables):
+            yield f"answers are coloured with {variables}"
+
+
 def check(_room):
     of_itself = [Call(it, [option], shown=stored(it, file)) for it in PROGRAMS for option, file in OF_ITSELF.items()]
     calls = [*CALLS, *of_itself]
     faults = [it for it in map(fault_of, calls) if it]
-    faults += [fault for it in PROGRAMS for fault in terminal_faults(it)]
+    faults += [*colour_faults(), *(fault for it in PROGRAMS for fault in terminal_faults(it))]
     return faults, [f"{len(calls)} command lines, and {len(PROGRAMS)} programs that read a terminal"]

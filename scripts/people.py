@@ -42,6 +42,15 @@ def written_by_hand():
         yield "people are shown other lines, the same in another order, or fewer of them"
 
 
+def in_colours():
+    """Where answers in colours are other ones, or the first coloured lines are not as they were written by hand."""
+    ran = subprocess.run([built("explain", "run"), "--color=always"], input=stored("stdin"), stdout=subprocess.PIPE, timeout=60)
+    if re.sub(rb"\x1b\[[0-9;]*m", b"", ran.stdout) != stored("stdout"):
+        yield "in colours people are shown something else"
+    colored, wanted = [it for it in ran.stdout.splitlines() if b"\x1b" in it], stored("colored").splitlines()
+    yield from (f"in colours people are shown {got!r}, and not {want!r}" for got, want in zip(colored, wanted) if got != want)
+
+
 def false_alarms(lines):
     """The lines about which people are alarmed."""
     return [line for line, answer in zip(lines, shown(lines)[1]) if ALARM.search(answer)]
@@ -51,7 +60,7 @@ def check(_room):
     made = subprocess.run([sys.executable, f"{ROOT}/scripts/remotes.py"], stdout=subprocess.PIPE, check=True, timeout=60).stdout
     plain = [it for it in made.splitlines() if PLAIN.fullmatch(it) and not OPTION.search(it)]
     bad = stored("alarms").splitlines()
-    faults = [*written_by_hand(), *(f"a false alarm about {it!r}" for it in false_alarms(plain))]
+    faults = [*written_by_hand(), *in_colours(), *(f"a false alarm about {it!r}" for it in false_alarms(plain))]
     faults += [f"no alarm about {it!r}" for it in sorted({*bad} - {*false_alarms(bad)})]
     if len(plain) < 400:
         faults.append(f"only {len(plain)} of the remotes are plain")

@@ -1,6 +1,8 @@
 //! The command line of `locations`, read by `clap`. It has no contract but that it can't abort.
 
+use clap::error::ErrorKind;
 use clap::{Arg, ArgAction, ArgMatches, Command};
+use gix_url::lines::{self, RunError};
 use std::alloc::{AllocError, Global};
 use std::rt::Env;
 use std::{env, io};
@@ -29,24 +31,42 @@ Exit status: 0 if every line is settled, 1 if one is not, 2 for wrong arguments 
 
 /// What the command line asks for; or the status to end with, once what there is to say was said.
 pub fn asked(rt: &(impl Env + AllocGlobal + Print + Eprint)) -> Result<Labels, u8> {
-    let Ok(words) = words(rt) else {
-        // Where standard error takes no line, the status still reports the fault.
-        let _ = rt.eprintln("locations: an argument is not UTF-8, or memory is refused");
-        return Err(2);
+    let words = match words(rt) {
+        Ok(words) => words,
+        Err(error) => {
+            // Where standard error takes no line, the status still reports the fault.
+            let _ = rt.eprintln(match error.kind() {
+                io::ErrorKind::InvalidData => "locations: an argument is not UTF-8",
+                _ => lines::fault_line(&RunError::Memory),
+            });
+            return Err(2);
+        }
     };
+    if words.len() < 2 {
+        return Ok(Labels {
+            number: false,
+            input: false,
+        });
+    }
     let given = options(rt.alloc(), words.as_slice());
     let labels = match &given {
         Ok(given) => Ok(Labels {
             number: given.get_flag("number"),
             input: given.get_flag("with-input"),
         }),
-        Err(error) => {
-            let _ = error.print(rt);
-            Err(if error.use_stderr() { 2 } else { 0 })
-        }
+        Err(error) => Err(refused(rt, error)),
     };
     drop(given);
     labels
+}
+
+/// Prints what is printed in place of answers, and returns the status to end with.
+fn refused(rt: &(impl Print + Eprint), error: &clap::Error) -> u8 {
+    let _ = match error.kind() {
+        ErrorKind::OutOfMemory => rt.eprintln(lines::fault_line(&RunError::Memory)),
+        _ => error.print(rt),
+    };
+    if error.use_stderr() { 2 } else { 0 }
 }
 
 /// The words of the command line, the program's name first.
