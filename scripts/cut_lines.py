@@ -1,0 +1,150 @@
+"""What of a line is shown: the program `explain` over lines with a marked secret, in both layouts.
+
+The lines are short inputs, remotes as people have them, and changes by chance of lines with a password. The secret never
+goes out where it is read as a password, nor of a refused line where it may be one; the member `input` is what the second
+reading says; and for people each piece stands for the field that the second reading has. No answer holds a control character.
+"""
+import collections
+import json
+import random
+import re
+import subprocess
+import sys
+import unicodedata
+
+import explained
+import oracle
+from kit import ROOT, program
+
+SECRET = b"S3cr3tZ"
+SEEDS = [
+    b"http://u:%s@h/p", b"https://us%%40er:%s@Example.com:8443/my%%20repo?a=b#c", b"ssh://u:%s@h:22/~x", b"git://u:%s@[::1]:9418/r", b"x://:%s@h",
+    b"ssh+git://a@b:%s@[FE80::1]/p", b"http://u:%s@h:x/", b"http://u:p%s@ss@h/", b"file://u:%s@h/p", b"ext://u:%s@h/p", b"ftp://u:%s@a:b:c/p",
+    b"http://u:%s@[FE80::1%%25Eth0]:/p", b"ssh://u:%s@h%%3A/p", b"git://u:%s@FE80::1/p", b"x://u:%s@h%%41B/p", b"http://u:%s@h", b"http://u:%s/x@h/",
+    b"1x://u:%s@h/", b"ssh://u:%s@", b"http://a:b:%s@h/p"]
+PUT = [b":", b"/", b"@", b"[", b"]", b"%", b"%40", b"%3A", b"%2F", b".", b"a", b"?", b"#", b"\\", b"1", b" ", b"\x1b", b"\xff", b"\xc3\xa9", b"\xe6\xbc\xa2",
+       b"\xe2\x80\x8f", b"-", b"~", b"::", b"://", b"\t", b"\x00", b"\x7f"]
+NAMES = ("scheme", "user", "password", "host", "port", "path", "query", "fragment", "helper", "address")
+ROW = re.compile(r"    (text|git) {8,9}\S")
+ESCAPE = re.compile(r"\\(\\|0|t|n|r|x[0-9a-f]{2}|u\{[0-9a-f]+\})")
+PLAIN = {"\\": b"\\", "0": b"\0", "t": b"\t", "n": b"\n", "r": b"\r"}
+CONTROL = re.compile(r"[^\n\x20-\x7e\xa1-\U0010ffff]")
+
+
+def changed(line, chance):
+    """The line with up to three bytes put in, taken out or replaced, and the secret left whole."""
+    for _ in range(chance.choice((0, 1, 1, 2, 3))):
+        at, size = chance.randrange(len(line) + 1), chance.choice((0, 0, 1))
+        new = line[:at] + chance.choice((*PUT, b"" if size else b"a")) + line[at + size:]
+        line = new if SECRET in new else line
+    return line
+
+
+def lines(count, seed=1):
+    chance = random.Random(seed)
+    made = subprocess.run([sys.executable, f"{ROOT}/scripts/remotes.py"], stdout=subprocess.PIPE, check=True, timeout=60).stdout
+    secrets = (SECRET, SECRET, SECRET + b"%40x", b"%41" + SECRET, b"\xc3\xbc" + SECRET)
+    changes = [changed(chance.choice(SEEDS) % chance.choice(secrets), chance) for _ in range(count)]
+    return list(dict.fromkeys([*oracle.short_inputs(), *made.split(b"\n")[:-1], *changes]))
+
+
+def answers(given, *words):
+    ran = subprocess.run([program("explain"), *words], input=b"".join(it + b"\n" for it in given), stdout=subprocess.PIPE, timeout=300)
+    return re.split(r"(?m)^(?=line \d+: )", ran.stdout.decode())[1:] if not words else ran.stdout.decode().split("\n")[:-1]
+
+
+def is_secret(v, line):
+    """Whether the secret is read as a password, or may be one."""
+    if v is not None:
+        return v.password is not None and SECRET in v.password
+    place = explained.secret_of_refused(line)
+    return place is not None and SECRET in line[place[0]:place[1]]
+
+
+def unescaped(text):
+    """The bytes that are shown so."""
+    out, end = b"", 0
+    for found in ESCAPE.finditer(text):
+        it = found[1]
+        byte = PLAIN.get(it) or (bytes([int(it[1:], 16)]) if it[0] == "x" else chr(int(it[2:-1], 16)).encode())
+        out, end = out + text[end:found.start()].encode() + byte, found.end()
+    return out + text[end:].encode()
+
+
+def columns(text):
+    """The characters by their columns: behind a wide one a control character, which no line is shown with."""
+    return "".join(it + "\x00" if unicodedata.east_asian_width(it) in "WF" else it for it in text)
+
+
+def runs(row, places):
+    """Where the lines under pieces begin and end: two that touch, the second of one column, are told apart by the names."""
+    for run in re.finditer("-+", row):
+        cuts = [run.start(), *(it for it in sorted(places) if run.start() < it < run.end()), run.end()]
+        yield from zip(cuts, cuts[1:])
+
+
+def named(answer):
+    """The pieces with a name of a line that people are shown: the bytes of each."""
+    rows = [it[4:] for it in answer.split("\n")[1:]]
+    shown, below = columns(rows[0]), rows[1:]
+    if not re.fullmatch(r"[ -]*-", below[0]):
+        return {}
+    end = next(n for n, it in enumerate(below) if ROW.match("    " + it))
+    places = {found.start(): found[0] for row in below[1:end] for found in re.finditer(r"[a-z]+", row)}
+    found, behind = {}, 0
+    for begin, end in runs(below[0], places):
+        front = begin - (places[begin] == "path" and begin == behind + 1 and shown[behind] == "/")
+        found[places[begin]], behind = unescaped(shown[front:end].replace("\x00", "")), end
+    return found
+
+
+def is_of_fields(v, found, line):
+    """Whether the pieces stand for what is read. What stands on the web behind a path is told by the library's parts."""
+    form = explained.form(v)
+    if form == "remote_helper":
+        return found.get("address", b"") == v.path and found.get("helper", oracle.as_str(v.scheme)) == oracle.as_str(v.scheme)
+    if form == "local":
+        return found == {"path": line}
+    is_web, decoded = v.scheme in oracle.HTTP_SCHEMES, oracle.dec if form == "url" and v.scheme[0] != "File" else bytes
+    host, path = (found.get("host", b"") if is_web else decoded(found.get("host", b""))), decoded(found.get("path", b""))
+    wanted, _, fragment = oracle.parts(v) if is_web else (v.path, None, None)
+    return (decoded(found.get("user", b"")) == (v.user or b"") and found.get("password") == (v.password and b"redacted")
+            and host.lower() == (v.host or b"").lower() and found.get("port", b"").lstrip(b"0") == (b"%d" % v.port if v.port else b"")
+            and (path == wanted or path == b"/" + wanted or (is_web and not path and wanted == b"/"))
+            and decoded(found.get("fragment", b"")) == (fragment or b""))
+
+
+def kind_of(v, line, found):
+    """How the line was shown."""
+    if v is None:
+        return "refused, with a word" if explained.secret_of_refused(line) else "refused"
+    return "cut" if found else "hidden" if explained.shown_line(line) is None else "whole"
+
+
+def faults_of(line, told, answer):
+    """What is wrong with the answers to a line, and how it was shown."""
+    v, found = oracle.spells(line), {}
+    faults = ["a control character is shown"] if CONTROL.search(answer) else []
+    if is_secret(v, line) and SECRET.decode() in told + answer:
+        faults.append("the secret is shown")
+    wanted = explained.shown_line(line)
+    if json.loads(told)["input"] != wanted:
+        faults.append(f"`input` isn't {wanted!r}")
+    if v is not None and wanted is not None and len(answer.split("\n")[1]) <= 204:
+        found = named(answer)
+        if found and not is_of_fields(v, found, line):
+            faults.append(f"the pieces {found} don't stand for {v}")
+    return faults, kind_of(v, line, found)
+
+
+def check(_room, count=3_000):
+    given = lines(count)
+    told, shown = answers(given, "--json"), answers(given)
+    faults, kinds = [], collections.Counter()
+    for line, one, other in zip(given, told, shown, strict=True):
+        wrong, kind = faults_of(line, one, other)
+        kinds[kind] += 1
+        faults += [f"{it}: {line!r}" for it in wrong]
+    if kinds["whole"] * 100 > kinds["cut"]:
+        faults.append("more than a hundredth of the lines are shown without names")
+    return faults[:50], [f"{len(given)} lines: " + ", ".join(f"{kinds[it]} {it}" for it in sorted(kinds))]
