@@ -6,8 +6,11 @@
 
 mod coming;
 mod copies;
+mod from_arguments;
+mod from_input;
 mod parts;
 mod paths;
 mod reading;
+mod ssh;
 mod types;
 mod writing;
