@@ -1,9 +1,9 @@
 //! Where in a refused line the fault is, and which fault it is.
 //!
 //! It looks at the line again by the rules of `docs/GRAMMAR.md`, with `bstr` and std's reader of addresses, and takes
-//! no memory. Of the flaws with the error that the line is refused for it finds the first in the line, and of those at
-//! one place the first in the order of the checks. Its contract: a place lies in the line. Which place and which
-//! reason it is, the stored run shows, which `scripts/places.py` finds by another way.
+//! no memory. Of the flaws with the error that the line is refused for it finds the first in the line, and of several
+//! at one place the first in the order of the checks. Its contract: a place lies within the line. Which place and which
+//! reason are found is tested: the stored run has them from a second reading, `scripts/places.py`.
 
 ghost use Rattle.std.specs.Prelude.{◌≡◌, ◌+◌, ◌≤◌, ◌<◌, ℕ, List, IfSome, length};
 ghost use Rattle.explain.specs.Places.{LiesIn};
@@ -160,11 +160,13 @@ impl fmt::Display for Reason {
     }
 }
 
-/// A piece of the line, by where it begins and ends.
+/// A piece of the line, which knows where in the line it is.
 #[derive(Clone, Copy)]
 struct Piece<'a> {
     line: &'a [u8],
+    /// Where it begins.
     start: usize,
+    /// Where it ends: behind its last byte.
     end: usize,
     ghost ordered: { start ≤ end },
     ghost within: { end ≤ length line.now },
@@ -189,7 +191,7 @@ impl<'a> Piece<'a> {
         self.line.split_at(self.end).0.split_at(self.start).1
     }
 
-    /// What stands before this index and from it on, if the piece is long enough.
+    /// The bytes before this index, and those from it on, if the piece is long enough.
     fn split_at(self, index: usize) -> Option<(Piece<'a>, Piece<'a>)>
         ensures { IfSome result (λ p. (p.0.line.now ≡ self.entry.line.now) × (p.1.line.now ≡ self.entry.line.now)) }
     {
@@ -210,7 +212,7 @@ impl<'a> Piece<'a> {
         Some((front, back))
     }
 
-    /// What stands before and behind so many bytes at this index.
+    /// The pieces before and behind so many bytes at this index.
     fn split_around(self, index: usize, len: usize) -> Option<(Piece<'a>, Piece<'a>)>
         ensures { IfSome result (λ p. (p.0.line.now ≡ self.entry.line.now) × (p.1.line.now ≡ self.entry.line.now)) }
     {
@@ -219,7 +221,7 @@ impl<'a> Piece<'a> {
         Some((front, back))
     }
 
-    /// What stands before and behind the first `c`.
+    /// The pieces before and behind the first `c`.
     fn cut(self, c: u8) -> Option<(Piece<'a>, Piece<'a>)>
         ensures { IfSome result (λ p. (p.0.line.now ≡ self.entry.line.now) × (p.1.line.now ≡ self.entry.line.now)) }
     {
@@ -227,7 +229,7 @@ impl<'a> Piece<'a> {
         self.split_around(at, 1)
     }
 
-    /// What stands before and behind the last `c`.
+    /// The pieces before and behind the last `c`.
     fn last_cut(self, c: u8) -> Option<(Piece<'a>, Piece<'a>)>
         ensures { IfSome result (λ p. (p.0.line.now ≡ self.entry.line.now) × (p.1.line.now ≡ self.entry.line.now)) }
     {
@@ -235,7 +237,7 @@ impl<'a> Piece<'a> {
         self.split_around(at, 1)
     }
 
-    /// A fault that is the whole piece.
+    /// The place of a fault that is the whole piece.
     fn place(self, reason: Reason) -> Option<Place>
         ensures { LiesIn self.entry.line.now result }
     {
@@ -246,7 +248,7 @@ impl<'a> Piece<'a> {
         })
     }
 
-    /// Something that is missing before the piece.
+    /// The place of something that is missing before the piece.
     fn missing_before(self, reason: Reason) -> Option<Place>
         ensures { LiesIn self.entry.line.now result }
     {
@@ -257,7 +259,7 @@ impl<'a> Piece<'a> {
         })
     }
 
-    /// Something that is missing behind the piece.
+    /// The place of something that is missing behind the piece.
     fn missing_behind(self, reason: Reason) -> Option<Place>
         ensures { LiesIn self.entry.line.now result }
     {
@@ -268,7 +270,7 @@ impl<'a> Piece<'a> {
         })
     }
 
-    /// A fault of so many bytes of the piece, from this index on.
+    /// The place of a fault of so many bytes of the piece, from this index on.
     fn part(self, index: usize, len: usize, reason: Reason) -> Option<Place>
         ensures { LiesIn self.entry.line.now result }
     {
@@ -290,11 +292,16 @@ pub fn find_place(line: &[u8], refused: Refused) -> Option<Place>
         Refused::BadPort(Form::Scp)
         | Refused::BadCharacter(Form::Scp)
         | Refused::NoHost(Form::Scp) => in_scp(whole, refused),
-        _ => in_url(whole, refused),
+        Refused::TooLong
+        | Refused::NoScheme
+        | Refused::BadPort(Form::Url)
+        | Refused::BadCharacter(Form::Url)
+        | Refused::NoHost(Form::Url)
+        | Refused::NoPath(Form::Url) => in_url(whole, refused),
     }
 }
 
-/// The first bytes that are no UTF-8.
+/// The first bytes that are not UTF-8.
 fn not_utf8(piece: Piece<'_>) -> Option<Place>
     ensures { LiesIn piece.entry.line.now result }
 {
@@ -467,7 +474,7 @@ fn behind_user(web: bool, host: Piece<'_>) -> Option<Place>
     in_host(web, host)
 }
 
-/// The escapes of user and password that stand for no text.
+/// The first escapes of user or password that are not UTF-8.
 fn in_information(information: Piece<'_>) -> Option<Place>
     ensures { LiesIn information.entry.line.now result }
 {
@@ -524,7 +531,7 @@ fn in_brackets(web: bool, piece: Piece<'_>) -> Option<Place>
     earlier(in_inner(web, inner), behind_bracket(back))
 }
 
-/// What stands behind a bracket, before a colon.
+/// The bytes between a closing bracket and a colon, or the end.
 fn behind_bracket(back: Piece<'_>) -> Option<Place>
     ensures { LiesIn back.entry.line.now result }
 {
@@ -564,7 +571,7 @@ fn is_address(piece: Piece<'_>) -> bool {
     Ipv6Addr::parse_ascii(piece.bytes()).is_ok()
 }
 
-/// Whether the text is `25`, as it stands behind a `%`, and a zone.
+/// Whether the text behind a `%` is `25` and a zone.
 fn is_escaped_zone(escaped: Piece<'_>) -> bool {
     let Some((mark, zone)) = escaped.split_at(2) else {
         return false;
@@ -631,7 +638,7 @@ fn bad_port(web: bool, piece: Piece<'_>) -> Option<Place>
     }
 }
 
-/// What stands in the place of a port.
+/// The bytes in the place of a port.
 fn port_of<'a>(piece: Piece<'a>) -> Option<Piece<'a>>
     ensures { IfSome result (λ p. p.line.now ≡ piece.entry.line.now) }
 {
@@ -661,7 +668,7 @@ fn in_scp(line: Piece<'_>, refused: Refused) -> Option<Place>
     }
 }
 
-/// What stands before the colon of the scp form: the first one, or the first behind brackets at the front.
+/// The bytes before the colon of the scp form: the first one, or the first behind brackets at the front.
 fn scp_front<'a>(line: Piece<'a>) -> Option<Piece<'a>>
     ensures { IfSome result (λ p. p.line.now ≡ line.entry.line.now) }
 {
@@ -755,7 +762,7 @@ fn starts_with_scheme_byte(rest: &[u8]) -> bool {
     }
 }
 
-/// The byte that the escape at the front stands for, and the text behind it.
+/// The byte that the escape at the front decodes to, and the text behind it.
 fn escape(text: &[u8]) -> Option<(u8, &[u8])>
     ensures { IfSome result (λ p. length p.1.now ≤ length text.now) }
 {
@@ -777,7 +784,7 @@ fn digit(byte: u8) -> Option<u8>
     }
 }
 
-/// The first escapes of the piece that stand for no text. What isn't escaped is text.
+/// The first escapes of the piece that decode to bytes that are not UTF-8. What isn't escaped is UTF-8.
 fn undecodable(piece: Piece<'_>) -> Option<Place>
     ensures { LiesIn piece.entry.line.now result }
 {
@@ -814,7 +821,7 @@ fn decoded_front(text: &[u8]) -> ([u8; 4], usize)
     (window, 4)
 }
 
-/// How many bytes of the text stand for so many that it decodes to.
+/// The number of bytes of the text that decode to its first `count` bytes.
 fn encoded_len(text: &[u8], count: usize) -> usize
     ensures { result ≤ length text.now }
 {
