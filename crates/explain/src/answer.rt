@@ -5,7 +5,7 @@
 //! `shown` lays that out for people, `only` one part of it, and with `--json` it goes out as one object. It has no
 //! contract but that it can't abort: the stored run and `scripts/hostile` show its answers.
 
-use crate::hint::{self, Hint};
+use crate::hint::{self, Hint, Reading};
 use crate::line::SeenLine;
 use crate::only::{self, Part};
 use crate::refusal::Refusal;
@@ -61,24 +61,26 @@ impl<'l> Line<'l> {
     fn location(self, alloc: Global, url: &Url) -> Result<(String, bool), AllocError> {
         let seen = SeenLine::located(alloc, self.bytes, &fields_of(url))?;
         let (seen, told) = both(seen, Told::of(alloc, url))?;
+        let found = hint::found(alloc, self.bytes, Some(Reading::of(url, &told)));
+        let ((seen, told), found) = both((seen, told), found)?;
         let is_settled = told.settled;
-        let answer = self.laid_out(alloc, url, &told, &seen);
+        let answer = self.laid_out(alloc, url, &told, &seen, found.as_slice());
+        drop(found);
         drop(told);
         drop(seen);
         Ok((answer?, is_settled))
     }
 
     /// The answer to a line that is read as a location.
-    fn laid_out(
+    fn laid_out<'x>(
         self,
         alloc: Global,
         url: &Url,
-        told: &Told<'_>,
-        seen: &SeenLine<'_>,
+        told: &'x Told<'_>,
+        seen: &'x SeenLine<'_>,
+        hints: &'x [Hint],
     ) -> Result<String, AllocError> {
-        let found = hint::found(alloc, self.bytes, Some(hint::Reading::of(url, told)))?;
-        let hints = found.as_slice();
-        let answer = match self.style.layout {
+        match self.style.layout {
             Layout::Json => json(
                 alloc,
                 &Answer {
@@ -90,9 +92,7 @@ impl<'l> Line<'l> {
                 },
             ),
             _ => shown::location(alloc, self, url, told, seen, hints),
-        };
-        drop(found);
-        answer
+        }
     }
 
     /// What is reported of a line that is read as no location: that it isn't settled, and why, unless memory is refused.
@@ -110,22 +110,24 @@ impl<'l> Line<'l> {
     fn refusal(self, alloc: Global, error: &Error) -> Result<String, AllocError> {
         let seen = SeenLine::refused(alloc, self.bytes)?;
         let (seen, refusal) = both(seen, Refusal::of_line(alloc, self.bytes, error))?;
-        let answer = self.laid_out_refusal(alloc, &refusal, &seen);
+        let found = hint::found(alloc, self.bytes, None);
+        let ((seen, refusal), found) = both((seen, refusal), found)?;
+        let answer = self.laid_out_refusal(alloc, &refusal, &seen, found.as_slice());
+        drop(found);
         drop(refusal);
         drop(seen);
         answer
     }
 
     /// The answer to a line that is refused.
-    fn laid_out_refusal(
+    fn laid_out_refusal<'x>(
         self,
         alloc: Global,
-        refusal: &Refusal,
-        seen: &SeenLine<'_>,
+        refusal: &'x Refusal,
+        seen: &'x SeenLine<'_>,
+        hints: &'x [Hint],
     ) -> Result<String, AllocError> {
-        let found = hint::found(alloc, self.bytes, None)?;
-        let hints = found.as_slice();
-        let answer = match self.style.layout {
+        match self.style.layout {
             Layout::Json => json(
                 alloc,
                 &Answer {
@@ -137,9 +139,7 @@ impl<'l> Line<'l> {
                 },
             ),
             _ => shown::refusal(alloc, self, refusal, seen, hints),
-        };
-        drop(found);
-        answer
+        }
     }
 }
 
