@@ -7,7 +7,7 @@ import re
 import subprocess
 import sys
 
-from kit import ROOT, built
+from kit import ROOT, program
 
 STORED = f"{ROOT}/crates/explain/people"
 # A remote of HTTP, of Secure Shell or in the scp form, of which nothing has to be said.
@@ -24,7 +24,7 @@ def stored(name):
 
 def shown(lines):
     """The status and the answers to lines, each with its heading and its rows."""
-    ran = subprocess.run([built("explain", "run")], input=b"".join(it + b"\n" for it in lines), stdout=subprocess.PIPE, timeout=60)
+    ran = subprocess.run([program("explain")], input=b"".join(it + b"\n" for it in lines), stdout=subprocess.PIPE, timeout=60)
     return ran.returncode, re.split(rb"(?m)^(?=line \d+: )", ran.stdout)[1:]
 
 

@@ -10,7 +10,7 @@ import os
 import re
 import resource
 
-from kit import built, program
+from kit import program
 
 
 LARGE = 100_000_000
@@ -203,7 +203,7 @@ def compared(kind, path, room, name, make, small, large):
 
 def compared_lines(room):
     """The runs of the program `locations`, and what is told of them."""
-    path = built("locations", "run")
+    path = program("locations")
     found = [compared(Lines, path, room, *it) for it in runs()]
     most = [max(getattr(it, of) for it in found) for of in ("seconds", "growth", "bytes", "reads")]
     told = "at most {:.1f} s, {:.2f} times as long for each byte as a tenth of it, {:.2f} bytes of memory for each byte, {} reads".format(*most)
