@@ -14,7 +14,7 @@ STORED = f"{ROOT}/crates/explain/people"
 PLAIN = re.compile(rb"(https|ssh)://([\w.-]+@)?[\w.-]+(:\d+)?/[\w./-]+|([\w.-]+@)?[\w.-]+:[\w.][\w./-]*")
 OPTION = re.compile(rb"(^|//|@|/|:)-")
 # In the row of Git all but that the same is read, and that it was not compared.
-ALARM = re.compile(rb"; danger: |: refused: |, not settled|^ +git +(?!reads the same in its text|hands its text to a remote helper)|^ +hint ", re.M)
+ALARM = re.compile(rb"; danger: |: refused: |, not settled|^ +git +(?! |reads the same in its text|hands its text to a remote helper)|^ +hint ", re.M)
 
 
 def stored(name):
@@ -44,7 +44,7 @@ def written_by_hand():
 
 def in_colours():
     """Where answers in colours are other ones, or the first coloured lines are not as they were written by hand."""
-    ran = subprocess.run([built("explain", "run"), "--color=always"], input=stored("stdin"), stdout=subprocess.PIPE, timeout=60)
+    ran = subprocess.run([program("explain"), "--color=always"], input=stored("stdin"), stdout=subprocess.PIPE, timeout=60)
     if re.sub(rb"\x1b\[[0-9;]*m", b"", ran.stdout) != stored("stdout"):
         yield "in colours people are shown something else"
     colored, wanted = [it for it in ran.stdout.splitlines() if b"\x1b" in it], stored("colored").splitlines()

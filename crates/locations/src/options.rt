@@ -4,8 +4,9 @@ use clap::error::ErrorKind;
 use clap::{Arg, ArgAction, ArgMatches, Command};
 use gix_url::lines::{self, RunError};
 use std::alloc::{AllocError, Global};
+use std::env::{self, FillError};
+use std::io;
 use std::rt::Env;
-use std::{env, io};
 
 /// What is printed beside each answer.
 #[derive(Clone, Copy)]
@@ -31,6 +32,12 @@ Exit status: 0 if every line is settled, 1 if one is not, 2 for wrong arguments 
 
 /// What the command line asks for; or the status to end with, once what there is to say was said.
 pub fn asked(rt: &(impl Env + AllocGlobal + Print + Eprint)) -> Result<Labels, u8> {
+    if is_bare(rt) {
+        return Ok(Labels {
+            number: false,
+            input: false,
+        });
+    }
     let words = match words(rt) {
         Ok(words) => words,
         Err(error) => {
@@ -42,12 +49,6 @@ pub fn asked(rt: &(impl Env + AllocGlobal + Print + Eprint)) -> Result<Labels, u
             return Err(2);
         }
     };
-    if words.len() < 2 {
-        return Ok(Labels {
-            number: false,
-            input: false,
-        });
-    }
     let given = options(rt.alloc(), words.as_slice());
     let labels = match &given {
         Ok(given) => Ok(Labels {
@@ -58,6 +59,11 @@ pub fn asked(rt: &(impl Env + AllocGlobal + Print + Eprint)) -> Result<Labels, u
     };
     drop(given);
     labels
+}
+
+/// Whether nothing stands behind the program's name. It takes no memory.
+fn is_bare(rt: &impl Env) -> bool {
+    matches!(rt.arg(1, &mut [0; 1]), Err(FillError::NotPresent))
 }
 
 /// Prints what is printed in place of answers, and returns the status to end with.
