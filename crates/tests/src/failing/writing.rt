@@ -1,7 +1,7 @@
 //! Locations that are written to a writer that fails at each of its calls: what went out is a front of the text, and
 //! the fault is the writer's.
 
-use crate::streams::{FailingWriter, Fault, comes_back, ways};
+use super::streams::{FailingWriter, Fault, comes_back, ways};
 use gix_url::{Url, WriteError};
 use std::process::Abort;
 use std::test::Fail;

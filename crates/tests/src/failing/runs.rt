@@ -1,6 +1,6 @@
 //! Runs over lines whose reader or writer fails at each of its calls, and runs over large inputs.
 
-use crate::streams::{FAULTS, FailingReader, FailingWriter, Fault, comes_back, ways};
+use super::streams::{FAULTS, FailingReader, FailingWriter, Fault, comes_back, ways};
 use gix_url::lines::{RunError, run};
 use std::io::Read;
 use std::process::Abort;

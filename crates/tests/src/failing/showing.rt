@@ -1,7 +1,7 @@
 //! What people are shown of a location: never its field `password`, however they ask and wherever their formatter
 //! fails.
 
-use crate::streams::FailingFormatter;
+use super::streams::FailingFormatter;
 use bstr::BStr;
 use gix_url::{Scheme, Url};
 use std::alloc::Global;

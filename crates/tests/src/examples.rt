@@ -1,0 +1,15 @@
+//! The examples of the documents and of the doc comments, each as it stands there, and tests that run them.
+//!
+//! `scripts/documents` refuses a block of code in a document that stands in no such file; those of `docs/CALLING.md`
+//! are in `crates/user_proofs`.
+
+mod coming;
+mod copies;
+mod from_arguments;
+mod from_input;
+mod parts;
+mod paths;
+mod reading;
+mod ssh;
+mod types;
+mod writing;
