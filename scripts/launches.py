@@ -151,7 +151,7 @@ def read_only(tree):
 
 def little_disk(tree):
     """With too little disk there is one sentence and no proof."""
-    return [*refusing(fresh(tree, "little-disk", ("ROOM = 3_000_000_000", "ROOM = 1 << 62")), "GB are free")], ONE_SENTENCE
+    return [*refusing(fresh(tree, "little-disk", ("LIBRARY: 2_600_000_000", "LIBRARY: 1 << 62")), "GB are free")], ONE_SENTENCE
 
 
 def broken_command(tree):
