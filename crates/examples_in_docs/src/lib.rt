@@ -4,6 +4,7 @@
 //! are in `crates/user_proofs`. An example here shows a call and has no contract: it is compiled and run, by
 //! `scripts/tried`, and not proved.
 
+mod borrowed;
 mod coming;
 mod copies;
 mod from_arguments;
