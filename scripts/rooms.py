@@ -56,10 +56,10 @@ def target(path, here, known):
 
 
 def methods(known):
-    """The module of each method that a location has."""
+    """The module of each method that a location has, its own or borrowed."""
     found = {}
     for path, file in known.items():
-        for block in re.findall(r"(?ms)^impl Url \{\n(.*?)^\}", read(file)[1]):
+        for block in re.findall(r"(?ms)^impl(?:<'\w+>)? Url(?:Ref<'\w+>)? \{\n(.*?)^\}", read(file)[1]):
             found.update({it: path for it in METHOD.findall(block)})
     return found
 

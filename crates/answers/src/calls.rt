@@ -15,7 +15,7 @@ use gix_url::lines::{fault_line, run, status};
 use gix_url::parse::parse;
 use gix_url::stored::StoredUrl;
 use gix_url::testing::TestUrlExtension;
-use gix_url::{Error, PathComponents, Scheme, Url, WriteError, ipv6, laws};
+use gix_url::{Error, PathComponents, Scheme, Url, UrlRef, WriteError, ipv6, laws};
 use std::alloc::Global;
 use std::hash::{DefaultHasher, Hash, Hasher};
 use std::io::Write;
@@ -179,15 +179,46 @@ fn hand_out(alloc: Global, order: Order<'_>, url: &Url, out: &mut Out) -> Result
         "Url::host_argument_safe" => lent(out, &url.host_argument_safe()),
         "Url::path_argument_safe" => lent(out, &url.path_argument_safe()),
         "Url::write_to" => write_to(url, out),
+        _ => look_at_borrowed(alloc, order, url, out),
+    }
+}
+
+/// Calls that borrow a location, and look at what is borrowed or write it.
+fn look_at_borrowed(alloc: Global, order: Order<'_>, url: &Url, out: &mut Out) -> Result<(), Halt> {
+    let borrowed = url.as_ref();
+    match order.call() {
+        "Url::as_ref" => lent(out, &borrowed),
+        "UrlRef::is_settled" => lent(out, &borrowed.is_settled()),
+        "UrlRef::original_path" => lent(out, &borrowed.original_path()),
+        "UrlRef::text_len" => lent(out, &borrowed.text_len()),
+        "UrlRef::to_bstring" => told(out, borrowed.to_bstring(alloc)),
+        "UrlRef::write_to" => write_borrowed(&borrowed, out),
         _ => over_components(alloc, order, url, out),
     }
 }
 
 /// Writes a location to a writer that takes no memory.
 fn write_to(url: &Url, out: &mut Out) -> Result<(), Halt> {
-    tell_name(out, "{", "written")?;
-    out.write_all(b"\"")?;
+    begin_written(out)?;
     let outcome = url.write_to(&mut Taking { out });
+    end_written(outcome, out)
+}
+
+/// The same of a location that is borrowed.
+fn write_borrowed(url: &UrlRef<'_>, out: &mut Out) -> Result<(), Halt> {
+    begin_written(out)?;
+    let outcome = url.write_to(&mut Taking { out });
+    end_written(outcome, out)
+}
+
+/// Tells what stands before a text that is written.
+fn begin_written(out: &mut Out) -> Result<(), Halt> {
+    tell_name(out, "{", "written")?;
+    Ok(out.write_all(b"\"")?)
+}
+
+/// Tells what stands behind it, and the fault where there is no text.
+fn end_written(outcome: Result<(), WriteError>, out: &mut Out) -> Result<(), Halt> {
     out.write_all(b"\"")?;
     match outcome {
         Ok(()) => {}
@@ -475,6 +506,8 @@ fn look_at_scheme(
     match order.call() {
         "Scheme::clone" => told(out, scheme.clone(alloc)),
         "Scheme::as_str" => lent(out, &scheme.as_str()),
+        "Scheme::as_ref" => lent(out, &scheme.as_ref()),
+        "SchemeRef::as_str" => lent(out, &scheme.as_ref().as_str()),
         "Scheme::default_port" => lent(out, &scheme.default_port()),
         "Scheme:fmt" => show(out, order.style(), scheme),
         _ => over_two_schemes(alloc, order, scheme, out),

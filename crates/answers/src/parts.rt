@@ -6,20 +6,26 @@ use crate::tell::{Out, Tell, tell_member, tell_name};
 use bstr::BStr;
 use gix_url::expand_path::ForUser;
 use gix_url::stored::StoredUrl;
-use gix_url::{ArgumentSafety, PathComponents, QueryText, Scheme, Url};
+use gix_url::{ArgumentSafety, PathComponents, QueryText, Scheme, SchemeRef, Url, UrlRef};
 use std::io::{self, Write};
 
 impl Tell for Scheme {
     fn tell(&self, out: &mut Out) -> io::Result<()> {
+        self.as_ref().tell(out)
+    }
+}
+
+impl Tell for SchemeRef<'_> {
+    fn tell(&self, out: &mut Out) -> io::Result<()> {
         match self {
-            Scheme::File => out.write_all(b"\"File\""),
-            Scheme::Git => out.write_all(b"\"Git\""),
-            Scheme::Ssh => out.write_all(b"\"Ssh\""),
-            Scheme::Http => out.write_all(b"\"Http\""),
-            Scheme::Https => out.write_all(b"\"Https\""),
-            Scheme::Ext => out.write_all(b"\"Ext\""),
-            Scheme::Helper(name) => tell_named(out, "Helper ", name.as_bytes()),
-            Scheme::HelperUrl(name) => tell_named(out, "HelperUrl ", name.as_bytes()),
+            SchemeRef::File => out.write_all(b"\"File\""),
+            SchemeRef::Git => out.write_all(b"\"Git\""),
+            SchemeRef::Ssh => out.write_all(b"\"Ssh\""),
+            SchemeRef::Http => out.write_all(b"\"Http\""),
+            SchemeRef::Https => out.write_all(b"\"Https\""),
+            SchemeRef::Ext => out.write_all(b"\"Ext\""),
+            SchemeRef::Helper(name) => tell_named(out, "Helper ", name.as_bytes()),
+            SchemeRef::HelperUrl(name) => tell_named(out, "HelperUrl ", name.as_bytes()),
         }
     }
 }
@@ -34,7 +40,7 @@ fn tell_named(out: &mut Out, word: &str, name: &[u8]) -> io::Result<()> {
 /// Tells the parts of a location or a record, but its path and its spelling: the texts are user, password and host.
 fn tell_front(
     out: &mut Out,
-    scheme: &Scheme,
+    scheme: SchemeRef<'_>,
     texts: [Option<&str>; 3],
     port: Option<u16>,
     alternative: bool,
@@ -63,7 +69,7 @@ impl Tell for Url {
         let texts = [&self.user, &self.password, &self.host].map(Option::as_deref);
         tell_front(
             out,
-            &self.scheme,
+            self.scheme.as_ref(),
             texts,
             self.port,
             self.serialize_alternative_form,
@@ -81,12 +87,26 @@ impl Tell for Url {
     }
 }
 
+impl Tell for UrlRef<'_> {
+    fn tell(&self, out: &mut Out) -> io::Result<()> {
+        let texts = [self.user, self.password, self.host];
+        tell_front(
+            out,
+            self.scheme,
+            texts,
+            self.port,
+            self.serialize_alternative_form,
+        )?;
+        tell_path(out, self.path, self.spelling)
+    }
+}
+
 impl Tell for StoredUrl {
     fn tell(&self, out: &mut Out) -> io::Result<()> {
         let texts = [&self.user, &self.password, &self.host].map(Option::as_deref);
         tell_front(
             out,
-            &self.scheme,
+            self.scheme.as_ref(),
             texts,
             self.port,
             self.serialize_alternative_form,

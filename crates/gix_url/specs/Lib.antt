@@ -42,6 +42,7 @@ pub mod Safeguards
 -- How the code's types are seen.
 pub mod Views
 pub mod Url
+pub mod UrlRef
 pub mod Stored
 -- Here end the files that a user reads. Examples of the definitions: each row is proved.
 pub mod Examples

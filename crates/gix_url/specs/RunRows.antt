@@ -1,5 +1,5 @@
 -- Rows: what a run and an error hold on to where something failed, read off their definitions.
-use Rattle.std.specs.Prelude.{◌≡◌, ℕ, List, [], Option, Some, Err}
+use Rattle.std.specs.Prelude.{◌≡◌, ℕ, List, [], Some, Err}
 use Rattle.std.specs.declared.io.Error.{Error}
 use Rattle.bstr.specs.Owned.{bstring_bytes}
 use Rattle.bstr.specs.declared.bstring.BString.{BString}

@@ -129,7 +129,7 @@ impl Url {
         ensures { SpellsPath self.now result }
     {
         let path = self.path.as_bytes();
-        match self.matching_spelling() {
+        match self.as_ref().matching_spelling() {
             Some(spelling) => Spelled::spelling(spelling, path),
             None => Spelled::raw(path),
         }

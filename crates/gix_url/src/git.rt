@@ -132,7 +132,8 @@ fn has_plain_text(url: &Url) -> bool
     ensures { IsTrue result ↔ HasPlainText url.now }
 {
     let mut digits = Buffer::new();
-    match url.own_pieces(&mut digits) {
+    let lent = url.as_ref();
+    match lent.own_pieces(&mut digits) {
         Ok(pieces) => !are_contested(&pieces),
         Err(_) => false,
     }

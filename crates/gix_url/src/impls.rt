@@ -40,7 +40,8 @@ impl fmt::Display for Url {
     {
         let mut digits = Buffer::new();
         let password = hidden_password(&self.password);
-        match self.pieces(password, &mut digits) {
+        let lent = self.as_ref();
+        match lent.pieces(password, &mut digits) {
             Ok(pieces) => show_pieces(f, &pieces),
             Err(_) => Err(fmt::Error),
         }

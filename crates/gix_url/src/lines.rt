@@ -15,6 +15,7 @@ use crate::bytes;
 use crate::error::{Error, UrlFault};
 use crate::location::Url;
 use crate::parse::parse;
+use crate::url_ref::UrlRef;
 use crate::writer::piece::Pieces;
 use crate::writer::sink::Output;
 use bstr::BStr;
@@ -188,17 +189,18 @@ fn tell(url: &Url, out: &mut Vec<u8>) -> Result<bool, RunError>
     ensures { Tells url.now out.old.items out.new.items result }
 {
     let mut digits = Buffer::new();
-    match url.own_pieces(&mut digits) {
-        Ok(pieces) => tell_written(url, &pieces, out),
+    let lent = url.as_ref();
+    match lent.own_pieces(&mut digits) {
+        Ok(pieces) => tell_written(&lent, &pieces, out),
         Err(_) => {
-            put_scheme(out, "unwritable", url)?;
+            put_scheme(out, "unwritable", &lent)?;
             Ok(false)
         }
     }
 }
 
 /// The same of a location whose text these pieces make up.
-fn tell_written(url: &Url, pieces: &Pieces<'_>, out: &mut Vec<u8>) -> Result<bool, RunError>
+fn tell_written(url: &UrlRef<'_>, pieces: &Pieces<'_>, out: &mut Vec<u8>) -> Result<bool, RunError>
     requires { text url.now ≡ Ok (pieces_text pieces.now) }
     ensures { Tells url.now out.old.items out.new.items result }
 {
@@ -253,7 +255,7 @@ fn bad_url_name(fault: UrlFault) -> &'static str
 }
 
 /// Appends the line of a location that isn't settled: a word and the scheme.
-fn put_scheme(out: &mut Vec<u8>, word: &str, url: &Url) -> Result<(), RunError>
+fn put_scheme(out: &mut Vec<u8>, word: &str, url: &UrlRef<'_>) -> Result<(), RunError>
     ensures { Puts (told_line word.now (protocol_text url.now.scheme)) out.old.items out.new.items
         result }
 {

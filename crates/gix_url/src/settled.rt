@@ -17,8 +17,8 @@ mod scp;
 mod url;
 
 use crate::location::Url;
-use crate::scheme::Scheme;
-use crate::value_law::law_value;
+use crate::url_ref::{SchemeRef, UrlRef};
+use crate::value_law::law_lent_value;
 use crate::writer::piece::Pieces;
 use local::{is_settled_file, is_settled_helper, is_settled_local};
 use scp::is_settled_scp;
@@ -50,7 +50,28 @@ impl Url {
         ensures decided { IsTrue result ↔ IsSettled self.now }
         ensures value { IsValue self.now }
     {
-        law_value(self);
+        self.as_ref().is_settled()
+    }
+}
+
+impl UrlRef<'_> {
+    /// Whether the location is of the settled class, as [`Url::is_settled`] tells. It takes no memory.
+    ///
+    /// ```
+    /// /// Writes the location if others read it as the same.
+    /// fn write_settled(out: &mut Vec<u8>, url: &UrlRef<'_>) -> Result<bool, WriteError> {
+    ///     if !url.is_settled() {
+    ///         return Ok(false);
+    ///     }
+    ///     url.write_to(out)?;
+    ///     Ok(true)
+    /// }
+    /// ```
+    pub fn is_settled(&self) -> bool
+        ensures decided { IsTrue result ↔ IsSettled self.now }
+        ensures value { IsValue self.now }
+    {
+        law_lent_value(self);
         self.is_settled_as(None)
     }
 
@@ -59,20 +80,20 @@ impl Url {
         requires { AreOwn laid self.now }
         ensures { IsTrue result ↔ IsSettled self.now }
     {
-        match &self.scheme {
-            Scheme::File => is_settled_local(self) || is_settled_file(self),
-            Scheme::Ssh => is_settled_scp(self) || is_settled_secure(self, laid),
-            Scheme::Git => is_settled_git(self, laid),
-            Scheme::Http | Scheme::Https => is_settled_web(self, laid),
-            Scheme::Ext => is_settled_helper(self, b"ext"),
-            Scheme::Helper(name) => is_settled_named(self, name.as_bytes()),
-            Scheme::HelperUrl(name) => is_settled_helper_url(self, laid, name.as_bytes()),
+        match self.scheme {
+            SchemeRef::File => is_settled_local(self) || is_settled_file(self),
+            SchemeRef::Ssh => is_settled_scp(self) || is_settled_secure(self, laid),
+            SchemeRef::Git => is_settled_git(self, laid),
+            SchemeRef::Http | SchemeRef::Https => is_settled_web(self, laid),
+            SchemeRef::Ext => is_settled_helper(self, b"ext"),
+            SchemeRef::Helper(name) => is_settled_named(self, name.as_bytes()),
+            SchemeRef::HelperUrl(name) => is_settled_helper_url(self, laid, name.as_bytes()),
         }
     }
 }
 
 /// Whether the location is a settled remote helper of this name, which isn't that of `ext`.
-fn is_settled_named(url: &Url, name: &[u8]) -> bool
+fn is_settled_named(url: &UrlRef<'_>, name: &[u8]) -> bool
     ensures { IsTrue result ↔ IsSettledNamed name.now url.now }
 {
     is_settled_helper(url, name) && name != b"ext".as_slice()

@@ -1,14 +1,13 @@
 //! Every location is a value of which the laws speak.
 //!
-//! It uses `location`. The functions look at fields and change nothing, and their contracts are what the types of those
+//! It uses `location` and `url_ref`. The functions look at fields and change nothing, and their contracts are what the types of those
 //! fields say: a text is UTF-8, a byte is below 256, and a port is one of 65,536 numbers.
 
-ghost use Rattle.std.specs.Prelude.{◌<◌, All, IfSome, option_map};
-ghost use Rattle.bstr.specs.Owned.{bstring_bytes};
+ghost use Rattle.std.specs.Prelude.{◌<◌, All, IfSome, IsUtf8, option_map};
 ghost use Rattle.gix_url.specs.Settled.{IsValue};
 
 use crate::location::Url;
-use bstr::BString;
+use crate::url_ref::UrlRef;
 
 /// Every location is a value of which the laws speak: its texts are UTF-8, its bytes are bytes and its port is one.
 ///
@@ -16,9 +15,29 @@ use bstr::BString;
 pub fn law_value(url: &Url)
     ensures value { IsValue url.now }
 {
+    law_lent_value(&url.as_ref());
+}
+
+/// So is every borrowed location.
+pub(crate) fn law_lent_value(url: &UrlRef<'_>)
+    ensures value { IsValue url.now }
+{
+    law_text(url.user);
+    law_text(url.password);
+    law_text(url.host);
     law_port(url.port);
-    law_bytes(url.path.as_bytes());
-    law_spelling(&url.spelling);
+    law_bytes(url.path);
+    law_spelling(url.spelling);
+}
+
+/// A text is UTF-8, where there is one.
+fn law_text(text: Option<&str>)
+    ensures { IfSome (option_map (λ t. t.now) text.entry) IsUtf8 }
+{
+    match text {
+        None => {}
+        Some(_) => {}
+    }
 }
 
 /// A port is below 65,536.
@@ -37,11 +56,11 @@ fn law_bytes(bytes: &[u8])
 {}
 
 /// So is each byte of a spelling.
-fn law_spelling(spelling: &Option<BString>)
-    ensures { IfSome (option_map bstring_bytes spelling.now) (λ s. All (λ b. b < 256) s) }
+fn law_spelling(spelling: Option<&[u8]>)
+    ensures { IfSome (option_map (λ t. t.now) spelling.entry) (λ s. All (λ b. b < 256) s) }
 {
     match spelling {
         None => {}
-        Some(bytes) => law_bytes(bytes.as_bytes()),
+        Some(bytes) => law_bytes(bytes),
     }
 }

@@ -22,7 +22,8 @@ pub(crate) mod sink;
 
 use crate::error::{Error, WriteError, WriteFault};
 use crate::location::Url;
-use crate::value_law::law_value;
+use crate::url_ref::UrlRef;
+use crate::value_law::law_lent_value;
 use crate::writer::form::Form;
 use crate::writer::piece::Pieces;
 use crate::writer::sink::{Output, Room};
@@ -47,14 +48,7 @@ impl Url {
     pub fn write_to<W: Write>(&self, out: &mut W) -> Result<(), WriteError>
         ensures { Written W.contents out.old out.new (text self.now) result }
     {
-        let mut digits = Buffer::new();
-        match self.own_pieces(&mut digits) {
-            Ok(pieces) => match pieces.put::<W, Output>(out) {
-                Ok(()) => Ok(()),
-                Err(error) => Err(WriteError::Io(error)),
-            },
-            Err(fault) => Err(WriteError::Fault(fault)),
-        }
+        self.as_ref().write_to(out)
     }
 
     /// The length of the text of the location, in bytes. It takes no memory.
@@ -72,9 +66,7 @@ impl Url {
     pub fn text_len(&self) -> Result<u128, WriteFault>
         ensures { result ≡ text_length (text self.now) }
     {
-        let mut digits = Buffer::new();
-        let pieces = self.own_pieces(&mut digits)?;
-        Ok(pieces.len())
+        self.as_ref().text_len()
     }
 
     /// The text of the location. Memory is asked for once, for the whole text, and not at all where there is none.
@@ -101,11 +93,7 @@ impl Url {
         ensures empty { text self.now ≡ Ok [] → IsOk result }
         ensures settled { IsSettled self.now → WritesAgain self.now result }
     {
-        law_value(self);
-        match self.own_form() {
-            Ok(form) => self.collect_in(alloc, form),
-            Err(fault) => Err(Error::Unwritable(fault)),
-        }
+        self.as_ref().to_bstring(alloc)
     }
 
     /// The path as it was spelled, with its escapes: the retained spelling where it still stands for the path, and
@@ -119,9 +107,101 @@ impl Url {
     pub fn original_path(&self) -> BStr<'_>
         ensures { bstr_bytes result ≡ original_path self.now }
     {
+        self.as_ref().original_path()
+    }
+}
+
+impl<'a> UrlRef<'a> {
+    /// Writes the text of the location, as [`Url::write_to`] does. It takes no memory.
+    ///
+    /// ```
+    /// fn append(out: &mut Vec<u8>, url: &UrlRef<'_>) -> Result<(), WriteError> {
+    ///     url.write_to(out)
+    /// }
+    /// ```
+    ///
+    /// # Errors
+    ///
+    /// [`WriteError::Fault`] exactly where the location has no text; nothing was written then. [`WriteError::Io`]
+    /// where the writer failed; nothing is said of how much it took.
+    pub fn write_to<W: Write>(&self, out: &mut W) -> Result<(), WriteError>
+        ensures { Written W.contents out.old out.new (text self.now) result }
+    {
+        let mut digits = Buffer::new();
+        match self.own_pieces(&mut digits) {
+            Ok(pieces) => match pieces.put::<W, Output>(out) {
+                Ok(()) => Ok(()),
+                Err(error) => Err(WriteError::Io(error)),
+            },
+            Err(fault) => Err(WriteError::Fault(fault)),
+        }
+    }
+
+    /// The length of the text of the location, in bytes. It takes no memory.
+    ///
+    /// ```
+    /// /// Whether the text fits into a field of so many bytes.
+    /// fn fits(url: &UrlRef<'_>, room: u128) -> bool {
+    ///     url.text_len().is_ok_and(|length| length <= room)
+    /// }
+    /// ```
+    ///
+    /// # Errors
+    ///
+    /// The fault, exactly where the location has no text.
+    pub fn text_len(&self) -> Result<u128, WriteFault>
+        ensures { result ≡ text_length (text self.now) }
+    {
+        let mut digits = Buffer::new();
+        let pieces = self.own_pieces(&mut digits)?;
+        Ok(pieces.len())
+    }
+
+    /// The text of the location, as [`Url::to_bstring`] has it. Memory is asked for once, for the whole text, and not at
+    /// all where there is none.
+    ///
+    /// ```
+    /// /// The text of a location without its password, which stays as it is.
+    /// fn without_password(alloc: Global, url: &Url) -> Result<BString, Error> {
+    ///     let mut bare = url.as_ref();
+    ///     bare.password = None;
+    ///     bare.to_bstring(alloc) // `https://u@h/p` of `https://u:p@h/p`
+    /// }
+    /// ```
+    ///
+    /// # Errors
+    ///
+    /// [`Error::Unwritable`] exactly where the location has no text. [`Error::Memory`] where memory is refused, or
+    /// where the text is longer than any memory; for a settled location no other.
+    pub fn to_bstring(&self, alloc: Global) -> Result<BString, Error>
+        ensures text { IfOk result (λ s. text self.now ≡ Ok (bstring_bytes s)) }
+        ensures fault { (f : WriteFault) → text self.now ≡ Err f → result
+            ≡ Err (Error.Unwritable f) }
+        ensures refused { IfErr result (λ e. IsUnwritten (text self.now) e) }
+        ensures empty { text self.now ≡ Ok [] → IsOk result }
+        ensures settled { IsSettled self.now → WritesAgain self.now result }
+    {
+        law_lent_value(self);
+        match self.own_form() {
+            Ok(form) => self.collect_in(alloc, form),
+            Err(fault) => Err(Error::Unwritable(fault)),
+        }
+    }
+
+    /// The path as it was spelled, with its escapes: the spelling where it stands for the path, and else the path itself.
+    /// It takes no memory, and lives as long as what lends the location.
+    ///
+    /// ```
+    /// fn spelled<'a>(url: &UrlRef<'a>) -> BStr<'a> {
+    ///     url.original_path() // `/my%20repo` of `https://host/my%20repo`, whose path is `/my repo`
+    /// }
+    /// ```
+    pub fn original_path(&self) -> BStr<'a>
+        ensures { bstr_bytes result ≡ original_path self.now }
+    {
         match self.matching_spelling() {
             Some(spelling) => BStr::new(spelling),
-            None => self.path.as_bstr(),
+            None => BStr::new(self.path),
         }
     }
 
@@ -129,7 +209,7 @@ impl Url {
     fn own_form(&self) -> Result<Form, WriteFault>
         ensures { in_form (form_chosen result) self.now ≡ text self.now }
     {
-        self.form(self.password())
+        self.form(self.password)
     }
 
     /// The text in this form. Each form is collected by itself, so that the compiler knows which pieces it lacks.
@@ -154,15 +234,14 @@ impl Url {
         ensures empty { canonical_text self.now ≡ [] → IsOk result }
     {
         let mut digits = Buffer::new();
-        collect(alloc, &self.canonical_pieces(self.password(), &mut digits))
+        collect(alloc, &self.canonical_pieces(self.password, &mut digits))
     }
 
     /// The pieces of the text, or why there is none. The digits of the port stand in the buffer.
-    pub(crate) fn own_pieces<'a>(&'a self, digits: &'a mut Buffer) -> Result<Pieces<'a>, WriteFault>
+    pub(crate) fn own_pieces<'b>(&'b self, digits: &'b mut Buffer) -> Result<Pieces<'b>, WriteFault>
         ensures { text_of_pieces result ≡ text self.now }
     {
-        let password = self.password();
-        self.pieces(password, digits)
+        self.pieces(self.password, digits)
     }
 }
 

@@ -3,6 +3,7 @@
 //! `scripts/documents` refuses a block of code in a document that stands in no such file; those of `docs/CALLING.md`
 //! are in `crates/user_proofs`.
 
+mod borrowed;
 mod coming;
 mod copies;
 mod from_arguments;

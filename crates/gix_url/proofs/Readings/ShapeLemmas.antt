@@ -8,7 +8,6 @@ use Rattle.std.proofs.lemmas.Slice.Eq.{bytes_eq-Decides}
 use lib.Utf8.{encode}
 use Rattle.gix_url.specs.declared.error.UrlKind.TheVariants as kind
 use Rattle.gix_url.specs.declared.error.Error.{Error}
-use Rattle.gix_url.specs.declared.error.Error.TheVariants as error
 use Rattle.gix_url.specs.Value.{Location, path_alone}
 use Rattle.gix_url.specs.Value.Protocol.{file}
 use Rattle.gix_url.specs.Bytes.{slash, colon, at_sign, left_bracket, right_bracket, FreeOf, Holds, begins_with, is_helper_name, is_name_byte}

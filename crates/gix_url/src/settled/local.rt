@@ -10,22 +10,22 @@ ghost use Rattle.gix_url.specs.Shapes.{LocalShape};
 use super::parts::{has_at_most_host, has_match, is_flagged_path};
 use crate::bytes::{is_free_of, is_helper_name, starts_with_byte};
 use crate::escape::has_percent;
-use crate::location::Url;
 use crate::parse::classify::{Shape, classify};
 use crate::text::is_text;
+use crate::url_ref::UrlRef;
 
 /// Whether the location is a settled remote helper of this name.
-pub(crate) fn is_settled_helper(url: &Url, name: &[u8]) -> bool
+pub(crate) fn is_settled_helper(url: &UrlRef<'_>, name: &[u8]) -> bool
     ensures { IsTrue result ↔ IsSettledHelper name.now url.now }
 {
     is_flagged_path(url) && is_helper_name(name)
 }
 
 /// Whether the location is a settled local path.
-pub(crate) fn is_settled_local(url: &Url) -> bool
+pub(crate) fn is_settled_local(url: &UrlRef<'_>) -> bool
     ensures { IsTrue result ↔ IsSettledLocal url.now }
 {
-    is_flagged_path(url) && is_local(url.path.as_bytes())
+    is_flagged_path(url) && is_local(url.path)
 }
 
 /// Whether the text has the form of a local path.
@@ -36,22 +36,22 @@ fn is_local(text: &[u8]) -> bool
 }
 
 /// Whether the location is a settled file URL.
-pub(crate) fn is_settled_file(url: &Url) -> bool
+pub(crate) fn is_settled_file(url: &UrlRef<'_>) -> bool
     ensures { IsTrue result ↔ IsSettledFile url.now }
 {
     !url.serialize_alternative_form
         && has_at_most_host(url)
         && !has_match(url)
         && has_file_host(url)
-        && is_text(url.path.as_bytes())
-        && starts_with_byte(url.path.as_bytes(), b'/')
+        && is_text(url.path)
+        && starts_with_byte(url.path, b'/')
 }
 
 /// Whether the host, where there is one, is one of a file URL that stays as it is.
-fn has_file_host(url: &Url) -> bool
+fn has_file_host(url: &UrlRef<'_>) -> bool
     ensures { IsTrue result ↔ IfSome url.now.host IsFileHost }
 {
-    match &url.host {
+    match url.host {
         None => true,
         Some(host) => is_file_host(host.as_bytes()),
     }

@@ -13,8 +13,8 @@ ghost use Rattle.gix_url.specs.Walks.{is_walk_short, text_walk_for, text_walk_pa
 ghost use Rattle.gix_url.specs.SettledParts.{IsPiecesShort};
 ghost use Rattle.gix_url.specs.Sinks.{WalksPast, walks_joined, walks_nothing};
 
-use crate::location::Url;
 use crate::parse::length::{LIMIT, TextWalk};
+use crate::url_ref::UrlRef;
 use crate::writer::piece::Pieces;
 use crate::writer::sink::Sink;
 use itoa::Buffer;
@@ -22,7 +22,7 @@ use std::convert::Infallible;
 
 /// Whether the text of the location, which is that of a URL, is short enough. It is laid out, unless its pieces are at
 /// hand.
-pub(crate) fn has_fitting_text(url: &Url, laid: Option<&Pieces<'_>>) -> bool
+pub(crate) fn has_fitting_text(url: &UrlRef<'_>, laid: Option<&Pieces<'_>>) -> bool
     requires no_colon { FreeOf colon (protocol_text url.now.scheme) }
     requires canonical { text url.now ≡ Ok (canonical_text url.now) }
     requires laid { AreOwn laid url.now }
@@ -35,7 +35,7 @@ pub(crate) fn has_fitting_text(url: &Url, laid: Option<&Pieces<'_>>) -> bool
 }
 
 /// Whether the text of the location, which is laid out now, is short enough.
-fn is_own_short(url: &Url) -> bool
+fn is_own_short(url: &UrlRef<'_>) -> bool
     requires no_colon { FreeOf colon (protocol_text url.now.scheme) }
     requires canonical { text url.now ≡ Ok (canonical_text url.now) }
     ensures { IsTrue result ↔ HasFittingText url.now }

@@ -12,30 +12,30 @@ ghost use Rattle.gix_url.specs.SettledParts.{IsFlaggedPath};
 use crate::bytes::{cut_at_mark, is_free_of, is_lowercase};
 use crate::escape::decodes_to;
 use crate::ipv6::is_address;
-use crate::location::Url;
 use crate::parse::host::bytes::looks_like_domain;
+use crate::url_ref::UrlRef;
 
 /// Whether the location has neither user nor password nor port.
-pub(crate) fn has_at_most_host(url: &Url) -> bool
+pub(crate) fn has_at_most_host(url: &UrlRef<'_>) -> bool
     ensures { IsTrue result ↔ HasAtMostHost url.now }
 {
     url.user.is_none() && url.password.is_none() && url.port.is_none()
 }
 
 /// Whether the location has the flag and a path, and nothing else.
-pub(crate) fn is_flagged_path(url: &Url) -> bool
+pub(crate) fn is_flagged_path(url: &UrlRef<'_>) -> bool
     ensures { IsTrue result ↔ IsFlaggedPath url.now }
 {
     url.serialize_alternative_form && has_at_most_host(url) && url.host.is_none()
 }
 
 /// Whether the retained spelling of the path decodes to the path.
-pub(crate) fn has_match(url: &Url) -> bool
+pub(crate) fn has_match(url: &UrlRef<'_>) -> bool
     ensures { IsTrue result ↔ HasMatch url.now }
 {
-    match &url.spelling {
+    match url.spelling {
         None => false,
-        Some(spelling) => decodes_to(spelling.as_bytes(), url.path.as_bytes()),
+        Some(spelling) => decodes_to(spelling, url.path),
     }
 }
 

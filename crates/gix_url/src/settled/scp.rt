@@ -12,32 +12,32 @@ use super::parts::{
 };
 use crate::bytes::{is_free_of, is_helper_name, starts_with_byte};
 use crate::escape::lacks_white_space;
-use crate::location::Url;
 use crate::text::is_text;
+use crate::url_ref::UrlRef;
 
 /// Whether the location is settled in the scp form.
-pub(crate) fn is_settled_scp(url: &Url) -> bool
+pub(crate) fn is_settled_scp(url: &UrlRef<'_>) -> bool
     ensures { IsTrue result ↔ IsSettledScp url.now }
 {
     has_scp_form(url) && has_scp_parts(url)
 }
 
 /// Whether user, host and path are settled in the scp form.
-fn has_scp_parts(url: &Url) -> bool
+fn has_scp_parts(url: &UrlRef<'_>) -> bool
     ensures { IsTrue result ↔ HasScpParts url.now }
 {
-    is_scp_path(url.path.as_bytes()) && has_scp_front(url)
+    is_scp_path(url.path) && has_scp_front(url)
 }
 
 /// Whether user and host are settled in the scp form.
-fn has_scp_front(url: &Url) -> bool
+fn has_scp_front(url: &UrlRef<'_>) -> bool
     ensures { IsTrue result ↔ HasScpFront url.now }
 {
     has_scp_user(url) && has_scp_host(url)
 }
 
 /// Whether the location has the flag, and neither password nor port.
-fn has_scp_form(url: &Url) -> bool
+fn has_scp_form(url: &UrlRef<'_>) -> bool
     ensures { IsTrue result ↔ HasScpForm url.now }
 {
     url.serialize_alternative_form && url.password.is_none() && url.port.is_none()
@@ -55,10 +55,10 @@ fn is_scp_path(path: &[u8]) -> bool
 }
 
 /// Whether the user, where there is one, is settled in the scp form.
-fn has_scp_user(url: &Url) -> bool
+fn has_scp_user(url: &UrlRef<'_>) -> bool
     ensures { IsTrue result ↔ IfSome url.now.user IsScpUser }
 {
-    match &url.user {
+    match url.user {
         None => true,
         Some(user) => is_scp_user(user.as_bytes()),
     }
@@ -72,10 +72,10 @@ fn is_scp_user(user: &[u8]) -> bool
 }
 
 /// Whether there is a host, settled in the scp form.
-fn has_scp_host(url: &Url) -> bool
+fn has_scp_host(url: &UrlRef<'_>) -> bool
     ensures { IsTrue result ↔ HasScpHost url.now }
 {
-    match &url.host {
+    match url.host {
         None => false,
         Some(host) => is_scp_host(host) && !looks_like_helper(url, host.as_bytes()),
     }
@@ -101,8 +101,8 @@ fn is_scp_name(host: &str) -> bool
 }
 
 /// Whether the text of this host and the path would be that of a remote helper.
-fn looks_like_helper(url: &Url, host: &[u8]) -> bool
+fn looks_like_helper(url: &UrlRef<'_>, host: &[u8]) -> bool
     ensures { IsTrue result ↔ LooksLikeHelper url.now host.now }
 {
-    url.user.is_none() && is_helper_name(host) && starts_with_byte(url.path.as_bytes(), b':')
+    url.user.is_none() && is_helper_name(host) && starts_with_byte(url.path, b':')
 }

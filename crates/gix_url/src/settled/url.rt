@@ -15,13 +15,13 @@ use super::measure::has_fitting_text;
 use super::parts::{begins_at_home, has_match};
 use crate::bytes::{is_scheme_text, starts_with_byte};
 use crate::escape::{decodes_to, has_percent, is_sound, lacks_white_space};
-use crate::location::Url;
 use crate::scheme::{is_ftp, is_known_scheme};
 use crate::text::is_text;
+use crate::url_ref::UrlRef;
 use crate::writer::piece::Pieces;
 
 /// Whether the location is a settled one of HTTP.
-pub(crate) fn is_settled_web(url: &Url, laid: Option<&Pieces<'_>>) -> bool
+pub(crate) fn is_settled_web(url: &UrlRef<'_>, laid: Option<&Pieces<'_>>) -> bool
     requires scheme { IsWeb url.now }
     requires laid { AreOwn laid url.now }
     ensures { IsTrue result ↔ IsSettledWeb url.now }
@@ -30,17 +30,17 @@ pub(crate) fn is_settled_web(url: &Url, laid: Option<&Pieces<'_>>) -> bool
 }
 
 /// Whether host, port and path are those of a settled location of HTTP.
-fn is_web_target(url: &Url) -> bool
+fn is_web_target(url: &UrlRef<'_>) -> bool
     ensures { IsTrue result ↔ IsWebTarget url.now }
 {
-    has_web_host(url) && url.port != Some(0) && begins_web_path(url.path.as_bytes())
+    has_web_host(url) && url.port != Some(0) && begins_web_path(url.path)
 }
 
 /// Whether there is a host, settled for HTTP.
-fn has_web_host(url: &Url) -> bool
+fn has_web_host(url: &UrlRef<'_>) -> bool
     ensures { IsTrue result ↔ HasWebHost url.now }
 {
-    match &url.host {
+    match url.host {
         None => false,
         Some(host) => is_web_host(host.as_bytes(), url.port),
     }
@@ -57,7 +57,7 @@ fn begins_web_path(path: &[u8]) -> bool
 }
 
 /// Whether the location is a settled URL of Secure Shell.
-pub(crate) fn is_settled_secure(url: &Url, laid: Option<&Pieces<'_>>) -> bool
+pub(crate) fn is_settled_secure(url: &UrlRef<'_>, laid: Option<&Pieces<'_>>) -> bool
     requires scheme { url.now.scheme ≡ ssh }
     requires laid { AreOwn laid url.now }
     ensures { IsTrue result ↔ IsSettledSecure url.now }
@@ -66,24 +66,24 @@ pub(crate) fn is_settled_secure(url: &Url, laid: Option<&Pieces<'_>>) -> bool
 }
 
 /// Whether host and path are those of a settled URL of Secure Shell.
-fn is_secure_target(url: &Url) -> bool
+fn is_secure_target(url: &UrlRef<'_>) -> bool
     ensures { IsTrue result ↔ IsSecureTarget url.now }
 {
     has_bare_host(url) && is_transport_path(url)
 }
 
 /// Whether there is a host, settled for Secure Shell.
-fn has_bare_host(url: &Url) -> bool
+fn has_bare_host(url: &UrlRef<'_>) -> bool
     ensures { IsTrue result ↔ HasBareHost url.now }
 {
-    match &url.host {
+    match url.host {
         None => false,
         Some(host) => is_bare_host(host.as_bytes()),
     }
 }
 
 /// Whether the location is a settled URL of Git's own protocol.
-pub(crate) fn is_settled_git(url: &Url, laid: Option<&Pieces<'_>>) -> bool
+pub(crate) fn is_settled_git(url: &UrlRef<'_>, laid: Option<&Pieces<'_>>) -> bool
     requires scheme { url.now.scheme ≡ git }
     requires laid { AreOwn laid url.now }
     ensures { IsTrue result ↔ IsSettledGit url.now }
@@ -92,28 +92,27 @@ pub(crate) fn is_settled_git(url: &Url, laid: Option<&Pieces<'_>>) -> bool
 }
 
 /// Whether host and path are those of a settled URL of Git's own protocol.
-fn is_git_target(url: &Url) -> bool
+fn is_git_target(url: &UrlRef<'_>) -> bool
     ensures { IsTrue result ↔ IsGitTarget url.now }
 {
     has_bracketed_host(url) && is_transport_path(url)
 }
 
 /// Whether there is a host, settled with its addresses between brackets.
-fn has_bracketed_host(url: &Url) -> bool
+fn has_bracketed_host(url: &UrlRef<'_>) -> bool
     ensures { IsTrue result ↔ HasBracketedHost url.now }
 {
-    match &url.host {
+    match url.host {
         None => false,
         Some(host) => is_bracketed_host(host.as_bytes()),
     }
 }
 
 /// Whether the path is rooted, or below a home folder, and then no spelling matches it.
-fn is_transport_path(url: &Url) -> bool
+fn is_transport_path(url: &UrlRef<'_>) -> bool
     ensures { IsTrue result ↔ IsTransportPath url.now }
 {
-    is_homeless(url.path.as_bytes())
-        || (starts_with_byte(url.path.as_bytes(), b'~') && !has_match(url))
+    is_homeless(url.path) || (starts_with_byte(url.path, b'~') && !has_match(url))
 }
 
 /// Whether the text begins with `/`, and not with `/~`.
@@ -124,7 +123,11 @@ fn is_homeless(path: &[u8]) -> bool
 }
 
 /// Whether the location is a settled URL of another scheme, which has this name.
-pub(crate) fn is_settled_helper_url(url: &Url, laid: Option<&Pieces<'_>>, name: &[u8]) -> bool
+pub(crate) fn is_settled_helper_url(
+    url: &UrlRef<'_>,
+    laid: Option<&Pieces<'_>>,
+    name: &[u8],
+) -> bool
     requires scheme { url.now.scheme ≡ helper_url name.now }
     requires laid { AreOwn laid url.now }
     ensures { IsTrue result ↔ IsSettledHelperUrl name.now url.now }
@@ -133,7 +136,7 @@ pub(crate) fn is_settled_helper_url(url: &Url, laid: Option<&Pieces<'_>>, name: 
 }
 
 /// Whether scheme, host and path are those of a settled URL of another scheme.
-fn is_other_form(url: &Url, name: &[u8]) -> bool
+fn is_other_form(url: &UrlRef<'_>, name: &[u8]) -> bool
     ensures { IsTrue result ↔ IsOtherForm name.now url.now }
 {
     is_other_scheme(name) && is_other_target(url, name)
@@ -147,19 +150,17 @@ fn is_other_scheme(name: &[u8]) -> bool
 }
 
 /// Whether host and path are those of a settled URL of another scheme.
-fn is_other_target(url: &Url, name: &[u8]) -> bool
+fn is_other_target(url: &UrlRef<'_>, name: &[u8]) -> bool
     ensures { IsTrue result ↔ IsOtherTarget name.now url.now }
 {
-    has_other_host(url)
-        && (url.host.is_some() || !is_ftp(name))
-        && is_rooted_or_empty(url.path.as_bytes())
+    has_other_host(url) && (url.host.is_some() || !is_ftp(name)) && is_rooted_or_empty(url.path)
 }
 
 /// Whether the host, where there is one, is settled.
-fn has_other_host(url: &Url) -> bool
+fn has_other_host(url: &UrlRef<'_>) -> bool
     ensures { IsTrue result ↔ IfSome url.now.host IsBracketedHost }
 {
-    match &url.host {
+    match url.host {
         None => true,
         Some(host) => is_bracketed_host(host.as_bytes()),
     }
@@ -173,7 +174,7 @@ fn is_rooted_or_empty(path: &[u8]) -> bool
 }
 
 /// Whether the location is a settled URL, and its path is written raw where no spelling matches it.
-fn is_settled_raw(url: &Url, laid: Option<&Pieces<'_>>) -> bool
+fn is_settled_raw(url: &UrlRef<'_>, laid: Option<&Pieces<'_>>) -> bool
     requires form { IsWrittenAsUrl url.now }
     requires laid { AreOwn laid url.now }
     ensures { IsTrue result ↔ IsSettledRaw url.now }
@@ -182,11 +183,11 @@ fn is_settled_raw(url: &Url, laid: Option<&Pieces<'_>>) -> bool
 }
 
 /// Whether the path is written raw where no spelling matches it.
-fn is_raw_path(url: &Url) -> bool
+fn is_raw_path(url: &UrlRef<'_>) -> bool
     requires { IsUtf8 url.now.path }
     ensures { IsTrue result ↔ IsRawPath url.now }
 {
-    has_match(url) || is_raw(url.path.as_bytes())
+    has_match(url) || is_raw(url.path)
 }
 
 /// Whether the text holds neither `%` nor white space.
@@ -201,7 +202,7 @@ fn is_raw(path: &[u8]) -> bool
 }
 
 /// Whether the location has what the settled URLs have in common.
-fn is_settled_url(url: &Url, laid: Option<&Pieces<'_>>) -> bool
+fn is_settled_url(url: &UrlRef<'_>, laid: Option<&Pieces<'_>>) -> bool
     requires form { IsWrittenAsUrl url.now }
     requires laid { AreOwn laid url.now }
     ensures { IsTrue result ↔ IsSettledUrl url.now }
@@ -210,62 +211,61 @@ fn is_settled_url(url: &Url, laid: Option<&Pieces<'_>>) -> bool
 }
 
 /// The same, but for the length of the text.
-fn has_url_form(url: &Url) -> bool
+fn has_url_form(url: &UrlRef<'_>) -> bool
     ensures { IsTrue result ↔ HasUrlForm url.now }
 {
     has_url_parts(url) && has_url_path(url)
 }
 
 /// Whether flag, user, password and port are those of a settled URL.
-fn has_url_parts(url: &Url) -> bool
+fn has_url_parts(url: &UrlRef<'_>) -> bool
     ensures { IsTrue result ↔ HasUrlParts url.now }
 {
     !url.serialize_alternative_form && has_credentials(url) && is_hosted(url)
 }
 
 /// Whether a password comes with a user and isn't empty, and an empty user comes with a password.
-fn has_credentials(url: &Url) -> bool
+fn has_credentials(url: &UrlRef<'_>) -> bool
     ensures { IsTrue result ↔ HasCredentials url.now }
 {
-    match &url.password {
+    match url.password {
         None => !has_empty_user(url),
         Some(password) => !password.is_empty() && url.user.is_some(),
     }
 }
 
 /// Whether the user is empty.
-fn has_empty_user(url: &Url) -> bool
+fn has_empty_user(url: &UrlRef<'_>) -> bool
     ensures { IsTrue result ↔ (url.now.user ≡ Some []) }
 {
-    match &url.user {
+    match url.user {
         None => false,
         Some(user) => user.is_empty(),
     }
 }
 
 /// Whether a user and a port come with a host.
-fn is_hosted(url: &Url) -> bool
+fn is_hosted(url: &UrlRef<'_>) -> bool
     ensures { IsTrue result ↔ IsHosted url.now }
 {
     url.host.is_some() || (url.user.is_none() && url.port.is_none())
 }
 
 /// Whether the path is text, and a spelling that matches it is fair.
-fn has_url_path(url: &Url) -> bool
+fn has_url_path(url: &UrlRef<'_>) -> bool
     ensures { IsTrue result ↔ HasUrlPath url.now }
 {
-    is_text(url.path.as_bytes()) && has_fair_spelling(url)
+    is_text(url.path) && has_fair_spelling(url)
 }
 
 /// Whether the spelling of the path, where it matches, is fair.
-fn has_fair_spelling(url: &Url) -> bool
+fn has_fair_spelling(url: &UrlRef<'_>) -> bool
     ensures { IsTrue result ↔ HasFairSpelling url.now }
 {
-    match &url.spelling {
+    match url.spelling {
         None => true,
         Some(spelling) => {
-            !decodes_to(spelling.as_bytes(), url.path.as_bytes())
-                || is_fair_spelling(spelling.as_bytes(), url.path.as_bytes())
+            !decodes_to(spelling, url.path) || is_fair_spelling(spelling, url.path)
         }
     }
 }

@@ -1,6 +1,6 @@
 //! The form of a text: how a location is written, or why it can't be.
 //!
-//! It uses `bytes` and `scheme`. Its contract: the form is the one that the definition chooses, and a fault comes
+//! It uses `bytes` and `url_ref`. Its contract: the form is the one that the definition chooses, and a fault comes
 //! exactly where the definition has it. It takes no memory.
 
 ghost use Rattle.std.specs.Prelude.{◌≡◌};
@@ -10,8 +10,7 @@ ghost use Rattle.gix_url.specs.Pieces.{form_chosen, form_of, with_password};
 
 use crate::bytes;
 use crate::error::WriteFault;
-use crate::location::Url;
-use crate::scheme::Scheme;
+use crate::url_ref::{SchemeRef, UrlRef};
 
 /// The forms of a text.
 #[derive(Clone, Copy, PartialEq, Eq)]
@@ -26,24 +25,24 @@ pub(crate) enum Form {
     Canonical,
 }
 
-impl Url {
+impl UrlRef<'_> {
     /// The form that the location has with this password in place of its own.
     #[inline(always)]
     pub(crate) fn form(&self, password: Option<&str>) -> Result<Form, WriteFault>
         ensures { form_chosen result ≡ choice (with_password self.now password.entry) }
     {
-        match &self.scheme {
-            Scheme::Ext => self.helper_form(b"ext", password),
-            Scheme::Helper(name) => self.helper_form(name.as_bytes(), password),
-            Scheme::Ssh => self.ssh_form(password),
-            Scheme::File => {
+        match self.scheme {
+            SchemeRef::Ext => self.helper_form(b"ext", password),
+            SchemeRef::Helper(name) => self.helper_form(name.as_bytes(), password),
+            SchemeRef::Ssh => self.ssh_form(password),
+            SchemeRef::File => {
                 if self.is_alternative(password) {
                     self.with_host(Form::Path)
                 } else {
                     self.with_host(Form::Canonical)
                 }
             }
-            Scheme::Git | Scheme::Http | Scheme::Https | Scheme::HelperUrl(_) => {
+            SchemeRef::Git | SchemeRef::Http | SchemeRef::Https | SchemeRef::HelperUrl(_) => {
                 self.with_host(Form::Canonical)
             }
         }
@@ -67,7 +66,7 @@ impl Url {
     fn ssh_form(&self, password: Option<&str>) -> Result<Form, WriteFault>
         ensures { form_chosen result ≡ ssh_choice (with_password self.now password.entry) }
     {
-        if !is_relative(self.path.as_bytes()) {
+        if !is_relative(self.path) {
             if self.is_alternative(password) {
                 self.with_host(Form::Scp)
             } else {

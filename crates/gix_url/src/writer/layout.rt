@@ -4,28 +4,27 @@
 //! pieces of a location make up its text, and a fault is the location's own. It takes no memory.
 
 ghost use Rattle.std.specs.Prelude.{◌≡◌, ℕ, List, ◌++◌, option_map, unwrap_or};
-ghost use Rattle.gix_url.specs.Views.{protocol};
+ghost use Rattle.gix_url.specs.Views.{lent_protocol};
 ghost use Rattle.gix_url.specs.AddressTest.{is_ipv6_text};
 ghost use Rattle.gix_url.specs.Text as spec;
 ghost use Rattle.gix_url.specs.Text.{text, helper_text, path_form_text, scp_text, canonical_text};
 ghost use Rattle.gix_url.specs.Pieces.{host_text, path_end_text, piece_text, pieces_text, port_text, text_of_pieces, user_text, with_password};
 
 use crate::error::WriteFault;
-use crate::location::Url;
-use crate::scheme::Scheme;
+use crate::url_ref::{SchemeRef, UrlRef};
 use crate::writer::form::Form;
 use crate::writer::piece::{HostPieces, PathPieces, Piece, Pieces, SchemePieces, UserPieces};
 use crate::{bytes, escape, ipv6};
 use itoa::Buffer;
 
-impl Url {
+impl<'a> UrlRef<'a> {
     /// The pieces of the text that the location has with this password in place of its own, or why it has none.
     /// The digits of the port stand in the buffer.
-    pub(crate) fn pieces<'a>(
-        &'a self,
-        password: Option<&'a str>,
-        digits: &'a mut Buffer,
-    ) -> Result<Pieces<'a>, WriteFault>
+    pub(crate) fn pieces<'b>(
+        &'b self,
+        password: Option<&'b str>,
+        digits: &'b mut Buffer,
+    ) -> Result<Pieces<'b>, WriteFault>
         ensures { text_of_pieces result ≡ text (with_password self.now password.entry) }
     {
         match self.form(password)? {
@@ -45,7 +44,7 @@ impl Url {
             user: UserPieces::None,
             host: HostPieces::None,
             port: None,
-            path: PathPieces::Raw("", self.path.as_bytes()),
+            path: PathPieces::Raw("", self.path),
         }
     }
 
@@ -58,7 +57,7 @@ impl Url {
             user: self.raw_user(),
             host: self.raw_host(),
             port: None,
-            path: PathPieces::Raw("", self.path.as_bytes()),
+            path: PathPieces::Raw("", self.path),
         }
     }
 
@@ -71,17 +70,17 @@ impl Url {
             user: self.raw_user(),
             host: self.raw_host(),
             port: None,
-            path: PathPieces::Raw(":", self.path.as_bytes()),
+            path: PathPieces::Raw(":", self.path),
         }
     }
 
     /// The pieces of a URL.
     #[inline(always)]
-    pub(crate) fn canonical_pieces<'a>(
-        &'a self,
-        password: Option<&'a str>,
-        digits: &'a mut Buffer,
-    ) -> Pieces<'a>
+    pub(crate) fn canonical_pieces<'b>(
+        &'b self,
+        password: Option<&'b str>,
+        digits: &'b mut Buffer,
+    ) -> Pieces<'b>
         ensures { pieces_text result ≡ canonical_text (with_password self.now password.entry) }
     {
         Pieces {
@@ -97,9 +96,9 @@ impl Url {
     fn raw_user(&self) -> UserPieces<'_>
         ensures { user_text result ≡ spec.raw_user self.now.user }
     {
-        match &self.user {
+        match self.user {
             None => UserPieces::None,
-            Some(user) => UserPieces::User(Piece::Raw(user.as_str())),
+            Some(user) => UserPieces::User(Piece::Raw(user)),
         }
     }
 
@@ -107,10 +106,9 @@ impl Url {
     fn raw_host(&self) -> HostPieces<'_>
         ensures { host_text result ≡ spec.raw_host self.now.host }
     {
-        match &self.host {
+        match self.host {
             None => HostPieces::None,
             Some(host) => {
-                let host = host.as_str();
                 if wants_brackets(host.as_bytes()) {
                     HostPieces::Bracketed(Piece::Raw(host))
                 } else {
@@ -121,14 +119,14 @@ impl Url {
     }
 
     /// The user, this password and their marks, with escapes. A password without a user is left out.
-    fn user_information<'a>(&'a self, password: Option<&'a str>) -> UserPieces<'a>
+    fn user_information<'b>(&'b self, password: Option<&'b str>) -> UserPieces<'b>
         ensures { user_text result
             ≡ spec.user_information self.now.user (option_map (λ p. p.now) password.entry) }
     {
-        let Some(user) = &self.user else {
+        let Some(user) = self.user else {
             return UserPieces::None;
         };
-        let user = Piece::user(user.as_str());
+        let user = Piece::user(user);
         match password {
             None => UserPieces::User(user),
             Some(password) => UserPieces::Both(user, Piece::password(password)),
@@ -139,14 +137,13 @@ impl Url {
     fn canonical_host(&self) -> HostPieces<'_>
         ensures { host_text result ≡ spec.host_part self.now self.now.host }
     {
-        let Some(host) = &self.host else {
+        let Some(host) = self.host else {
             return HostPieces::None;
         };
-        let host = host.as_str();
         if needs_brackets(self.port, host.as_bytes()) {
             HostPieces::Bracketed(Piece::Percents(host))
         } else {
-            HostPieces::Open(open_host(&self.scheme, host))
+            HostPieces::Open(open_host(self.scheme, host))
         }
     }
 
@@ -162,17 +159,17 @@ impl Url {
     }
 
     /// The path without a spelling, behind a mark: with escapes for HTTP, as it is else.
-    fn plain_path<'a>(&'a self, mark: &'a str) -> PathPieces<'a>
+    fn plain_path<'b>(&'b self, mark: &'b str) -> PathPieces<'b>
         ensures { path_end_text result ≡ mark.now ++ spec.plain_path self.now.scheme self.now.path }
     {
-        match &self.scheme {
-            Scheme::Http | Scheme::Https => PathPieces::escaped(mark, self.path.as_bytes()),
-            Scheme::File
-            | Scheme::Git
-            | Scheme::Ssh
-            | Scheme::Ext
-            | Scheme::Helper(_)
-            | Scheme::HelperUrl(_) => PathPieces::Raw(mark, self.path.as_bytes()),
+        match self.scheme {
+            SchemeRef::Http | SchemeRef::Https => PathPieces::escaped(mark, self.path),
+            SchemeRef::File
+            | SchemeRef::Git
+            | SchemeRef::Ssh
+            | SchemeRef::Ext
+            | SchemeRef::Helper(_)
+            | SchemeRef::HelperUrl(_) => PathPieces::Raw(mark, self.path),
         }
     }
 
@@ -180,33 +177,33 @@ impl Url {
     fn root(&self) -> &str
         ensures { result.now ≡ spec.root_part self.now }
     {
-        match &self.scheme {
-            Scheme::Ssh | Scheme::Git => {
-                if bytes::starts_with_byte(self.path.as_bytes(), b'/') {
+        match self.scheme {
+            SchemeRef::Ssh | SchemeRef::Git => {
+                if bytes::starts_with_byte(self.path, b'/') {
                     ""
                 } else {
                     "/"
                 }
             }
-            Scheme::File
-            | Scheme::Http
-            | Scheme::Https
-            | Scheme::Ext
-            | Scheme::Helper(_)
-            | Scheme::HelperUrl(_) => "",
+            SchemeRef::File
+            | SchemeRef::Http
+            | SchemeRef::Https
+            | SchemeRef::Ext
+            | SchemeRef::Helper(_)
+            | SchemeRef::HelperUrl(_) => "",
         }
     }
 
     /// The retained spelling of the path where it matches.
-    pub(crate) fn matching_spelling(&self) -> Option<&[u8]>
+    pub(crate) fn matching_spelling(&self) -> Option<&'a [u8]>
         ensures { (other : List ℕ) → unwrap_or (option_map (λ s. s.now) result) other
             ≡ spec.matching_or self.now.spelling self.now.path other }
     {
-        match &self.spelling {
+        match self.spelling {
             None => None,
             Some(spelling) => {
-                if escape::decodes_to(spelling.as_bytes(), self.path.as_bytes()) {
-                    Some(spelling.as_bytes())
+                if escape::decodes_to(spelling, self.path) {
+                    Some(spelling)
                 } else {
                     None
                 }
@@ -226,12 +223,16 @@ fn port_digits<'a>(port: Option<u16>, digits: &'a mut Buffer) -> Option<&'a str>
 }
 
 /// A host outside brackets: as it is, or escaped, but for the colons of an address.
-fn open_host<'a>(scheme: &Scheme, host: &'a str) -> Piece<'a>
-    ensures { piece_text result ≡ spec.open_host (protocol scheme.now) host.now }
+fn open_host<'a>(scheme: SchemeRef<'_>, host: &'a str) -> Piece<'a>
+    ensures { piece_text result ≡ spec.open_host (lent_protocol scheme.entry) host.now }
 {
     match scheme {
-        Scheme::File | Scheme::Http | Scheme::Https => Piece::Raw(host),
-        Scheme::Git | Scheme::Ssh | Scheme::Ext | Scheme::Helper(_) | Scheme::HelperUrl(_) => {
+        SchemeRef::File | SchemeRef::Http | SchemeRef::Https => Piece::Raw(host),
+        SchemeRef::Git
+        | SchemeRef::Ssh
+        | SchemeRef::Ext
+        | SchemeRef::Helper(_)
+        | SchemeRef::HelperUrl(_) => {
             if is_address(host.as_bytes()) {
                 Piece::password(host)
             } else {

@@ -2,7 +2,7 @@
 use Rattle.std.proofs.Common.{ap}
 use Rattle.std.proofs.lemmas.Result.{err_from_is_err_and}
 use Rattle.gix_url.specs.Pieces.{text_length}
-use Rattle.gix_url.proofs.location.Url.text_len.Goals as goal
+use Rattle.gix_url.proofs.url_ref.UrlRef.text_len.Goals as goal
 
 pub returns-in_err-pieces : goal.returns-in_err-pieces
 returns-in_err-pieces c =

@@ -4,7 +4,7 @@ use Rattle.std.proofs.Common.{inr, ap, refl, sym, ◌∙◌, Err}
 use Rattle.gix_url.specs.declared.error.Error.TheVariants.{Unwritable}
 use Rattle.gix_url.proofs.Written.PieceLemmas.{same_fault}
 use Rattle.gix_url.proofs.Written.RereadLemmas.{written_again, settled_has_text}
-use Rattle.gix_url.proofs.location.Url.to_bstring.Goals as goal
+use Rattle.gix_url.proofs.url_ref.UrlRef.to_bstring.Goals as goal
 
 pub returns-in-Ok-clause-fault : goal.returns-in-Ok-clause-fault
 returns-in-Ok-clause-fault c = λ f none. let both = c.in-Ok.ensures ∙ none in cc
@@ -16,7 +16,7 @@ pub returns-in-Err-clause-refused : goal.returns-in-Err-clause-refused
 returns-in-Err-clause-refused c = inr (c.in-Err.fault, refl, sym c.in-Err.ensures)
 
 pub returns-in-Ok-clause-settled : goal.returns-in-Ok-clause-settled
-returns-in-Ok-clause-settled c = written_again c.args.self.now _ c.collect_in.result c.law_value.ensures.value c.in-Ok.ensures c.collect_in.ensures.text c.collect_in.ensures.memory
+returns-in-Ok-clause-settled c = written_again c.args.self.now _ c.collect_in.result c.law_lent_value.ensures.value c.in-Ok.ensures c.collect_in.ensures.text c.collect_in.ensures.memory
 
 pub returns-in-Err-clause-settled : goal.returns-in-Err-clause-settled
-returns-in-Err-clause-settled c = λ h. absurd (settled_has_text c.args.self.now c.in-Err.fault c.law_value.ensures.value h c.in-Err.ensures)
+returns-in-Err-clause-settled c = λ h. absurd (settled_has_text c.args.self.now c.in-Err.fault c.law_lent_value.ensures.value h c.in-Err.ensures)

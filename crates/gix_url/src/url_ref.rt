@@ -1,0 +1,183 @@
+//! A location that is borrowed: a [`UrlRef`], whose parts are slices of whoever lends them.
+//!
+//! It uses `location` and `scheme`. Its contract: to all others a borrowed location is the same value of eight parts as
+//! the [`Url`] that lends it. What only looks at a location is defined on it, and takes no memory.
+
+ghost use Rattle.std.specs.Prelude.{◌≡◌};
+ghost use Rattle.gix_url.specs.Schemes.{protocol_text};
+ghost use Rattle.gix_url.specs.Views.{lent_protocol, protocol};
+
+use crate::location::Url;
+use crate::scheme::Scheme;
+use std::marker::Model;
+
+/// What a borrowed location is reached by: a [`Scheme`] whose name is a slice. Copies take no memory.
+///
+/// ```
+/// fn is_encrypted(scheme: SchemeRef<'_>) -> bool {
+///     matches!(scheme, SchemeRef::Ssh | SchemeRef::Https)
+/// }
+/// ```
+#[derive(Clone, Copy)]
+pub enum SchemeRef<'a> {
+    /// A path of the local file system, or a `file` URL.
+    File,
+    /// Git's own protocol.
+    Git,
+    /// Secure Shell.
+    Ssh,
+    /// HTTP.
+    Http,
+    /// HTTP, encrypted.
+    Https,
+    /// The remote helper `ext`, which runs a command.
+    Ext,
+    /// Another remote helper, by its name, as in `name::address`.
+    Helper(&'a str),
+    /// The scheme of any other URL, which Git hands to the remote helper of that name.
+    HelperUrl(&'a str),
+}
+
+/// A Git location whose parts are borrowed, from a [`Url`] or from texts that a program has.
+///
+/// Contracts see the same value in it as in a `Url`: eight parts, the retained spelling of its path among them. The
+/// fields are those of `Url`, and may be put together by hand; [`UrlRef::is_settled`] tells whether the location comes
+/// back from its own text. It owns nothing: making one, writing it and asking it takes no memory, but for the text that
+/// [`UrlRef::to_bstring`] answers. It has neither `Debug` nor `Display`, which for `Url` hide the field `password`.
+///
+/// ```
+/// /// Writes the location of a repository on a host, without a copy of either.
+/// fn write_remote(out: &mut Vec<u8>, host: &str, path: &str) -> Result<(), WriteError> {
+///     let remote = UrlRef {
+///         scheme: SchemeRef::Https,
+///         user: None,
+///         password: None,
+///         host: Some(host),
+///         serialize_alternative_form: false,
+///         port: None,
+///         path: path.as_bytes(),
+///         spelling: None,
+///     };
+///     remote.write_to(out) // `https://host/my%20repo` of `host` and `/my repo`
+/// }
+/// ```
+#[derive(Drop)]
+pub struct UrlRef<'a> {
+    /// What the location is reached by.
+    pub scheme: SchemeRef<'a>,
+    /// The user, decoded.
+    pub user: Option<&'a str>,
+    /// The password, decoded. It is not written without a user.
+    pub password: Option<&'a str>,
+    /// The host, with or without brackets as in a `Url`.
+    pub host: Option<&'a str>,
+    /// Whether the form that is no URL is asked for.
+    pub serialize_alternative_form: bool,
+    /// The port.
+    pub port: Option<u16>,
+    /// The path, decoded. It may be any bytes.
+    pub path: &'a [u8],
+    /// The escaped spelling of the path, where there is one. It counts while it decodes to the path.
+    pub spelling: Option<&'a [u8]>,
+}
+
+impl<'a> Model for UrlRef<'a> {
+    ghost use Rattle.gix_url.specs.Value.{Location};
+
+    ghost Value = { Location };
+
+    ghost use Rattle.gix_url.specs.UrlRef.{lent_location};
+
+    ghost view = { lent_location };
+}
+
+impl Url {
+    /// The same location, borrowed. It takes no memory.
+    ///
+    /// ```
+    /// /// Whether the location is settled without its password.
+    /// fn is_settled_without_password(url: &Url) -> bool {
+    ///     let mut bare = url.as_ref();
+    ///     bare.password = None; // the password of `url` stays
+    ///     bare.is_settled()
+    /// }
+    /// ```
+    #[inline(always)]
+    pub fn as_ref(&self) -> UrlRef<'_>
+        ensures { result ≡ self.now }
+    {
+        UrlRef {
+            scheme: self.scheme.as_ref(),
+            user: self.user.as_deref(),
+            password: self.password.as_deref(),
+            host: self.host.as_deref(),
+            serialize_alternative_form: self.serialize_alternative_form,
+            port: self.port,
+            path: self.path.as_bytes(),
+            spelling: match &self.spelling {
+                None => None,
+                Some(spelling) => Some(spelling.as_bytes()),
+            },
+        }
+    }
+}
+
+impl Scheme {
+    /// The same scheme, borrowed. It takes no memory.
+    ///
+    /// ```
+    /// /// The place of a scheme and a host, the other parts of a location left out.
+    /// fn service<'a>(scheme: &'a Scheme, host: &'a str) -> UrlRef<'a> {
+    ///     UrlRef {
+    ///         scheme: scheme.as_ref(),
+    ///         user: None,
+    ///         password: None,
+    ///         host: Some(host),
+    ///         serialize_alternative_form: false,
+    ///         port: scheme.default_port(),
+    ///         path: b"/",
+    ///         spelling: None,
+    ///     }
+    /// }
+    /// ```
+    #[inline(always)]
+    pub fn as_ref(&self) -> SchemeRef<'_>
+        ensures { lent_protocol result ≡ protocol self.now }
+    {
+        match self {
+            Scheme::File => SchemeRef::File,
+            Scheme::Git => SchemeRef::Git,
+            Scheme::Ssh => SchemeRef::Ssh,
+            Scheme::Http => SchemeRef::Http,
+            Scheme::Https => SchemeRef::Https,
+            Scheme::Ext => SchemeRef::Ext,
+            Scheme::Helper(name) => SchemeRef::Helper(name.as_str()),
+            Scheme::HelperUrl(name) => SchemeRef::HelperUrl(name.as_str()),
+        }
+    }
+}
+
+impl<'a> SchemeRef<'a> {
+    /// The text that the scheme is written with, as [`Scheme::as_str`] has it. It takes no memory.
+    ///
+    /// ```
+    /// /// The protocol of a location, for as long as what lends it.
+    /// fn protocol_of<'a>(url: &UrlRef<'a>) -> &'a str {
+    ///     url.scheme.as_str() // `ssh` of `git@host:repo`
+    /// }
+    /// ```
+    pub fn as_str(self) -> &'a str
+        ensures { result.now ≡ protocol_text (lent_protocol self.entry) }
+    {
+        match self {
+            SchemeRef::File => "file",
+            SchemeRef::Git => "git",
+            SchemeRef::Ssh => "ssh",
+            SchemeRef::Http => "http",
+            SchemeRef::Https => "https",
+            SchemeRef::Ext => "ext",
+            SchemeRef::Helper(name) => name,
+            SchemeRef::HelperUrl(name) => name,
+        }
+    }
+}

@@ -1,0 +1,135 @@
+//! Examples of locations that are borrowed.
+
+use bstr::{BStr, BString};
+use gix_url::{Error, Scheme, SchemeRef, Url, UrlRef, WriteError};
+use std::alloc::Global;
+use std::test::Fail;
+
+fn is_encrypted(scheme: SchemeRef<'_>) -> bool {
+    matches!(scheme, SchemeRef::Ssh | SchemeRef::Https)
+}
+
+/// Writes the location of a repository on a host, without a copy of either.
+fn write_remote(out: &mut Vec<u8>, host: &str, path: &str) -> Result<(), WriteError> {
+    let remote = UrlRef {
+        scheme: SchemeRef::Https,
+        user: None,
+        password: None,
+        host: Some(host),
+        serialize_alternative_form: false,
+        port: None,
+        path: path.as_bytes(),
+        spelling: None,
+    };
+    remote.write_to(out) // `https://host/my%20repo` of `host` and `/my repo`
+}
+
+/// Whether the location is settled without its password.
+fn is_settled_without_password(url: &Url) -> bool {
+    let mut bare = url.as_ref();
+    bare.password = None; // the password of `url` stays
+    bare.is_settled()
+}
+
+/// The place of a scheme and a host, the other parts of a location left out.
+fn service<'a>(scheme: &'a Scheme, host: &'a str) -> UrlRef<'a> {
+    UrlRef {
+        scheme: scheme.as_ref(),
+        user: None,
+        password: None,
+        host: Some(host),
+        serialize_alternative_form: false,
+        port: scheme.default_port(),
+        path: b"/",
+        spelling: None,
+    }
+}
+
+/// The protocol of a location, for as long as what lends it.
+fn protocol_of<'a>(url: &UrlRef<'a>) -> &'a str {
+    url.scheme.as_str() // `ssh` of `git@host:repo`
+}
+
+fn append(out: &mut Vec<u8>, url: &UrlRef<'_>) -> Result<(), WriteError> {
+    url.write_to(out)
+}
+
+/// Whether the text fits into a field of so many bytes.
+fn fits(url: &UrlRef<'_>, room: u128) -> bool {
+    url.text_len().is_ok_and(|length| length <= room)
+}
+
+/// The text of a location without its password, which stays as it is.
+fn without_password(alloc: Global, url: &Url) -> Result<BString, Error> {
+    let mut bare = url.as_ref();
+    bare.password = None;
+    bare.to_bstring(alloc) // `https://u@h/p` of `https://u:p@h/p`
+}
+
+fn spelled<'a>(url: &UrlRef<'a>) -> BStr<'a> {
+    url.original_path() // `/my%20repo` of `https://host/my%20repo`, whose path is `/my repo`
+}
+
+/// Writes the location if others read it as the same.
+fn write_settled(out: &mut Vec<u8>, url: &UrlRef<'_>) -> Result<bool, WriteError> {
+    if !url.is_settled() {
+        return Ok(false);
+    }
+    url.write_to(out)?;
+    Ok(true)
+}
+
+#[test]
+fn parts_of_a_program_are_written(rt: HostRuntime) -> Result<(), Fail> {
+    let mut out = Vec::new(rt.alloc());
+    assert!(rt; write_remote(&mut out, "host", "/my repo").is_ok());
+    assert_eq!(rt; out.as_slice(), b"https://host/my%20repo".as_slice());
+    let port = service(&Scheme::Git, "host");
+    assert_eq!(rt; port.port, Some(9418));
+    assert_eq!(rt; protocol_of(&port), "git");
+    assert!(rt; fits(&port, 16) && !fits(&port, 15));
+    Ok(())
+}
+
+#[test]
+fn passwords_are_left_out(rt: HostRuntime) -> Result<(), Fail> {
+    for (text, bare, is_settled) in [
+        ("https://u:p@h/p", "https://u@h/p", true),
+        ("https://:p@h/p", "https://@h/p", false),
+    ] {
+        let url = Url::from_text(rt.alloc(), text)?;
+        assert_eq!(rt; is_settled_without_password(&url), is_settled, "{text}");
+        let without = without_password(rt.alloc(), &url)?;
+        assert_eq!(rt; without.as_bytes(), bare.as_bytes(), "{text}");
+        assert_eq!(rt; url.password(), Some("p"), "{text}");
+    }
+    Ok(())
+}
+
+#[test]
+fn what_is_borrowed_is_the_location(rt: HostRuntime) -> Result<(), Fail> {
+    // Whether the location is encrypted and settled, and how its path is spelled.
+    for (text, encrypted, settled, path) in [
+        ("https://host/my%20repo", true, true, "/my%20repo"),
+        ("git@host:repo", true, true, "repo"),
+        ("[host]::path", true, false, ":path"),
+        ("git://host/p", false, true, "/p"),
+    ] {
+        let url = Url::from_text(rt.alloc(), text)?;
+        let borrowed = url.as_ref();
+        assert_eq!(rt; is_encrypted(borrowed.scheme), encrypted, "{text}");
+        assert_eq!(rt; spelled(&borrowed).as_bytes(), path.as_bytes(), "{text}");
+        let mut out = Vec::new(rt.alloc());
+        assert_eq!(rt;
+            write_settled(&mut out, &borrowed).ok(),
+            Some(settled),
+            "{text}"
+        );
+        assert_eq!(rt; out.as_slice() == text.as_bytes(), settled, "{text}");
+        let mut whole = Vec::new(rt.alloc());
+        assert!(rt; append(&mut whole, &borrowed).is_ok(), "{text}");
+        let own = url.to_bstring(rt.alloc())?;
+        assert_eq!(rt; whole.as_slice(), own.as_bytes(), "{text}");
+    }
+    Ok(())
+}
