@@ -155,6 +155,7 @@ CALLS = {
     "Url::is_settled": over_url(oracle.settled),
     "UrlRef::is_settled": over_url(oracle.settled),
     "Url::agrees_with_git": over_url(oracle.agrees_with_git),
+    "UrlRef::agrees_with_git": over_url(oracle.agrees_with_git),
     "Url::reread": over_url(reread),
     "Url::from_parts": lambda row: from_parts(row["record"]),
     "Url:fmt": over_url(display),

@@ -188,6 +188,7 @@ fn look_at_borrowed(alloc: Global, order: Order<'_>, url: &Url, out: &mut Out) -
     let borrowed = url.as_ref();
     match order.call() {
         "Url::as_ref" => lent(out, &borrowed),
+        "UrlRef::agrees_with_git" => lent(out, &borrowed.agrees_with_git()),
         "UrlRef::is_settled" => lent(out, &borrowed.is_settled()),
         "UrlRef::original_path" => lent(out, &borrowed.original_path()),
         "UrlRef::text_len" => lent(out, &borrowed.text_len()),

@@ -5,7 +5,6 @@
 //! location's own protocol, user, host, port and path (`law_git`).
 
 ghost use Rattle.std.specs.Prelude.{◌≡◌, ◌↔◌, IsTrue, IfSome, None, Some, [], false, option_map};
-ghost use Rattle.std.specs.String.{string_bytes};
 ghost use Rattle.std.specs.List.{list_any};
 ghost use Rattle.gix_url.specs.Arguments.{is_option_like};
 ghost use Rattle.gix_url.specs.GitClass.{AgreesWithGit, HasNoOption, HasPlainText, IsRsync, SuitsTransport, is_contested, is_tilde_second};
@@ -14,7 +13,7 @@ ghost use Rattle.gix_url.specs.Sinks.{Notes, notes_joined, notes_nothing};
 
 use crate::bytes::starts_with_byte;
 use crate::location::Url;
-use crate::scheme::Scheme;
+use crate::url_ref::{SchemeRef, UrlRef};
 use crate::writer::piece::Pieces;
 use crate::writer::sink::Sink;
 use itoa::Buffer;
@@ -47,6 +46,27 @@ impl Url {
     pub fn agrees_with_git(&self) -> bool
         ensures { IsTrue result ↔ AgreesWithGit self.now }
     {
+        self.as_ref().agrees_with_git()
+    }
+}
+
+impl UrlRef<'_> {
+    /// Whether Git reads this very place in the text of the location, as [`Url::agrees_with_git`] tells. It takes no
+    /// memory.
+    ///
+    /// ```
+    /// /// Writes the text for Git, if Git reads the same place in it.
+    /// fn write_for_git(out: &mut Vec<u8>, url: &UrlRef<'_>) -> Result<bool, WriteError> {
+    ///     if !url.agrees_with_git() {
+    ///         return Ok(false); // `ssh://u:p@h/p`, in which Git reads the user `u:p`
+    ///     }
+    ///     url.write_to(out)?;
+    ///     Ok(true)
+    /// }
+    /// ```
+    pub fn agrees_with_git(&self) -> bool
+        ensures { IsTrue result ↔ AgreesWithGit self.now }
+    {
         self.is_settled()
             && self.password.is_none()
             && has_no_option(self)
@@ -56,18 +76,16 @@ impl Url {
 }
 
 /// Whether neither user nor host nor path begins with `-`.
-fn has_no_option(url: &Url) -> bool
+fn has_no_option(url: &UrlRef<'_>) -> bool
     ensures { IsTrue result ↔ HasNoOption url.now }
 {
-    is_no_option(&url.user)
-        && is_no_option(&url.host)
-        && !starts_with_byte(url.path.as_bytes(), b'-')
+    is_no_option(url.user) && is_no_option(url.host) && !starts_with_byte(url.path, b'-')
 }
 
 /// Whether the text, where there is one, doesn't begin with `-`.
-fn is_no_option(part: &Option<String>) -> bool
+fn is_no_option(part: Option<&str>) -> bool
     ensures { IsTrue result
-        ↔ IfSome (option_map string_bytes part.now) (λ t. is_option_like t ≡ false) }
+        ↔ IfSome (option_map (λ t. t.now) part.entry) (λ t. is_option_like t ≡ false) }
 {
     match part {
         None => true,
@@ -76,17 +94,18 @@ fn is_no_option(part: &Option<String>) -> bool
 }
 
 /// Whether the location has what Git's transport of its scheme asks, where Git has one.
-fn suits_transport(url: &Url) -> bool
+fn suits_transport(url: &UrlRef<'_>) -> bool
     ensures { IsTrue result ↔ SuitsTransport url.now.scheme url.now }
 {
-    match &url.scheme {
-        Scheme::Ssh => !is_tilde_second(url.path.as_bytes())
-            && !is_rsync(url)
-            && !has_empty_user(url),
-        Scheme::Git => url.user.is_none(),
-        Scheme::File => url.host.is_none() && !starts_with_byte(url.path.as_bytes(), b'~'),
-        Scheme::Http | Scheme::Https | Scheme::Ext | Scheme::Helper(_) | Scheme::HelperUrl(_) =>
-            false,
+    match url.scheme {
+        SchemeRef::Ssh => !is_tilde_second(url.path) && !is_rsync(url) && !has_empty_user(url),
+        SchemeRef::Git => url.user.is_none(),
+        SchemeRef::File => url.host.is_none() && !starts_with_byte(url.path, b'~'),
+        SchemeRef::Http
+        | SchemeRef::Https
+        | SchemeRef::Ext
+        | SchemeRef::Helper(_)
+        | SchemeRef::HelperUrl(_) => false,
     }
 }
 
@@ -101,39 +120,38 @@ fn is_tilde_second(text: &[u8]) -> bool
 }
 
 /// Whether the location has the scp form and the host `rsync` alone. Of Secure Shell such a text begins with `rsync:`.
-fn is_rsync(url: &Url) -> bool
+fn is_rsync(url: &UrlRef<'_>) -> bool
     ensures { IsTrue result ↔ IsRsync url.now }
 {
     url.serialize_alternative_form && url.user.is_none() && has_host(url, b"rsync")
 }
 
 /// Whether the location has a user, and it is empty.
-fn has_empty_user(url: &Url) -> bool
+fn has_empty_user(url: &UrlRef<'_>) -> bool
     ensures { IsTrue result ↔ (url.now.user ≡ Some []) }
 {
-    match &url.user {
+    match url.user {
         None => false,
         Some(user) => user.is_empty(),
     }
 }
 
 /// Whether the location has this host.
-fn has_host(url: &Url, name: &[u8]) -> bool
+fn has_host(url: &UrlRef<'_>, name: &[u8]) -> bool
     ensures { IsTrue result ↔ (url.now.host ≡ Some name.now) }
 {
-    match &url.host {
+    match url.host {
         None => false,
         Some(host) => host.as_bytes() == name,
     }
 }
 
 /// Whether the location has a text, without a byte by which Git cuts it otherwise.
-fn has_plain_text(url: &Url) -> bool
+fn has_plain_text(url: &UrlRef<'_>) -> bool
     ensures { IsTrue result ↔ HasPlainText url.now }
 {
     let mut digits = Buffer::new();
-    let lent = url.as_ref();
-    match lent.own_pieces(&mut digits) {
+    match url.own_pieces(&mut digits) {
         Ok(pieces) => !are_contested(&pieces),
         Err(_) => false,
     }

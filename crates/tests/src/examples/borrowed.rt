@@ -79,6 +79,27 @@ fn write_settled(out: &mut Vec<u8>, url: &UrlRef<'_>) -> Result<bool, WriteError
     Ok(true)
 }
 
+/// Writes the text for Git, if Git reads the same place in it.
+fn write_for_git(out: &mut Vec<u8>, url: &UrlRef<'_>) -> Result<bool, WriteError> {
+    if !url.agrees_with_git() {
+        return Ok(false); // `ssh://u:p@h/p`, in which Git reads the user `u:p`
+    }
+    url.write_to(out)?;
+    Ok(true)
+}
+
+#[test]
+fn git_gets_what_it_reads_alike(rt: HostRuntime) -> Result<(), Fail> {
+    for (text, agrees) in [("ssh://u@h/p", true), ("ssh://u:p@h/p", false)] {
+        let url = Url::from_text(rt.alloc(), text)?;
+        let mut out = Vec::new(rt.alloc());
+        let outcome = write_for_git(&mut out, &url.as_ref());
+        assert_eq!(rt; outcome.ok(), Some(agrees), "{text}");
+        assert_eq!(rt; out.as_slice() == text.as_bytes(), agrees, "{text}");
+    }
+    Ok(())
+}
+
 #[test]
 fn parts_of_a_program_are_written(rt: HostRuntime) -> Result<(), Fail> {
     let mut out = Vec::new(rt.alloc());
