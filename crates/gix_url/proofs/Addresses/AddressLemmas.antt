@@ -13,6 +13,7 @@ use Rattle.gix_url.specs.Bytes.{colon, dot, FreeOf, lowercase, is_hexadecimal}
 use Rattle.gix_url.specs.Addresses.{IsGroup, IsOctet, IsIpv4Text, AreItems, IsIpv6Text}
 use Rattle.gix_url.proofs.Texts.CutLemmas.{free_of_all}
 use Rattle.gix_url.proofs.Texts.EscapeLemmas.{utf8_class}
+use Rattle.std.proofs.lemmas.Str.Ascii.{lowercase-lowercase}
 
 -- a byte of an address: a hexadecimal digit, `:` or `.`
 abbrev pub is_address_byte : ℕ → Bool
@@ -124,15 +125,11 @@ pub address_two_colons : (t : List ℕ) → IsIpv6Text t → TwoColons t
 address_two_colons t (inl full) = rw full.joined (full_two_colons full.items 8 (omega arith) full.eight)
 address_two_colons t (inr short) = (join_with_byte colon short.front, [], join_with_byte colon short.back, short.joined)
 
--- lower case is taken byte by byte
-byte_lowercase_twice : (b : ℕ) → to_ascii_lowercase (to_ascii_lowercase b) ≡ to_ascii_lowercase b
-byte_lowercase_twice b = grind (arith, nat_tests)
-
 -- lower case has a lower case of its own, which is itself
 pub lowercase_twice : (bs : List ℕ) → lowercase (lowercase bs) ≡ lowercase bs
 lowercase_twice [] = refl
 lowercase_twice (b ∷ bs) =
-    let first = byte_lowercase_twice b in
+    let first = lowercase-lowercase b in
     let rest = lowercase_twice bs in
     cc
 

@@ -2,7 +2,7 @@
 use Rattle.std.proofs.Common.{⊎_elim, ◌≡◌, ◌↔◌, ℕ, Bool, true, false, not, ◌==◌, ◌⊎◌, inl, inr, List, [], ◌∷◌, ◌++◌, refl, sym, ap, subst, ◌∙◌, append_assoc, Option, Some, None, IsSome, Result, Ok, ◌&&◌, IsTrue}
 use Rattle.std.specs.List.{list_all}
 use Rattle.std.specs.Option.{is_some, is_none}
-use Rattle.std.proofs.lemmas.List.{append_cancel_right}
+use Rattle.std.proofs.lemmas.List.{append_cancel_right, same_from_push}
 use Rattle.std.proofs.lemmas.List.Folds.{list_all-append}
 use Rattle.std.proofs.lemmas.Bool.{cond-false, and_right, both_ways, false≢true, true≢false, not-false, and_parts}
 use Rattle.gix_url.specs.Value.{Protocol, Location, path_alone}
@@ -23,7 +23,7 @@ use Rattle.gix_url.specs.Text.Form.{canonical_form}
 use Rattle.gix_url.specs.Authority.{FitsText}
 use Rattle.gix_url.proofs.Readings.LengthLemmas.{fits_text}
 use Rattle.gix_url.proofs.Addresses.AddressLemmas.{address_free}
-use Rattle.gix_url.proofs.Texts.CutLemmas.{cut_unique, different_bytes, not_free, tails, last_unique, scheme_text_free}
+use Rattle.gix_url.proofs.Texts.CutLemmas.{cut_unique, different_bytes, not_free, tails, scheme_text_free}
 
 -- ---- tests in a row
 
@@ -121,7 +121,7 @@ literal_with_zone t a e free joined =
 
 -- brackets are cut off in one way
 inside_brackets : (x y : List ℕ) → left_bracket ∷ (x ++ right_bracket ∷ []) ≡ left_bracket ∷ (y ++ right_bracket ∷ []) → x ≡ y
-inside_brackets x y e = (last_unique x y right_bracket right_bracket (tails e)).0
+inside_brackets x y e = (same_from_push x y right_bracket right_bracket (tails e)).0
 
 -- brackets hold a literal that stays as it is where what stands between them is one
 pub literal_in_brackets : (b : Bool) (host inner : List ℕ) → host ≡ left_bracket ∷ (inner ++ right_bracket ∷ []) → (IsTrue b ↔ IsNormalLiteral inner) → IsTrue b ↔ IsBracketedLiteral host
@@ -134,7 +134,7 @@ literal_in_brackets b host inner joined test = (
 
 -- a text that ends in `]` doesn't end in `:`
 bracket_or_colon : {A : Type 0} (front x : List ℕ) → x ++ right_bracket ∷ [] ≡ front ++ colon ∷ [] → A
-bracket_or_colon front x e = different_bytes right_bracket colon {x = []} {y = []} refl (ap (λ c. c ∷ []) (last_unique x front right_bracket colon e).1)
+bracket_or_colon front x e = different_bytes right_bracket colon {x = []} {y = []} refl (ap (λ c. c ∷ []) (same_from_push x front right_bracket colon e).1)
 
 -- a name of HTTP doesn't end in `:`
 name_or_colon : {A : Type 0} (host front : List ℕ) → IsWebName host → host ≡ front ++ colon ∷ [] → A
@@ -156,10 +156,10 @@ colon_host_from port host front joined none (inr (name, plain)) = named_colon fr
 colon_host_to : (port : Option ℕ) (host front : List ℕ) → host ≡ front ++ colon ∷ [] → IsWebHost port host → (port ≡ None) × IsClosedHost front
 colon_host_to port host front joined (literal n l e) = bracket_or_colon front (left_bracket ∷ n) (sym e ∙ joined)
 colon_host_to port host front joined (literal_colon n l none e) =
-    (none, inl (n, l, sym (last_unique (left_bracket ∷ (n ++ right_bracket ∷ [])) front colon colon (sym (colon_behind n) ∙ sym e ∙ joined)).0))
+    (none, inl (n, l, sym (same_from_push (left_bracket ∷ (n ++ right_bracket ∷ [])) front colon colon (sym (colon_behind n) ∙ sym e ∙ joined)).0))
 colon_host_to port host front joined (named name) = name_or_colon host front name joined
 colon_host_to port host front joined (named_colon n name plain none e) =
-    let same : n ≡ front = (last_unique n front colon colon (sym e ∙ joined)).0 in
+    let same : n ≡ front = (same_from_push n front colon colon (sym e ∙ joined)).0 in
     (none, inr (subst IsWebName same name, subst (λ x. has_percent x ≡ false) same plain))
 
 -- a host with a colon behind it is settled where there is no port, and it is closed before the colon

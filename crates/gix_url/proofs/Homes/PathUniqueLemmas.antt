@@ -6,8 +6,9 @@ use Rattle.std.proofs.lemmas.List.Concat.{flat_map-append}
 use Rattle.gix_url.specs.Bytes.{dot, slash, FreeOf, begins_by, begins_with}
 use Rattle.gix_url.specs.Grammar.{or_root}
 use Rattle.gix_url.specs.Paths.{counts, IsPiece, behind_slashes, IsIdle, HoldsPieces, HasPieces, WithoutFirst, Opens, Joins, LiesBelow, EndsInPiece, IsParent}
-use Rattle.gix_url.proofs.Texts.CutLemmas.{tails, last_unique, class_cut_unique, free-cons}
+use Rattle.gix_url.proofs.Texts.CutLemmas.{tails, class_cut_unique, free-cons}
 use Rattle.gix_url.proofs.Homes.PathLemmas.{idle_none, last_byte, pieces_past}
+use Rattle.std.proofs.lemmas.List.{same_from_push}
 
 -- ---- segments
 
@@ -328,10 +329,10 @@ opens_unique folder x y (Opens.empty_folder e f) (Opens.behind_name front last n
 opens_unique folder x y (Opens.behind_slash front e f) (Opens.empty_folder g h) = ended front slash (sym g ∙ e)
 opens_unique folder x y (Opens.behind_slash front e f) (Opens.behind_slash other g h) = f ∙ sym h
 opens_unique folder x y (Opens.behind_slash front e f) (Opens.behind_name other last n g h) =
-    absurd (both_ways (last == slash) n (eq-eqb last slash (sym (last_unique front other slash last (sym e ∙ g)).1)))
+    absurd (both_ways (last == slash) n (eq-eqb last slash (sym (same_from_push front other slash last (sym e ∙ g)).1)))
 opens_unique folder x y (Opens.behind_name front last n e f) (Opens.empty_folder g h) = ended front last (sym g ∙ e)
 opens_unique folder x y (Opens.behind_name front last n e f) (Opens.behind_slash other g h) =
-    absurd (both_ways (last == slash) n (eq-eqb last slash (last_unique front other last slash (sym e ∙ g)).1))
+    absurd (both_ways (last == slash) n (eq-eqb last slash (same_from_push front other last slash (sym e ∙ g)).1))
 opens_unique folder x y (Opens.behind_name front last n e f) (Opens.behind_name other byte m g h) = f ∙ sym h
 
 -- and it can be

@@ -5,11 +5,12 @@ use Rattle.std.specs.Char.{is_ascii_digit, is_ascii_uppercase, is_ascii_lowercas
 use Rattle.std.proofs.lemmas.List.Sums.{fails_before_first, passes_at_first}
 use Rattle.std.proofs.lemmas.Bool.{both_ways, false≢true, cases_Bool, cases_lt, and_from, or_left, eqb-true, eq-eqb, and_parts, or_parts, or_from, false_from_ne_true}
 use Rattle.std.proofs.lemmas.Grind.{same_number_lists}
-use Rattle.std.proofs.lemmas.List.{at_drop_more, drop_all, take-append-drop, drop-drop, get_or-take, get_or-drop, get_or-append-add, get_or_append_left, length-take-le, length-take, length-drop, length-append, same_from_push}
+use Rattle.std.proofs.lemmas.List.{at_drop_more, drop_all, take-append-drop, drop-drop, get_or-take, get_or-drop, get_or-append-add, get_or_append_left, length-take-le, length-take, length-drop, length-append}
 use Rattle.bstr.specs.Find.{OccursAt}
 use Rattle.memchr.specs.Find.{IsFirstByte, IsLastByte, FindsNeedle, is_byte, is_byte3}
 use Rattle.gix_url.specs.Bytes.{colon, Lacks, FreeOf, Holds, begins_by, begins_with, is_name_byte, is_scheme_mark, is_scheme_text, is_helper_name, is_path_start, StartsPath}
 use Rattle.gix_url.specs.Cuts.{url_mark}
+use Rattle.std.proofs.Math.Bool.{or-false, or_assoc}
 
 -- ---- heads and tails
 
@@ -24,10 +25,6 @@ tails e = cc
 -- lists that begin with different bytes are not equal
 pub different_bytes : {A : Type 0} (a b : ℕ) {x y : List ℕ} → eqb a b ≡ false → a ∷ x ≡ b ∷ y → A
 different_bytes a b h e = absurd (both_ways (eqb a b) h (eq-eqb a b (heads e)))
-
--- lists that end with a byte each are equal in front and at the end
-pub last_unique : (x y : List ℕ) (c d : ℕ) → x ++ c ∷ [] ≡ y ++ d ∷ [] → (x ≡ y) × (c ≡ d)
-last_unique x y c d e = same_from_push x y c d e
 
 -- ---- what a text lacks
 
@@ -223,21 +220,13 @@ first_alike test other bs None alike h = λ k low high passes. h k low high (ali
 first_alike test other bs (Some n) alike h =
     (record { low = h.0.low; high = h.0.high; before = λ k low high passes. h.0.before k low high (alike (get_or bs k 0) ∙ passes) }, sym (alike (get_or bs n 0)) ∙ h.1)
 
-or_nothing : (is : Bool) → is ≡ (is || false)
-or_nothing true = refl
-or_nothing false = refl
-
-or_again : (x y z : Bool) → ((x || y) || z) ≡ (x || (y || z))
-or_again true y z = refl
-or_again false y z = refl
-
 starts_on_the_web : (web : Bool) → web ≡ true → (b : ℕ) → is_byte3 47 63 35 b ≡ is_path_start web b
-starts_on_the_web true is b = or_again (b == 47) (b == 63) (b == 35)
+starts_on_the_web true is b = or_assoc (b == 47) (b == 63) (b == 35)
 starts_on_the_web false is b = absurd (false≢true is)
 
 starts_elsewhere : (web : Bool) → web ≡ false → (b : ℕ) → is_byte 47 b ≡ is_path_start web b
 starts_elsewhere true is b = absurd (false≢true (sym is))
-starts_elsewhere false is b = or_nothing (b == 47)
+starts_elsewhere false is b = sym (or-false (b == 47))
 
 -- the first `/`, `?` or `#` is where a path may first start on the web
 pub web_start : (web : Bool) (bs : List ℕ) (found : Option ℕ) → web ≡ true → IsFirstByte (is_byte3 47 63 35) bs found → IsFirstByte (is_path_start web) bs found

@@ -21,7 +21,7 @@ use Rattle.percent_encoding.specs.declared.ascii_set.AsciiSet.{AsciiSet}
 use Rattle.percent_encoding.specs.AsciiSet.{contains, should_percent_encode}
 use Rattle.percent_encoding.proofs.AsciiSetLemmas.{ascii_from_kept, outside_from_kept, kept_from_outside}
 use Rattle.percent_encoding.specs.Percent.{percent_decode, percent_encode, percent_encode_byte}
-use Rattle.percent_encoding.proofs.PercentLemmas.{IsEscapeByte, All-percent_encode, All-percent_encode_byte, percent_encode_nonempty, IsAscii-percent_encode, percent_encode-nil, percent_encode-append, percent_encode_escaped, percent_encode_kept, round_trip, percent_decode-nil, percent_decode_not_percent, percent_decode_escape, length-percent_decode}
+use Rattle.percent_encoding.proofs.PercentLemmas.{IsEscapeByte, All-percent_encode, All-percent_encode_byte, percent_encode_nonempty, IsAscii-percent_encode, percent_encode-nil, percent_encode_escaped, percent_encode_kept, round_trip, percent_decode-nil, percent_decode_not_percent, percent_decode_escape, length-percent_decode}
 use Rattle.gix_url.specs.Bytes.{newline, percent_sign, Lacks, FreeOf, LacksWhiteSpace}
 use Rattle.gix_url.specs.Escapes.{is_sound, begins_with_digits, escaped_percents}
 use Rattle.gix_url.proofs.Texts.CutLemmas.{free_or_cut, heads}
@@ -235,18 +235,6 @@ decodes_in_parts (b ∷ high ∷ low ∷ rest) ys sound =
 abbrev pub is_escape_byte : ℕ → Bool
 is_escape_byte b = b == 37 || (nat_lt 47 b && nat_lt b 58) || (nat_lt 64 b && nat_lt b 71)
 
--- decoding undoes encoding by a set that has `%`
-pub decode_encode : (set : AsciiSet) (t : List ℕ) → contains set 37 ≡ true → All (λ b. b < 256) t → percent_decode (percent_encode set t) ≡ t
-decode_encode set t has small = round_trip set t has small
-
--- texts are encoded apart from each other
-pub encode-append : (set : AsciiSet) (xs ys : List ℕ) → percent_encode set (xs ++ ys) ≡ percent_encode set xs ++ percent_encode set ys
-encode-append set xs ys = percent_encode-append set xs ys
-
--- what is written is ASCII
-pub IsAscii-encode : (set : AsciiSet) (t : List ℕ) → IsAscii (percent_encode set t)
-IsAscii-encode set t = IsAscii-percent_encode set t
-
 -- a digit of an escape is a hexadecimal digit
 pub glyph_is_digit : (d : ℕ) → d < 16 → is_digit (digit_glyph true d) 16 ≡ true
 glyph_is_digit d small = grind (arith, nat_tests)
@@ -274,10 +262,6 @@ escape_byte_passes b h = grind (arith, nat_tests)
 pub encode_lacks : (test : ℕ → Bool) (set : AsciiSet) (t : List ℕ) → ((b : ℕ) → b < 128 → contains set b ≡ false → test b ≡ false) → ((b : ℕ) → is_escape_byte b ≡ true → test b ≡ false) → Lacks test (percent_encode set t)
 encode_lacks test set t kept escapes =
     list_any_none test _ (All-percent_encode (λ b. test b ≡ false) set t (λ b keeps. kept b (ascii_from_kept set b keeps) (outside_from_kept set b keeps)) (λ b escape. escapes b (escape_byte_passes b escape)))
-
--- the empty text is written empty
-pub encode_nil : (set : AsciiSet) → percent_encode set [] ≡ []
-encode_nil set = percent_encode-nil set
 
 -- only the empty text is written empty
 pub encode_empty : (set : AsciiSet) (t : List ℕ) → percent_encode set t ≡ [] → t ≡ []
@@ -361,10 +345,6 @@ escaped_percents-append (x ∷ xs) ys =
     ⊎_elim (λ percent. rw percent (ap (λ t. 37 ∷ 50 ∷ 53 ∷ t) rest)) (λ other. rw other (ap (λ t. x ∷ t) rest)) (cases_Bool (x == 37))
 
 -- ---- UTF-8 and white space in parts
-
--- UTF-8 texts joined are UTF-8
-pub utf8-append : (xs ys : List ℕ) → IsUtf8 xs → IsUtf8 ys → IsUtf8 (xs ++ ys)
-utf8-append xs ys front rest = IsUtf8-append xs ys front rest
 
 -- what follows a UTF-8 front of a UTF-8 text is UTF-8
 pub utf8_behind : (xs ys : List ℕ) → IsUtf8 (xs ++ ys) → IsUtf8 xs → IsUtf8 ys
@@ -484,11 +464,11 @@ bytes_from_utf8 t utf8 = subst (All (λ b. b < 256)) utf8.1.1 (small_encodes utf
 
 -- decoding undoes encoding of a UTF-8 text by a set that has `%`
 pub decode_encode_utf8 : (set : AsciiSet) (t : List ℕ) → contains set 37 ≡ true → IsUtf8 t → percent_decode (percent_encode set t) ≡ t
-decode_encode_utf8 set t has utf8 = decode_encode set t has (bytes_from_utf8 t utf8)
+decode_encode_utf8 set t has utf8 = round_trip set t has (bytes_from_utf8 t utf8)
 
 -- what is written is UTF-8
 pub utf8_encode : (set : AsciiSet) (t : List ℕ) → IsUtf8 (percent_encode set t)
-utf8_encode set t = IsUtf8-from_ascii (percent_encode set t) (IsAscii-encode set t)
+utf8_encode set t = IsUtf8-from_ascii (percent_encode set t) (IsAscii-percent_encode set t)
 
 space_kept : (set : AsciiSet) (b : ℕ) → ((c : ℕ) → c < 128 → is_whitespace c ≡ true → contains set c ≡ true) → b < 128 → contains set b ≡ false → is_whitespace b ≡ false
 space_kept set b spaces ascii kept = false_from_ne_true _ (λ space. both_ways _ kept (spaces b ascii space))
@@ -496,4 +476,4 @@ space_kept set b spaces ascii kept = false_from_ne_true _ (λ space. both_ways _
 -- what is written by a set that has the ASCII white space lacks white space
 pub white_space_encode : (set : AsciiSet) (t : List ℕ) → ((b : ℕ) → b < 128 → is_whitespace b ≡ true → contains set b ≡ true) → LacksWhiteSpace (percent_encode set t)
 white_space_encode set t spaces =
-    white_space_ascii (percent_encode set t) (IsAscii-encode set t) (encode_lacks is_whitespace set t (λ b ascii kept. space_kept set b spaces ascii kept) (λ b escape. grind (arith, nat_tests)))
+    white_space_ascii (percent_encode set t) (IsAscii-percent_encode set t) (encode_lacks is_whitespace set t (λ b ascii kept. space_kept set b spaces ascii kept) (λ b escape. grind (arith, nat_tests)))

@@ -14,12 +14,13 @@ use Rattle.gix_url.specs.Schemes.{is_web_scheme, protocol_of, mode_of}
 use Rattle.gix_url.specs.Authority.{unless_empty, user_beside, Credentials, Authority}
 use Rattle.gix_url.specs.Grammar.{helper_protocol, SpellsHelper, UrlParts, SpellsParts, Peels, HostFor, path_for, retained_spelling, MeansByProtocol, MeansAs, SpellsUrl, SpellsFile, ScpFront, AddressedShape, ScpUser, Unbrackets, ScpHost, scp_location, SpellsScpBefore, SpellsScpAddressed, SpellsScp, Spells}
 use Rattle.gix_url.proofs.Readings.SchemeLemmas.{means_cases}
-use Rattle.gix_url.proofs.Texts.CutLemmas.{heads, tails, class_cut_unique, path_cut_unique, cut_unique, last_cut_unique, last_unique, scheme_text_free, helper_name_free, free-append, free_parts, free_head_tail, free_or_cut, not_free}
+use Rattle.gix_url.proofs.Texts.CutLemmas.{heads, tails, class_cut_unique, path_cut_unique, cut_unique, last_cut_unique, scheme_text_free, helper_name_free, free-append, free_parts, free_head_tail, free_or_cut, not_free}
 use Rattle.gix_url.proofs.Addresses.AddressLemmas.{address_free, address_utf8, address-lowercase}
 use Rattle.gix_url.proofs.Texts.EscapeLemmas.{decode_kept, lacks_escaped_percents, escaped_percents_kept}
 use Rattle.gix_url.proofs.Readings.FormLemmas.{scheme_cut_unique, address_cut, addressed_joined, addressed_front_free, address_front_free, address_back_free, scp_neither, scp_shaped}
 use Rattle.gix_url.proofs.Readings.HostLemmas.{names_unique}
 use Rattle.gix_url.proofs.Readings.ShapeLemmas.{bracketed_joined, same_front, shape_of_file, shape_of_url, spelled_as_file, spelled_as_url, spelled_as_helper, spelled_as_scp, spelled_as_local}
+use Rattle.std.proofs.lemmas.List.{same_from_push}
 
 -- ---- remote helpers
 
@@ -71,7 +72,7 @@ parts_unique b p q h k =
 -- a text in brackets and one in brackets with a colon behind them are different
 brackets_apart : (x y : List ℕ) → left_bracket ∷ (x ++ right_bracket ∷ []) ≡ left_bracket ∷ (y ++ right_bracket ∷ (colon ∷ [])) → ⊥
 brackets_apart x y e =
-    let ends = last_unique x (y ++ right_bracket ∷ []) right_bracket colon (tails e ∙ sym (append_assoc y (right_bracket ∷ []) (colon ∷ []))) in
+    let ends = same_from_push x (y ++ right_bracket ∷ []) right_bracket colon (tails e ∙ sym (append_assoc y (right_bracket ∷ []) (colon ∷ []))) in
     eqb-false right_bracket colon refl ends.1
 
 -- a text that begins with a bracket isn't one that doesn't, with something behind it
@@ -81,22 +82,22 @@ begins_apart x (d ∷ y) z c f e other = both_ways (d == left_bracket) f (eq-eqb
 
 -- Secure Shell takes one host out of a host
 pub peels_unique : (host x y : List ℕ) → Peels host x → Peels host y → x ≡ y
-peels_unique host x y (Peels.brackets e) (Peels.brackets f) = (last_unique x y right_bracket right_bracket (tails (sym e ∙ f))).0
+peels_unique host x y (Peels.brackets e) (Peels.brackets f) = (same_from_push x y right_bracket right_bracket (tails (sym e ∙ f))).0
 peels_unique host x y (Peels.brackets e) (Peels.brackets_colon f) = absurd (brackets_apart x y (sym e ∙ f))
 peels_unique host x y (Peels.brackets e) (Peels.last_colon free blank f) =
-    absurd (eqb-false right_bracket colon refl (last_unique (left_bracket ∷ x) y right_bracket colon (sym e ∙ f)).1)
+    absurd (eqb-false right_bracket colon refl (same_from_push (left_bracket ∷ x) y right_bracket colon (sym e ∙ f)).1)
 peels_unique host x y (Peels.brackets e) (Peels.same no_brackets no_colon no_end f) = absurd (no_brackets (x, e))
 peels_unique host x y (Peels.brackets_colon e) (Peels.brackets f) = absurd (brackets_apart y x (sym f ∙ e))
 peels_unique host x y (Peels.brackets_colon e) (Peels.brackets_colon f) =
     let fronts : (x ++ right_bracket ∷ []) ++ colon ∷ [] ≡ (y ++ right_bracket ∷ []) ++ colon ∷ [] =
     append_assoc x (right_bracket ∷ []) (colon ∷ []) ∙ tails (sym e ∙ f) ∙ sym (append_assoc y (right_bracket ∷ []) (colon ∷ [])) in
-    (last_unique x y right_bracket right_bracket (last_unique (x ++ right_bracket ∷ []) (y ++ right_bracket ∷ []) colon colon fronts).0).0
+    (same_from_push x y right_bracket right_bracket (same_from_push (x ++ right_bracket ∷ []) (y ++ right_bracket ∷ []) colon colon fronts).0).0
 peels_unique host x y (Peels.brackets_colon e) (Peels.last_colon free blank f) = absurd (begins_apart _ y [] colon blank (sym e ∙ f) refl)
 peels_unique host x y (Peels.brackets_colon e) (Peels.same no_brackets no_colon no_end f) = absurd (no_colon (x, e))
 peels_unique host x y (Peels.last_colon free blank e) (Peels.brackets f) =
-    absurd (eqb-false right_bracket colon refl (last_unique (left_bracket ∷ y) x right_bracket colon (sym f ∙ e)).1)
+    absurd (eqb-false right_bracket colon refl (same_from_push (left_bracket ∷ y) x right_bracket colon (sym f ∙ e)).1)
 peels_unique host x y (Peels.last_colon free blank e) (Peels.brackets_colon f) = absurd (begins_apart _ x [] colon blank (sym f ∙ e) refl)
-peels_unique host x y (Peels.last_colon free blank e) (Peels.last_colon also closed f) = (last_unique x y colon colon (sym e ∙ f)).0
+peels_unique host x y (Peels.last_colon free blank e) (Peels.last_colon also closed f) = (same_from_push x y colon colon (sym e ∙ f)).0
 peels_unique host x y (Peels.last_colon free blank e) (Peels.same no_brackets no_colon no_end f) = absurd (no_end (x, free, blank, e))
 peels_unique host x y (Peels.same no_brackets no_colon no_end e) (Peels.brackets f) = absurd (no_brackets (y, f))
 peels_unique host x y (Peels.same no_brackets no_colon no_end e) (Peels.brackets_colon f) = absurd (no_colon (y, f))
@@ -177,7 +178,7 @@ scp_user_unique front user other host second f g (ScpUser.with_user u e n) (ScpU
 
 -- brackets are taken off in one way
 unbrackets_unique : (host x y : List ℕ) → Unbrackets host x → Unbrackets host y → x ≡ y
-unbrackets_unique host x y (Unbrackets.brackets e) (Unbrackets.brackets f) = (last_unique x y right_bracket right_bracket (tails (sym e ∙ f))).0
+unbrackets_unique host x y (Unbrackets.brackets e) (Unbrackets.brackets f) = (same_from_push x y right_bracket right_bracket (tails (sym e ∙ f))).0
 unbrackets_unique host x y (Unbrackets.brackets e) (Unbrackets.same n f) = absurd (n (x, e))
 unbrackets_unique host x y (Unbrackets.same n e) (Unbrackets.brackets f) = absurd (n (y, f))
 unbrackets_unique host x y (Unbrackets.same n e) (Unbrackets.same m f) = e ∙ sym f

@@ -21,12 +21,14 @@ use Rattle.gix_url.specs.SettledParts.{IsScpPath}
 use Rattle.gix_url.specs.Laws.{ComesBack}
 use Rattle.gix_url.proofs.Texts.CutLemmas.{heads, tails, different_bytes, not_free, free-append, free_begins, free-cons, free_head_tail, helper_name_free}
 use Rattle.gix_url.proofs.Addresses.AddressLemmas.{is_address_byte, address_byte_ascii, address_bytes, address_free, address_utf8}
-use Rattle.gix_url.proofs.Texts.EscapeLemmas.{decode_escaped_percents, lacks_escaped_percents, escaped_percents_kept, utf8-append, utf8_byte, utf8_joined, white_space-append, white_space_ascii, white_space_byte}
+use Rattle.gix_url.proofs.Texts.EscapeLemmas.{decode_escaped_percents, lacks_escaped_percents, escaped_percents_kept, utf8_byte, utf8_joined, white_space-append, white_space_ascii, white_space_byte}
 use Rattle.gix_url.proofs.Readings.FormLemmas.{address_cut, addressed_joined, addressed_front_free, begins_before_at}
 use Rattle.gix_url.proofs.Readings.ShapeLemmas.{helper_front}
 use Rattle.gix_url.proofs.Unique.UniqueLemmas.{bracketed_address_named}
 use Rattle.gix_url.proofs.Closed.SettledLemmas.{settled_scp, value_of}
 use Rattle.gix_url.proofs.Written.WrittenPathLemmas.{homeless_kept}
+use Rattle.gix_url.specs.HostPieces.{in_brackets}
+use Rattle.std.proofs.lemmas.Str.{IsUtf8-append}
 
 -- ---- values
 
@@ -59,7 +61,7 @@ scp_written user host path spelling = scp_written_by (is_relative path) user hos
 scp_text_utf8 : (user : Option (List ℕ)) (host path : List ℕ) → IfSome user IsUtf8 → IsUtf8 host → IsUtf8 path → IsUtf8 (raw_user user ++ (host ++ colon ∷ path))
 scp_text_utf8 None host path u h p = utf8_joined host path colon h (omega arith) p
 scp_text_utf8 (Some user) host path u h p =
-    utf8-append (user ++ at_sign ∷ []) (host ++ colon ∷ path) (utf8-append user (at_sign ∷ []) u (utf8_byte at_sign (omega arith))) (utf8_joined host path colon h (omega arith) p)
+    IsUtf8-append (user ++ at_sign ∷ []) (host ++ colon ∷ path) (IsUtf8-append user (at_sign ∷ []) u (utf8_byte at_sign (omega arith))) (utf8_joined host path colon h (omega arith) p)
 
 -- ---- neither a URL nor a remote helper
 
@@ -202,10 +204,6 @@ name_spelled user h path named host u n p other =
 
 -- ---- an address
 
--- brackets around a text
-abbrev in_brackets : List ℕ → List ℕ
-in_brackets h = left_bracket ∷ (h ++ right_bracket ∷ [])
-
 -- a text with a colon in it holds one
 pub holds_colon : (x y : List ℕ) → has_colon (x ++ colon ∷ y) ≡ true
 holds_colon [] y = refl
@@ -232,7 +230,7 @@ address_named h a = subst (λ n. Names bare (in_brackets h) (Some (in_brackets n
 -- an address in brackets is UTF-8
 in_brackets_utf8 : (h : List ℕ) → IsNormalAddress h → IsUtf8 (in_brackets h)
 in_brackets_utf8 h a =
-    utf8-append (left_bracket ∷ []) (h ++ right_bracket ∷ []) (utf8_byte left_bracket (omega arith)) (utf8-append h (right_bracket ∷ []) (address_utf8 h a.address) (utf8_byte right_bracket (omega arith)))
+    IsUtf8-append (left_bracket ∷ []) (h ++ right_bracket ∷ []) (utf8_byte left_bracket (omega arith)) (IsUtf8-append h (right_bracket ∷ []) (address_utf8 h a.address) (utf8_byte right_bracket (omega arith)))
 
 -- what holds of each byte that an address may hold holds of all of its bytes
 all_address_bytes : (P : ℕ → Type 0) → ((b : ℕ) → is_address_byte b ≡ true → P b) → (t : List ℕ) → list_all is_address_byte t ≡ true → All P t
