@@ -133,15 +133,19 @@ lowercase_twice (b ∷ bs) =
     let rest = lowercase_twice bs in
     cc
 
+-- a class of bytes that stay in it in lower case holds of a text in lower case
+pub all_lowercase : (class : ℕ → Bool) → ((b : ℕ) → class b ≡ true → class (to_ascii_lowercase b) ≡ true) → (bs : List ℕ) → list_all class bs ≡ true → list_all class (lowercase bs) ≡ true
+all_lowercase class stays [] h = refl
+all_lowercase class stays (b ∷ bs) h =
+    let parts = and_parts (class b) (list_all class bs) h in
+    and_from _ _ (stays b parts.0) (all_lowercase class stays bs parts.1)
+
 -- a hexadecimal digit stays one
 hexdigit_lowercase : (b : ℕ) → is_hexadecimal b ≡ true → is_hexadecimal (to_ascii_lowercase b) ≡ true
 hexdigit_lowercase b h = grind (arith, nat_tests)
 
 hexdigits_lowercase : (g : List ℕ) → list_all is_hexadecimal g ≡ true → list_all is_hexadecimal (lowercase g) ≡ true
-hexdigits_lowercase [] h = refl
-hexdigits_lowercase (b ∷ g) h =
-    let (first, rest) = and_parts (is_hexadecimal b) (list_all is_hexadecimal g) h in
-    and_from _ _ (hexdigit_lowercase b first) (hexdigits_lowercase g rest)
+hexdigits_lowercase g h = all_lowercase is_hexadecimal hexdigit_lowercase g h
 
 -- so does a group
 group_lowercase : (g : List ℕ) → IsGroup g → IsGroup (lowercase g)

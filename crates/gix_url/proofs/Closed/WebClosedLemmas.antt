@@ -27,10 +27,12 @@ use Rattle.gix_url.specs.Settled.IsWebHost.{literal, literal_colon, named, named
 use Rattle.gix_url.specs.SettledParts.{IsHosted}
 use Rattle.gix_url.proofs.Texts.CutLemmas.{free-append, free_begins, free_of_all, free_parts}
 use Rattle.gix_url.proofs.Texts.EscapeLemmas.{sound_tail, sound_parts, sound_around, sound_free, decode_byte, utf8_byte, utf8_seam, white_space_parts}
-use Rattle.gix_url.proofs.Closed.NormalLemmas.{normal_again, literal_again, all_lowercase, dns_lowercase}
+use Rattle.gix_url.proofs.Closed.NormalLemmas.{normal_again, literal_again}
 use Rattle.gix_url.proofs.Readings.SchemeLemmas.{protocol_cases}
 use Rattle.gix_url.proofs.Written.WrittenPathLemmas.{start_ascii, matched, written_fair}
-use Rattle.gix_url.proofs.Closed.SettledLemmas.{one_text, written_web}
+use Rattle.gix_url.proofs.Addresses.AddressLemmas.{all_lowercase}
+use Rattle.gix_url.proofs.Readings.HostLemmas.{dns_lowercase}
+use Rattle.gix_url.proofs.Written.WrittenAsUrlLemmas.{one_text, written_web}
 
 -- ---- hosts
 

@@ -23,11 +23,11 @@ use Rattle.gix_url.proofs.Readings.UrlLemmas.{none_not_some}
 use Rattle.gix_url.proofs.Readings.SchemeLemmas.{protocol_cases, means_cases}
 use Rattle.gix_url.proofs.Unique.UniqueLemmas.{meant_with}
 use Rattle.gix_url.proofs.Written.KeptLemmas.{helper_unchanged, local_unchanged}
-use Rattle.gix_url.proofs.Closed.SettledLemmas.{host_given, not_relative, secure_choice}
 use Rattle.gix_url.proofs.Values.RecordLemmas.{unmigrated}
 use Rattle.gix_url.proofs.Closed.WebClosedLemmas.{retained_by, sound_behind, parts_joined}
 use Rattle.gix_url.proofs.Written.WrittenScpLemmas.{scp_written}
 use Rattle.std.proofs.lemmas.Option.{none-some}
+use Rattle.gix_url.proofs.Written.WrittenAsUrlLemmas.{host_given, not_relative, secure_choice}
 
 -- ---- a text
 

@@ -16,11 +16,11 @@ use Rattle.gix_url.specs.GitClass.{is_contested, HasNoOption, AgreesWithGit, own
 use Rattle.gix_url.proofs.Texts.CutLemmas.{free-append, free_of_lacked, free_parts, not_free}
 use Rattle.gix_url.proofs.Texts.EscapeLemmas.{no_line}
 use Rattle.gix_url.proofs.Addresses.AddressLemmas.{address_two_colons}
-use Rattle.gix_url.proofs.Closed.SettledLemmas.{one_text, written_git, written_secure}
 use Rattle.gix_url.proofs.Readings.UrlLemmas.{some_kept}
 use Rattle.gix_url.proofs.Written.WrittenUrlLemmas.{authority_text, canonical_cut}
 use Rattle.gix_url.proofs.GitReadings.GitCutLemmas.{IsPortless, ReadsPlace, git_decode_kept, place_cut, place_with_port, place_without_port, portless_coloned, portless_free, some_behind}
 use Rattle.gix_url.proofs.GitReadings.GitPieceLemmas.{IsHostRaw, IsPathRaw, IsUserRaw, beside_port, host_raw, no_match, path_raw, port_free, user_raw}
+use Rattle.gix_url.proofs.Written.WrittenAsUrlLemmas.{one_text, written_git, written_secure}
 
 -- ---- texts without contested bytes
 

@@ -26,11 +26,11 @@ use Rattle.gix_url.specs.Laws.{SameComponents}
 use Rattle.gix_url.proofs.Texts.CutLemmas.{cut_unique, free_or_cut, not_free}
 use Rattle.gix_url.proofs.Texts.EscapeLemmas.{is_escape_byte, bytes_from_utf8, decode_byte, decode_encode_utf8, encode_empty, encode_byte_kept, encode_lacks_kept, lacks_from_encode}
 use Rattle.gix_url.proofs.Texts.EscapeSets.{path_holds}
-use Rattle.gix_url.proofs.Closed.SettledLemmas.{one_text, written_web}
 use Rattle.gix_url.proofs.Closed.WebClosedLemmas.{spelled_as}
 use Rattle.gix_url.proofs.Unique.UniqueLemmas.{spells_unique}
 use Rattle.gix_url.proofs.Written.AgainLemmas.{web_spelled}
 use Rattle.gix_url.proofs.Refused.CornerLemmas.{settled_as_web}
+use Rattle.gix_url.proofs.Written.WrittenAsUrlLemmas.{one_text, written_web}
 
 -- every number of the text is a byte
 abbrev IsBytes : List ℕ → Type 0

@@ -29,8 +29,7 @@ use Rattle.gix_url.specs.Flaws.{IsNoPort, HasBadPort, IsPortPlace, IsNoInner, Br
 use Rattle.gix_url.specs.HostPieces.{EndsHost, Follows, IsBadPort, named_text, IsEscapedZone, IsInner, in_brackets, lowercase_address, shown_literal}
 use Rattle.gix_url.proofs.Texts.CutLemmas.{heads, tails, class_cut_unique, cut_unique, free-append, free_begins, free_head_tail, free_of_all, free_or_cut, begins-append, not_free}
 use Rattle.gix_url.proofs.Texts.EscapeLemmas.{decode_kept, decodes_in_parts, sound_free, utf8_byte, utf8_class}
-use Rattle.gix_url.proofs.Addresses.AddressLemmas.{address_free, address_two_colons, address_utf8, address-lowercase}
-use Rattle.gix_url.proofs.Closed.NormalLemmas.{dns_lowercase}
+use Rattle.gix_url.proofs.Addresses.AddressLemmas.{address_free, address_two_colons, address_utf8, address-lowercase, all_lowercase}
 
 -- ---- modes
 
@@ -566,6 +565,14 @@ pub room_for_all : (text yielded rest : List ℕ) → percent_decode text ≡ yi
 room_for_all text yielded rest e = omega (arith, (length-percent_decode text).0, ap length e, length-append yielded rest)
 
 -- ---- hosts are text
+
+-- a byte of a domain name stays one in lower case
+dns_byte_lowercase : (b : ℕ) → is_dns_byte b ≡ true → is_dns_byte (to_ascii_lowercase b) ≡ true
+dns_byte_lowercase b h = grind (arith, nat_tests)
+
+-- so do those of a text
+pub dns_lowercase : (bs : List ℕ) → list_all is_dns_byte bs ≡ true → list_all is_dns_byte (lowercase bs) ≡ true
+dns_lowercase bs h = all_lowercase is_dns_byte dns_byte_lowercase bs h
 
 -- a byte that looks like a part of a domain name is ASCII
 dns_byte_ascii : (b : ℕ) → is_dns_byte b ≡ true → b < 128

@@ -15,8 +15,7 @@ use Rattle.gix_url.specs.Flaws.{ScpHostFlaw, MissesPath}
 use Rattle.gix_url.specs.Shapes.{ColonCut, HasFrontCut, LacksBrackets, HasScpCut, HasAddressedCut, AddressedFront, PlainScp}
 use Rattle.gix_url.specs.ScpPieces.{ColonsInside}
 use Rattle.gix_url.specs.Refusals.{HasFlaw, Decided}
-use Rattle.gix_url.proofs.Texts.CutLemmas.{tails, free-cons, begins_cut, free_or_cut, not_free}
-use Rattle.gix_url.proofs.Closed.ClosedLemmas.{ends_or_not}
+use Rattle.gix_url.proofs.Texts.CutLemmas.{tails, free-cons, begins_cut, free_or_cut, not_free, ends_or_not}
 use Rattle.gix_url.proofs.Readings.ShapeLemmas.{no_helper_free, no_helper_alone, no_helper_unnamed, front_unbracketed, front_taken, no_scp_cut, no_scp_uncut, addressed_free, addressed_at, addressed_unbracketed, addressed_bracketed, addressed_no_path, addressed_other, plain_scp, local_shape, unbracketed_front}
 use Rattle.gix_url.proofs.Readings.ScpLemmas.{colons_inside_front, colons_inside_host, colons_inside_escaped, no_port_inside, no_port_named, nothing_named, nothing_escaped, scp_host_found, scp_host_utf8}
 use Rattle.gix_url.proofs.Refused.TextDecisions.{Decides, nil_or_some, free_or_not, white_or_not, utf8_or_not, address_or_not, free_or_last_cut, mark_or_cut}

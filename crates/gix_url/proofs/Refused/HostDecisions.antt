@@ -14,9 +14,8 @@ use Rattle.gix_url.specs.Hosts.{Mode, is_http_host_byte, normal_host, HostText, 
 use Rattle.gix_url.specs.Hosts.Mode.{strict, bare, loose}
 use Rattle.gix_url.specs.Flaws.{IsNoHost, IsNoInner, HasBadPort, HasBadHost, NameFlaw}
 use Rattle.gix_url.specs.HostPieces.{EndsHost, shown_literal}
-use Rattle.gix_url.proofs.Texts.CutLemmas.{tails, begins_cut, free_or_cut, not_free}
+use Rattle.gix_url.proofs.Texts.CutLemmas.{tails, begins_cut, free_or_cut, not_free, ends_or_not}
 use Rattle.gix_url.proofs.Readings.HostLemmas.{loose_not_strict, bare_not_strict, loose_not_bare, literal_inner, not_ended, not_inner}
-use Rattle.gix_url.proofs.Closed.ClosedLemmas.{ends_or_not}
 use Rattle.gix_url.proofs.Refused.TextDecisions.{Decides, utf8_or_not, address_or_not, literal_or_not}
 
 -- ---- ports

@@ -18,8 +18,7 @@ use Rattle.gix_url.specs.Grammar.{UrlParts, SpellsParts, Peels, HostFor, MeansBy
 use Rattle.gix_url.specs.Flaws.{UrlShape, OtherShape, UrlCut, PieceOf, AuthorityFlaw, UrlFlaw}
 use Rattle.gix_url.specs.UrlPieces.{CutsRest, HasNoText, HoldsHosted}
 use Rattle.gix_url.specs.Refusals.{HasFlaw}
-use Rattle.gix_url.proofs.Texts.CutLemmas.{heads, tails, different_bytes, begins_cut, cut_at_first, free_or_cut}
-use Rattle.gix_url.proofs.Closed.ClosedLemmas.{ends_or_not}
+use Rattle.gix_url.proofs.Texts.CutLemmas.{heads, tails, different_bytes, begins_cut, cut_at_first, free_or_cut, ends_or_not}
 use Rattle.gix_url.proofs.Readings.ShapeLemmas.{file_found, file_misses_path}
 use Rattle.gix_url.proofs.Readings.UrlLemmas.{nothing_named, bad_user_flaw, url_cut, spelled}
 use Rattle.gix_url.proofs.Readings.UrlLocationLemmas.{path_missed}

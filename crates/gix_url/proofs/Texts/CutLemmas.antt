@@ -1,16 +1,17 @@
 -- Texts cut around a byte or a mark: what the pieces lack, that the text determines them, and what classes of bytes lack.
-use Rattle.std.proofs.Common.{◌≡◌, ℕ, zero, suc, ◌+◌, ◌<◌, ◌≤◌, Bool, true, false, Option, ◌==◌, ◌||◌, ◌⊎◌, inl, inr, List, [], ◌∷◌, ◌++◌, length, take, drop, get_or, refl, sym, ap, subst, ◌∙◌, arith, append_assoc, add-one, eqb, Some, None}
+use Rattle.std.proofs.Common.{◌≡◌, ℕ, zero, suc, ◌+◌, ◌<◌, ◌≤◌, Bool, true, false, Option, ◌==◌, ◌||◌, ◌⊎◌, inl, inr, List, [], ◌∷◌, ◌++◌, length, take, drop, get_or, refl, sym, ap, subst, ◌∙◌, arith, append_assoc, add-one, eqb, Some, None, bytes_eq}
 use Rattle.std.specs.List.{list_any, list_all, position_or_len}
 use Rattle.std.specs.Char.{is_ascii_digit, is_ascii_uppercase, is_ascii_lowercase, is_ascii_alphabetic, is_ascii_alphanumeric}
 use Rattle.std.proofs.lemmas.List.Sums.{fails_before_first, passes_at_first}
 use Rattle.std.proofs.lemmas.Bool.{both_ways, false≢true, cases_Bool, cases_lt, and_from, or_left, eqb-true, eq-eqb, and_parts, or_parts, or_from, false_from_ne_true}
 use Rattle.std.proofs.lemmas.Grind.{same_number_lists}
-use Rattle.std.proofs.lemmas.List.{at_drop_more, drop_all, take-append-drop, drop-drop, get_or-take, get_or-drop, get_or-append-add, get_or_append_left, length-take-le, length-take, length-drop, length-append}
+use Rattle.std.proofs.lemmas.List.{at_drop_more, drop_all, take-append-drop, drop-drop, get_or-take, get_or-drop, get_or-append-add, get_or_append_left, length-take-le, length-take, length-drop, length-append, take_at}
 use Rattle.bstr.specs.Find.{OccursAt}
 use Rattle.memchr.specs.Find.{IsFirstByte, IsLastByte, FindsNeedle, is_byte, is_byte3}
 use Rattle.gix_url.specs.Bytes.{colon, Lacks, FreeOf, Holds, begins_by, begins_with, is_name_byte, is_scheme_mark, is_scheme_text, is_helper_name, is_path_start, StartsPath}
 use Rattle.gix_url.specs.Cuts.{url_mark}
 use Rattle.std.proofs.Math.Bool.{or-false, or_assoc}
+use Rattle.std.proofs.lemmas.Slice.Eq.{bytes_eq-Decides}
 
 -- ---- heads and tails
 
@@ -124,6 +125,24 @@ free_or_cut c (b ∷ bs) =
         | inl h ↦ inl (free-cons c b bs other h)
         | inr (x, y, h, e) ↦ inr (b ∷ x, y, free-cons c b x other h, ap (λ z. b ∷ z) e)
       ]
+    ]
+
+-- a text ends in a byte, or doesn't
+abbrev pub EndsOrNot : ℕ → List ℕ → Type 0
+EndsOrNot c t = ((front : List ℕ) × (t ≡ front ++ c ∷ [])) ⊎ ((front : List ℕ) → ¬ (t ≡ front ++ c ∷ []))
+
+-- by whether the byte behind all but one byte of the text makes it up
+pub ends_or_not : (c : ℕ) (t : List ℕ) → EndsOrNot c t
+ends_or_not c [] = inr (λ front e. absurd (omega (arith, ap length e, length-append front (c ∷ []))))
+ends_or_not c (b ∷ t) =
+    let before = take (length t) (b ∷ t) in
+    let same = bytes_eq-Decides (b ∷ t) (before ++ c ∷ []) in
+    elim (cases_Bool (bytes_eq (b ∷ t) (before ++ c ∷ []))) [
+      | inl ends ↦ inl (before, same.0 ends)
+      | inr other ↦
+          inr (λ front e.
+          let is : before ≡ front = ap (take (length t)) e ∙ take_at front (c ∷ []) (length t) (omega (arith, ap length e, length-append front (c ∷ []))) in
+          both_ways _ other (same.1 (e ∙ ap (λ x. x ++ c ∷ []) (sym is))))
     ]
 
 -- a text that begins with a byte is the byte and what follows

@@ -23,10 +23,11 @@ use Rattle.gix_url.specs.Laws.{ComesBack}
 use Rattle.gix_url.specs.Flaws.{UrlShape}
 use Rattle.gix_url.proofs.Texts.CutLemmas.{different_bytes, begins_cut}
 use Rattle.gix_url.proofs.Texts.EscapeLemmas.{utf8_behind, utf8_seam}
-use Rattle.gix_url.proofs.Closed.SettledLemmas.{one_text, value_of}
 use Rattle.gix_url.proofs.Readings.UrlLemmas.{some_kept}
 use Rattle.gix_url.proofs.Readings.ShapeLemmas.{file_mark_utf8, url_shaped, spelled_as_file}
 use Rattle.gix_url.proofs.Written.WrittenPathLemmas.{matched, unmatched}
+use Rattle.gix_url.proofs.Written.WrittenAsUrlLemmas.{one_text}
+use Rattle.gix_url.proofs.Written.KeptLemmas.{value_of}
 
 -- ---- values
 

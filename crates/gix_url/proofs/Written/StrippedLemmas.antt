@@ -26,9 +26,9 @@ use Rattle.gix_url.proofs.Texts.CutLemmas.{lacks-append, lacks-cons, lacks_head_
 use Rattle.gix_url.proofs.Texts.EscapeLemmas.{ascii_byte, utf8_byte, white_space_parts}
 use Rattle.gix_url.proofs.Addresses.AddressLemmas.{address_two_colons}
 use Rattle.gix_url.proofs.Readings.LengthLemmas.{fits_from_text, other_left_in, without_shorter}
-use Rattle.gix_url.proofs.Closed.SettledLemmas.{written_web, written_git, written_secure, written_other}
 use Rattle.gix_url.proofs.Written.AgainLemmas.{web_readable, secure_readable, git_readable, other_readable}
 use Rattle.gix_url.proofs.Written.WrittenUrlLemmas.{IsReadable, authority_text, canonical_cut, web_starts}
+use Rattle.gix_url.proofs.Written.WrittenAsUrlLemmas.{written_web, written_git, written_secure, written_other}
 
 -- ---- what is left of a text without its white space
 
