@@ -11,7 +11,7 @@ use Rattle.std.specs.Str.{IsUtf8}
 use Rattle.std.specs.Str.Parse.{AllDigits}
 use Rattle.gix_url.specs.Bytes.{colon, dot, FreeOf, lowercase, is_hexadecimal}
 use Rattle.gix_url.specs.Addresses.{IsGroup, IsOctet, IsIpv4Text, AreItems, IsIpv6Text}
-use Rattle.gix_url.proofs.Texts.CutLemmas.{free_of_all}
+use Rattle.gix_url.proofs.Texts.CutLemmas.{free_of_all, all_weaker}
 use Rattle.gix_url.proofs.Texts.EscapeLemmas.{utf8_class}
 use Rattle.std.proofs.lemmas.Str.Ascii.{lowercase-lowercase}
 
@@ -27,17 +27,25 @@ address_byte_ascii b h = grind (arith, nat_tests)
 bytes_joined : (s t : List ℕ) → list_all is_address_byte s ≡ true → list_all is_address_byte t ≡ true → list_all is_address_byte (s ++ t) ≡ true
 bytes_joined s t h k = list_all-append is_address_byte s t ∙ and_from _ _ h k
 
--- a hexadecimal digit by its value is one by its class
-hexadecimal_class : (b : ℕ) → is_hexadecimal b ≡ true → is_ascii_hexdigit b ≡ true
-hexadecimal_class b h = grind (arith, nat_tests)
+-- a hexadecimal digit is such a byte
+hexadecimal_byte : (b : ℕ) → is_hexadecimal b ≡ true → is_address_byte b ≡ true
+hexadecimal_byte b h = let class : is_ascii_hexdigit b ≡ true = grind (arith, nat_tests) in rw class refl
 
--- hexadecimal digits are such bytes
+-- and so are those of a text
 hexdigits_bytes : (g : List ℕ) → list_all is_hexadecimal g ≡ true → list_all is_address_byte g ≡ true
-hexdigits_bytes [] h = refl
-hexdigits_bytes (b ∷ g) h =
-    let (first, rest) = and_parts (is_hexadecimal b) (list_all is_hexadecimal g) h in
-    let class = hexadecimal_class b first in
-    and_from _ _ (rw class) (hexdigits_bytes g rest)
+hexdigits_bytes g h = all_weaker is_hexadecimal is_address_byte hexadecimal_byte g h
+
+-- digits of a radix pass a test that each of them passes
+pub digits_pass : (radix : ℕ) (test : ℕ → Bool) → ((b : ℕ) → digit_value b < radix → test b ≡ true) → (ds : List ℕ) → AllDigits radix ds → list_all test ds ≡ true
+digits_pass radix test each [] h = refl
+digits_pass radix test each (b ∷ ds) h = and_from _ _ (each b h.0) (digits_pass radix test each ds h.1)
+
+-- and bytes that pass a test that only they pass are digits
+pub passing_digits : (radix : ℕ) (test : ℕ → Bool) → ((b : ℕ) → test b ≡ true → digit_value b < radix) → (ds : List ℕ) → list_all test ds ≡ true → AllDigits radix ds
+passing_digits radix test each [] h = tt
+passing_digits radix test each (b ∷ ds) h =
+    let parts = and_parts (test b) (list_all test ds) h in
+    (each b parts.0, passing_digits radix test each ds parts.1)
 
 -- a decimal digit is a hexadecimal one, and has no letter case
 digit_class : (b : ℕ) → digit_value b < 10 → is_hexadecimal b ≡ true
@@ -45,10 +53,6 @@ digit_class b h = grind (arith, nat_tests)
 
 digit_lowercase : (b : ℕ) → digit_value b < 10 → to_ascii_lowercase b ≡ b
 digit_lowercase b h = grind (arith, nat_tests)
-
-digits_class : (ds : List ℕ) → AllDigits 10 ds → list_all is_hexadecimal ds ≡ true
-digits_class [] h = refl
-digits_class (b ∷ ds) h = and_from _ _ (digit_class b h.0) (digits_class ds h.1)
 
 digits_lowercase : (ds : List ℕ) → AllDigits 10 ds → lowercase ds ≡ ds
 digits_lowercase [] h = refl
@@ -62,7 +66,7 @@ octet_digits : (t : List ℕ) → IsOctet t → AllDigits 10 t
 octet_digits t (n, small, is) = rw is ((decimal_is_IsNumeral n (omega arith)).0.1)
 
 octet_bytes : (t : List ℕ) → IsOctet t → list_all is_address_byte t ≡ true
-octet_bytes t h = hexdigits_bytes t (digits_class t (octet_digits t h))
+octet_bytes t h = hexdigits_bytes t (digits_pass 10 is_hexadecimal digit_class t (octet_digits t h))
 
 -- the bytes of an IPv4 text
 ipv4_bytes : (t : List ℕ) → IsIpv4Text t → list_all is_address_byte t ≡ true
@@ -144,14 +148,11 @@ all_lowercase class stays (b ∷ bs) h =
 hexdigit_lowercase : (b : ℕ) → is_hexadecimal b ≡ true → is_hexadecimal (to_ascii_lowercase b) ≡ true
 hexdigit_lowercase b h = grind (arith, nat_tests)
 
-hexdigits_lowercase : (g : List ℕ) → list_all is_hexadecimal g ≡ true → list_all is_hexadecimal (lowercase g) ≡ true
-hexdigits_lowercase g h = all_lowercase is_hexadecimal hexdigit_lowercase g h
-
 -- so does a group
 group_lowercase : (g : List ℕ) → IsGroup g → IsGroup (lowercase g)
 group_lowercase g h =
     let same : length (lowercase g) ≡ length g = length-map g to_ascii_lowercase in
-    (omega (arith, h.0), omega (arith, h.1), hexdigits_lowercase g h.2)
+    (omega (arith, h.0), omega (arith, h.1), all_lowercase is_hexadecimal hexdigit_lowercase g h.2)
 
 -- and items with what they count for
 items_lowercase : (ending : Bool) (items : List (List ℕ)) (n : ℕ) → AreItems ending items n → AreItems ending (map lowercase items) n

@@ -14,7 +14,7 @@ use Rattle.gix_url.specs.Value.Protocol.{file, git, ssh, http, https, ext, helpe
 use Rattle.gix_url.specs.Bytes.{percent_sign, slash, colon, at_sign, left_bracket, FreeOf, begins_by, begins_with, lowercase, LacksWhiteSpace, is_path_start, StartsPath}
 use Rattle.gix_url.specs.Escapes.{is_sound, has_percent}
 use Rattle.gix_url.specs.Hosts.{Mode, is_dns_byte, is_http_host_byte, normal_host, HostText, Names}
-use Rattle.gix_url.specs.Hosts.Mode.{strict, bare}
+use Rattle.gix_url.specs.Hosts.Mode.{strict}
 use Rattle.gix_url.specs.Hosts.Names.{nothing, bracketed, bracketed_colon, bracketed_port, unbracketed, plain, plain_colon, plain_port, colons}
 use Rattle.gix_url.specs.Schemes.{is_web_scheme, protocol_of, protocol_text, mode_of}
 use Rattle.gix_url.specs.Authority.{unless_empty, user_beside, Credentials, Authority}
@@ -31,7 +31,7 @@ use Rattle.gix_url.proofs.Closed.NormalLemmas.{normal_again, literal_again}
 use Rattle.gix_url.proofs.Readings.SchemeLemmas.{protocol_cases}
 use Rattle.gix_url.proofs.Written.WrittenPathLemmas.{start_ascii, matched, written_fair}
 use Rattle.gix_url.proofs.Addresses.AddressLemmas.{all_lowercase}
-use Rattle.gix_url.proofs.Readings.HostLemmas.{dns_lowercase}
+use Rattle.gix_url.proofs.Readings.HostLemmas.{dns_lowercase, strict_not_bare}
 use Rattle.gix_url.proofs.Written.WrittenAsUrlLemmas.{one_text, written_web}
 
 -- ---- hosts
@@ -90,10 +90,6 @@ none_not_zero port none zero = absurd (none-some 0 (sym (sym zero ∙ none)))
 -- a port that is not zero
 port_not_zero : (port : Option ℕ) (number : ℕ) → port ≡ Some number → 0 < number → port ≢ Some 0
 port_not_zero port number is some zero = omega (arith, some, same_Some number 0 (sym is ∙ zero))
-
--- the modes are different
-pub strict_not_bare : ¬ (strict ≡ bare)
-strict_not_bare e = cc
 
 -- a host and a port that a sound piece names in HTTP are settled, but for a name with `%` and a colon behind it
 pub web_host_closed : (piece host : List ℕ) (port : Option ℕ) → is_sound piece ≡ true → Names strict piece (Some host) port → IsApart host → IsWebHost port host × (port ≢ Some 0)

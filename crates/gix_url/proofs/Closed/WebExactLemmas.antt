@@ -28,9 +28,10 @@ use Rattle.gix_url.proofs.Readings.UrlLocationLemmas.{texts}
 use Rattle.gix_url.proofs.Written.WrittenUserLemmas.{information_written}
 use Rattle.gix_url.proofs.Written.WrittenUrlLemmas.{authority_text, canonical_cut}
 use Rattle.gix_url.proofs.Written.WrittenPathLemmas.{web_path_written}
-use Rattle.gix_url.proofs.Closed.WebClosedLemmas.{meant_bytes, strict_not_bare, not_web, web_meant, web_read, AreCredentials, authority_closed, url_path_closed, web_closed, web_exact_spelling}
+use Rattle.gix_url.proofs.Closed.WebClosedLemmas.{meant_bytes, not_web, web_meant, web_read, AreCredentials, authority_closed, url_path_closed, web_closed, web_exact_spelling}
 use Rattle.gix_url.proofs.Written.WrittenScpLemmas.{holds_colon}
 use Rattle.gix_url.proofs.Written.WrittenAsUrlLemmas.{one_text, written_web}
+use Rattle.gix_url.proofs.Readings.HostLemmas.{strict_not_bare}
 
 -- ---- hosts with a colon at their end
 

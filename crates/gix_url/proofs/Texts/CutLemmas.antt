@@ -5,7 +5,7 @@ use Rattle.std.specs.Char.{is_ascii_digit, is_ascii_uppercase, is_ascii_lowercas
 use Rattle.std.proofs.lemmas.List.Sums.{fails_before_first, passes_at_first}
 use Rattle.std.proofs.lemmas.Bool.{both_ways, false≢true, cases_Bool, cases_lt, and_from, or_left, eqb-true, eq-eqb, and_parts, or_parts, or_from, false_from_ne_true}
 use Rattle.std.proofs.lemmas.Grind.{same_number_lists}
-use Rattle.std.proofs.lemmas.List.{at_drop_more, drop_all, take-append-drop, drop-drop, get_or-take, get_or-drop, get_or-append-add, get_or_append_left, length-take-le, length-take, length-drop, length-append, take_at}
+use Rattle.std.proofs.lemmas.List.{at_drop_more, drop_all, take-append-drop, drop-drop, get_or-take, get_or-drop, get_or-append-add, get_or_append_left, length-take-le, length-take, length-drop, length-append, take_at, append_cancel_left}
 use Rattle.bstr.specs.Find.{OccursAt}
 use Rattle.memchr.specs.Find.{IsFirstByte, IsLastByte, FindsNeedle, is_byte, is_byte3}
 use Rattle.gix_url.specs.Bytes.{colon, Lacks, FreeOf, Holds, begins_by, begins_with, is_name_byte, is_scheme_mark, is_scheme_text, is_helper_name, is_path_start, StartsPath}
@@ -325,9 +325,19 @@ last_cut_unique c (d ∷ a) (k ∷ b) x y f g e =
 pub held_free : (bs : List ℕ) → FreeOf colon bs → ¬ Holds url_mark bs
 held_free bs h (front, rest, e) = not_free colon front (47 ∷ 47 ∷ rest) (subst (λ z. FreeOf colon z) e h)
 
--- what follows the first byte of a text without `://` holds none
-not_held_behind : (b : ℕ) (bs : List ℕ) → ¬ Holds url_mark (b ∷ bs) → ¬ Holds url_mark bs
-not_held_behind b bs h (front, rest, e) = h (b ∷ front, rest, ap (λ z. b ∷ z) e)
+-- what follows the first byte of a text without a mark holds none
+not_held_behind : (mark : List ℕ) (b : ℕ) (bs : List ℕ) → ¬ Holds mark (b ∷ bs) → ¬ Holds mark bs
+not_held_behind mark b bs h (front, rest, e) = h (b ∷ front, rest, ap (λ z. b ∷ z) e)
+
+-- the pieces around a mark that doesn't reach from a text without it into one that follows: the first doesn't hold it
+pub held_cut_unique : (mark : List ℕ) → ((b : ℕ) (bs x y : List ℕ) → ¬ Holds mark (b ∷ bs) → mark ++ x ≡ b ∷ (bs ++ (mark ++ y)) → ⊥) → (a b x y : List ℕ) → ¬ Holds mark a → ¬ Holds mark b → a ++ (mark ++ x) ≡ b ++ (mark ++ y) → (a ≡ b) × (x ≡ y)
+held_cut_unique mark apart [] [] x y f g e = (refl, append_cancel_left mark x y e)
+held_cut_unique mark apart [] (d ∷ b) x y f g e = absurd (apart d b x y g e)
+held_cut_unique mark apart (d ∷ a) [] x y f g e = absurd (apart d a y x f (sym e))
+held_cut_unique mark apart (c ∷ a) (d ∷ b) x y f g e =
+    let rest : (a ≡ b) × (x ≡ y) = held_cut_unique mark apart a b x y (not_held_behind mark c a f) (not_held_behind mark d b g) (tails e) in
+    let first : c ≡ d = heads e in
+    (cc rest.0, rest.1)
 
 -- no text that holds no `://` has one that reaches from it into another that follows
 no_overlap : (b : ℕ) (bs x y : List ℕ) → ¬ Holds url_mark (b ∷ bs) → url_mark ++ x ≡ b ∷ (bs ++ (url_mark ++ y)) → ⊥
@@ -341,13 +351,7 @@ no_overlap b (c ∷ d ∷ bs) x y h e =
 
 -- the pieces around `://`, of which the first doesn't hold it
 pub mark_cut_unique : (a b x y : List ℕ) → ¬ Holds url_mark a → ¬ Holds url_mark b → a ++ (url_mark ++ x) ≡ b ++ (url_mark ++ y) → (a ≡ b) × (x ≡ y)
-mark_cut_unique [] [] x y f g e = (refl, tails (tails (tails e)))
-mark_cut_unique [] (d ∷ b) x y f g e = absurd (no_overlap d b x y g e)
-mark_cut_unique (d ∷ a) [] x y f g e = absurd (no_overlap d a y x f (sym e))
-mark_cut_unique (c ∷ a) (d ∷ b) x y f g e =
-    let rest : (a ≡ b) × (x ≡ y) = mark_cut_unique a b x y (not_held_behind c a f) (not_held_behind d b g) (tails e) in
-    let first : c ≡ d = heads e in
-    (cc rest.0, rest.1)
+mark_cut_unique a b x y f g e = held_cut_unique url_mark no_overlap a b x y f g e
 
 -- ---- schemes and helpers' names
 
