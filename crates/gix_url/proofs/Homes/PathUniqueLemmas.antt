@@ -9,6 +9,7 @@ use Rattle.gix_url.specs.Paths.{counts, IsPiece, behind_slashes, IsIdle, HoldsPi
 use Rattle.gix_url.proofs.Texts.CutLemmas.{tails, class_cut_unique, free-cons}
 use Rattle.gix_url.proofs.Homes.PathLemmas.{idle_none, last_byte, pieces_past}
 use Rattle.std.proofs.lemmas.List.{same_from_push}
+use Rattle.std.proofs.lemmas.List.Elements.{filter-append}
 
 -- ---- segments
 
@@ -84,14 +85,6 @@ idle_pieces (segment ∷ segments) h =
     let parts = or_parts (counts segment) (list_any counts segments) h in
     rw parts.0 (idle_pieces segments parts.1)
 
--- pieces of two parts
-pieces-append : (xs ys : List (List ℕ)) → filter counts (xs ++ ys) ≡ filter counts xs ++ filter counts ys
-pieces-append [] ys = refl
-pieces-append (x ∷ xs) ys = elim (cases_Bool (counts x)) [
-  | inl good ↦ rw (good) (ap (λ t. x ∷ t) (pieces-append xs ys))
-  | inr never ↦ rw (never) (pieces-append xs ys)
-]
-
 -- pieces one after another are segments, and those that count are the pieces
 pieces_segments : (pieces : List (List ℕ)) (text : List ℕ) → HoldsPieces pieces text → (segments : List (List ℕ)) × Segments segments text × (filter counts segments ≡ pieces)
 pieces_segments [] text (segments, h, e) = (segments, record { each = idle_each segments h; whole = e }, idle_pieces segments h)
@@ -101,7 +94,7 @@ pieces_segments (piece ∷ others) text (gap, rest, (gaps, h, e), is, more, whol
       subst (Segments (gaps ++ piece ∷ segments)) (sym whole)
           (segments-append gaps (piece ∷ segments) gap (slash ∷ (piece ++ rest)) (record { each = idle_each gaps h; whole = e })
           (record { each = (is.0, k.each); whole = ap (λ t. slash ∷ (piece ++ t)) k.whole })),
-      pieces-append gaps (piece ∷ segments) ∙ rw (idle_pieces gaps h, is.1) (ap (λ t. piece ∷ t) found),
+      filter-append counts gaps (piece ∷ segments) ∙ rw (idle_pieces gaps h, is.1) (ap (λ t. piece ∷ t) found),
     )
 
 -- a text has one first segment, and one list of pieces behind it

@@ -480,9 +480,9 @@ plain_rewritten v text h =
     }
 
 -- the components with the spelling that is read of the encoded path
-retained_parts : (v : Location) (b : Bool) (components : Components) → has_percent (percent_encode PATH v.path) ≡ b → IsUtf8 v.path → matches v.spelling v.path ≡ false → WebParts (spelled_as v (if b then Some (percent_encode PATH v.path) else None)) components ↔ WebParts v components
-retained_parts v true components holds text h = parts_rewritten (λ x. percent_encode PATH x) v (spelled_as v (Some (percent_encode PATH v.path))) components (encoded_rewritten v text h)
-retained_parts v false components lacks text h = parts_rewritten (λ x. x) v (spelled_as v None) components (plain_rewritten v text h)
+retained_parts : (v : Location) (b : Bool) (components : Components) → IsUtf8 v.path → matches v.spelling v.path ≡ false → WebParts (spelled_as v (if b then Some (percent_encode PATH v.path) else None)) components ↔ WebParts v components
+retained_parts v true components text h = parts_rewritten (λ x. percent_encode PATH x) v (spelled_as v (Some (percent_encode PATH v.path))) components (encoded_rewritten v text h)
+retained_parts v false components text h = parts_rewritten (λ x. x) v (spelled_as v None) components (plain_rewritten v text h)
 
 -- the components with the spelling that is read, by whether the given one matches
 parts_by : (v : Location) (b : Bool) (components : Components) → IsWeb v → IsSettledUrl v → matches v.spelling v.path ≡ b → WebParts (as_read v) components ↔ WebParts v components
@@ -490,7 +490,7 @@ parts_by v true components web settled h =
     subst (λ o. WebParts (spelled_as v o) components ↔ WebParts v components) (sym (spelled_again v web settled.spelling h)) (λ parts. parts, λ parts. parts)
 parts_by v false components web settled h =
     let read : retained_spelling (percent_encode PATH v.path) ≡ retained_spelling (canonical_path v) = ap retained_spelling (sym (web_path v web ∙ unmatched v.spelling v.path (percent_encode PATH v.path) h)) in
-    subst (λ o. WebParts (spelled_as v o) components ↔ WebParts v components) read (retained_parts v (has_percent (percent_encode PATH v.path)) components refl settled.path_text h)
+    subst (λ o. WebParts (spelled_as v o) components ↔ WebParts v components) read (retained_parts v (has_percent (percent_encode PATH v.path)) components settled.path_text h)
 
 -- ---- what is read of a settled location
 
