@@ -5,9 +5,9 @@ pub mod Readings
 pub mod Unique
 pub mod Refused
 pub mod Written
+pub mod Values
 pub mod Closed
 pub mod Parted
 pub mod Homes
-pub mod Values
 pub mod GitReadings
 pub mod Examples

@@ -1,10 +1,11 @@
 -- What a text spells: the shapes of the forms, and for each reader that it finds what is there and nothing else.
-pub mod ShapeLemmas
 pub mod FormLemmas
+pub mod ShapeLemmas
 pub mod SchemeLemmas
 pub mod SchemeRuleLemmas
 pub mod LengthLemmas
 pub mod HostLemmas
 pub mod UrlLemmas
 pub mod UrlLocationLemmas
+pub mod ScpFrontLemmas
 pub mod ScpLemmas

@@ -8,8 +8,9 @@ pub mod WrittenHostLemmas
 pub mod WrittenWebHostLemmas
 pub mod WrittenPathLemmas
 pub mod WrittenUrlLemmas
-pub mod WrittenScpLemmas
+pub mod WrittenAsUrlLemmas
 pub mod KeptLemmas
+pub mod WrittenScpLemmas
 pub mod FileLemmas
 pub mod AgainLemmas
 pub mod StrippedLemmas

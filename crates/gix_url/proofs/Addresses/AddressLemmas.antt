@@ -11,8 +11,9 @@ use Rattle.std.specs.Str.{IsUtf8}
 use Rattle.std.specs.Str.Parse.{AllDigits}
 use Rattle.gix_url.specs.Bytes.{colon, dot, FreeOf, lowercase, is_hexadecimal}
 use Rattle.gix_url.specs.Addresses.{IsGroup, IsOctet, IsIpv4Text, AreItems, IsIpv6Text}
-use Rattle.gix_url.proofs.Texts.CutLemmas.{free_of_all}
+use Rattle.gix_url.proofs.Texts.CutLemmas.{free_of_all, all_weaker}
 use Rattle.gix_url.proofs.Texts.EscapeLemmas.{utf8_class}
+use Rattle.std.proofs.lemmas.Str.Ascii.{lowercase-lowercase}
 
 -- a byte of an address: a hexadecimal digit, `:` or `.`
 abbrev pub is_address_byte : ℕ → Bool
@@ -26,17 +27,25 @@ address_byte_ascii b h = grind (arith, nat_tests)
 bytes_joined : (s t : List ℕ) → list_all is_address_byte s ≡ true → list_all is_address_byte t ≡ true → list_all is_address_byte (s ++ t) ≡ true
 bytes_joined s t h k = list_all-append is_address_byte s t ∙ and_from _ _ h k
 
--- a hexadecimal digit by its value is one by its class
-hexadecimal_class : (b : ℕ) → is_hexadecimal b ≡ true → is_ascii_hexdigit b ≡ true
-hexadecimal_class b h = grind (arith, nat_tests)
+-- a hexadecimal digit is such a byte
+hexadecimal_byte : (b : ℕ) → is_hexadecimal b ≡ true → is_address_byte b ≡ true
+hexadecimal_byte b h = let class : is_ascii_hexdigit b ≡ true = grind (arith, nat_tests) in rw class refl
 
--- hexadecimal digits are such bytes
+-- and so are those of a text
 hexdigits_bytes : (g : List ℕ) → list_all is_hexadecimal g ≡ true → list_all is_address_byte g ≡ true
-hexdigits_bytes [] h = refl
-hexdigits_bytes (b ∷ g) h =
-    let (first, rest) = and_parts (is_hexadecimal b) (list_all is_hexadecimal g) h in
-    let class = hexadecimal_class b first in
-    and_from _ _ (rw class) (hexdigits_bytes g rest)
+hexdigits_bytes g h = all_weaker is_hexadecimal is_address_byte hexadecimal_byte g h
+
+-- digits of a radix pass a test that each of them passes
+pub digits_pass : (radix : ℕ) (test : ℕ → Bool) → ((b : ℕ) → digit_value b < radix → test b ≡ true) → (ds : List ℕ) → AllDigits radix ds → list_all test ds ≡ true
+digits_pass radix test each [] h = refl
+digits_pass radix test each (b ∷ ds) h = and_from _ _ (each b h.0) (digits_pass radix test each ds h.1)
+
+-- and bytes that pass a test that only they pass are digits
+pub passing_digits : (radix : ℕ) (test : ℕ → Bool) → ((b : ℕ) → test b ≡ true → digit_value b < radix) → (ds : List ℕ) → list_all test ds ≡ true → AllDigits radix ds
+passing_digits radix test each [] h = tt
+passing_digits radix test each (b ∷ ds) h =
+    let parts = and_parts (test b) (list_all test ds) h in
+    (each b parts.0, passing_digits radix test each ds parts.1)
 
 -- a decimal digit is a hexadecimal one, and has no letter case
 digit_class : (b : ℕ) → digit_value b < 10 → is_hexadecimal b ≡ true
@@ -44,10 +53,6 @@ digit_class b h = grind (arith, nat_tests)
 
 digit_lowercase : (b : ℕ) → digit_value b < 10 → to_ascii_lowercase b ≡ b
 digit_lowercase b h = grind (arith, nat_tests)
-
-digits_class : (ds : List ℕ) → AllDigits 10 ds → list_all is_hexadecimal ds ≡ true
-digits_class [] h = refl
-digits_class (b ∷ ds) h = and_from _ _ (digit_class b h.0) (digits_class ds h.1)
 
 digits_lowercase : (ds : List ℕ) → AllDigits 10 ds → lowercase ds ≡ ds
 digits_lowercase [] h = refl
@@ -61,7 +66,7 @@ octet_digits : (t : List ℕ) → IsOctet t → AllDigits 10 t
 octet_digits t (n, small, is) = rw is ((decimal_is_IsNumeral n (omega arith)).0.1)
 
 octet_bytes : (t : List ℕ) → IsOctet t → list_all is_address_byte t ≡ true
-octet_bytes t h = hexdigits_bytes t (digits_class t (octet_digits t h))
+octet_bytes t h = hexdigits_bytes t (digits_pass 10 is_hexadecimal digit_class t (octet_digits t h))
 
 -- the bytes of an IPv4 text
 ipv4_bytes : (t : List ℕ) → IsIpv4Text t → list_all is_address_byte t ≡ true
@@ -124,33 +129,30 @@ pub address_two_colons : (t : List ℕ) → IsIpv6Text t → TwoColons t
 address_two_colons t (inl full) = rw full.joined (full_two_colons full.items 8 (omega arith) full.eight)
 address_two_colons t (inr short) = (join_with_byte colon short.front, [], join_with_byte colon short.back, short.joined)
 
--- lower case is taken byte by byte
-byte_lowercase_twice : (b : ℕ) → to_ascii_lowercase (to_ascii_lowercase b) ≡ to_ascii_lowercase b
-byte_lowercase_twice b = grind (arith, nat_tests)
-
 -- lower case has a lower case of its own, which is itself
 pub lowercase_twice : (bs : List ℕ) → lowercase (lowercase bs) ≡ lowercase bs
 lowercase_twice [] = refl
 lowercase_twice (b ∷ bs) =
-    let first = byte_lowercase_twice b in
+    let first = lowercase-lowercase b in
     let rest = lowercase_twice bs in
     cc
+
+-- a class of bytes that stay in it in lower case holds of a text in lower case
+pub all_lowercase : (class : ℕ → Bool) → ((b : ℕ) → class b ≡ true → class (to_ascii_lowercase b) ≡ true) → (bs : List ℕ) → list_all class bs ≡ true → list_all class (lowercase bs) ≡ true
+all_lowercase class stays [] h = refl
+all_lowercase class stays (b ∷ bs) h =
+    let parts = and_parts (class b) (list_all class bs) h in
+    and_from _ _ (stays b parts.0) (all_lowercase class stays bs parts.1)
 
 -- a hexadecimal digit stays one
 hexdigit_lowercase : (b : ℕ) → is_hexadecimal b ≡ true → is_hexadecimal (to_ascii_lowercase b) ≡ true
 hexdigit_lowercase b h = grind (arith, nat_tests)
 
-hexdigits_lowercase : (g : List ℕ) → list_all is_hexadecimal g ≡ true → list_all is_hexadecimal (lowercase g) ≡ true
-hexdigits_lowercase [] h = refl
-hexdigits_lowercase (b ∷ g) h =
-    let (first, rest) = and_parts (is_hexadecimal b) (list_all is_hexadecimal g) h in
-    and_from _ _ (hexdigit_lowercase b first) (hexdigits_lowercase g rest)
-
 -- so does a group
 group_lowercase : (g : List ℕ) → IsGroup g → IsGroup (lowercase g)
 group_lowercase g h =
     let same : length (lowercase g) ≡ length g = length-map g to_ascii_lowercase in
-    (omega (arith, h.0), omega (arith, h.1), hexdigits_lowercase g h.2)
+    (omega (arith, h.0), omega (arith, h.1), all_lowercase is_hexadecimal hexdigit_lowercase g h.2)
 
 -- and items with what they count for
 items_lowercase : (ending : Bool) (items : List (List ℕ)) (n : ℕ) → AreItems ending items n → AreItems ending (map lowercase items) n

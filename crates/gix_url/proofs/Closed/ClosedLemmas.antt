@@ -1,10 +1,8 @@
 -- What is read is settled but for corners, and of these kinds what comes back is settled.
-use Rattle.std.proofs.Common.{◌≡◌, ℕ, Bool, true, false, ◌⊎◌, inl, inr, List, [], ◌∷◌, ◌++◌, Option, Some, None, Ok, refl, sym, ap, subst, ◌∙◌, ◌≤◌, arith, length, length-append, take, codes, bytes_eq}
+use Rattle.std.proofs.Common.{◌≡◌, ℕ, Bool, true, false, ◌⊎◌, inl, inr, List, [], ◌∷◌, ◌++◌, Option, Some, None, Ok, refl, sym, ap, subst, ◌∙◌, ◌≤◌, length, codes, bytes_eq}
 use Rattle.std.specs.Prelude.{is_some, IsSome}
-use Rattle.std.proofs.lemmas.Bool.{both_ways, false≢true, leb-true, or_left, cases_Bool}
-use Rattle.std.proofs.lemmas.List.{take_at}
+use Rattle.std.proofs.lemmas.Bool.{both_ways, false≢true, leb-true, or_left}
 use Rattle.std.proofs.lemmas.Option.{none-some, same_Some}
-use Rattle.std.proofs.lemmas.Slice.Eq.{bytes_eq-Decides}
 use Rattle.gix_url.specs.Value.{Protocol, Location}
 use Rattle.gix_url.specs.Value.Protocol.{file, git, ssh, http, https, ext, helper, helper_url}
 use Rattle.gix_url.specs.Bytes.{colon, left_bracket, begins_with}
@@ -19,9 +17,11 @@ use Rattle.gix_url.proofs.Written.KeptLemmas.{kept_closed, kept_exact}
 use Rattle.gix_url.proofs.Written.FileLemmas.{StaysOpen, file_closed, file_exact}
 use Rattle.gix_url.proofs.Closed.WebClosedLemmas.{StaysBare, IsApart, web_read, web_closed}
 use Rattle.gix_url.proofs.Readings.SchemeLemmas.{protocol_cases, means_scheme}
-use Rattle.gix_url.proofs.Closed.SettledLemmas.{written_web, fitting_text}
+use Rattle.gix_url.proofs.Closed.SettledLemmas.{fitting_text}
 use Rattle.gix_url.proofs.Closed.WebExactLemmas.{spelled_by_url, web_exact}
 use Rattle.gix_url.proofs.Written.AgainLemmas.{settled_again}
+use Rattle.gix_url.proofs.Texts.CutLemmas.{ends_or_not}
+use Rattle.gix_url.proofs.Written.WrittenAsUrlLemmas.{written_web}
 
 -- ---- file URLs
 
@@ -46,24 +46,6 @@ file_closed_by b v (Some host) there e h =
     ]
 
 -- ---- HTTP
-
--- a text ends in a byte, or doesn't
-abbrev pub EndsOrNot : ℕ → List ℕ → Type 0
-EndsOrNot c t = ((front : List ℕ) × (t ≡ front ++ c ∷ [])) ⊎ ((front : List ℕ) → ¬ (t ≡ front ++ c ∷ []))
-
--- by whether the byte behind all but one byte of the text makes it up
-pub ends_or_not : (c : ℕ) (t : List ℕ) → EndsOrNot c t
-ends_or_not c [] = inr (λ front e. absurd (omega (arith, ap length e, length-append front (c ∷ []))))
-ends_or_not c (b ∷ t) =
-    let before = take (length t) (b ∷ t) in
-    let same = bytes_eq-Decides (b ∷ t) (before ++ c ∷ []) in
-    elim (cases_Bool (bytes_eq (b ∷ t) (before ++ c ∷ []))) [
-      | inl ends ↦ inl (before, same.0 ends)
-      | inr other ↦
-          inr (λ front e.
-          let is : before ≡ front = ap (take (length t)) e ∙ take_at front (c ∷ []) (length t) (omega (arith, ap length e, length-append front (c ∷ []))) in
-          both_ways _ other (same.1 (e ∙ ap (λ x. x ++ c ∷ []) (sym is))))
-    ]
 
 -- a host of HTTP that ends in `:` stands in the corner, or doesn't
 ending_by : (v : Location) (host front : List ℕ) (bracket escaped : Bool) → IsWeb v → v.host ≡ Some host → host ≡ front ++ colon ∷ [] → begins_with left_bracket host ≡ bracket → has_percent host ≡ escaped → StaysBare host ⊎ IsCorner v

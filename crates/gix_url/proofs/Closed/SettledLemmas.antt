@@ -1,29 +1,30 @@
 -- The settled class by its parts: what the small tests tell, joined.
-use Rattle.std.proofs.Common.{⊎_elim, ◌≡◌, ◌↔◌, ℕ, Bool, true, false, not, ◌==◌, ◌⊎◌, inl, inr, List, [], ◌∷◌, ◌++◌, refl, sym, ap, subst, ◌∙◌, append_assoc, Option, Some, None, IsSome, Result, Ok, ◌&&◌, IsTrue}
+use Rattle.std.proofs.Common.{⊎_elim, ◌≡◌, ◌↔◌, ℕ, Bool, true, false, not, ◌⊎◌, inl, inr, List, [], ◌∷◌, ◌++◌, refl, sym, ap, subst, ◌∙◌, append_assoc, Option, Some, None, Ok, IsTrue}
 use Rattle.std.specs.List.{list_all}
-use Rattle.std.specs.Option.{is_some, is_none}
-use Rattle.std.proofs.lemmas.List.{append_cancel_right}
+use Rattle.std.specs.Option.{is_some}
+use Rattle.std.proofs.lemmas.List.{append_cancel_right, same_from_push}
 use Rattle.std.proofs.lemmas.List.Folds.{list_all-append}
-use Rattle.std.proofs.lemmas.Bool.{cond-false, and_right, both_ways, false≢true, true≢false, not-false, and_parts}
-use Rattle.gix_url.specs.Value.{Protocol, Location, path_alone}
-use Rattle.gix_url.specs.Value.Protocol.{ssh, git, helper_url}
-use Rattle.gix_url.specs.Bytes.{colon, left_bracket, right_bracket, percent_sign, slash, tilde, begins_with, is_scheme_text, FreeOf, lowercase}
+use Rattle.std.proofs.lemmas.Bool.{both_ways, false≢true, true≢false, not-false, and_parts}
+use Rattle.gix_url.specs.Value.{Location}
+use Rattle.gix_url.specs.Bytes.{colon, left_bracket, right_bracket, percent_sign, FreeOf, lowercase}
 use Rattle.gix_url.specs.Escapes.{has_percent}
 use Rattle.gix_url.specs.Addresses.{Literal, IsIpv6Text}
 use Rattle.gix_url.specs.Addresses.Literal.{address, zoned}
 use Rattle.gix_url.specs.Hosts.{is_http_host_byte}
 use Rattle.gix_url.specs.HostPieces.{IsEscapedZone}
 use Rattle.gix_url.specs.Shapes.{LocalShape}
-use Rattle.gix_url.specs.Settled.{HasFittingText, IsNormalAddress, IsSettledGit, IsSettledHelperUrl, IsSettledLocal, IsSettledScp, IsSettledSecure, IsSettledUrl, IsSettledWeb, IsTransportPath, IsWebName, IsWebHost, IsWeb}
+use Rattle.gix_url.specs.Settled.{HasFittingText, IsNormalAddress, IsSettledGit, IsSettledHelperUrl, IsSettledLocal, IsSettledSecure, IsSettledUrl, IsSettledWeb, IsWebName, IsWebHost}
 use Rattle.gix_url.specs.Settled.IsWebHost.{literal, literal_colon, named, named_colon}
-use Rattle.gix_url.specs.SettledParts.{HasScpForm, HasScpParts, HasUrlForm, IsFlaggedPath, IsGitTarget, IsHosted, IsNormalLiteral, IsBracketedLiteral, IsClosedHost, IsOtherForm, IsPiecesShort, IsSecureTarget, IsSettledRaw, IsWebTarget, IsWrittenAsUrl}
+use Rattle.gix_url.specs.SettledParts.{HasUrlForm, IsFlaggedPath, IsGitTarget, IsNormalLiteral, IsBracketedLiteral, IsClosedHost, IsOtherForm, IsPiecesShort, IsSecureTarget, IsSettledRaw, IsWebTarget}
 use Rattle.gix_url.specs.Schemes.{protocol_text}
-use Rattle.gix_url.specs.Text.{Form, choice, choice_by, ssh_choice, with_host, is_relative, in_form, text, canonical_text, user_information, host_part, port_part, canonical_path}
-use Rattle.gix_url.specs.Text.Form.{canonical_form}
+use Rattle.gix_url.specs.Text.{text, canonical_text, user_information, host_part, port_part, canonical_path}
 use Rattle.gix_url.specs.Authority.{FitsText}
 use Rattle.gix_url.proofs.Readings.LengthLemmas.{fits_text}
 use Rattle.gix_url.proofs.Addresses.AddressLemmas.{address_free}
-use Rattle.gix_url.proofs.Texts.CutLemmas.{cut_unique, different_bytes, not_free, tails, last_unique, scheme_text_free}
+use Rattle.gix_url.proofs.Texts.CutLemmas.{cut_unique, different_bytes, not_free, tails}
+use Rattle.gix_url.proofs.Written.WrittenAsUrlLemmas.{one_text}
+-- what the tests of a kind say of its text, passed on
+pub use Rattle.gix_url.proofs.Written.WrittenAsUrlLemmas.{written_web, written_git, written_secure, written_other}
 
 -- ---- tests in a row
 
@@ -50,21 +51,6 @@ second_needed a b fails first second either = (
 pub none_tested : {A : Type 0} (o : Option A) (b : Bool) → is_some o ≡ not b → IsTrue b ↔ (o ≡ None)
 none_tested None b e = (λ yes. refl, λ none. not-false b (sym e))
 none_tested (Some x) b e = (λ yes. absurd (true≢false (e ∙ ap not yes)), λ none. cc)
-
--- ---- values
-
--- a location without password and port is made of its other parts
-pub value_of : (v : Location) (protocol : Protocol) (flag : Bool) → v.scheme ≡ protocol → v.flag ≡ flag → v.password ≡ None → v.port ≡ None → v ≡ record (path_alone protocol flag v.path) { user = v.user; host = v.host; spelling = v.spelling }
-value_of v protocol flag scheme flagged no_password no_port = λ i. record {
-  scheme = scheme i;
-  user = v.user;
-  password = no_password i;
-  host = v.host;
-  flag = flagged i;
-  port = no_port i;
-  path = v.path;
-  spelling = v.spelling;
-}
 
 -- ---- local paths
 
@@ -121,7 +107,7 @@ literal_with_zone t a e free joined =
 
 -- brackets are cut off in one way
 inside_brackets : (x y : List ℕ) → left_bracket ∷ (x ++ right_bracket ∷ []) ≡ left_bracket ∷ (y ++ right_bracket ∷ []) → x ≡ y
-inside_brackets x y e = (last_unique x y right_bracket right_bracket (tails e)).0
+inside_brackets x y e = (same_from_push x y right_bracket right_bracket (tails e)).0
 
 -- brackets hold a literal that stays as it is where what stands between them is one
 pub literal_in_brackets : (b : Bool) (host inner : List ℕ) → host ≡ left_bracket ∷ (inner ++ right_bracket ∷ []) → (IsTrue b ↔ IsNormalLiteral inner) → IsTrue b ↔ IsBracketedLiteral host
@@ -134,7 +120,7 @@ literal_in_brackets b host inner joined test = (
 
 -- a text that ends in `]` doesn't end in `:`
 bracket_or_colon : {A : Type 0} (front x : List ℕ) → x ++ right_bracket ∷ [] ≡ front ++ colon ∷ [] → A
-bracket_or_colon front x e = different_bytes right_bracket colon {x = []} {y = []} refl (ap (λ c. c ∷ []) (last_unique x front right_bracket colon e).1)
+bracket_or_colon front x e = different_bytes right_bracket colon {x = []} {y = []} refl (ap (λ c. c ∷ []) (same_from_push x front right_bracket colon e).1)
 
 -- a name of HTTP doesn't end in `:`
 name_or_colon : {A : Type 0} (host front : List ℕ) → IsWebName host → host ≡ front ++ colon ∷ [] → A
@@ -156,10 +142,10 @@ colon_host_from port host front joined none (inr (name, plain)) = named_colon fr
 colon_host_to : (port : Option ℕ) (host front : List ℕ) → host ≡ front ++ colon ∷ [] → IsWebHost port host → (port ≡ None) × IsClosedHost front
 colon_host_to port host front joined (literal n l e) = bracket_or_colon front (left_bracket ∷ n) (sym e ∙ joined)
 colon_host_to port host front joined (literal_colon n l none e) =
-    (none, inl (n, l, sym (last_unique (left_bracket ∷ (n ++ right_bracket ∷ [])) front colon colon (sym (colon_behind n) ∙ sym e ∙ joined)).0))
+    (none, inl (n, l, sym (same_from_push (left_bracket ∷ (n ++ right_bracket ∷ [])) front colon colon (sym (colon_behind n) ∙ sym e ∙ joined)).0))
 colon_host_to port host front joined (named name) = name_or_colon host front name joined
 colon_host_to port host front joined (named_colon n name plain none e) =
-    let same : n ≡ front = (last_unique n front colon colon (sym e ∙ joined)).0 in
+    let same : n ≡ front = (same_from_push n front colon colon (sym e ∙ joined)).0 in
     (none, inr (subst IsWebName same name, subst (λ x. has_percent x ≡ false) same plain))
 
 -- a host with a colon behind it is settled where there is no port, and it is closed before the colon
@@ -260,101 +246,7 @@ settled_helper_url name v = (
   ),
 )
 
--- a settled location in the scp form
-pub settled_scp : (v : Location) → (HasScpForm v × HasScpParts v) ↔ IsSettledScp v
-settled_scp v = (
-  λ parts. record {
-    flagged = parts.0.flagged;
-    no_password = parts.0.no_password;
-    no_port = parts.0.no_port;
-    path_text = parts.1.0.path_text;
-    nonempty = parts.1.0.nonempty;
-    not_home = parts.1.0.not_home;
-    not_slashes = parts.1.0.not_slashes;
-    no_mark = parts.1.0.no_mark;
-    user = parts.1.1.0;
-    host = parts.1.1.1;
-  },
-  λ s. (
-    record { flagged = s.flagged; no_password = s.no_password; no_port = s.no_port },
-    (
-      record {
-        path_text = s.path_text;
-        nonempty = s.nonempty;
-        not_home = s.not_home;
-        not_slashes = s.not_slashes;
-        no_mark = s.no_mark;
-      },
-      (s.user, s.host),
-    ),
-  ),
-)
-
 -- ---- the texts of settled URLs
-
--- a result holds one text
-pub one_text : {E : Type 0} {r : Result (List ℕ) E} {s t : List ℕ} → r ≡ Ok s → r ≡ Ok t → s ≡ t
-one_text h k = let both = sym h ∙ k in cc
-
--- there isn't a user without a host
-both_given : (user host : Option (List ℕ)) → (IsSome user → IsSome host) → (is_some user && is_none host) ≡ false
-both_given None host hosted = refl
-both_given (Some u) None hosted = absurd (false≢true (hosted refl))
-both_given (Some u) (Some h) hosted = refl
-
--- a user that comes with a host leaves the form as it is
-pub host_given : (v : Location) (form : Form) → (IsSome v.user → IsSome v.host) → with_host v form ≡ Ok form
-host_given v form hosted = cond-false _ _ _ (both_given v.user v.host hosted)
-
--- a location whose form is that of a URL has the text of a URL
-canonical_by : (v : Location) → choice v ≡ with_host v canonical_form → IsHosted v → text v ≡ Ok (canonical_text v)
-canonical_by v chosen hosted = ap (λ form. in_form form v) (chosen ∙ host_given v canonical_form hosted.user_hosted)
-
--- HTTP
-pub written_web : (v : Location) → IsWeb v → IsWrittenAsUrl v
-written_web v (inl e) = record {
-  no_colon = subst (λ p. FreeOf colon (protocol_text p)) (sym e) refl;
-  canonical = λ unflagged hosted. canonical_by v (ap (λ p. choice_by p v) e) hosted;
-}
-written_web v (inr e) = record {
-  no_colon = subst (λ p. FreeOf colon (protocol_text p)) (sym e) refl;
-  canonical = λ unflagged hosted. canonical_by v (ap (λ p. choice_by p v) e) hosted;
-}
-
--- Git's own protocol
-pub written_git : (v : Location) → v.scheme ≡ git → IsWrittenAsUrl v
-written_git v e = record {
-  no_colon = subst (λ p. FreeOf colon (protocol_text p)) (sym e) refl;
-  canonical = λ unflagged hosted. canonical_by v (ap (λ p. choice_by p v) e) hosted;
-}
-
--- another scheme
-pub written_other : (v : Location) (name : List ℕ) → v.scheme ≡ helper_url name → is_scheme_text name ≡ true → IsWrittenAsUrl v
-written_other v name e spelled = record {
-  no_colon = subst (λ p. FreeOf colon (protocol_text p)) (sym e) (scheme_text_free name colon spelled refl);
-  canonical = λ unflagged hosted. canonical_by v (ap (λ p. choice_by p v) e) hosted;
-}
-
--- a path that is rooted or below a home folder is not relative
-pub not_relative : (path : List ℕ) → (begins_with slash path ≡ true) ⊎ (begins_with tilde path ≡ true) → is_relative path ≡ false
-not_relative [] begins = refl
-not_relative (b ∷ bs) (inl e) = rw e refl
-not_relative (b ∷ bs) (inr e) = let other : not (b == tilde) ≡ false = ap not e in and_right _ _ other
-
--- such a location of Secure Shell without the flag has the form of a URL
-pub secure_choice : (v : Location) → is_relative v.path ≡ false → v.flag ≡ false → ssh_choice v ≡ with_host v canonical_form
-secure_choice v rooted unflagged = rw (rooted, unflagged) refl
-
-transport_begins : (v : Location) → IsTransportPath v → (begins_with slash v.path ≡ true) ⊎ (begins_with tilde v.path ≡ true)
-transport_begins v (inl rooted) = inl rooted.0
-transport_begins v (inr home) = inr home.0
-
--- Secure Shell
-pub written_secure : (v : Location) → v.scheme ≡ ssh → IsTransportPath v → IsWrittenAsUrl v
-written_secure v e path = record {
-  no_colon = subst (λ p. FreeOf colon (protocol_text p)) (sym e) refl;
-  canonical = λ unflagged hosted. canonical_by v (ap (λ p. choice_by p v) e ∙ secure_choice v (not_relative v.path (transport_begins v path)) unflagged) hosted;
-}
 
 -- the text of a URL is short enough where the walk over it is
 pub fitting_text : (v : Location) (t : List ℕ) → FreeOf colon (protocol_text v.scheme) → text v ≡ Ok (canonical_text v) → Ok t ≡ text v → IsPiecesShort (protocol_text v.scheme) t ↔ HasFittingText v

@@ -3,7 +3,7 @@ use Rattle.std.proofs.Common.{◌≡◌, ◌≢◌, ℕ, ◌<◌, Bool, true, fa
 use Rattle.std.specs.Prelude.{IfSome}
 use Rattle.std.specs.List.{list_all}
 use Rattle.std.specs.Char.{to_ascii_lowercase, is_digit}
-use Rattle.std.proofs.lemmas.Option.{same_Some}
+use Rattle.std.proofs.lemmas.Option.{same_Some, none-some}
 use Rattle.std.proofs.lemmas.Bool.{or_right, cond-true, cond-false, or_left, both_ways, false≢true}
 use Rattle.std.proofs.lemmas.Bool.Decides.{nat_tests}
 use Rattle.std.proofs.lemmas.List.{append_cancel_left, length-map, append-nil}
@@ -14,7 +14,7 @@ use Rattle.gix_url.specs.Value.Protocol.{file, git, ssh, http, https, ext, helpe
 use Rattle.gix_url.specs.Bytes.{percent_sign, slash, colon, at_sign, left_bracket, FreeOf, begins_by, begins_with, lowercase, LacksWhiteSpace, is_path_start, StartsPath}
 use Rattle.gix_url.specs.Escapes.{is_sound, has_percent}
 use Rattle.gix_url.specs.Hosts.{Mode, is_dns_byte, is_http_host_byte, normal_host, HostText, Names}
-use Rattle.gix_url.specs.Hosts.Mode.{strict, bare}
+use Rattle.gix_url.specs.Hosts.Mode.{strict}
 use Rattle.gix_url.specs.Hosts.Names.{nothing, bracketed, bracketed_colon, bracketed_port, unbracketed, plain, plain_colon, plain_port, colons}
 use Rattle.gix_url.specs.Schemes.{is_web_scheme, protocol_of, protocol_text, mode_of}
 use Rattle.gix_url.specs.Authority.{unless_empty, user_beside, Credentials, Authority}
@@ -27,11 +27,12 @@ use Rattle.gix_url.specs.Settled.IsWebHost.{literal, literal_colon, named, named
 use Rattle.gix_url.specs.SettledParts.{IsHosted}
 use Rattle.gix_url.proofs.Texts.CutLemmas.{free-append, free_begins, free_of_all, free_parts}
 use Rattle.gix_url.proofs.Texts.EscapeLemmas.{sound_tail, sound_parts, sound_around, sound_free, decode_byte, utf8_byte, utf8_seam, white_space_parts}
-use Rattle.gix_url.proofs.Closed.NormalLemmas.{normal_again, literal_again, all_lowercase, dns_lowercase}
+use Rattle.gix_url.proofs.Closed.NormalLemmas.{normal_again, literal_again}
 use Rattle.gix_url.proofs.Readings.SchemeLemmas.{protocol_cases}
 use Rattle.gix_url.proofs.Written.WrittenPathLemmas.{start_ascii, matched, written_fair}
-use Rattle.gix_url.proofs.Examples.RowNameLemmas.{none_is_some, some_is_none}
-use Rattle.gix_url.proofs.Closed.SettledLemmas.{one_text, written_web}
+use Rattle.gix_url.proofs.Addresses.AddressLemmas.{all_lowercase}
+use Rattle.gix_url.proofs.Readings.HostLemmas.{dns_lowercase, strict_not_bare}
+use Rattle.gix_url.proofs.Written.WrittenAsUrlLemmas.{one_text, written_web}
 
 -- ---- hosts
 
@@ -84,19 +85,15 @@ name_before_colon host name h e (inr free) = (free_parts percent_sign name (colo
 
 -- no port is not the port zero
 none_not_zero : (port : Option ℕ) → port ≡ None → port ≢ Some 0
-none_not_zero port none zero = some_is_none 0 (sym zero ∙ none)
+none_not_zero port none zero = absurd (none-some 0 (sym (sym zero ∙ none)))
 
 -- a port that is not zero
 port_not_zero : (port : Option ℕ) (number : ℕ) → port ≡ Some number → 0 < number → port ≢ Some 0
 port_not_zero port number is some zero = omega (arith, some, same_Some number 0 (sym is ∙ zero))
 
--- the modes are different
-pub strict_not_bare : ¬ (strict ≡ bare)
-strict_not_bare e = cc
-
 -- a host and a port that a sound piece names in HTTP are settled, but for a name with `%` and a colon behind it
 pub web_host_closed : (piece host : List ℕ) (port : Option ℕ) → is_sound piece ≡ true → Names strict piece (Some host) port → IsApart host → IsWebHost port host × (port ≢ Some 0)
-web_host_closed piece host port sound (nothing e named_as at) apart = some_is_none host named_as
+web_host_closed piece host port sound (nothing e named_as at) apart = absurd (none-some host (sym named_as))
 web_host_closed piece host port sound (bracketed x inner free spelled e named_as at) apart =
     (literal inner (literal_again x inner spelled) (same_Some _ _ named_as), none_not_zero port at)
 web_host_closed piece host port sound (bracketed_colon x inner free spelled e named_as at) apart =
@@ -163,7 +160,7 @@ AreCredentials user password = IfSome password (λ p. (0 < length p) × IsSome u
 
 -- an empty text is none
 not_some_empty : {A : Type 0} (t : List ℕ) → unless_empty t ≡ Some [] → A
-not_some_empty [] e = none_is_some [] e
+not_some_empty [] e = absurd (none-some [] e)
 not_some_empty (b ∷ bs) e = absurd (omega (arith, ap length (same_Some (b ∷ bs) [] e)))
 
 -- a user without a password
@@ -209,7 +206,7 @@ start_no_percent c h = grind (arith, nat_tests)
 -- what is retained of a path, by whether it holds a `%`, is the path
 pub retained_by : (path s : List ℕ) (escaped : Bool) → has_percent path ≡ escaped → retained_spelling path ≡ Some s → (path ≡ s) × (has_percent path ≡ true)
 retained_by path s true holds e = (same_Some path s (sym (cond-true _ _ _ holds) ∙ e), holds)
-retained_by path s false lacks e = none_is_some s (sym (cond-false _ _ _ lacks) ∙ e)
+retained_by path s false lacks e = absurd (none-some s (sym (cond-false _ _ _ lacks) ∙ e))
 
 -- a path of a URL of HTTP, behind a sound front, and what it means
 pub record IsWebPath (front path : List ℕ) : Type 0 where
@@ -247,7 +244,7 @@ no_path front sound =
       front_sound = sound;
       meant_text = subst IsUtf8 (sym rooted) (utf8_byte slash (lit< tt));
       meant_starts = ap (begins_by (is_path_start true)) rooted;
-      fair = λ s e. none_is_some s e;
+      fair = λ s e. absurd (none-some s e);
     }
 
 -- the path at the end of a text

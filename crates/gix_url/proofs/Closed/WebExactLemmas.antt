@@ -5,7 +5,7 @@ use Rattle.std.specs.List.{list_all}
 use Rattle.std.proofs.lemmas.Bool.{cond-true, and_from, or_right, both_ways}
 use Rattle.std.proofs.lemmas.Bool.Decides.{nat_tests}
 use Rattle.std.proofs.lemmas.List.{append-nil}
-use Rattle.std.proofs.lemmas.Option.{IfSome_then, same_Some}
+use Rattle.std.proofs.lemmas.Option.{IfSome_then, same_Some, none-some}
 use Rattle.gix_url.specs.Value.{Protocol, Location, fields}
 use Rattle.gix_url.specs.Value.Protocol.{file, ssh, ext, helper}
 use Rattle.gix_url.specs.Bytes.{at_sign, colon, left_bracket, right_bracket, Lacks, FreeOf, begins_with, is_path_start, StartsPath}
@@ -23,15 +23,15 @@ use Rattle.gix_url.proofs.Written.WrittenPieces.{WritesInformation}
 use Rattle.gix_url.proofs.Texts.CutLemmas.{begins-append, lacks-append, lacks-cons, lacks_of_all, free_of_all, free_of_lacked, held_free, lacks_weaker, mark_cut_unique, not_free, path_cut_unique, scheme_text_free}
 use Rattle.gix_url.proofs.Texts.EscapeLemmas.{lacks_escaped_percents}
 use Rattle.gix_url.proofs.Readings.SchemeLemmas.{helper_cases}
-use Rattle.gix_url.proofs.Examples.RowNameLemmas.{some_is_none}
 use Rattle.gix_url.proofs.Readings.UrlLemmas.{authority_alone, authority_cut, scheme_no_mark}
 use Rattle.gix_url.proofs.Readings.UrlLocationLemmas.{texts}
-use Rattle.gix_url.proofs.Closed.SettledLemmas.{one_text, written_web}
 use Rattle.gix_url.proofs.Written.WrittenUserLemmas.{information_written}
 use Rattle.gix_url.proofs.Written.WrittenUrlLemmas.{authority_text, canonical_cut}
 use Rattle.gix_url.proofs.Written.WrittenPathLemmas.{web_path_written}
-use Rattle.gix_url.proofs.Closed.WebClosedLemmas.{meant_bytes, strict_not_bare, not_web, web_meant, web_read, AreCredentials, authority_closed, url_path_closed, web_closed, web_exact_spelling}
+use Rattle.gix_url.proofs.Closed.WebClosedLemmas.{meant_bytes, not_web, web_meant, web_read, AreCredentials, authority_closed, url_path_closed, web_closed, web_exact_spelling}
 use Rattle.gix_url.proofs.Written.WrittenScpLemmas.{holds_colon}
+use Rattle.gix_url.proofs.Written.WrittenAsUrlLemmas.{one_text, written_web}
+use Rattle.gix_url.proofs.Readings.HostLemmas.{strict_not_bare}
 
 -- ---- hosts with a colon at their end
 
@@ -54,7 +54,7 @@ lacks_before_colon host named e lacks = subst (λ t. Lacks ends_host t) (sym e) 
 
 -- a host with a colon at its end and without a bracket at its front comes without a port, and is free of `@` and of path starts
 colon_named : (piece host front : List ℕ) (port : Option ℕ) → Names strict piece (Some host) port → host ≡ front ++ colon ∷ [] → begins_with left_bracket host ≡ false → (port ≡ None) × Lacks ends_host host
-colon_named piece host front port (nothing e named_as at) ends no_bracket = some_is_none host named_as
+colon_named piece host front port (nothing e named_as at) ends no_bracket = absurd (none-some host (sym named_as))
 colon_named piece host front port (bracketed x inner free spelled e named_as at) ends no_bracket = absurd (both_ways _ no_bracket (ap (begins_with left_bracket) (same_Some _ _ named_as)))
 colon_named piece host front port (bracketed_colon x inner free spelled e named_as at) ends no_bracket = absurd (both_ways _ no_bracket (ap (begins_with left_bracket) (same_Some _ _ named_as)))
 colon_named piece host front port (bracketed_port x inner digits number free spelled numbered e named_as at) ends no_bracket = absurd (both_ways _ no_bracket (ap (begins_with left_bracket) (same_Some _ _ named_as)))
@@ -78,7 +78,7 @@ no_bracket_before piece t rest e some other = ap (begins_with left_bracket) e �
 
 -- in HTTP a piece with a bracket at its front names a host with one
 bracket_named : (piece host : List ℕ) (port : Option ℕ) → begins_with left_bracket piece ≡ true → Names strict piece (Some host) port → begins_with left_bracket host ≡ true
-bracket_named piece host port front (nothing e named_as at) = some_is_none host named_as
+bracket_named piece host port front (nothing e named_as at) = absurd (none-some host (sym named_as))
 bracket_named piece host port front (bracketed x inner free spelled e named_as at) = ap (begins_with left_bracket) (same_Some _ _ named_as)
 bracket_named piece host port front (bracketed_colon x inner free spelled e named_as at) = ap (begins_with left_bracket) (same_Some _ _ named_as)
 bracket_named piece host port front (bracketed_port x inner digits number free spelled numbered e named_as at) = ap (begins_with left_bracket) (same_Some _ _ named_as)

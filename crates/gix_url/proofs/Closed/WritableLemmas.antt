@@ -23,11 +23,11 @@ use Rattle.gix_url.proofs.Readings.UrlLemmas.{none_not_some}
 use Rattle.gix_url.proofs.Readings.SchemeLemmas.{protocol_cases, means_cases}
 use Rattle.gix_url.proofs.Unique.UniqueLemmas.{meant_with}
 use Rattle.gix_url.proofs.Written.KeptLemmas.{helper_unchanged, local_unchanged}
-use Rattle.gix_url.proofs.Closed.SettledLemmas.{host_given, not_relative, secure_choice}
-use Rattle.gix_url.proofs.Examples.RowNameLemmas.{none_is_some}
 use Rattle.gix_url.proofs.Values.RecordLemmas.{unmigrated}
 use Rattle.gix_url.proofs.Closed.WebClosedLemmas.{retained_by, sound_behind, parts_joined}
 use Rattle.gix_url.proofs.Written.WrittenScpLemmas.{scp_written}
+use Rattle.std.proofs.lemmas.Option.{none-some}
+use Rattle.gix_url.proofs.Written.WrittenAsUrlLemmas.{host_given, not_relative, secure_choice}
 
 -- ---- a text
 
@@ -212,7 +212,7 @@ meant_other protocol b parts v spelled h =
 
 -- nor where there is no spelling
 unspelled_other : (v : Location) → v.spelling ≡ None → ¬ (v.spelling ≡ Some v.path)
-unspelled_other v none e = none_is_some v.path (sym none ∙ e)
+unspelled_other v none e = absurd (none-some v.path (sym none ∙ e))
 
 -- a URL
 url_other : (protocol : Protocol) (b : List ℕ) (parts : UrlParts) (v : Location) → SpellsParts b parts → MeansAs protocol b parts v → ¬ (v.spelling ≡ Some v.path)

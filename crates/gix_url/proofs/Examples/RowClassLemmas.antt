@@ -3,7 +3,7 @@ use Rattle.std.proofs.Common.{◌≡◌, ℕ, true, false, ◌==◌, ◌⊎◌, 
 use Rattle.std.specs.List.{list_any}
 use Rattle.std.specs.Str.{chars}
 use Rattle.std.proofs.lemmas.Bool.{both_ways, false≢true, ltb-true, leb-true}
-use Rattle.std.proofs.lemmas.Option.{same_Some}
+use Rattle.std.proofs.lemmas.Option.{same_Some, none-some}
 use Rattle.std.proofs.lemmas.Str.{IsUtf8-from_is_utf8}
 use Rattle.percent_encoding.proofs.OnLiterals.{percent_encoding_on_literals}
 use Rattle.bstr.proofs.Computing.{computing}
@@ -15,11 +15,12 @@ use Rattle.gix_url.specs.AddressTest.{is_ipv6_text}
 use Rattle.gix_url.specs.Settled.{HasMatch, HasFittingText, IsSettledUrl, IsWebName, IsWebHost, IsNormalAddress, IsBracketedHost, IsScpName, IsSettled}
 use Rattle.gix_url.specs.ClassRows.{SettledRows, WebHostRows, UnsettledWebRows, UnsettledUrlRows, UnsettledOtherRows}
 use Rattle.gix_url.specs.Examples.{no_text, at_host, in_scp}
-use Rattle.gix_url.proofs.Texts.CutLemmas.{different_bytes, last_unique}
+use Rattle.gix_url.proofs.Texts.CutLemmas.{different_bytes}
 use Rattle.std.proofs.lemmas.Option.{same_Some}
 use Rattle.gix_url.proofs.Addresses.AddressTestLemmas.{ipv6_text_from, ipv6_text_to}
-use Rattle.gix_url.proofs.Examples.RowNameLemmas.{none_is_some, some_is_none, other_byte}
+use Rattle.gix_url.proofs.Examples.RowNameLemmas.{other_byte}
 use Rattle.gix_url.proofs.Examples.RowFormLemmas.{not_held, neither_free, neither_at, no_scp_free, dot_path_no_scp, shape_row, fits_row}
+use Rattle.std.proofs.lemmas.List.{same_from_push}
 
 -- ---- hosts of HTTP
 
@@ -36,15 +37,15 @@ not_web_host port host apart other behind (IsWebHost.named_colon n h none p e) =
 
 -- a colon behind a host leaves no place for a port
 no_colon_and_port : ¬ IsWebHost (Some 80) (codes "h:")
-no_colon_and_port = not_web_host (Some 80) (codes "h:") refl (λ h. false≢true h.bytes) (λ n e none p. some_is_none 80 p)
+no_colon_and_port = not_web_host (Some 80) (codes "h:") refl (λ h. false≢true h.bytes) (λ n e none p. absurd (none-some 80 (sym p)))
 
 -- a host with an escape has no colon behind it
 no_escape_and_colon : (port : Option ℕ) → ¬ IsWebHost port (codes "h%41:")
-no_escape_and_colon port = not_web_host port (codes "h%41:") refl (λ h. false≢true h.bytes) (λ n e none p. both_ways _ none (ap has_percent (sym (last_unique (codes "h%41") n 58 58 e).0)))
+no_escape_and_colon port = not_web_host port (codes "h%41:") refl (λ h. false≢true h.bytes) (λ n e none p. both_ways _ none (ap has_percent (sym (same_from_push (codes "h%41") n 58 58 e).0)))
 
 -- a host is in lower case
 no_upper_case : (port : Option ℕ) → ¬ IsWebHost port (codes "H")
-no_upper_case port = not_web_host port (codes "H") refl (λ h. different_bytes 104 72 refl h.normal) (λ n e none p. other_byte 72 58 refl (last_unique [] n 72 58 e).1)
+no_upper_case port = not_web_host port (codes "H") refl (λ h. different_bytes 104 72 refl h.normal) (λ n e none p. other_byte 72 58 refl (same_from_push [] n 72 58 e).1)
 
 -- a host is not empty
 no_empty_host : (port : Option ℕ) → ¬ IsWebHost port []
@@ -61,17 +62,17 @@ common_row : (scheme : Protocol) (host path : List ℕ) → HasFittingText (at_h
 common_row scheme host path fits utf8 = record {
   unflagged = refl;
   password = tt;
-  user = λ e. none_is_some [] e;
+  user = λ e. absurd (none-some [] e);
   user_hosted = λ e. refl;
   port_hosted = λ e. refl;
   fits = fits;
   path_text = utf8;
-  spelling = λ s e. none_is_some s e;
+  spelling = λ s e. absurd (none-some s e);
 }
 
 -- no spelling matches where there is none
 no_match_row : (scheme : Protocol) (host path : List ℕ) → ¬ HasMatch (at_host scheme host path)
-no_match_row scheme host path m = none_is_some m.0 m.1
+no_match_row scheme host path m = absurd (none-some m.0 m.1)
 
 -- the lowercase address `::1`
 loopback_row : IsNormalAddress (codes "::1")
@@ -86,11 +87,11 @@ settled_rows = (
   record { flagged = refl; alone = record { no_user = refl; no_password = refl; no_port = refl }; no_host = refl; named = refl },
   inl (record { flagged = refl; alone = record { no_user = refl; no_password = refl; no_port = refl }; no_host = refl; nonempty = ltb-true _ _ refl; neither = neither_free no_text refl refl; no_scp = no_scp_free no_text refl }),
   inl (record { flagged = refl; alone = record { no_user = refl; no_password = refl; no_port = refl }; no_host = refl; nonempty = ltb-true _ _ refl; neither = neither_at (codes "./a:b") (codes "./a") (codes "b") refl refl refl refl; no_scp = dot_path_no_scp }),
-  inr (record { unflagged = refl; alone = record { no_user = refl; no_password = refl; no_port = refl }; no_match = λ m. none_is_some m.0 m.1; host = tt; path_text = IsUtf8-from_is_utf8 _ refl; rooted = refl }),
+  inr (record { unflagged = refl; alone = record { no_user = refl; no_password = refl; no_port = refl }; no_match = λ m. absurd (none-some m.0 m.1); host = tt; path_text = IsUtf8-from_is_utf8 _ refl; rooted = refl }),
   inr (record {
     unflagged = refl;
     alone = record { no_user = refl; no_password = refl; no_port = refl };
-    no_match = λ m. none_is_some m.0 m.1;
+    no_match = λ m. absurd (none-some m.0 m.1);
     host = record { nonempty = ltb-true _ _ refl; no_slash = refl; unbracketed = inl refl };
     path_text = IsUtf8-from_is_utf8 _ refl;
     rooted = refl;
@@ -115,7 +116,7 @@ settled_rows = (
         no_backslash = refl;
         no_white_space = refl;
       }),
-      λ l. some_is_none [] l.0,
+      λ l. absurd (none-some [] (sym l.0)),
     );
   }),
   inl (record {
@@ -128,14 +129,14 @@ settled_rows = (
     not_slashes = refl;
     no_mark = not_held (codes "://") (codes "p") refl;
     user = record { no_colon = refl; no_slash = refl; no_bracket = refl };
-    host = (codes "::1", refl, inr loopback_row, λ l. some_is_none (codes "u") l.0);
+    host = (codes "::1", refl, inr loopback_row, λ l. absurd (none-some (codes "u") (sym l.0)));
   }),
   record {
     common = common_row http (codes "h:") (codes "/p")
         (codes "http://h:/p", refl, record { scheme = codes "http"; rest = codes "h:/p"; no_colon = refl; joined = refl; fits = fits_row (codes "http") (codes "h:") (codes "/p") refl refl refl refl (inr refl) (leb-true _ _ refl) })
         (IsUtf8-from_is_utf8 _ refl);
     host = (codes "h:", refl, IsWebHost.named_colon (codes "h") web_name_row refl refl refl);
-    port = λ e. none_is_some 0 e;
+    port = λ e. absurd (none-some 0 e);
     path = refl;
   },
   inr (record {
@@ -199,7 +200,7 @@ unsettled_web_rows = (present_password, empty_user, password_alone, flagged_web,
 
 -- a port has no place in the scp form
 flagged_with_port : ¬ IsSettled (record (at_host ssh (codes "h") (codes "/p")) { port = Some 22; flag = true })
-flagged_with_port (inl s) = some_is_none 22 s.no_port
+flagged_with_port (inl s) = absurd (none-some 22 (sym s.no_port))
 flagged_with_port (inr s) = false≢true (sym s.common.unflagged)
 
 -- a path below a home folder has no slash in front
@@ -225,7 +226,7 @@ relative_git s = elim s.path [ inl p ↦ false≢true p.0 | inr p ↦ false≢tr
 -- brackets stand around the whole of a host
 open_brackets : ¬ IsBracketedHost (codes "[x]y")
 open_brackets (inl h) = false≢true (sym h.unbracketed.no_left_bracket)
-open_brackets (inr (address, h, e)) = other_byte 121 93 refl (last_unique (codes "[x]") (left_bracket ∷ address) 121 93 e).1
+open_brackets (inr (address, h, e)) = other_byte 121 93 refl (same_from_push (codes "[x]") (left_bracket ∷ address) 121 93 e).1
 
 odd_brackets : ¬ IsSettled (at_host git (codes "[x]y") (codes "/p"))
 odd_brackets s = open_brackets (subst IsBracketedHost (sym (same_Some (codes "[x]y") s.host.0 s.host.1)) s.host.2)
@@ -265,7 +266,7 @@ helper_path (inr s) = false≢true (sym s.unflagged)
 
 -- nor a host
 local_host : ¬ IsSettled (record (path_alone file true (codes "/p")) { host = Some (codes "h") })
-local_host (inl s) = some_is_none (codes "h") s.no_host
+local_host (inl s) = absurd (none-some (codes "h") (sym s.no_host))
 local_host (inr s) = false≢true (sym s.unflagged)
 
 -- behind the colon of the scp form stand no two slashes
@@ -304,7 +305,7 @@ unflagged_helper s = false≢true s.0.flagged
 -- Secure Shell has a host
 no_host : ¬ IsSettled (path_alone ssh false [])
 no_host (inl s) = false≢true s.flagged
-no_host (inr s) = none_is_some s.host.0 s.host.1
+no_host (inr s) = absurd (none-some s.host.0 s.host.1)
 
 -- others that are not settled
 pub unsettled_other_rows : UnsettledOtherRows

@@ -17,20 +17,14 @@ use Rattle.gix_url.specs.Hosts.Mode.{strict, bare}
 use Rattle.gix_url.specs.Authority.{unless_empty, Credentials, Authority}
 use Rattle.gix_url.specs.Flaws.{BracketsAround, HasBadPort, HasBadHost}
 use Rattle.gix_url.specs.NameRows.{LiteralRows, NameRows, NoNameRows, AuthorityRows, NoAuthorityRows}
-use Rattle.gix_url.proofs.Texts.CutLemmas.{tails, different_bytes, last_unique, cut_unique, last_cut_unique, not_free}
+use Rattle.gix_url.proofs.Texts.CutLemmas.{tails, different_bytes, cut_unique, last_cut_unique, not_free}
 use Rattle.gix_url.proofs.Addresses.AddressTestLemmas.{ipv6_text_from, ipv6_text_to}
 use Rattle.gix_url.proofs.Addresses.AddressLemmas.{address_free}
 use Rattle.gix_url.proofs.Readings.HostLemmas.{loose_not_strict, bare_not_strict, loose_not_bare, names_unique, flawed_unnamed}
+use Rattle.std.proofs.lemmas.List.{same_from_push}
+use Rattle.std.proofs.lemmas.Option.{none-some}
 
 -- ---- what can't be
-
--- none is not some
-pub none_is_some : {A B : Type 0} (x : A) → None ≡ Some x → B
-none_is_some x e = absurd (false≢true (ap is_some e))
-
--- some is not none
-pub some_is_none : {A B : Type 0} (x : A) → Some x ≡ None → B
-some_is_none x e = absurd (false≢true (sym (ap is_some e)))
 
 -- different bytes are not equal
 pub other_byte : {A : Type 0} (a b : ℕ) → eqb a b ≡ false → a ≡ b → A
@@ -100,7 +94,7 @@ literal_rows = (
 port_alone_no_address : ¬ ReadsAddress bare (codes ":80")
 unfolding is_ipv6_text
 port_alone_no_address (e, inl h) = both_ways _ refl (ipv6_text_to (codes ":80") h)
-port_alone_no_address (e, inr (a, h, is)) = other_byte 48 58 refl (last_unique (codes ":8") a 48 58 is).1
+port_alone_no_address (e, inr (a, h, is)) = other_byte 48 58 refl (same_from_push (codes ":8") a 48 58 is).1
 
 -- what a piece names
 pub name_rows : NameRows
@@ -128,7 +122,7 @@ address_colon_no_port : (host : Option (List ℕ)) (port : ℕ) → ¬ Names bar
 unfolding is_ipv6_text
 address_colon_no_port host port n =
     let whole : Names bare (codes "::1:") (Some (codes "::1:")) None = Names.unbracketed (refl, inr (codes "::1", ipv6_text_from (codes "::1") refl, refl)) refl refl in
-    some_is_none port (names_unique bare (codes "::1:") host (Some (codes "::1:")) (Some port) None n whole).1
+    absurd (none-some port (sym (names_unique bare (codes "::1:") host (Some (codes "::1:")) (Some port) None n whole).1))
 
 -- HTTP reads nothing but a literal between brackets
 web_brackets_literal : (x : List ℕ) → FreeOf right_bracket x → ¬ IsLiteral x → (host : Option (List ℕ)) (port : Option ℕ) → ¬ Names strict (left_bracket ∷ (x ++ right_bracket ∷ (colon ∷ []))) host port
@@ -194,12 +188,12 @@ holds_nothing (Some (b ∷ t)) = false
 -- a text, unless it is empty, isn't the empty text
 not_empty : {A : Type 0} (t : List ℕ) → Some [] ≡ unless_empty t → A
 unfolding holds_nothing
-not_empty [] e = some_is_none _ e
+not_empty [] e = absurd (none-some _ (sym e))
 not_empty (b ∷ t) e = absurd (false≢true (sym (ap holds_nothing e)))
 
 -- no user information holds an empty password
 no_empty_password : (t : List ℕ) (user : Option (List ℕ)) → ¬ Credentials t user (Some [])
-no_empty_password t user (Credentials.user_alone free text e is) = some_is_none _ e
+no_empty_password t user (Credentials.user_alone free text e is) = absurd (none-some _ (sym e))
 no_empty_password t user (Credentials.with_password u w free whole first second e is) = not_empty (percent_decode w) e
 
 -- the user ends at the last `@`

@@ -24,13 +24,13 @@ use Rattle.gix_url.specs.Flaws.{NameFlaw, AuthorityFlaw}
 use Rattle.gix_url.specs.Laws.{IsCorner}
 use Rattle.gix_url.specs.Refusals.{HasFlaw}
 use Rattle.gix_url.specs.RefusalRows.{NoNameFlawRows, NoPartFlawRows, FlawlessRows, NoUrlFlawRow, CornerRows, NoCornerRows}
-use Rattle.gix_url.proofs.Texts.CutLemmas.{last_unique}
 use Rattle.gix_url.proofs.Readings.HostLemmas.{flawed_unnamed}
 use Rattle.gix_url.proofs.Refused.RefusalLemmas.{bad_user_refutes, flawed_authority, scp_host_flaw_refutes, flawless}
 use Rattle.gix_url.proofs.Refused.CornerLemmas.{apart}
 use Rattle.gix_url.proofs.Examples.RowNameLemmas.{other_byte, name_rows, authority_rows, number_row, plain_row}
 use Rattle.gix_url.proofs.Examples.RowFormLemmas.{fits_row, not_bracketed, url_rows, form_rows}
 use Rattle.gix_url.proofs.Examples.RowClassLemmas.{settled_rows}
+use Rattle.std.proofs.lemmas.List.{same_from_push}
 
 -- ---- flaws
 
@@ -158,7 +158,7 @@ file_row host path lacks (IsCorner.web_length web long) = file_not_web host path
 upper_row : ¬ IsCorner (at_host https (codes "H") (codes "/p"))
 unfolding percent_encoding_on_literals chars
 upper_row (IsCorner.file_host host is there open_front marked escaped) = cc
-upper_row (IsCorner.web_host front web there open_front escaped) = other_byte 72 58 refl (last_unique [] front 72 58 (same_Some (codes "H") (front ++ colon ∷ []) there)).1
+upper_row (IsCorner.web_host front web there open_front escaped) = other_byte 72 58 refl (same_from_push [] front 72 58 (same_Some (codes "H") (front ++ colon ∷ []) there)).1
 upper_row (IsCorner.web_length web long) =
     long (codes "https://H/p", refl, record { scheme = codes "https"; rest = codes "H/p"; no_colon = refl; joined = refl; fits = fits_row (codes "https") (codes "H") (codes "/p") refl refl refl refl (inr refl) (leb-true _ _ refl) })
 

@@ -127,12 +127,12 @@ pub record IsPortless (word : List ℕ) : Type 0 where
 pub portless_free : (word : List ℕ) → FreeOf colon word → IsPortless word
 portless_free word free = record { before = BeforePort.no_colon free refl refl; secure = SecurePort.no_colon refl free refl refl }
 
--- nor does one with two
-some_behind : (p q : List ℕ) → 0 < length (p ++ colon ∷ q)
+-- a text with a colon in it holds something
+pub some_behind : (p q : List ℕ) → 0 < length (p ++ colon ∷ q)
 some_behind [] q = omega arith
 some_behind (b ∷ p) q = omega arith
 
--- a word with a colon behind its first one names no port
+-- nor does one with a colon behind its first one
 portless_cut : (word host other p q : List ℕ) → FreeOf colon host → word ≡ host ++ colon ∷ other → other ≡ p ++ colon ∷ q → IsPortless word
 portless_cut word host other p q free e behind =
     let none : git_port other ≡ None = ap git_port behind ∙ git_port_colon p q in

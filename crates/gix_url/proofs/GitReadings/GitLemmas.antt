@@ -3,7 +3,7 @@ use Rattle.std.proofs.Common.{◌≡◌, ◌∙◌, ℕ, ◌<◌, false, ◌⊎�
 use Rattle.gix_url.specs.Value.{Protocol, Location}
 use Rattle.gix_url.specs.Value.Protocol.{file, git, ssh, http, https, ext, helper, helper_url}
 use Rattle.gix_url.specs.Bytes.{slash, colon, at_sign, left_bracket, tilde, FreeOf, begins_with}
-use Rattle.gix_url.specs.Grammar.{ScpFront, IsNeither, IsScpShaped, SpellsScp}
+use Rattle.gix_url.specs.Grammar.{ScpFront, IsNeither, IsScpShaped}
 use Rattle.gix_url.specs.Arguments.{is_option_like}
 use Rattle.gix_url.specs.Text.{raw_user, raw_host, text}
 use Rattle.gix_url.specs.Settled.{IsValue, IsNormalAddress, IsScpName, IsSettledLocal, IsSettledFile, IsSettledScp, IsSettledBy, LooksLikeHelper}
@@ -14,10 +14,11 @@ use Rattle.gix_url.proofs.Texts.CutLemmas.{begins_cut, cut_unique, free-append, 
 use Rattle.gix_url.proofs.Addresses.AddressLemmas.{address_two_colons}
 use Rattle.gix_url.proofs.Written.FileLemmas.{hostless_text}
 use Rattle.gix_url.proofs.Written.KeptLemmas.{flagged_text}
-use Rattle.gix_url.proofs.Written.WrittenScpLemmas.{scp_value, scp_value_of, scp_written, scp_spelled, scp_path}
+use Rattle.gix_url.proofs.Written.WrittenScpLemmas.{scp_value_of, scp_written, scp_spelled, scp_path}
 use Rattle.gix_url.proofs.GitReadings.GitCutLemmas.{lacks_brackets, nothing_passed, place_cut, portless_free}
 use Rattle.gix_url.proofs.GitReadings.GitPieceLemmas.{from_tilde_kept, scp_host_raw}
 use Rattle.gix_url.proofs.GitReadings.GitTransportLemmas.{IsUncontested, plain_text, read_alike, secure_reading, word_of, secure_reached, host_safe, own_url, behind_plain, secure_url_alike, git_url_alike}
+use Rattle.gix_url.proofs.Readings.FormLemmas.{scp_neither}
 
 -- ---- this machine
 
@@ -76,11 +77,6 @@ local_alike v e a homeless h =
 
 -- ---- the scp form
 
--- what is spelled in the scp form is neither a remote helper nor a URL
-spelled_neither : (b : List ℕ) (v : Location) → SpellsScp b v → IsNeither b
-spelled_neither b v (inl before) = before.shape.neither
-spelled_neither b v (inr addressed) = addressed.shape.neither
-
 -- the pieces of a settled location in the scp form whose text has no bracket
 record IsScpText (v : Location) (host : List ℕ) : Type 0 where
   there : v.host ≡ Some host
@@ -125,7 +121,7 @@ scp_text v host e is a h there kind other =
     let open_text = (plain_text v t whole given lacks has).left in
     let (same, free) = scp_host_raw host (free_parts left_bracket (raw_host (Some host)) (colon ∷ v.path) (free_parts left_bracket (raw_user v.user) (raw_host (Some host) ++ colon ∷ v.path) open_text).1).0 in
     let spelled = scp_spelled v.user host v.path is.user (subst (λ o. IfSome o IsUtf8) there is.host) h.user kind (scp_path v h) other in
-    scp_pieces v host h there same (scp_name host free kind) free (spelled_neither whole (scp_value v.user host v.path None) spelled) has
+    scp_pieces v host h there same (scp_name host free kind) free (scp_neither spelled) has
 
 -- a word with a host isn't empty
 word_nonempty : (user : Option (List ℕ)) (host : List ℕ) → 0 < length host → 0 < length (word_of user host)

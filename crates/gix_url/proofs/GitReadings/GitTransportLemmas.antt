@@ -16,11 +16,11 @@ use Rattle.gix_url.specs.GitClass.{is_contested, HasNoOption, AgreesWithGit, own
 use Rattle.gix_url.proofs.Texts.CutLemmas.{free-append, free_of_lacked, free_parts, not_free}
 use Rattle.gix_url.proofs.Texts.EscapeLemmas.{no_line}
 use Rattle.gix_url.proofs.Addresses.AddressLemmas.{address_two_colons}
-use Rattle.gix_url.proofs.Closed.SettledLemmas.{one_text, written_git, written_secure}
 use Rattle.gix_url.proofs.Readings.UrlLemmas.{some_kept}
 use Rattle.gix_url.proofs.Written.WrittenUrlLemmas.{authority_text, canonical_cut}
-use Rattle.gix_url.proofs.GitReadings.GitCutLemmas.{IsPortless, ReadsPlace, git_decode_kept, place_cut, place_with_port, place_without_port, portless_coloned, portless_free}
+use Rattle.gix_url.proofs.GitReadings.GitCutLemmas.{IsPortless, ReadsPlace, git_decode_kept, place_cut, place_with_port, place_without_port, portless_coloned, portless_free, some_behind}
 use Rattle.gix_url.proofs.GitReadings.GitPieceLemmas.{IsHostRaw, IsPathRaw, IsUserRaw, beside_port, host_raw, no_match, path_raw, port_free, user_raw}
+use Rattle.gix_url.proofs.Written.WrittenAsUrlLemmas.{one_text, written_git, written_secure}
 
 -- ---- texts without contested bytes
 
@@ -234,17 +234,12 @@ host_safe v host there h = subst (λ o. IfSome o (λ x. is_option_like x ≡ fal
 
 -- ---- Secure Shell's URLs
 
--- an address isn't empty
-coloned_nonempty : (x y : List ℕ) → 0 < length (x ++ colon ∷ y)
-coloned_nonempty [] y = omega arith
-coloned_nonempty (b ∷ x) y = omega arith
-
 -- nor is any settled host of Secure Shell
 bare_nonempty : (host : List ℕ) → IsBareHost host → 0 < length host
 bare_nonempty host (inl name) = name.unbracketed.nonempty
 bare_nonempty host (inr address) =
     let (x, y, z, e) = address_two_colons host address.address in
-    subst (λ t. 0 < length t) (sym e) (coloned_nonempty x (y ++ colon ∷ z))
+    subst (λ t. 0 < length t) (sym e) (some_behind x (y ++ colon ∷ z))
 
 -- and names no port behind its colons
 bare_portless : (front host : List ℕ) → FreeOf colon front → IsBareHost host → IsPortless (front ++ host)

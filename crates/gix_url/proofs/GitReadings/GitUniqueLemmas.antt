@@ -10,13 +10,9 @@ use Rattle.gix_url.specs.Schemes.{protocol_of, requires_path}
 use Rattle.gix_url.specs.Authority.{unless_empty}
 use Rattle.gix_url.specs.Git.{GitReading, OneGitReading, on_this_machine, from_tilde, git_decode, host_mark, OpensHost, InBrackets, LacksHostBrackets, HostEnd, CutsPlace, git_port, BeforePort, HostAndPort, SecurePort, UserCut, ReachesSecure, ReachesGit, OwnUrl, IsNoUrl, IsRemote, IsLocal, ReadsGiven}
 use Rattle.gix_url.proofs.Readings.SchemeLemmas.{protocol_cases, transport}
-use Rattle.gix_url.proofs.Texts.CutLemmas.{heads, tails, different_bytes, cut_unique, free_head_tail, last_cut_unique, not_free}
+use Rattle.gix_url.proofs.Texts.CutLemmas.{heads, tails, different_bytes, cut_unique, free_head_tail, last_cut_unique, not_free, held_cut_unique}
 
 -- ---- brackets
-
--- what follows the first byte of a text without the mark holds none
-mark_not_behind : (b : ℕ) (bs : List ℕ) → ¬ Holds host_mark (b ∷ bs) → ¬ Holds host_mark bs
-mark_not_behind b bs h (front, rest, e) = h (b ∷ front, rest, ap (λ z. b ∷ z) e)
 
 -- no mark reaches from a text without it into one that follows
 mark_no_overlap : (b : ℕ) (bs x y : List ℕ) → ¬ Holds host_mark (b ∷ bs) → host_mark ++ x ≡ b ∷ (bs ++ (host_mark ++ y)) → ⊥
@@ -24,20 +20,10 @@ mark_no_overlap b [] x y h e = different_bytes 91 64 refl (tails e)
 mark_no_overlap b (c ∷ bs) x y h e =
     h ([], bs, ap (λ z. z ∷ c ∷ bs) (sym (heads e)) ∙ ap (λ z. 64 ∷ z ∷ bs) (sym (heads (tails e))))
 
--- the pieces around the first mark
-mark_unique : (a b x y : List ℕ) → ¬ Holds host_mark a → ¬ Holds host_mark b → a ++ (host_mark ++ x) ≡ b ++ (host_mark ++ y) → (a ≡ b) × (x ≡ y)
-mark_unique [] [] x y f g e = (refl, tails (tails e))
-mark_unique [] (d ∷ b) x y f g e = absurd (mark_no_overlap d b x y g e)
-mark_unique (d ∷ a) [] x y f g e = absurd (mark_no_overlap d a y x f (sym e))
-mark_unique (c ∷ a) (d ∷ b) x y f g e =
-    let rest : (a ≡ b) × (x ≡ y) = mark_unique a b x y (mark_not_behind c a f) (mark_not_behind d b g) (tails e) in
-    let first : c ≡ d = heads e in
-    (cc rest.0, rest.1)
-
 -- one bracket opens the host
 opens_unique : (t front rest other more : List ℕ) → OpensHost t front rest → OpensHost t other more → (front ≡ other) × (rest ≡ more)
 opens_unique t front rest other more (OpensHost.behind_at user none is e) (OpensHost.behind_at name none' is' e') =
-    let same = mark_unique user name rest more none none' (sym e ∙ e') in
+    let same = held_cut_unique host_mark mark_no_overlap user name rest more none none' (sym e ∙ e') in
     (is ∙ ap (λ u. u ++ at_sign ∷ []) same.0 ∙ sym is', same.1)
 opens_unique t front rest other more (OpensHost.behind_at user none is e) (OpensHost.at_front none' is' e') = absurd (none' (user, rest, e))
 opens_unique t front rest other more (OpensHost.at_front none is e) (OpensHost.behind_at name none' is' e') = absurd (none (name, more, e'))

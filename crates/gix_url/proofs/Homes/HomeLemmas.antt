@@ -1,5 +1,5 @@
 -- Home folders: how a path begins, and that it has one split and one reading for a shell.
-use Rattle.std.proofs.Common.{◌≡◌, ℕ, true, false, ◌==◌, ◌&&◌, inl, inr, List, [], ◌∷◌, ◌++◌, Option, Some, None, Result, Ok, Err, String, string_bytes, Bor, refl, sym, ap, ◌∙◌}
+use Rattle.std.proofs.Common.{◌≡◌, ℕ, false, ◌==◌, ◌&&◌, inl, inr, List, [], ◌∷◌, ◌++◌, Option, Some, None, Result, Ok, Err, String, string_bytes, Bor, refl, sym, ap, ◌∙◌}
 use Rattle.std.specs.Global.{Global}
 use Rattle.std.specs.Option.{option_copied}
 use Rattle.bstr.proofs.Computing.{computing}
@@ -52,11 +52,6 @@ shell_at path name below rest text free cut r e = record {
   split = splits_at path name below (home_user name) rest free cut refl r;
   written = e ∙ sym (shell_named name rest);
 }
-
--- a path with a user begins with `/~`
-pub begins_home : (path name below : List ℕ) → HomePath path name below → begins_at_home path ≡ true
-begins_home path name below (inl (e, none)) = ap begins_at_home e
-begins_home path name below (inr e) = ap begins_at_home e
 
 -- ---- folders
 

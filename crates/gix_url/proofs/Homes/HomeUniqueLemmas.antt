@@ -23,10 +23,6 @@ name_alone path name other below h e f = absurd (not_free slash other below (sub
 at_home : {A : Type 0} (path rest : List ℕ) → begins_at_home path ≡ false → path ≡ slash ∷ (tilde ∷ rest) → A
 at_home path rest h e = absurd (false≢true (sym h ∙ ap begins_at_home e))
 
--- two splits of one user and one rest
-same_split : (user other : Option HomeUser) (rest left : List ℕ) → user ≡ other → rest ≡ left → let x : Split = (user, rest) in let y : Split = (other, left) in x ≡ y
-same_split user other rest left e f = λ i. (e i, f i)
-
 -- a path has one split
 split_parts : (path : List ℕ) (user other : Option HomeUser) (rest left : List ℕ) → SplitsHome path user rest → SplitsHome path other left → (user ≡ other) × (rest ≡ left)
 split_parts path user other rest left (SplitsHome.home_alone name h e u r) (SplitsHome.home_alone same k f v s) =
@@ -88,8 +84,9 @@ BesideFolder own name folder =
 same_name : {name other : List ℕ} → named name ≡ named other → name ≡ other
 same_name e = cc
 
-same_own : {own other : List ℕ} {x y : Option (List ℕ)} → x ≡ Some own → y ≡ Some other → x ≡ y → own ≡ other
-same_own e f g = cc
+-- equal values that are there are one
+same_given : {A : Type 0} {own other : A} {x y : Option A} → x ≡ Some own → y ≡ Some other → x ≡ y → own ≡ other
+same_given e f g = cc
 
 -- the folder of the current user
 own_folder : (home folder : Option (List ℕ)) → HomeFolder home current folder → folder ≡ home
@@ -110,14 +107,14 @@ beside_some : (own name : List ℕ) (folder : Option (List ℕ)) → HomeFolder 
 unfolding BesideFolder
 beside_some own name folder (HomeFolder.own e f) = cc
 beside_some own name folder (HomeFolder.beside same home parent other e f p j g) =
-    inl (parent, other, subst (λ t. IsParent t (Some parent)) (sym (same_own refl refl f)) p, subst (λ t. Joins parent (lossy_text t) other) (sym (same_name e)) j, g)
-beside_some own name folder (HomeFolder.topmost same home e f p g) = inr (subst (λ t. IsParent t None) (sym (same_own refl refl f)) p, g)
+    inl (parent, other, subst (λ t. IsParent t (Some parent)) (sym (same_given refl refl f)) p, subst (λ t. Joins parent (lossy_text t) other) (sym (same_name e)) j, g)
+beside_some own name folder (HomeFolder.topmost same home e f p g) = inr (subst (λ t. IsParent t None) (sym (same_given refl refl f)) p, g)
 beside_some own name folder (HomeFolder.unknown same e f g) = cc
 
 beside_unique : (own name : List ℕ) (x y : Option (List ℕ)) → BesideFolder own name x → BesideFolder own name y → x ≡ y
 unfolding BesideFolder
 beside_unique own name x y (inl (parent, other, p, j, e)) (inl (above, folder, q, k, f)) =
-    let same : parent ≡ above = same_own refl refl (parent_unique own (Some parent) (Some above) p q) in
+    let same : parent ≡ above = same_given refl refl (parent_unique own (Some parent) (Some above) p q) in
     e ∙ (ap Some (joins_unique above (lossy_text name) other folder (subst (λ t. Joins t (lossy_text name) other) same j) k) ∙ sym f)
 beside_unique own name x y (inl (parent, other, p, j, e)) (inr (q, f)) = let wrong = parent_unique own (Some parent) None p q in cc
 beside_unique own name x y (inr (p, e)) (inl (parent, other, q, j, f)) = let wrong = parent_unique own (Some parent) None q p in cc
@@ -153,19 +150,16 @@ UserExpansion home user path result =
     ((folder : List ℕ) × (whole : List ℕ) × HomeFolder home user (Some folder) × LiesBelow folder path whole × (result ≡ Some whole))
     ⊎ (HomeFolder home user None × (result ≡ None))
 
-same_user : {user other : HomeUser} {x y : Option HomeUser} → x ≡ Some user → y ≡ Some other → x ≡ y → user ≡ other
-same_user e f g = cc
-
 user_expansion : (home : Option (List ℕ)) (user : HomeUser) (path : List ℕ) (result : Option (List ℕ)) → Expands home (Some user) path result → UserExpansion home user path result
 unfolding UserExpansion
 user_expansion home user path result (Expands.userless e f) = cc
-user_expansion home user path result (Expands.at_home who folder whole e h b f) = inl (folder, whole, subst (λ u. HomeFolder home u (Some folder)) (sym (same_user refl refl e)) h, b, f)
-user_expansion home user path result (Expands.homeless who e h f) = inr (subst (λ u. HomeFolder home u None) (sym (same_user refl refl e)) h, f)
+user_expansion home user path result (Expands.at_home who folder whole e h b f) = inl (folder, whole, subst (λ u. HomeFolder home u (Some folder)) (sym (same_given refl refl e)) h, b, f)
+user_expansion home user path result (Expands.homeless who e h f) = inr (subst (λ u. HomeFolder home u None) (sym (same_given refl refl e)) h, f)
 
 user_unique : (home : Option (List ℕ)) (user : HomeUser) (path : List ℕ) (x y : Option (List ℕ)) → UserExpansion home user path x → UserExpansion home user path y → x ≡ y
 unfolding UserExpansion
 user_unique home user path x y (inl (folder, whole, h, b, e)) (inl (other, text, k, d, f)) =
-    let same : folder ≡ other = same_own refl refl (folder_unique home user (Some folder) (Some other) h k) in
+    let same : folder ≡ other = same_given refl refl (folder_unique home user (Some folder) (Some other) h k) in
     e ∙ (ap Some (below_unique other path whole text (subst (λ t. LiesBelow t path whole) same b) d) ∙ sym f)
 user_unique home user path x y (inl (folder, whole, h, b, e)) (inr (k, f)) = let wrong = folder_unique home user (Some folder) None h k in cc
 user_unique home user path x y (inr (h, e)) (inl (folder, whole, k, b, f)) = let wrong = folder_unique home user (Some folder) None k h in cc

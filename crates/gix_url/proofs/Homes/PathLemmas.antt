@@ -3,9 +3,8 @@ use Rattle.std.proofs.Common.{◌≡◌, ℕ, ◌<◌, false, ◌==◌, ◌⊎�
 use Rattle.std.specs.List.{list_any, join_with_byte}
 use Rattle.std.specs.Str.{NoCharPasses}
 use Rattle.std.specs.Str.Pattern.{FindsChar, RFindsChar, HasCharAt, SplitsAroundMatch}
-use Rattle.std.proofs.lemmas.Bool.{eqb-true, false≢true, false_from_ne_true, or_from, or_parts}
+use Rattle.std.proofs.lemmas.Bool.{eqb-true, false≢true, false_from_ne_true, or_from}
 use Rattle.std.proofs.lemmas.List.{take-append-drop, length-append}
-use Rattle.std.proofs.lemmas.List.Concat.{flat_map-append}
 use Rattle.std.proofs.lemmas.Str.Pattern.{NoCharPasses-char, drop_at_char}
 use Rattle.gix_url.specs.Bytes.{slash, FreeOf, begins_with}
 use Rattle.gix_url.specs.Cuts.{CutsAt, CutsAtLast}
@@ -44,18 +43,6 @@ idle_none = ([], refl, refl)
 pub idle_more : (segment text : List ℕ) → counts segment ≡ false → IsIdle text → IsIdle (slash ∷ (segment ++ text))
 idle_more segment text h (segments, k, e) = (segment ∷ segments, or_from (counts segment) (list_any counts segments) h k, ap (λ t. slash ∷ (segment ++ t)) e)
 
--- no list of segments in two parts counts, if neither part does
-pub any_in_parts : (xs ys : List (List ℕ)) → list_any counts xs ≡ false → list_any counts ys ≡ false → list_any counts (xs ++ ys) ≡ false
-any_in_parts [] ys h k = k
-any_in_parts (x ∷ xs) ys h k =
-    let parts = or_parts (counts x) (list_any counts xs) h in
-    or_from (counts x) (list_any counts (xs ++ ys)) parts.0 (any_in_parts xs ys parts.1 k)
-
--- idle texts joined are idle
-pub idle-append : (x y : List ℕ) → IsIdle x → IsIdle y → IsIdle (x ++ y)
-idle-append x y (xs, h, e) (ys, k, f) =
-    (xs ++ ys, any_in_parts xs ys h k, rw (e, f) (sym (flat_map-append (λ segment. slash ∷ segment) xs ys)))
-
 -- ---- the last piece
 
 -- behind the last piece a segment that doesn't count is idle
@@ -63,11 +50,6 @@ pub tail_more : (text front before segment : List ℕ) → front ≡ before ++ s
     → (tail : List ℕ) × IsIdle tail × (text ≡ front ++ tail) → (tail : List ℕ) × IsIdle tail × (text ≡ before ++ tail)
 tail_more text front before segment e h (tail, idle, whole) =
     (slash ∷ (segment ++ tail), idle_more segment tail h idle, whole ∙ ap (λ t. t ++ tail) e ∙ append_assoc before (slash ∷ segment) tail)
-
--- a text without `/` is a piece, or nothing
-pub lone_or_none : (text : List ℕ) → FreeOf slash text → EndsInPiece text ⊎ (text ≡ [])
-lone_or_none [] h = inr refl
-lone_or_none (b ∷ bs) h = inl (EndsInPiece.lone_piece h (omega arith))
 
 -- what ends in a piece and holds a `/` ends in a piece behind a `/`
 pub piece_behind : (text above last : List ℕ) → FreeOf slash last → text ≡ above ++ slash ∷ last → EndsInPiece text ⊎ (text ≡ []) → IsPiece last
@@ -93,10 +75,6 @@ parent_above text whole above last upper t free e u =
 pub parent_of_first : (text first : List ℕ) → UpToLast text first → FreeOf slash first → 0 < length first → IsParent text (Some [])
 parent_of_first text first t free some = IsParent.above_first first t.tail free some t.idle t.whole refl
 
--- there is no piece
-pub parent_of_none : (text front : List ℕ) → UpToLast text front → front ≡ [] → IsParent text None
-parent_of_none text front t e = IsParent.above_none (subst IsIdle (sym (t.whole ∙ ap (λ x. x ++ t.tail) e)) t.idle) refl
-
 -- ---- folders
 
 -- a text that isn't empty has a last byte
@@ -104,10 +82,6 @@ pub last_byte : (bs : List ℕ) → 0 < length bs → (front : List ℕ) × (las
 last_byte [] some = absurd (omega arith)
 last_byte (b ∷ []) some = ([], b, refl)
 last_byte (b ∷ c ∷ bs) some = let (front, last, e) = last_byte (c ∷ bs) (omega arith) in (b ∷ front, last, ap (λ t. b ∷ t) e)
-
--- a folder that is empty is ready for a path
-pub opens_empty : (folder : List ℕ) → folder ≡ [] → Opens folder folder
-opens_empty folder e = Opens.empty_folder e e
 
 -- one that doesn't end in `/` is with a `/` behind it
 pub opens_name : (folder : List ℕ) → 0 < length folder → ((front : List ℕ) → ¬ (folder ≡ front ++ slash ∷ [])) → Opens folder (folder ++ slash ∷ [])

@@ -6,8 +6,10 @@ use Rattle.std.proofs.lemmas.List.Concat.{flat_map-append}
 use Rattle.gix_url.specs.Bytes.{dot, slash, FreeOf, begins_by, begins_with}
 use Rattle.gix_url.specs.Grammar.{or_root}
 use Rattle.gix_url.specs.Paths.{counts, IsPiece, behind_slashes, IsIdle, HoldsPieces, HasPieces, WithoutFirst, Opens, Joins, LiesBelow, EndsInPiece, IsParent}
-use Rattle.gix_url.proofs.Texts.CutLemmas.{tails, last_unique, class_cut_unique, free-cons}
+use Rattle.gix_url.proofs.Texts.CutLemmas.{tails, class_cut_unique, free-cons}
 use Rattle.gix_url.proofs.Homes.PathLemmas.{idle_none, last_byte, pieces_past}
+use Rattle.std.proofs.lemmas.List.{same_from_push}
+use Rattle.std.proofs.lemmas.List.Elements.{filter-append}
 
 -- ---- segments
 
@@ -83,14 +85,6 @@ idle_pieces (segment ∷ segments) h =
     let parts = or_parts (counts segment) (list_any counts segments) h in
     rw parts.0 (idle_pieces segments parts.1)
 
--- pieces of two parts
-pieces-append : (xs ys : List (List ℕ)) → filter counts (xs ++ ys) ≡ filter counts xs ++ filter counts ys
-pieces-append [] ys = refl
-pieces-append (x ∷ xs) ys = elim (cases_Bool (counts x)) [
-  | inl good ↦ rw (good) (ap (λ t. x ∷ t) (pieces-append xs ys))
-  | inr never ↦ rw (never) (pieces-append xs ys)
-]
-
 -- pieces one after another are segments, and those that count are the pieces
 pieces_segments : (pieces : List (List ℕ)) (text : List ℕ) → HoldsPieces pieces text → (segments : List (List ℕ)) × Segments segments text × (filter counts segments ≡ pieces)
 pieces_segments [] text (segments, h, e) = (segments, record { each = idle_each segments h; whole = e }, idle_pieces segments h)
@@ -100,7 +94,7 @@ pieces_segments (piece ∷ others) text (gap, rest, (gaps, h, e), is, more, whol
       subst (Segments (gaps ++ piece ∷ segments)) (sym whole)
           (segments-append gaps (piece ∷ segments) gap (slash ∷ (piece ++ rest)) (record { each = idle_each gaps h; whole = e })
           (record { each = (is.0, k.each); whole = ap (λ t. slash ∷ (piece ++ t)) k.whole })),
-      pieces-append gaps (piece ∷ segments) ∙ rw (idle_pieces gaps h, is.1) (ap (λ t. piece ∷ t) found),
+      filter-append counts gaps (piece ∷ segments) ∙ rw (idle_pieces gaps h, is.1) (ap (λ t. piece ∷ t) found),
     )
 
 -- a text has one first segment, and one list of pieces behind it
@@ -328,10 +322,10 @@ opens_unique folder x y (Opens.empty_folder e f) (Opens.behind_name front last n
 opens_unique folder x y (Opens.behind_slash front e f) (Opens.empty_folder g h) = ended front slash (sym g ∙ e)
 opens_unique folder x y (Opens.behind_slash front e f) (Opens.behind_slash other g h) = f ∙ sym h
 opens_unique folder x y (Opens.behind_slash front e f) (Opens.behind_name other last n g h) =
-    absurd (both_ways (last == slash) n (eq-eqb last slash (sym (last_unique front other slash last (sym e ∙ g)).1)))
+    absurd (both_ways (last == slash) n (eq-eqb last slash (sym (same_from_push front other slash last (sym e ∙ g)).1)))
 opens_unique folder x y (Opens.behind_name front last n e f) (Opens.empty_folder g h) = ended front last (sym g ∙ e)
 opens_unique folder x y (Opens.behind_name front last n e f) (Opens.behind_slash other g h) =
-    absurd (both_ways (last == slash) n (eq-eqb last slash (last_unique front other last slash (sym e ∙ g)).1))
+    absurd (both_ways (last == slash) n (eq-eqb last slash (same_from_push front other last slash (sym e ∙ g)).1))
 opens_unique folder x y (Opens.behind_name front last n e f) (Opens.behind_name other byte m g h) = f ∙ sym h
 
 -- and it can be

@@ -10,7 +10,7 @@ use Rattle.std.proofs.lemmas.Slice.Eq.{bytes_eq-Decides}
 use Rattle.percent_encoding.specs.AsciiSet.{contains, should_percent_encode}
 use Rattle.percent_encoding.specs.Percent.{percent_decode, percent_encode, percent_encode_byte}
 use Rattle.percent_encoding.proofs.AsciiSetLemmas.{outside_from_kept, kept_from_outside}
-use Rattle.percent_encoding.proofs.PercentLemmas.{IsEscapeByte, All-percent_encode_byte, percent_encode_escaped, percent_encode_kept, percent_decode-nil, percent_decode-percent_encode_byte}
+use Rattle.percent_encoding.proofs.PercentLemmas.{IsEscapeByte, All-percent_encode_byte, percent_encode_escaped, percent_encode_kept, percent_decode-nil, percent_decode-percent_encode_byte, round_trip, percent_encode-append, percent_encode-nil}
 use Rattle.gix_url.specs.declared.escape.TheConstants.{PATH}
 use Rattle.gix_url.specs.Bytes.{number_sign, percent_sign, plus_sign, slash, question_mark, FreeOf, begins_with, space, ampersand, equals_sign}
 use Rattle.gix_url.specs.Escapes.{has_percent, is_path_escaped, matches}
@@ -19,17 +19,18 @@ use Rattle.gix_url.specs.Schemes.{requires_path}
 use Rattle.gix_url.specs.Grammar.{or_root, retained_spelling, Spells}
 use Rattle.gix_url.specs.Components.{Components, stands_for, IsFront, CutsPath, CutsFields, SplitsField, with_spaces, term_of, PairsOf, QueryOf, WebParts, PartsBy, PartsOf}
 use Rattle.gix_url.specs.Text.{plain_path, matching_or, canonical_path, canonical_text, text, original_path}
-use Rattle.gix_url.specs.Settled.{IsSettledUrl, IsSettledWeb, IsSettledBy, IsSettled, IsWeb}
+use Rattle.gix_url.specs.Settled.{IsSettledUrl, IsWeb}
 use Rattle.gix_url.specs.SettledParts.{HasFairSpelling}
 use Rattle.gix_url.proofs.Written.WrittenPieces.{as_read}
 use Rattle.gix_url.specs.Laws.{SameComponents}
 use Rattle.gix_url.proofs.Texts.CutLemmas.{cut_unique, free_or_cut, not_free}
-use Rattle.gix_url.proofs.Texts.EscapeLemmas.{is_escape_byte, bytes_from_utf8, decode_byte, decode_encode, decode_encode_utf8, encode_nil, encode_empty, encode-append, encode_byte_kept, encode_lacks_kept, lacks_from_encode}
+use Rattle.gix_url.proofs.Texts.EscapeLemmas.{is_escape_byte, bytes_from_utf8, decode_byte, decode_encode_utf8, encode_empty, encode_byte_kept, encode_lacks_kept, lacks_from_encode}
 use Rattle.gix_url.proofs.Texts.EscapeSets.{path_holds}
-use Rattle.gix_url.proofs.Closed.SettledLemmas.{one_text, written_web}
 use Rattle.gix_url.proofs.Closed.WebClosedLemmas.{spelled_as}
 use Rattle.gix_url.proofs.Unique.UniqueLemmas.{spells_unique}
 use Rattle.gix_url.proofs.Written.AgainLemmas.{web_spelled}
+use Rattle.gix_url.proofs.Refused.CornerLemmas.{settled_as_web}
+use Rattle.gix_url.proofs.Written.WrittenAsUrlLemmas.{one_text, written_web}
 
 -- every number of the text is a byte
 abbrev IsBytes : List ℕ → Type 0
@@ -84,7 +85,7 @@ spaces_kept b bs kept =
 
 -- decoding undoes the encoding of a path, where both have spaces for `+`
 spaces_decoded : (t : List ℕ) → IsBytes t → percent_decode (with_spaces (percent_encode PATH t)) ≡ with_spaces t
-spaces_decoded [] small = ap (λ t. percent_decode (with_spaces t)) (encode_nil PATH) ∙ percent_decode-nil
+spaces_decoded [] small = ap (λ t. percent_decode (with_spaces t)) (percent_encode-nil PATH) ∙ percent_decode-nil
 spaces_decoded (b ∷ bs) small =
     let byte = All-head (λ c. c < 256) b bs small in
     let rest = spaces_decoded bs (All-tail (λ c. c < 256) b bs small) in
@@ -166,9 +167,9 @@ mark_not_escape c b mark h = false_from_ne_true (b == c) (λ e. both_ways (is_es
 -- the encoding of paths is such a way
 path_way : IsWay (λ x. percent_encode PATH x)
 path_way = record {
-  nil = encode_nil PATH;
+  nil = percent_encode-nil PATH;
   empty = λ x e. encode_empty PATH x e;
-  around = λ c x y mark. encode-append PATH x (c ∷ y) ∙ ap (λ t. percent_encode PATH x ++ t) (encode_byte_kept PATH c y mark.ascii (path_holds c mark.ascii ∙ mark.out));
+  around = λ c x y mark. percent_encode-append PATH x (c ∷ y) ∙ ap (λ t. percent_encode PATH x ++ t) (encode_byte_kept PATH c y mark.ascii (path_holds c mark.ascii ∙ mark.out));
   free = λ c x mark h. encode_lacks_kept (λ b. b == c) PATH x (λ b escape. mark_not_escape c b mark escape) h;
   freed = λ c x mark h. lacks_from_encode (λ b. b == c) PATH x (λ b escaped. escaped_not_kept b c mark.ascii mark.out escaped) h;
 }
@@ -462,7 +463,7 @@ encoded_rewritten v text h =
       way = path_way;
       bytes = subst IsBytes (sym original) (bytes_from_utf8 v.path text);
       original = cond-true _ _ _ matching ∙ ap (λ x. percent_encode PATH x) (sym original);
-      meant = λ x small. cond-true _ _ _ matching ∙ decode_encode PATH x refl small ∙ sym (cond-false _ _ _ h);
+      meant = λ x small. cond-true _ _ _ matching ∙ round_trip PATH x refl small ∙ sym (cond-false _ _ _ h);
       term = λ x small. cond-true _ _ _ matching ∙ spaces_decoded x small ∙ sym (cond-false _ _ _ h);
     }
 
@@ -479,9 +480,9 @@ plain_rewritten v text h =
     }
 
 -- the components with the spelling that is read of the encoded path
-retained_parts : (v : Location) (b : Bool) (components : Components) → has_percent (percent_encode PATH v.path) ≡ b → IsUtf8 v.path → matches v.spelling v.path ≡ false → WebParts (spelled_as v (if b then Some (percent_encode PATH v.path) else None)) components ↔ WebParts v components
-retained_parts v true components holds text h = parts_rewritten (λ x. percent_encode PATH x) v (spelled_as v (Some (percent_encode PATH v.path))) components (encoded_rewritten v text h)
-retained_parts v false components lacks text h = parts_rewritten (λ x. x) v (spelled_as v None) components (plain_rewritten v text h)
+retained_parts : (v : Location) (b : Bool) (components : Components) → IsUtf8 v.path → matches v.spelling v.path ≡ false → WebParts (spelled_as v (if b then Some (percent_encode PATH v.path) else None)) components ↔ WebParts v components
+retained_parts v true components text h = parts_rewritten (λ x. percent_encode PATH x) v (spelled_as v (Some (percent_encode PATH v.path))) components (encoded_rewritten v text h)
+retained_parts v false components text h = parts_rewritten (λ x. x) v (spelled_as v None) components (plain_rewritten v text h)
 
 -- the components with the spelling that is read, by whether the given one matches
 parts_by : (v : Location) (b : Bool) (components : Components) → IsWeb v → IsSettledUrl v → matches v.spelling v.path ≡ b → WebParts (as_read v) components ↔ WebParts v components
@@ -489,16 +490,11 @@ parts_by v true components web settled h =
     subst (λ o. WebParts (spelled_as v o) components ↔ WebParts v components) (sym (spelled_again v web settled.spelling h)) (λ parts. parts, λ parts. parts)
 parts_by v false components web settled h =
     let read : retained_spelling (percent_encode PATH v.path) ≡ retained_spelling (canonical_path v) = ap retained_spelling (sym (web_path v web ∙ unmatched v.spelling v.path (percent_encode PATH v.path) h)) in
-    subst (λ o. WebParts (spelled_as v o) components ↔ WebParts v components) read (retained_parts v (has_percent (percent_encode PATH v.path)) components refl settled.path_text h)
+    subst (λ o. WebParts (spelled_as v o) components ↔ WebParts v components) read (retained_parts v (has_percent (percent_encode PATH v.path)) components settled.path_text h)
 
 -- ---- what is read of a settled location
 
--- a settled location of HTTP is settled as one
-settled_web : (v : Location) → IsWeb v → IsSettled v → IsSettledWeb v
-settled_web v (inl e) h = subst (λ p. IsSettledBy p v) e h
-settled_web v (inr e) h = subst (λ p. IsSettledBy p v) e h
-
--- and its components are those of a location of HTTP
+-- the components of a location of HTTP are those of its kind
 pub web_parts : (v : Location) (components : Components) → IsWeb v → PartsOf v components ↔ WebParts v components
 web_parts v components (inl e) = (λ h. subst (λ p. PartsBy p v components) e h, λ h. subst (λ p. PartsBy p v components) (sym e) h)
 web_parts v components (inr e) = (λ h. subst (λ p. PartsBy p v components) e h, λ h. subst (λ p. PartsBy p v components) (sym e) h)
@@ -510,7 +506,7 @@ web_text v t web h has = one_text has ((written_web v web).canonical h.unflagged
 -- what is read of a settled location of HTTP has the same components
 pub same_components : SameComponents
 same_components v w t is web settled has spelled components =
-    let h = settled_web v web settled in
+    let h = settled_as_web v web settled in
     let same = web_text v t web h.common has in
     let read : w ≡ as_read v = spells_unique (canonical_text v) w (as_read v) (subst (λ z. Spells z w) same spelled) (web_spelled v web is h) in
     let parts = parts_by v (matches v.spelling v.path) components web h.common refl in

@@ -1,5 +1,5 @@
 -- Components that are handed out: they are those of the location, and what is lent stands in its path.
-use Rattle.std.proofs.Common.{◌≡◌, ◌∙◌, ℕ, Bool, true, false, ◌⊎◌, inl, inr, List, [], ◌∷◌, ◌++◌, map, length, Option, Some, None, option_map, IfSome, All, Result, Ok, Err, IsOk, IsErr, IfOk, refl, sym, ap, subst, append_assoc, arith, ⊎_elim}
+use Rattle.std.proofs.Common.{◌≡◌, ◌∙◌, ℕ, Bool, true, false, ◌⊎◌, inl, inr, List, [], ◌∷◌, ◌++◌, map, length, Option, Some, None, option_map, IfSome, All, Result, Ok, Err, IsOk, IsErr, refl, sym, ap, subst, append_assoc, arith, ⊎_elim}
 use Rattle.std.specs.List.{join_with_byte}
 use Rattle.std.proofs.lemmas.Bool.{cases_Bool}
 use Rattle.std.proofs.lemmas.List.{append-nil}
@@ -247,11 +247,6 @@ query_there v has components parts none =
 pub given : {A E : Type 0} (r : Result A E) → (IsErr r → ⊥) → IsOk r
 given (Ok x) h = refl
 given (Err e) h = absurd (h refl)
-
--- what is known of an answer, further
-pub map_ok : {A E : Type 0} {P Q : A → Type 0} (r : Result A E) → ((x : A) → P x → Q x) → IfOk r P → IfOk r Q
-map_ok (Ok x) f h = f x h
-map_ok (Err e) f h = tt
 
 -- ---- the original path
 

@@ -1,5 +1,5 @@
 -- Lists that are compared element by element.
-use Rattle.std.proofs.Common.{◌≡◌, ◌≢◌, ◌∙◌, ◌<◌, ◌≤◌, ◌+◌, ℕ, suc, Bool, true, false, ◌&&◌, List, [], ◌∷◌, map, length, drop, get_or, refl, sym, ap, arith, add-one}
+use Rattle.std.proofs.Common.{◌≡◌, ◌∙◌, ◌<◌, ◌≤◌, ◌+◌, ℕ, suc, Bool, true, ◌&&◌, List, [], ◌∷◌, map, length, drop, get_or, refl, sym, ap, add-one}
 use Rattle.std.specs.Cmp.Lexicographic.{pointwise}
 use Rattle.std.proofs.Math.Seq.{drop-cons}
 use Rattle.std.proofs.lemmas.List.{drop_all}
@@ -10,18 +10,6 @@ pointwise_map E f [] [] = refl
 pointwise_map E f [] (y ∷ ys) = refl
 pointwise_map E f (x ∷ xs) [] = refl
 pointwise_map E f (x ∷ xs) (y ∷ ys) = ap (λ b. E (f x) (f y) && b) (pointwise_map E f xs ys)
-
--- a test and one that fails, fail together
-and_no : (b : Bool) → (b && false) ≡ false
-and_no true = refl
-and_no false = refl
-
--- lists of different lengths are not equal
-pub pointwise_length : {A : Type 0} (E : A → A → Bool) (xs ys : List A) → length xs ≢ length ys → pointwise E xs ys ≡ false
-pointwise_length E [] [] other = absurd (omega arith)
-pointwise_length E [] (y ∷ ys) other = refl
-pointwise_length E (x ∷ xs) [] other = refl
-pointwise_length E (x ∷ xs) (y ∷ ys) other = ap (λ b. E x y && b) (pointwise_length E xs ys (λ e. other (omega arith))) ∙ and_no (E x y)
 
 -- at an index the first elements of the rests decide, and then the rests behind them
 pub pointwise_step : {A : Type 0} (E : A → A → Bool) (xs ys : List A) (i : ℕ) (x y : A) → i < length xs → i < length ys → x ≡ get_or xs i x → y ≡ get_or ys i y → pointwise E (drop i xs) (drop i ys) ≡ (E x y && pointwise E (drop (i + 1) xs) (drop (i + 1) ys))

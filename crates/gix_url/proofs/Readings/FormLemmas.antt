@@ -90,8 +90,8 @@ begins_before_at [] rest h = refl
 begins_before_at (c ∷ user) rest h = h
 
 -- a front that ends within the address
-within_shape : (b user address path x y : List ℕ) → AddressedShape b user address path → FreeOf colon x → address ≡ x ++ colon ∷ y → ScpFront b (user ++ at_sign ∷ (left_bracket ∷ x)) → ScpShape b (user ++ at_sign ∷ (left_bracket ∷ x)) (y ++ right_bracket ∷ (colon ∷ path))
-within_shape b user address path x y h f e shape = record {
+within_shape : (b user address path x y : List ℕ) → AddressedShape b user address path → address ≡ x ++ colon ∷ y → ScpFront b (user ++ at_sign ∷ (left_bracket ∷ x)) → ScpShape b (user ++ at_sign ∷ (left_bracket ∷ x)) (y ++ right_bracket ∷ (colon ∷ path))
+within_shape b user address path x y h e shape = record {
   joined = h.cut.joined ∙ addressed_joined user address path x y e;
   neither = h.neither;
   no_slash = free-append slash user (at_sign ∷ (left_bracket ∷ x)) h.cut.no_slash (address_front_free slash address x y refl h.cut.addressed e);
@@ -132,7 +132,7 @@ bracket_user_shape b user address path x y r h f e begins = elim (free_or_cut ri
   | inl g ↦
       (user ++ at_sign ∷ (left_bracket ∷ (address ++ right_bracket ∷ [])), path, behind_shape b user address path h (open_user_front b user address r begins g (address_free right_bracket address refl h.cut.addressed)))
   | inr (s, t, g, cut) ↦
-      (user ++ at_sign ∷ (left_bracket ∷ x), y ++ right_bracket ∷ (colon ∷ path), within_shape b user address path x y h f e (closed_user_front b user x s t (begins ∙ ap (λ z. left_bracket ∷ z) cut) g h.cut.no_colon f))
+      (user ++ at_sign ∷ (left_bracket ∷ x), y ++ right_bracket ∷ (colon ∷ path), within_shape b user address path x y h e (closed_user_front b user x s t (begins ∙ ap (λ z. left_bracket ∷ z) cut) g h.cut.no_colon f))
 ]
 
 -- the shape has an earlier one
@@ -142,7 +142,7 @@ addressed_scp b user address path h =
     elim (cases_Bool (begins_with left_bracket user)) [
       | inl bracket ↦ let (r, begins) = begins_cut left_bracket user bracket in bracket_user_shape b user address path x y r h f e begins
       | inr other ↦
-          (user ++ at_sign ∷ (left_bracket ∷ x), y ++ right_bracket ∷ (colon ∷ path), within_shape b user address path x y h f e (ScpFront.plain (addressed_front_free user x h.cut.no_colon f) (inl (begins_before_at user (left_bracket ∷ x) other))))
+          (user ++ at_sign ∷ (left_bracket ∷ x), y ++ right_bracket ∷ (colon ∷ path), within_shape b user address path x y h e (ScpFront.plain (addressed_front_free user x h.cut.no_colon f) (inl (begins_before_at user (left_bracket ∷ x) other))))
     ]
 
 -- what has no earlier scp shape has none

@@ -29,8 +29,7 @@ use Rattle.gix_url.specs.Flaws.{IsNoPort, HasBadPort, IsPortPlace, IsNoInner, Br
 use Rattle.gix_url.specs.HostPieces.{EndsHost, Follows, IsBadPort, named_text, IsEscapedZone, IsInner, in_brackets, lowercase_address, shown_literal}
 use Rattle.gix_url.proofs.Texts.CutLemmas.{heads, tails, class_cut_unique, cut_unique, free-append, free_begins, free_head_tail, free_of_all, free_or_cut, begins-append, not_free}
 use Rattle.gix_url.proofs.Texts.EscapeLemmas.{decode_kept, decodes_in_parts, sound_free, utf8_byte, utf8_class}
-use Rattle.gix_url.proofs.Addresses.AddressLemmas.{address_free, address_two_colons, address_utf8, address-lowercase}
-use Rattle.gix_url.proofs.Closed.NormalLemmas.{dns_lowercase}
+use Rattle.gix_url.proofs.Addresses.AddressLemmas.{address_free, address_two_colons, address_utf8, address-lowercase, all_lowercase}
 
 -- ---- modes
 
@@ -367,7 +366,7 @@ named_whole mode piece host port b (Shape.plain front named rest h t e g) = plai
 named_whole mode piece host port b (Shape.many m n p) = n
 
 -- the mode of HTTP is not that of Git
-strict_not_bare : strict ≡ bare → ⊥
+pub strict_not_bare : ¬ (strict ≡ bare)
 strict_not_bare e = cc
 
 -- where no port stands in its place, nothing is named
@@ -567,6 +566,14 @@ room_for_all text yielded rest e = omega (arith, (length-percent_decode text).0,
 
 -- ---- hosts are text
 
+-- a byte of a domain name stays one in lower case
+dns_byte_lowercase : (b : ℕ) → is_dns_byte b ≡ true → is_dns_byte (to_ascii_lowercase b) ≡ true
+dns_byte_lowercase b h = grind (arith, nat_tests)
+
+-- so do those of a text
+pub dns_lowercase : (bs : List ℕ) → list_all is_dns_byte bs ≡ true → list_all is_dns_byte (lowercase bs) ≡ true
+dns_lowercase bs h = all_lowercase is_dns_byte dns_byte_lowercase bs h
+
 -- a byte that looks like a part of a domain name is ASCII
 dns_byte_ascii : (b : ℕ) → is_dns_byte b ≡ true → b < 128
 dns_byte_ascii b h = grind (arith, nat_tests)
@@ -618,9 +625,6 @@ inner_utf8 loose t n (spec.Bracketed.other h e u) = u
 brackets_utf8 : (inner : List ℕ) → IsUtf8 inner → IsUtf8 (in_brackets inner)
 brackets_utf8 inner u = utf8_cons left_bracket (inner ++ right_bracket ∷ []) (omega arith) (utf8_push right_bracket inner (omega arith) u)
 
-some_not_none : {x : List ℕ} → Some x ≡ None → ⊥
-some_not_none e = cc
-
 -- a host that something follows is text
 follows_utf8 : {mode : Mode} {rest : List ℕ} {port : Option ℕ} (base host : List ℕ) → IsUtf8 base → Follows mode base rest (Some host) port → IsUtf8 host
 follows_utf8 base host u (Follows.nothing e h p) = subst IsUtf8 (sym (same_Some _ _ h)) u
@@ -634,7 +638,7 @@ address_piece_utf8 piece (inr (a, h, e)) =
     subst IsUtf8 (sym (ap lowercase e ∙ map-append to_ascii_lowercase a (colon ∷ []))) (utf8_push colon (lowercase a) (omega arith) (address_utf8 (lowercase a) (address-lowercase a h)))
 
 shape_utf8 : (mode : Mode) (piece host : List ℕ) (port : Option ℕ) → Shape mode piece (Some host) port → IsUtf8 host
-shape_utf8 mode piece host port (Shape.nothing e h p) = absurd (some_not_none h)
+shape_utf8 mode piece host port (Shape.nothing e h p) = cc
 shape_utf8 mode piece host port (Shape.bracketed x inner rest f i e g) = follows_utf8 (in_brackets inner) host (brackets_utf8 inner (inner_utf8 mode x inner i)) g
 shape_utf8 mode piece host port (Shape.plain front named rest h t e g) = follows_utf8 named host (host_text_utf8 mode front named t) g
 shape_utf8 mode piece host port (Shape.many m (ManyNames.unbracketed r h) p) = subst IsUtf8 (sym (same_Some _ _ h)) (address_piece_utf8 piece r.1)

@@ -24,7 +24,7 @@ use Rattle.gix_url.proofs.Texts.PlainLemmas.{plain_parts}
 use Rattle.gix_url.proofs.Readings.HostLemmas.{names_unique}
 use Rattle.gix_url.proofs.Readings.ShapeLemmas.{same_front}
 use Rattle.gix_url.proofs.Readings.FormLemmas.{address_cut, address_front_free}
-use Rattle.gix_url.proofs.Unique.UniqueLemmas.{scp_user_unique, addressed_unique, open_bracket_no_host, front_of_addressed}
+use Rattle.gix_url.proofs.Readings.ScpFrontLemmas.{scp_user_unique, addressed_unique, open_bracket_no_host, front_of_addressed}
 
 -- ---- the colons of the front
 

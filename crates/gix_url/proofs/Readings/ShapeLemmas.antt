@@ -189,10 +189,6 @@ addressed_pieces : (b user behind address path u a p : List ℕ) → AddressedFr
 addressed_pieces b user behind address path u a p s free e h =
     cut_unique right_bracket a address (colon ∷ p) path (address_free right_bracket a refl h.addressed) free (sym (s.only u a p h).1 ∙ e)
 
--- no bracket that closes it
-pub addressed_open : (b user behind : List ℕ) → AddressedFront b user behind → FreeOf right_bracket behind → ¬ HasAddressedCut b
-addressed_open b user behind s free (u, a, p, h) = not_free right_bracket a (colon ∷ p) (subst (λ t. FreeOf right_bracket t) (s.only u a p h).1 free)
-
 -- no colon behind the bracket
 pub addressed_no_path : (b user behind address path : List ℕ) → AddressedFront b user behind → FreeOf right_bracket address → behind ≡ address ++ right_bracket ∷ path → begins_with colon path ≡ false → ¬ HasAddressedCut b
 addressed_no_path b user behind address path s free e other (u, a, p, h) =
@@ -205,7 +201,7 @@ addressed_other b user behind address path s free e other (u, a, p, h) =
     other (subst (λ t. FreeOf slash t) (s.only u a p h).0 h.no_slash) (subst IsIpv6Text same.0 h.addressed)
 
 -- a front of a text without brackets has none
-unbracketed_front : (b front rest : List ℕ) → b ≡ front ++ colon ∷ rest → LacksBrackets b → (begins_with left_bracket front ≡ false) ⊎ FreeOf right_bracket b
+pub unbracketed_front : (b front rest : List ℕ) → b ≡ front ++ colon ∷ rest → LacksBrackets b → (begins_with left_bracket front ≡ false) ⊎ FreeOf right_bracket b
 unbracketed_front b front rest e (inr free) = inr free
 unbracketed_front b [] rest e (inl other) = inl refl
 unbracketed_front b (c ∷ front) rest e (inl other) = inl (sym (ap (begins_with left_bracket) e) ∙ other)

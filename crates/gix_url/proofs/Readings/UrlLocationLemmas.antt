@@ -3,7 +3,7 @@ use Rattle.std.proofs.Common.{◌≡◌, ℕ, ◌<◌, true, inl, inr, List, [],
 use Rattle.std.specs.Prelude.{IfSome, IsUtf8, MatchOption}
 use Rattle.std.specs.Borrow.{Bor}
 use Rattle.std.proofs.lemmas.Bool.{both_ways, false≢true}
-use Rattle.std.proofs.lemmas.List.{nil_from_length, append-nil}
+use Rattle.std.proofs.lemmas.List.{nil_from_length, append-nil, same_from_push}
 use Rattle.percent_encoding.specs.Percent.{percent_decode}
 use Rattle.percent_encoding.proofs.PercentLemmas.{percent_decode-nil}
 use Rattle.gix_url.specs.declared.error.UrlKind.TheVariants as kind
@@ -19,7 +19,7 @@ use Rattle.gix_url.specs.Authority.Authority.{host_alone, with_user}
 use Rattle.gix_url.specs.Grammar.{UrlParts, SpellsParts, SpellsUrl, MeansAs, MeansByProtocol, Peels, or_root}
 use Rattle.gix_url.specs.Flaws.{MissesPath}
 use Rattle.gix_url.specs.UrlPieces.{AreTexts, InBrackets, DropsLast}
-use Rattle.gix_url.proofs.Texts.CutLemmas.{tails, last_unique, mark_cut_unique, path_cut_unique, free_of_lacked}
+use Rattle.gix_url.proofs.Texts.CutLemmas.{tails, mark_cut_unique, path_cut_unique, free_of_lacked}
 use Rattle.gix_url.proofs.Texts.EscapeLemmas.{decode_byte, decode_empty, utf8_parts}
 use Rattle.gix_url.proofs.Readings.HostLemmas.{names_utf8}
 use Rattle.gix_url.proofs.Readings.UrlLemmas.{scheme_no_mark}
@@ -47,8 +47,8 @@ path_meant path some = some_rooted (percent_decode path) (λ e. absurd (omega (a
 pub inside_brackets : (host behind closed : List ℕ) (found : Option (Bor (List ℕ))) → host ≡ left_bracket ∷ behind → DropsLast colon behind closed → StripsLast right_bracket closed found → MatchOption found ((inside : List ℕ) → ¬ InBrackets host inside) (λ inside. InBrackets host inside.now)
 inside_brackets host behind closed None e (DropsLast.dropped d) none =
     λ inside brackets. elim brackets [
-      | inl k ↦ both_ways (58 == 93) refl (eq-eqb 58 93 (last_unique closed inside colon right_bracket (sym d ∙ tails (sym e ∙ k))).1)
-      | inr k ↦ none inside (last_unique closed (inside ++ right_bracket ∷ []) colon colon (sym d ∙ tails (sym e ∙ k) ∙ sym (append_assoc inside (right_bracket ∷ []) (colon ∷ [])))).0
+      | inl k ↦ both_ways (58 == 93) refl (eq-eqb 58 93 (same_from_push closed inside colon right_bracket (sym d ∙ tails (sym e ∙ k))).1)
+      | inr k ↦ none inside (same_from_push closed (inside ++ right_bracket ∷ []) colon colon (sym d ∙ tails (sym e ∙ k) ∙ sym (append_assoc inside (right_bracket ∷ []) (colon ∷ [])))).0
     ]
 inside_brackets host behind closed (Some front) e (DropsLast.dropped d) strip =
     inr (e ∙ ap (λ x. left_bracket ∷ x) (d ∙ ap (λ x. x ++ colon ∷ []) strip ∙ append_assoc front.now (right_bracket ∷ []) (colon ∷ [])))

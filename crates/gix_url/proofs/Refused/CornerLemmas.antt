@@ -31,7 +31,7 @@ web_host_apart port front host ends open_front escaped (IsWebHost.named_colon n 
     both_ways _ (ap has_percent e ∙ lacks-append (λ b. b == percent_sign) n (colon ∷ []) plain refl) escaped
 
 -- a settled location of HTTP is settled as one
-settled_as_web : (v : Location) → IsWeb v → IsSettled v → IsSettledWeb v
+pub settled_as_web : (v : Location) → IsWeb v → IsSettled v → IsSettledWeb v
 settled_as_web v (inl e) h = subst (λ p. IsSettledBy p v) e h
 settled_as_web v (inr e) h = subst (λ p. IsSettledBy p v) e h
 

@@ -1,5 +1,5 @@
 -- Decisions on whole texts: each spells a location, or a flaw stands in it.
-use Rattle.std.proofs.Common.{◌≡◌, ℕ, true, false, ◌⊎◌, inl, inr, List, [], ◌∷◌, ◌++◌, ◌+◌, length, drop, Option, Some, None, refl, sym, ap, subst, ◌∙◌, IsUtf8}
+use Rattle.std.proofs.Common.{◌≡◌, ℕ, true, ◌⊎◌, inl, inr, List, ◌∷◌, ◌++◌, ◌+◌, length, drop, Option, Some, None, refl, sym, ap, subst, ◌∙◌, IsUtf8}
 use Rattle.std.proofs.lemmas.Bool.{both_ways, cases_Bool}
 use Rattle.gix_url.specs.declared.error.UrlKind.TheVariants as kind
 use Rattle.gix_url.specs.declared.error.UrlFault.{UrlFault}
@@ -15,9 +15,8 @@ use Rattle.gix_url.specs.Flaws.{ScpHostFlaw, MissesPath}
 use Rattle.gix_url.specs.Shapes.{ColonCut, HasFrontCut, LacksBrackets, HasScpCut, HasAddressedCut, AddressedFront, PlainScp}
 use Rattle.gix_url.specs.ScpPieces.{ColonsInside}
 use Rattle.gix_url.specs.Refusals.{HasFlaw, Decided}
-use Rattle.gix_url.proofs.Texts.CutLemmas.{tails, free-cons, begins_cut, free_or_cut, not_free}
-use Rattle.gix_url.proofs.Closed.ClosedLemmas.{ends_or_not}
-use Rattle.gix_url.proofs.Readings.ShapeLemmas.{no_helper_free, no_helper_alone, no_helper_unnamed, front_unbracketed, front_taken, no_scp_cut, no_scp_uncut, addressed_free, addressed_at, addressed_unbracketed, addressed_bracketed, addressed_no_path, addressed_other, plain_scp, local_shape}
+use Rattle.gix_url.proofs.Texts.CutLemmas.{tails, free-cons, begins_cut, free_or_cut, not_free, ends_or_not}
+use Rattle.gix_url.proofs.Readings.ShapeLemmas.{no_helper_free, no_helper_alone, no_helper_unnamed, front_unbracketed, front_taken, no_scp_cut, no_scp_uncut, addressed_free, addressed_at, addressed_unbracketed, addressed_bracketed, addressed_no_path, addressed_other, plain_scp, local_shape, unbracketed_front}
 use Rattle.gix_url.proofs.Readings.ScpLemmas.{colons_inside_front, colons_inside_host, colons_inside_escaped, no_port_inside, no_port_named, nothing_named, nothing_escaped, scp_host_found, scp_host_utf8}
 use Rattle.gix_url.proofs.Refused.TextDecisions.{Decides, nil_or_some, free_or_not, white_or_not, utf8_or_not, address_or_not, free_or_last_cut, mark_or_cut}
 use Rattle.gix_url.proofs.Refused.HostDecisions.{named_or_flawed}
@@ -179,18 +178,12 @@ addressed_or_not b =
           ]
     ]
 
--- a front before the first colon, where no brackets are closed at the front of the text
-open_front : (b front path : List ℕ) → b ≡ front ++ colon ∷ path → LacksBrackets b → (begins_with left_bracket front ≡ false) ⊎ FreeOf right_bracket b
-open_front b front path e (inr free) = inr free
-open_front b [] path e (inl other) = inl refl
-open_front b (c ∷ front) path e (inl other) = inl (ap (begins_with left_bracket) (sym e) ∙ other)
-
 -- the first colon cuts such a text
 open_cut : (b : List ℕ) → LacksBrackets b → Decides (HasFrontCut b)
 open_cut b lacks =
     elim (free_or_cut colon b) [
       | inl free ↦ inr (λ (front, path, h). not_free colon front path (subst (λ t. FreeOf colon t) h.joined free))
-      | inr (front, path, free, e) ↦ inl (front, path, record { joined = e; shape = ScpFront.plain free (open_front b front path e lacks) })
+      | inr (front, path, free, e) ↦ inl (front, path, record { joined = e; shape = ScpFront.plain free (unbracketed_front b front path e lacks) })
     ]
 
 -- the first colon behind brackets cuts a text with brackets at its front

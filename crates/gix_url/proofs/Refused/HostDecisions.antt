@@ -4,7 +4,7 @@ use Rattle.std.specs.List.{list_all}
 use Rattle.std.specs.Char.{is_ascii_digit}
 use Rattle.std.specs.Str.Parse.{digits_value}
 use Rattle.std.proofs.lemmas.Bool.{both_ways, cases_Bool, cases_lt}
-use Rattle.std.proofs.lemmas.List.{append-nil}
+use Rattle.std.proofs.lemmas.List.{append-nil, same_from_push}
 use Rattle.percent_encoding.specs.Percent.{percent_decode}
 use Rattle.gix_url.specs.declared.error.UrlFault.{UrlFault}
 use Rattle.gix_url.specs.declared.error.UrlFault.TheVariants as fault
@@ -14,9 +14,8 @@ use Rattle.gix_url.specs.Hosts.{Mode, is_http_host_byte, normal_host, HostText, 
 use Rattle.gix_url.specs.Hosts.Mode.{strict, bare, loose}
 use Rattle.gix_url.specs.Flaws.{IsNoHost, IsNoInner, HasBadPort, HasBadHost, NameFlaw}
 use Rattle.gix_url.specs.HostPieces.{EndsHost, shown_literal}
-use Rattle.gix_url.proofs.Texts.CutLemmas.{tails, last_unique, begins_cut, free_or_cut, not_free}
+use Rattle.gix_url.proofs.Texts.CutLemmas.{tails, begins_cut, free_or_cut, not_free, ends_or_not}
 use Rattle.gix_url.proofs.Readings.HostLemmas.{loose_not_strict, bare_not_strict, loose_not_bare, literal_inner, not_ended, not_inner}
-use Rattle.gix_url.proofs.Closed.ClosedLemmas.{ends_or_not}
 use Rattle.gix_url.proofs.Refused.TextDecisions.{Decides, utf8_or_not, address_or_not, literal_or_not}
 
 -- ---- ports
@@ -89,7 +88,7 @@ address_piece_or_not piece =
             | inl (front, e) ↦
                 elim (address_or_not front) [
                   | inl h ↦ inl (inr (front, h, e))
-                  | inr other ↦ inr (λ p. elim p [ inl h ↦ none h | inr (a, h, k) ↦ other (subst IsIpv6Text (last_unique a front colon colon (sym k ∙ e)).0 h) ])
+                  | inr other ↦ inr (λ p. elim p [ inl h ↦ none h | inr (a, h, k) ↦ other (subst IsIpv6Text (same_from_push a front colon colon (sym k ∙ e)).0 h) ])
                 ]
           ]
     ]

@@ -23,12 +23,12 @@ use Rattle.gix_url.specs.Refusals.{HasFlaw, Exclusive, Flawless}
 use Rattle.gix_url.proofs.Texts.CutLemmas.{not_free}
 use Rattle.gix_url.proofs.Readings.HostLemmas.{flawed_unnamed}
 use Rattle.gix_url.proofs.Readings.FormLemmas.{address_cut, addressed_joined}
-use Rattle.gix_url.proofs.Unique.UniqueLemmas.{front_of_addressed}
 use Rattle.gix_url.proofs.Readings.ShapeLemmas.{empty_unspelled, url_shaped, no_file_path, no_file_text, no_url_text, unfit_url, spelled_as_file, spelled_as_url, spelled_as_scp, spelled_as_addressed, url_pieces}
 use Rattle.gix_url.proofs.Readings.UrlLemmas.{empty_names_nothing, none_not_some, no_name_alone, no_name_behind, no_text_before, no_host_behind, no_host_alone, no_scheme_refutes, bad_path_refutes, parts_cut, no_authority_refutes}
 use Rattle.gix_url.proofs.Readings.SchemeLemmas.{transport}
 use Rattle.gix_url.proofs.Readings.UrlLocationLemmas.{no_path_refutes}
 use Rattle.gix_url.proofs.Readings.ScpLemmas.{scp_no_path, scp_no_host, addressed_no_path}
+use Rattle.gix_url.proofs.Readings.ScpFrontLemmas.{front_of_addressed}
 
 -- ---- authorities
 

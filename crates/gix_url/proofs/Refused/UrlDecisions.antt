@@ -18,14 +18,14 @@ use Rattle.gix_url.specs.Grammar.{UrlParts, SpellsParts, Peels, HostFor, MeansBy
 use Rattle.gix_url.specs.Flaws.{UrlShape, OtherShape, UrlCut, PieceOf, AuthorityFlaw, UrlFlaw}
 use Rattle.gix_url.specs.UrlPieces.{CutsRest, HasNoText, HoldsHosted}
 use Rattle.gix_url.specs.Refusals.{HasFlaw}
-use Rattle.gix_url.proofs.Texts.CutLemmas.{heads, tails, different_bytes, last_unique, begins_cut, cut_at_first, free_or_cut}
-use Rattle.gix_url.proofs.Closed.ClosedLemmas.{ends_or_not}
+use Rattle.gix_url.proofs.Texts.CutLemmas.{heads, tails, different_bytes, begins_cut, cut_at_first, free_or_cut, ends_or_not}
 use Rattle.gix_url.proofs.Readings.ShapeLemmas.{file_found, file_misses_path}
 use Rattle.gix_url.proofs.Readings.UrlLemmas.{nothing_named, bad_user_flaw, url_cut, spelled}
 use Rattle.gix_url.proofs.Readings.UrlLocationLemmas.{path_missed}
 use Rattle.gix_url.proofs.Unique.UniqueLemmas.{meant_with}
 use Rattle.gix_url.proofs.Refused.TextDecisions.{nil_or_some, free_or_not, white_or_not, utf8_or_not, fits_or_not, free_or_last_cut}
 use Rattle.gix_url.proofs.Refused.HostDecisions.{named_or_flawed}
+use Rattle.std.proofs.lemmas.List.{same_from_push}
 
 -- ---- authorities
 
@@ -150,7 +150,7 @@ peels_bracket behind =
                 elim (ends_or_not right_bracket whole) [
                   | inl (front, k) ↦ (front, Peels.brackets_colon (ap (λ t. left_bracket ∷ t) (e ∙ ap (λ t. t ++ colon ∷ []) k ∙ append_assoc front (right_bracket ∷ []) (colon ∷ []))))
                   | inr other ↦
-                      (_, kept_bracket behind closed (λ front k. other front (last_unique whole (front ++ right_bracket ∷ []) colon colon (sym e ∙ k ∙ sym (append_assoc front (right_bracket ∷ []) (colon ∷ [])))).0))
+                      (_, kept_bracket behind closed (λ front k. other front (same_from_push whole (front ++ right_bracket ∷ []) colon colon (sym e ∙ k ∙ sym (append_assoc front (right_bracket ∷ []) (colon ∷ [])))).0))
                 ]
           ]
     ]
@@ -170,7 +170,7 @@ peels_open host open_front =
             | inr held ↦ (
               host,
               Peels.same (λ (inner, e). unbracketed host _ open_front e) (λ (inner, e). unbracketed host _ open_front e)
-                  (λ (other, free, begins, k). held (subst (λ t. FreeOf colon t) (last_unique other front colon colon (sym k ∙ e)).0 free)) refl,
+                  (λ (other, free, begins, k). held (subst (λ t. FreeOf colon t) (same_from_push other front colon colon (sym k ∙ e)).0 free)) refl,
             )
           ]
     ]

@@ -1,15 +1,17 @@
 -- Texts cut around a byte or a mark: what the pieces lack, that the text determines them, and what classes of bytes lack.
-use Rattle.std.proofs.Common.{◌≡◌, ℕ, zero, suc, ◌+◌, ◌<◌, ◌≤◌, Bool, true, false, Option, ◌==◌, ◌||◌, ◌⊎◌, inl, inr, List, [], ◌∷◌, ◌++◌, length, take, drop, get_or, refl, sym, ap, subst, ◌∙◌, arith, append_assoc, add-one, eqb, Some, None}
+use Rattle.std.proofs.Common.{◌≡◌, ℕ, zero, suc, ◌+◌, ◌<◌, ◌≤◌, Bool, true, false, Option, ◌==◌, ◌||◌, ◌⊎◌, inl, inr, List, [], ◌∷◌, ◌++◌, length, take, drop, get_or, refl, sym, ap, subst, ◌∙◌, arith, append_assoc, add-one, eqb, Some, None, bytes_eq}
 use Rattle.std.specs.List.{list_any, list_all, position_or_len}
 use Rattle.std.specs.Char.{is_ascii_digit, is_ascii_uppercase, is_ascii_lowercase, is_ascii_alphabetic, is_ascii_alphanumeric}
 use Rattle.std.proofs.lemmas.List.Sums.{fails_before_first, passes_at_first}
 use Rattle.std.proofs.lemmas.Bool.{both_ways, false≢true, cases_Bool, cases_lt, and_from, or_left, eqb-true, eq-eqb, and_parts, or_parts, or_from, false_from_ne_true}
 use Rattle.std.proofs.lemmas.Grind.{same_number_lists}
-use Rattle.std.proofs.lemmas.List.{at_drop_more, drop_all, take-append-drop, drop-drop, get_or-take, get_or-drop, get_or-append-add, get_or_append_left, length-take-le, length-take, length-drop, length-append, same_from_push}
+use Rattle.std.proofs.lemmas.List.{at_drop_more, drop_all, take-append-drop, drop-drop, get_or-take, get_or-drop, get_or-append-add, get_or_append_left, length-take-le, length-take, length-drop, length-append, take_at, append_cancel_left}
 use Rattle.bstr.specs.Find.{OccursAt}
 use Rattle.memchr.specs.Find.{IsFirstByte, IsLastByte, FindsNeedle, is_byte, is_byte3}
 use Rattle.gix_url.specs.Bytes.{colon, Lacks, FreeOf, Holds, begins_by, begins_with, is_name_byte, is_scheme_mark, is_scheme_text, is_helper_name, is_path_start, StartsPath}
 use Rattle.gix_url.specs.Cuts.{url_mark}
+use Rattle.std.proofs.Math.Bool.{or-false, or_assoc}
+use Rattle.std.proofs.lemmas.Slice.Eq.{bytes_eq-Decides}
 
 -- ---- heads and tails
 
@@ -24,10 +26,6 @@ tails e = cc
 -- lists that begin with different bytes are not equal
 pub different_bytes : {A : Type 0} (a b : ℕ) {x y : List ℕ} → eqb a b ≡ false → a ∷ x ≡ b ∷ y → A
 different_bytes a b h e = absurd (both_ways (eqb a b) h (eq-eqb a b (heads e)))
-
--- lists that end with a byte each are equal in front and at the end
-pub last_unique : (x y : List ℕ) (c d : ℕ) → x ++ c ∷ [] ≡ y ++ d ∷ [] → (x ≡ y) × (c ≡ d)
-last_unique x y c d e = same_from_push x y c d e
 
 -- ---- what a text lacks
 
@@ -129,6 +127,24 @@ free_or_cut c (b ∷ bs) =
       ]
     ]
 
+-- a text ends in a byte, or doesn't
+abbrev pub EndsOrNot : ℕ → List ℕ → Type 0
+EndsOrNot c t = ((front : List ℕ) × (t ≡ front ++ c ∷ [])) ⊎ ((front : List ℕ) → ¬ (t ≡ front ++ c ∷ []))
+
+-- by whether the byte behind all but one byte of the text makes it up
+pub ends_or_not : (c : ℕ) (t : List ℕ) → EndsOrNot c t
+ends_or_not c [] = inr (λ front e. absurd (omega (arith, ap length e, length-append front (c ∷ []))))
+ends_or_not c (b ∷ t) =
+    let before = take (length t) (b ∷ t) in
+    let same = bytes_eq-Decides (b ∷ t) (before ++ c ∷ []) in
+    elim (cases_Bool (bytes_eq (b ∷ t) (before ++ c ∷ []))) [
+      | inl ends ↦ inl (before, same.0 ends)
+      | inr other ↦
+          inr (λ front e.
+          let is : before ≡ front = ap (take (length t)) e ∙ take_at front (c ∷ []) (length t) (omega (arith, ap length e, length-append front (c ∷ []))) in
+          both_ways _ other (same.1 (e ∙ ap (λ x. x ++ c ∷ []) (sym is))))
+    ]
+
 -- a text that begins with a byte is the byte and what follows
 pub begins_cut : (c : ℕ) (bs : List ℕ) → begins_with c bs ≡ true → (rest : List ℕ) × (bs ≡ c ∷ rest)
 begins_cut c [] h = absurd (false≢true h)
@@ -223,21 +239,13 @@ first_alike test other bs None alike h = λ k low high passes. h k low high (ali
 first_alike test other bs (Some n) alike h =
     (record { low = h.0.low; high = h.0.high; before = λ k low high passes. h.0.before k low high (alike (get_or bs k 0) ∙ passes) }, sym (alike (get_or bs n 0)) ∙ h.1)
 
-or_nothing : (is : Bool) → is ≡ (is || false)
-or_nothing true = refl
-or_nothing false = refl
-
-or_again : (x y z : Bool) → ((x || y) || z) ≡ (x || (y || z))
-or_again true y z = refl
-or_again false y z = refl
-
 starts_on_the_web : (web : Bool) → web ≡ true → (b : ℕ) → is_byte3 47 63 35 b ≡ is_path_start web b
-starts_on_the_web true is b = or_again (b == 47) (b == 63) (b == 35)
+starts_on_the_web true is b = or_assoc (b == 47) (b == 63) (b == 35)
 starts_on_the_web false is b = absurd (false≢true is)
 
 starts_elsewhere : (web : Bool) → web ≡ false → (b : ℕ) → is_byte 47 b ≡ is_path_start web b
 starts_elsewhere true is b = absurd (false≢true (sym is))
-starts_elsewhere false is b = or_nothing (b == 47)
+starts_elsewhere false is b = sym (or-false (b == 47))
 
 -- the first `/`, `?` or `#` is where a path may first start on the web
 pub web_start : (web : Bool) (bs : List ℕ) (found : Option ℕ) → web ≡ true → IsFirstByte (is_byte3 47 63 35) bs found → IsFirstByte (is_path_start web) bs found
@@ -317,9 +325,19 @@ last_cut_unique c (d ∷ a) (k ∷ b) x y f g e =
 pub held_free : (bs : List ℕ) → FreeOf colon bs → ¬ Holds url_mark bs
 held_free bs h (front, rest, e) = not_free colon front (47 ∷ 47 ∷ rest) (subst (λ z. FreeOf colon z) e h)
 
--- what follows the first byte of a text without `://` holds none
-not_held_behind : (b : ℕ) (bs : List ℕ) → ¬ Holds url_mark (b ∷ bs) → ¬ Holds url_mark bs
-not_held_behind b bs h (front, rest, e) = h (b ∷ front, rest, ap (λ z. b ∷ z) e)
+-- what follows the first byte of a text without a mark holds none
+not_held_behind : (mark : List ℕ) (b : ℕ) (bs : List ℕ) → ¬ Holds mark (b ∷ bs) → ¬ Holds mark bs
+not_held_behind mark b bs h (front, rest, e) = h (b ∷ front, rest, ap (λ z. b ∷ z) e)
+
+-- the pieces around a mark that doesn't reach from a text without it into one that follows: the first doesn't hold it
+pub held_cut_unique : (mark : List ℕ) → ((b : ℕ) (bs x y : List ℕ) → ¬ Holds mark (b ∷ bs) → mark ++ x ≡ b ∷ (bs ++ (mark ++ y)) → ⊥) → (a b x y : List ℕ) → ¬ Holds mark a → ¬ Holds mark b → a ++ (mark ++ x) ≡ b ++ (mark ++ y) → (a ≡ b) × (x ≡ y)
+held_cut_unique mark apart [] [] x y f g e = (refl, append_cancel_left mark x y e)
+held_cut_unique mark apart [] (d ∷ b) x y f g e = absurd (apart d b x y g e)
+held_cut_unique mark apart (d ∷ a) [] x y f g e = absurd (apart d a y x f (sym e))
+held_cut_unique mark apart (c ∷ a) (d ∷ b) x y f g e =
+    let rest : (a ≡ b) × (x ≡ y) = held_cut_unique mark apart a b x y (not_held_behind mark c a f) (not_held_behind mark d b g) (tails e) in
+    let first : c ≡ d = heads e in
+    (cc rest.0, rest.1)
 
 -- no text that holds no `://` has one that reaches from it into another that follows
 no_overlap : (b : ℕ) (bs x y : List ℕ) → ¬ Holds url_mark (b ∷ bs) → url_mark ++ x ≡ b ∷ (bs ++ (url_mark ++ y)) → ⊥
@@ -333,13 +351,7 @@ no_overlap b (c ∷ d ∷ bs) x y h e =
 
 -- the pieces around `://`, of which the first doesn't hold it
 pub mark_cut_unique : (a b x y : List ℕ) → ¬ Holds url_mark a → ¬ Holds url_mark b → a ++ (url_mark ++ x) ≡ b ++ (url_mark ++ y) → (a ≡ b) × (x ≡ y)
-mark_cut_unique [] [] x y f g e = (refl, tails (tails (tails e)))
-mark_cut_unique [] (d ∷ b) x y f g e = absurd (no_overlap d b x y g e)
-mark_cut_unique (d ∷ a) [] x y f g e = absurd (no_overlap d a y x f (sym e))
-mark_cut_unique (c ∷ a) (d ∷ b) x y f g e =
-    let rest : (a ≡ b) × (x ≡ y) = mark_cut_unique a b x y (not_held_behind c a f) (not_held_behind d b g) (tails e) in
-    let first : c ≡ d = heads e in
-    (cc rest.0, rest.1)
+mark_cut_unique a b x y f g e = held_cut_unique url_mark no_overlap a b x y f g e
 
 -- ---- schemes and helpers' names
 

@@ -3,7 +3,7 @@ use Rattle.std.proofs.Common.{◌≡◌, ◌∙◌, ◌↔◌, ◌<◌, ◌≤�
 use Rattle.std.specs.Char.{is_digit, digit_value, is_whitespace, encode_utf8}
 use Rattle.std.specs.Option.{MatchOption, is_some}
 use Rattle.std.specs.Str.{IsUtf8, encode_utf8_all, chars}
-use Rattle.std.proofs.lemmas.Bool.{cond-false, cond_both, ltb-false, cases_Bool, and_parts, and_from, or_parts, or_from, false_from_ne_true, or_cases, or_left, or_right, not-true, both_ways, eqb-true, eqb-false, ltb-true, true≢false, false≢true}
+use Rattle.std.proofs.lemmas.Bool.{cond-false, cond_both, cases_Bool, and_parts, and_from, or_parts, or_from, false_from_ne_true, or_cases, or_left, or_right, not-true, both_ways, eqb-true, eqb-false, ltb-true, true≢false, false≢true}
 use Rattle.std.proofs.lemmas.Bool.Decides.{nat_tests}
 use Rattle.std.proofs.lemmas.List.{append_cancel_left, drop-drop, length-take, length-drop, length-append, nil_from_length, take_at, drop_at, get_or_at}
 use Rattle.std.proofs.lemmas.Str.{IsUtf8-append, IsUtf8-past_char, IsUtf8-encode, IsUtf8-take, IsUtf8-drop, IsUtf8-from_ascii, IsCharBoundary-from_take, IsCharBoundary-before_ascii, chars-append, chars-IsAscii}
@@ -21,7 +21,7 @@ use Rattle.percent_encoding.specs.declared.ascii_set.AsciiSet.{AsciiSet}
 use Rattle.percent_encoding.specs.AsciiSet.{contains, should_percent_encode}
 use Rattle.percent_encoding.proofs.AsciiSetLemmas.{ascii_from_kept, outside_from_kept, kept_from_outside}
 use Rattle.percent_encoding.specs.Percent.{percent_decode, percent_encode, percent_encode_byte}
-use Rattle.percent_encoding.proofs.PercentLemmas.{IsEscapeByte, All-percent_encode, All-percent_encode_byte, percent_encode_nonempty, IsAscii-percent_encode, percent_encode-nil, percent_encode-append, percent_encode_escaped, percent_encode_kept, round_trip, percent_decode-nil, percent_decode_not_percent, percent_decode_escape, length-percent_decode}
+use Rattle.percent_encoding.proofs.PercentLemmas.{IsEscapeByte, All-percent_encode, All-percent_encode_byte, percent_encode_nonempty, IsAscii-percent_encode, percent_encode-nil, percent_encode_escaped, percent_encode_kept, round_trip, percent_decode-nil, percent_decode_not_percent, percent_decode_escape, length-percent_decode, IsByte}
 use Rattle.gix_url.specs.Bytes.{newline, percent_sign, Lacks, FreeOf, LacksWhiteSpace}
 use Rattle.gix_url.specs.Escapes.{is_sound, begins_with_digits, escaped_percents}
 use Rattle.gix_url.proofs.Texts.CutLemmas.{free_or_cut, heads}
@@ -235,18 +235,6 @@ decodes_in_parts (b ∷ high ∷ low ∷ rest) ys sound =
 abbrev pub is_escape_byte : ℕ → Bool
 is_escape_byte b = b == 37 || (nat_lt 47 b && nat_lt b 58) || (nat_lt 64 b && nat_lt b 71)
 
--- decoding undoes encoding by a set that has `%`
-pub decode_encode : (set : AsciiSet) (t : List ℕ) → contains set 37 ≡ true → All (λ b. b < 256) t → percent_decode (percent_encode set t) ≡ t
-decode_encode set t has small = round_trip set t has small
-
--- texts are encoded apart from each other
-pub encode-append : (set : AsciiSet) (xs ys : List ℕ) → percent_encode set (xs ++ ys) ≡ percent_encode set xs ++ percent_encode set ys
-encode-append set xs ys = percent_encode-append set xs ys
-
--- what is written is ASCII
-pub IsAscii-encode : (set : AsciiSet) (t : List ℕ) → IsAscii (percent_encode set t)
-IsAscii-encode set t = IsAscii-percent_encode set t
-
 -- a digit of an escape is a hexadecimal digit
 pub glyph_is_digit : (d : ℕ) → d < 16 → is_digit (digit_glyph true d) 16 ≡ true
 glyph_is_digit d small = grind (arith, nat_tests)
@@ -274,10 +262,6 @@ escape_byte_passes b h = grind (arith, nat_tests)
 pub encode_lacks : (test : ℕ → Bool) (set : AsciiSet) (t : List ℕ) → ((b : ℕ) → b < 128 → contains set b ≡ false → test b ≡ false) → ((b : ℕ) → is_escape_byte b ≡ true → test b ≡ false) → Lacks test (percent_encode set t)
 encode_lacks test set t kept escapes =
     list_any_none test _ (All-percent_encode (λ b. test b ≡ false) set t (λ b keeps. kept b (ascii_from_kept set b keeps) (outside_from_kept set b keeps)) (λ b escape. escapes b (escape_byte_passes b escape)))
-
--- the empty text is written empty
-pub encode_nil : (set : AsciiSet) → percent_encode set [] ≡ []
-encode_nil set = percent_encode-nil set
 
 -- only the empty text is written empty
 pub encode_empty : (set : AsciiSet) (t : List ℕ) → percent_encode set t ≡ [] → t ≡ []
@@ -362,10 +346,6 @@ escaped_percents-append (x ∷ xs) ys =
 
 -- ---- UTF-8 and white space in parts
 
--- UTF-8 texts joined are UTF-8
-pub utf8-append : (xs ys : List ℕ) → IsUtf8 xs → IsUtf8 ys → IsUtf8 (xs ++ ys)
-utf8-append xs ys front rest = IsUtf8-append xs ys front rest
-
 -- what follows a UTF-8 front of a UTF-8 text is UTF-8
 pub utf8_behind : (xs ys : List ℕ) → IsUtf8 (xs ++ ys) → IsUtf8 xs → IsUtf8 ys
 utf8_behind xs ys whole front =
@@ -443,52 +423,42 @@ no_line t utf8 lacks =
 
 -- ---- bytes and characters
 
--- the bytes of a character: itself where it is ASCII, and else bytes past ASCII
-All-encode : (P : ℕ → Type 0) (c : ℕ) → (c < 128 → P c) → (128 ≤ c → (b : ℕ) → 128 ≤ b → (c < 1114112 → b < 256) → P b) → All P (encode_utf8 c)
+-- the bytes of a character fit a byte
+small_encode : (c : ℕ) → scalar c ≡ true → All IsByte (encode_utf8 c)
 unfolding encode_utf8
-All-encode P c own past =
+small_encode c is =
     let two = (192 + c / 64) ∷ (128 + c % 64) ∷ [] in
     let three = (224 + c / 4096) ∷ (128 + (c / 64) % 64) ∷ (128 + c % 64) ∷ [] in
     let four = (240 + c / 262144) ∷ (128 + (c / 4096) % 64) ∷ (128 + (c / 64) % 64) ∷ (128 + c % 64) ∷ [] in
-    cond_both (nat_lt c 128) (c ∷ []) (cond (nat_lt c 2048) two (cond (nat_lt c 65536) three four)) (All P)
-    (λ low. All-cons P c [] (own (ltb-true c 128 low)) (All-nil P))
-    (λ no_1.
-    let high = past (ltb-false c 128 no_1) in
-    let next = λ (d : ℕ). high (128 + d % 64) (omega arith) (λ _. omega arith) in
-    let last = All-cons P (128 + c % 64) [] (next c) (All-nil P) in
-    let last_two = All-cons P (128 + (c / 64) % 64) ((128 + c % 64) ∷ []) (next (c / 64)) last in
-    cond_both (nat_lt c 2048) two (cond (nat_lt c 65536) three four) (All P)
-    (λ low. let small : c < 2048 = ltb-true c 2048 low in All-cons P (192 + c / 64) ((128 + c % 64) ∷ []) (high (192 + c / 64) (omega arith) (λ _. omega arith)) last)
-    (λ no_2. cond_both (nat_lt c 65536) three four (All P)
-    (λ low.
-    let small : c < 65536 = ltb-true c 65536 low in
-    All-cons P (224 + c / 4096) ((128 + (c / 64) % 64) ∷ (128 + c % 64) ∷ []) (high (224 + c / 4096) (omega arith) (λ _. omega arith)) last_two)
-    (λ no_3.
-    let last_three = All-cons P (128 + (c / 4096) % 64) ((128 + (c / 64) % 64) ∷ (128 + c % 64) ∷ []) (next (c / 4096)) last_two in
-    All-cons P (240 + c / 262144) ((128 + (c / 4096) % 64) ∷ (128 + (c / 64) % 64) ∷ (128 + c % 64) ∷ []) (high (240 + c / 262144) (omega arith) (λ bound. omega arith)) last_three)))
-
-small_encode : (c : ℕ) → scalar c ≡ true → All (λ b. b < 256) (encode_utf8 c)
-small_encode c is =
     let bound : c < 1114112 = ⊎_elim (λ low. omega arith) (λ high. high.1) (scalar_cases c is) in
-    All-encode (λ b. b < 256) c (λ low. omega arith) (λ _ b _ small. small bound)
+    let last = All-cons IsByte (128 + c % 64) [] (omega arith) (All-nil IsByte) in
+    let last_two = All-cons IsByte (128 + (c / 64) % 64) ((128 + c % 64) ∷ []) (omega arith) last in
+    let last_three = All-cons IsByte (128 + (c / 4096) % 64) ((128 + (c / 64) % 64) ∷ (128 + c % 64) ∷ []) (omega arith) last_two in
+    cond_both (nat_lt c 128) (c ∷ []) (cond (nat_lt c 2048) two (cond (nat_lt c 65536) three four)) (All IsByte)
+    (λ low. All-cons IsByte c [] (omega (arith, ltb-true c 128 low)) (All-nil IsByte))
+    (λ _. cond_both (nat_lt c 2048) two (cond (nat_lt c 65536) three four) (All IsByte)
+    (λ low. All-cons IsByte (192 + c / 64) ((128 + c % 64) ∷ []) (omega (arith, ltb-true c 2048 low)) last)
+    (λ _. cond_both (nat_lt c 65536) three four (All IsByte)
+    (λ low. All-cons IsByte (224 + c / 4096) ((128 + (c / 64) % 64) ∷ (128 + c % 64) ∷ []) (omega (arith, ltb-true c 65536 low)) last_two)
+    (λ _. All-cons IsByte (240 + c / 262144) ((128 + (c / 4096) % 64) ∷ (128 + (c / 64) % 64) ∷ (128 + c % 64) ∷ []) (omega arith) last_three)))
 
-small_encodes : (cs : List ℕ) → scalars cs ≡ true → All (λ b. b < 256) (encode_utf8_all cs)
-small_encodes [] all = All-nil (λ b. b < 256)
+small_encodes : (cs : List ℕ) → scalars cs ≡ true → All IsByte (encode_utf8_all cs)
+small_encodes [] all = All-nil IsByte
 small_encodes (c ∷ cs) all =
     let parts = and_parts (scalar c) (scalars cs) all in
-    All-append (λ b. b < 256) (encode_utf8 c) (encode_utf8_all cs) (small_encode c parts.0) (small_encodes cs parts.1)
+    All-append IsByte (encode_utf8 c) (encode_utf8_all cs) (small_encode c parts.0) (small_encodes cs parts.1)
 
 -- a UTF-8 text is made of bytes
 pub bytes_from_utf8 : (t : List ℕ) → IsUtf8 t → All (λ b. b < 256) t
-bytes_from_utf8 t utf8 = subst (All (λ b. b < 256)) utf8.1.1 (small_encodes utf8.0 utf8.1.0)
+bytes_from_utf8 t utf8 = subst (All IsByte) utf8.1.1 (small_encodes utf8.0 utf8.1.0)
 
 -- decoding undoes encoding of a UTF-8 text by a set that has `%`
 pub decode_encode_utf8 : (set : AsciiSet) (t : List ℕ) → contains set 37 ≡ true → IsUtf8 t → percent_decode (percent_encode set t) ≡ t
-decode_encode_utf8 set t has utf8 = decode_encode set t has (bytes_from_utf8 t utf8)
+decode_encode_utf8 set t has utf8 = round_trip set t has (bytes_from_utf8 t utf8)
 
 -- what is written is UTF-8
 pub utf8_encode : (set : AsciiSet) (t : List ℕ) → IsUtf8 (percent_encode set t)
-utf8_encode set t = IsUtf8-from_ascii (percent_encode set t) (IsAscii-encode set t)
+utf8_encode set t = IsUtf8-from_ascii (percent_encode set t) (IsAscii-percent_encode set t)
 
 space_kept : (set : AsciiSet) (b : ℕ) → ((c : ℕ) → c < 128 → is_whitespace c ≡ true → contains set c ≡ true) → b < 128 → contains set b ≡ false → is_whitespace b ≡ false
 space_kept set b spaces ascii kept = false_from_ne_true _ (λ space. both_ways _ kept (spaces b ascii space))
@@ -496,4 +466,4 @@ space_kept set b spaces ascii kept = false_from_ne_true _ (λ space. both_ways _
 -- what is written by a set that has the ASCII white space lacks white space
 pub white_space_encode : (set : AsciiSet) (t : List ℕ) → ((b : ℕ) → b < 128 → is_whitespace b ≡ true → contains set b ≡ true) → LacksWhiteSpace (percent_encode set t)
 white_space_encode set t spaces =
-    white_space_ascii (percent_encode set t) (IsAscii-encode set t) (encode_lacks is_whitespace set t (λ b ascii kept. space_kept set b spaces ascii kept) (λ b escape. grind (arith, nat_tests)))
+    white_space_ascii (percent_encode set t) (IsAscii-percent_encode set t) (encode_lacks is_whitespace set t (λ b ascii kept. space_kept set b spaces ascii kept) (λ b escape. grind (arith, nat_tests)))

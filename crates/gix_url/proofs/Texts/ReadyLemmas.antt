@@ -9,6 +9,7 @@ use Rattle.percent_encoding.specs.Percent.{percent_encode}
 use Rattle.percent_encoding.proofs.PercentLemmas.{percent_encode-nil, percent_encode_kept}
 use Rattle.gix_url.specs.declared.escape.TheConstants.{PATH, PASSWORD, USER}
 use Rattle.gix_url.specs.KeptBytes.{is_ready_in_path, is_ready_in_user}
+use Rattle.percent_encoding.proofs.AsciiSetLemmas.{kept_from_outside}
 
 -- a text of which each byte passes a test that no escaped byte passes is written as it is
 kept_by : (set : AsciiSet) (test : ℕ → Bool) → ((b : ℕ) → test b ≡ true → should_percent_encode set b ≡ false) → (bs : List ℕ) → list_all test bs ≡ true → percent_encode set bs ≡ bs
@@ -16,11 +17,6 @@ kept_by set test kept [] all = percent_encode-nil set
 kept_by set test kept (b ∷ bs) all =
     let parts = and_parts (test b) (list_all test bs) all in
     percent_encode_kept set b bs (kept b parts.0) ∙ ap (λ x. b ∷ x) (kept_by set test kept bs parts.1)
-
--- a byte of ASCII outside a set isn't escaped
-outside : (set : AsciiSet) (b : ℕ) → b < 128 → contains set b ≡ false → should_percent_encode set b ≡ false
-unfolding should_percent_encode
-outside set b ascii out = rw out (grind (arith, nat_tests))
 
 path_ascii : (b : ℕ) → is_ready_in_path b ≡ true → b < 128
 path_ascii b ready = grind (arith, nat_tests)
@@ -44,12 +40,12 @@ password_outside b ascii = agree_below_at (λ d. is_ready_in_user d && contains 
 
 -- a path of ready bytes
 pub ready_path : (bs : List ℕ) → list_all is_ready_in_path bs ≡ true → percent_encode PATH bs ≡ bs
-ready_path bs all = kept_by PATH is_ready_in_path (λ b ready. outside PATH b (path_ascii b ready) (other_fails _ _ (path_outside b (path_ascii b ready)) ready)) bs all
+ready_path bs all = kept_by PATH is_ready_in_path (λ b ready. kept_from_outside PATH b (path_ascii b ready) (other_fails _ _ (path_outside b (path_ascii b ready)) ready)) bs all
 
 -- a user of ready bytes
 pub ready_user : (bs : List ℕ) → list_all is_ready_in_user bs ≡ true → percent_encode USER bs ≡ bs
-ready_user bs all = kept_by USER is_ready_in_user (λ b ready. outside USER b (user_ascii b ready) (other_fails _ _ (user_outside b (user_ascii b ready)) ready)) bs all
+ready_user bs all = kept_by USER is_ready_in_user (λ b ready. kept_from_outside USER b (user_ascii b ready) (other_fails _ _ (user_outside b (user_ascii b ready)) ready)) bs all
 
 -- a password of ready bytes
 pub ready_password : (bs : List ℕ) → list_all is_ready_in_user bs ≡ true → percent_encode PASSWORD bs ≡ bs
-ready_password bs all = kept_by PASSWORD is_ready_in_user (λ b ready. outside PASSWORD b (user_ascii b ready) (other_fails _ _ (password_outside b (user_ascii b ready)) ready)) bs all
+ready_password bs all = kept_by PASSWORD is_ready_in_user (λ b ready. kept_from_outside PASSWORD b (user_ascii b ready) (other_fails _ _ (password_outside b (user_ascii b ready)) ready)) bs all

@@ -36,11 +36,11 @@ use Rattle.gix_url.proofs.Texts.EscapeSets.{path_holds, password_holds, user_hol
 use Rattle.gix_url.proofs.Addresses.AddressLemmas.{address_free, address-lowercase}
 use Rattle.gix_url.proofs.Readings.HostLemmas.{names_utf8}
 use Rattle.gix_url.proofs.Readings.SchemeLemmas.{protocol_cases, helper_cases, means_scheme}
-use Rattle.gix_url.proofs.Closed.SettledLemmas.{one_text, written_web, written_git, written_secure, written_other}
 use Rattle.gix_url.proofs.Written.KeptLemmas.{helper_unchanged, local_unchanged}
 use Rattle.gix_url.proofs.Written.PieceTextLemmas.{port_piece}
 use Rattle.gix_url.proofs.Written.WrittenPathLemmas.{matched}
 use Rattle.gix_url.proofs.Written.WrittenScpLemmas.{scp_written}
+use Rattle.gix_url.proofs.Written.WrittenAsUrlLemmas.{one_text, written_web, written_git, written_secure, written_other}
 
 -- ---- a user, hosts and ports
 

@@ -10,18 +10,12 @@ use Rattle.gix_url.specs.Grammar.{Spells}
 use Rattle.gix_url.specs.Flaws.{Flaw}
 use Rattle.gix_url.specs.Answers.{ended_lines, IsAnswer, AnswersEach, Answers, AppendsAnswer, Tells, TellsRefusal}
 use Rattle.gix_url.specs.Answers.IsAnswer.{told, refused}
-
--- "and" doesn't mind the order
-and_turns : (a b : Bool) → (a && b) ≡ (b && a)
-and_turns true true = refl
-and_turns true false = refl
-and_turns false true = refl
-and_turns false false = refl
+use Rattle.std.proofs.Math.Bool.{and_comm}
 
 -- one more line, at the end
 pub answers_push : (lines : List (List ℕ)) (out : List ℕ) (good : Bool) (line answer : List ℕ) (first : Bool) → AnswersEach lines out good → IsAnswer line answer first → AnswersEach (lines ++ line ∷ []) (out ++ answer) (good && first)
 answers_push [] out good line answer first each one =
-    (answer, [], first, true, one, (refl, refl), ap (λ o. o ++ answer) each.0 ∙ sym (append-nil answer), ap (λ g. g && first) each.1 ∙ and_turns true first)
+    (answer, [], first, true, one, (refl, refl), ap (λ o. o ++ answer) each.0 ∙ sym (append-nil answer), ap (λ g. g && first) each.1 ∙ and_comm true first)
 answers_push (l ∷ ls) out good line answer first (a, m, f, o, is, others, joined, all) one = (
   a,
   m ++ answer,

@@ -1,15 +1,15 @@
 -- Stored locations: the new spelling of a legacy path is one, and stands for the same bytes; what is migrated stays.
-use Rattle.std.proofs.Common.{◌≡◌, ℕ, ◌<◌, ◌≤◌, ◌+◌, ◌*◌, ◌/◌, ◌%◌, Bool, true, false, ◌&&◌, ◌||◌, ◌==◌, nat_lt, ⊎_elim, List, [], ◌∷◌, ◌++◌, take, drop, length, All, Option, Some, None, refl, sym, ap, subst, ◌∙◌, arith, bytes_eq}
+use Rattle.std.proofs.Common.{◌≡◌, ℕ, ◌<◌, ◌≤◌, ◌+◌, ◌*◌, ◌/◌, ◌%◌, Bool, true, false, ◌||◌, ◌==◌, nat_lt, ⊎_elim, List, [], ◌∷◌, ◌++◌, take, drop, length, All, Option, Some, None, refl, sym, ap, subst, ◌∙◌, arith, bytes_eq}
 use Rattle.std.specs.Char.{is_digit, digit_value}
 use Rattle.std.specs.Fmt.{digit_glyph}
-use Rattle.std.proofs.lemmas.Bool.{cond-true, cond-false, cases_Bool, and_parts, and_from, eqb-true, true≢false}
+use Rattle.std.proofs.lemmas.Bool.{cond-true, cond-false, cases_Bool, and_parts, and_from, eqb-true, true≢false, and_right}
 use Rattle.std.proofs.lemmas.Bool.Decides.{nat_tests}
 use Rattle.std.proofs.lemmas.List.{append-nil}
 use Rattle.std.proofs.lemmas.List.Elements.{All-nil, All-cons, All-head, All-tail}
 use Rattle.std.proofs.lemmas.Slice.Eq.{bytes_eq-Decides}
 use Rattle.percent_encoding.specs.AsciiSet.{contains, should_percent_encode}
 use Rattle.percent_encoding.specs.Percent.{percent_encode, percent_encode_byte, percent_decode}
-use Rattle.percent_encoding.proofs.PercentLemmas.{percent_encode-nil, percent_encode_escaped, percent_encode_kept}
+use Rattle.percent_encoding.proofs.PercentLemmas.{percent_encode-nil, percent_encode_escaped, percent_encode_kept, round_trip}
 use Rattle.gix_url.specs.Value.{Location}
 use Rattle.gix_url.specs.Bytes.{percent_sign}
 use Rattle.gix_url.specs.Escapes.{begins_with_digits, is_path_escaped}
@@ -17,7 +17,7 @@ use Rattle.gix_url.specs.declared.escape.TheConstants.{PATH}
 use Rattle.gix_url.specs.Records.{written_in_path, begins_escape, Respells, new_spelling, SpellsFront, from_legacy, migrated_by, migrated, RespelledOnce, KeepsMeaning, Migrates, MigratedOnce}
 use Rattle.gix_url.specs.Records.Respells.{nothing, escape, other}
 use Rattle.gix_url.proofs.Texts.EscapeSets.{path_holds}
-use Rattle.gix_url.proofs.Texts.EscapeLemmas.{decode_byte, decode_escape, decode_broken, decodes_in_parts, decode_encode, encode_sound, glyph_is_digit}
+use Rattle.gix_url.proofs.Texts.EscapeLemmas.{decode_byte, decode_escape, decode_broken, decodes_in_parts, encode_sound, glyph_is_digit}
 
 -- ---- one byte
 
@@ -39,7 +39,7 @@ written_alone b = ⊎_elim
 -- a byte that is written by itself is read back, whatever follows
 written_back : (b : ℕ) (rest : List ℕ) → b < 256 → percent_decode (written_in_path b ++ rest) ≡ b ∷ percent_decode rest
 written_back b rest small =
-    let back = decode_encode PATH (b ∷ []) refl (All-cons (λ c. c < 256) b [] small (All-nil (λ c. c < 256))) in
+    let back = round_trip PATH (b ∷ []) refl (All-cons (λ c. c < 256) b [] small (All-nil (λ c. c < 256))) in
     ap (λ t. percent_decode (t ++ rest)) (written_alone b) ∙ decodes_in_parts (percent_encode PATH (b ∷ [])) rest (encode_sound PATH (b ∷ []) refl) ∙ ap (λ t. t ++ percent_decode rest) back
 
 -- a byte that begins no escape stays
@@ -125,12 +125,8 @@ escape_more b high low path begins rest =
     let whole = subst (Respells (percent_sign ∷ high ∷ low ∷ path)) (sym (respelled_escape high low path digits.0 digits.1)) (escape high low path (new_spelling path) digits.0 digits.1 rest) in
     subst (λ c. Respells (c ∷ high ∷ low ∷ path) (new_spelling (c ∷ high ∷ low ∷ path))) is whole
 
-both_false : (sign digits : Bool) → digits ≡ false → (sign && digits) ≡ false
-both_false true digits none = none
-both_false false digits none = refl
-
 no_digits : (b : ℕ) (behind : List ℕ) → begins_with_digits behind ≡ false → begins_escape b behind ≡ false
-no_digits b behind none = both_false _ _ none
+no_digits b behind none = and_right _ _ none
 
 -- each path has a new spelling
 pub respells : (path : List ℕ) → Respells path (new_spelling path)

@@ -13,7 +13,6 @@ use Rattle.gix_url.specs.Settled.{is_ftp, IsValue, IsSettledUrl, IsSettledWeb, I
 use Rattle.gix_url.specs.SettledParts.{HasUrlPath}
 use Rattle.gix_url.specs.Laws.{ComesBack, TextDecides}
 use Rattle.gix_url.proofs.Written.WrittenPieces.{as_read, WritesPath, IsAuthorityPiece}
-use Rattle.gix_url.proofs.Closed.SettledLemmas.{one_text, written_web, written_git, written_secure, written_other}
 use Rattle.gix_url.proofs.Written.WrittenUrlLemmas.{IsUrlProtocol, IsReadable, authority_with_host, authority_without_host, readable_spelled, url_readable, url_again, authority_text}
 use Rattle.gix_url.proofs.Written.WrittenPathLemmas.{web_path_written, transport_path_written, other_path_written}
 use Rattle.gix_url.proofs.Written.WrittenWebHostLemmas.{web_host_written}
@@ -23,6 +22,7 @@ use Rattle.gix_url.proofs.Written.FileLemmas.{file_again}
 use Rattle.gix_url.proofs.Written.KeptLemmas.{local_again, ext_again, helper_again}
 use Rattle.gix_url.specs.Text.{keeps_host, canonical_text}
 use Rattle.gix_url.specs.Authority.{Authority}
+use Rattle.gix_url.proofs.Written.WrittenAsUrlLemmas.{one_text, written_web, written_git, written_secure, written_other}
 
 -- the path of a settled URL
 path_of : (v : Location) → IsSettledUrl v → HasUrlPath v

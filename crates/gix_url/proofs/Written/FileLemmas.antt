@@ -5,7 +5,7 @@ use Rattle.std.specs.Result.{is_ok}
 use Rattle.std.proofs.lemmas.Bool.{cond-true, cond-false, and_left, and_right, and_parts, not-true, false≢true}
 use Rattle.std.proofs.lemmas.List.{append_cancel_left}
 use Rattle.std.proofs.lemmas.Option.{none-some, same_Some}
-use Rattle.std.proofs.lemmas.Str.{IsUtf8-nil}
+use Rattle.std.proofs.lemmas.Str.{IsUtf8-nil, IsUtf8-append}
 use Rattle.percent_encoding.specs.Percent.{percent_decode}
 use Rattle.gix_url.specs.declared.error.WriteFault.TheVariants.{UserWithoutHost}
 use Rattle.gix_url.specs.Value.{Location, fields, path_alone}
@@ -22,11 +22,12 @@ use Rattle.gix_url.specs.Settled.{IsValue, HasMatch, IsFileHost, IsSettledFile, 
 use Rattle.gix_url.specs.Laws.{ComesBack}
 use Rattle.gix_url.specs.Flaws.{UrlShape}
 use Rattle.gix_url.proofs.Texts.CutLemmas.{different_bytes, begins_cut}
-use Rattle.gix_url.proofs.Texts.EscapeLemmas.{utf8-append, utf8_behind, utf8_seam}
-use Rattle.gix_url.proofs.Closed.SettledLemmas.{one_text, value_of}
+use Rattle.gix_url.proofs.Texts.EscapeLemmas.{utf8_behind, utf8_seam}
 use Rattle.gix_url.proofs.Readings.UrlLemmas.{some_kept}
 use Rattle.gix_url.proofs.Readings.ShapeLemmas.{file_mark_utf8, url_shaped, spelled_as_file}
 use Rattle.gix_url.proofs.Written.WrittenPathLemmas.{matched, unmatched}
+use Rattle.gix_url.proofs.Written.WrittenAsUrlLemmas.{one_text}
+use Rattle.gix_url.proofs.Written.KeptLemmas.{value_of}
 
 -- ---- values
 
@@ -115,7 +116,7 @@ settled_spelled host path hosted is_text path_text rooted = record {
   host = as_it_is host;
   path = path;
   joined = refl;
-  text = utf8-append (codes "file://") (as_it_is host ++ path) file_mark_utf8 (utf8-append (as_it_is host) path (host_utf8 host is_text) path_text);
+  text = IsUtf8-append (codes "file://") (as_it_is host ++ path) file_mark_utf8 (IsUtf8-append (as_it_is host) path (host_utf8 host is_text) path_text);
   no_slash = host_no_slash host hosted;
   rooted = rooted;
   value = ap (λ h. at_file h path None) (sym (host_read host hosted));

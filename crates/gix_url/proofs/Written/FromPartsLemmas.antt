@@ -21,10 +21,10 @@ use Rattle.gix_url.specs.FromParts.{MadeOf, TellsName, invalid_name, given_or, w
 use Rattle.gix_url.proofs.Texts.CutLemmas.{lacks-append}
 use Rattle.gix_url.proofs.Readings.SchemeLemmas.{protocol_cases, means_cases}
 use Rattle.gix_url.proofs.Unique.UniqueLemmas.{spells_unique}
-use Rattle.gix_url.proofs.Closed.SettledLemmas.{one_text, written_git, written_secure, written_other}
 use Rattle.gix_url.proofs.Written.WrittenPieces.{as_read}
 use Rattle.gix_url.proofs.Written.WrittenUrlLemmas.{IsReadable, readable_spelled}
 use Rattle.gix_url.proofs.Written.AgainLemmas.{secure_readable, git_readable, other_readable, settled_again}
+use Rattle.gix_url.proofs.Written.WrittenAsUrlLemmas.{one_text, written_git, written_secure, written_other}
 
 -- ---- names that no helper can have
 

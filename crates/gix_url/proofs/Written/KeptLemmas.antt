@@ -1,5 +1,5 @@
 -- Remote helpers and local paths: what is read as one is settled and is written as it was read; a settled one comes back, and nothing else does.
-use Rattle.std.proofs.Common.{◌≡◌, ℕ, ◌<◌, true, false, inl, inr, List, ◌∷◌, ◌++◌, length, Option, None, Ok, refl, sym, ap, subst, ◌∙◌, codes, bytes_eq}
+use Rattle.std.proofs.Common.{◌≡◌, ℕ, ◌<◌, true, false, inl, inr, List, ◌∷◌, ◌++◌, length, Option, None, Ok, refl, sym, ap, subst, ◌∙◌, codes, bytes_eq, Bool}
 use Rattle.std.proofs.lemmas.Bool.{both_ways, false≢true}
 use Rattle.std.proofs.lemmas.Slice.Eq.{bytes_eq-Decides}
 use Rattle.gix_url.specs.Value.{Protocol, Location, fields, path_alone}
@@ -10,10 +10,22 @@ use Rattle.gix_url.specs.Grammar.{IsNeither, IsScpShaped, helper_protocol, Spell
 use Rattle.gix_url.specs.Text.{text}
 use Rattle.gix_url.specs.Settled.{HasAtMostHost, IsSettledLocal, IsSettledHelper, IsSettledBy, IsSettled}
 use Rattle.gix_url.specs.Laws.{keeps_bytes, KeepsBytes, ComesBack}
-use Rattle.gix_url.proofs.Closed.SettledLemmas.{value_of}
 use Rattle.gix_url.proofs.Readings.SchemeLemmas.{protocol_cases, helper_cases, means_cases}
 
 -- ---- values
+
+-- a location without password and port is made of its other parts
+pub value_of : (v : Location) (protocol : Protocol) (flag : Bool) → v.scheme ≡ protocol → v.flag ≡ flag → v.password ≡ None → v.port ≡ None → v ≡ record (path_alone protocol flag v.path) { user = v.user; host = v.host; spelling = v.spelling }
+value_of v protocol flag scheme flagged no_password no_port = λ i. record {
+  scheme = scheme i;
+  user = v.user;
+  password = no_password i;
+  host = v.host;
+  flag = flagged i;
+  port = no_port i;
+  path = v.path;
+  spelling = v.spelling;
+}
 
 -- the value of a location that has a scheme, a path and the flag, and perhaps a spelling
 abbrev kept : Protocol → List ℕ → Option (List ℕ) → Location

@@ -9,12 +9,8 @@ use Rattle.percent_encoding.specs.declared.ascii_set.AsciiSet.{AsciiSet}
 use Rattle.percent_encoding.specs.AsciiSet.{should_percent_encode}
 use Rattle.percent_encoding.specs.Percent.{percent_encode, percent_encode_byte}
 use Rattle.percent_encoding.proofs.PercentLemmas.{percent_encode-nil, percent_encode_escaped, percent_encode_kept}
-use Rattle.std.specs.Prelude.{OnOk, is_ok}
+use Rattle.std.specs.Prelude.{OnOk}
 use Rattle.gix_url.specs.declared.error.WriteFault.{WriteFault}
-use Rattle.gix_url.specs.declared.writer.form.Form.{Form}
-use Rattle.gix_url.specs.Value.{Location}
-use Rattle.gix_url.specs.Text.{choice, in_form, text}
-use Rattle.gix_url.specs.Pieces.{form_chosen}
 use Rattle.gix_url.specs.Bytes.{percent_sign, FreeOf}
 use Rattle.gix_url.specs.Cuts.{CutsAt}
 use Rattle.gix_url.specs.Escapes.{escaped_percents}
@@ -107,11 +103,6 @@ pub handed_on : (whole done rest chunk left : List ℕ) → whole ≡ done ++ re
 handed_on whole done rest chunk left first second = first ∙ (ap (λ x. done ++ x) second ∙ sym (append_assoc done chunk left))
 
 -- ---- results
-
--- a location has a text exactly where a form can be chosen
-pub chosen_text : (v : Location) (r : Result Form WriteFault) → form_chosen r ≡ choice v → is_ok r ≡ is_ok (text v)
-chosen_text v (Ok form) e = ap (λ x. is_ok (in_form x v)) e
-chosen_text v (Err fault) e = ap (λ x. is_ok (in_form x v)) e
 
 -- what follows where a call succeeds
 pub on_ok : {T E P Q : Type 0} (r : Result T E) → (P → Q) → OnOk r P → OnOk r Q

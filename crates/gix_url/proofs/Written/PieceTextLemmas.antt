@@ -5,7 +5,7 @@ use Rattle.std.specs.List.{list_all}
 use Rattle.std.specs.Char.{is_ascii_digit, is_whitespace}
 use Rattle.std.proofs.lemmas.Bool.{and_parts, both_ways, false_from_ne_true, not-true, or_left, or_right}
 use Rattle.std.proofs.lemmas.Bool.Decides.{nat_tests}
-use Rattle.std.proofs.lemmas.Str.{IsUtf8-from_ascii}
+use Rattle.std.proofs.lemmas.Str.{IsUtf8-from_ascii, IsUtf8-append}
 use Rattle.percent_encoding.specs.declared.ascii_set.AsciiSet.{AsciiSet}
 use Rattle.percent_encoding.specs.AsciiSet.{contains}
 use Rattle.percent_encoding.specs.Percent.{percent_decode, percent_encode}
@@ -16,7 +16,7 @@ use Rattle.gix_url.specs.Addresses.{IsIpv6Text}
 use Rattle.gix_url.specs.Text.{port_part}
 use Rattle.gix_url.proofs.Written.WrittenPieces.{IsEscapedPiece, IsAuthorityPiece}
 use Rattle.gix_url.proofs.Texts.CutLemmas.{all_weaker, free-append, free_of_all, helper_name_bytes, lacks-append, lacks_of_all, scheme_helper_name}
-use Rattle.gix_url.proofs.Texts.EscapeLemmas.{ascii_class, decode_encode_utf8, encode_free, encode_lacks, encode_sound, sound-append, sound_free, utf8-append, utf8_encode, white_space-append, white_space_ascii, white_space_encode}
+use Rattle.gix_url.proofs.Texts.EscapeLemmas.{ascii_class, decode_encode_utf8, encode_free, encode_lacks, encode_sound, sound-append, sound_free, utf8_encode, white_space-append, white_space_ascii, white_space_encode}
 use Rattle.gix_url.proofs.Texts.EscapeSets.{password_holds, user_holds}
 use Rattle.gix_url.proofs.Addresses.AddressLemmas.{is_address_byte, address_bytes}
 use Rattle.gix_url.proofs.Readings.HostLemmas.{decimal_digits}
@@ -31,7 +31,7 @@ pub record IsHostPiece (t : List ℕ) : Type 0 where
 -- escaped pieces joined are an escaped piece
 pub joined_escaped : (xs ys : List ℕ) → IsEscapedPiece xs → IsEscapedPiece ys → IsEscapedPiece (xs ++ ys)
 joined_escaped xs ys front back = record {
-  text = utf8-append xs ys front.text back.text;
+  text = IsUtf8-append xs ys front.text back.text;
   sound = sound-append xs ys front.sound back.sound;
   no_white_space = white_space-append xs ys front.text front.no_white_space back.no_white_space;
 }

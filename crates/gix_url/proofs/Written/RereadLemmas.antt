@@ -12,9 +12,9 @@ use Rattle.gix_url.specs.Text.{text}
 use Rattle.gix_url.specs.Settled.{IsValue, IsSettled}
 use Rattle.gix_url.specs.Laws.{ReadAgain}
 use Rattle.gix_url.specs.Readings.{Reads, IsAgain, SpellsAgain, WritesAgain, ReadsAgain}
-use Rattle.gix_url.proofs.Closed.SettledLemmas.{one_text}
 use Rattle.gix_url.proofs.Unique.UniqueLemmas.{spells_unique}
 use Rattle.gix_url.proofs.Written.AgainLemmas.{settled_again}
+use Rattle.gix_url.proofs.Written.WrittenAsUrlLemmas.{one_text}
 
 -- the text of a settled location spells it again
 pub text_again : (v : Location) (s : List ℕ) → IsValue v → IsSettled v → text v ≡ Ok s → SpellsAgain v s

@@ -25,11 +25,10 @@ use Rattle.gix_url.specs.Safeguards.{SettledWithoutPassword}
 use Rattle.gix_url.proofs.Texts.CutLemmas.{lacks-append, lacks-cons, lacks_head_tail, lacks_parts, lacks_weaker, path_cut_unique, scheme_text_free}
 use Rattle.gix_url.proofs.Texts.EscapeLemmas.{ascii_byte, utf8_byte, white_space_parts}
 use Rattle.gix_url.proofs.Addresses.AddressLemmas.{address_two_colons}
-use Rattle.gix_url.proofs.Examples.RowNameLemmas.{some_is_none}
 use Rattle.gix_url.proofs.Readings.LengthLemmas.{fits_from_text, other_left_in, without_shorter}
-use Rattle.gix_url.proofs.Closed.SettledLemmas.{written_web, written_git, written_secure, written_other}
 use Rattle.gix_url.proofs.Written.AgainLemmas.{web_readable, secure_readable, git_readable, other_readable}
 use Rattle.gix_url.proofs.Written.WrittenUrlLemmas.{IsReadable, authority_text, canonical_cut, web_starts}
+use Rattle.gix_url.proofs.Written.WrittenAsUrlLemmas.{written_web, written_git, written_secure, written_other}
 
 -- ---- what is left of a text without its white space
 
@@ -171,7 +170,7 @@ begins_some test (b ∷ t) h = omega arith
 
 -- what names a host isn't empty
 names_some : (mode : Mode) (piece host : List ℕ) (port : Option ℕ) → Names mode piece (Some host) port → 0 < length piece
-names_some mode piece host port (nothing e named at) = some_is_none host named
+names_some mode piece host port (nothing e named at) = absurd (none-some host (sym named))
 names_some mode piece host port (bracketed x inner free spelled e named at) = omega (arith, ap length e)
 names_some mode piece host port (bracketed_colon x inner free spelled e named at) = omega (arith, ap length e)
 names_some mode piece host port (bracketed_port x inner digits number free spelled numbered e named at) = omega (arith, ap length e)

@@ -15,12 +15,12 @@ use Rattle.gix_url.specs.Settled.{IsValue, HasMatch, HasFittingText, IsSettledUr
 use Rattle.gix_url.specs.SettledParts.{HasUrlPath, IsWrittenAsUrl}
 use Rattle.gix_url.specs.Safeguards.{WebSettledWithoutSpelling, SettledWithoutSpelling, is_raw_url}
 use Rattle.gix_url.proofs.Texts.EscapeLemmas.{decode_empty, encode_empty}
-use Rattle.gix_url.proofs.Closed.SettledLemmas.{written_web, written_git, written_secure, written_other}
 use Rattle.gix_url.proofs.Written.WrittenUrlLemmas.{IsReadable, authority_text}
 use Rattle.gix_url.proofs.Written.WrittenPathLemmas.{web_path_written, transport_path_written, other_path_written}
 use Rattle.gix_url.proofs.Written.KeptLemmas.{settled_by_fields}
 use Rattle.gix_url.proofs.Written.AgainLemmas.{web_readable, secure_readable, git_readable, other_readable, other_scheme}
 use Rattle.gix_url.proofs.Written.StrippedLemmas.{IsFront, IsShortFront, authority_front, authority_short, scheme_short, text_fits}
+use Rattle.gix_url.proofs.Written.WrittenAsUrlLemmas.{written_web, written_git, written_secure, written_other}
 
 -- ---- the text
 

@@ -3,7 +3,7 @@ use Rattle.std.proofs.Common.{◌≡◌, ℕ, ◌<◌, true, false, inl, inr, Li
 use Rattle.std.specs.Prelude.{IfSome, IsUtf8, decimal}
 use Rattle.std.specs.List.{list_all}
 use Rattle.std.proofs.Math.Bool.{and-false}
-use Rattle.std.proofs.lemmas.Bool.{and_parts, true≢false, false_from_ne_true, true_from_ne_false}
+use Rattle.std.proofs.lemmas.Bool.{and_parts, true≢false, true_from_ne_false}
 use Rattle.std.proofs.lemmas.Bool.Decides.{nat_tests}
 use Rattle.percent_encoding.specs.Percent.{percent_encode, percent_decode}
 use Rattle.percent_encoding.proofs.PercentLemmas.{percent_encode_nonempty, percent_encode-nil}
@@ -24,7 +24,7 @@ use Rattle.gix_url.proofs.Texts.CutLemmas.{free_begins, free_head_tail, free_or_
 use Rattle.gix_url.proofs.Texts.EscapeLemmas.{decode_kept, encode_free, encode_byte_kept, escaped_percents_kept}
 use Rattle.gix_url.proofs.Texts.EscapeSets.{password_holds, user_holds}
 use Rattle.gix_url.proofs.Addresses.AddressLemmas.{is_address_byte, address_byte_ascii, address_bytes, address_free, address_two_colons}
-use Rattle.gix_url.proofs.Addresses.AddressTestLemmas.{ipv6_text_from, ipv6_text_to}
+use Rattle.gix_url.proofs.Addresses.AddressTestLemmas.{ipv6_text_to, ipv6_text_fails}
 use Rattle.gix_url.proofs.Readings.HostLemmas.{bare_not_strict, number_written}
 use Rattle.gix_url.proofs.Written.PieceTextLemmas.{IsHostPiece, joined_hosts, host_piece, address_piece, brackets_piece, port_piece, user_piece, user_no_colon, user_decoded}
 
@@ -74,25 +74,18 @@ open_host_written mode v host other escapes some normal unmarked no_address utf8
       piece = piece.piece;
     }
 
--- a text without colons is no address
-no_colon_address : (t : List ℕ) → FreeOf colon t → is_ipv6_text t ≡ false
-no_colon_address t free =
-    false_from_ne_true (is_ipv6_text t) (λ h.
-    let (x, y, z, is) = address_two_colons t (ipv6_text_from t h) in
-    not_free colon x (y ++ colon ∷ z) (subst (λ s. FreeOf colon s) is free))
-
--- nor is a text with a bracket in front
+-- a text with a bracket in front is no address
 bracket_no_address : (t : List ℕ) → is_ipv6_text (left_bracket ∷ t) ≡ false
 bracket_no_address t =
-    false_from_ne_true (is_ipv6_text (left_bracket ∷ t)) (λ h.
-    true≢false (free_head_tail left_bracket left_bracket t (address_free left_bracket (left_bracket ∷ t) refl (ipv6_text_from (left_bracket ∷ t) h))).0)
+    ipv6_text_fails (left_bracket ∷ t) (λ h. true≢false (free_head_tail left_bracket left_bracket t (address_free left_bracket (left_bracket ∷ t) refl h)).0)
 
 -- a settled name names itself
 name_written : (mode : Mode) (v : Location) (host : List ℕ) → ¬ (mode ≡ strict) → keeps_host v.scheme ≡ false → IsNormalName host → IsUtf8 host → IfSome v.port (λ p. p < 65536) → WritesHost mode v host host
 name_written mode v host other escapes h utf8 small =
     let free = h.unbracketed.no_colon in
     let unmarked : wants_brackets host ≡ false = rw free refl in
-    open_host_written mode v host other escapes h.unbracketed.nonempty h.normal unmarked (no_colon_address host free) utf8 small
+    let no_address = ipv6_text_fails host (λ h. let (x, y, z, is) = address_two_colons host h in not_free colon x (y ++ colon ∷ z) (subst (λ s. FreeOf colon s) is free)) in
+    open_host_written mode v host other escapes h.unbracketed.nonempty h.normal unmarked no_address utf8 small
 
 -- the host of a settled URL of Git's own protocol or of another scheme names itself
 pub bracketed_host_written : (mode : Mode) (v : Location) (host : List ℕ) → ¬ (mode ≡ strict) → keeps_host v.scheme ≡ false → IsBracketedHost host → IsUtf8 host → IfSome v.port (λ p. p < 65536) → WritesHost mode v host host

@@ -17,8 +17,9 @@ use Rattle.gix_url.specs.Text.{canonical_path, root_part, plain_path, matching_o
 use Rattle.gix_url.specs.Settled.{HasMatch, IsFairSpelling, IsRawPath, IsTransportPath, first_byte, begins_at_home, IsWeb}
 use Rattle.gix_url.specs.SettledParts.{HasFairSpelling, HasUrlPath, IsRootedOrEmpty}
 use Rattle.gix_url.proofs.Written.WrittenPieces.{IsEscapedPiece, WritesPath, as_read}
-use Rattle.gix_url.proofs.Texts.EscapeLemmas.{decode_kept, decode_encode_utf8, encode_byte_kept, encode_sound, sound_free, sound_kept, utf8-append, utf8_byte, utf8_encode, white_space-append, white_space_byte}
+use Rattle.gix_url.proofs.Texts.EscapeLemmas.{decode_kept, decode_encode_utf8, encode_byte_kept, encode_sound, sound_free, sound_kept, utf8_byte, utf8_encode, white_space-append, white_space_byte}
 use Rattle.gix_url.proofs.Texts.EscapeSets.{path_holds, white_space_path}
+use Rattle.std.proofs.lemmas.Str.{IsUtf8-append}
 
 -- ---- a path and its writing
 
@@ -341,7 +342,7 @@ home_piece : (path : List ℕ) → IsUtf8 path → (has_percent path ≡ false) 
 home_piece path text raw =
     let byte = utf8_byte slash (omega arith) in
     record {
-      text = utf8-append (slash ∷ []) path byte text;
+      text = IsUtf8-append (slash ∷ []) path byte text;
       sound = sound_kept slash path refl ∙ sound_free path raw.0;
       no_white_space = white_space-append (slash ∷ []) path byte (white_space_byte slash (omega arith) refl) raw.1;
     }

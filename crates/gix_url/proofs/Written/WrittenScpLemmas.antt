@@ -1,5 +1,5 @@
 -- A settled location in the scp form comes back.
-use Rattle.std.proofs.Common.{◌≡◌, ℕ, Bool, true, false, not, ◌==◌, ◌⊎◌, inl, inr, ◌<◌, List, [], ◌∷◌, ◌++◌, length, Option, Some, None, Ok, IfSome, refl, sym, ap, subst, ◌∙◌, arith, append_assoc, codes, eq-eqb, IsUtf8, All}
+use Rattle.std.proofs.Common.{◌≡◌, ℕ, Bool, true, false, not, ◌==◌, ◌⊎◌, inl, inr, ◌<◌, List, [], ◌∷◌, ◌++◌, length, Option, Some, None, Ok, IfSome, refl, sym, ap, subst, ◌∙◌, arith, append_assoc, codes, eq-eqb, IsUtf8, All, ◌↔◌}
 use Rattle.std.proofs.lemmas.Bool.{both_ways, false≢true, cond-true, cond-false, cases_Bool, and_parts, and_from, or_right}
 use Rattle.std.proofs.lemmas.Bool.Decides.{nat_tests}
 use Rattle.std.proofs.lemmas.List.Elements.{All-cons, All-nil}
@@ -17,22 +17,54 @@ use Rattle.gix_url.specs.Hosts.Mode.{bare}
 use Rattle.gix_url.specs.Grammar.{HasHelperForm, IsNeither, ScpFront, ScpShape, AddressedShape, ScpUser, ScpHost, IsBracketed, Unbrackets, SpellsScp, SpellsScpBefore, Spells, scp_location}
 use Rattle.gix_url.specs.Text.{text, is_relative, raw_user, raw_host, has_colon, wants_brackets}
 use Rattle.gix_url.specs.Settled.{IsValue, IsScpName, IsScpUser, IsNormalAddress, IsSettledScp, IsSettled, LooksLikeHelper, begins_at_home, begins_with_slashes}
-use Rattle.gix_url.specs.SettledParts.{IsScpPath}
+use Rattle.gix_url.specs.SettledParts.{IsScpPath, HasScpForm, HasScpParts}
 use Rattle.gix_url.specs.Laws.{ComesBack}
 use Rattle.gix_url.proofs.Texts.CutLemmas.{heads, tails, different_bytes, not_free, free-append, free_begins, free-cons, free_head_tail, helper_name_free}
 use Rattle.gix_url.proofs.Addresses.AddressLemmas.{is_address_byte, address_byte_ascii, address_bytes, address_free, address_utf8}
-use Rattle.gix_url.proofs.Texts.EscapeLemmas.{decode_escaped_percents, lacks_escaped_percents, escaped_percents_kept, utf8-append, utf8_byte, utf8_joined, white_space-append, white_space_ascii, white_space_byte}
+use Rattle.gix_url.proofs.Texts.EscapeLemmas.{decode_escaped_percents, lacks_escaped_percents, escaped_percents_kept, utf8_byte, utf8_joined, white_space-append, white_space_ascii, white_space_byte}
 use Rattle.gix_url.proofs.Readings.FormLemmas.{address_cut, addressed_joined, addressed_front_free, begins_before_at}
 use Rattle.gix_url.proofs.Readings.ShapeLemmas.{helper_front}
 use Rattle.gix_url.proofs.Unique.UniqueLemmas.{bracketed_address_named}
-use Rattle.gix_url.proofs.Closed.SettledLemmas.{settled_scp, value_of}
 use Rattle.gix_url.proofs.Written.WrittenPathLemmas.{homeless_kept}
+use Rattle.gix_url.specs.HostPieces.{in_brackets}
+use Rattle.std.proofs.lemmas.Str.{IsUtf8-append}
+use Rattle.gix_url.proofs.Written.KeptLemmas.{value_of}
 
 -- ---- values
 
 -- the value of a location in the scp form, perhaps with a spelling
 abbrev pub scp_value : Option (List ℕ) → List ℕ → List ℕ → Option (List ℕ) → Location
 scp_value user host path spelling = record (path_alone ssh true path) { user = user; host = Some host; spelling = spelling }
+
+-- a settled location in the scp form
+pub settled_scp : (v : Location) → (HasScpForm v × HasScpParts v) ↔ IsSettledScp v
+settled_scp v = (
+  λ parts. record {
+    flagged = parts.0.flagged;
+    no_password = parts.0.no_password;
+    no_port = parts.0.no_port;
+    path_text = parts.1.0.path_text;
+    nonempty = parts.1.0.nonempty;
+    not_home = parts.1.0.not_home;
+    not_slashes = parts.1.0.not_slashes;
+    no_mark = parts.1.0.no_mark;
+    user = parts.1.1.0;
+    host = parts.1.1.1;
+  },
+  λ s. (
+    record { flagged = s.flagged; no_password = s.no_password; no_port = s.no_port },
+    (
+      record {
+        path_text = s.path_text;
+        nonempty = s.nonempty;
+        not_home = s.not_home;
+        not_slashes = s.not_slashes;
+        no_mark = s.no_mark;
+      },
+      (s.user, s.host),
+    ),
+  ),
+)
 
 -- a settled location in the scp form is such a value
 pub scp_value_of : (v : Location) (h : List ℕ) → v.scheme ≡ ssh → IsSettledScp v → v.host ≡ Some h → v ≡ scp_value v.user h v.path v.spelling
@@ -59,7 +91,7 @@ scp_written user host path spelling = scp_written_by (is_relative path) user hos
 scp_text_utf8 : (user : Option (List ℕ)) (host path : List ℕ) → IfSome user IsUtf8 → IsUtf8 host → IsUtf8 path → IsUtf8 (raw_user user ++ (host ++ colon ∷ path))
 scp_text_utf8 None host path u h p = utf8_joined host path colon h (omega arith) p
 scp_text_utf8 (Some user) host path u h p =
-    utf8-append (user ++ at_sign ∷ []) (host ++ colon ∷ path) (utf8-append user (at_sign ∷ []) u (utf8_byte at_sign (omega arith))) (utf8_joined host path colon h (omega arith) p)
+    IsUtf8-append (user ++ at_sign ∷ []) (host ++ colon ∷ path) (IsUtf8-append user (at_sign ∷ []) u (utf8_byte at_sign (omega arith))) (utf8_joined host path colon h (omega arith) p)
 
 -- ---- neither a URL nor a remote helper
 
@@ -202,10 +234,6 @@ name_spelled user h path named host u n p other =
 
 -- ---- an address
 
--- brackets around a text
-abbrev in_brackets : List ℕ → List ℕ
-in_brackets h = left_bracket ∷ (h ++ right_bracket ∷ [])
-
 -- a text with a colon in it holds one
 pub holds_colon : (x y : List ℕ) → has_colon (x ++ colon ∷ y) ≡ true
 holds_colon [] y = refl
@@ -232,7 +260,7 @@ address_named h a = subst (λ n. Names bare (in_brackets h) (Some (in_brackets n
 -- an address in brackets is UTF-8
 in_brackets_utf8 : (h : List ℕ) → IsNormalAddress h → IsUtf8 (in_brackets h)
 in_brackets_utf8 h a =
-    utf8-append (left_bracket ∷ []) (h ++ right_bracket ∷ []) (utf8_byte left_bracket (omega arith)) (utf8-append h (right_bracket ∷ []) (address_utf8 h a.address) (utf8_byte right_bracket (omega arith)))
+    IsUtf8-append (left_bracket ∷ []) (h ++ right_bracket ∷ []) (utf8_byte left_bracket (omega arith)) (IsUtf8-append h (right_bracket ∷ []) (address_utf8 h a.address) (utf8_byte right_bracket (omega arith)))
 
 -- what holds of each byte that an address may hold holds of all of its bytes
 all_address_bytes : (P : ℕ → Type 0) → ((b : ℕ) → is_address_byte b ≡ true → P b) → (t : List ℕ) → list_all is_address_byte t ≡ true → All P t
