@@ -68,7 +68,9 @@ def targets(path, known, of_urls):
     """The modules and the crates of the kit that a file uses."""
     code = read(known[path])[1]
     direct = {target(it, path, known) for words in USE.findall(code) for it in paths_of(words)}
-    return direct | {of_urls[it] for it in re.findall(r"(?:\.|Url::)(\w+)\(", code) if it in of_urls}
+    # What a file defines itself, as the method of another type, is its own.
+    called = {*re.findall(r"(?:\.|Url::)(\w+)\(", code)} - {*re.findall(r"\bfn (\w+)", code)}
+    return direct | {of_urls[it] for it in called if it in of_urls}
 
 
 def uses():

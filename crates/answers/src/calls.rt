@@ -194,6 +194,11 @@ fn look_at_borrowed(alloc: Global, order: Order<'_>, url: &Url, out: &mut Out) -
         "UrlRef::text_len" => lent(out, &borrowed.text_len()),
         "UrlRef::to_bstring" => told(out, borrowed.to_bstring(alloc)),
         "UrlRef::write_to" => write_borrowed(&borrowed, out),
+        "UrlRef::user_as_argument" => lent(out, &borrowed.user_as_argument()),
+        "UrlRef::host_as_argument" => lent(out, &borrowed.host_as_argument()),
+        "UrlRef::user_argument_safe" => lent(out, &borrowed.user_argument_safe()),
+        "UrlRef::host_argument_safe" => lent(out, &borrowed.host_argument_safe()),
+        "UrlRef::path_argument_safe" => lent(out, &borrowed.path_argument_safe()),
         _ => over_components(alloc, order, url, out),
     }
 }

@@ -8,4 +8,5 @@ pub mod HostLemmas
 pub mod UrlLemmas
 pub mod UrlLocationLemmas
 pub mod ScpFrontLemmas
+pub mod FoundLemmas
 pub mod ScpLemmas

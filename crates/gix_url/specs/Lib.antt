@@ -61,6 +61,7 @@ pub mod Walks
 pub mod HostPieces
 pub mod UrlPieces
 pub mod SchemeRules
+pub mod FoundPieces
 pub mod ScpPieces
 pub mod Shapes
 pub mod KeptBytes

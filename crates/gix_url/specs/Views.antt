@@ -2,8 +2,8 @@
 use Rattle.std.specs.Prelude.{string_bytes}
 use Rattle.gix_url.specs.declared.scheme.Scheme.{Scheme}
 use Rattle.gix_url.specs.declared.scheme.Scheme.TheVariants.{File, Git, Ssh, Http, Https, Ext, Helper, HelperUrl}
-use Rattle.gix_url.specs.declared.url_ref.SchemeRef.{SchemeRef}
-use Rattle.gix_url.specs.declared.url_ref.SchemeRef.TheVariants as lent
+use Rattle.gix_url.specs.declared.scheme.SchemeRef.{SchemeRef}
+use Rattle.gix_url.specs.declared.scheme.SchemeRef.TheVariants as lent
 use Rattle.gix_url.specs.declared.argument.ArgumentSafety.{ArgumentSafety}
 use Rattle.gix_url.specs.declared.argument.ArgumentSafety.TheVariants.{Absent, Usable, Dangerous}
 use Rattle.gix_url.specs.Value.{Protocol}

@@ -13,6 +13,7 @@ ghost use Rattle.gix_url.specs.Safeguards.{PathIsNoOption, UsableIsNoOption};
 
 use crate::bytes::{after, starts_with_byte};
 use crate::location::Url;
+use crate::url_ref::UrlRef;
 use bstr::BStr;
 
 /// What a part of a location is to a command line.
@@ -52,7 +53,7 @@ impl Url {
         ensures judged { judgement result ≡ judgement_of self.now.user }
         ensures safe { IsNoOption (judgement result) }
     {
-        judged(self.user())
+        self.as_ref().user_as_argument()
     }
 
     /// The host as an argument of a command. It takes no memory.
@@ -70,7 +71,7 @@ impl Url {
         ensures judged { judgement result ≡ judgement_of self.now.host }
         ensures safe { IsNoOption (judgement result) }
     {
-        judged(self.host())
+        self.as_ref().host_as_argument()
     }
 
     /// The user, where there is one that doesn't begin with `-`. It takes no memory.
@@ -87,7 +88,7 @@ impl Url {
         ensures own { IfSome result (λ t. self.now.user ≡ Some t.now) }
         ensures safe { IfSome result (λ t. is_option_like t.now ≡ false) }
     {
-        usable(self.user_as_argument())
+        self.as_ref().user_argument_safe()
     }
 
     /// The host, where there is one that doesn't begin with `-`. It takes no memory.
@@ -104,7 +105,7 @@ impl Url {
         ensures own { IfSome result (λ t. self.now.host ≡ Some t.now) }
         ensures safe { IfSome result (λ t. is_option_like t.now ≡ false) }
     {
-        usable(self.host_as_argument())
+        self.as_ref().host_argument_safe()
     }
 
     /// The whole path, where it begins with `/` and the byte behind that isn't `-`. It takes no memory.
@@ -122,11 +123,93 @@ impl Url {
         ensures own { IfSome result (λ p. bstr_bytes p ≡ self.now.path) }
         ensures safe { IfSome result (λ p. is_option_like (bstr_bytes p) ≡ false) }
     {
-        let behind = after(self.path.as_bytes(), b'/')?;
+        self.as_ref().path_argument_safe()
+    }
+}
+
+impl<'a> UrlRef<'a> {
+    /// The user as an argument of a command, as [`Url::user_as_argument`] judges it. It takes no memory, and lives as long
+    /// as what lends the location.
+    ///
+    /// ```
+    /// fn is_refused(url: &UrlRef<'_>) -> bool {
+    ///     // `Dangerous("-Fconfig")` of `ssh://-Fconfig@host/repo`, `Absent` of `ssh://host/repo`
+    ///     matches!(url.user_as_argument(), ArgumentSafety::Dangerous(_))
+    /// }
+    /// ```
+    pub fn user_as_argument(&self) -> ArgumentSafety<'a>
+        ensures judged { judgement result ≡ judgement_of self.now.user }
+        ensures safe { IsNoOption (judgement result) }
+    {
+        judged(self.user)
+    }
+
+    /// The host as an argument of a command, as [`Url::host_as_argument`] judges it. It takes no memory, and lives as long
+    /// as what lends the location.
+    ///
+    /// ```
+    /// fn is_refused_host(url: &UrlRef<'_>) -> bool {
+    ///     // `Dangerous("-h")` of `ssh://-h/repo`, `Usable("::1")` of `ssh://[::1]/repo`
+    ///     matches!(url.host_as_argument(), ArgumentSafety::Dangerous(_))
+    /// }
+    /// ```
+    pub fn host_as_argument(&self) -> ArgumentSafety<'a>
+        ensures judged { judgement result ≡ judgement_of self.now.host }
+        ensures safe { IsNoOption (judgement result) }
+    {
+        judged(self.host)
+    }
+
+    /// The user, where there is one that doesn't begin with `-`. It takes no memory, and lives as long as what lends the
+    /// location.
+    ///
+    /// ```
+    /// fn user_or_git<'a>(url: &UrlRef<'a>) -> &'a str {
+    ///     url.user_argument_safe().unwrap_or("git")
+    /// }
+    /// ```
+    pub fn user_argument_safe(&self) -> Option<&'a str>
+        ensures handed { option_map (λ t. t.now) result ≡ usable_text (judgement_of self.now.user) }
+        ensures own { IfSome result (λ t. self.now.user ≡ Some t.now) }
+        ensures safe { IfSome result (λ t. is_option_like t.now ≡ false) }
+    {
+        usable(self.user_as_argument())
+    }
+
+    /// The host, where there is one that doesn't begin with `-`. It takes no memory, and lives as long as what lends the
+    /// location.
+    ///
+    /// ```
+    /// fn can_connect(url: &UrlRef<'_>) -> bool {
+    ///     url.host_argument_safe().is_some()
+    /// }
+    /// ```
+    pub fn host_argument_safe(&self) -> Option<&'a str>
+        ensures handed { option_map (λ t. t.now) result ≡ usable_text (judgement_of self.now.host) }
+        ensures own { IfSome result (λ t. self.now.host ≡ Some t.now) }
+        ensures safe { IfSome result (λ t. is_option_like t.now ≡ false) }
+    {
+        usable(self.host_as_argument())
+    }
+
+    /// The whole path, where it begins with `/` and the byte behind that isn't `-`. It takes no memory, and lives as long
+    /// as what lends the location.
+    ///
+    /// ```
+    /// fn served<'a>(url: &UrlRef<'a>) -> Option<BStr<'a>> {
+    ///     url.path_argument_safe() // `/repo` of `ssh://host/repo`, none of `ssh://host/-repo`
+    /// }
+    /// ```
+    pub fn path_argument_safe(&self) -> Option<BStr<'a>>
+        ensures handed { option_map bstr_bytes result ≡ path_argument self.now.path }
+        ensures own { IfSome result (λ p. bstr_bytes p ≡ self.now.path) }
+        ensures safe { IfSome result (λ p. is_option_like (bstr_bytes p) ≡ false) }
+    {
+        let behind = after(self.path, b'/')?;
         if starts_with_byte(behind, b'-') {
             return None;
         }
-        Some(self.path.as_bstr())
+        Some(BStr::new(self.path))
     }
 }
 

@@ -13,7 +13,8 @@ ghost use Rattle.gix_url.specs.Sinks.{Notes, notes_joined, notes_nothing};
 
 use crate::bytes::starts_with_byte;
 use crate::location::Url;
-use crate::url_ref::{SchemeRef, UrlRef};
+use crate::scheme::SchemeRef;
+use crate::url_ref::UrlRef;
 use crate::writer::piece::Pieces;
 use crate::writer::sink::Sink;
 use itoa::Buffer;

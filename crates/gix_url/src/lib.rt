@@ -53,5 +53,5 @@ pub use argument::ArgumentSafety;
 pub use components::{PathComponents, QueryText};
 pub use error::{Error, UrlFault, WriteError, WriteFault};
 pub use location::Url;
-pub use scheme::Scheme;
-pub use url_ref::{SchemeRef, UrlRef};
+pub use scheme::{Scheme, SchemeRef};
+pub use url_ref::UrlRef;

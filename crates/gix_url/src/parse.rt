@@ -9,14 +9,17 @@ ghost use Rattle.gix_url.specs.Flaws.{Flaw};
 ghost use Rattle.gix_url.specs.Grammar.{Spells};
 ghost use Rattle.gix_url.specs.Readings.{Reads, Refuses};
 
+mod build;
 pub(crate) mod classify;
 mod copies;
-mod forms;
+mod find;
+mod found;
 pub(crate) mod host;
 pub(crate) mod length;
 mod made;
 mod meaning;
 mod peeled;
+mod refusal;
 mod rules;
 mod scp;
 mod simple_url;
@@ -26,11 +29,10 @@ use crate::error::Error;
 pub use crate::error::UrlKind;
 use crate::location::Url;
 use bstr::BStr;
-use classify::{Shape, classify};
-use forms::{read_helper, read_local};
-use scp::{read_addressed, read_scp};
+use build::build;
+use find::find;
+use refusal::error_of;
 use std::alloc::Global;
-use url::read_url;
 
 /// The one location that the bytes spell.
 ///
@@ -38,9 +40,8 @@ use url::read_url;
 /// Where they spell no location, the error names a flaw that stands in them. `docs/GRAMMAR.md` says which texts are
 /// which, after gitremote-helpers, git-clone's "GIT URLS" and RFC 3986.
 ///
-/// Memory is asked for to copy each part, and once more for a host of the scp form that holds a `%`. On a refusal it is
-/// asked for to copy the bytes into the error, of a text that is too long its front. The empty text is refused without
-/// memory.
+/// Memory is asked for to copy each part. On a refusal it is asked for to copy the bytes into the error, of a text that
+/// is too long its front. The empty text is refused without memory.
 ///
 /// # Errors
 ///
@@ -99,23 +100,15 @@ impl Url {
     }
 }
 
-/// The one location that the bytes spell, by their form.
+/// The one location that the bytes spell: what is found in them, with bytes of its own.
 fn read(alloc: Global, bytes: &[u8]) -> Result<Url, Error>
     ensures found { IfOk result (λ v. Spells bytes.now v) }
     ensures refused { IfErr result (λ e. Refuses bytes.now e) }
     ensures flaw { IfErr result (λ e. Flaw bytes.now e) }
     ensures empty { bytes.now ≡ [] → result ≡ Err Error.EmptyLocal }
 {
-    match classify(bytes) {
-        Shape::Empty => Err(Error::EmptyLocal),
-        Shape::Helper { name, address } => read_helper(alloc, bytes, name, address),
-        Shape::Url { scheme, rest } => read_url(alloc, bytes, scheme, rest),
-        Shape::Addressed {
-            user,
-            address,
-            path,
-        } => read_addressed(alloc, bytes, user, address, path),
-        Shape::Scp { front, path } => read_scp(alloc, bytes, front, path),
-        Shape::Local => read_local(alloc, bytes),
+    match find(bytes) {
+        Ok(found) => Ok(build(alloc, found)?),
+        Err(refusal) => Err(error_of(alloc, bytes, refusal)),
     }
 }

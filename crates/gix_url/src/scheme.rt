@@ -7,7 +7,7 @@ ghost use Rattle.std.specs.Prelude.{◌≡◌, IfErr, IfOk, IsOk, bytes_eq, true
 ghost use Rattle.gix_url.specs.SchemeRules.{named_protocol};
 ghost use Rattle.gix_url.specs.Schemes.{protocol_of, protocol_text, default_port_of, is_known_scheme, is_ssh_scheme, is_web_scheme};
 ghost use Rattle.gix_url.specs.Settled.{is_ftp};
-ghost use Rattle.gix_url.specs.Views.{protocol};
+ghost use Rattle.gix_url.specs.Views.{lent_protocol, protocol};
 
 use crate::error::Error;
 use serde::{Deserialize, Serialize};
@@ -39,6 +39,33 @@ pub enum Scheme {
     Helper(String),
     /// The scheme of any other URL, which Git hands to the remote helper of that name.
     HelperUrl(String),
+}
+
+/// What a borrowed location is reached by: a [`Scheme`] whose name is a slice. Copies take no memory.
+///
+/// ```
+/// fn is_encrypted(scheme: SchemeRef<'_>) -> bool {
+///     matches!(scheme, SchemeRef::Ssh | SchemeRef::Https)
+/// }
+/// ```
+#[derive(Clone, Copy)]
+pub enum SchemeRef<'a> {
+    /// A path of the local file system, or a `file` URL.
+    File,
+    /// Git's own protocol.
+    Git,
+    /// Secure Shell.
+    Ssh,
+    /// HTTP.
+    Http,
+    /// HTTP, encrypted.
+    Https,
+    /// The remote helper `ext`, which runs a command.
+    Ext,
+    /// Another remote helper, by its name, as in `name::address`.
+    Helper(&'a str),
+    /// The scheme of any other URL, which Git hands to the remote helper of that name.
+    HelperUrl(&'a str),
 }
 
 impl Scheme {
@@ -93,16 +120,7 @@ impl Scheme {
     pub fn as_str(&self) -> &str
         ensures { result.now ≡ protocol_text (protocol self.now) }
     {
-        match self {
-            Scheme::File => "file",
-            Scheme::Git => "git",
-            Scheme::Ssh => "ssh",
-            Scheme::Http => "http",
-            Scheme::Https => "https",
-            Scheme::Ext => "ext",
-            Scheme::Helper(name) => name.as_str(),
-            Scheme::HelperUrl(name) => name.as_str(),
-        }
+        self.as_ref().as_str()
     }
 
     /// The port that the scheme stands for where a location names none: 80, 443, 22 or 9418. It takes no memory.
@@ -121,6 +139,64 @@ impl Scheme {
             Scheme::Ssh => Some(22),
             Scheme::Git => Some(9418),
             Scheme::File | Scheme::Ext | Scheme::Helper(_) | Scheme::HelperUrl(_) => None,
+        }
+    }
+
+    /// The same scheme, borrowed. It takes no memory.
+    ///
+    /// ```
+    /// /// The place of a scheme and a host, the other parts of a location left out.
+    /// fn service<'a>(scheme: &'a Scheme, host: &'a str) -> UrlRef<'a> {
+    ///     UrlRef {
+    ///         scheme: scheme.as_ref(),
+    ///         user: None,
+    ///         password: None,
+    ///         host: Some(host),
+    ///         serialize_alternative_form: false,
+    ///         port: scheme.default_port(),
+    ///         path: b"/",
+    ///         spelling: None,
+    ///     }
+    /// }
+    /// ```
+    #[inline(always)]
+    pub fn as_ref(&self) -> SchemeRef<'_>
+        ensures { lent_protocol result ≡ protocol self.now }
+    {
+        match self {
+            Scheme::File => SchemeRef::File,
+            Scheme::Git => SchemeRef::Git,
+            Scheme::Ssh => SchemeRef::Ssh,
+            Scheme::Http => SchemeRef::Http,
+            Scheme::Https => SchemeRef::Https,
+            Scheme::Ext => SchemeRef::Ext,
+            Scheme::Helper(name) => SchemeRef::Helper(name.as_str()),
+            Scheme::HelperUrl(name) => SchemeRef::HelperUrl(name.as_str()),
+        }
+    }
+}
+
+impl<'a> SchemeRef<'a> {
+    /// The text that the scheme is written with, as [`Scheme::as_str`] has it. It takes no memory.
+    ///
+    /// ```
+    /// /// The protocol of a location, for as long as what lends it.
+    /// fn protocol_of<'a>(url: &UrlRef<'a>) -> &'a str {
+    ///     url.scheme.as_str() // `ssh` of `git@host:repo`
+    /// }
+    /// ```
+    pub fn as_str(self) -> &'a str
+        ensures { result.now ≡ protocol_text (lent_protocol self.entry) }
+    {
+        match self {
+            SchemeRef::File => "file",
+            SchemeRef::Git => "git",
+            SchemeRef::Ssh => "ssh",
+            SchemeRef::Http => "http",
+            SchemeRef::Https => "https",
+            SchemeRef::Ext => "ext",
+            SchemeRef::Helper(name) => name,
+            SchemeRef::HelperUrl(name) => name,
         }
     }
 }

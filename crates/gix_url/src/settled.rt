@@ -17,7 +17,8 @@ mod scp;
 mod url;
 
 use crate::location::Url;
-use crate::url_ref::{SchemeRef, UrlRef};
+use crate::scheme::SchemeRef;
+use crate::url_ref::UrlRef;
 use crate::value_law::law_lent_value;
 use crate::writer::piece::Pieces;
 use local::{is_settled_file, is_settled_helper, is_settled_local};

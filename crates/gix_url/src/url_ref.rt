@@ -4,39 +4,10 @@
 //! the [`Url`] that lends it. What only looks at a location is defined on it, and takes no memory.
 
 ghost use Rattle.std.specs.Prelude.{◌≡◌};
-ghost use Rattle.gix_url.specs.Schemes.{protocol_text};
-ghost use Rattle.gix_url.specs.Views.{lent_protocol, protocol};
 
 use crate::location::Url;
-use crate::scheme::Scheme;
+use crate::scheme::SchemeRef;
 use std::marker::Model;
-
-/// What a borrowed location is reached by: a [`Scheme`] whose name is a slice. Copies take no memory.
-///
-/// ```
-/// fn is_encrypted(scheme: SchemeRef<'_>) -> bool {
-///     matches!(scheme, SchemeRef::Ssh | SchemeRef::Https)
-/// }
-/// ```
-#[derive(Clone, Copy)]
-pub enum SchemeRef<'a> {
-    /// A path of the local file system, or a `file` URL.
-    File,
-    /// Git's own protocol.
-    Git,
-    /// Secure Shell.
-    Ssh,
-    /// HTTP.
-    Http,
-    /// HTTP, encrypted.
-    Https,
-    /// The remote helper `ext`, which runs a command.
-    Ext,
-    /// Another remote helper, by its name, as in `name::address`.
-    Helper(&'a str),
-    /// The scheme of any other URL, which Git hands to the remote helper of that name.
-    HelperUrl(&'a str),
-}
 
 /// A Git location whose parts are borrowed, from a [`Url`] or from texts that a program has.
 ///
@@ -118,66 +89,6 @@ impl Url {
                 None => None,
                 Some(spelling) => Some(spelling.as_bytes()),
             },
-        }
-    }
-}
-
-impl Scheme {
-    /// The same scheme, borrowed. It takes no memory.
-    ///
-    /// ```
-    /// /// The place of a scheme and a host, the other parts of a location left out.
-    /// fn service<'a>(scheme: &'a Scheme, host: &'a str) -> UrlRef<'a> {
-    ///     UrlRef {
-    ///         scheme: scheme.as_ref(),
-    ///         user: None,
-    ///         password: None,
-    ///         host: Some(host),
-    ///         serialize_alternative_form: false,
-    ///         port: scheme.default_port(),
-    ///         path: b"/",
-    ///         spelling: None,
-    ///     }
-    /// }
-    /// ```
-    #[inline(always)]
-    pub fn as_ref(&self) -> SchemeRef<'_>
-        ensures { lent_protocol result ≡ protocol self.now }
-    {
-        match self {
-            Scheme::File => SchemeRef::File,
-            Scheme::Git => SchemeRef::Git,
-            Scheme::Ssh => SchemeRef::Ssh,
-            Scheme::Http => SchemeRef::Http,
-            Scheme::Https => SchemeRef::Https,
-            Scheme::Ext => SchemeRef::Ext,
-            Scheme::Helper(name) => SchemeRef::Helper(name.as_str()),
-            Scheme::HelperUrl(name) => SchemeRef::HelperUrl(name.as_str()),
-        }
-    }
-}
-
-impl<'a> SchemeRef<'a> {
-    /// The text that the scheme is written with, as [`Scheme::as_str`] has it. It takes no memory.
-    ///
-    /// ```
-    /// /// The protocol of a location, for as long as what lends it.
-    /// fn protocol_of<'a>(url: &UrlRef<'a>) -> &'a str {
-    ///     url.scheme.as_str() // `ssh` of `git@host:repo`
-    /// }
-    /// ```
-    pub fn as_str(self) -> &'a str
-        ensures { result.now ≡ protocol_text (lent_protocol self.entry) }
-    {
-        match self {
-            SchemeRef::File => "file",
-            SchemeRef::Git => "git",
-            SchemeRef::Ssh => "ssh",
-            SchemeRef::Http => "http",
-            SchemeRef::Https => "https",
-            SchemeRef::Ext => "ext",
-            SchemeRef::Helper(name) => name,
-            SchemeRef::HelperUrl(name) => name,
         }
     }
 }

@@ -15,13 +15,14 @@ use Rattle.gix_url.specs.Hosts.{Mode, Bracketed, Names}
 use Rattle.gix_url.specs.Hosts.Mode.{strict, bare, loose}
 use Rattle.gix_url.specs.Schemes.{is_web_scheme}
 use Rattle.gix_url.specs.Authority.{Authority, without_white_space, is_any_slash, IsWithinLimit, Fits}
-use Rattle.gix_url.specs.Grammar.{HasHelperForm, Peels, ScpFront, IsNeither, ScpShape, IsScpShaped, IsBracketed, ScpUser, Unbrackets, SpellsFile, SpellsScp, SpellsScpAddressed, SpellsLocal}
+use Rattle.gix_url.specs.Grammar.{HasHelperForm, Peels, ScpFront, IsNeither, ScpShape, IsScpShaped, ScpUser, Unbrackets, SpellsFile, SpellsScp, SpellsScpAddressed, SpellsLocal}
 use Rattle.gix_url.specs.FormRows.{UrlRows, FormRows, NoFormRows}
 use Rattle.gix_url.specs.Examples.{no_text}
 use Rattle.gix_url.proofs.Texts.CutLemmas.{tails, cut_unique, not_free, free_parts, free_head_tail, free_or_cut, helper_name_free}
 use Rattle.gix_url.proofs.Addresses.AddressTestLemmas.{ipv6_text_from}
 use Rattle.gix_url.proofs.Addresses.AddressLemmas.{address_free}
 use Rattle.gix_url.proofs.Readings.ShapeLemmas.{no_helper_free, addressed_free}
+use Rattle.gix_url.proofs.Readings.ScpLemmas.{not_in_brackets}
 use Rattle.gix_url.proofs.Examples.RowNameLemmas.{plain_row, not_literal_free}
 
 -- ---- what a text doesn't hold
@@ -207,10 +208,6 @@ pub shape_row : (front path : List ℕ) → FreeOf colon front → begins_with l
 shape_row front path free apart lacks other none =
     record { joined = refl; neither = neither_at (front ++ colon ∷ path) front path refl free other none; no_slash = lacks; shape = ScpFront.plain free (inl apart) }
 
--- a text that doesn't begin with a bracket isn't in brackets
-pub not_bracketed : (t : List ℕ) → begins_with left_bracket t ≡ false → ¬ IsBracketed t
-not_bracketed t apart (inner, e) = both_ways _ apart (ap (begins_with left_bracket) e)
-
 -- a local path behind a dot
 pub dot_path_no_scp : ¬ IsScpShaped (codes "./a:b")
 dot_path_no_scp = no_scp_behind_slash (codes "./a:b") (codes "./a") (codes "b") refl refl refl refl (λ e. false≢true (sym e))
@@ -237,7 +234,7 @@ form_rows = (
       no_backslash = refl;
       no_white_space = refl;
       names = Names.plain (codes "h") (plain_row (codes "h") refl refl refl) (IsUtf8-from_is_utf8 _ refl, refl) refl refl;
-      unbracketed = Unbrackets.same (not_bracketed (codes "h") refl) refl;
+      unbracketed = Unbrackets.same (not_in_brackets (codes "h") refl) refl;
     };
     value = refl;
   }),
@@ -257,7 +254,7 @@ form_rows = (
       no_backslash = refl;
       no_white_space = refl;
       names = Names.plain (codes "u") (plain_row (codes "u") refl refl refl) (IsUtf8-from_is_utf8 _ refl, refl) refl refl;
-      unbracketed = Unbrackets.same (not_bracketed (codes "u") refl) refl;
+      unbracketed = Unbrackets.same (not_in_brackets (codes "u") refl) refl;
     };
     value = refl;
   }),
@@ -277,7 +274,7 @@ form_rows = (
       no_backslash = refl;
       no_white_space = refl;
       names = Names.plain (codes "h") (plain_row (codes "h") refl refl refl) (IsUtf8-from_is_utf8 _ refl, refl) refl refl;
-      unbracketed = Unbrackets.same (not_bracketed (codes "h") refl) refl;
+      unbracketed = Unbrackets.same (not_in_brackets (codes "h") refl) refl;
     };
     value = refl;
   }),
@@ -297,7 +294,7 @@ form_rows = (
       no_backslash = refl;
       no_white_space = refl;
       names = Names.plain (codes "h%41") (plain_row (codes "h%2541") refl refl refl) (IsUtf8-from_is_utf8 _ refl, refl) refl refl;
-      unbracketed = Unbrackets.same (not_bracketed (codes "h%41") refl) refl;
+      unbracketed = Unbrackets.same (not_in_brackets (codes "h%41") refl) refl;
     };
     value = refl;
   }),
@@ -372,7 +369,7 @@ form_rows = (
       no_backslash = refl;
       no_white_space = refl;
       names = Names.plain (codes "b]") (plain_row (codes "b]") refl refl refl) (IsUtf8-from_is_utf8 _ refl, refl) refl refl;
-      unbracketed = Unbrackets.same (not_bracketed (codes "b]") refl) refl;
+      unbracketed = Unbrackets.same (not_in_brackets (codes "b]") refl) refl;
     };
     value = refl;
   }),

@@ -25,10 +25,11 @@ use Rattle.gix_url.specs.Laws.{IsCorner}
 use Rattle.gix_url.specs.Refusals.{HasFlaw}
 use Rattle.gix_url.specs.RefusalRows.{NoNameFlawRows, NoPartFlawRows, FlawlessRows, NoUrlFlawRow, CornerRows, NoCornerRows}
 use Rattle.gix_url.proofs.Readings.HostLemmas.{flawed_unnamed}
+use Rattle.gix_url.proofs.Readings.ScpLemmas.{not_in_brackets}
 use Rattle.gix_url.proofs.Refused.RefusalLemmas.{bad_user_refutes, flawed_authority, scp_host_flaw_refutes, flawless}
 use Rattle.gix_url.proofs.Refused.CornerLemmas.{apart}
 use Rattle.gix_url.proofs.Examples.RowNameLemmas.{other_byte, name_rows, authority_rows, number_row, plain_row}
-use Rattle.gix_url.proofs.Examples.RowFormLemmas.{fits_row, not_bracketed, url_rows, form_rows}
+use Rattle.gix_url.proofs.Examples.RowFormLemmas.{fits_row, url_rows, form_rows}
 use Rattle.gix_url.proofs.Examples.RowClassLemmas.{settled_rows}
 use Rattle.std.proofs.lemmas.List.{same_from_push}
 
@@ -66,7 +67,7 @@ percent_row = record {
   no_backslash = refl;
   no_white_space = refl;
   names = Names.plain (codes "h%41") (plain_row (codes "h%2541") refl refl refl) (IsUtf8-from_is_utf8 _ refl, refl) refl refl;
-  unbracketed = Unbrackets.same (not_bracketed (codes "h%41") refl) refl;
+  unbracketed = Unbrackets.same (not_in_brackets (codes "h%41") refl) refl;
 }
 
 -- nor with an authority, nor with a host of the scp form

@@ -583,7 +583,7 @@ http_byte_ascii : (b : ℕ) → is_http_host_byte b ≡ true → b < 128
 http_byte_ascii b h = grind (arith, nat_tests)
 
 -- and one of a zone
-zone_byte_ascii : (b : ℕ) → is_zone_byte b ≡ true → b < 128
+pub zone_byte_ascii : (b : ℕ) → is_zone_byte b ≡ true → b < 128
 zone_byte_ascii b h = grind (arith, nat_tests)
 
 -- the normal form of a host that is text is text

@@ -7,18 +7,16 @@ use Rattle.std.proofs.lemmas.List.{take_at, drop_at, append_cancel_left, nil_fro
 use Rattle.std.proofs.lemmas.Slice.Eq.{bytes_eq-Decides}
 use lib.Utf8.{encode}
 use Rattle.gix_url.specs.declared.error.UrlKind.TheVariants as kind
-use Rattle.gix_url.specs.declared.error.Error.{Error}
 use Rattle.gix_url.specs.Value.{Location, path_alone}
 use Rattle.gix_url.specs.Value.Protocol.{file}
 use Rattle.gix_url.specs.Bytes.{slash, colon, at_sign, left_bracket, right_bracket, FreeOf, Holds, begins_with, is_helper_name, is_name_byte}
 use Rattle.gix_url.specs.Addresses.{IsIpv6Text}
-use Rattle.gix_url.specs.Grammar.{HelperCut, HasHelperForm, IsNeither, ScpFront, AddressedShape, IsScpShaped, SpellsHelper, SpellsUrl, SpellsFile, SpellsScpBefore, SpellsScp, SpellsLocal, Spells, AddressedCut}
+use Rattle.gix_url.specs.Grammar.{HelperCut, HasHelperForm, IsNeither, ScpFront, AddressedShape, IsScpShaped, SpellsHelper, SpellsUrl, SpellsFile, SpellsScp, SpellsLocal, Spells, AddressedCut}
 use Rattle.gix_url.specs.Grammar.Spells.{url, file_url, remote_helper, scp_form, local_path}
 use Rattle.gix_url.specs.Grammar.ScpFront.{plain, bracketed}
 use Rattle.gix_url.specs.Authority.{unless_empty, Fits}
 use Rattle.gix_url.specs.Flaws.{UrlShape, OtherShape, MissesPath}
 use Rattle.gix_url.specs.Flaws.MissesPath.{in_file}
-use Rattle.gix_url.specs.Readings.{NoneBut}
 use Rattle.gix_url.specs.Shapes.{ColonCut, FrontCut, HasFrontCut, ScpCut, HasScpCut, AddressedFront, HasAddressedCut, LacksBrackets, PlainScp, LocalShape}
 use Rattle.gix_url.proofs.Texts.CutLemmas.{heads, tails, different_bytes, begins_cut, free_or_cut, not_free, free-cons, free_parts, cut_unique, last_cut_unique, mark_cut_unique, held_free, helper_name_bytes, helper_name_free, scheme_text_free}
 use Rattle.gix_url.proofs.Addresses.AddressLemmas.{address_free}
@@ -242,10 +240,6 @@ front_at_colon b front rest cut lacks = record { joined = cut.joined; shape = pl
 
 -- ---- what is refused
 
--- where nothing fits, nothing fits unless memory ran out
-pub none_but : (fits : Location → Type 0) → ((v : Location) → ¬ fits v) → (e : Error) → NoneBut fits e
-none_but fits none e = inr none
-
 -- a text whose length is tested to be 0 is empty
 pub nil_tested : (t : List ℕ) → true ≡ (length t == 0) → t ≡ []
 nil_tested t e = nil_from_length t (eqb-true (length t) 0 (sym e))
@@ -398,16 +392,6 @@ spelled_as_local b n none v k = elim (spelled_neither b n v k) [ inl h ↦ absur
 -- the same of the shape `user@[address]:path`
 pub spelled_as_addressed : (b user address path : List ℕ) → AddressedShape b user address path → (v : Location) → Spells b v → SpellsScp b v
 spelled_as_addressed b user address path s = spelled_as_scp b s.neither (inr (user, address, path, s))
-
--- and of the others
-pub spelled_as_plain : (b front path : List ℕ) → PlainScp b front path → (v : Location) → Spells b v → SpellsScpBefore b v
-spelled_as_plain b front path s v h =
-    elim (spelled_as_scp b s.shape.neither (inl (front, path, s.shape)) v h) [ inl k ↦ k | inr k ↦ absurd (s.not_addressed (k.user, k.address, k.path, k.shape)) ]
-
--- what is refused of a wider form is refused of a narrower one
-pub none_weaker : (fits more : Location → Type 0) → ((v : Location) → more v → fits v) → (e : Error) → NoneBut fits e → NoneBut more e
-none_weaker fits more within e (inl memory) = inl memory
-none_weaker fits more within e (inr none) = inr (λ v k. none v (within v k))
 
 -- a URL that is too long, or no text, is none
 pub unfit_url : (b front rest : List ℕ) → OtherShape b front rest → ¬ Fits front rest → (v : Location) → ¬ SpellsUrl b v

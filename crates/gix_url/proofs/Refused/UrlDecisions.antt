@@ -1,5 +1,5 @@
 -- Decisions on URLs: each has a meaning, or a flaw stands in it.
-use Rattle.std.proofs.Common.{◌≡◌, ℕ, ◌<◌, Bool, true, false, ◌⊎◌, inl, inr, List, [], ◌∷◌, ◌++◌, length, take, drop, Option, Some, None, refl, sym, ap, subst, ◌∙◌, append_assoc, codes, bytes_eq, eq-eqb, IsUtf8}
+use Rattle.std.proofs.Common.{◌≡◌, ℕ, ◌<◌, Bool, true, false, ◌⊎◌, inl, inr, List, ◌∷◌, ◌++◌, length, take, drop, Option, Some, None, refl, sym, ap, subst, ◌∙◌, codes, bytes_eq, IsUtf8}
 use Rattle.std.specs.List.{position_or_len}
 use Rattle.std.proofs.lemmas.Bool.{both_ways, false≢true, cases_Bool}
 use Rattle.std.proofs.lemmas.Slice.Eq.{bytes_eq-Decides}
@@ -9,23 +9,23 @@ use Rattle.gix_url.specs.declared.error.UrlFault.{UrlFault}
 use Rattle.gix_url.specs.declared.error.UrlFault.TheVariants as fault
 use Rattle.gix_url.specs.Value.{Protocol, Location, path_alone}
 use Rattle.gix_url.specs.Value.Protocol.{file, git, ssh, http, https, ext, helper, helper_url}
-use Rattle.gix_url.specs.Bytes.{slash, colon, at_sign, left_bracket, backslash, right_bracket, FreeOf, LacksWhiteSpace, begins_with, is_scheme_text, is_path_start}
+use Rattle.gix_url.specs.Bytes.{slash, colon, at_sign, backslash, FreeOf, LacksWhiteSpace, is_scheme_text, is_path_start}
 use Rattle.gix_url.specs.Escapes.{is_sound}
 use Rattle.gix_url.specs.Hosts.{Mode, Names}
 use Rattle.gix_url.specs.Schemes.{is_web_scheme, protocol_of, mode_of, requires_host, requires_path}
 use Rattle.gix_url.specs.Authority.{unless_empty, Credentials, Authority, Fits}
-use Rattle.gix_url.specs.Grammar.{UrlParts, SpellsParts, Peels, HostFor, MeansByProtocol, MeansAs, Spells}
+use Rattle.gix_url.specs.Grammar.{UrlParts, SpellsParts, MeansByProtocol, MeansAs, Spells}
 use Rattle.gix_url.specs.Flaws.{UrlShape, OtherShape, UrlCut, PieceOf, AuthorityFlaw, UrlFlaw}
 use Rattle.gix_url.specs.UrlPieces.{CutsRest, HasNoText, HoldsHosted}
+use Rattle.gix_url.specs.FoundPieces.{url_location}
 use Rattle.gix_url.specs.Refusals.{HasFlaw}
-use Rattle.gix_url.proofs.Texts.CutLemmas.{heads, tails, different_bytes, begins_cut, cut_at_first, free_or_cut, ends_or_not}
+use Rattle.gix_url.proofs.Texts.CutLemmas.{cut_at_first, free_or_cut}
 use Rattle.gix_url.proofs.Readings.ShapeLemmas.{file_found, file_misses_path}
 use Rattle.gix_url.proofs.Readings.UrlLemmas.{nothing_named, bad_user_flaw, url_cut, spelled}
 use Rattle.gix_url.proofs.Readings.UrlLocationLemmas.{path_missed}
-use Rattle.gix_url.proofs.Unique.UniqueLemmas.{meant_with}
+use Rattle.gix_url.proofs.Readings.FoundLemmas.{means_location}
 use Rattle.gix_url.proofs.Refused.TextDecisions.{nil_or_some, free_or_not, white_or_not, utf8_or_not, fits_or_not, free_or_last_cut}
 use Rattle.gix_url.proofs.Refused.HostDecisions.{named_or_flawed}
-use Rattle.std.proofs.lemmas.List.{same_from_push}
 
 -- ---- authorities
 
@@ -129,81 +129,9 @@ parts_or_flawed b front rest shape fits text =
 
 -- ---- meanings
 
--- a host with a bracket in front that ends in no bracket, with or without a colon behind it
-kept_bracket : (behind : List ℕ) → ((front : List ℕ) → ¬ (behind ≡ front ++ right_bracket ∷ [])) → ((front : List ℕ) → ¬ (behind ≡ front ++ right_bracket ∷ (colon ∷ []))) → Peels (left_bracket ∷ behind) (left_bracket ∷ behind)
-kept_bracket behind closed marked =
-    Peels.same (λ (inner, e). closed inner (tails e)) (λ (inner, e). marked inner (tails e)) (λ (front, free, open_front, e). ends_open front open_front e) refl
-  where
-    ends_open : (front : List ℕ) → begins_with left_bracket front ≡ false → left_bracket ∷ behind ≡ front ++ colon ∷ [] → ⊥
-    ends_open [] open_front e = different_bytes left_bracket colon refl e
-    ends_open (c ∷ front) open_front e = both_ways _ open_front (eq-eqb c left_bracket (sym (heads e)))
-
--- Secure Shell takes some host out of one with a bracket in front
-peels_bracket : (behind : List ℕ) → (peeled : List ℕ) × Peels (left_bracket ∷ behind) peeled
-peels_bracket behind =
-    elim (ends_or_not right_bracket behind) [
-      | inl (front, e) ↦ (front, Peels.brackets (ap (λ t. left_bracket ∷ t) e))
-      | inr closed ↦
-          elim (ends_or_not colon behind) [
-            | inr other ↦ (_, kept_bracket behind closed (λ front e. other (front ++ right_bracket ∷ []) (e ∙ sym (append_assoc front (right_bracket ∷ []) (colon ∷ [])))))
-            | inl (whole, e) ↦
-                elim (ends_or_not right_bracket whole) [
-                  | inl (front, k) ↦ (front, Peels.brackets_colon (ap (λ t. left_bracket ∷ t) (e ∙ ap (λ t. t ++ colon ∷ []) k ∙ append_assoc front (right_bracket ∷ []) (colon ∷ []))))
-                  | inr other ↦
-                      (_, kept_bracket behind closed (λ front k. other front (same_from_push whole (front ++ right_bracket ∷ []) colon colon (sym e ∙ k ∙ sym (append_assoc front (right_bracket ∷ []) (colon ∷ [])))).0))
-                ]
-          ]
-    ]
-
--- a host without a bracket in front is in no brackets
-unbracketed : (host behind : List ℕ) → begins_with left_bracket host ≡ false → ¬ (host ≡ left_bracket ∷ behind)
-unbracketed host behind open_front e = both_ways _ open_front (ap (begins_with left_bracket) e)
-
--- Secure Shell takes some host out of one without
-peels_open : (host : List ℕ) → begins_with left_bracket host ≡ false → (peeled : List ℕ) × Peels host peeled
-peels_open host open_front =
-    elim (ends_or_not colon host) [
-      | inr other ↦ (host, Peels.same (λ (inner, e). unbracketed host _ open_front e) (λ (inner, e). unbracketed host _ open_front e) (λ (front, free, begins, e). other front e) refl)
-      | inl (front, e) ↦
-          elim (free_or_not colon front) [
-            | inl free ↦ (front, Peels.last_colon free (front_open front host open_front e) e)
-            | inr held ↦ (
-              host,
-              Peels.same (λ (inner, e). unbracketed host _ open_front e) (λ (inner, e). unbracketed host _ open_front e)
-                  (λ (other, free, begins, k). held (subst (λ t. FreeOf colon t) (same_from_push other front colon colon (sym k ∙ e)).0 free)) refl,
-            )
-          ]
-    ]
-  where
-    front_open : (front host : List ℕ) → begins_with left_bracket host ≡ false → host ≡ front ++ colon ∷ [] → begins_with left_bracket front ≡ false
-    front_open [] host open_front e = refl
-    front_open (c ∷ front) host open_front e = sym (ap (begins_with left_bracket) e) ∙ open_front
-
--- Secure Shell takes some host out of each
-peels : (host : List ℕ) → (peeled : List ℕ) × Peels host peeled
-peels host =
-    elim (cases_Bool (begins_with left_bracket host)) [
-      | inr open_front ↦ peels_open host open_front
-      | inl front ↦ let (behind, e) = begins_cut left_bracket host front in subst (λ t. (peeled : List ℕ) × Peels t peeled) (sym e) (peels_bracket behind)
-    ]
-
--- a location has a host for the host that its URL names
-host_for : (protocol : Protocol) (named : Option (List ℕ)) → (host : Option (List ℕ)) × HostFor protocol named host
-host_for ssh None = (None, refl)
-host_for ssh (Some named) = let (peeled, h) = peels named in (Some peeled, (peeled, h, refl))
-host_for file named = (named, refl)
-host_for git named = (named, refl)
-host_for http named = (named, refl)
-host_for https named = (named, refl)
-host_for ext named = (named, refl)
-host_for (helper name) named = (named, refl)
-host_for (helper_url name) named = (named, refl)
-
 -- the parts of a URL mean a location by a protocol
 by_protocol : (protocol : Protocol) (parts : UrlParts) → (requires_path protocol ≡ true → 0 < length parts.path) → (v : Location) × MeansByProtocol protocol parts v
-by_protocol protocol parts pathed =
-    let (host, hosted) = host_for protocol parts.host in
-    (meant_with protocol parts host, record { host = host; pathed = pathed; hosted = hosted; value = refl })
+by_protocol protocol parts pathed = (url_location protocol parts, means_location protocol parts pathed)
 
 -- the parts of a URL mean a location
 meaning : (protocol : Protocol) (b : List ℕ) (parts : UrlParts) → (requires_path protocol ≡ true → 0 < length parts.path) → (v : Location) × MeansAs protocol b parts v

@@ -1,5 +1,5 @@
 -- The answer to a line is one line: what is told of a line without byte 10 holds none.
-use Rattle.std.proofs.Common.{◌≡◌, ℕ, ◌<◌, ◌==◌, Bool, false, not, ◌⊎◌, inl, inr, ⊎_elim, List, [], ◌∷◌, ◌++◌, append_assoc, append-nil, All, Option, Some, None, IfSome, IsUtf8, Ok, codes, refl, sym, ap, subst, ◌∙◌, arith, lit<}
+use Rattle.std.proofs.Common.{◌≡◌, ℕ, ◌<◌, ◌==◌, Bool, false, not, ◌⊎◌, inl, inr, ⊎_elim, List, [], ◌∷◌, ◌++◌, append_assoc, append-nil, All, Option, Some, None, IfSome, IsUtf8, Ok, codes, refl, sym, ap, subst, ◌∙◌, arith}
 use Rattle.std.specs.Prelude.{◌&&◌, bytes_eq}
 use Rattle.std.proofs.lemmas.Bool.{and_left, both_ways, cases_Bool, cond-true, cond-false, false≢true}
 use Rattle.std.proofs.lemmas.List.Elements.{All-append, All-cons, All-head, All-nil, All-tail}
@@ -19,11 +19,10 @@ use Rattle.gix_url.specs.Addresses.{Literal, is_zone_byte}
 use Rattle.gix_url.specs.Addresses.Literal.{address, zoned}
 use Rattle.gix_url.specs.AddressTest.{is_ipv6_text}
 use Rattle.gix_url.specs.Hosts.{Mode, Number, Names, is_http_host_byte}
-use Rattle.gix_url.specs.Hosts.Mode.{bare}
 use Rattle.gix_url.specs.Schemes.{protocol_of, protocol_text, mode_of, requires_path}
 use Rattle.gix_url.specs.Authority.{unless_empty, Authority}
 use Rattle.gix_url.specs.Authority.Authority.{host_alone, with_user}
-use Rattle.gix_url.specs.Grammar.{UrlParts, SpellsParts, MeansByProtocol, MeansAs, SpellsFile, SpellsScpBefore, SpellsScpAddressed, ScpUser, Unbrackets, Spells, scp_location, from_home}
+use Rattle.gix_url.specs.Grammar.{UrlParts, SpellsParts, MeansByProtocol, MeansAs, SpellsFile, SpellsScpBefore, SpellsScpAddressed, ScpUser, Spells, scp_location, from_home}
 use Rattle.gix_url.specs.Text.{keeps_host, open_host, needs_brackets, wants_brackets, canonical_host, host_part, user_information, port_part, root_part, plain_path, matching_or, canonical_path, raw_user, raw_host, text}
 use Rattle.gix_url.specs.Settled.{HasMatch, IsRawPath, IsWeb, IsWebHost, IsNormalName, IsBareHost, IsBracketedHost, IsScpName, IsNormalAddress, IsSettledUrl, IsSettledWeb, IsSettledSecure, IsSettledGit, IsSettledHelperUrl, IsSettledBy, IsSettled}
 use Rattle.gix_url.specs.Settled.IsWebHost.{literal, literal_colon, named, named_colon}
@@ -31,14 +30,14 @@ use Rattle.gix_url.specs.SettledParts.{IsWrittenAsUrl}
 use Rattle.gix_url.specs.Answers.{ended_lines, last_line, fault_name, refusal, told_line, IsTold, IsAnswer, AnswersEach}
 use Rattle.gix_url.specs.AnswerLaws.{IsOneLine, OneLine, AreAnswered, LineForLine}
 use Rattle.gix_url.proofs.Texts.CutLemmas.{free-append, free-cons, free_head_tail, free_of_all, free_parts, helper_name_free, scheme_text_free}
-use Rattle.gix_url.proofs.Texts.EscapeLemmas.{encode_free, lacks_escaped_percents, no_line, utf8_parts}
+use Rattle.gix_url.proofs.Texts.EscapeLemmas.{encode_free, lacks_escaped_percents, no_line}
 use Rattle.gix_url.proofs.Texts.EscapeSets.{path_holds, password_holds, user_holds}
 use Rattle.gix_url.proofs.Addresses.AddressLemmas.{address_free, address-lowercase}
-use Rattle.gix_url.proofs.Readings.HostLemmas.{names_utf8}
 use Rattle.gix_url.proofs.Readings.SchemeLemmas.{protocol_cases, helper_cases, means_scheme}
 use Rattle.gix_url.proofs.Written.KeptLemmas.{helper_unchanged, local_unchanged}
 use Rattle.gix_url.proofs.Written.PieceTextLemmas.{port_piece}
 use Rattle.gix_url.proofs.Written.WrittenPathLemmas.{matched}
+use Rattle.gix_url.proofs.Readings.ScpLemmas.{scp_meant_utf8}
 use Rattle.gix_url.proofs.Written.WrittenScpLemmas.{scp_written}
 use Rattle.gix_url.proofs.Written.WrittenAsUrlLemmas.{one_text, written_web, written_git, written_secure, written_other}
 
@@ -281,12 +280,6 @@ scp_user_line front user host (ScpUser.with_user u e k) free =
     let held = (free_parts newline u (at_sign ∷ host) (subst (λ x. FreeOf newline x) e free)).0 in
     subst (λ o. FreeOf newline (raw_user o)) (sym k) (free-append newline u (at_sign ∷ []) held refl)
 
--- a host is text without its brackets, too
-unbracketed_utf8 : (host inner : List ℕ) → Unbrackets host inner → IsUtf8 host → IsUtf8 inner
-unbracketed_utf8 host inner (Unbrackets.brackets e) is =
-    (utf8_parts inner [] right_bracket (utf8_parts [] (inner ++ right_bracket ∷ []) left_bracket (subst IsUtf8 e is) (lit< tt)).1 (lit< tt)).0
-unbracketed_utf8 host inner (Unbrackets.same other e) is = subst IsUtf8 (sym e) is
-
 -- a settled host of the scp form holds none
 scp_host_line : (host : List ℕ) → IsUtf8 host → IsScpName host ⊎ IsNormalAddress host → FreeOf newline host
 scp_host_line host is (inl name) = no_line host is name.no_white_space
@@ -303,7 +296,7 @@ scp_before_line : (b : List ℕ) (v : Location) (t : List ℕ) → FreeOf newlin
 scp_before_line b v t free h settled is =
     let (front, rest) = free_parts newline h.front (colon ∷ h.path) (subst (λ x. FreeOf newline x) h.shape.joined free) in
     let hosted = h.hosted in
-    let utf8 : IsUtf8 h.meant = unbracketed_utf8 hosted.named h.meant hosted.unbracketed (names_utf8 bare (escaped_percents h.host) hosted.named None hosted.names) in
+    let utf8 : IsUtf8 h.meant = scp_meant_utf8 hosted in
     let host = settled_host_line h.user h.meant h.path utf8 (subst (λ l. IsSettled l) h.value settled) in
     scp_line v t h.user h.meant h.path h.value (scp_user_line h.front h.user h.host h.split front) host (free_head_tail newline colon h.path rest).1 is
 

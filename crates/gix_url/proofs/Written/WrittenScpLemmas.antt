@@ -1,6 +1,6 @@
 -- A settled location in the scp form comes back.
-use Rattle.std.proofs.Common.{◌≡◌, ℕ, Bool, true, false, not, ◌==◌, ◌⊎◌, inl, inr, ◌<◌, List, [], ◌∷◌, ◌++◌, length, Option, Some, None, Ok, IfSome, refl, sym, ap, subst, ◌∙◌, arith, append_assoc, codes, eq-eqb, IsUtf8, All, ◌↔◌}
-use Rattle.std.proofs.lemmas.Bool.{both_ways, false≢true, cond-true, cond-false, cases_Bool, and_parts, and_from, or_right}
+use Rattle.std.proofs.Common.{◌≡◌, ℕ, Bool, true, false, not, ◌==◌, ◌⊎◌, inl, inr, ◌<◌, List, [], ◌∷◌, ◌++◌, Option, Some, None, Ok, IfSome, refl, sym, ap, subst, ◌∙◌, arith, append_assoc, codes, eq-eqb, IsUtf8, All, ◌↔◌}
+use Rattle.std.proofs.lemmas.Bool.{both_ways, false≢true, cond-true, cond-false, and_parts, and_from, or_right}
 use Rattle.std.proofs.lemmas.Bool.Decides.{nat_tests}
 use Rattle.std.proofs.lemmas.List.Elements.{All-cons, All-nil}
 use Rattle.std.proofs.lemmas.List.Folds.{list_any_none}
@@ -24,6 +24,7 @@ use Rattle.gix_url.proofs.Addresses.AddressLemmas.{is_address_byte, address_byte
 use Rattle.gix_url.proofs.Texts.EscapeLemmas.{decode_escaped_percents, lacks_escaped_percents, escaped_percents_kept, utf8_byte, utf8_joined, white_space-append, white_space_ascii, white_space_byte}
 use Rattle.gix_url.proofs.Readings.FormLemmas.{address_cut, addressed_joined, addressed_front_free, begins_before_at}
 use Rattle.gix_url.proofs.Readings.ShapeLemmas.{helper_front}
+use Rattle.gix_url.proofs.Readings.ScpLemmas.{escaped_some}
 use Rattle.gix_url.proofs.Unique.UniqueLemmas.{bracketed_address_named}
 use Rattle.gix_url.proofs.Written.WrittenPathLemmas.{homeless_kept}
 use Rattle.gix_url.specs.HostPieces.{in_brackets}
@@ -174,22 +175,13 @@ name_split : (user : Option (List ℕ)) (h : List ℕ) → ScpUser (name_front u
 name_split None h = ScpUser.host_alone refl refl
 name_split (Some user) h = ScpUser.with_user user refl refl
 
--- a text with `%` as escapes isn't empty where the text isn't
-escaped_nonempty : (t : List ℕ) → 0 < length t → 0 < length (escaped_percents t)
-escaped_nonempty [] h = h
-escaped_nonempty (b ∷ t) h =
-    elim (cases_Bool (b == percent_sign)) [
-      | inl same ↦ rw same (omega arith)
-      | inr other ↦ rw other (omega arith)
-    ]
-
 -- a settled name, with its `%` as escapes, names itself
 name_named : (h : List ℕ) → IsUtf8 h → IsScpName h → Names bare (escaped_percents h) (Some h) None
 name_named h text n =
     let open_name = n.normal.unbracketed in
     let decoded = decode_escaped_percents h in
     Names.plain h record {
-      nonempty = escaped_nonempty h open_name.nonempty;
+      nonempty = escaped_some h open_name.nonempty;
       no_colon = lacks_escaped_percents (λ b. b == colon) h refl refl refl open_name.no_colon;
       no_bracket = free_begins left_bracket (escaped_percents h) (lacks_escaped_percents (λ b. b == left_bracket) h refl refl refl open_name.no_left_bracket);
     } (subst (λ t. IsUtf8 t) (sym decoded) text, sym (ap normal_host decoded ∙ n.normal.normal)) refl refl

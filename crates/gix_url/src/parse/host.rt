@@ -12,7 +12,7 @@ ghost use Rattle.gix_url.specs.Hosts as spec;
 ghost use Rattle.gix_url.specs.Hosts.{HostText, IsAddressPiece, IsLiteral, IsManyColoned, Names, ReadsAddress};
 ghost use Rattle.gix_url.specs.HostPieces.{IsInner, ReadsName, host_of, in_brackets, meant_host, named_text, port_of, shown_literal, strictness};
 
-mod build;
+pub(super) mod build;
 pub(crate) mod bytes;
 mod port;
 

@@ -8,12 +8,13 @@ ghost use Rattle.std.specs.Prelude.{◌≡◌, ◌<◌, ◌↔◌, List, ℕ, Is
 ghost use Rattle.bstr.specs.Owned.{bstring_bytes};
 ghost use Rattle.percent_encoding.specs.Percent.{percent_decode};
 ghost use Rattle.gix_url.specs.Grammar as grammar;
-ghost use Rattle.gix_url.specs.Grammar.{HostFor, MeansByProtocol, path_for};
+ghost use Rattle.gix_url.specs.FoundPieces.{IsReadyUrl, host_for, url_location};
+ghost use Rattle.gix_url.specs.Grammar.{path_for};
 ghost use Rattle.gix_url.specs.HostPieces.{host_of, port_of};
 ghost use Rattle.gix_url.specs.SchemeRules.{AreRulesOf, named_protocol};
-ghost use Rattle.gix_url.specs.Schemes.{protocol_of, requires_path};
+ghost use Rattle.gix_url.specs.Schemes.{protocol_of};
 ghost use Rattle.gix_url.specs.Settled.{begins_at_home};
-ghost use Rattle.gix_url.specs.UrlPieces.{AreTexts, decoded_option, parts_of};
+ghost use Rattle.gix_url.specs.UrlPieces.{decoded_option, parts_of};
 
 use super::copies::copied;
 use super::host::NamedHost;
@@ -29,13 +30,14 @@ use bstr::BString;
 use std::alloc::{AllocError, Global};
 
 /// The location of a URL with these parts, of whose scheme these are the rules.
-pub(super) fn build(alloc: Global, rules: Rules, url: ParsedUrl<'_>) -> Result<Url, AllocError>
-    requires rules { AreRulesOf url.scheme.now rules }
-    requires scheme_text { IsUtf8 url.scheme.now }
-    requires texts { AreTexts (parts_of url) }
-    requires pathed { requires_path (protocol_of url.scheme.now) ≡ true → 0 < length url.path.now }
+pub(super) fn url_location(
+    alloc: Global,
+    rules: Rules,
+    url: ParsedUrl<'_>,
+) -> Result<Url, AllocError>
+    requires { IsReadyUrl rules url }
     ensures { IfOk result
-        (λ v. MeansByProtocol (protocol_of url.entry.scheme.now) (parts_of url.entry) v) }
+        (λ v. v ≡ url_location (protocol_of url.entry.scheme.now) (parts_of url.entry)) }
 {
     let scheme = Scheme::of_protocol(alloc, rules.protocol, as_text(url.scheme))?;
     let user = decoded_part(alloc, url.user)?;
@@ -82,8 +84,8 @@ fn port_of(host: Option<NamedHost<'_>>) -> Option<u16>
 /// The host of a location: Secure Shell takes it without marks, any other scheme as it is.
 fn host_for(protocol: Protocol, host: Option<String>) -> Option<String>
     ensures { (scheme : List ℕ)
-        → HostFor (named_protocol protocol scheme) (option_map string_bytes host)
-        (option_map string_bytes result) }
+        → option_map string_bytes result
+        ≡ host_for (named_protocol protocol scheme) (option_map string_bytes host) }
 {
     match host {
         None => None,

@@ -5,6 +5,7 @@
 
 ghost use Rattle.std.specs.Prelude.{◌≡◌, ℕ, List, MatchOption, false, string_bytes, true};
 ghost use Rattle.gix_url.specs.Bytes.{begins_with, left_bracket};
+ghost use Rattle.gix_url.specs.FoundPieces.{peeled};
 ghost use Rattle.gix_url.specs.Grammar.{Peels};
 ghost use Rattle.gix_url.specs.UrlPieces.{DropsLast, InBrackets};
 
@@ -13,7 +14,7 @@ use crate::text::into_text;
 
 /// The host as Secure Shell takes it: without brackets around it, and without a colon behind it.
 pub(super) fn peeled(host: String) -> String
-    ensures { Peels (string_bytes host) (string_bytes result) }
+    ensures { string_bytes result ≡ peeled (string_bytes host) }
 {
     into_text(peeled_bytes(host.into_bytes()))
 }

@@ -1,48 +1,43 @@
 //! URLs, from the pieces that the classifier cut: file URLs, and those whose scheme gives them a meaning.
 //!
-//! It may use `rules`, `length`, `text`, `simple_url`, `meaning`, `copies`, `forms` and `made`. Its contract: a
-//! location is read exactly where the definitions spell one, and each refusal has its flaw. The scheme is looked at
-//! once, here, and what it says of the rest is handed on.
+//! It may use `bytes`, `rules`, `length`, `text`, `simple_url`, `found` and the errors. Its contract: the slices of a
+//! location are found exactly where the definitions spell one, and each refusal has its flaw. It takes no memory. The
+//! scheme is looked at once, here, and what it says of the rest is handed on.
 
-ghost use Rattle.std.specs.Prelude.{◌≡◌, ◌↔◌, IfErr, IfOk, IsTrue, true};
+ghost use Rattle.std.specs.Prelude.{◌≡◌, ◌+◌, ◌<◌, ◌↔◌, IfErr, IfOk, IsTrue, codes, length, take, true};
 ghost use Rattle.gix_url.specs.Authority.{Fits};
 ghost use Rattle.gix_url.specs.Escapes.{is_plain};
-ghost use Rattle.gix_url.specs.Flaws.{Flaw, OtherShape, UrlShape};
-ghost use Rattle.gix_url.specs.Grammar.{Spells, SpellsParts, SpellsUrl};
-ghost use Rattle.gix_url.specs.Readings.{NoneBut, Refuses};
+ghost use Rattle.gix_url.specs.Flaws.{OtherShape, UrlShape};
+ghost use Rattle.gix_url.specs.FoundPieces.{IsReady, NamesFlaw, meant};
+ghost use Rattle.gix_url.specs.Grammar.{Spells, SpellsFile, SpellsParts, SpellsUrl};
 ghost use Rattle.gix_url.specs.SchemeRules.{AreRulesOf};
 ghost use Rattle.gix_url.specs.UrlPieces.{parts_of};
 
-use super::copies::{bad_url, copied, missing_path, not_utf8, too_long};
-use super::forms::read_file;
+use super::found::{Found, Refusal};
 use super::length::fits;
-use super::made::path_alone;
-use super::meaning::build;
 use super::rules::{Rules, rules_of};
 use super::simple_url::{ParsedUrl, read_simple_url};
-use crate::error::{Error, UrlKind};
-use crate::location::Url;
-use crate::scheme::{Protocol, Scheme};
-use crate::text::{as_text, is_plain};
-use std::alloc::Global;
+use crate::bytes::cut;
+use crate::error::UrlKind;
+use crate::scheme::Protocol;
+use crate::text::{as_text, is_plain, is_text};
 
-/// A URL.
-pub(super) fn read_url(
-    alloc: Global,
-    input: &[u8],
-    scheme: &[u8],
-    rest: &[u8],
-) -> Result<Url, Error>
+/// Finds what a URL is made of.
+pub(super) fn find_url<'a>(
+    input: &'a [u8],
+    scheme: &'a [u8],
+    rest: &'a [u8],
+) -> Result<Found<'a>, Refusal<'a>>
     requires { UrlShape input.now scheme.now rest.now }
-    ensures found { IfOk result (λ v. Spells input.now v) }
-    ensures refused { IfErr result (λ e. Refuses input.now e) }
-    ensures flaw { IfErr result (λ e. Flaw input.now e) }
+    ensures found { IfOk result (λ found. Spells input.now (meant found)) }
+    ensures ready { IfOk result (λ found. IsReady found) }
+    ensures flaw { IfErr result (λ refusal. NamesFlaw input.now refusal) }
 {
     let rules = rules_of(scheme);
     if is_file(rules.protocol) {
-        read_file(alloc, input, rest)
+        find_file(input, rest)
     } else {
-        read_other(alloc, input, rules, scheme, rest)
+        find_other(input, rules, scheme, rest)
     }
 }
 
@@ -60,68 +55,102 @@ fn is_ext(protocol: Protocol) -> bool
     matches!(protocol, Protocol::Ext)
 }
 
-/// A URL that is no file URL, of whose scheme these are the rules.
-fn read_other(
-    alloc: Global,
-    input: &[u8],
-    rules: Rules,
-    scheme: &[u8],
-    rest: &[u8],
-) -> Result<Url, Error>
-    requires shape { OtherShape input.now scheme.now rest.now }
-    requires rules { AreRulesOf scheme.now rules }
-    ensures found { IfOk result (λ v. SpellsUrl input.now v) }
-    ensures refused { IfErr result (λ e. NoneBut (SpellsUrl input.now) e) }
-    ensures flaw { IfErr result (λ e. Flaw input.now e) }
+/// Finds what a file URL is made of: the host ends at the first `/`, where the path begins.
+fn find_file<'a>(input: &'a [u8], rest: &'a [u8]) -> Result<Found<'a>, Refusal<'a>>
+    requires { UrlShape input.now (codes "file") rest.now }
+    ensures found { IfOk result (λ found. SpellsFile input.now (meant found)) }
+    ensures ready { IfOk result (λ found. IsReady found) }
+    ensures flaw { IfErr result (λ refusal. NamesFlaw input.now refusal) }
 {
-    if !fits(rules.web, scheme, rest) {
-        return Err(too_long(alloc, input, scheme, rest));
+    if !is_text(input) {
+        return Err(Refusal::NotUtf8 { kind: UrlKind::Url });
     }
-    if is_plain(input) {
-        return read_text(alloc, as_text(input), true, rules, scheme, rest);
-    }
-    match str::from_utf8(input) {
-        Ok(text) => read_text(alloc, text, false, rules, scheme, rest),
-        Err(_) => Err(not_utf8(alloc, UrlKind::Url, input)),
+    match cut(rest, b'/') {
+        None => Err(Refusal::MissingPath { kind: UrlKind::Url }),
+        Some((host, _)) => Ok(Found::File {
+            host,
+            path: rest.split_at(host.len()).1,
+        }),
     }
 }
 
-/// A URL that is text and no file URL. What is known to be plain isn't looked at again for white space.
-fn read_text(
-    alloc: Global,
-    text: &str,
+/// Finds what a URL is made of that is no file URL, of whose scheme these are the rules.
+fn find_other<'a>(
+    input: &'a [u8],
+    rules: Rules,
+    scheme: &'a [u8],
+    rest: &'a [u8],
+) -> Result<Found<'a>, Refusal<'a>>
+    requires shape { OtherShape input.now scheme.now rest.now }
+    requires rules { AreRulesOf scheme.now rules }
+    ensures found { IfOk result (λ found. SpellsUrl input.now (meant found)) }
+    ensures ready { IfOk result (λ found. IsReady found) }
+    ensures flaw { IfErr result (λ refusal. NamesFlaw input.now refusal) }
+{
+    if !fits(rules.web, scheme, rest) {
+        return Err(Refusal::TooLong {
+            shown: shown_front(input, scheme),
+        });
+    }
+    if is_plain(input) {
+        return find_parts(as_text(input), true, rules, scheme, rest);
+    }
+    match str::from_utf8(input) {
+        Ok(text) => find_parts(text, false, rules, scheme, rest),
+        Err(_) => Err(Refusal::NotUtf8 { kind: UrlKind::Url }),
+    }
+}
+
+/// The front of the text that is as long as the scheme, `://` and 1,024 bytes, or the whole.
+fn shown_front<'a>(input: &'a [u8], scheme: &[u8]) -> &'a [u8]
+    requires { length scheme.now < length input.now }
+    ensures { result.now ≡ take (length scheme.now + 1027) input.now }
+{
+    let behind = input.split_at(scheme.len()).1;
+    if behind.len() <= 1027 {
+        return input;
+    }
+    input.split_at(scheme.len() + 1027).0
+}
+
+/// Finds the parts of a URL that is text and no file URL. What is known to be plain isn't looked at again for white space.
+fn find_parts<'a>(
+    text: &'a str,
     plain: bool,
     rules: Rules,
-    scheme: &[u8],
-    rest: &[u8],
-) -> Result<Url, Error>
+    scheme: &'a [u8],
+    rest: &'a [u8],
+) -> Result<Found<'a>, Refusal<'a>>
     requires plain { plain ≡ true → is_plain text.now ≡ true }
     requires shape { OtherShape text.now scheme.now rest.now }
     requires rules { AreRulesOf scheme.now rules }
     requires fits { Fits scheme.now rest.now }
-    ensures found { IfOk result (λ v. SpellsUrl text.now v) }
-    ensures refused { IfErr result (λ e. NoneBut (SpellsUrl text.now) e) }
-    ensures flaw { IfErr result (λ e. Flaw text.now e) }
+    ensures found { IfOk result (λ found. SpellsUrl text.now (meant found)) }
+    ensures ready { IfOk result (λ found. IsReady found) }
+    ensures flaw { IfErr result (λ refusal. NamesFlaw text.now refusal) }
 {
     match read_simple_url(text, plain, rules, scheme, rest) {
-        Ok(url) => located(alloc, text.as_bytes(), rules, url),
-        Err(fault) => Err(bad_url(alloc, UrlKind::Url, fault, text.as_bytes())),
+        Ok(url) => located(text.as_bytes(), rules, url),
+        Err(fault) => Err(Refusal::BadUrl {
+            kind: UrlKind::Url,
+            fault,
+        }),
     }
 }
 
-/// The location of a URL whose parts were read. That of the helper `ext` has the whole text for its path.
-fn located(alloc: Global, input: &[u8], rules: Rules, url: ParsedUrl<'_>) -> Result<Url, Error>
+/// What a URL is made of whose parts were read. That of the helper `ext` has the whole text for its path.
+fn located<'a>(input: &'a [u8], rules: Rules, url: ParsedUrl<'a>) -> Result<Found<'a>, Refusal<'a>>
     requires spelled { SpellsParts input.now (parts_of url) }
     requires rules { AreRulesOf url.scheme.now rules }
-    ensures found { IfOk result (λ v. SpellsUrl input.now v) }
-    ensures refused { IfErr result (λ e. NoneBut (SpellsUrl input.now) e) }
-    ensures flaw { IfErr result (λ e. Flaw input.now e) }
+    ensures found { IfOk result (λ found. SpellsUrl input.now (meant found)) }
+    ensures ready { IfOk result (λ found. IsReady found) }
+    ensures flaw { IfErr result (λ refusal. NamesFlaw input.now refusal) }
 {
     if is_ext(rules.protocol) {
-        return Ok(path_alone(Scheme::Ext, true, copied(alloc, input)?));
+        return Ok(Found::Ext { text: input });
     }
     if rules.needs_path && url.path.is_empty() {
-        return Err(missing_path(alloc, UrlKind::Url, input));
+        return Err(Refusal::MissingPath { kind: UrlKind::Url });
     }
-    Ok(build(alloc, rules, url)?)
+    Ok(Found::Url { rules, url })
 }

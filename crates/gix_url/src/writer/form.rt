@@ -10,7 +10,8 @@ ghost use Rattle.gix_url.specs.Pieces.{form_chosen, form_of, with_password};
 
 use crate::bytes;
 use crate::error::WriteFault;
-use crate::url_ref::{SchemeRef, UrlRef};
+use crate::scheme::SchemeRef;
+use crate::url_ref::UrlRef;
 
 /// The forms of a text.
 #[derive(Clone, Copy, PartialEq, Eq)]

@@ -11,7 +11,8 @@ ghost use Rattle.gix_url.specs.Text.{text, helper_text, path_form_text, scp_text
 ghost use Rattle.gix_url.specs.Pieces.{host_text, path_end_text, piece_text, pieces_text, port_text, text_of_pieces, user_text, with_password};
 
 use crate::error::WriteFault;
-use crate::url_ref::{SchemeRef, UrlRef};
+use crate::scheme::SchemeRef;
+use crate::url_ref::UrlRef;
 use crate::writer::form::Form;
 use crate::writer::piece::{HostPieces, PathPieces, Piece, Pieces, SchemePieces, UserPieces};
 use crate::{bytes, escape, ipv6};

@@ -1,7 +1,7 @@
 //! Examples of locations that are borrowed.
 
 use bstr::{BStr, BString};
-use gix_url::{Error, Scheme, SchemeRef, Url, UrlRef, WriteError};
+use gix_url::{ArgumentSafety, Error, Scheme, SchemeRef, Url, UrlRef, WriteError};
 use std::alloc::Global;
 use std::test::Fail;
 
@@ -86,6 +86,54 @@ fn write_for_git(out: &mut Vec<u8>, url: &UrlRef<'_>) -> Result<bool, WriteError
     }
     url.write_to(out)?;
     Ok(true)
+}
+
+fn is_refused(url: &UrlRef<'_>) -> bool {
+    // `Dangerous("-Fconfig")` of `ssh://-Fconfig@host/repo`, `Absent` of `ssh://host/repo`
+    matches!(url.user_as_argument(), ArgumentSafety::Dangerous(_))
+}
+
+fn is_refused_host(url: &UrlRef<'_>) -> bool {
+    // `Dangerous("-h")` of `ssh://-h/repo`, `Usable("::1")` of `ssh://[::1]/repo`
+    matches!(url.host_as_argument(), ArgumentSafety::Dangerous(_))
+}
+
+fn user_or_git<'a>(url: &UrlRef<'a>) -> &'a str {
+    url.user_argument_safe().unwrap_or("git")
+}
+
+fn can_connect(url: &UrlRef<'_>) -> bool {
+    url.host_argument_safe().is_some()
+}
+
+fn served<'a>(url: &UrlRef<'a>) -> Option<BStr<'a>> {
+    url.path_argument_safe() // `/repo` of `ssh://host/repo`, none of `ssh://host/-repo`
+}
+
+#[test]
+fn options_are_kept_out(rt: HostRuntime) -> Result<(), Fail> {
+    // Whether the user and the host are refused, the user to connect as, and the path that is served.
+    for (text, user, host, as_user, path) in [
+        (
+            "ssh://-Fconfig@host/repo",
+            true,
+            false,
+            "git",
+            Some("/repo"),
+        ),
+        ("ssh://-h/repo", false, true, "git", Some("/repo")),
+        ("ssh://u@[::1]/-repo", false, false, "u", None),
+    ] {
+        let url = Url::from_text(rt.alloc(), text)?;
+        let borrowed = url.as_ref();
+        assert_eq!(rt; is_refused(&borrowed), user, "{text}");
+        assert_eq!(rt; is_refused_host(&borrowed), host, "{text}");
+        assert_eq!(rt; can_connect(&borrowed), !host, "{text}");
+        assert_eq!(rt; user_or_git(&borrowed), as_user, "{text}");
+        let path = path.map(str::as_bytes);
+        assert_eq!(rt; served(&borrowed).map(|it| it.as_bytes()), path, "{text}");
+    }
+    Ok(())
 }
 
 #[test]

@@ -114,7 +114,7 @@ fn settle(host: &mut [u8], piece: HostPiece<'_>)
 }
 
 /// Lowercases a host that looks like a domain name.
-fn normalize(host: &mut [u8])
+pub(crate) fn normalize(host: &mut [u8])
     ensures { host.new ≡ spec.normal_host host.old }
 {
     if looks_like_domain(host) {
@@ -123,7 +123,7 @@ fn normalize(host: &mut [u8])
 }
 
 /// Lowercases what stands before the first `%`, or all where there is none.
-fn lowercase_address(literal: &mut [u8])
+pub(crate) fn lowercase_address(literal: &mut [u8])
     ensures { literal.new ≡ lowercase_address literal.old }
 {
     let end = address_len(literal);

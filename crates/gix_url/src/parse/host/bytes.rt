@@ -70,7 +70,7 @@ fn is_zone(text: &[u8]) -> bool
 }
 
 /// Whether each byte may stand in a zone.
-fn are_zone_bytes(text: &[u8]) -> bool
+pub(crate) fn are_zone_bytes(text: &[u8]) -> bool
     ensures { result ≡ list_all address.is_zone_byte text.now }
 {
     text.iter().all(|byte| is_zone_byte(*byte))

@@ -1,29 +1,25 @@
--- The scheme decides: `ext` keeps the text, a missing path is told, and any other URL stands for its parts.
-use Rattle.std.proofs.Common.{refl, sym, ◌∙◌}
-use Rattle.std.proofs.lemmas.Bool.{false≢true}
-use Rattle.gix_url.specs.Grammar.{SpellsUrl}
-use Rattle.gix_url.proofs.Readings.ShapeLemmas.{nil_tested, none_but}
+-- The scheme decides: `ext` keeps the text, a missing path is told, and any other URL means what its parts do.
+use Rattle.std.proofs.Common.{sym, ◌∙◌}
+use Rattle.std.proofs.lemmas.Bool.{both_ways, false≢true}
+use Rattle.gix_url.proofs.Readings.HostLemmas.{some_tested}
+use Rattle.gix_url.proofs.Readings.ShapeLemmas.{nil_tested}
 use Rattle.gix_url.proofs.Readings.SchemeRuleLemmas.{named_ext}
-use Rattle.gix_url.proofs.Readings.UrlLocationLemmas.{texts, scheme_utf8, no_path_refutes, path_missed, spelled_url}
+use Rattle.gix_url.proofs.Readings.UrlLocationLemmas.{texts, scheme_utf8, path_missed}
+use Rattle.gix_url.proofs.Readings.FoundLemmas.{found_url}
 use Rattle.gix_url.proofs.parse.url.located.Goals as goal
+use Rattle.gix_url.proofs.parse.url.located.Goals.{else-rules-via-then-rules+else-is_empty, else-rules-via-else-rules}
 
-pub missing_path-requires : goal.missing_path-requires
-missing_path-requires c =
+pub returns-then-is_empty-clause-flaw : goal.returns-then-is_empty-clause-flaw
+returns-then-is_empty-clause-flaw c =
     path_missed c.requires.spelled (sym c.requires.rules.path ∙ c.if-rules.true) (nil_tested c.args.url.path.now c.if-is_empty.ensures)
 
-pub returns-then-is_empty-clause-refused : goal.returns-then-is_empty-clause-refused
-returns-then-is_empty-clause-refused c =
-    none_but (SpellsUrl c.args.input.now) (no_path_refutes c.requires.spelled (sym c.requires.rules.path ∙ c.if-rules.true) (nil_tested c.args.url.path.now c.if-is_empty.ensures)) c.missing_path.result
+pub returns-clause-found : goal.returns-clause-found
+returns-clause-found c =
+    found_url c.requires.spelled (λ e. false≢true (c.if-is_ext.ensures.1 (named_ext c.args.rules.protocol c.args.url.scheme.now (c.requires.rules.protocol ∙ e))))
+    (λ need. elim c.else-rules.branch [
+      | else-rules-via-then-rules+else-is_empty w ↦ some_tested c.args.url.path.now w.if-is_empty.ensures
+      | else-rules-via-else-rules w ↦ absurd (both_ways _ w.if-rules.false (c.requires.rules.path ∙ need))
+    ])
 
-pub build-requires-clause-scheme_text : goal.build-requires-clause-scheme_text
-build-requires-clause-scheme_text c = scheme_utf8 c.requires.spelled
-
-pub build-requires-clause-texts : goal.build-requires-clause-texts
-build-requires-clause-texts c = texts c.requires.spelled
-
-pub returns : goal.returns
-returns c = record {
-  found = spelled_url c.requires.spelled refl (λ e. false≢true (c.if-is_ext.ensures.1 (named_ext c.args.rules.protocol c.args.url.scheme.now (c.requires.rules.protocol ∙ e)))) c.in_ok-build.ensures;
-  refused = tt;
-  flaw = tt;
-}
+pub returns-clause-ready : goal.returns-clause-ready
+returns-clause-ready c = record { ruled = c.requires.rules; scheme_text = scheme_utf8 c.requires.spelled; texts = texts c.requires.spelled }

@@ -1,0 +1,24 @@
+-- What is refused has a flaw, so it spells nothing; the name of a helper is text.
+use Rattle.std.proofs.lemmas.Result.{IfErr-weaker}
+use Rattle.gix_url.specs.FoundPieces.{NamesFlaw}
+use Rattle.gix_url.specs.Grammar.{Spells}
+use Rattle.gix_url.specs.Value.{Location}
+use Rattle.gix_url.specs.declared.parse.found.Refusal.TheVariants as refusal
+use Rattle.gix_url.proofs.Readings.ShapeLemmas.{helper_name_utf8}
+use Rattle.gix_url.proofs.Refused.RefusalLemmas.{refused_unspelled}
+use Rattle.gix_url.proofs.parse.find.find.Goals as goal
+
+pub returns-in-Empty-clause-refused : goal.returns-in-Empty-clause-refused
+returns-in-Empty-clause-refused c = refused_unspelled c.args.bytes.now refusal.Empty c.in-Empty.ensures
+
+pub returns-in-Helper-clause-ready : goal.returns-in-Helper-clause-ready
+returns-in-Helper-clause-ready c = helper_name_utf8 c.in-Helper.name.now c.in-Helper.ensures.named
+
+pub returns-in-Url-clause-refused : goal.returns-in-Url-clause-refused
+returns-in-Url-clause-refused c = IfErr-weaker c.find_url.result (NamesFlaw c.args.bytes.now) (λ _. (v : Location) → ¬ Spells c.args.bytes.now v) (refused_unspelled c.args.bytes.now) c.find_url.ensures.flaw
+
+pub returns-in-Addressed-clause-refused : goal.returns-in-Addressed-clause-refused
+returns-in-Addressed-clause-refused c = IfErr-weaker c.find_addressed.result (NamesFlaw c.args.bytes.now) (λ _. (v : Location) → ¬ Spells c.args.bytes.now v) (refused_unspelled c.args.bytes.now) c.find_addressed.ensures.flaw
+
+pub returns-in-Scp-clause-refused : goal.returns-in-Scp-clause-refused
+returns-in-Scp-clause-refused c = IfErr-weaker c.find_scp.result (NamesFlaw c.args.bytes.now) (λ _. (v : Location) → ¬ Spells c.args.bytes.now v) (refused_unspelled c.args.bytes.now) c.find_scp.ensures.flaw

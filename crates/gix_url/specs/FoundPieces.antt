@@ -1,0 +1,122 @@
+-- What is found in a text before anything is copied: the location that the slices mean, and the flaw that a refusal names.
+use Rattle.std.specs.Prelude.{◌≡◌, ℕ, true, false, ◌==◌, List, [], ◌∷◌, length, Option, Some, None, option_map, IfSome, IsUtf8, if◌then◌else◌}
+use Rattle.std.specs.Option.{option_copied, unwrap_or}
+use Rattle.std.specs.List.{list_any}
+use Rattle.percent_encoding.specs.Percent.{percent_decode}
+use Rattle.gix_url.specs.declared.parse.found.Found.{Found}
+use Rattle.gix_url.specs.declared.parse.found.Found.TheVariants as found
+use Rattle.gix_url.specs.declared.parse.found.ScpHost.{ScpHost}
+use Rattle.gix_url.specs.declared.parse.found.ScpHost.TheVariants as host
+use Rattle.gix_url.specs.declared.parse.found.Refusal.{Refusal}
+use Rattle.gix_url.specs.declared.parse.found.Refusal.TheVariants as refusal
+use Rattle.gix_url.specs.declared.parse.rules.Rules.{Rules}
+use Rattle.gix_url.specs.declared.parse.simple_url.ParsedUrl.{ParsedUrl}
+use Rattle.gix_url.specs.Value.{Protocol, Location, path_alone}
+use Rattle.gix_url.specs.Value.Protocol.{file, git, ssh, http, https, ext, helper, helper_url}
+use Rattle.gix_url.specs.Bytes.{colon, left_bracket, right_bracket}
+use Rattle.gix_url.specs.Schemes.{protocol_of}
+use Rattle.gix_url.specs.SchemeRules.{AreRulesOf}
+use Rattle.gix_url.specs.Hosts.{normal_host}
+use Rattle.gix_url.specs.HostPieces.{lowercase_address}
+use Rattle.gix_url.specs.UrlPieces.{AreTexts, parts_of}
+use Rattle.gix_url.specs.Authority.{unless_empty}
+use Rattle.gix_url.specs.Grammar.{UrlParts, helper_protocol, path_for, retained_spelling, scp_location}
+use Rattle.gix_url.specs.Flaws.{MissesPath, HasShape, IsTooLong, KindFlaw}
+
+-- ---- the host that Secure Shell takes
+
+-- what stands before a last c, where the text ends in one
+abbrev pub front_of : ℕ → List ℕ → Option (List ℕ)
+front_of c [] = None
+front_of c (b ∷ []) = if b == c then Some [] else None
+front_of c (b ∷ d ∷ bs) = option_map (λ front. b ∷ front) (front_of c (d ∷ bs))
+
+-- the host for its front before a last colon: that front, if it holds no other
+abbrev pub colon_dropped : List ℕ → Option (List ℕ) → List ℕ
+colon_dropped host None = host
+colon_dropped host (Some front) = if list_any (λ b. b == colon) front then host else front
+
+-- the host without brackets around it, and without a colon behind it: the one that `Peels` allows
+abbrev pub peeled : List ℕ → List ℕ
+peeled [] = []
+peeled (b ∷ bs) =
+    if b == left_bracket
+    then unwrap_or (front_of right_bracket (unwrap_or (front_of colon bs) bs)) (b ∷ bs)
+    else colon_dropped (b ∷ bs) (front_of colon (b ∷ bs))
+
+-- the host of a location, by its protocol, for the host that its URL names: the one that `HostFor` allows
+abbrev pub host_for : Protocol → Option (List ℕ) → Option (List ℕ)
+host_for ssh named = option_map peeled named
+host_for file named = named
+host_for git named = named
+host_for http named = named
+host_for https named = named
+host_for ext named = named
+host_for (helper name) named = named
+host_for (helper_url name) named = named
+
+-- ---- what is found
+
+-- the location that the parts of a URL mean, by its protocol: the one that `MeansByProtocol` allows
+abbrev pub url_location : Protocol → UrlParts → Location
+url_location protocol parts = record {
+  scheme = protocol;
+  user = parts.user;
+  password = parts.password;
+  host = host_for protocol parts.host;
+  flag = false;
+  port = parts.port;
+  path = path_for protocol (percent_decode parts.path);
+  spelling = retained_spelling parts.path;
+}
+
+-- the slice of a host of the scp form
+abbrev pub scp_slice : ScpHost → List ℕ
+scp_slice (host.Literal text) = text.now
+scp_slice (host.Name text) = text.now
+scp_slice (host.Inner text) = text.now
+
+-- the host that it stands for
+abbrev pub scp_host_of : ScpHost → List ℕ
+scp_host_of (host.Literal text) = lowercase_address text.now
+scp_host_of (host.Name text) = normal_host text.now
+scp_host_of (host.Inner text) = text.now
+
+-- the location that the slices mean
+abbrev pub meant : Found → Location
+meant (found.Helper name address) = path_alone (helper_protocol name.now) true address.now
+meant (found.Local path) = path_alone file true path.now
+meant (found.File host path) = record (path_alone file false path.now) { host = unless_empty host.now }
+meant (found.Ext text) = path_alone ext true text.now
+meant (found.Url rules url) = url_location (protocol_of url.scheme.now) (parts_of url)
+meant (found.Scp user host path) = scp_location (option_copied user) (scp_host_of host) path.now
+
+-- the rules of a URL are those of its scheme, and what becomes text is UTF-8
+pub record IsReadyUrl (rules : Rules) (url : ParsedUrl) : Type 0 where
+  pub ruled : AreRulesOf url.scheme.now rules
+  pub scheme_text : IsUtf8 url.scheme.now
+  pub texts : AreTexts (parts_of url)
+
+-- a user and a host are UTF-8
+pub record AreScpTexts (user : Option (List ℕ)) (host : List ℕ) : Type 0 where
+  pub user_text : IfSome user IsUtf8
+  pub host_text : IsUtf8 host
+
+-- of these slices a location can be made: what becomes text is UTF-8
+abbrev pub IsReady : Found → Type 0
+IsReady (found.Helper name address) = IsUtf8 name.now
+IsReady (found.Local path) = Unit {0}
+IsReady (found.File host path) = IsUtf8 host.now
+IsReady (found.Ext text) = Unit {0}
+IsReady (found.Url rules url) = IsReadyUrl rules url
+IsReady (found.Scp user host path) = AreScpTexts (option_copied user) (scp_host_of host)
+
+-- ---- what is refused
+
+-- the flaw that the refusal names stands in the bytes
+abbrev pub NamesFlaw : List ℕ → Refusal → Type 0
+NamesFlaw b refusal.Empty = b ≡ []
+NamesFlaw b (refusal.MissingPath kind) = MissesPath b kind
+NamesFlaw b (refusal.NotUtf8 kind) = ¬ IsUtf8 b × HasShape b kind
+NamesFlaw b (refusal.TooLong shown) = IsTooLong b shown.now (length b)
+NamesFlaw b (refusal.BadUrl kind fault) = KindFlaw b kind fault

@@ -1,0 +1,122 @@
+//! Building: the location that found slices mean, with bytes of its own.
+//!
+//! It may use `found`, `bytes`, `copies`, `host`, `made`, `meaning`, `scheme` and `text`. Its contract: the location is
+//! the one that the slices mean. Memory is asked for once for each part.
+
+ghost use Rattle.std.specs.Prelude.{◌≡◌, IfOk, IfSome, IsUtf8, option_map, string_bytes};
+ghost use Rattle.std.specs.Option.{option_copied};
+ghost use Rattle.gix_url.specs.FoundPieces.{AreScpTexts, IsReady, meant, scp_host_of};
+ghost use Rattle.gix_url.specs.Grammar.{from_home, helper_protocol, scp_location};
+ghost use Rattle.gix_url.specs.Value.{path_alone};
+ghost use Rattle.gix_url.specs.Views.{protocol};
+
+use super::copies::{copied, copied_text, copied_unless_empty};
+use super::found::{Found, ScpHost};
+use super::host::build::{lowercase_address, normalize};
+use super::made::{path_alone, plain_location};
+use super::meaning::url_location;
+use crate::bytes::{append_within, starts_with_byte};
+use crate::location::Url;
+use crate::scheme::Scheme;
+use crate::text::into_text;
+use std::alloc::{AllocError, Global};
+
+/// The location that found slices mean.
+pub(super) fn build(alloc: Global, found: Found<'_>) -> Result<Url, AllocError>
+    requires { IsReady found }
+    ensures { IfOk result (λ v. v ≡ meant found.entry) }
+{
+    match found {
+        Found::Helper { name, address } => {
+            let scheme = helper_scheme(alloc, name)?;
+            Ok(path_alone(scheme, true, copied(alloc, address)?))
+        }
+        Found::Local { path } => Ok(path_alone(Scheme::File, true, copied(alloc, path)?)),
+        Found::File { host, path } => {
+            let host = copied_unless_empty(alloc, host)?;
+            let path = copied(alloc, path)?;
+            Ok(plain_location(Scheme::File, None, host, false, path))
+        }
+        Found::Ext { text } => Ok(path_alone(Scheme::Ext, true, copied(alloc, text)?)),
+        Found::Url { rules, url } => url_location(alloc, rules, url),
+        Found::Scp { user, host, path } => scp_location(alloc, user, host, path),
+    }
+}
+
+/// The scheme of a helper with this name.
+fn helper_scheme(alloc: Global, name: &[u8]) -> Result<Scheme, AllocError>
+    requires { IsUtf8 name.now }
+    ensures { IfOk result (λ scheme. protocol scheme ≡ helper_protocol name.now) }
+{
+    if name == b"ext".as_slice() {
+        return Ok(Scheme::Ext);
+    }
+    Ok(Scheme::Helper(copied_text(alloc, name)?))
+}
+
+/// A location that Secure Shell reaches, with this user and this host.
+fn scp_location(
+    alloc: Global,
+    user: Option<&[u8]>,
+    host: ScpHost<'_>,
+    path: &[u8],
+) -> Result<Url, AllocError>
+    requires { AreScpTexts (option_copied user) (scp_host_of host) }
+    ensures { IfOk result
+        (λ v. v ≡ scp_location (option_copied user.entry) (scp_host_of host.entry) path.now) }
+{
+    let user = user_text(alloc, user)?;
+    let host = host_text(alloc, host)?;
+    let path = copied(alloc, from_home(path))?;
+    Ok(plain_location(Scheme::Ssh, user, Some(host), true, path))
+}
+
+/// The user as a text of its own, if there is one.
+fn user_text(alloc: Global, user: Option<&[u8]>) -> Result<Option<String>, AllocError>
+    requires { IfSome (option_copied user) IsUtf8 }
+    ensures { IfOk result (λ text. option_map string_bytes text ≡ option_copied user.entry) }
+{
+    match user {
+        None => Ok(None),
+        Some(user) => Ok(Some(copied_text(alloc, user)?)),
+    }
+}
+
+/// The text of a host of the scp form.
+fn host_text(alloc: Global, host: ScpHost<'_>) -> Result<String, AllocError>
+    requires { IsUtf8 (scp_host_of host) }
+    ensures { IfOk result (λ text. string_bytes text ≡ scp_host_of host.entry) }
+{
+    match host {
+        ScpHost::Literal(text) => {
+            let mut copy = copy_of(alloc, text)?;
+            lowercase_address(&mut copy);
+            Ok(into_text(copy))
+        }
+        ScpHost::Name(text) => {
+            let mut copy = copy_of(alloc, text)?;
+            normalize(&mut copy);
+            Ok(into_text(copy))
+        }
+        ScpHost::Inner(text) => Ok(into_text(copy_of(alloc, text)?)),
+    }
+}
+
+/// The bytes in a vector of their own.
+fn copy_of(alloc: Global, text: &[u8]) -> Result<Vec<u8>, AllocError>
+    ensures { IfOk result (λ copy. copy.items ≡ text.now) }
+{
+    let mut copy = Vec::with_capacity(alloc, text.len())?;
+    append_within(&mut copy, text);
+    Ok(copy)
+}
+
+/// The path without the `/` before a `~` at its front.
+fn from_home(path: &[u8]) -> &[u8]
+    ensures { result.now ≡ from_home path.now }
+{
+    match path {
+        [b'/', rest @ ..] if starts_with_byte(rest, b'~') => rest,
+        _ => path,
+    }
+}

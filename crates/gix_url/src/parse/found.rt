@@ -1,0 +1,69 @@
+//! What is found in a text: the slices that a location is made of, or what the text is refused for.
+//!
+//! It may use `rules`, `simple_url` and the errors. These are values without a copy of any byte, which `find` makes, and
+//! of which `build` and `refusal` make what owns its bytes. The definitions in `specs/FoundPieces` say which location
+//! they mean and which flaw they name.
+
+use super::rules::Rules;
+use super::simple_url::ParsedUrl;
+use crate::error::{UrlFault, UrlKind};
+
+/// The slices that a location is made of, by its form.
+#[derive(Clone, Copy)]
+pub(super) enum Found<'a> {
+    /// A remote helper: both stay as they are.
+    Helper {
+        name: &'a [u8],
+        address: &'a [u8],
+    },
+    /// A local path, which stays as it is.
+    Local {
+        path: &'a [u8],
+    },
+    /// A file URL: both stay as they are, and an empty host is none.
+    File {
+        host: &'a [u8],
+        path: &'a [u8],
+    },
+    /// A URL of the helper `ext`: its whole text is the path.
+    Ext {
+        text: &'a [u8],
+    },
+    /// Any other URL, and what its scheme says of the rest.
+    Url {
+        rules: Rules,
+        url: ParsedUrl<'a>,
+    },
+    /// The scp form: the user stays as it is, and so does the path, but for a `/` before a `~`.
+    Scp {
+        user: Option<&'a [u8]>,
+        host: ScpHost<'a>,
+        path: &'a [u8],
+    },
+}
+
+/// The host of the scp form, without brackets around it. A `%` in it stands for itself.
+#[derive(Clone, Copy)]
+pub(super) enum ScpHost<'a> {
+    /// An IPv6 text, perhaps with a `%` and a zone: what stands before the `%` is lowercased.
+    Literal(&'a [u8]),
+    /// A host outside brackets: it is lowercased where it looks like a domain name.
+    Name(&'a [u8]),
+    /// Any other text that stood between brackets: it stays as it is.
+    Inner(&'a [u8]),
+}
+
+/// What a text is refused for. The text isn't told with it, but for the front that is shown of one that is too long.
+#[derive(Clone, Copy)]
+pub(super) enum Refusal<'a> {
+    /// The text is empty.
+    Empty,
+    /// A path is wanted and there is none.
+    MissingPath { kind: UrlKind },
+    /// The text is not UTF-8.
+    NotUtf8 { kind: UrlKind },
+    /// The scheme or the authority is too long.
+    TooLong { shown: &'a [u8] },
+    /// The text is no URL, or the host of the scp form is none.
+    BadUrl { kind: UrlKind, fault: UrlFault },
+}
