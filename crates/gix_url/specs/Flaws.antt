@@ -7,6 +7,8 @@ use Rattle.gix_url.specs.declared.error.UrlKind.TheVariants as kind
 use Rattle.gix_url.specs.declared.error.UrlFault.{UrlFault}
 use Rattle.gix_url.specs.declared.error.UrlFault.TheVariants as fault
 use Rattle.gix_url.specs.declared.error.Error.{Error}
+use Rattle.gix_url.specs.declared.parse_error.Refusal.{Refusal}
+use Rattle.gix_url.specs.declared.parse_error.Refusal.TheVariants as refusal
 use Rattle.gix_url.specs.declared.error.Error.TheVariants as error
 use Rattle.gix_url.specs.Bytes.{slash, colon, at_sign, left_bracket, backslash, right_bracket, Lacks, FreeOf, begins_with, Holds, LacksWhiteSpace, is_scheme_text, is_path_start, StartsPath}
 use Rattle.gix_url.specs.Escapes.{is_sound, escaped_percents}
@@ -213,6 +215,14 @@ abbrev pub KindFlaw : List ℕ → UrlKind → UrlFault → Type 0
 KindFlaw b kind.Url named = UrlFlaw b named
 KindFlaw b kind.Scp named = ScpFlaw b named
 KindFlaw b kind.Local named = ⊥
+
+-- the flaw that the refusal names stands in the bytes
+abbrev pub NamesFlaw : List ℕ → Refusal → Type 0
+NamesFlaw b refusal.EmptyLocal = b ≡ []
+NamesFlaw b (refusal.MissingPath kind) = MissesPath b kind
+NamesFlaw b (refusal.NotUtf8 kind) = ¬ IsUtf8 b × HasShape b kind
+NamesFlaw b (refusal.TooLong shown total) = IsTooLong b shown.now total
+NamesFlaw b (refusal.BadUrl kind fault) = KindFlaw b kind fault
 
 -- the flaw that the error names stands in the bytes, and the error holds what it tells of them
 abbrev pub Flaw : List ℕ → Error → Type 0

@@ -1,5 +1,5 @@
--- What is found in a text before anything is copied: the location that the slices mean, and the flaw that a refusal names.
-use Rattle.std.specs.Prelude.{◌≡◌, ℕ, true, false, ◌==◌, List, [], ◌∷◌, length, Option, Some, None, option_map, IfSome, IsUtf8, if◌then◌else◌}
+-- What is found in a text before anything is copied: the location that the slices mean, and the room that it takes.
+use Rattle.std.specs.Prelude.{◌≡◌, ℕ, ◌+◌, true, false, ◌==◌, List, [], ◌∷◌, length, Option, Some, None, option_map, IfSome, IsUtf8, if◌then◌else◌}
 use Rattle.std.specs.Option.{option_copied, unwrap_or}
 use Rattle.std.specs.List.{list_any}
 use Rattle.percent_encoding.specs.Percent.{percent_decode}
@@ -7,8 +7,6 @@ use Rattle.gix_url.specs.declared.parse.found.Found.{Found}
 use Rattle.gix_url.specs.declared.parse.found.Found.TheVariants as found
 use Rattle.gix_url.specs.declared.parse.found.ScpHost.{ScpHost}
 use Rattle.gix_url.specs.declared.parse.found.ScpHost.TheVariants as host
-use Rattle.gix_url.specs.declared.parse.found.Refusal.{Refusal}
-use Rattle.gix_url.specs.declared.parse.found.Refusal.TheVariants as refusal
 use Rattle.gix_url.specs.declared.parse.rules.Rules.{Rules}
 use Rattle.gix_url.specs.declared.parse.simple_url.ParsedUrl.{ParsedUrl}
 use Rattle.gix_url.specs.Value.{Protocol, Location, path_alone}
@@ -21,7 +19,6 @@ use Rattle.gix_url.specs.HostPieces.{lowercase_address}
 use Rattle.gix_url.specs.UrlPieces.{AreTexts, parts_of}
 use Rattle.gix_url.specs.Authority.{unless_empty}
 use Rattle.gix_url.specs.Grammar.{UrlParts, helper_protocol, path_for, retained_spelling, scp_location}
-use Rattle.gix_url.specs.Flaws.{MissesPath, HasShape, IsTooLong, KindFlaw}
 
 -- ---- the host that Secure Shell takes
 
@@ -111,12 +108,21 @@ IsReady (found.Ext text) = Unit {0}
 IsReady (found.Url rules url) = IsReadyUrl rules url
 IsReady (found.Scp user host path) = AreScpTexts (option_copied user) (scp_host_of host)
 
--- ---- what is refused
+-- ---- the room that a location takes which borrows what was found
 
--- the flaw that the refusal names stands in the bytes
-abbrev pub NamesFlaw : List ℕ → Refusal → Type 0
-NamesFlaw b refusal.Empty = b ≡ []
-NamesFlaw b (refusal.MissingPath kind) = MissesPath b kind
-NamesFlaw b (refusal.NotUtf8 kind) = ¬ IsUtf8 b × HasShape b kind
-NamesFlaw b (refusal.TooLong shown) = IsTooLong b shown.now (length b)
-NamesFlaw b (refusal.BadUrl kind fault) = KindFlaw b kind fault
+-- the length of a text that may be missing
+abbrev pub optional_length : Option (List ℕ) → ℕ
+optional_length None = 0
+optional_length (Some text) = length text
+
+-- the length of the parts of a URL that are decoded
+abbrev pub parts_length : UrlParts → ℕ
+parts_length parts = optional_length parts.user + optional_length parts.password
+    + optional_length parts.host
+    + length (percent_decode parts.path)
+
+-- room for so many bytes is enough for what has other bytes than the text: parts of a URL, and the host of the scp form
+abbrev pub room_for : Found → ℕ
+room_for (found.Url rules url) = parts_length (parts_of url)
+room_for (found.Scp user host path) = length (scp_slice host)
+room_for _ = 0

@@ -1,10 +1,12 @@
 -- What a call answers: words for results that name the errors of the code.
-use Rattle.std.specs.Prelude.{◌≡◌, ◌⊎◌, ℕ, List, [], Option, Result, Ok, Err, IfOk, IfErr}
+use Rattle.std.specs.Prelude.{◌≡◌, ◌<◌, ◌≤◌, ◌⊎◌, ◌↔◌, ℕ, length, List, [], Option, Result, Ok, Err, IfOk, IfErr}
 use Rattle.std.specs.Io.KnownBytes.{Appends}
 use Rattle.bstr.specs.declared.bstring.BString.{BString}
 use Rattle.bstr.specs.Owned.{bstring_bytes}
 use Rattle.gix_url.specs.declared.error.Error.{Error}
 use Rattle.gix_url.specs.declared.error.Error.TheVariants as error
+use Rattle.gix_url.specs.declared.parse_error.ParseError.{ParseError}
+use Rattle.gix_url.specs.declared.parse_error.ParseError.TheVariants as unread
 use Rattle.gix_url.specs.declared.error.WriteFault.{WriteFault}
 use Rattle.gix_url.specs.declared.error.WriteError.{WriteError}
 use Rattle.gix_url.specs.declared.error.WriteError.TheVariants.{Fault, Io}
@@ -12,7 +14,7 @@ use Rattle.gix_url.specs.Value.{Location, fields}
 use Rattle.gix_url.specs.Grammar.{Spells}
 use Rattle.gix_url.specs.Text.{text}
 use Rattle.gix_url.specs.Settled.{IsSettled}
-use Rattle.gix_url.specs.Flaws.{Flaw}
+use Rattle.gix_url.specs.Flaws.{Flaw, NamesFlaw}
 
 -- memory ran out, or no value fits
 abbrev pub NoneBut : (Location → Type 0) → Error → Type 0
@@ -34,6 +36,21 @@ pub record Reads (b : List ℕ) (result : Result Location Error) : Type 0 where
   pub empty : b ≡ [] → result ≡ Err error.EmptyLocal
   -- where they spell a location it is answered, unless memory ran out
   pub answered : (v : Location) → Spells b v → (result ≡ Ok v) ⊎ (result ≡ Err error.Memory)
+
+-- the bytes spell a location, and the room is shorter than they are; or they spell none, and the flaw that the refusal
+-- names stands in them
+abbrev pub RefusesIn : List ℕ → ℕ → ParseError → Type 0
+RefusesIn b room unread.NoRoom = ((v : Location) × Spells b v) × (room < length b)
+RefusesIn b room (unread.Refused refusal) = ((v : Location) → ¬ Spells b v) × NamesFlaw b refusal
+
+-- what reading the bytes answers where there is room for so many: no premise speaks of memory
+pub record ReadsIn (b : List ℕ) (room : ℕ) (result : Result Location ParseError) : Type 0 where
+  -- a location that they spell
+  pub found : IfOk result (Spells b)
+  -- or an error, and then they spell none, or the room is shorter than they are
+  pub refused : IfErr result (RefusesIn b room)
+  -- where there is room for as many bytes, it is answered exactly where they spell it
+  pub exact : length b ≤ room → (v : Location) → (result ≡ Ok v) ↔ Spells b v
 
 -- the location has the public fields and the text of the other, and is settled
 pub record IsAgain (v again : Location) : Type 0 where

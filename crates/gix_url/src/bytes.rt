@@ -4,7 +4,7 @@
 //! answers is told as a concatenation: the pieces joined are the text, and one of them is free of what was
 //! searched for, so that no caller sees an index.
 
-ghost use Rattle.std.specs.Prelude.{◌≡◌, ◌↔◌, ◌+◌, ◌≤◌, ◌++◌, IsTrue, length, vec_capacity, vec_len};
+ghost use Rattle.std.specs.Prelude.{◌≡◌, ◌↔◌, ◌+◌, ◌≤◌, ◌++◌, IsTrue, length, take, vec_capacity, vec_len};
 ghost use Rattle.std.specs.List.{list_all};
 ghost use Rattle.memchr.specs.Find.{IsFirstByte};
 ghost use Rattle.gix_url.specs.Bytes.{FreeOf, IsLowercase, Lacks, StartsPath, begins_with, is_helper_name, is_name_byte, is_path_start, is_scheme_text};
@@ -155,4 +155,14 @@ pub(crate) fn append_within(out: &mut Vec<u8>, bytes: &[u8])
     let appended = out.extend_from_slice(bytes);
     prove!(appended.is_ok());
     let _ = appended;
+}
+
+/// Copies the bytes into the front of the room, and returns how many they are.
+pub(crate) fn copy_into(room: &mut [u8], bytes: &[u8]) -> usize
+    requires { length bytes.now ≤ length room.old }
+    ensures size { result ≡ length bytes.now }
+    ensures bytes { take result room.new ≡ bytes.now }
+{
+    room[..bytes.len()].copy_from_slice(bytes);
+    bytes.len()
 }

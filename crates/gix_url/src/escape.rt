@@ -204,6 +204,20 @@ pub(crate) fn decoded(alloc: Global, text: &[u8]) -> Result<Vec<u8>, AllocError>
     Ok(bytes)
 }
 
+/// Writes what the text decodes to into the front of the room, and returns its length.
+pub(crate) fn decode_into(room: &mut [u8], text: &[u8]) -> usize
+    requires { length (percent.percent_decode text.now) ≤ length room.old }
+    ensures size { result ≡ length (percent.percent_decode text.now) }
+    ensures bytes { take result room.new ≡ percent.percent_decode text.now }
+{
+    let mut size = 0;
+    for byte in percent_decode(text) {
+        room[size] = byte;
+        size += 1;
+    }
+    size
+}
+
 /// The text that decodes to UTF-8, decoded.
 pub(crate) fn decoded_text(alloc: Global, text: &[u8]) -> Result<String, AllocError>
     requires { IsUtf8 (percent.percent_decode text.now) }

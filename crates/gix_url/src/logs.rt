@@ -15,6 +15,7 @@ ghost use Rattle.bstr.specs.Owned.{bstring_bytes};
 use crate::error::Error;
 use crate::impls::hidden_password;
 use crate::location::Url;
+use crate::parse_error::Refusal;
 use bstr::BString;
 use std::fmt;
 
@@ -72,6 +73,28 @@ impl fmt::Debug for Error {
             Error::NoHome(user) => f.debug_tuple("NoHome").field(user).finish(),
             Error::PathNotUtf8 => f.write_str("PathNotUtf8"),
             Error::Unresolved => f.write_str("Unresolved"),
+        }
+    }
+}
+
+impl fmt::Debug for Refusal<'_> {
+    /// Shows the fields, with the length of a front in place of its bytes.
+    fn fmt<W: fmt::Write>(&self, f: &mut fmt::Formatter<W>) -> fmt::Result {
+        match self {
+            Refusal::EmptyLocal => f.write_str("EmptyLocal"),
+            Refusal::MissingPath { kind } =>
+                f.debug_struct("MissingPath").field("kind", kind).finish(),
+            Refusal::NotUtf8 { kind } => f.debug_struct("NotUtf8").field("kind", kind).finish(),
+            Refusal::TooLong { shown, total } => f
+                .debug_struct("TooLong")
+                .field("shown", &Length(shown.len()))
+                .field("total", total)
+                .finish(),
+            Refusal::BadUrl { kind, fault } => f
+                .debug_struct("BadUrl")
+                .field("kind", kind)
+                .field("fault", fault)
+                .finish(),
         }
     }
 }

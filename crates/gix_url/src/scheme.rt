@@ -177,6 +177,21 @@ impl Scheme {
 }
 
 impl<'a> SchemeRef<'a> {
+    /// The scheme with this text, which names this protocol.
+    pub(crate) fn of_protocol(named: Protocol, text: &'a str) -> SchemeRef<'a>
+        ensures { lent_protocol result ≡ named_protocol named text.now }
+    {
+        match named {
+            Protocol::File => SchemeRef::File,
+            Protocol::Git => SchemeRef::Git,
+            Protocol::Ssh => SchemeRef::Ssh,
+            Protocol::Http => SchemeRef::Http,
+            Protocol::Https => SchemeRef::Https,
+            Protocol::Ext => SchemeRef::Ext,
+            Protocol::Other => SchemeRef::HelperUrl(text),
+        }
+    }
+
     /// The text that the scheme is written with, as [`Scheme::as_str`] has it. It takes no memory.
     ///
     /// ```

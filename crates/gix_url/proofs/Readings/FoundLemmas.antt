@@ -1,6 +1,6 @@
 -- What is found in a text: the host that Secure Shell takes, and the location that the parts of a URL mean.
 use Rattle.std.proofs.Common.{◌≡◌, ℕ, ◌<◌, ◌==◌, true, false, inl, inr, List, [], ◌∷◌, ◌++◌, length, Option, Some, None, refl, sym, ap, subst, ◌∙◌, append_assoc, eq-eqb}
-use Rattle.std.specs.Prelude.{MatchOption, option_map}
+use Rattle.std.specs.Prelude.{IfSome, IsUtf8, MatchOption, option_map}
 use Rattle.std.specs.Option.{unwrap_or}
 use Rattle.std.specs.List.{list_any}
 use Rattle.std.proofs.lemmas.List.{same_from_push}
@@ -12,7 +12,7 @@ use Rattle.gix_url.specs.Schemes.{protocol_of, requires_path}
 use Rattle.gix_url.specs.Grammar.{UrlParts, SpellsParts, SpellsUrl, Peels, HostFor, MeansByProtocol}
 use Rattle.gix_url.specs.FoundPieces.{front_of, colon_dropped, peeled, host_for, url_location}
 use Rattle.gix_url.proofs.Texts.CutLemmas.{heads, tails, different_bytes}
-use Rattle.gix_url.proofs.Readings.UrlLocationLemmas.{spelled_url}
+use Rattle.gix_url.proofs.Readings.UrlLocationLemmas.{peels_utf8, spelled_url}
 
 -- ---- fronts
 
@@ -118,6 +118,18 @@ hosted https named = refl
 hosted ext named = refl
 hosted (helper name) named = refl
 hosted (helper_url name) named = refl
+
+-- which is text where that is
+pub host_utf8 : (protocol : Protocol) (named : Option (List ℕ)) → IfSome named IsUtf8 → IfSome (host_for protocol named) IsUtf8
+host_utf8 ssh None h = tt
+host_utf8 ssh (Some named) h = peels_utf8 (peels named) h
+host_utf8 file named h = h
+host_utf8 git named h = h
+host_utf8 http named h = h
+host_utf8 https named h = h
+host_utf8 ext named h = h
+host_utf8 (helper name) named h = h
+host_utf8 (helper_url name) named h = h
 
 -- ---- the location of a URL
 

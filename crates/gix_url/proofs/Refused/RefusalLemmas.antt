@@ -10,8 +10,8 @@ use Rattle.gix_url.specs.declared.error.UrlKind.TheVariants as kind
 use Rattle.gix_url.specs.declared.error.UrlFault.{UrlFault}
 use Rattle.gix_url.specs.declared.error.Error.{Error}
 use Rattle.gix_url.specs.declared.error.Error.TheVariants as error
-use Rattle.gix_url.specs.declared.parse.found.Refusal.{Refusal}
-use Rattle.gix_url.specs.declared.parse.found.Refusal.TheVariants as refusal
+use Rattle.gix_url.specs.declared.parse_error.Refusal.{Refusal}
+use Rattle.gix_url.specs.declared.parse_error.Refusal.TheVariants as refusal
 use Rattle.gix_url.specs.Value.{Location}
 use Rattle.gix_url.specs.Bytes.{slash, colon, at_sign, backslash, right_bracket, FreeOf, StartsPath}
 use Rattle.gix_url.specs.Escapes.{escaped_percents}
@@ -19,9 +19,8 @@ use Rattle.gix_url.specs.Hosts.{Mode, Names}
 use Rattle.gix_url.specs.Hosts.Mode.{bare}
 use Rattle.gix_url.specs.Schemes.{is_web_scheme, protocol_of, mode_of, requires_host, requires_path}
 use Rattle.gix_url.specs.Grammar.{IsNeither, ScpShape, AddressedShape, IsScpShaped, ScpHost, SpellsUrl, Spells}
-use Rattle.gix_url.specs.Flaws.{IsTooLong, MissesPath, HasShape, UrlShape, OtherShape, UrlCut, NameFlaw, PieceOf, HasBadUser, AuthorityFlaw, UrlFlaw, ScpHostFlaw, ScpFlaw, KindFlaw, Flaw}
+use Rattle.gix_url.specs.Flaws.{IsTooLong, MissesPath, HasShape, UrlShape, OtherShape, UrlCut, NameFlaw, PieceOf, HasBadUser, AuthorityFlaw, UrlFlaw, ScpHostFlaw, ScpFlaw, KindFlaw, Flaw, NamesFlaw}
 use Rattle.gix_url.specs.UrlPieces.{HasNoText, IsNoAuthority}
-use Rattle.gix_url.specs.FoundPieces.{NamesFlaw}
 use Rattle.gix_url.specs.Refusals.{HasFlaw, Exclusive, Flawless}
 use Rattle.gix_url.proofs.Texts.CutLemmas.{not_free}
 use Rattle.gix_url.proofs.Readings.HostLemmas.{flawed_unnamed}
@@ -201,10 +200,10 @@ exclusive b e v other h = flawed_unspelled b v (named_flaw b e other h)
 
 -- each refusal names a flaw
 refusal_flaw : (b : List ℕ) (r : Refusal) → NamesFlaw b r → HasFlaw b
-refusal_flaw b refusal.Empty h = HasFlaw.empty h
+refusal_flaw b refusal.EmptyLocal h = HasFlaw.empty h
 refusal_flaw b (refusal.MissingPath k) h = HasFlaw.no_path k h
 refusal_flaw b (refusal.NotUtf8 k) h = HasFlaw.no_text k h.0 h.1
-refusal_flaw b (refusal.TooLong shown) h = HasFlaw.too_long shown.now (length b) h
+refusal_flaw b (refusal.TooLong shown total) h = HasFlaw.too_long shown.now total h
 refusal_flaw b (refusal.BadUrl k named) h = HasFlaw.bad_url k named h
 
 -- so bytes that are refused spell no location

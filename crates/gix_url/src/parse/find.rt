@@ -4,26 +4,29 @@
 //! definitions spell with the bytes, a refusal comes only where they spell none, and the flaw that it names stands in
 //! them. It takes no memory and copies nothing.
 
-ghost use Rattle.std.specs.Prelude.{◌≡◌, [], Err, IfErr, IfOk};
-ghost use Rattle.gix_url.specs.FoundPieces.{IsReady, NamesFlaw, meant};
+ghost use Rattle.std.specs.Prelude.{◌≡◌, ◌≤◌, [], Err, IfErr, IfOk, length};
+ghost use Rattle.gix_url.specs.Flaws.{NamesFlaw};
+ghost use Rattle.gix_url.specs.FoundPieces.{IsReady, meant, room_for};
 ghost use Rattle.gix_url.specs.Grammar.{Spells};
 ghost use Rattle.gix_url.specs.Value.{Location};
 
 use super::classify::{Shape, classify};
-use super::found::{Found, Refusal};
+use super::found::Found;
 use super::scp::{find_addressed, find_scp};
 use super::url::find_url;
+use crate::parse_error::Refusal;
 
 /// The slices of the one location that the bytes spell.
 pub(super) fn find(bytes: &[u8]) -> Result<Found<'_>, Refusal<'_>>
     ensures found { IfOk result (λ found. Spells bytes.now (meant found)) }
     ensures ready { IfOk result (λ found. IsReady found) }
+    ensures room { IfOk result (λ found. room_for found ≤ length bytes.now) }
     ensures refused { IfErr result (λ refusal. (v : Location) → ¬ Spells bytes.now v) }
     ensures flaw { IfErr result (λ refusal. NamesFlaw bytes.now refusal) }
-    ensures empty { bytes.now ≡ [] → result ≡ Err Refusal.Empty }
+    ensures empty { bytes.now ≡ [] → result ≡ Err Refusal.EmptyLocal }
 {
     match classify(bytes) {
-        Shape::Empty => Err(Refusal::Empty),
+        Shape::Empty => Err(Refusal::EmptyLocal),
         Shape::Helper { name, address } => Ok(Found::Helper { name, address }),
         Shape::Url { scheme, rest } => find_url(bytes, scheme, rest),
         Shape::Addressed {

@@ -1,12 +1,11 @@
-//! What is found in a text: the slices that a location is made of, or what the text is refused for.
+//! What is found in a text: the slices that a location is made of.
 //!
-//! It may use `rules`, `simple_url` and the errors. These are values without a copy of any byte, which `find` makes, and
-//! of which `build` and `refusal` make what owns its bytes. The definitions in `specs/FoundPieces` say which location
-//! they mean and which flaw they name.
+//! It may use `rules` and `simple_url`. These are values without a copy of any byte, which `find` makes. Of them `build`
+//! makes a location that owns its bytes, and `lend` one that borrows them. The definitions in `specs/FoundPieces` say
+//! which location they mean.
 
 use super::rules::Rules;
 use super::simple_url::ParsedUrl;
-use crate::error::{UrlFault, UrlKind};
 
 /// The slices that a location is made of, by its form.
 #[derive(Clone, Copy)]
@@ -51,19 +50,4 @@ pub(super) enum ScpHost<'a> {
     Name(&'a [u8]),
     /// Any other text that stood between brackets: it stays as it is.
     Inner(&'a [u8]),
-}
-
-/// What a text is refused for. The text isn't told with it, but for the front that is shown of one that is too long.
-#[derive(Clone, Copy)]
-pub(super) enum Refusal<'a> {
-    /// The text is empty.
-    Empty,
-    /// A path is wanted and there is none.
-    MissingPath { kind: UrlKind },
-    /// The text is not UTF-8.
-    NotUtf8 { kind: UrlKind },
-    /// The scheme or the authority is too long.
-    TooLong { shown: &'a [u8] },
-    /// The text is no URL, or the host of the scp form is none.
-    BadUrl { kind: UrlKind, fault: UrlFault },
 }

@@ -19,6 +19,38 @@ pub(super) fn peeled(host: String) -> String
     into_text(peeled_bytes(host.into_bytes()))
 }
 
+/// The same of a text that is lent, as a slice of it.
+pub(super) fn peeled_text(host: &[u8]) -> &[u8]
+    ensures { result.now ≡ peeled host.now }
+{
+    if starts_with_byte(host, b'[') {
+        return unbracketed(host);
+    }
+    uncoloned(host)
+}
+
+/// The host without brackets around it and a colon behind them.
+fn unbracketed(host: &[u8]) -> &[u8]
+    requires { begins_with left_bracket host.now ≡ true }
+    ensures { Peels host.now result.now }
+{
+    match in_brackets(host) {
+        Some(inside) => inside,
+        None => host,
+    }
+}
+
+/// The host without a colon at its end, where it holds no other.
+fn uncoloned(host: &[u8]) -> &[u8]
+    requires { begins_with left_bracket host.now ≡ false }
+    ensures { Peels host.now result.now }
+{
+    match before(host, b':') {
+        Some(front) if is_free_of(front, b':') => front,
+        _ => host,
+    }
+}
+
 /// The same of its bytes, in place.
 fn peeled_bytes(host: Vec<u8>) -> Vec<u8>
     ensures { Peels host.items result.items }

@@ -1,22 +1,21 @@
 //! The errors of reading: the one place where a refusal becomes an error, which keeps a copy of the text.
 //!
-//! It uses `found`, `copies` and the errors. Its contract: the flaw that the refusal names is the one that the error
+//! It uses `copies` and the errors. Its contract: the flaw that the refusal names is the one that the error
 //! tells. It asks for memory once, for the copy, and where that is refused the error is `Memory`.
 
 ghost use Rattle.std.specs.Prelude.{◌≡◌, IfOk, Ok};
-ghost use Rattle.gix_url.specs.Flaws.{Flaw};
-ghost use Rattle.gix_url.specs.FoundPieces.{NamesFlaw};
+ghost use Rattle.gix_url.specs.Flaws.{Flaw, NamesFlaw};
 
 use super::copies::copied;
-use super::found::Refusal;
 use crate::error::Error;
+use crate::parse_error::Refusal;
 use std::alloc::{AllocError, Global};
 
 /// The error of a text that is refused.
 pub(super) fn error_of(alloc: Global, input: &[u8], refusal: Refusal<'_>) -> Error
     requires { NamesFlaw input.now refusal }
     ensures flaw { Flaw input.now result }
-    ensures empty { refusal.entry ≡ Refusal.Empty → result ≡ Error.EmptyLocal }
+    ensures empty { refusal.entry ≡ Refusal.EmptyLocal → result ≡ Error.EmptyLocal }
 {
     match told(alloc, input, refusal) {
         Ok(error) => error,
@@ -28,10 +27,10 @@ pub(super) fn error_of(alloc: Global, input: &[u8], refusal: Refusal<'_>) -> Err
 fn told(alloc: Global, input: &[u8], refusal: Refusal<'_>) -> Result<Error, AllocError>
     requires { NamesFlaw input.now refusal }
     ensures flaw { IfOk result (λ error. Flaw input.now error) }
-    ensures empty { refusal.entry ≡ Refusal.Empty → result ≡ Ok Error.EmptyLocal }
+    ensures empty { refusal.entry ≡ Refusal.EmptyLocal → result ≡ Ok Error.EmptyLocal }
 {
     Ok(match refusal {
-        Refusal::Empty => Error::EmptyLocal,
+        Refusal::EmptyLocal => Error::EmptyLocal,
         Refusal::MissingPath { kind } => Error::MissingPath {
             kind,
             input: copied(alloc, input)?,
@@ -40,9 +39,9 @@ fn told(alloc: Global, input: &[u8], refusal: Refusal<'_>) -> Result<Error, Allo
             kind,
             input: copied(alloc, input)?,
         },
-        Refusal::TooLong { shown } => Error::TooLong {
+        Refusal::TooLong { shown, total } => Error::TooLong {
             shown: copied(alloc, shown)?,
-            total: input.len(),
+            total,
         },
         Refusal::BadUrl { kind, fault } => Error::BadUrl {
             kind,

@@ -4,22 +4,24 @@
 //! are found exactly where the definitions spell one, and each refusal has its flaw. It takes no memory. An escape in
 //! the host is no escape: a `%` in it stands for itself.
 
-ghost use Rattle.std.specs.Prelude.{◌≡◌, ◌↔◌, ◌∷◌, IfErr, IfOk, IsTrue, IsUtf8, false, length, ◌<◌, true};
+ghost use Rattle.std.specs.Prelude.{◌≡◌, ◌↔◌, ◌∷◌, IfErr, IfOk, IsTrue, IsUtf8, false, length, ◌+◌, ◌<◌, ◌≤◌, true};
 ghost use Rattle.gix_url.specs.Addresses.{IsZone};
 ghost use Rattle.gix_url.specs.Bytes.{FreeOf, LacksWhiteSpace, at_sign, begins_with, left_bracket};
 ghost use Rattle.gix_url.specs.Escapes as spec;
-ghost use Rattle.gix_url.specs.FoundPieces.{IsReady, NamesFlaw, meant, scp_host_of};
+ghost use Rattle.gix_url.specs.Flaws.{NamesFlaw};
+ghost use Rattle.gix_url.specs.FoundPieces.{IsReady, meant, room_for, scp_slice};
 ghost use Rattle.gix_url.specs.Grammar.{AddressedShape, SpellsScpAddressed, SpellsScpBefore};
 ghost use Rattle.gix_url.specs.Hosts.{IsLiteral};
 ghost use Rattle.gix_url.specs.Shapes.{PlainScp};
 ghost use Rattle.gix_url.specs.ScpPieces.{ColonsInside, CutsUser, ReadsScpHost, ReadsScpPiece};
 
-use super::found::{Found, Refusal, ScpHost};
+use super::found::{Found, ScpHost};
 use super::host::bytes::are_zone_bytes;
 use crate::bytes::{after, cut, is_free_of, last_cut};
 use crate::error::{UrlFault, UrlKind};
 use crate::escape::lacks_white_space;
 use crate::ipv6::is_address;
+use crate::parse_error::Refusal;
 use crate::text::{as_text, is_plain, is_text};
 
 /// Finds the slices of the scp form: a host, perhaps behind a user, a colon and a path.
@@ -31,6 +33,7 @@ pub(super) fn find_scp<'a>(
     requires { PlainScp input.now front.now path.now }
     ensures found { IfOk result (λ found. SpellsScpBefore input.now (meant found)) }
     ensures ready { IfOk result (λ found. IsReady found) }
+    ensures room { IfOk result (λ found. room_for found ≤ length input.now) }
     ensures flaw { IfErr result (λ refusal. NamesFlaw input.now refusal) }
 {
     let plain = is_plain(input);
@@ -68,6 +71,7 @@ pub(super) fn find_addressed<'a>(
     requires { AddressedShape input.now user.now address.now path.now }
     ensures found { IfOk result (λ found. SpellsScpAddressed input.now (meant found)) }
     ensures ready { IfOk result (λ found. IsReady found) }
+    ensures room { IfOk result (λ found. room_for found ≤ length input.now) }
     ensures flaw { IfErr result (λ refusal. NamesFlaw input.now refusal) }
 {
     if !is_text(input) {
@@ -99,7 +103,8 @@ fn find_host(plain: bool, host: &[u8]) -> Result<ScpHost<'_>, UrlFault>
     requires text { IsUtf8 host.now }
     requires no_at { FreeOf at_sign host.now }
     requires colons { ColonsInside host.now }
-    ensures { ReadsScpHost host.now result }
+    ensures read { ReadsScpHost host.now result }
+    ensures within { IfOk result (λ found. length (scp_slice found) ≤ length host.now) }
 {
     if !has_no_white_space(plain, host) {
         return Err(UrlFault::BadCharacter);
@@ -132,7 +137,8 @@ fn find_name(host: &[u8]) -> Result<ScpHost<'_>, UrlFault>
     requires open_front { begins_with left_bracket host.now ≡ false }
     requires text { IsUtf8 host.now }
     requires colons { ColonsInside host.now }
-    ensures { ReadsScpPiece host.now result }
+    ensures read { ReadsScpPiece host.now result }
+    ensures within { IfOk result (λ found. length (scp_slice found) ≤ length host.now) }
 {
     let Some((front, behind)) = cut(host, b':') else {
         return Ok(ScpHost::Name(host));
@@ -147,7 +153,8 @@ fn find_name(host: &[u8]) -> Result<ScpHost<'_>, UrlFault>
 fn find_in_brackets(behind: &[u8]) -> Result<ScpHost<'_>, UrlFault>
     requires text { IsUtf8 (left_bracket ∷ behind.now) }
     requires colons { ColonsInside (left_bracket ∷ behind.now) }
-    ensures { ReadsScpPiece (left_bracket ∷ behind.now) result }
+    ensures read { ReadsScpPiece (left_bracket ∷ behind.now) result }
+    ensures within { IfOk result (λ found. length (scp_slice found) ≤ length behind.now) }
 {
     let Some((inner, rest)) = cut(behind, b']') else {
         return Err(UrlFault::BadCharacter);

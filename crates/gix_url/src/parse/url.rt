@@ -4,21 +4,22 @@
 //! location are found exactly where the definitions spell one, and each refusal has its flaw. It takes no memory. The
 //! scheme is looked at once, here, and what it says of the rest is handed on.
 
-ghost use Rattle.std.specs.Prelude.{◌≡◌, ◌+◌, ◌<◌, ◌↔◌, IfErr, IfOk, IsTrue, codes, length, take, true};
+ghost use Rattle.std.specs.Prelude.{◌≡◌, ◌+◌, ◌<◌, ◌≤◌, ◌↔◌, IfErr, IfOk, IsTrue, codes, length, take, true};
 ghost use Rattle.gix_url.specs.Authority.{Fits};
 ghost use Rattle.gix_url.specs.Escapes.{is_plain};
-ghost use Rattle.gix_url.specs.Flaws.{OtherShape, UrlShape};
-ghost use Rattle.gix_url.specs.FoundPieces.{IsReady, NamesFlaw, meant};
+ghost use Rattle.gix_url.specs.Flaws.{NamesFlaw, OtherShape, UrlShape};
+ghost use Rattle.gix_url.specs.FoundPieces.{IsReady, meant, room_for};
 ghost use Rattle.gix_url.specs.Grammar.{Spells, SpellsFile, SpellsParts, SpellsUrl};
 ghost use Rattle.gix_url.specs.SchemeRules.{AreRulesOf};
 ghost use Rattle.gix_url.specs.UrlPieces.{parts_of};
 
-use super::found::{Found, Refusal};
+use super::found::Found;
 use super::length::fits;
 use super::rules::{Rules, rules_of};
 use super::simple_url::{ParsedUrl, read_simple_url};
 use crate::bytes::cut;
 use crate::error::UrlKind;
+use crate::parse_error::Refusal;
 use crate::scheme::Protocol;
 use crate::text::{as_text, is_plain, is_text};
 
@@ -31,6 +32,7 @@ pub(super) fn find_url<'a>(
     requires { UrlShape input.now scheme.now rest.now }
     ensures found { IfOk result (λ found. Spells input.now (meant found)) }
     ensures ready { IfOk result (λ found. IsReady found) }
+    ensures room { IfOk result (λ found. room_for found ≤ length input.now) }
     ensures flaw { IfErr result (λ refusal. NamesFlaw input.now refusal) }
 {
     let rules = rules_of(scheme);
@@ -60,6 +62,7 @@ fn find_file<'a>(input: &'a [u8], rest: &'a [u8]) -> Result<Found<'a>, Refusal<'
     requires { UrlShape input.now (codes "file") rest.now }
     ensures found { IfOk result (λ found. SpellsFile input.now (meant found)) }
     ensures ready { IfOk result (λ found. IsReady found) }
+    ensures room { IfOk result (λ found. room_for found ≤ length input.now) }
     ensures flaw { IfErr result (λ refusal. NamesFlaw input.now refusal) }
 {
     if !is_text(input) {
@@ -85,11 +88,13 @@ fn find_other<'a>(
     requires rules { AreRulesOf scheme.now rules }
     ensures found { IfOk result (λ found. SpellsUrl input.now (meant found)) }
     ensures ready { IfOk result (λ found. IsReady found) }
+    ensures room { IfOk result (λ found. room_for found ≤ length input.now) }
     ensures flaw { IfErr result (λ refusal. NamesFlaw input.now refusal) }
 {
     if !fits(rules.web, scheme, rest) {
         return Err(Refusal::TooLong {
             shown: shown_front(input, scheme),
+            total: input.len(),
         });
     }
     if is_plain(input) {
@@ -127,6 +132,7 @@ fn find_parts<'a>(
     requires fits { Fits scheme.now rest.now }
     ensures found { IfOk result (λ found. SpellsUrl text.now (meant found)) }
     ensures ready { IfOk result (λ found. IsReady found) }
+    ensures room { IfOk result (λ found. room_for found ≤ length text.now) }
     ensures flaw { IfErr result (λ refusal. NamesFlaw text.now refusal) }
 {
     match read_simple_url(text, plain, rules, scheme, rest) {
@@ -144,6 +150,7 @@ fn located<'a>(input: &'a [u8], rules: Rules, url: ParsedUrl<'a>) -> Result<Foun
     requires rules { AreRulesOf url.scheme.now rules }
     ensures found { IfOk result (λ found. SpellsUrl input.now (meant found)) }
     ensures ready { IfOk result (λ found. IsReady found) }
+    ensures room { IfOk result (λ found. room_for found ≤ length input.now) }
     ensures flaw { IfErr result (λ refusal. NamesFlaw input.now refusal) }
 {
     if is_ext(rules.protocol) {

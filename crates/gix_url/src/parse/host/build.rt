@@ -1,20 +1,18 @@
 //! The text of a host, made of the slices that were read of it.
 //!
-//! It may use `bytes`, `escape` and `text`. Its contract: the text is the host that the slices stand for. It asks for
-//! memory once, for the whole text.
+//! It may use `bytes`, `escape` and `text`. Its contract: the text is the host that the slices stand for. It is written
+//! into a room that the caller has, or into memory of its own, which is asked for once.
 
-ghost use Rattle.std.specs.Prelude.{◌≡◌, ◌+◌, ◌≤◌, ◌++◌, IfOk, IsUtf8, drop, length, string_bytes, take, vec_capacity, vec_len};
+ghost use Rattle.std.specs.Prelude.{◌≡◌, ◌+◌, ◌≤◌, ◌++◌, IfOk, IsUtf8, drop, length, string_bytes, take};
 ghost use Rattle.gix_url.specs.Bytes.{lowercase};
 ghost use Rattle.gix_url.specs.Hosts as spec;
 ghost use Rattle.gix_url.specs.HostPieces.{is_bracketed, lowercase_address, meant_host, named_text, normal_case, slice_text, unescaped_host};
-ghost use Rattle.percent_encoding.specs.Percent as percent;
 
 use super::bytes::looks_like_domain;
 use super::{HostPiece, NamedHost};
-use crate::bytes::{append_within, cut};
-use crate::escape::has_percent;
+use crate::bytes::{copy_into, cut};
+use crate::escape::decode_into;
 use crate::text::into_text;
-use percent_encoding::percent_decode;
 use std::alloc::{AllocError, Global};
 
 impl NamedHost<'_> {
@@ -23,12 +21,24 @@ impl NamedHost<'_> {
         requires { IsUtf8 (named_text self) }
         ensures { IfOk result (λ s. string_bytes s ≡ named_text self.entry) }
     {
-        let mut text = Vec::with_capacity(alloc, piece_bytes(self.piece).len() + 3)?;
-        append_piece(&mut text, self.piece);
-        if self.keeps_colon {
-            append_within(&mut text, b":");
-        }
+        let mut text = vec![in alloc; 0; piece_bytes(self.piece).len() + 3]?;
+        let size = self.write_into(&mut text);
+        text.truncate(size);
         Ok(into_text(text))
+    }
+
+    /// Writes the text of the host into the front of the room, and returns its length.
+    pub(crate) fn write_into(self, room: &mut [u8]) -> usize
+        requires { length (named_text self) ≤ length room.old }
+        ensures size { result ≡ length (named_text self.entry) }
+        ensures bytes { take result room.new ≡ named_text self.entry }
+    {
+        let size = write_piece(room, self.piece);
+        if !self.keeps_colon {
+            return size;
+        }
+        room[size] = b':';
+        size + 1
     }
 }
 
@@ -46,21 +56,20 @@ fn piece_bytes(piece: HostPiece<'_>) -> &[u8]
     }
 }
 
-/// Writes the host that a piece stands for into a buffer that has room for it.
-fn append_piece(out: &mut Vec<u8>, piece: HostPiece<'_>)
-    requires { vec_len out.old + length (slice_text piece) + 2 ≤ vec_capacity out.old }
-    ensures items { out.new.items ≡ out.old.items ++ meant_host piece.entry }
-    ensures capacity { vec_capacity out.old ≤ vec_capacity out.new }
-    ensures len { vec_len out.new ≤ vec_len out.old + length (slice_text piece.entry) + 2 }
+/// Writes the host that a piece stands for into the front of the room, and returns its length.
+fn write_piece(room: &mut [u8], piece: HostPiece<'_>) -> usize
+    requires { length (meant_host piece) ≤ length room.old }
+    ensures size { result ≡ length (meant_host piece.entry) }
+    ensures bytes { take result room.new ≡ meant_host piece.entry }
 {
-    let brackets = is_bracketed(piece);
-    if brackets {
-        append_within(out, b"[");
+    if !is_bracketed(piece) {
+        return write_shown(room, piece);
     }
-    append_shown(out, piece);
-    if brackets {
-        append_within(out, b"]");
-    }
+    let (front, behind) = room.split_at_mut(1);
+    front[0] = b'[';
+    let size = write_shown(behind, piece);
+    behind[size] = b']';
+    size + 2
 }
 
 /// Whether brackets stand around the host.
@@ -73,31 +82,28 @@ fn is_bracketed(piece: HostPiece<'_>) -> bool
     }
 }
 
-/// Writes what a piece shows, without its brackets.
-fn append_shown(out: &mut Vec<u8>, piece: HostPiece<'_>)
-    requires { vec_len out.old + length (slice_text piece) ≤ vec_capacity out.old }
-    ensures items { out.new.items ≡ out.old.items
-        ++ normal_case piece.entry (unescaped_host piece.entry) }
-    ensures capacity { vec_capacity out.old ≤ vec_capacity out.new }
-    ensures len { vec_len out.new ≤ vec_len out.old + length (slice_text piece.entry) }
+/// Writes what a piece shows, without its brackets, into the front of the room, and returns its length.
+fn write_shown(room: &mut [u8], piece: HostPiece<'_>) -> usize
+    requires { length (unescaped_host piece) ≤ length room.old }
+    ensures size { result ≡ length (unescaped_host piece.entry) }
+    ensures bytes { take result room.new ≡ normal_case piece.entry (unescaped_host piece.entry) }
 {
-    let start = out.len();
-    append_unescaped(out, piece);
-    settle(&mut out[start..], piece);
+    let size = write_unescaped(room, piece);
+    settle(&mut room[..size], piece);
+    size
 }
 
-/// Writes the text of a piece, decoded where it has to be.
-fn append_unescaped(out: &mut Vec<u8>, piece: HostPiece<'_>)
-    requires { vec_len out.old + length (slice_text piece) ≤ vec_capacity out.old }
-    ensures items { out.new.items ≡ out.old.items ++ unescaped_host piece.entry }
-    ensures capacity { vec_capacity out.old ≤ vec_capacity out.new }
-    ensures len { vec_len out.new ≤ vec_len out.old + length (slice_text piece.entry) }
+/// Writes the text of a piece, decoded where it has to be, into the front of the room, and returns its length.
+fn write_unescaped(room: &mut [u8], piece: HostPiece<'_>) -> usize
+    requires { length (unescaped_host piece) ≤ length room.old }
+    ensures size { result ≡ length (unescaped_host piece.entry) }
+    ensures bytes { take result room.new ≡ unescaped_host piece.entry }
 {
     match piece {
         HostPiece::Address(text) | HostPiece::Kept(text) | HostPiece::Literal(text) =>
-            append_within(out, text),
+            copy_into(room, text),
         HostPiece::Decoded(text) | HostPiece::DecodedLiteral(text) | HostPiece::Bracketed(text) =>
-            append_decoded(out, text),
+            decode_into(room, text),
     }
 }
 
@@ -139,21 +145,5 @@ fn address_len(literal: &[u8]) -> usize
     match cut(literal, b'%') {
         Some((address, _)) => address.len(),
         None => literal.len(),
-    }
-}
-
-/// Writes the decoding of a text into a buffer that has room for the text.
-fn append_decoded(out: &mut Vec<u8>, text: &[u8])
-    requires { vec_len out.old + length text.now ≤ vec_capacity out.old }
-    ensures items { out.new.items ≡ out.old.items ++ percent.percent_decode text.now }
-    ensures capacity { vec_capacity out.old ≤ vec_capacity out.new }
-    ensures len { vec_len out.new ≤ vec_len out.old + length text.now }
-{
-    if !has_percent(text) {
-        append_within(out, text);
-        return;
-    }
-    for byte in percent_decode(text) {
-        append_within(out, &[byte]);
     }
 }

@@ -1,15 +1,15 @@
 -- What is refused has a flaw, so it spells nothing; the name of a helper is text.
 use Rattle.std.proofs.lemmas.Result.{IfErr-weaker}
-use Rattle.gix_url.specs.FoundPieces.{NamesFlaw}
+use Rattle.gix_url.specs.Flaws.{NamesFlaw}
 use Rattle.gix_url.specs.Grammar.{Spells}
 use Rattle.gix_url.specs.Value.{Location}
-use Rattle.gix_url.specs.declared.parse.found.Refusal.TheVariants as refusal
+use Rattle.gix_url.specs.declared.parse_error.Refusal.TheVariants as refusal
 use Rattle.gix_url.proofs.Readings.ShapeLemmas.{helper_name_utf8}
 use Rattle.gix_url.proofs.Refused.RefusalLemmas.{refused_unspelled}
 use Rattle.gix_url.proofs.parse.find.find.Goals as goal
 
 pub returns-in-Empty-clause-refused : goal.returns-in-Empty-clause-refused
-returns-in-Empty-clause-refused c = refused_unspelled c.args.bytes.now refusal.Empty c.in-Empty.ensures
+returns-in-Empty-clause-refused c = refused_unspelled c.args.bytes.now refusal.EmptyLocal c.in-Empty.ensures
 
 pub returns-in-Helper-clause-ready : goal.returns-in-Helper-clause-ready
 returns-in-Helper-clause-ready c = helper_name_utf8 c.in-Helper.name.now c.in-Helper.ensures.named

@@ -7,6 +7,7 @@ use Rattle.gix_url.specs.Flaws.MissesPath.{behind_address}
 use Rattle.gix_url.proofs.Addresses.AddressLemmas.{address_utf8, address-lowercase}
 use Rattle.gix_url.proofs.Readings.HostLemmas.{literal_normal, some_tested}
 use Rattle.gix_url.proofs.Readings.ShapeLemmas.{nil_tested}
+use Rattle.gix_url.proofs.Readings.RoomLemmas.{address_within}
 use Rattle.gix_url.proofs.Readings.ScpLemmas.{addressed_user_utf8}
 use Rattle.gix_url.proofs.parse.scp.find_addressed.Goals as goal
 
@@ -31,3 +32,6 @@ returns-clause-ready c = record {
   host_text =
       subst IsUtf8 (literal_normal c.args.address.now (lowercase c.args.address.now) (Literal.address c.requires.cut.addressed refl)) (address_utf8 (lowercase c.args.address.now) (address-lowercase c.args.address.now c.requires.cut.addressed));
 }
+
+pub returns-clause-room : goal.returns-clause-room
+returns-clause-room c = address_within c.requires.cut

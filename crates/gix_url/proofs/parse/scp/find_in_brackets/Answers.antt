@@ -4,17 +4,17 @@ use Rattle.std.proofs.lemmas.Bool.{false≢true}
 use Rattle.gix_url.proofs.Readings.ScpLemmas.{open_found, rest_found, literal_found, inner_kept}
 use Rattle.gix_url.proofs.parse.scp.find_in_brackets.Goals as goal
 
-pub returns-in_default : goal.returns-in_default
-returns-in_default c = open_found c.args.behind.now c.in_default.ensures
+pub returns-in_default-clause-read : goal.returns-in_default-clause-read
+returns-in_default-clause-read c = open_found c.args.behind.now c.in_default.ensures
 
-pub returns-then-not-is_empty : goal.returns-then-not-is_empty
-returns-then-not-is_empty c =
+pub returns-then-not-is_empty-clause-read : goal.returns-then-not-is_empty-clause-read
+returns-then-not-is_empty-clause-read c =
     rest_found c.args.behind.now c.in-Some.inner.now c.in-Some.rest.now c.requires.colons c.in-Some.ensures.0 c.in-Some.ensures.1 c.if-not-is_empty.ensures
 
-pub returns-then-is_literal : goal.returns-then-is_literal
-returns-then-is_literal c =
+pub returns-then-is_literal-clause-read : goal.returns-then-is_literal-clause-read
+returns-then-is_literal-clause-read c =
     literal_found c.args.behind.now c.in-Some.inner.now c.in-Some.rest.now c.in-Some.ensures.0 c.in-Some.ensures.1 c.if-not-is_empty.ensures (c.if-is_literal.ensures.0 refl)
 
-pub returns-else-is_literal : goal.returns-else-is_literal
-returns-else-is_literal c =
+pub returns-else-is_literal-clause-read : goal.returns-else-is_literal-clause-read
+returns-else-is_literal-clause-read c =
     inner_kept c.args.behind.now c.in-Some.inner.now c.in-Some.rest.now c.requires.text c.in-Some.ensures.0 c.in-Some.ensures.1 c.if-not-is_empty.ensures (λ h. false≢true (c.if-is_literal.ensures.1 h))

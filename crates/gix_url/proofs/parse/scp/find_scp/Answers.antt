@@ -1,11 +1,12 @@
 -- What is found of the scp form, and what is refused.
-use Rattle.std.proofs.Common.{refl, sym, subst, ◌∙◌}
+use Rattle.std.proofs.Common.{refl, sym, subst, ◌∙◌, arith}
 use Rattle.std.specs.Option.{option_copied}
 use Rattle.gix_url.specs.FoundPieces.{scp_host_of}
 use Rattle.gix_url.specs.Grammar.{ScpShape}
 use Rattle.gix_url.specs.Flaws.MissesPath.{in_scp}
 use Rattle.gix_url.proofs.Readings.HostLemmas.{some_tested}
 use Rattle.gix_url.proofs.Readings.ShapeLemmas.{nil_tested}
+use Rattle.gix_url.proofs.Readings.RoomLemmas.{scp_host_within}
 use Rattle.gix_url.proofs.Readings.ScpLemmas.{scp_host_plain, scp_host_utf8, scp_user_utf8, scp_meant_utf8, colons_inside_front, colons_inside_host}
 use Rattle.gix_url.proofs.parse.scp.find_scp.Goals as goal
 
@@ -36,7 +37,7 @@ returns-in-Ok-clause-found c = record {
   text = c.if-not-is_utf8.ensures.0 refl;
   pathed = some_tested c.args.path.now c.if-is_empty.ensures;
   split = c.cut_front_user.ensures.split;
-  hosted = c.in-Ok.ensures;
+  hosted = c.in-Ok.ensures.read;
   value = refl;
 }
 
@@ -44,7 +45,7 @@ pub returns-in-Ok-clause-ready : goal.returns-in-Ok-clause-ready
 returns-in-Ok-clause-ready c = record {
   user_text =
       scp_user_utf8 c.args.input.now c.args.front.now c.args.path.now (option_copied c.cut_front_user.result.0) c.cut_front_user.result.1.now c.requires.shape (c.if-not-is_utf8.ensures.0 refl) c.cut_front_user.ensures.split;
-  host_text = scp_meant_utf8 c.in-Ok.ensures;
+  host_text = scp_meant_utf8 c.in-Ok.ensures.read;
 }
 
 pub returns-in-Err-clause-flaw : goal.returns-in-Err-clause-flaw
@@ -57,5 +58,8 @@ returns-in-Err-clause-flaw c = record {
   shape = c.requires.shape;
   split = c.cut_front_user.ensures.split;
   no_at = c.cut_front_user.ensures.no_at;
-  flaw = c.in-Err.ensures;
+  flaw = c.in-Err.ensures.read;
 }
+
+pub returns-in-Ok-clause-room : goal.returns-in-Ok-clause-room
+returns-in-Ok-clause-room c = omega (arith, c.in-Ok.ensures.within, scp_host_within c.args.path.now c.requires.shape.joined c.cut_front_user.ensures.split)

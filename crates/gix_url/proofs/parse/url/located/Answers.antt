@@ -6,6 +6,7 @@ use Rattle.gix_url.proofs.Readings.ShapeLemmas.{nil_tested}
 use Rattle.gix_url.proofs.Readings.SchemeRuleLemmas.{named_ext}
 use Rattle.gix_url.proofs.Readings.UrlLocationLemmas.{texts, scheme_utf8, path_missed}
 use Rattle.gix_url.proofs.Readings.FoundLemmas.{found_url}
+use Rattle.gix_url.proofs.Readings.RoomLemmas.{parts_within}
 use Rattle.gix_url.proofs.parse.url.located.Goals as goal
 use Rattle.gix_url.proofs.parse.url.located.Goals.{else-rules-via-then-rules+else-is_empty, else-rules-via-else-rules}
 
@@ -23,3 +24,6 @@ returns-clause-found c =
 
 pub returns-clause-ready : goal.returns-clause-ready
 returns-clause-ready c = record { ruled = c.requires.rules; scheme_text = scheme_utf8 c.requires.spelled; texts = texts c.requires.spelled }
+
+pub returns-clause-room : goal.returns-clause-room
+returns-clause-room c = parts_within c.requires.spelled
