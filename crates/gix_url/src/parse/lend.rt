@@ -8,6 +8,8 @@ ghost use Rattle.std.specs.Prelude.{◌≡◌, ◌≤◌, List, ℕ, IfSome, IsU
 ghost use Rattle.std.specs.Option.{option_copied};
 ghost use Rattle.gix_url.specs.Authority.{unless_empty};
 ghost use Rattle.gix_url.specs.FoundPieces.{AreScpTexts, IsReady, IsReadyUrl, host_for, meant, parts_length, room_for, scp_host_of, scp_slice, url_location};
+ghost use Rattle.percent_encoding.specs.Percent.{percent_decode};
+ghost use Rattle.gix_url.specs.Escapes.{has_percent};
 ghost use Rattle.gix_url.specs.Grammar as grammar;
 ghost use Rattle.gix_url.specs.Grammar.{helper_protocol, path_for, retained_spelling, scp_location};
 ghost use Rattle.gix_url.specs.HostPieces.{port_of};
@@ -25,7 +27,6 @@ use super::room::{decoded_in, host_in, optional_in, scp_host_in};
 use super::rules::Rules;
 use super::simple_url::ParsedUrl;
 use crate::bytes::starts_with_byte;
-use crate::escape::has_percent;
 use crate::scheme::{Protocol, SchemeRef};
 use crate::text::as_text;
 use crate::url_ref::UrlRef;
@@ -94,7 +95,7 @@ fn url_location<'a>(rules: Rules, url: ParsedUrl<'a>, room: &'a mut [u8]) -> Url
     let (user, room) = optional_in(url.user, room);
     let (password, room) = optional_in(url.password, room);
     let (host, room) = host_in(url.host, room);
-    let (path, _) = decoded_in(url.path, room);
+    let path = path_in(url, room);
     UrlRef {
         scheme: SchemeRef::of_protocol(rules.protocol, as_text(url.scheme)),
         user: text_of(user),
@@ -103,7 +104,7 @@ fn url_location<'a>(rules: Rules, url: ParsedUrl<'a>, room: &'a mut [u8]) -> Url
         serialize_alternative_form: false,
         port: port_of(url.host),
         path: path_for(rules, url.scheme, path),
-        spelling: retained(url.path),
+        spelling: retained(url),
     }
 }
 
@@ -172,11 +173,25 @@ fn or_root(path: &[u8]) -> &[u8]
     if path.is_empty() { b"/" } else { path }
 }
 
-/// The spelling of the path, where it holds an escape.
-fn retained(path: &[u8]) -> Option<&[u8]>
-    ensures { option_copied result ≡ retained_spelling path.now }
+/// The decoded path of a URL.
+fn path_in<'a>(url: ParsedUrl<'a>, room: &'a mut [u8]) -> &'a [u8]
+    requires escaped { url.escaped ≡ has_percent url.path.now }
+    requires room { length (percent_decode url.path.now) ≤ length room.old }
+    ensures { result.now ≡ percent_decode url.entry.path.now }
 {
-    if has_percent(path) { Some(path) } else { None }
+    if !url.escaped {
+        return url.path;
+    }
+    let (path, _) = decoded_in(url.path, room);
+    path
+}
+
+/// The spelling of the path of a URL, where it holds an escape.
+fn retained<'a>(url: ParsedUrl<'a>) -> Option<&'a [u8]>
+    requires { url.escaped ≡ has_percent url.path.now }
+    ensures { option_copied result ≡ retained_spelling url.entry.path.now }
+{
+    if url.escaped { Some(url.path) } else { None }
 }
 
 /// A location that Secure Shell reaches, with this user and this host.

@@ -7,6 +7,7 @@
 ghost use Rattle.std.specs.Prelude.{◌≡◌, ◌<◌, ◌↔◌, List, ℕ, IsTrue, IfOk, IfSome, IsUtf8, true, length, option_map, string_bytes};
 ghost use Rattle.bstr.specs.Owned.{bstring_bytes};
 ghost use Rattle.percent_encoding.specs.Percent.{percent_decode};
+ghost use Rattle.gix_url.specs.Escapes.{has_percent};
 ghost use Rattle.gix_url.specs.Grammar as grammar;
 ghost use Rattle.gix_url.specs.FoundPieces.{IsReadyUrl, host_for, url_location};
 ghost use Rattle.gix_url.specs.Grammar.{path_for};
@@ -22,7 +23,7 @@ use super::made::full_location;
 use super::peeled::peeled;
 use super::rules::Rules;
 use super::simple_url::ParsedUrl;
-use crate::escape::{decoded, decoded_text, has_percent};
+use crate::escape::{decoded, decoded_text};
 use crate::location::Url;
 use crate::scheme::{Protocol, Scheme};
 use crate::text::as_text;
@@ -44,7 +45,7 @@ pub(super) fn url_location(
     let password = decoded_part(alloc, url.password)?;
     let host = host_for(rules.protocol, built(alloc, url.host)?);
     let path = path_for(alloc, rules, url)?;
-    let spelling = retained(alloc, url.path)?;
+    let spelling = retained(alloc, url)?;
     let port = port_of(url.host);
     Ok(full_location(scheme, user, password, host, false, port, path, spelling))
 }
@@ -143,12 +144,14 @@ fn or_root(path: &[u8]) -> &[u8]
 }
 
 /// The spelling of the path, where it holds an escape.
-fn retained(alloc: Global, path: &[u8]) -> Result<Option<BString>, AllocError>
+fn retained(alloc: Global, url: ParsedUrl<'_>) -> Result<Option<BString>, AllocError>
+    requires { url.escaped ≡ has_percent url.path.now }
     ensures { IfOk result
-        (λ spelling. option_map bstring_bytes spelling ≡ grammar.retained_spelling path.now) }
+        (λ spelling. option_map bstring_bytes spelling
+        ≡ grammar.retained_spelling url.entry.path.now) }
 {
-    if has_percent(path) {
-        Ok(Some(copied(alloc, path)?))
+    if url.escaped {
+        Ok(Some(copied(alloc, url.path)?))
     } else {
         Ok(None)
     }

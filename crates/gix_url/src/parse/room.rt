@@ -91,6 +91,9 @@ fn own_slice(host: NamedHost<'_>) -> Option<&[u8]>
     if host.keeps_colon {
         return None;
     }
+    if let HostPiece::Simple(text) = host.piece {
+        return Some(text);
+    }
     let text = undecoded(host.piece)?;
     if is_lowercase(text) { Some(text) } else { None }
 }
@@ -101,7 +104,7 @@ fn undecoded(piece: HostPiece<'_>) -> Option<&[u8]>
         (λ text. IsLowercase text.now → text.now ≡ meant_host piece.entry) }
 {
     match piece {
-        HostPiece::Address(text) | HostPiece::Kept(text) => Some(text),
+        HostPiece::Simple(text) | HostPiece::Address(text) | HostPiece::Kept(text) => Some(text),
         HostPiece::Decoded(text) => {
             if has_percent(text) {
                 None
