@@ -72,13 +72,13 @@ url_location protocol parts = record {
 abbrev pub scp_slice : ScpHost → List ℕ
 scp_slice (host.Literal text) = text.now
 scp_slice (host.Name text) = text.now
-scp_slice (host.Inner text) = text.now
+scp_slice (host.Kept text) = text.now
 
 -- the host that it stands for
 abbrev pub scp_host_of : ScpHost → List ℕ
 scp_host_of (host.Literal text) = lowercase_address text.now
 scp_host_of (host.Name text) = normal_host text.now
-scp_host_of (host.Inner text) = text.now
+scp_host_of (host.Kept text) = text.now
 
 -- the location that the slices mean
 abbrev pub meant : Found → Location

@@ -689,7 +689,7 @@ simple_text bare t h = (subst IsUtf8 (sym (simple_decoded t h)) (simple_utf8 t h
 simple_text loose t h = (subst IsUtf8 (sym (simple_decoded t h)) (simple_utf8 t h), sym (ap normal_host (simple_decoded t h) ∙ simple_normal t h))
 
 -- and names itself, with no port
-simple_named : (mode : Mode) (t : List ℕ) → IsSimpleHost t → Names mode t (Some t) None
+pub simple_named : (mode : Mode) (t : List ℕ) → IsSimpleHost t → Names mode t (Some t) None
 simple_named mode t h =
     Names.plain t (record { nonempty = h.nonempty; no_colon = free_of_all is_simple_byte colon t h.bytes refl; no_bracket = free_begins left_bracket t (free_of_all is_simple_byte left_bracket t h.bytes refl) })
     (simple_text mode t h.bytes) refl refl

@@ -98,7 +98,7 @@ fn host_text(alloc: Global, host: ScpHost<'_>) -> Result<String, AllocError>
             normalize(&mut copy);
             Ok(into_text(copy))
         }
-        ScpHost::Inner(text) => Ok(into_text(copy_of(alloc, text)?)),
+        ScpHost::Kept(text) => Ok(into_text(copy_of(alloc, text)?)),
     }
 }
 

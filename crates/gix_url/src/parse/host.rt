@@ -90,10 +90,18 @@ pub(crate) fn simple_host(piece: &[u8]) -> Option<NamedHost<'_>>
     ensures host { IfSome result (λ host. named_text host ≡ piece.now) }
     ensures port { IfSome result (λ host. host.port ≡ None) }
 {
-    if piece.is_empty() || !are_simple_bytes(piece) {
-        return None;
+    if is_simple_host(piece) {
+        Some(alone(HostPiece::Simple(piece)))
+    } else {
+        None
     }
-    Some(alone(HostPiece::Simple(piece)))
+}
+
+/// Whether the text is a simple host.
+pub(crate) fn is_simple_host(text: &[u8]) -> bool
+    ensures { IsTrue result → IsSimpleHost text.now }
+{
+    !text.is_empty() && are_simple_bytes(text)
 }
 
 /// Reads a host and a port, where there is something to read.

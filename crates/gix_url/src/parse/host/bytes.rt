@@ -43,12 +43,7 @@ fn is_http_host_byte(byte: u8) -> bool
 pub(super) fn are_simple_bytes(text: &[u8]) -> bool
     ensures { result ≡ list_all is_simple_byte text.now }
 {
-    // A loop without an early exit is compiled to look at many bytes at once.
-    let mut all = true;
-    for byte in text {
-        all &= is_simple_byte(*byte);
-    }
-    all
+    text.iter().all(|byte| is_simple_byte(*byte))
 }
 
 /// Whether the byte is a lower-case letter, a digit, `-` or `.`.
