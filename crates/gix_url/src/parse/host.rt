@@ -84,6 +84,16 @@ pub(crate) fn read_host(mode: Mode, piece: &[u8]) -> Result<Option<NamedHost<'_>
     Ok(Some(named))
 }
 
+/// The port of a host that may be missing.
+pub(crate) fn port_of(host: Option<NamedHost<'_>>) -> Option<u16>
+    ensures { result ≡ port_of host.entry }
+{
+    match host {
+        None => None,
+        Some(host) => host.port,
+    }
+}
+
 /// The host, where the piece is a simple one: most are.
 pub(crate) fn simple_host(piece: &[u8]) -> Option<NamedHost<'_>>
     ensures simple { IfSome result (λ host. IsSimpleHost piece.now) }

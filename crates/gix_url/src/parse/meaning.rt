@@ -11,19 +11,19 @@ ghost use Rattle.gix_url.specs.Escapes.{has_percent};
 ghost use Rattle.gix_url.specs.Grammar as grammar;
 ghost use Rattle.gix_url.specs.FoundPieces.{IsReadyUrl, host_for, url_location};
 ghost use Rattle.gix_url.specs.Grammar.{path_for};
-ghost use Rattle.gix_url.specs.HostPieces.{host_of, port_of};
+ghost use Rattle.gix_url.specs.HostPieces.{host_of};
 ghost use Rattle.gix_url.specs.SchemeRules.{AreRulesOf, named_protocol};
 ghost use Rattle.gix_url.specs.Schemes.{protocol_of};
-ghost use Rattle.gix_url.specs.Settled.{begins_at_home};
 ghost use Rattle.gix_url.specs.UrlPieces.{decoded_option, parts_of};
 
 use super::copies::copied;
-use super::host::NamedHost;
+use super::host::{NamedHost, port_of};
 use super::made::full_location;
 use super::peeled::peeled;
 use super::rules::Rules;
 use super::simple_url::ParsedUrl;
 use crate::escape::{decoded, decoded_text};
+use crate::home::begins_at_home;
 use crate::location::Url;
 use crate::scheme::{Protocol, Scheme};
 use crate::text::as_text;
@@ -72,16 +72,6 @@ fn built(alloc: Global, host: Option<NamedHost<'_>>) -> Result<Option<String>, A
     }
 }
 
-/// The port, if there is one.
-fn port_of(host: Option<NamedHost<'_>>) -> Option<u16>
-    ensures { result ≡ port_of host.entry }
-{
-    match host {
-        None => None,
-        Some(host) => host.port,
-    }
-}
-
 /// The host of a location: Secure Shell takes it without marks, any other scheme as it is.
 fn host_for(protocol: Protocol, host: Option<String>) -> Option<String>
     ensures { (scheme : List ℕ)
@@ -124,16 +114,6 @@ fn from_home(mut path: Vec<u8>) -> Vec<u8>
         let _ = path.remove(0);
     }
     path
-}
-
-/// Whether the path begins with `/~`.
-fn begins_at_home(path: &[u8]) -> bool
-    ensures { result ≡ begins_at_home path.now }
-{
-    match path {
-        [first, second, ..] => *first == b'/' && *second == b'~',
-        _ => false,
-    }
 }
 
 /// The path, or `/` where it is empty.
