@@ -1,14 +1,17 @@
--- What room of a caller's is after it took a text: the front of the room is filled, and the rest of it is as it was.
-use Rattle.std.specs.Prelude.{◌≡◌, ℕ, ◌≤◌, ◌+◌, MatchBool, nat_lt, List, [], ◌∷◌, ◌++◌, length, drop, Result, Ok, Err, refl, zero, suc}
+-- What room of a caller's is after it took a text: the front of the room is filled, and the rest of it is as
+-- it was.
+use Rattle.std.specs.Prelude.{◌≡◌, ℕ, ◌≤◌, ◌+◌, MatchBool, nat_lt, List, [], ◌∷◌, ◌++◌, length, drop, refl, zero, suc}
+use Rattle.std.specs.Prelude.{Result, Ok, Err}
 use Rattle.std.proofs.Math.Seq.{drop-nil}
 use Rattle.std.proofs.Common.{sym, ap, ◌∙◌, arith, append_assoc, append-nil, length-append, length-drop}
 use Rattle.gix_url.specs.declared.error.WriteFault.{WriteFault}
 use Rattle.gix_url.specs.declared.writer.fill.Filled.{Filled}
 
--- the text stands at the front of the room, if it fits, and the rest is as it was; where it doesn't fit, or there is none,
--- all of the room is
+-- the text stands at the front of the room, if it fits, and the rest is as it was; where it doesn't fit, or
+-- there is none, all of the room is
 abbrev pub Placed : Result (List ℕ) WriteFault → List ℕ → List ℕ → Type 0
-Placed (Ok t) old new = MatchBool (nat_lt (length old) (length t)) (new ≡ old) (new ≡ t ++ drop (length t) old)
+Placed (Ok t) old new =
+    MatchBool (nat_lt (length old) (length t)) (new ≡ old) (new ≡ t ++ drop (length t) old)
 Placed (Err fault) old new = new ≡ old
 
 -- the same room is filled by the text behind what filled it before, where it fits

@@ -1,11 +1,11 @@
 //! What the path of a location is made of: on the web a path, a query and a fragment, lent without copying.
 //!
-//! It may use `location`, `scheme`, `url_ref`, the spelling that `writer` finds to match, and the rooms below: `cuts` cuts a
-//! text together with what it stands for, `measure` counts that, `fields` goes over the fields of a query, and
-//! `lend` hands out their names and values. Its contract: the answer is what the definitions cut out of the path,
-//! for every location. Pieces are cut first and stand for bytes after, whatever is escaped in them. Memory is asked
-//! for once for the list of a query's names and values, where there is one to hold, and once for each of them that
-//! has a raw `+`.
+//! It may use `location`, `scheme`, `url_ref`, the spelling that `writer` finds to match, and the rooms
+//! below: `cuts` cuts a text together with what it stands for, `measure` counts that, `fields` goes over the
+//! fields of a query, and `lend` hands out their names and values. Its contract: the answer is what the
+//! definitions cut out of the path, for every location. Pieces are cut first and stand for bytes after,
+//! whatever is escaped in them. Memory is asked for once for the list of a query's names and values, where
+//! there is one to hold, and once for each of them that has a raw `+`.
 
 ghost use Rattle.std.specs.Prelude.{◌≡◌, ◌⊎◌, [], ◌∷◌, None, IfErr, IfOk, IfSome, IsErr, IsOk, option_map};
 ghost use Rattle.bstr.specs.BStr.{bstr_bytes};
@@ -115,8 +115,8 @@ impl Url {
 }
 
 impl<'a> UrlRef<'a> {
-    /// The path, the query and the fragment, as [`Url::path_query_fragment`] has them. They are lent from what lends the
-    /// location, and live as long.
+    /// The path, the query and the fragment, as [`Url::path_query_fragment`] has them. They are lent from
+    /// what lends the location, and live as long.
     ///
     /// # Errors
     ///

@@ -49,7 +49,8 @@ impl fmt::Display for UrlRef<'_> {
 
     ghost styled_output = { λ url _. display url };
 
-    /// Shows what the `Display` of [`Url`] shows of the location, and fails where that does. It takes no memory.
+    /// Shows what the `Display` of [`Url`] shows of the location, and fails where that does. It takes no
+    /// memory.
     ///
     /// ```
     /// fn log_line(alloc: Global, url: &UrlRef<'_>) -> Result<String, AllocError> {

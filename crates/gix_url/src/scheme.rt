@@ -194,8 +194,8 @@ impl<'a> SchemeRef<'a> {
         }
     }
 
-    /// The port that the scheme stands for where a location names none, as [`Scheme::default_port`] has it. It takes no
-    /// memory.
+    /// The port that the scheme stands for where a location names none, as [`Scheme::default_port`] has it.
+    /// It takes no memory.
     ///
     /// ```
     /// fn port_of(scheme: SchemeRef<'_>) -> u16 {

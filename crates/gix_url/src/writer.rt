@@ -1,8 +1,9 @@
 //! Writing: the text of a location, its length, and the spelling of its path.
 //!
-//! The text is laid out once, as pieces: slices of the location with the way that each is written. `form` chooses the
-//! form, `layout` the pieces, `piece` adds up their lengths and puts them into a sink, `ready` tells texts that need
-//! no escape, and `sink`, `fill` and `show` are the sinks. The contract of each public call is the text of the definitions.
+//! The text is laid out once, as pieces: slices of the location with the way that each is written. `form`
+//! chooses the form, `layout` the pieces, `piece` adds up their lengths and puts them into a sink, `ready`
+//! tells texts that need no escape, and `sink`, `fill` and `show` are the sinks. The contract of each public
+//! call is the text of the definitions.
 
 ghost use Rattle.std.specs.Prelude.{◌≡◌, [], Ok, Err, IsOk, IfOk, IfErr, is_ok, length, option_map};
 ghost use Rattle.bstr.specs.BStr.{bstr_bytes};
@@ -160,9 +161,9 @@ impl<'a> UrlRef<'a> {
         Ok(pieces.len())
     }
 
-    /// Puts the text of the location at the front of the room, if it fits, and answers its length. The rest of the room is
-    /// as it was; so is all of it where the text doesn't fit, which the length tells, or where there is none. It takes no
-    /// memory.
+    /// Puts the text of the location at the front of the room, if it fits, and answers its length. The rest
+    /// of the room is as it was; so is all of it where the text doesn't fit, which the length tells, or where
+    /// there is none. It takes no memory.
     ///
     /// ```
     /// /// The text of a location in room that is at hand, if it fits.
@@ -265,8 +266,8 @@ impl<'a> UrlRef<'a> {
         collect(alloc, &self.canonical_pieces(self.password, &mut digits))
     }
 
-    /// Puts the text in this form into the room, if it fits, and answers its length. Each form is put by itself, as it is
-    /// collected.
+    /// Puts the text in this form into the room, if it fits, and answers its length. Each form is put by
+    /// itself, as it is collected.
     fn place_in(&self, form: Form, room: &mut [u8]) -> u128
         ensures length { result ≡ length (text_in (form_of form) self.now) }
         ensures placed { Placed (Ok (text_in (form_of form) self.now)) room.old room.new }

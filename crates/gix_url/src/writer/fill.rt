@@ -1,7 +1,7 @@
 //! The sink that fills room of a caller's, from its front on.
 //!
-//! It uses `piece` and `sink`. Its contract: the room begins with the text, and the rest of it is as it was. It takes no
-//! memory.
+//! It uses `piece` and `sink`. Its contract: the room begins with the text, and the rest of it is as it was.
+//! It takes no memory.
 
 ghost use Rattle.std.specs.Prelude.{◌≡◌, ◌≤◌, ◌+◌, ◌++◌, drop, length, take};
 ghost use Rattle.gix_url.specs.Fills.{Fills, fills_joined, fills_nothing};
