@@ -6,7 +6,7 @@
 use crate::halt::Halt;
 use crate::order::{Order, unknown};
 use crate::parts::first_name;
-use crate::shown::{show, show_debug};
+use crate::shown::{show, show_debug, show_display};
 use crate::tell::{Out, Taking, lent, tell_member, tell_name, told};
 use crate::{errors, made};
 use bstr::{BStr, BString};
@@ -194,7 +194,7 @@ fn look_at_borrowed(alloc: Global, order: Order<'_>, url: &Url, out: &mut Out) -
         "UrlRef::port_or_default" => lent(out, &borrowed.port_or_default()),
         "UrlRef::path_is_root" => lent(out, &borrowed.path_is_root()),
         "UrlRef::path_query_fragment" => told(out, borrowed.path_query_fragment(alloc)),
-        "UrlRef:fmt" => show(out, order.style(), &borrowed),
+        "UrlRef:fmt" => show_display(out, &borrowed),
         "UrlRef::text_len" => lent(out, &borrowed.text_len()),
         "UrlRef::to_bstring" => told(out, borrowed.to_bstring(alloc)),
         "UrlRef::write_to" => write_borrowed(&borrowed, out),
@@ -216,7 +216,8 @@ fn fill_or_cut(alloc: Global, order: Order<'_>, url: &Url, out: &mut Out) -> Res
     }
 }
 
-/// Puts a location into room that holds these bytes, and tells what the call answers and what the room holds then.
+/// Puts a location into room that holds these bytes, and tells what the call answers and what the room holds
+/// then.
 fn fill(alloc: Global, order: Order<'_>, url: &UrlRef<'_>, out: &mut Out) -> Result<(), Halt> {
     let mut room = order.bytes(alloc, "room")?;
     let outcome = if order.call().is_empty() {
