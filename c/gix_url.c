@@ -34,47 +34,55 @@ typedef struct parted {
     size_t path, fragment, pairs, bytes;
 } parted;
 
-/* The bytes of a part, and the six of a location, as arguments. */
-#define BYTES const char *, size_t
-#define SIX(u) PART((u)->name), PART((u)->user), PART((u)->password), PART((u)->host), PART((u)->path), PART((u)->spelling)
-#define PART(t) bytes_of(t), len_of(t)
+typedef struct given {
+    front front;
+    gix_url_text name, user, password, host, path, spelling;
+} given;
 
-uint32_t gix_url_c_read(BYTES, made *, char *, size_t, told *);
-uint32_t gix_url_c_from_parts(const front *, BYTES, BYTES, BYTES, BYTES, BYTES, made *, char *, size_t, told *);
-uint32_t gix_url_c_is_settled(const front *, BYTES, BYTES, BYTES, BYTES, BYTES, BYTES, bool *);
-uint32_t gix_url_c_agrees_with_git(const front *, BYTES, BYTES, BYTES, BYTES, BYTES, BYTES, bool *);
-uint32_t gix_url_c_write(const front *, BYTES, BYTES, BYTES, BYTES, BYTES, BYTES, char *, size_t, size_t *, told *);
-uint32_t gix_url_c_display(const front *, BYTES, BYTES, BYTES, BYTES, BYTES, BYTES, char *, size_t, size_t *, told *);
-uint32_t gix_url_c_look(const front *, BYTES, BYTES, BYTES, BYTES, BYTES, BYTES, seen *);
-uint32_t gix_url_c_components(const front *, BYTES, BYTES, BYTES, BYTES, BYTES, BYTES, parted *, char *, size_t, size_t *,
-                              size_t);
+uint32_t gix_url_c_read(const char *, size_t, made *, char *, size_t, told *);
+uint32_t gix_url_c_from_parts(const given *, made *, char *, size_t, told *);
+uint32_t gix_url_c_is_settled(const given *, bool *);
+uint32_t gix_url_c_agrees_with_git(const given *, bool *);
+uint32_t gix_url_c_write(const given *, char *, size_t, size_t *, told *);
+uint32_t gix_url_c_display(const given *, char *, size_t, size_t *, told *);
+uint32_t gix_url_c_look(const given *, seen *);
+uint32_t gix_url_c_components(const given *, parted *, char *, size_t, size_t *, size_t);
 
 /* Somewhere to point to where there are no bytes. */
 static char nowhere[1];
 static size_t no_lengths[1];
-
-static const char *bytes_of(gix_url_text text) { return text.at ? text.at : nowhere; }
-
-static size_t len_of(gix_url_text text) { return text.at ? text.len : 0; }
 
 static gix_url_text text_of(const char *at, size_t len, bool is_there) {
     gix_url_text text = {is_there ? at : NULL, is_there ? len : 0};
     return text;
 }
 
-/* The numbers of a location. A scheme that is no byte becomes one that is none of the eight. */
-static front front_of(const gix_url *url) {
-    front front;
-    memset(&front, 0, sizeof front);
-    front.scheme = (unsigned)url->scheme < 8 ? (uint8_t)url->scheme : UINT8_MAX;
-    front.alternative = url->alternative;
-    front.has_user = url->user.at != NULL;
-    front.has_password = url->password.at != NULL;
-    front.has_host = url->host.at != NULL;
-    front.has_port = url->has_port;
-    front.has_spelling = url->spelling.at != NULL;
-    front.port = url->port;
-    return front;
+/* The bytes of a part; none where it isn't there, whatever its length. */
+static gix_url_text bytes_of(gix_url_text text) {
+    gix_url_text none = {nowhere, 0};
+    return text.at ? text : none;
+}
+
+/* The parts of a location. A scheme that is no byte becomes one that is none of the eight. */
+static inline given given_of(const gix_url *url) {
+    return (given){
+        .front = {
+            .scheme = (unsigned)url->scheme < 8 ? (uint8_t)url->scheme : UINT8_MAX,
+            .alternative = url->alternative,
+            .has_user = url->user.at != NULL,
+            .has_password = url->password.at != NULL,
+            .has_host = url->host.at != NULL,
+            .has_port = url->has_port,
+            .has_spelling = url->spelling.at != NULL,
+            .port = url->port,
+        },
+        .name = bytes_of(url->name),
+        .user = bytes_of(url->user),
+        .password = bytes_of(url->password),
+        .host = bytes_of(url->host),
+        .path = bytes_of(url->path),
+        .spelling = bytes_of(url->spelling),
+    };
 }
 
 /* The bytes at the front of the room, which moves on behind them. */
@@ -139,30 +147,29 @@ gix_url_error gix_url_from_parts(const gix_url *parts, char *room, size_t room_l
     if (!room) room = nowhere, room_len = 0;
     made made = {0};
     told told = {0};
-    front front = front_of(parts);
-    uint32_t error = gix_url_c_from_parts(&front, PART(parts->name), PART(parts->user), PART(parts->password),
-                                          PART(parts->host), PART(parts->path), &made, room, room_len, &told);
+    given given = given_of(parts);
+    uint32_t error = gix_url_c_from_parts(&given, &made, room, room_len, &told);
     return hand_out(error, &made, room, url, needed, &told, problem);
 }
 
 gix_url_error gix_url_is_settled(const gix_url *url, bool *settled) {
     if (!url || !settled) return GIX_URL_NULL;
-    front front = front_of(url);
-    return (gix_url_error)gix_url_c_is_settled(&front, SIX(url), settled);
+    given given = given_of(url);
+    return (gix_url_error)gix_url_c_is_settled(&given, settled);
 }
 
 gix_url_error gix_url_agrees_with_git(const gix_url *url, bool *agrees) {
     if (!url || !agrees) return GIX_URL_NULL;
-    front front = front_of(url);
-    return (gix_url_error)gix_url_c_agrees_with_git(&front, SIX(url), agrees);
+    given given = given_of(url);
+    return (gix_url_error)gix_url_c_agrees_with_git(&given, agrees);
 }
 
 gix_url_error gix_url_write(const gix_url *url, char *room, size_t room_len, size_t *len, gix_url_problem *problem) {
     if (!url || !len) return GIX_URL_NULL;
     if (!room) room = nowhere, room_len = 0;
     told told = {0};
-    front front = front_of(url);
-    uint32_t error = gix_url_c_write(&front, SIX(url), room, room_len, len, &told);
+    given given = given_of(url);
+    uint32_t error = gix_url_c_write(&given, room, room_len, len, &told);
     tell(error, &told, problem);
     return (gix_url_error)error;
 }
@@ -171,8 +178,8 @@ gix_url_error gix_url_display(const gix_url *url, char *room, size_t room_len, s
     if (!url || !len) return GIX_URL_NULL;
     if (!room) room = nowhere, room_len = 0;
     told told = {0};
-    front front = front_of(url);
-    uint32_t error = gix_url_c_display(&front, SIX(url), room, room_len, len, &told);
+    given given = given_of(url);
+    uint32_t error = gix_url_c_display(&given, room, room_len, len, &told);
     tell(error, &told, problem);
     return (gix_url_error)error;
 }
@@ -180,8 +187,8 @@ gix_url_error gix_url_display(const gix_url *url, char *room, size_t room_len, s
 gix_url_error gix_url_look(const gix_url *url, gix_url_seen *answer) {
     if (!url || !answer) return GIX_URL_NULL;
     seen seen = {0};
-    front front = front_of(url);
-    uint32_t error = gix_url_c_look(&front, SIX(url), &seen);
+    given given = given_of(url);
+    uint32_t error = gix_url_c_look(&given, &seen);
     if (error != GIX_URL_OK) return (gix_url_error)error;
     memset(answer, 0, sizeof *answer);
     answer->user = (gix_url_argument)seen.user;
@@ -202,8 +209,8 @@ gix_url_error gix_url_path_query_fragment(const gix_url *url, char *room, size_t
     if (!pairs || pair_room > SIZE_MAX / sizeof *pairs) pair_room = 0;
     size_t *lengths = pair_room ? &pairs->name_len : no_lengths;
     parted parted = {0};
-    front front = front_of(url);
-    uint32_t error = gix_url_c_components(&front, SIX(url), &parted, room, room_len, lengths, 2 * pair_room);
+    given given = given_of(url);
+    uint32_t error = gix_url_c_components(&given, &parted, room, room_len, lengths, 2 * pair_room);
     if (error != GIX_URL_OK && error != GIX_URL_NO_ROOM) return (gix_url_error)error;
     if (needed) *needed = parted.bytes;
     if (needed_pairs) *needed_pairs = parted.pairs;

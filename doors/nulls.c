@@ -263,7 +263,7 @@ static void of_nothing(void) {
     HOLDS(gix_url_agrees_with_git(&url, &is) == GIX_URL_OK && !is);
 }
 
-/* A spelling that is the path counts as none, and so does one that is null. */
+/* A spelling counts where it stands for the path, and one that is null doesn't. */
 static void of_spellings(void) {
     size_t len;
     char room[64];
@@ -272,6 +272,11 @@ static void of_spellings(void) {
     HOLDS(memcmp(room, "http://h/a%2520b", len) == 0);
     url.spelling = text("/a%2520b");
     HOLDS(gix_url_write(&url, room, 64, &len, NULL) == GIX_URL_OK && memcmp(room, "http://h/a%2520b", len) == 0);
+    bool settled = true;
+    url.path = url.spelling = text("/a b");
+    HOLDS(gix_url_write(&url, room, 64, &len, NULL) == GIX_URL_OK && len == strlen("http://h/a b"));
+    HOLDS(memcmp(room, "http://h/a b", len) == 0);
+    HOLDS(gix_url_is_settled(&url, &settled) == GIX_URL_OK && !settled);
     url.path = (gix_url_text){"/\xff\0", 3}, url.spelling = (gix_url_text){NULL, 3};
     HOLDS(gix_url_write(&url, room, 64, &len, NULL) == GIX_URL_OK && memcmp(room, "http://h/%FF%00", len) == 0);
 }

@@ -4,10 +4,11 @@
  * Link libgix_url.a, which scripts/doors builds, and nothing else but the C library.
  *
  * A location is a plain struct of parts, and each part is a pointer and a length in bytes. Parts may hold any bytes,
- * byte 0 among them, and don't end in one. Nothing here has to be freed: a call takes memory for its work alone, and its
- * answer goes into room that the caller hands in. A location that was read points into that room, so the room has to
- * stay as long as the location is used. No call keeps a pointer past its return. Calls may run in several threads, as
- * long as no room is shared.
+ * byte 0 among them, and don't end in one. Nothing here has to be freed: what a call answers goes into room that
+ * the caller hands in, and memory that a call takes is for its work alone. gix_url_is_settled,
+ * gix_url_agrees_with_git, gix_url_write, gix_url_look and gix_url_scheme_text take none, and never return
+ * GIX_URL_MEMORY. A location that was read points into that room, so the room has to stay as long as the location is
+ * used. No call keeps a pointer past its return. Calls may run in several threads, as long as no room is shared.
  *
  * Any pointer may be null: a null part is a part that isn't there, a null input or path is empty, null room has no bytes
  * and null pairs no places, whatever the length beside them; where needed, needed_pairs or problem is null, it is not
@@ -48,7 +49,7 @@ typedef enum gix_url_error {
     GIX_URL_UNWRITABLE = 8,    /* the location has no text */
     GIX_URL_NO_LOCATION = 101, /* the struct holds no location: its scheme is none of the eight, or its user, its password,
                                   its host or the name that its scheme takes is there and is not UTF-8. Each call that
-                                  is given such a struct returns this, or GIX_URL_MEMORY; with another struct none does */
+                                  is given such a struct returns this, and with another struct none does */
     GIX_URL_NO_ROOM = 102,     /* the answer doesn't fit into the room; how much is needed is told */
     GIX_URL_NULL = 103         /* a pointer that may not be null is */
 } gix_url_error;
@@ -152,8 +153,8 @@ gix_url_error gix_url_is_settled(const gix_url *url, bool *settled);
  * cases. */
 gix_url_error gix_url_agrees_with_git(const gix_url *url, bool *agrees);
 
-/* Puts the text of the location into the room, and stores its length, on GIX_URL_NO_ROOM too. No byte 0 is added.
- * GIX_URL_UNWRITABLE says that there is none, and problem, which may be null, why. */
+/* Puts the text of the location into the room, and stores its length, on GIX_URL_NO_ROOM too: SIZE_MAX where that is
+ * no size_t. No byte 0 is added. GIX_URL_UNWRITABLE says that there is none, and problem, which may be null, why. */
 gix_url_error gix_url_write(const gix_url *url, char *room, size_t room_len, size_t *len, gix_url_problem *problem);
 
 /* The same with redacted in place of the part password, and U+FFFD in place of what is no UTF-8. It is for people to see:

@@ -6,7 +6,7 @@
 use crate::halt::Halt;
 use crate::order::{Order, unknown};
 use crate::parts::first_name;
-use crate::shown::{show, show_debug};
+use crate::shown::{show, show_debug, show_display};
 use crate::tell::{Out, Taking, lent, tell_member, tell_name, told};
 use crate::{errors, made};
 use bstr::{BStr, BString};
@@ -191,6 +191,10 @@ fn look_at_borrowed(alloc: Global, order: Order<'_>, url: &Url, out: &mut Out) -
         "UrlRef::agrees_with_git" => lent(out, &borrowed.agrees_with_git()),
         "UrlRef::is_settled" => lent(out, &borrowed.is_settled()),
         "UrlRef::original_path" => lent(out, &borrowed.original_path()),
+        "UrlRef::port_or_default" => lent(out, &borrowed.port_or_default()),
+        "UrlRef::path_is_root" => lent(out, &borrowed.path_is_root()),
+        "UrlRef::path_query_fragment" => told(out, borrowed.path_query_fragment(alloc)),
+        "UrlRef:fmt" => show_display(out, &borrowed),
         "UrlRef::text_len" => lent(out, &borrowed.text_len()),
         "UrlRef::to_bstring" => told(out, borrowed.to_bstring(alloc)),
         "UrlRef::write_to" => write_borrowed(&borrowed, out),
@@ -199,8 +203,31 @@ fn look_at_borrowed(alloc: Global, order: Order<'_>, url: &Url, out: &mut Out) -
         "UrlRef::user_argument_safe" => lent(out, &borrowed.user_argument_safe()),
         "UrlRef::host_argument_safe" => lent(out, &borrowed.host_argument_safe()),
         "UrlRef::path_argument_safe" => lent(out, &borrowed.path_argument_safe()),
-        _ => over_components(alloc, order, url, out),
+        _ => fill_or_cut(alloc, order, url, out),
     }
+}
+
+/// Calls that put a borrowed location into room, and those over components.
+fn fill_or_cut(alloc: Global, order: Order<'_>, url: &Url, out: &mut Out) -> Result<(), Halt> {
+    if order.name() == "UrlRef::write_into" {
+        fill(alloc, order, &url.as_ref(), out)
+    } else {
+        over_components(alloc, order, url, out)
+    }
+}
+
+/// Puts a location into room that holds these bytes, and tells what the call answers and what the room holds
+/// then.
+fn fill(alloc: Global, order: Order<'_>, url: &UrlRef<'_>, out: &mut Out) -> Result<(), Halt> {
+    let mut room = order.bytes(alloc, "room")?;
+    let outcome = if order.call().is_empty() {
+        Ok(())
+    } else {
+        let answer = url.write_into(room.as_mut_slice());
+        lent(out, &(answer, BStr::new(room.as_slice())))
+    };
+    drop(room);
+    outcome
 }
 
 /// Writes a location to a writer that takes no memory.
@@ -515,6 +542,7 @@ fn look_at_scheme(
         "Scheme::as_ref" => lent(out, &scheme.as_ref()),
         "SchemeRef::as_str" => lent(out, &scheme.as_ref().as_str()),
         "Scheme::default_port" => lent(out, &scheme.default_port()),
+        "SchemeRef::default_port" => lent(out, &scheme.as_ref().default_port()),
         "Scheme:fmt" => show(out, order.style(), scheme),
         _ => over_two_schemes(alloc, order, scheme, out),
     }

@@ -29,6 +29,13 @@ pub fn show<T: fmt::Display + fmt::Debug>(
     end_shown(out, shown)
 }
 
+/// Tells what `Display` shows of a value, and whether that failed.
+pub fn show_display<T: fmt::Display>(out: &mut Out, value: &T) -> Result<(), Halt> {
+    io::Write::write_all(out, b"{\"shown\":\"")?;
+    let shown = write!(Inside { out }, "{value}");
+    end_shown(out, shown)
+}
+
 /// Tells what `Debug` shows of a value, and whether that failed.
 pub fn show_debug<T: fmt::Debug>(out: &mut Out, value: &T) -> Result<(), Halt> {
     io::Write::write_all(out, b"{\"shown\":\"")?;

@@ -67,6 +67,7 @@ pub mod Shapes
 pub mod KeptBytes
 pub mod Pieces
 pub mod Sinks
+pub mod Fills
 pub mod SettledParts
 pub mod Meanings
 pub mod ComponentPieces

@@ -1,11 +1,11 @@
 //! What the path of a location is made of: on the web a path, a query and a fragment, lent without copying.
 //!
-//! It may use `home`, `location`, `scheme`, the spelling that `writer` finds to match, and the rooms below: `cuts` cuts a
-//! text together with what it stands for, `measure` counts that, `fields` goes over the fields of a query, and
-//! `lend` hands out their names and values. Its contract: the answer is what the definitions cut out of the path,
-//! for every location. Pieces are cut first and stand for bytes after, whatever is escaped in them. Memory is asked
-//! for once for the list of a query's names and values, where there is one to hold, and once for each of them that
-//! has a raw `+`.
+//! It may use `home`, `location`, `scheme`, `url_ref`, the spelling that `writer` finds to match, and the rooms
+//! below: `cuts` cuts a text together with what it stands for, `measure` counts that, `fields` goes over the
+//! fields of a query, and `lend` hands out their names and values. Its contract: the answer is what the
+//! definitions cut out of the path, for every location. Pieces are cut first and stand for bytes after,
+//! whatever is escaped in them. Memory is asked for once for the list of a query's names and values, where
+//! there is one to hold, and once for each of them that has a raw `+`.
 
 ghost use Rattle.std.specs.Prelude.{◌≡◌, ◌⊎◌, [], ◌∷◌, None, IfErr, IfOk, IfSome, IsErr, IsOk, option_map};
 ghost use Rattle.bstr.specs.BStr.{bstr_bytes};
@@ -23,7 +23,8 @@ mod same;
 use crate::error::Error;
 use crate::home::or_root;
 use crate::location::Url;
-use crate::scheme::Scheme;
+use crate::scheme::SchemeRef;
+use crate::url_ref::UrlRef;
 use bstr::{BStr, BString};
 use cuts::Spelled;
 use fields::lend_query;
@@ -109,15 +110,42 @@ impl Url {
         ensures memory { IfErr result (λ e. e ≡ Error.Memory) }
         ensures no_query { (c : Components) → PartsOf self.now c → c.query ≡ None → IsOk result }
     {
-        match &self.scheme {
-            Scheme::Http | Scheme::Https => web_components(alloc, self.spelled_path()),
-            Scheme::File
-            | Scheme::Git
-            | Scheme::Ssh
-            | Scheme::Ext
-            | Scheme::Helper(_)
-            | Scheme::HelperUrl(_) => Ok(PathComponents {
-                path: self.path.as_bstr(),
+        self.as_ref().path_query_fragment(alloc)
+    }
+}
+
+impl<'a> UrlRef<'a> {
+    /// The path, the query and the fragment, as [`Url::path_query_fragment`] has them. They are lent from
+    /// what lends the location, and live as long.
+    ///
+    /// # Errors
+    ///
+    /// [`Error::Memory`] where memory is refused. Where there is no query, none is asked for.
+    ///
+    /// ```
+    /// fn fragment_of<'a>(alloc: Global, url: &UrlRef<'a>) -> Result<Option<BStr<'a>>, Error> {
+    ///     Ok(url.path_query_fragment(alloc)?.fragment)
+    /// }
+    /// ```
+    pub fn path_query_fragment(&self, alloc: Global) -> Result<PathComponents<'a>, Error>
+        ensures parts { IfOk result (λ c. PartsOf self.now (components c)) }
+        ensures path { IfOk result
+            (λ c. Holds (bstr_bytes c.path) self.now.path ⊎ (bstr_bytes c.path ≡ slash ∷ [])) }
+        ensures query { IfOk result (λ c. LentQuery self.now (option_map (λ q. q.items) c.query)) }
+        ensures fragment { IfOk result
+            (λ c. IfSome c.fragment (λ f. Holds (bstr_bytes f) self.now.path)) }
+        ensures memory { IfErr result (λ e. e ≡ Error.Memory) }
+        ensures no_query { (c : Components) → PartsOf self.now c → c.query ≡ None → IsOk result }
+    {
+        match self.scheme {
+            SchemeRef::Http | SchemeRef::Https => web_components(alloc, self.spelled_path()),
+            SchemeRef::File
+            | SchemeRef::Git
+            | SchemeRef::Ssh
+            | SchemeRef::Ext
+            | SchemeRef::Helper(_)
+            | SchemeRef::HelperUrl(_) => Ok(PathComponents {
+                path: BStr::new(self.path),
                 query: None,
                 fragment: None,
             }),
@@ -125,13 +153,12 @@ impl Url {
     }
 
     /// The path as it is spelled, together with what it stands for.
-    fn spelled_path(&self) -> Spelled<'_>
+    fn spelled_path(&self) -> Spelled<'a>
         ensures { SpellsPath self.now result }
     {
-        let path = self.path.as_bytes();
-        match self.as_ref().matching_spelling() {
-            Some(spelling) => Spelled::spelling(spelling, path),
-            None => Spelled::raw(path),
+        match self.matching_spelling() {
+            Some(spelling) => Spelled::spelling(spelling, self.path),
+            None => Spelled::raw(self.path),
         }
     }
 }

@@ -7,12 +7,13 @@
 //! What a formatter was handed before it failed is in no contract: `fmt::Write` says what a call of a writer did only
 //! where it returned `Ok`, so no clause can speak of the others. Tests show that it is a front of the right text.
 
-ghost use Rattle.std.specs.Prelude.{◌≡◌, None, IsErr, option_map, string_bytes};
+ghost use Rattle.std.specs.Prelude.{◌≡◌, None, IsErr, option_map};
 ghost use Rattle.std.specs.Fmt.{DisplaysOnOk, DisplaysStyledOnOk};
 ghost use Rattle.gix_url.specs.Display.{display, hidden_password};
 ghost use Rattle.gix_url.specs.Safeguards.{HidesPassword};
 
 use crate::location::Url;
+use crate::url_ref::UrlRef;
 use crate::writer::show::show_pieces;
 use itoa::Buffer;
 use std::fmt;
@@ -38,10 +39,34 @@ impl fmt::Display for Url {
         ensures fault { display self.now ≡ None → IsErr result }
         ensures untouched { display self.now ≡ None → f.new ≡ f.old }
     {
-        let mut digits = Buffer::new();
-        let password = hidden_password(&self.password);
         let lent = self.as_ref();
-        match lent.pieces(password, &mut digits) {
+        lent.fmt(f)
+    }
+}
+
+impl fmt::Display for UrlRef<'_> {
+    ghost output = { display };
+
+    ghost styled_output = { λ url _. display url };
+
+    /// Shows what the `Display` of [`Url`] shows of the location, and fails where that does. It takes no
+    /// memory.
+    ///
+    /// ```
+    /// fn log_line(alloc: Global, url: &UrlRef<'_>) -> Result<String, AllocError> {
+    ///     format!(in alloc; "fetching {url}") // `fetching ssh://u:redacted@h/p`
+    /// }
+    /// ```
+    fn fmt<W: fmt::Write>(&self, f: &mut fmt::Formatter<W>) -> fmt::Result
+        ensures writes { DisplaysOnOk W.write_str_gives f.old result (display self.now) f.new }
+        ensures styled { DisplaysStyledOnOk W.write_str_gives f.old result
+            (display self.now) f.new }
+        ensures fault { display self.now ≡ None → IsErr result }
+        ensures untouched { display self.now ≡ None → f.new ≡ f.old }
+    {
+        let mut digits = Buffer::new();
+        let password = hidden_password(self.password);
+        match self.pieces(password, &mut digits) {
             Ok(pieces) => show_pieces(f, &pieces),
             Err(_) => Err(fmt::Error),
         }
@@ -49,9 +74,9 @@ impl fmt::Display for Url {
 }
 
 /// What is shown in place of a password.
-pub(crate) fn hidden_password(password: &Option<String>) -> Option<&str>
+pub(crate) fn hidden_password(password: Option<&str>) -> Option<&str>
     ensures { option_map (λ p. p.now) result
-        ≡ hidden_password (option_map string_bytes password.now) }
+        ≡ hidden_password (option_map (λ p. p.now) password.entry) }
 {
     match password {
         None => None,

@@ -25,7 +25,7 @@ impl fmt::Debug for Url {
         f.debug_struct("Url")
             .field("scheme", &self.scheme)
             .field("user", &self.user)
-            .field("password", &hidden_password(&self.password))
+            .field("password", &hidden_password(self.password.as_deref()))
             .field("host", &self.host)
             .field(
                 "serialize_alternative_form",

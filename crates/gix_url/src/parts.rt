@@ -1,8 +1,8 @@
 //! The parts of a location: looked at, exchanged, and the location that has none of them.
 //!
-//! It uses `location` and `scheme` alone, and takes no memory. Its contracts: what is returned is the field, and of the
-//! spelling of the path whether it is retained; what is stored is there from then on, the old value comes back, and no
-//! other part changes.
+//! It uses `location`, `scheme` and `url_ref` alone, and takes no memory. Its contracts: what is returned is
+//! the field, and of the spelling of the path whether it is retained; what is stored is there from then on,
+//! the old value comes back, and no other part changes.
 
 ghost use Rattle.std.specs.Prelude.{◌≡◌, ◌↔◌, IsSome, IsTrue, [], ◌∷◌, false, option_map, string_bytes};
 ghost use Rattle.std.specs.Option.{option_or};
@@ -13,6 +13,7 @@ ghost use Rattle.gix_url.specs.Value.Protocol.{ssh};
 
 use crate::location::Url;
 use crate::scheme::Scheme;
+use crate::url_ref::UrlRef;
 use bstr::BString;
 use std::alloc::Global;
 use std::mem;
@@ -104,10 +105,7 @@ impl Url {
     pub fn port_or_default(&self) -> Option<u16>
         ensures { result ≡ option_or self.now.port (default_port_of self.now.scheme) }
     {
-        match self.port {
-            Some(port) => Some(port),
-            None => self.scheme.default_port(),
-        }
+        self.as_ref().port_or_default()
     }
 
     /// Whether the path is `/`. It takes no memory.
@@ -123,7 +121,7 @@ impl Url {
     pub fn path_is_root(&self) -> bool
         ensures { IsTrue result ↔ (self.now.path ≡ slash ∷ []) }
     {
-        self.path.as_bytes() == b"/".as_slice()
+        self.as_ref().path_is_root()
     }
 
     /// Whether a spelling of the path is retained, with its escapes. It takes no memory.
@@ -195,5 +193,40 @@ impl Url {
     {
         self.serialize_alternative_form = flag;
         self
+    }
+}
+
+impl UrlRef<'_> {
+    /// The port, or else the one that the scheme stands for, as [`Url::port_or_default`] has it. It takes no
+    /// memory.
+    ///
+    /// ```
+    /// fn is_same_service(one: &UrlRef<'_>, other: &UrlRef<'_>) -> bool {
+    ///     // `https://host/repo` and `https://host:443/repo` are
+    ///     one.host == other.host && one.port_or_default() == other.port_or_default()
+    /// }
+    /// ```
+    #[inline(always)]
+    pub fn port_or_default(&self) -> Option<u16>
+        ensures { result ≡ option_or self.now.port (default_port_of self.now.scheme) }
+    {
+        match self.port {
+            Some(port) => Some(port),
+            None => self.scheme.default_port(),
+        }
+    }
+
+    /// Whether the path is `/`, as [`Url::path_is_root`] tells. It takes no memory.
+    ///
+    /// ```
+    /// fn names_a_repository(url: &UrlRef<'_>) -> bool {
+    ///     !url.path_is_root()
+    /// }
+    /// ```
+    #[inline(always)]
+    pub fn path_is_root(&self) -> bool
+        ensures { IsTrue result ↔ (self.now.path ≡ slash ∷ []) }
+    {
+        self.path == b"/".as_slice()
     }
 }

@@ -133,13 +133,7 @@ impl Scheme {
     pub fn default_port(&self) -> Option<u16>
         ensures { result ≡ default_port_of (protocol self.now) }
     {
-        match self {
-            Scheme::Http => Some(80),
-            Scheme::Https => Some(443),
-            Scheme::Ssh => Some(22),
-            Scheme::Git => Some(9418),
-            Scheme::File | Scheme::Ext | Scheme::Helper(_) | Scheme::HelperUrl(_) => None,
-        }
+        self.as_ref().default_port()
     }
 
     /// The same scheme, borrowed. It takes no memory.
@@ -212,6 +206,28 @@ impl<'a> SchemeRef<'a> {
             SchemeRef::Ext => "ext",
             SchemeRef::Helper(name) => name,
             SchemeRef::HelperUrl(name) => name,
+        }
+    }
+
+    /// The port that the scheme stands for where a location names none, as [`Scheme::default_port`] has it.
+    /// It takes no memory.
+    ///
+    /// ```
+    /// fn port_of(scheme: SchemeRef<'_>) -> u16 {
+    ///     scheme.default_port().unwrap_or(0) // 9418 of `SchemeRef::Git`, 0 of `SchemeRef::File`
+    /// }
+    /// ```
+    #[inline(always)]
+    pub fn default_port(self) -> Option<u16>
+        ensures { result ≡ default_port_of (lent_protocol self.entry) }
+    {
+        match self {
+            SchemeRef::Http => Some(80),
+            SchemeRef::Https => Some(443),
+            SchemeRef::Ssh => Some(22),
+            SchemeRef::Git => Some(9418),
+            SchemeRef::File | SchemeRef::Ext | SchemeRef::Helper(_) | SchemeRef::HelperUrl(_) =>
+                None,
         }
     }
 }

@@ -66,7 +66,7 @@ impl fmt::Debug for StoredUrl {
         f.debug_struct("StoredUrl")
             .field("scheme", &self.scheme)
             .field("user", &self.user)
-            .field("password", &hidden_password(&self.password))
+            .field("password", &hidden_password(self.password.as_deref()))
             .field("host", &self.host)
             .field(
                 "serialize_alternative_form",

@@ -1,18 +1,21 @@
 //! Writing: the text of a location, its length, and the spelling of its path.
 //!
-//! The text is laid out once, as pieces: slices of the location with the way that each is written. `form` chooses the
-//! form, `layout` the pieces, `piece` adds up their lengths and puts them into a sink, `ready` tells texts that need
-//! no escape, and `sink` and `show` are the sinks. The contract of each public call is the text of the definitions.
+//! The text is laid out once, as pieces: slices of the location with the way that each is written. `form`
+//! chooses the form, `layout` the pieces, `piece` adds up their lengths and puts them into a sink, `ready`
+//! tells texts that need no escape, and `sink`, `fill` and `show` are the sinks. The contract of each public
+//! call is the text of the definitions.
 
-ghost use Rattle.std.specs.Prelude.{◌≡◌, [], Ok, Err, IsOk, IfOk, IfErr, is_ok, option_map};
+ghost use Rattle.std.specs.Prelude.{◌≡◌, [], Ok, Err, IsOk, IfOk, IfErr, is_ok, length, option_map};
 ghost use Rattle.bstr.specs.BStr.{bstr_bytes};
 ghost use Rattle.bstr.specs.Owned.{bstring_bytes};
 ghost use Rattle.gix_url.specs.declared.error.WriteFault.{WriteFault};
+ghost use Rattle.gix_url.specs.Fills.{Placed};
 ghost use Rattle.gix_url.specs.Text.{canonical_text, in_form, original_path, text, text_in};
 ghost use Rattle.gix_url.specs.Pieces.{form_chosen, form_of, pieces_text, text_length, text_of_pieces};
 ghost use Rattle.gix_url.specs.Readings.{Written, IsUnwritten, WritesAgain};
 ghost use Rattle.gix_url.specs.Settled.{IsSettled};
 
+mod fill;
 mod form;
 mod layout;
 pub(crate) mod piece;
@@ -24,6 +27,7 @@ use crate::error::{Error, WriteError, WriteFault};
 use crate::location::Url;
 use crate::url_ref::UrlRef;
 use crate::value_law::law_lent_value;
+use crate::writer::fill::fill;
 use crate::writer::form::Form;
 use crate::writer::piece::Pieces;
 use crate::writer::sink::{Output, Room};
@@ -157,6 +161,31 @@ impl<'a> UrlRef<'a> {
         Ok(pieces.len())
     }
 
+    /// Puts the text of the location at the front of the room, if it fits, and answers its length. The rest
+    /// of the room is as it was; so is all of it where the text doesn't fit, which the length tells, or where
+    /// there is none. It takes no memory.
+    ///
+    /// ```
+    /// /// The text of a location in room that is at hand, if it fits.
+    /// fn in_room<'a>(url: &UrlRef<'_>, room: &'a mut [u8]) -> Result<Option<&'a [u8]>, WriteFault> {
+    ///     let length = url.write_into(room)?;
+    ///     Ok(usize::try_from(length).ok().and_then(|length| room.get(..length)))
+    /// }
+    /// ```
+    ///
+    /// # Errors
+    ///
+    /// The fault, exactly where the location has no text.
+    pub fn write_into(&self, room: &mut [u8]) -> Result<u128, WriteFault>
+        ensures length { result ≡ text_length (text self.now) }
+        ensures placed { Placed (text self.now) room.old room.new }
+    {
+        match self.own_form() {
+            Ok(form) => Ok(self.place_in(form, room)),
+            Err(fault) => Err(fault),
+        }
+    }
+
     /// The text of the location, as [`Url::to_bstring`] has it. Memory is asked for once, for the whole text, and not at
     /// all where there is none.
     ///
@@ -237,6 +266,30 @@ impl<'a> UrlRef<'a> {
         collect(alloc, &self.canonical_pieces(self.password, &mut digits))
     }
 
+    /// Puts the text in this form into the room, if it fits, and answers its length. Each form is put by
+    /// itself, as it is collected.
+    fn place_in(&self, form: Form, room: &mut [u8]) -> u128
+        ensures length { result ≡ length (text_in (form_of form) self.now) }
+        ensures placed { Placed (Ok (text_in (form_of form) self.now)) room.old room.new }
+    {
+        match form {
+            Form::Helper => place(&self.helper_pieces(), room),
+            Form::Path => place(&self.path_pieces(), room),
+            Form::Scp => place(&self.scp_pieces(), room),
+            Form::Canonical => self.place_canonical(room),
+        }
+    }
+
+    /// Puts the text as a URL into the room, if it fits, and answers its length.
+    #[inline(never)]
+    fn place_canonical(&self, room: &mut [u8]) -> u128
+        ensures length { result ≡ length (canonical_text self.now) }
+        ensures placed { Placed (Ok (canonical_text self.now)) room.old room.new }
+    {
+        let mut digits = Buffer::new();
+        place(&self.canonical_pieces(self.password, &mut digits), room)
+    }
+
     /// The pieces of the text, or why there is none. The digits of the port stand in the buffer.
     pub(crate) fn own_pieces<'b>(&'b self, digits: &'b mut Buffer) -> Result<Pieces<'b>, WriteFault>
         ensures { text_of_pieces result ≡ text self.now }
@@ -258,4 +311,17 @@ fn collect(alloc: Global, pieces: &Pieces<'_>) -> Result<BString, Error>
     let mut text = Vec::with_capacity(alloc, len)?;
     let Ok(()) = pieces.put::<Vec<u8>, Room>(&mut text);
     Ok(BString::new(text))
+}
+
+/// Puts the text of the pieces at the front of the room, if it fits, and answers its length.
+#[inline(always)]
+fn place(pieces: &Pieces<'_>, room: &mut [u8]) -> u128
+    ensures length { result ≡ length (pieces_text pieces.now) }
+    ensures placed { Placed (Ok (pieces_text pieces.now)) room.old room.new }
+{
+    let len = pieces.len();
+    if len <= room.len() as u128 {
+        fill(room, pieces);
+    }
+    len
 }

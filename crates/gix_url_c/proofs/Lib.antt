@@ -1,5 +1,4 @@
 -- The lemmas that the proofs of functions cite.
-pub mod GivenLemmas
 pub mod PartedLemmas
 pub mod ProblemLemmas
 pub mod ShownLemmas

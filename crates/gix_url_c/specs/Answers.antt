@@ -1,5 +1,5 @@
 -- What the calls answer: which answer of the library was told, and how.
-use Rattle.std.specs.Prelude.{◌≡◌, ℕ, Bool, IsTrue, ◌↔◌, List, length, Option, Some, None, Result, Ok, Err}
+use Rattle.std.specs.Prelude.{◌≡◌, ℕ, ◌-◌, ◌^◌, min, Bool, IsTrue, ◌↔◌, List, length, Option, Some, None, Result, Ok, Err}
 use Rattle.gix_url.specs.declared.error.Error.{Error}
 use Rattle.gix_url.specs.declared.error.WriteFault.{WriteFault}
 use Rattle.gix_url.specs.Value.{Location}
@@ -43,9 +43,13 @@ TellsFault f problem code = (code ≡ unwritable) × (problem ≡ problem_number
 abbrev pub PutsText : List ℕ → List ℕ → List ℕ → ℕ → ℕ → Type 0
 PutsText t old new len code = (len ≡ length t) × Puts t old new code
 
+-- a length as it is told: of one that is no number of C's the largest such number, and no room is so large
+abbrev pub told_length : ℕ → ℕ
+told_length n = min n (2 ^ 64 - 1)
+
 -- a text is told, or the fault for which there is none
 abbrev pub TellsText : Result (List ℕ) WriteFault → List ℕ → List ℕ → ℕ → Problem → ℕ → Type 0
-TellsText (Ok t) old new len problem code = PutsText t old new len code
+TellsText (Ok t) old new len problem code = (len ≡ told_length (length t)) × Puts t old new code
 TellsText (Err f) old new len problem code = TellsFault f problem code
 
 -- what the location is shown as is told, or the fault for which it has no text

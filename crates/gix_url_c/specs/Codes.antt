@@ -91,14 +91,10 @@ problem_of error.Unresolved = no_problem
 abbrev pub has_problem : ℕ → Bool
 has_problem code = nat_lt memory code && not (nat_lt unwritable code)
 
--- memory was refused, or what was given is no location, as it is said
-abbrev pub IsUnmade : ℕ → Type 0 → Type 0
-IsUnmade code none = (code ≡ memory) ⊎ ((code ≡ no_location) × none)
-
 -- memory was refused, or else this holds
 abbrev pub UnlessMemory : ℕ → Type 0 → Type 0
 UnlessMemory code holds = (code ≡ memory) ⊎ holds
 
--- no location is made; or else what was given is one, and this holds
-abbrev pub Unless : ℕ → Type 0 → Type 0 → Type 0
-Unless code none holds = IsUnmade code none ⊎ ((¬ none) × holds)
+-- what was given is no location, and it is told; or else it is one, and this holds
+abbrev pub UnlessNone : ℕ → Type 0 → Type 0 → Type 0
+UnlessNone code none holds = ((code ≡ no_location) × none) ⊎ ((¬ none) × holds)

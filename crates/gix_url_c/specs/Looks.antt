@@ -1,5 +1,5 @@
 -- What C is told of a location that no memory is wanted for.
-use Rattle.std.specs.Prelude.{◌≡◌, ℕ, IsTrue, ◌↔◌, [], ◌∷◌, if◌then◌else◌}
+use Rattle.std.specs.Prelude.{◌≡◌, ℕ, Bool, true, false, Option, Some, None, IsTrue, ◌↔◌, [], ◌∷◌, if◌then◌else◌}
 use Rattle.std.specs.Option.{option_or}
 use Rattle.gix_url.specs.Value.{Location}
 use Rattle.gix_url.specs.Bytes.{slash}
@@ -16,6 +16,16 @@ abbrev pub judgement_number : Judgement → ℕ
 judgement_number absent = 0
 judgement_number (usable text) = 1
 judgement_number (dangerous text) = 2
+
+-- a truth as a number
+abbrev pub truth : Bool → ℕ
+truth false = 0
+truth true = 1
+
+-- a port as a number, and past all ports where there is none
+abbrev pub port_number : Option ℕ → ℕ
+port_number None = 65536
+port_number (Some port) = port
 
 -- what was seen of a location
 pub record Looks (v : Location) (seen : Seen) : Type 0 where

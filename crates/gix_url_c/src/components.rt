@@ -6,15 +6,15 @@
 ghost use Rattle.std.specs.Prelude.{◌≡◌, ◌++◌, ◌⊎◌, IfOk, OnOk, length, map, option_map};
 ghost use Rattle.bstr.specs.BStr.{bstr_bytes};
 ghost use Rattle.gix_url.specs.ComponentViews.{components, pair_bytes};
-ghost use Rattle.gix_url_c.specs.Codes.{Unless, UnlessMemory, no_room, ok};
-ghost use Rattle.gix_url_c.specs.Given.{IsNone, given};
+ghost use Rattle.gix_url_c.specs.Codes.{UnlessMemory, UnlessNone, no_room, ok};
+ghost use Rattle.gix_url_c.specs.Given.{IsNone, location_of};
 ghost use Rattle.gix_url_c.specs.Handed.{is_there, or_nothing};
 ghost use Rattle.gix_url_c.specs.Left.{LeavesLengths, LeavesRoom};
 ghost use Rattle.gix_url_c.specs.Parted.{PutsBoth, TellsParts, component_bytes, joined_pair, joined_pairs, lengths_of_pair, pair_lengths, pairs_of, parted};
 
-use crate::codes::{MEMORY, NO_ROOM, OK};
-use crate::given::{Front, located};
-use gix_url::{PathComponents, QueryText, Url};
+use crate::codes::{MEMORY, NO_LOCATION, NO_ROOM, OK};
+use crate::given::{Given, located};
+use gix_url::{PathComponents, QueryText, UrlRef};
 use std::alloc::{AllocError, Global};
 
 /// The components of a path: numbers, and lengths in bytes.
@@ -36,38 +36,39 @@ pub struct Parted {
 }
 
 /// Puts the components into the room, the path first, then the fragment, then each name with its value, and the lengths
-/// of names and values in turn into `lengths`: [`gix_url::Url::path_query_fragment`].
+/// of names and values in turn into `lengths`: [`gix_url::UrlRef::path_query_fragment`].
 ///
 /// It answers 0; 1 where memory is refused; 101 where the parts are none of a location; 102 where the bytes or the
 /// lengths don't fit, whose numbers are told.
 #[unsafe(no_mangle)]
-#[allow(clippy::too_many_arguments)]
 pub extern "C" fn gix_url_c_components(
     alloc: Global,
-    front: &Front,
-    name: &[u8],
-    user: &[u8],
-    password: &[u8],
-    host: &[u8],
-    path: &[u8],
-    spelling: &[u8],
+    given: &Given<'_>,
     told: &mut Parted,
     room: &mut [u8],
     lengths: &mut [usize],
 ) -> u32
-    ensures told { Unless result (IsNone front.now name.now user.now password.now host.now) (TellsParts (given front.now name.now user.now password.now host.now path.now spelling.now) told.new room.old room.new lengths.old lengths.new result) }
+    ensures told { UnlessNone result (IsNone given.now)
+        (UnlessMemory result
+        (TellsParts (location_of given.now) told.new room.old room.new lengths.old lengths.new result)) }
     ensures room { LeavesRoom result room.old room.new }
     ensures lengths { LeavesRoom result lengths.old lengths.new }
     ensures numbers { LeavesLengths result told.old told.new }
 {
-    match located(alloc, front, name, user, password, host, path, spelling) {
-        Ok(url) => part(alloc, &url, told, room, lengths),
-        Err(code) => code,
+    match located(given) {
+        Some(url) => part(alloc, &url, told, room, lengths),
+        None => NO_LOCATION,
     }
 }
 
 /// Tells the components of the location.
-fn part(alloc: Global, url: &Url, told: &mut Parted, room: &mut [u8], lengths: &mut [usize]) -> u32
+fn part(
+    alloc: Global,
+    url: &UrlRef<'_>,
+    told: &mut Parted,
+    room: &mut [u8],
+    lengths: &mut [usize],
+) -> u32
     ensures told { UnlessMemory result (TellsParts url.now told.new room.old room.new lengths.old lengths.new result) }
     ensures room { LeavesRoom result room.old room.new }
     ensures lengths { LeavesRoom result lengths.old lengths.new }

@@ -5,16 +5,15 @@
 ghost use Rattle.std.specs.Prelude.{◌≡◌, ◌↔◌, IsTrue, if◌then◌else◌};
 ghost use Rattle.gix_url.specs.Views.{judgement};
 ghost use Rattle.gix_url.specs.Text.{original_path};
-ghost use Rattle.gix_url_c.specs.Codes.{Unless, ok};
-ghost use Rattle.gix_url_c.specs.Given.{IsNone, given, present};
-ghost use Rattle.gix_url_c.specs.Handed.{is_there, or_nothing, or_zero};
+ghost use Rattle.gix_url_c.specs.Codes.{UnlessNone, memory, ok};
+ghost use Rattle.gix_url_c.specs.Given.{IsNone, location_of};
+ghost use Rattle.gix_url_c.specs.Handed.{or_nothing};
 ghost use Rattle.gix_url_c.specs.Left.{LeavesRoom};
 ghost use Rattle.gix_url_c.specs.Looks.{Looks, judgement_number};
 
-use crate::codes::OK;
-use crate::given::{Front, is_spelled, located};
-use gix_url::{ArgumentSafety, Url};
-use std::alloc::Global;
+use crate::codes::{NO_LOCATION, OK};
+use crate::given::{Given, located};
+use gix_url::{ArgumentSafety, UrlRef};
 
 /// What is seen of a location.
 #[repr(C)]
@@ -36,40 +35,29 @@ pub struct Seen {
     pub port: u16,
 }
 
-/// Looks at the location: [`gix_url::Url::user_as_argument`], [`gix_url::Url::host_as_argument`],
-/// [`gix_url::Url::path_argument_safe`], [`gix_url::Url::path_is_root`], [`gix_url::Url::original_path`] and
-/// [`gix_url::Url::port_or_default`].
+/// Looks at the location: [`gix_url::UrlRef::user_as_argument`], [`gix_url::UrlRef::host_as_argument`],
+/// [`gix_url::UrlRef::path_argument_safe`], [`gix_url::UrlRef::path_is_root`],
+/// [`gix_url::UrlRef::original_path`] and [`gix_url::UrlRef::port_or_default`].
 ///
-/// It answers 0; 1 where memory is refused; 101 where the parts are none of a location.
+/// It answers 0, or 101 where the parts are none of a location. It takes no memory.
 #[unsafe(no_mangle)]
-#[allow(clippy::too_many_arguments)]
-pub extern "C" fn gix_url_c_look(
-    alloc: Global,
-    front: &Front,
-    name: &[u8],
-    user: &[u8],
-    password: &[u8],
-    host: &[u8],
-    path: &[u8],
-    spelling: &[u8],
-    seen: &mut Seen,
-) -> u32
-    ensures told { Unless result (IsNone front.now name.now user.now password.now host.now) ((result ≡ ok) × Looks (given front.now name.now user.now password.now host.now path.now spelling.now) seen.new) }
+pub extern "C" fn gix_url_c_look(given: &Given<'_>, seen: &mut Seen) -> u32
+    ensures told { UnlessNone result (IsNone given.now)
+        ((result ≡ ok) × Looks (location_of given.now) seen.new) }
     ensures left { LeavesRoom result seen.old seen.new }
+    ensures no_memory { ¬ (result ≡ memory) }
 {
-    match located(alloc, front, name, user, password, host, path, spelling) {
-        Ok(url) => {
-            let has_spelling = is_spelled(front.has_spelling, spelling, path);
-            *seen = look(&url, has_spelling, spelling);
+    match located(given) {
+        Some(url) => {
+            *seen = look(&url);
             OK
         }
-        Err(code) => code,
+        None => NO_LOCATION,
     }
 }
 
-/// What is seen of the location, whose retained spelling is given.
-fn look(url: &Url, has_spelling: bool, spelling: &[u8]) -> Seen
-    requires { url.now.spelling ≡ present has_spelling spelling.now }
+/// What is seen of the location.
+fn look(url: &UrlRef<'_>) -> Seen
     ensures { Looks url.now result }
 {
     let port = url.port_or_default();
@@ -78,18 +66,20 @@ fn look(url: &Url, has_spelling: bool, spelling: &[u8]) -> Seen
         host: judgement_number(url.host_as_argument()),
         path: url.path_argument_safe().is_some(),
         is_root: url.path_is_root(),
-        is_spelled: shows_spelling(url, has_spelling, spelling),
+        is_spelled: shows_spelling(url),
         has_port: port.is_some(),
         port: port.unwrap_or(0),
     }
 }
 
-/// Whether the original path is the retained spelling, which is given.
-fn shows_spelling(url: &Url, has_spelling: bool, spelling: &[u8]) -> bool
-    requires { url.now.spelling ≡ present has_spelling spelling.now }
+/// Whether the original path is the retained spelling.
+fn shows_spelling(url: &UrlRef<'_>) -> bool
     ensures { original_path url.now ≡ (if result then or_nothing url.now.spelling else url.now.path) }
 {
-    has_spelling && url.original_path().as_bytes() == spelling
+    match url.spelling {
+        None => false,
+        Some(spelling) => url.original_path().as_bytes() == spelling,
+    }
 }
 
 /// The number of what a part is to a command line.

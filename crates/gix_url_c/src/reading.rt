@@ -3,21 +3,22 @@
 //! They use `given` and `handed`. Their contracts: what is told is what the library's call answers. With an error the room
 //! is as it was, and the numbers are, except with 102; the problem is that of the error, and all 0 where there is none.
 
-ghost use Rattle.std.specs.Prelude.{None, []};
+ghost use Rattle.std.specs.Prelude.{◌≡◌, ◌⊎◌, Err, IfOk, [], option_map, string_bytes};
 ghost use Rattle.gix_url.specs.FromParts.{MadeOf};
 ghost use Rattle.gix_url.specs.Value.{fields};
+ghost use Rattle.gix_url.specs.Views.{lent_protocol, protocol};
 ghost use Rattle.gix_url_c.specs.Answers.{Tells, TellsMade, TellsRead};
-ghost use Rattle.gix_url_c.specs.Codes.{Unless, no_problem};
-ghost use Rattle.gix_url_c.specs.Given.{IsNone, given};
+ghost use Rattle.gix_url_c.specs.Codes.{UnlessMemory, UnlessNone, no_problem};
+ghost use Rattle.gix_url_c.specs.Given.{IsNone, location_of};
 ghost use Rattle.gix_url_c.specs.Left.{LeavesLengths, LeavesProblem, LeavesRoom};
 
-use crate::codes::{Problem, error_code, no_problem, told_of};
-use crate::given::{Front, located};
+use crate::codes::{NO_LOCATION, Problem, error_code, no_problem, told_of};
+use crate::given::{Given, located};
 use crate::handed::{Made, hand_out};
 use bstr::{BStr, BString};
 use gix_url::parse::parse;
-use gix_url::{Error, Url};
-use std::alloc::Global;
+use gix_url::{Error, Scheme, SchemeRef, Url, UrlRef};
+use std::alloc::{AllocError, Global};
 
 /// Reads the one location that the bytes spell, and hands it out: [`gix_url::parse::parse`].
 ///
@@ -45,52 +46,69 @@ pub extern "C" fn gix_url_c_read(
 /// It answers 0, or why there is no location: 1 to 8, with what is told of it; 101 where the parts are none. 102 says that
 /// there is a location, and that its parts don't fit into the room; their lengths are told.
 #[unsafe(no_mangle)]
-#[allow(clippy::too_many_arguments)]
 pub extern "C" fn gix_url_c_from_parts(
     alloc: Global,
-    front: &Front,
-    name: &[u8],
-    user: &[u8],
-    password: &[u8],
-    host: &[u8],
-    path: &[u8],
+    given: &Given<'_>,
     made: &mut Made,
     room: &mut [u8],
     told: &mut Problem,
 ) -> u32
-    ensures told { let parts = fields (given front.now name.now user.now password.now host.now path.now []) in
-        Unless result (IsNone front.now name.now user.now password.now host.now) (TellsMade parts made.new room.old room.new told.new result) }
+    ensures told { let parts = fields (location_of given.now) in
+        UnlessNone result (IsNone given.now)
+        (UnlessMemory result (TellsMade parts made.new room.old room.new told.new result)) }
     ensures room { LeavesRoom result room.old room.new }
     ensures lengths { LeavesLengths result made.old made.new }
     ensures problem { LeavesProblem result no_problem told.new }
 {
-    let unspelled = Front {
-        has_spelling: false,
-        ..*front
-    };
-    match located(alloc, &unspelled, name, user, password, host, path, b"") {
-        Ok(url) => tell(alloc, of_parts(alloc, url), made, room, told),
-        Err(code) => {
+    match located(given) {
+        Some(parts) => tell(alloc, of_parts(alloc, &parts), made, room, told),
+        None => {
             *told = no_problem();
-            code
+            NO_LOCATION
         }
     }
 }
 
-/// The location that the text of the parts of this one means.
-fn of_parts(alloc: Global, url: Url) -> Result<Url, Error>
-    ensures { MadeOf (fields url) result }
+/// The location that the text of these parts means; or memory was refused.
+fn of_parts(alloc: Global, parts: &UrlRef<'_>) -> Result<Url, Error>
+    ensures { (result ≡ Err Error.Memory) ⊎ MadeOf (fields parts.now) result }
 {
     Url::from_parts(
         alloc,
-        url.scheme,
-        url.user,
-        url.password,
-        url.host,
-        url.port,
-        url.path,
-        url.serialize_alternative_form,
+        scheme(alloc, parts.scheme)?,
+        text(alloc, parts.user)?,
+        text(alloc, parts.password)?,
+        text(alloc, parts.host)?,
+        parts.port,
+        BString::new(Vec::from_slice(alloc, parts.path)?),
+        parts.serialize_alternative_form,
     )
+}
+
+/// A copy of the scheme.
+fn scheme(alloc: Global, scheme: SchemeRef<'_>) -> Result<Scheme, AllocError>
+    ensures { IfOk result (λ copy. protocol copy ≡ lent_protocol scheme.entry) }
+{
+    match scheme {
+        SchemeRef::File => Ok(Scheme::File),
+        SchemeRef::Git => Ok(Scheme::Git),
+        SchemeRef::Ssh => Ok(Scheme::Ssh),
+        SchemeRef::Http => Ok(Scheme::Http),
+        SchemeRef::Https => Ok(Scheme::Https),
+        SchemeRef::Ext => Ok(Scheme::Ext),
+        SchemeRef::Helper(name) => Ok(Scheme::Helper(String::from_str(alloc, name)?)),
+        SchemeRef::HelperUrl(name) => Ok(Scheme::HelperUrl(String::from_str(alloc, name)?)),
+    }
+}
+
+/// A copy of a text that may be missing.
+fn text(alloc: Global, part: Option<&str>) -> Result<Option<String>, AllocError>
+    ensures { IfOk result (λ copy. option_map string_bytes copy ≡ option_map (λ t. t.now) part.entry) }
+{
+    match part {
+        None => Ok(None),
+        Some(text) => Ok(Some(String::from_str(alloc, text)?)),
+    }
 }
 
 /// Tells an answer: hands a location out, or tells an error by its numbers.

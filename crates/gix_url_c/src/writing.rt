@@ -4,156 +4,144 @@
 //! They use `given` and `room`. Their contracts: what is told is what the library's call answers. With an error the room
 //! and the answer are as they were, and the length is, except with 102; the problem is the fault with 8, and else all 0.
 
-ghost use Rattle.std.specs.Prelude.{◌≡◌, ◌↔◌, IsTrue};
+ghost use Rattle.std.specs.Prelude.{◌≡◌, if◌then◌else◌, nat_lt};
 ghost use Rattle.gix_url.specs.Text.{text};
-ghost use Rattle.gix_url_c.specs.Answers.{TellsAgreement, TellsDisplay, TellsSettled, TellsText};
-ghost use Rattle.gix_url_c.specs.Codes.{Unless, UnlessMemory, no_problem};
-ghost use Rattle.gix_url_c.specs.Given.{IsNone, given};
+ghost use Rattle.gix_url_c.specs.Answers.{TellsAgreement, TellsDisplay, TellsSettled, TellsText, told_length};
+ghost use Rattle.gix_url_c.specs.Codes.{UnlessMemory, UnlessNone, memory, no_problem, no_room, ok};
+ghost use Rattle.gix_url_c.specs.Given.{IsNone, location_of};
 ghost use Rattle.gix_url_c.specs.Left.{LeavesLengths, LeavesProblem, LeavesRoom};
 
-use crate::codes::{MEMORY, OK, Problem, UNWRITABLE, no_problem, unwritable};
-use crate::given::{Front, located};
+use crate::codes::{MEMORY, NO_LOCATION, NO_ROOM, OK, Problem, UNWRITABLE, no_problem, unwritable};
+use crate::given::{Given, located};
 use crate::room::put_text;
-use gix_url::{Error, Url};
+use gix_url::UrlRef;
 use std::alloc::Global;
 
-/// Tells whether the location is settled: [`gix_url::Url::is_settled`].
+/// Tells whether the location is settled: [`gix_url::UrlRef::is_settled`].
 ///
-/// It answers 0; 1 where memory is refused; 101 where the parts are none of a location.
+/// It answers 0, or 101 where the parts are none of a location. It takes no memory.
 #[unsafe(no_mangle)]
-#[allow(clippy::too_many_arguments)]
-pub extern "C" fn gix_url_c_is_settled(
-    alloc: Global,
-    front: &Front,
-    name: &[u8],
-    user: &[u8],
-    password: &[u8],
-    host: &[u8],
-    path: &[u8],
-    spelling: &[u8],
-    settled: &mut bool,
-) -> u32
-    ensures told { Unless result (IsNone front.now name.now user.now password.now host.now) (TellsSettled (given front.now name.now user.now password.now host.now path.now spelling.now) settled.new result) }
+pub extern "C" fn gix_url_c_is_settled(given: &Given<'_>, settled: &mut bool) -> u32
+    ensures told { UnlessNone result (IsNone given.now)
+        (TellsSettled (location_of given.now) settled.new result) }
     ensures left { LeavesRoom result settled.old settled.new }
+    ensures no_memory { ¬ (result ≡ memory) }
 {
-    match located(alloc, front, name, user, password, host, path, spelling) {
-        Ok(url) => {
+    match located(given) {
+        Some(url) => {
             *settled = url.is_settled();
             OK
         }
-        Err(code) => code,
+        None => NO_LOCATION,
     }
 }
 
-/// Tells whether Git reads this very place in the text of the location: [`gix_url::Url::agrees_with_git`].
+/// Tells whether Git reads this very place in the text of the location: [`gix_url::UrlRef::agrees_with_git`].
 ///
-/// It answers 0; 1 where memory is refused; 101 where the parts are none of a location.
+/// It answers 0, or 101 where the parts are none of a location. It takes no memory.
 #[unsafe(no_mangle)]
-#[allow(clippy::too_many_arguments)]
-pub extern "C" fn gix_url_c_agrees_with_git(
-    alloc: Global,
-    front: &Front,
-    name: &[u8],
-    user: &[u8],
-    password: &[u8],
-    host: &[u8],
-    path: &[u8],
-    spelling: &[u8],
-    agrees: &mut bool,
-) -> u32
-    ensures told { Unless result (IsNone front.now name.now user.now password.now host.now) (TellsAgreement (given front.now name.now user.now password.now host.now path.now spelling.now) agrees.new result) }
+pub extern "C" fn gix_url_c_agrees_with_git(given: &Given<'_>, agrees: &mut bool) -> u32
+    ensures told { UnlessNone result (IsNone given.now)
+        (TellsAgreement (location_of given.now) agrees.new result) }
     ensures left { LeavesRoom result agrees.old agrees.new }
+    ensures no_memory { ¬ (result ≡ memory) }
 {
-    match located(alloc, front, name, user, password, host, path, spelling) {
-        Ok(url) => {
+    match located(given) {
+        Some(url) => {
             *agrees = url.agrees_with_git();
             OK
         }
-        Err(code) => code,
+        None => NO_LOCATION,
     }
 }
 
-/// Puts the text of the location into the room, and tells its length: [`gix_url::Url::to_bstring`].
+/// Puts the text of the location into the room, and tells its length: [`gix_url::UrlRef::write_into`].
 ///
-/// It answers 0; 1 where memory is refused; 8 where there is no text, with the fault; 101 where the parts are none of a
-/// location; 102 where the text doesn't fit.
+/// It answers 0; 8 where there is no text, with the fault; 101 where the parts are none of a location; 102
+/// where the text doesn't fit. It takes no memory. Of a text that is longer than a number of C's the largest
+/// such number is told.
 #[unsafe(no_mangle)]
-#[allow(clippy::too_many_arguments)]
 pub extern "C" fn gix_url_c_write(
-    alloc: Global,
-    front: &Front,
-    name: &[u8],
-    user: &[u8],
-    password: &[u8],
-    host: &[u8],
-    path: &[u8],
-    spelling: &[u8],
+    given: &Given<'_>,
     room: &mut [u8],
     len: &mut usize,
     told: &mut Problem,
 ) -> u32
-    ensures told { Unless result (IsNone front.now name.now user.now password.now host.now) (TellsText (text (given front.now name.now user.now password.now host.now path.now spelling.now)) room.old room.new len.new told.new result) }
+    ensures told { UnlessNone result (IsNone given.now)
+        (TellsText (text (location_of given.now)) room.old room.new len.new told.new result) }
     ensures room { LeavesRoom result room.old room.new }
     ensures length { LeavesLengths result len.old len.new }
     ensures problem { LeavesProblem result no_problem told.new }
+    ensures no_memory { ¬ (result ≡ memory) }
 {
     *told = no_problem();
-    match located(alloc, front, name, user, password, host, path, spelling) {
-        Ok(url) => write(alloc, &url, room, len, told),
-        Err(code) => code,
+    match located(given) {
+        Some(url) => write(&url, room, len, told),
+        None => NO_LOCATION,
     }
 }
 
-/// Puts what the location is shown as into the room, and tells its length: the `Display` of [`gix_url::Url`].
+/// Puts what the location is shown as into the room, and tells its length: the `Display` of [`gix_url::UrlRef`].
 ///
 /// It answers 0; 1 where memory is refused; 8 where the location has no text, with the fault; 101 where the parts are
 /// none of a location; 102 where it doesn't fit.
 #[unsafe(no_mangle)]
-#[allow(clippy::too_many_arguments)]
 pub extern "C" fn gix_url_c_display(
     alloc: Global,
-    front: &Front,
-    name: &[u8],
-    user: &[u8],
-    password: &[u8],
-    host: &[u8],
-    path: &[u8],
-    spelling: &[u8],
+    given: &Given<'_>,
     room: &mut [u8],
     len: &mut usize,
     told: &mut Problem,
 ) -> u32
-    ensures told { Unless result (IsNone front.now name.now user.now password.now host.now) (TellsDisplay (given front.now name.now user.now password.now host.now path.now spelling.now) room.old room.new len.new told.new result) }
+    ensures told { UnlessNone result (IsNone given.now)
+        (UnlessMemory result
+        (TellsDisplay (location_of given.now) room.old room.new len.new told.new result)) }
     ensures room { LeavesRoom result room.old room.new }
     ensures length { LeavesLengths result len.old len.new }
     ensures problem { LeavesProblem result no_problem told.new }
 {
     *told = no_problem();
-    match located(alloc, front, name, user, password, host, path, spelling) {
-        Ok(url) => show(alloc, &url, room, len, told),
-        Err(code) => code,
+    match located(given) {
+        Some(url) => show(alloc, &url, room, len, told),
+        None => NO_LOCATION,
     }
 }
 
 /// Puts the text of the location into the room.
-fn write(alloc: Global, url: &Url, room: &mut [u8], len: &mut usize, told: &mut Problem) -> u32
-    ensures told { UnlessMemory result (TellsText (text url.now) room.old room.new len.new told.new result) }
+fn write(url: &UrlRef<'_>, room: &mut [u8], len: &mut usize, told: &mut Problem) -> u32
+    ensures told { TellsText (text url.now) room.old room.new len.new told.new result }
     ensures room { LeavesRoom result room.old room.new }
     ensures length { LeavesLengths result len.old len.new }
     ensures problem { LeavesProblem result told.old told.new }
+    ensures no_memory { ¬ (result ≡ memory) }
 {
-    match url.to_bstring(alloc) {
-        Ok(text) => put_text(text.as_bytes(), room, len),
-        Err(Error::Unwritable(fault)) => {
+    let size = room.len();
+    match url.write_into(room) {
+        Ok(length) => measured(length, size, len),
+        Err(fault) => {
             *told = unwritable(fault);
             UNWRITABLE
         }
-        Err(_) => MEMORY,
     }
 }
 
+/// Tells the length of a text, and whether it fits into room of this size.
+fn measured(length: u128, size: usize, len: &mut usize) -> u32
+    ensures length { len.new ≡ told_length length }
+    ensures code { result ≡ (if nat_lt size length then no_room else ok) }
+{
+    *len = usize::try_from(length).unwrap_or(usize::MAX);
+    if (size as u128) < length { NO_ROOM } else { OK }
+}
+
 /// Puts what the location is shown as into the room.
-fn show(alloc: Global, url: &Url, room: &mut [u8], len: &mut usize, told: &mut Problem) -> u32
+fn show(
+    alloc: Global,
+    url: &UrlRef<'_>,
+    room: &mut [u8],
+    len: &mut usize,
+    told: &mut Problem,
+) -> u32
     ensures told { UnlessMemory result (TellsDisplay url.now room.old room.new len.new told.new result) }
     ensures room { LeavesRoom result room.old room.new }
     ensures length { LeavesLengths result len.old len.new }

@@ -7,6 +7,7 @@
 
 use crate::parse::{Error, UrlFault, UrlKind, WriteFault};
 use crate::{ArgumentSafety, Scheme, Url};
+use std::marker::PhantomData;
 
 const OK: u32 = 0;
 const NO_ROOM: u32 = 102;
@@ -51,19 +52,6 @@ struct Problem {
     total: usize,
 }
 
-/// What is seen of a location.
-#[repr(C)]
-#[derive(Clone, Copy, Default)]
-pub(crate) struct Seen {
-    user: u8,
-    host: u8,
-    pub(crate) path: bool,
-    pub(crate) is_root: bool,
-    pub(crate) is_spelled: bool,
-    has_port: bool,
-    port: u16,
-}
-
 /// The numbers of components.
 #[repr(C)]
 #[derive(Clone, Copy, Default)]
@@ -83,34 +71,52 @@ pub(crate) struct Parts {
     pub(crate) fragment: Option<Vec<u8>>,
 }
 
-type Bytes = *const u8;
+/// A slice, as the library takes it.
+#[repr(C)]
+#[derive(Clone, Copy)]
+struct Bytes<'a> {
+    at: *const u8,
+    len: usize,
+    lent: PhantomData<&'a [u8]>,
+}
 
-#[rustfmt::skip]
-unsafe extern "C" {
-    fn gix_url_c_read(input: Bytes, len: usize, made: &mut Made, room: *mut u8, room_len: usize, told: &mut Problem) -> u32;
-    fn gix_url_c_from_parts(front: &Front, name: Bytes, name_len: usize, user: Bytes, user_len: usize, password: Bytes, password_len: usize, host: Bytes, host_len: usize, path: Bytes, path_len: usize, made: &mut Made, room: *mut u8, room_len: usize, told: &mut Problem) -> u32;
-    fn gix_url_c_is_settled(front: &Front, name: Bytes, name_len: usize, user: Bytes, user_len: usize, password: Bytes, password_len: usize, host: Bytes, host_len: usize, path: Bytes, path_len: usize, spelling: Bytes, spelling_len: usize, settled: &mut bool) -> u32;
-    fn gix_url_c_agrees_with_git(front: &Front, name: Bytes, name_len: usize, user: Bytes, user_len: usize, password: Bytes, password_len: usize, host: Bytes, host_len: usize, path: Bytes, path_len: usize, spelling: Bytes, spelling_len: usize, agrees: &mut bool) -> u32;
-    fn gix_url_c_write(front: &Front, name: Bytes, name_len: usize, user: Bytes, user_len: usize, password: Bytes, password_len: usize, host: Bytes, host_len: usize, path: Bytes, path_len: usize, spelling: Bytes, spelling_len: usize, room: *mut u8, room_len: usize, len: &mut usize, told: &mut Problem) -> u32;
-    fn gix_url_c_display(front: &Front, name: Bytes, name_len: usize, user: Bytes, user_len: usize, password: Bytes, password_len: usize, host: Bytes, host_len: usize, path: Bytes, path_len: usize, spelling: Bytes, spelling_len: usize, room: *mut u8, room_len: usize, len: &mut usize, told: &mut Problem) -> u32;
-    fn gix_url_c_look(front: &Front, name: Bytes, name_len: usize, user: Bytes, user_len: usize, password: Bytes, password_len: usize, host: Bytes, host_len: usize, path: Bytes, path_len: usize, spelling: Bytes, spelling_len: usize, seen: &mut Seen) -> u32;
-    fn gix_url_c_components(front: &Front, name: Bytes, name_len: usize, user: Bytes, user_len: usize, password: Bytes, password_len: usize, host: Bytes, host_len: usize, path: Bytes, path_len: usize, spelling: Bytes, spelling_len: usize, told: &mut Parted, room: *mut u8, room_len: usize, lengths: *mut usize, lengths_len: usize) -> u32;
+impl<'a> Bytes<'a> {
+    fn of(bytes: &'a [u8]) -> Bytes<'a> {
+        Bytes { at: bytes.as_ptr(), len: bytes.len(), lent: PhantomData }
+    }
 }
 
 /// The parts of a location as slices; what isn't there is empty.
+#[repr(C)]
 struct Given<'a> {
     front: Front,
-    name: &'a [u8],
-    user: &'a [u8],
-    password: &'a [u8],
-    host: &'a [u8],
-    path: &'a [u8],
-    spelling: &'a [u8],
+    name: Bytes<'a>,
+    user: Bytes<'a>,
+    password: Bytes<'a>,
+    host: Bytes<'a>,
+    path: Bytes<'a>,
+    spelling: Bytes<'a>,
+}
+
+#[rustfmt::skip]
+unsafe extern "C" {
+    fn gix_url_c_read(input: *const u8, len: usize, made: &mut Made, room: *mut u8, room_len: usize, told: &mut Problem) -> u32;
+    fn gix_url_c_from_parts(given: &Given, made: &mut Made, room: *mut u8, room_len: usize, told: &mut Problem) -> u32;
+    fn gix_url_c_is_settled(given: &Given, settled: &mut bool) -> u32;
+    fn gix_url_c_agrees_with_git(given: &Given, agrees: &mut bool) -> u32;
+    fn gix_url_c_write(given: &Given, room: *mut u8, room_len: usize, len: &mut usize, told: &mut Problem) -> u32;
+    fn gix_url_c_display(given: &Given, room: *mut u8, room_len: usize, len: &mut usize, told: &mut Problem) -> u32;
+    fn gix_url_c_components(given: &Given, told: &mut Parted, room: *mut u8, room_len: usize, lengths: *mut usize, lengths_len: usize) -> u32;
+    fn gix_url_c_argument(is_there: bool, text: *const u8, len: usize) -> u32;
+    fn gix_url_c_path_argument(path: *const u8, len: usize) -> u32;
+    fn gix_url_c_path_is_root(path: *const u8, len: usize) -> u32;
+    fn gix_url_c_is_spelled(path: *const u8, len: usize, spelling: *const u8, spelling_len: usize) -> u32;
+    fn gix_url_c_port_or_default(scheme: u8, has_port: bool, port: u16) -> u32;
 }
 
 impl<'a> Given<'a> {
     fn of(url: &'a Url) -> Given<'a> {
-        let text = |part: &'a Option<String>| part.as_deref().unwrap_or("").as_bytes();
+        let text = |part: &'a Option<String>| Bytes::of(part.as_deref().unwrap_or("").as_bytes());
         let (scheme, name) = number(&url.scheme);
         Given {
             front: Front {
@@ -123,28 +129,22 @@ impl<'a> Given<'a> {
                 has_spelling: url.spelling.is_some(),
                 port: url.port.unwrap_or(0),
             },
-            name,
+            name: Bytes::of(name),
             user: text(&url.user),
             password: text(&url.password),
             host: text(&url.host),
-            path: &url.path,
-            spelling: url.spelling.as_deref().unwrap_or(&[]),
+            path: Bytes::of(&url.path),
+            spelling: Bytes::of(url.spelling.as_deref().unwrap_or(&[])),
         }
     }
 }
 
-/// Calls an export with the parts of a location, and what else it takes.
+/// Calls an export with what it takes.
 macro_rules! call {
-    ($export:ident, $given:ident, $($more:expr),*) => {
+    ($export:ident, $($given:expr),*) => {
         // SAFETY: the declaration above fits the export. Pointers and lengths are those of slices that are borrowed for
         // the call; what is written to is borrowed for the call alone, as `&mut`, and overlaps with nothing.
-        unsafe {
-            $export(
-                &$given.front, $given.name.as_ptr(), $given.name.len(), $given.user.as_ptr(), $given.user.len(),
-                $given.password.as_ptr(), $given.password.len(), $given.host.as_ptr(), $given.host.len(),
-                $given.path.as_ptr(), $given.path.len(), $($more),*
-            )
-        }
+        unsafe { $export($($given),*) }
     };
 }
 
@@ -297,33 +297,32 @@ pub(crate) fn from_parts(parts: &Url) -> Result<Url, Error> {
     let given = Given::of(parts);
     let (mut made, mut told) = (Made::default(), Problem::default());
     let (code, bytes) = with_room(256, |room| {
-        let code = call!(gix_url_c_from_parts, given, &mut made, room.as_mut_ptr(), room.len(), &mut told);
+        let code = call!(gix_url_c_from_parts, &given, &mut made, room.as_mut_ptr(), room.len(), &mut told);
         (code, bytes_of(&made))
     });
     match code {
         OK => Ok(located(&made, &bytes)),
-        _ => Err(error(code, &told, || write(parts).unwrap_or_default(), given.name)),
+        _ => Err(error(code, &told, || write(parts).unwrap_or_default(), number(&parts.scheme).1)),
     }
 }
 
 /// Whether the location is settled.
-pub(crate) fn is_settled(url: &Url) -> Result<bool, Error> {
-    let given = Given::of(url);
+pub(crate) fn is_settled(url: &Url) -> bool {
     let mut settled = false;
-    match call!(gix_url_c_is_settled, given, given.spelling.as_ptr(), given.spelling.len(), &mut settled) {
-        OK => Ok(settled),
-        code => Err(error(code, &Problem::default(), Vec::new, &[])),
-    }
+    all_answered(call!(gix_url_c_is_settled, &Given::of(url), &mut settled));
+    settled
 }
 
 /// Whether Git reads the same place in the text of the location.
-pub(crate) fn agrees_with_git(url: &Url) -> Result<bool, Error> {
-    let given = Given::of(url);
+pub(crate) fn agrees_with_git(url: &Url) -> bool {
     let mut agrees = false;
-    match call!(gix_url_c_agrees_with_git, given, given.spelling.as_ptr(), given.spelling.len(), &mut agrees) {
-        OK => Ok(agrees),
-        code => Err(error(code, &Problem::default(), Vec::new, &[])),
-    }
+    all_answered(call!(gix_url_c_agrees_with_git, &Given::of(url), &mut agrees));
+    agrees
+}
+
+/// Sees that a call was answered that has no error but that what it is given is no location.
+fn all_answered(code: u32) {
+    assert!(code == OK, "every value of this crate is a location");
 }
 
 /// The text of the location.
@@ -332,16 +331,7 @@ pub(crate) fn write(url: &Url) -> Result<Vec<u8>, Error> {
     let mut told = Problem::default();
     let (code, bytes) = with_room(256, |room| {
         let mut len = 0;
-        let code = call!(
-            gix_url_c_write,
-            given,
-            given.spelling.as_ptr(),
-            given.spelling.len(),
-            room.as_mut_ptr(),
-            room.len(),
-            &mut len,
-            &mut told
-        );
+        let code = call!(gix_url_c_write, &given, room.as_mut_ptr(), room.len(), &mut len, &mut told);
         (code, len)
     });
     match code {
@@ -356,16 +346,7 @@ pub(crate) fn display(url: &Url) -> Result<Vec<u8>, Error> {
     let mut told = Problem::default();
     let (code, bytes) = with_room(256, |room| {
         let mut len = 0;
-        let code = call!(
-            gix_url_c_display,
-            given,
-            given.spelling.as_ptr(),
-            given.spelling.len(),
-            room.as_mut_ptr(),
-            room.len(),
-            &mut len,
-            &mut told
-        );
+        let code = call!(gix_url_c_display, &given, room.as_mut_ptr(), room.len(), &mut len, &mut told);
         (code, len)
     });
     match code {
@@ -374,37 +355,35 @@ pub(crate) fn display(url: &Url) -> Result<Vec<u8>, Error> {
     }
 }
 
-impl Seen {
-    /// What the part is to a command line, by its number.
-    fn judged<'a>(number: u8, part: Option<&'a str>) -> ArgumentSafety<'a> {
-        match (number, part) {
-            (1, Some(text)) => ArgumentSafety::Usable(text),
-            (2, Some(text)) => ArgumentSafety::Dangerous(text),
-            _ => ArgumentSafety::Absent,
-        }
-    }
-
-    pub(crate) fn user<'a>(&self, url: &'a Url) -> ArgumentSafety<'a> {
-        Seen::judged(self.user, url.user.as_deref())
-    }
-
-    pub(crate) fn host<'a>(&self, url: &'a Url) -> ArgumentSafety<'a> {
-        Seen::judged(self.host, url.host.as_deref())
-    }
-
-    pub(crate) fn port(&self) -> Option<u16> {
-        self.has_port.then_some(self.port)
+/// What a part is to a command line.
+pub(crate) fn argument(part: Option<&str>) -> ArgumentSafety<'_> {
+    let bytes = part.unwrap_or("").as_bytes();
+    match (call!(gix_url_c_argument, part.is_some(), bytes.as_ptr(), bytes.len()), part) {
+        (1, Some(text)) => ArgumentSafety::Usable(text),
+        (2, Some(text)) => ArgumentSafety::Dangerous(text),
+        _ => ArgumentSafety::Absent,
     }
 }
 
-/// Looks at the location.
-pub(crate) fn look(url: &Url) -> Result<Seen, Error> {
-    let given = Given::of(url);
-    let mut seen = Seen::default();
-    match call!(gix_url_c_look, given, given.spelling.as_ptr(), given.spelling.len(), &mut seen) {
-        OK => Ok(seen),
-        code => Err(error(code, &Problem::default(), Vec::new, &[])),
-    }
+/// Whether a path may be handed to a command.
+pub(crate) fn is_path_argument(path: &[u8]) -> bool {
+    call!(gix_url_c_path_argument, path.as_ptr(), path.len()) == 1
+}
+
+/// Whether a path is `/`.
+pub(crate) fn is_root(path: &[u8]) -> bool {
+    call!(gix_url_c_path_is_root, path.as_ptr(), path.len()) == 1
+}
+
+/// Whether a path was spelled so: the spelling stands for it.
+pub(crate) fn is_spelled(path: &[u8], spelling: &[u8]) -> bool {
+    call!(gix_url_c_is_spelled, path.as_ptr(), path.len(), spelling.as_ptr(), spelling.len()) == 1
+}
+
+/// The port, or else the one that the scheme stands for.
+pub(crate) fn port_or_default(scheme: &Scheme, port: Option<u16>) -> Option<u16> {
+    let told = call!(gix_url_c_port_or_default, number(scheme).0, port.is_some(), port.unwrap_or(0));
+    u16::try_from(told).ok()
 }
 
 /// Takes the path of the location apart.
@@ -415,9 +394,7 @@ pub(crate) fn components(url: &Url) -> Result<Parts, Error> {
     let (code, room) = with_room(url.path.len() + 1, |room| {
         let code = call!(
             gix_url_c_components,
-            given,
-            given.spelling.as_ptr(),
-            given.spelling.len(),
+            &given,
             &mut told,
             room.as_mut_ptr(),
             room.len(),

@@ -158,12 +158,12 @@ impl Url {
     /// # Ok::<(), parse::Error>(())
     /// ```
     pub fn user_as_argument(&self) -> ArgumentSafety<'_> {
-        unless_memory(door::look(self)).user(self)
+        door::argument(self.user.as_deref())
     }
 
     /// The host as an argument of a command.
     pub fn host_as_argument(&self) -> ArgumentSafety<'_> {
-        unless_memory(door::look(self)).host(self)
+        door::argument(self.host.as_deref())
     }
 
     /// The user, where there is one that doesn't begin with `-`.
@@ -184,20 +184,20 @@ impl Url {
 
     /// The whole path, where it begins with `/` and the byte behind that isn't `-`.
     pub fn path_argument_safe(&self) -> Option<&[u8]> {
-        unless_memory(door::look(self)).path.then_some(&self.path)
+        door::is_path_argument(&self.path).then_some(&self.path)
     }
 
     /// The path as it was spelled, where that still stands for the path, and else the path.
     pub fn original_path(&self) -> &[u8] {
         match &self.spelling {
-            Some(spelling) if unless_memory(door::look(self)).is_spelled => spelling,
+            Some(spelling) if door::is_spelled(&self.path, spelling) => spelling,
             _ => &self.path,
         }
     }
 
     /// Whether the path is `/`.
     pub fn path_is_root(&self) -> bool {
-        unless_memory(door::look(self)).is_root
+        door::is_root(&self.path)
     }
 
     /// The port, or else the one that the scheme stands for.
@@ -207,7 +207,7 @@ impl Url {
     /// # Ok::<(), gix_url_proved::parse::Error>(())
     /// ```
     pub fn port_or_default(&self) -> Option<u16> {
-        unless_memory(door::look(self)).port()
+        door::port_or_default(&self.scheme, self.port)
     }
 
     /// The path, the query and the fragment of a location of HTTP; any other has its path alone. A raw `+` in a name or a
@@ -233,7 +233,7 @@ impl Url {
 
     /// Whether the location's text is read as the same public fields and is written the same again.
     pub fn is_settled(&self) -> bool {
-        unless_memory(door::is_settled(self))
+        door::is_settled(self)
     }
 
     /// Whether Git reads this very place in the text of the location: the same protocol, user, host, port and path.
@@ -258,12 +258,8 @@ impl Url {
     /// assert_eq!(for_git(&parse(b"ssh://u:p@h/p")?), None); // Git reads the user `u:p`
     /// # Ok::<(), parse::Error>(())
     /// ```
-    ///
-    /// # Panics
-    ///
-    /// Where the library is refused memory.
     pub fn agrees_with_git(&self) -> bool {
-        unless_memory(door::agrees_with_git(self))
+        door::agrees_with_git(self)
     }
 
     /// Writes the text of the location.

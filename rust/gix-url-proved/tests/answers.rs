@@ -123,7 +123,7 @@ fn order_is_that_of_the_fields() {
 }
 
 #[test]
-fn a_spelling_that_became_the_path_counts_as_none() {
+fn a_spelling_that_became_the_path_lapses() {
     let mut url = parse(b"http://h/a%20b").unwrap();
     url.path = b"/a%20b".to_vec();
     assert_eq!(url.original_path(), b"/a%20b");

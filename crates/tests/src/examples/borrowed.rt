@@ -1,8 +1,8 @@
 //! Examples of locations that are borrowed.
 
 use bstr::{BStr, BString};
-use gix_url::{ArgumentSafety, Error, Scheme, SchemeRef, Url, UrlRef, WriteError};
-use std::alloc::Global;
+use gix_url::{ArgumentSafety, Error, Scheme, SchemeRef, Url, UrlRef, WriteError, WriteFault};
+use std::alloc::{AllocError, Global};
 use std::test::Fail;
 
 fn is_encrypted(scheme: SchemeRef<'_>) -> bool {
@@ -48,6 +48,37 @@ fn service<'a>(scheme: &'a Scheme, host: &'a str) -> UrlRef<'a> {
 /// The protocol of a location, for as long as what lends it.
 fn protocol_of<'a>(url: &UrlRef<'a>) -> &'a str {
     url.scheme.as_str() // `ssh` of `git@host:repo`
+}
+
+fn port_of(scheme: SchemeRef<'_>) -> u16 {
+    scheme.default_port().unwrap_or(0) // 9418 of `SchemeRef::Git`, 0 of `SchemeRef::File`
+}
+
+fn is_same_service(one: &UrlRef<'_>, other: &UrlRef<'_>) -> bool {
+    // `https://host/repo` and `https://host:443/repo` are
+    one.host == other.host && one.port_or_default() == other.port_or_default()
+}
+
+fn names_a_repository(url: &UrlRef<'_>) -> bool {
+    !url.path_is_root()
+}
+
+fn fragment_of<'a>(alloc: Global, url: &UrlRef<'a>) -> Result<Option<BStr<'a>>, Error> {
+    Ok(url.path_query_fragment(alloc)?.fragment)
+}
+
+fn log_line(alloc: Global, url: &UrlRef<'_>) -> Result<String, AllocError> {
+    format!(in alloc; "fetching {url}") // `fetching ssh://u:redacted@h/p`
+}
+
+/// The text of a location in room that is at hand, if it fits.
+fn in_room<'a>(url: &UrlRef<'_>, room: &'a mut [u8]) -> Result<Option<&'a [u8]>, WriteFault> {
+    let length = url.write_into(room)?;
+    Ok(
+        usize::try_from(length)
+            .ok()
+            .and_then(|length| room.get(..length)),
+    )
 }
 
 fn append(out: &mut Vec<u8>, url: &UrlRef<'_>) -> Result<(), WriteError> {
@@ -157,6 +188,35 @@ fn parts_of_a_program_are_written(rt: HostRuntime) -> Result<(), Fail> {
     assert_eq!(rt; port.port, Some(9418));
     assert_eq!(rt; protocol_of(&port), "git");
     assert!(rt; fits(&port, 16) && !fits(&port, 15));
+    Ok(())
+}
+
+#[test]
+fn room_is_filled_where_the_text_fits(rt: HostRuntime) -> Result<(), Fail> {
+    let url = Url::from_text(rt.alloc(), "ssh://u:p@h/p")?;
+    let mut room = [b'.'; 16];
+    let placed = in_room(&url.as_ref(), &mut room).ok().flatten();
+    assert_eq!(rt; placed, Some(b"ssh://u:p@h/p".as_slice()));
+    assert_eq!(rt; room.as_slice(), b"ssh://u:p@h/p...".as_slice());
+    let placed = in_room(&url.as_ref(), &mut room[..12]).ok();
+    assert_eq!(rt; placed, Some(None));
+    assert_eq!(rt;
+        log_line(rt.alloc(), &url.as_ref())?.as_str(),
+        "fetching ssh://u:redacted@h/p"
+    );
+    Ok(())
+}
+
+#[test]
+fn borrowed_locations_are_asked(rt: HostRuntime) -> Result<(), Fail> {
+    let url = Url::from_text(rt.alloc(), "https://host/repo#top")?;
+    let other = Url::from_text(rt.alloc(), "https://host:443/")?;
+    assert!(rt; is_same_service(&url.as_ref(), &other.as_ref()));
+    assert!(rt; names_a_repository(&url.as_ref()) && !names_a_repository(&other.as_ref()));
+    assert_eq!(rt; port_of(SchemeRef::Git), 9418);
+    let borrowed = url.as_ref();
+    let fragment = fragment_of(rt.alloc(), &borrowed)?;
+    assert_eq!(rt; fragment.map(|it| it.as_bytes()), Some(b"top".as_slice()));
     Ok(())
 }
 

@@ -4,5 +4,7 @@ use mathlib.Core.Logic.{inr}
 use Rattle.gix_url.specs.GitClass.{AgreesWithGit}
 use Rattle.gix_url_c.proofs.writing.gix_url_c_agrees_with_git.Goals as goal
 
-pub returns-in-Ok-clause-told : goal.returns-in-Ok-clause-told
-returns-in-Ok-clause-told c = inr (c.in-Ok.ensures.whole, (refl, subst (λ v. IsTrue c.agrees_with_git.result ↔ AgreesWithGit v) c.in-Ok.ensures.made c.agrees_with_git.ensures))
+pub returns-in-Some-clause-told : goal.returns-in-Some-clause-told
+returns-in-Some-clause-told c =
+    let seen = subst (λ v. IsTrue c.agrees_with_git.result ↔ AgreesWithGit v) c.in-Some.ensures.made c.agrees_with_git.ensures in
+    inr (c.in-Some.ensures.whole, (refl, seen))

@@ -1,13 +1,16 @@
 -- What is told of the location that is made is told of the one that is given.
 use Rattle.std.proofs.Common.{subst}
-use mathlib.Core.Logic.{inl}
+use mathlib.Core.Logic.{inr}
 use Rattle.gix_url_c.specs.Answers.{TellsDisplay}
 use Rattle.gix_url_c.specs.Codes.{UnlessMemory}
-use Rattle.gix_url_c.proofs.GivenLemmas.{answered}
 use Rattle.gix_url_c.proofs.writing.gix_url_c_display.Goals as goal
 
-pub returns-in-Ok-clause-told : goal.returns-in-Ok-clause-told
-returns-in-Ok-clause-told c = answered _ _ _ c.in-Ok.ensures.whole (subst (λ v. UnlessMemory c.show.result (TellsDisplay v c.args.room.now c.show.new.room c.show.new.len c.show.new.told c.show.result)) c.in-Ok.ensures.made c.show.ensures.told)
-
-pub returns-in-Err-clause-told : goal.returns-in-Err-clause-told
-returns-in-Err-clause-told c = inl c.in-Err.ensures.refused
+pub returns-in-Some-clause-told : goal.returns-in-Some-clause-told
+returns-in-Some-clause-told c =
+    let after = c.show.new in
+    inr (
+      c.in-Some.ensures.whole,
+      subst
+          (λ v. UnlessMemory c.show.result (TellsDisplay v c.args.room.now after.room after.len after.told c.show.result))
+          c.in-Some.ensures.made c.show.ensures.told,
+    )

@@ -1,24 +1,24 @@
 -- What the rooms lend are the components of the location.
 use Rattle.std.proofs.Common.{◌∙◌, inl, inr, ap, sym, ⊎_elim, subst}
 use Rattle.gix_url.specs.Value.{Location}
-use Rattle.gix_url.specs.Views.{protocol}
+use Rattle.gix_url.specs.Views.{lent_protocol}
 use Rattle.gix_url.specs.Settled.{IsWeb}
 use Rattle.gix_url.specs.ComponentPieces.{HasQuery}
 use Rattle.gix_url.specs.ComponentViews.{components}
 use Rattle.gix_url.proofs.Parted.ComponentLemmas.{web_parts}
 use Rattle.gix_url.proofs.Parted.HandedLemmas.{parts_meant, path_lent, query_lent, fragment_lent, query_there, given, whole_meant, lends_whole, path_alone_held}
 use Rattle.std.proofs.lemmas.Result.{IfOk-weaker}
-use Rattle.gix_url.proofs.location.Url.path_query_fragment.Goals as goal
+use Rattle.gix_url.proofs.url_ref.UrlRef.path_query_fragment.Goals as goal
 
 pub returns-in-File-clause-path : goal.returns-in-File-clause-path
 returns-in-File-clause-path c =
-    inl (path_alone_held _ c.args.self.now.path (c.as_bstr.ensures ∙ ap (λ (v : Location). v.path) c.self.view_is))
+    inl (path_alone_held _ c.args.self.now.path (c.new.ensures ∙ ap (λ (v : Location). v.path) c.self.view_is))
 
 -- the location is one of HTTP
 is_web : (c : goal.After-web_components) → IsWeb c.args.self.now
 is_web c =
     let seen = sym (ap (λ (v : Location). v.scheme) c.self.view_is) in
-    ⊎_elim (λ e. inl (seen ∙ ap protocol e)) (λ e. inr (seen ∙ ap protocol e)) c.in-Http.is
+    ⊎_elim (λ e. inl (seen ∙ ap lent_protocol e)) (λ e. inr (seen ∙ ap lent_protocol e)) c.in-Http.is
 
 pub returns-in-Http-clause-parts : goal.returns-in-Http-clause-parts
 returns-in-Http-clause-parts c =

@@ -1,0 +1,15 @@
+-- Where the text has no length there is a fault, and the room is as it was.
+use Rattle.std.proofs.Common.{refl, sym}
+use Rattle.gix_url.specs.Text.{text}
+use Rattle.gix_url_c.proofs.ShownLemmas.{unwritten}
+use Rattle.gix_url_c.proofs.writing.write.Goals as goal
+
+pub returns-in-Err-clause-told : goal.returns-in-Err-clause-told
+returns-in-Err-clause-told c =
+    let fault = unwritten (text c.args.url.now) c.in-Err.fault (sym c.in-Err.ensures.length) in
+    rw fault (refl, c.unwritable.ensures)
+
+pub returns-in-Err-clause-room : goal.returns-in-Err-clause-room
+returns-in-Err-clause-room c =
+    let fault = unwritten (text c.args.url.now) c.in-Err.fault (sym c.in-Err.ensures.length) in
+    λ failed. rw fault at c.in-Err.ensures.placed
