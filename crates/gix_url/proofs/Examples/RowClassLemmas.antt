@@ -13,13 +13,11 @@ use Rattle.gix_url.specs.Bytes.{colon, left_bracket, begins_with, is_helper_name
 use Rattle.gix_url.specs.Escapes.{has_percent}
 use Rattle.gix_url.specs.AddressTest.{is_ipv6_text}
 use Rattle.gix_url.specs.Settled.{HasMatch, HasFittingText, IsSettledUrl, IsWebName, IsWebHost, IsNormalAddress, IsBracketedHost, IsScpName, IsSettled}
-use Rattle.gix_url.specs.ClassRows.{SettledRows, WebHostRows, UnsettledWebRows, UnsettledUrlRows, UnsettledOtherRows}
-use Rattle.gix_url.specs.Examples.{no_text, at_host, in_scp}
+use Rattle.gix_url.specs.ClassRows.{no_text, at_host, in_scp, SettledRows, WebHostRows, UnsettledWebRows, UnsettledUrlRows, UnsettledOtherRows}
 use Rattle.gix_url.proofs.Texts.CutLemmas.{different_bytes}
 use Rattle.std.proofs.lemmas.Option.{same_Some}
 use Rattle.gix_url.proofs.Addresses.AddressTestLemmas.{ipv6_text_from, ipv6_text_to}
-use Rattle.gix_url.proofs.Examples.RowNameLemmas.{other_byte}
-use Rattle.gix_url.proofs.Examples.RowFormLemmas.{not_held, neither_free, neither_at, no_scp_free, dot_path_no_scp, shape_row, fits_row}
+use Rattle.gix_url.proofs.Examples.RowFormLemmas.{other_byte, not_held, neither_free, neither_at, no_scp_free, dot_path_no_scp, shape_row, fits_row}
 use Rattle.std.proofs.lemmas.List.{same_from_push}
 
 -- ---- hosts of HTTP
