@@ -259,6 +259,12 @@ SpellsScp b v = SpellsScpBefore b v ⊎ SpellsScpAddressed b v
 
 -- ---- local paths
 
+-- the text has the form of a local path
+pub record LocalShape (b : List ℕ) : Type 0 where
+  pub nonempty : 0 < length b
+  pub neither : IsNeither b
+  pub no_scp : ¬ IsScpShaped b
+
 -- a local path: any other text, as it is
 pub record SpellsLocal (b : List ℕ) (v : Location) : Type 0 where
   pub nonempty : 0 < length b

@@ -80,7 +80,7 @@ web_written : (b : List ℕ) (v : Location) → SpellsUrl b v → IsWeb v → Is
 web_written b v h web =
     let (is_web, value) = web_read b v h web in
     let hosted : IsSome v.host = subst (λ l. IsSome l.host) (sym value) (h.spelled.hosted (or_left _ _ is_web)) in
-    (hosted, (written_web v web).canonical (ap (λ l. l.flag) value) (record { user_hosted = λ given. hosted; port_hosted = λ given. hosted }))
+    (hosted, (written_web v web).canonical (ap (λ l. l.flag) value) (λ given. hosted, λ given. hosted))
 
 -- a settled location of HTTP is settled
 web_settled : (v : Location) → IsWeb v → IsSettledWeb v → IsSettled v

@@ -59,13 +59,10 @@ web_host_rows = (IsWebHost.named_colon (codes "h") web_name_row refl refl refl, 
 common_row : (scheme : Protocol) (host path : List ℕ) → HasFittingText (at_host scheme host path) → IsUtf8 path → IsSettledUrl (at_host scheme host path)
 common_row scheme host path fits utf8 = record {
   unflagged = refl;
-  password = tt;
-  user = λ e. absurd (none-some [] e);
-  user_hosted = λ e. refl;
-  port_hosted = λ e. refl;
+  credentials = (tt, λ e. absurd (none-some [] e));
+  hosted = (λ e. refl, λ e. refl);
+  path = record { path_text = utf8; spelling = λ s e. absurd (none-some s e) };
   fits = fits;
-  path_text = utf8;
-  spelling = λ s e. absurd (none-some s e);
 }
 
 -- no spelling matches where there is none
@@ -81,14 +78,14 @@ loopback_row = record { address = ipv6_text_from (codes "::1") refl; lower = ref
 pub settled_rows : SettledRows
 unfolding percent_encoding_on_literals computing chars is_ipv6_text
 settled_rows = (
-  (record { flagged = refl; alone = record { no_user = refl; no_password = refl; no_port = refl }; no_host = refl; named = refl }, refl),
-  record { flagged = refl; alone = record { no_user = refl; no_password = refl; no_port = refl }; no_host = refl; named = refl },
-  inl (record { flagged = refl; alone = record { no_user = refl; no_password = refl; no_port = refl }; no_host = refl; nonempty = ltb-true _ _ refl; neither = neither_free no_text refl refl; no_scp = no_scp_free no_text refl }),
-  inl (record { flagged = refl; alone = record { no_user = refl; no_password = refl; no_port = refl }; no_host = refl; nonempty = ltb-true _ _ refl; neither = neither_at (codes "./a:b") (codes "./a") (codes "b") refl refl refl refl; no_scp = dot_path_no_scp }),
-  inr (record { unflagged = refl; alone = record { no_user = refl; no_password = refl; no_port = refl }; no_match = λ m. absurd (none-some m.0 m.1); host = tt; path_text = IsUtf8-from_is_utf8 _ refl; rooted = refl }),
+  (record { bare = (refl, (refl, refl, refl), refl); named = refl }, refl),
+  record { bare = (refl, (refl, refl, refl), refl); named = refl },
+  inl (record { bare = (refl, (refl, refl, refl), refl); shape = record { nonempty = ltb-true _ _ refl; neither = neither_free no_text refl refl; no_scp = no_scp_free no_text refl } }),
+  inl (record { bare = (refl, (refl, refl, refl), refl); shape = record { nonempty = ltb-true _ _ refl; neither = neither_at (codes "./a:b") (codes "./a") (codes "b") refl refl refl refl; no_scp = dot_path_no_scp } }),
+  inr (record { unflagged = refl; alone = (refl, refl, refl); no_match = λ m. absurd (none-some m.0 m.1); host = tt; path_text = IsUtf8-from_is_utf8 _ refl; rooted = refl }),
   inr (record {
     unflagged = refl;
-    alone = record { no_user = refl; no_password = refl; no_port = refl };
+    alone = (refl, refl, refl);
     no_match = λ m. absurd (none-some m.0 m.1);
     host = record { nonempty = ltb-true _ _ refl; no_slash = refl; unbracketed = inl refl };
     path_text = IsUtf8-from_is_utf8 _ refl;
@@ -98,11 +95,7 @@ settled_rows = (
     flagged = refl;
     no_password = refl;
     no_port = refl;
-    path_text = IsUtf8-from_is_utf8 _ refl;
-    nonempty = ltb-true _ _ refl;
-    not_home = refl;
-    not_slashes = refl;
-    no_mark = not_held (codes "://") (codes "p") refl;
+    path = record { path_text = IsUtf8-from_is_utf8 _ refl; nonempty = ltb-true _ _ refl; not_home = refl; not_slashes = refl; no_mark = not_held (codes "://") (codes "p") refl };
     user = record { no_colon = refl; no_slash = refl; no_bracket = refl };
     host = (
       codes "h",
@@ -121,11 +114,7 @@ settled_rows = (
     flagged = refl;
     no_password = refl;
     no_port = refl;
-    path_text = IsUtf8-from_is_utf8 _ refl;
-    nonempty = ltb-true _ _ refl;
-    not_home = refl;
-    not_slashes = refl;
-    no_mark = not_held (codes "://") (codes "p") refl;
+    path = record { path_text = IsUtf8-from_is_utf8 _ refl; nonempty = ltb-true _ _ refl; not_home = refl; not_slashes = refl; no_mark = not_held (codes "://") (codes "p") refl };
     user = record { no_colon = refl; no_slash = refl; no_bracket = refl };
     host = (codes "::1", refl, inr loopback_row, λ l. absurd (none-some (codes "u") (sym l.0)));
   }),
@@ -138,12 +127,14 @@ settled_rows = (
     path = refl;
   },
   inr (record {
-    common = common_row ssh (codes "::1") (codes "/p")
-        (codes "ssh://::1/p", refl, record { scheme = codes "ssh"; rest = codes "::1/p"; no_colon = refl; joined = refl; fits = fits_row (codes "ssh") (codes "::1") (codes "/p") refl refl refl refl (inr refl) (leb-true _ _ refl) })
-        (IsUtf8-from_is_utf8 _ refl);
+    url = record {
+      common = common_row ssh (codes "::1") (codes "/p")
+          (codes "ssh://::1/p", refl, record { scheme = codes "ssh"; rest = codes "::1/p"; no_colon = refl; joined = refl; fits = fits_row (codes "ssh") (codes "::1") (codes "/p") refl refl refl refl (inr refl) (leb-true _ _ refl) })
+          (IsUtf8-from_is_utf8 _ refl);
+      raw = λ m. (refl, refl);
+    };
     host = (codes "::1", refl, inr loopback_row);
     path = inl (refl, refl);
-    raw = λ m. (refl, refl);
   }),
 )
 
@@ -155,15 +146,15 @@ unsettled_host port host other (h, e, w) = other (subst (λ t. IsWebHost port t)
 
 -- a password that is there is not empty
 present_password : ¬ IsSettled (record (at_host https (codes "h") (codes "/p")) { user = Some (codes "u"); password = Some [] })
-present_password s = omega (arith, s.common.password.0)
+present_password s = omega (arith, s.common.credentials.0.0)
 
 -- an empty user comes with a password
 empty_user : ¬ IsSettled (record (at_host https (codes "h") (codes "/p")) { user = Some [] })
-empty_user s = false≢true (s.common.user refl)
+empty_user s = false≢true (s.common.credentials.1 refl)
 
 -- a password comes with a user
 password_alone : ¬ IsSettled (record (at_host https (codes "h") (codes "/p")) { password = Some (codes "x") })
-password_alone s = false≢true s.common.password.1
+password_alone s = false≢true s.common.credentials.0.1
 
 -- the flag is no matter of HTTP
 flagged_web : ¬ IsSettled (record (at_host https (codes "h") (codes "/p")) { flag = true })
@@ -188,7 +179,7 @@ escape_and_colon s = unsettled_host None (codes "h%41:") (no_escape_and_colon No
 -- a spelling that matches has an escape
 spelling_without_escape : ¬ IsSettled (record (at_host https (codes "h") (codes "/a<b")) { spelling = Some (codes "/a<b") })
 unfolding percent_encoding_on_literals
-spelling_without_escape s = false≢true (s.common.spelling (codes "/a<b") refl refl).escaped
+spelling_without_escape s = false≢true (s.common.path.spelling (codes "/a<b") refl refl).escaped
 
 -- locations of HTTP that are not settled
 pub unsettled_web_rows : UnsettledWebRows
@@ -199,7 +190,7 @@ unsettled_web_rows = (present_password, empty_user, password_alone, flagged_web,
 -- a port has no place in the scp form
 flagged_with_port : ¬ IsSettled (record (at_host ssh (codes "h") (codes "/p")) { port = Some 22; flag = true })
 flagged_with_port (inl s) = absurd (none-some 22 (sym s.no_port))
-flagged_with_port (inr s) = false≢true (sym s.common.unflagged)
+flagged_with_port (inr s) = false≢true (sym s.url.common.unflagged)
 
 -- a path below a home folder has no slash in front
 slash_before_home : ¬ IsSettled (at_host ssh (codes "h") (codes "/~a"))
@@ -210,12 +201,12 @@ slash_before_home (inr s) = elim s.path [ inl p ↦ false≢true (sym p.1) | inr
 raw_white_space : ¬ IsSettled (at_host ssh (codes "h") (codes "~a b"))
 unfolding chars
 raw_white_space (inl s) = false≢true s.flagged
-raw_white_space (inr s) = false≢true (sym (s.raw (no_match_row ssh (codes "h") (codes "~a b"))).1)
+raw_white_space (inr s) = false≢true (sym (s.url.raw (no_match_row ssh (codes "h") (codes "~a b"))).1)
 
 -- nor is `%`
 raw_percent : ¬ IsSettled (at_host ssh (codes "h") (codes "/a%20b"))
 raw_percent (inl s) = false≢true s.flagged
-raw_percent (inr s) = false≢true (sym (s.raw (no_match_row ssh (codes "h") (codes "/a%20b"))).0)
+raw_percent (inr s) = false≢true (sym (s.url.raw (no_match_row ssh (codes "h") (codes "/a%20b"))).0)
 
 -- a path of Git's own protocol is rooted or below a home folder
 relative_git : ¬ IsSettled (at_host git (codes "h") (codes "p"))
@@ -239,7 +230,7 @@ ftp_alone s = false≢true (s.hosted refl)
 
 -- a port comes with a host
 port_alone : ¬ IsSettled (record (path_alone (helper_url (codes "x")) false (codes "/p")) { port = Some 1 })
-port_alone s = false≢true (s.common.port_hosted refl)
+port_alone s = false≢true (s.url.common.hosted.1 refl)
 
 -- locations of Git's own transports and of other schemes that are not settled
 pub unsettled_url_rows : UnsettledUrlRows
@@ -249,38 +240,38 @@ unsettled_url_rows = (flagged_with_port, slash_before_home, raw_white_space, raw
 
 -- the host of a file URL ends at a slash
 slash_in_host : ¬ IsSettled (at_host file (codes "a/b") (codes "/p"))
-slash_in_host (inl s) = false≢true s.flagged
+slash_in_host (inl s) = false≢true s.bare.0
 slash_in_host (inr s) = false≢true (sym s.host.no_slash)
 
 -- a local path has no shape of the scp form
 scp_path : ¬ IsSettled (path_alone file true (codes "a:b"))
-scp_path (inl s) = s.no_scp (inl (codes "a", codes "b", shape_row (codes "a") (codes "b") refl refl refl refl refl))
+scp_path (inl s) = s.shape.no_scp (inl (codes "a", codes "b", shape_row (codes "a") (codes "b") refl refl refl refl refl))
 scp_path (inr s) = false≢true (sym s.unflagged)
 
 -- nor the form of a remote helper
 helper_path : ¬ IsSettled (path_alone file true (codes "a::b"))
-helper_path (inl s) = s.neither.no_helper (codes "a", codes "b", record { named = refl; joined = refl })
+helper_path (inl s) = s.shape.neither.no_helper (codes "a", codes "b", record { named = refl; joined = refl })
 helper_path (inr s) = false≢true (sym s.unflagged)
 
 -- nor a host
 local_host : ¬ IsSettled (record (path_alone file true (codes "/p")) { host = Some (codes "h") })
-local_host (inl s) = absurd (none-some (codes "h") (sym s.no_host))
+local_host (inl s) = absurd (none-some (codes "h") (sym s.bare.2))
 local_host (inr s) = false≢true (sym s.unflagged)
 
 -- behind the colon of the scp form stand no two slashes
 scp_slashes : ¬ IsSettled (in_scp None (codes "h") (codes "//p"))
-scp_slashes (inl s) = false≢true (sym s.not_slashes)
-scp_slashes (inr s) = false≢true (sym s.common.unflagged)
+scp_slashes (inl s) = false≢true (sym s.path.not_slashes)
+scp_slashes (inr s) = false≢true (sym s.url.common.unflagged)
 
 -- the first colon of the scp form ends the host
 scp_user_colon : ¬ IsSettled (in_scp (Some (codes "a:b")) (codes "h") (codes "p"))
 scp_user_colon (inl s) = false≢true (sym s.user.no_colon)
-scp_user_colon (inr s) = false≢true (sym s.common.unflagged)
+scp_user_colon (inr s) = false≢true (sym s.url.common.unflagged)
 
 -- a host and a path behind two colons look like a remote helper
 scp_like_helper : ¬ IsSettled (in_scp None (codes "host") (codes ":path"))
 scp_like_helper (inl s) = s.host.3 (refl, ap is_helper_name (sym (same_Some (codes "host") s.host.0 s.host.1)), refl)
-scp_like_helper (inr s) = false≢true (sym s.common.unflagged)
+scp_like_helper (inr s) = false≢true (sym s.url.common.unflagged)
 
 -- an address of the scp form has no zone
 scp_zone_host : (h : List ℕ) → codes "fe80::1%Eth0" ≡ h → IsScpName h ⊎ IsNormalAddress h → ⊥
@@ -290,7 +281,7 @@ scp_zone_host h e (inr a) = both_ways _ refl (ap is_ipv6_text e ∙ ipv6_text_to
 
 scp_zone : ¬ IsSettled (in_scp None (codes "fe80::1%Eth0") (codes "p"))
 scp_zone (inl s) = scp_zone_host s.host.0 (same_Some (codes "fe80::1%Eth0") s.host.0 s.host.1) s.host.2
-scp_zone (inr s) = false≢true (sym s.common.unflagged)
+scp_zone (inr s) = false≢true (sym s.url.common.unflagged)
 
 -- the name `ext` is no other helper's
 helper_ext : ¬ IsSettled (path_alone (helper (codes "ext")) true (codes "a"))
@@ -298,7 +289,7 @@ helper_ext s = false≢true (sym s.1)
 
 -- a helper has the flag
 unflagged_helper : ¬ IsSettled (path_alone (helper (codes "a")) false (codes "b"))
-unflagged_helper s = false≢true s.0.flagged
+unflagged_helper s = false≢true s.0.bare.0
 
 -- Secure Shell has a host
 no_host : ¬ IsSettled (path_alone ssh false [])

@@ -15,8 +15,7 @@ use Rattle.gix_url.specs.Escapes.{has_percent}
 use Rattle.gix_url.specs.AddressTest.{is_ipv6_text}
 use Rattle.gix_url.specs.Schemes.{requires_path}
 use Rattle.gix_url.specs.Text.{has_colon, wants_brackets, raw_user, raw_host, keeps_host, open_host, needs_brackets, canonical_host, user_information, port_part, root_part, plain_path, matching_or, canonical_path}
-use Rattle.gix_url.specs.Settled.{HasMatch, IsTransportPath, begins_at_home}
-use Rattle.gix_url.specs.SettledParts.{HasFairSpelling}
+use Rattle.gix_url.specs.Settled.{HasMatch, IsTransportPath, begins_at_home, HasFairSpelling}
 use Rattle.gix_url.specs.Git.{from_tilde}
 use Rattle.gix_url.specs.GitClass.{is_tilde_second}
 use Rattle.gix_url.proofs.Texts.CutLemmas.{free_parts, free_head_tail, free-append, free-cons, free_of_all, free_begins, begins_cut}

@@ -19,8 +19,7 @@ use Rattle.gix_url.specs.Schemes.{requires_path}
 use Rattle.gix_url.specs.Grammar.{or_root, retained_spelling, Spells}
 use Rattle.gix_url.specs.Components.{Components, stands_for, IsFront, CutsPath, CutsFields, SplitsField, with_spaces, term_of, PairsOf, QueryOf, WebParts, PartsBy, PartsOf}
 use Rattle.gix_url.specs.Text.{plain_path, matching_or, canonical_path, canonical_text, text, original_path}
-use Rattle.gix_url.specs.Settled.{IsSettledUrl, IsWeb}
-use Rattle.gix_url.specs.SettledParts.{HasFairSpelling}
+use Rattle.gix_url.specs.Settled.{IsSettledUrl, IsWeb, HasFairSpelling}
 use Rattle.gix_url.proofs.Written.WrittenPieces.{as_read}
 use Rattle.gix_url.specs.Laws.{SameComponents}
 use Rattle.gix_url.proofs.Texts.CutLemmas.{cut_unique, free_or_cut, not_free}
@@ -487,10 +486,10 @@ retained_parts v false components text h = parts_rewritten (λ x. x) v (spelled_
 -- the components with the spelling that is read, by whether the given one matches
 parts_by : (v : Location) (b : Bool) (components : Components) → IsWeb v → IsSettledUrl v → matches v.spelling v.path ≡ b → WebParts (as_read v) components ↔ WebParts v components
 parts_by v true components web settled h =
-    subst (λ o. WebParts (spelled_as v o) components ↔ WebParts v components) (sym (spelled_again v web settled.spelling h)) (λ parts. parts, λ parts. parts)
+    subst (λ o. WebParts (spelled_as v o) components ↔ WebParts v components) (sym (spelled_again v web settled.path.spelling h)) (λ parts. parts, λ parts. parts)
 parts_by v false components web settled h =
     let read : retained_spelling (percent_encode PATH v.path) ≡ retained_spelling (canonical_path v) = ap retained_spelling (sym (web_path v web ∙ unmatched v.spelling v.path (percent_encode PATH v.path) h)) in
-    subst (λ o. WebParts (spelled_as v o) components ↔ WebParts v components) read (retained_parts v (has_percent (percent_encode PATH v.path)) components settled.path_text h)
+    subst (λ o. WebParts (spelled_as v o) components ↔ WebParts v components) read (retained_parts v (has_percent (percent_encode PATH v.path)) components settled.path.path_text h)
 
 -- ---- what is read of a settled location
 
@@ -501,7 +500,7 @@ web_parts v components (inr e) = (λ h. subst (λ p. PartsBy p v components) e h
 
 -- its text is the one of a URL
 web_text : (v : Location) (t : List ℕ) → IsWeb v → IsSettledUrl v → text v ≡ Ok t → t ≡ canonical_text v
-web_text v t web h has = one_text has ((written_web v web).canonical h.unflagged record { user_hosted = h.user_hosted; port_hosted = h.port_hosted })
+web_text v t web h has = one_text has ((written_web v web).canonical h.unflagged h.hosted)
 
 -- what is read of a settled location of HTTP has the same components
 pub same_components : SameComponents

@@ -164,20 +164,20 @@ spelling_line (Some s) path plain spelled other = ⊎_elim
 -- so the path of a settled URL is written without one
 path_line : (v : Location) → IsSettledUrl v → (¬ HasMatch v → FreeOf newline (plain_path v.scheme v.path)) → FreeOf newline (canonical_path v)
 path_line v h plain =
-    let fair : (s : List ℕ) → v.spelling ≡ Some s → percent_decode s ≡ v.path → FreeOf newline s = λ s is same. no_line s (h.spelling s is same).text (h.spelling s is same).no_white_space in
+    let fair : (s : List ℕ) → v.spelling ≡ Some s → percent_decode s ≡ v.path → FreeOf newline s = λ s is same. no_line s (h.path.spelling s is same).text (h.path.spelling s is same).no_white_space in
     free-append newline (root_part v) (matching_or v.spelling v.path (plain_path v.scheme v.path)) (root_line v) (spelling_line v.spelling v.path (plain_path v.scheme v.path) fair plain)
 
 -- a path that is written raw
 raw_line : (v : Location) (p : Protocol) → v.scheme ≡ p → plain_path p v.path ≡ v.path → IsSettledUrl v → IsRawPath v → ¬ HasMatch v → FreeOf newline (plain_path v.scheme v.path)
 raw_line v p e same h raw none =
-    subst (λ t. FreeOf newline t) (sym (ap (λ q. plain_path q v.path) e ∙ same)) (no_line v.path h.path_text (raw none).1)
+    subst (λ t. FreeOf newline t) (sym (ap (λ q. plain_path q v.path) e ∙ same)) (no_line v.path h.path.path_text (raw none).1)
 
 -- ---- settled URLs
 
 -- a settled URL is written without a line's end
 url_line : (v : Location) (t : List ℕ) → IsWrittenAsUrl v → IsSettledUrl v → IsPort v.port → FreeOf newline (protocol_text v.scheme) → FreeOf newline (host_part v v.host) → (¬ HasMatch v → FreeOf newline (plain_path v.scheme v.path)) → text v ≡ Ok t → FreeOf newline t
 url_line v t written h small scheme host plain is =
-    let canonical = written.canonical h.unflagged (record { user_hosted = h.user_hosted; port_hosted = h.port_hosted }) in
+    let canonical = written.canonical h.unflagged h.hosted in
     let behind_host = port_part v.port ++ canonical_path v in
     let behind_user = host_part v v.host ++ behind_host in
     let behind_mark = user_information v.user v.password ++ behind_user in
@@ -201,20 +201,20 @@ secure_settled : (v : Location) (t : List ℕ) → v.scheme ≡ ssh → IsPort v
 secure_settled v t e small h is =
     let (host, there, kind) = h.host in
     let part = subst (λ o. FreeOf newline (host_part v o)) (sym there) (bare_line v host (ap keeps_host e) kind) in
-    url_line v t (written_secure v e h.path) h.common small (subst (λ q. FreeOf newline (protocol_text q)) (sym e) refl) part (raw_line v ssh e refl h.common h.raw) is
+    url_line v t (written_secure v e h.path) h.url.common small (subst (λ q. FreeOf newline (protocol_text q)) (sym e) refl) part (raw_line v ssh e refl h.url.common h.url.raw) is
 
 -- one of Git's own protocol
 git_settled : (v : Location) (t : List ℕ) → v.scheme ≡ git → IsPort v.port → IsSettledGit v → text v ≡ Ok t → FreeOf newline t
 git_settled v t e small h is =
     let (host, there, kind) = h.host in
     let part = subst (λ o. FreeOf newline (host_part v o)) (sym there) (part_line v (Some host) (ap keeps_host e) kind) in
-    url_line v t (written_git v e) h.common small (subst (λ q. FreeOf newline (protocol_text q)) (sym e) refl) part (raw_line v git e refl h.common h.raw) is
+    url_line v t (written_git v e) h.url.common small (subst (λ q. FreeOf newline (protocol_text q)) (sym e) refl) part (raw_line v git e refl h.url.common h.url.raw) is
 
 -- one of another scheme
 other_settled : (v : Location) (t name : List ℕ) → v.scheme ≡ helper_url name → IsPort v.port → IsSettledHelperUrl name v → text v ≡ Ok t → FreeOf newline t
 other_settled v t name e small h is =
     let scheme = subst (λ q. FreeOf newline (protocol_text q)) (sym e) (scheme_text_free name newline h.scheme_text refl) in
-    url_line v t (written_other v name e h.scheme_text) h.common small scheme (part_line v v.host (ap keeps_host e) h.host) (raw_line v (helper_url name) e refl h.common h.raw) is
+    url_line v t (written_other v name e h.scheme_text) h.url.common small scheme (part_line v v.host (ap keeps_host e) h.host) (raw_line v (helper_url name) e refl h.url.common h.url.raw) is
 
 -- what a URL means that is settled is written without a line's end, by its protocol
 abbrev IsWrittenLine : List ℕ → UrlParts → Location → List ℕ → Protocol → Type 0
@@ -289,7 +289,7 @@ settled_host_line : (user : Option (List ℕ)) (host path : List ℕ) → IsUtf8
 settled_host_line user host path is (inl h) =
     let (x, e, kind, other) = h.host in
     scp_host_line host is (subst (λ y. IsScpName y ⊎ IsNormalAddress y) (sym (same_Some host x e)) kind)
-settled_host_line user host path is (inr h) = absurd (false≢true (sym h.common.unflagged))
+settled_host_line user host path is (inr h) = absurd (false≢true (sym h.url.common.unflagged))
 
 -- the scp form, but for `user@[address]:path`
 scp_before_line : (b : List ℕ) (v : Location) (t : List ℕ) → FreeOf newline b → SpellsScpBefore b v → IsSettled v → text v ≡ Ok t → FreeOf newline t

@@ -116,7 +116,7 @@ none_retained v p e plain bare raw =
 -- so the text of a URL with such a path is read without one
 readable_bare : (v w : Location) (named : Option (List ℕ)) (t : List ℕ) → IsReadable v named → IsWrittenAsUrl v → IsSettledUrl v → retained_spelling (canonical_path v) ≡ None → text v ≡ Ok t → Spells t w → w.spelling ≡ None
 readable_bare v w named t r written h none is spelled =
-    let same = one_text (written.canonical h.unflagged (record { user_hosted = h.user_hosted; port_hosted = h.port_hosted })) is in
+    let same = one_text (written.canonical h.unflagged h.hosted) is in
     ap (λ l. l.spelling) (spells_unique t w (as_read v) spelled (subst (λ s. Spells s (as_read v)) same (readable_spelled v named r))) ∙ none
 
 -- a path that no spelling matches is raw
@@ -130,16 +130,16 @@ read_bare file v w t e bare a b is h same written spelled = spelled_bare t w spe
 read_bare ssh v w t e bare a b is (inl h) same written spelled = spelled_bare t w spelled (ap (λ q. is_bare_kind q w.flag) (ap (λ l. l.scheme) same ∙ e) ∙ ap (λ l. l.flag) same ∙ h.flagged)
 read_bare ssh v w t e bare a b is (inr h) same written spelled =
     let (named, r) = secure_readable v e is h in
-    readable_bare v w (Some named) t r (written_secure v e h.path) h.common (none_retained v ssh e refl bare (raw_alone v bare h.raw)) written spelled
+    readable_bare v w (Some named) t r (written_secure v e h.path) h.url.common (none_retained v ssh e refl bare (raw_alone v bare h.url.raw)) written spelled
 read_bare git v w t e bare a b is h same written spelled =
     let (named, r) = git_readable v e is h in
-    readable_bare v w (Some named) t r (written_git v e) h.common (none_retained v git e refl bare (raw_alone v bare h.raw)) written spelled
+    readable_bare v w (Some named) t r (written_git v e) h.url.common (none_retained v git e refl bare (raw_alone v bare h.url.raw)) written spelled
 read_bare http v w t e bare a b is h same written spelled = absurd (a refl)
 read_bare https v w t e bare a b is h same written spelled = absurd (b refl)
 read_bare ext v w t e bare a b is h same written spelled = spelled_bare t w spelled (ap (λ q. is_bare_kind q w.flag) (ap (λ l. l.scheme) same ∙ e))
 read_bare (helper name) v w t e bare a b is h same written spelled = spelled_bare t w spelled (ap (λ q. is_bare_kind q w.flag) (ap (λ l. l.scheme) same ∙ e))
 read_bare (helper_url name) v w t e bare a b is h same written spelled =
-    readable_bare v w v.host t (other_readable name v v.host e refl is h) (written_other v name e h.scheme_text) h.common (none_retained v (helper_url name) e refl bare (raw_alone v bare h.raw)) written spelled
+    readable_bare v w v.host t (other_readable name v v.host e refl is h) (written_other v name e h.scheme_text) h.url.common (none_retained v (helper_url name) e refl bare (raw_alone v bare h.url.raw)) written spelled
 
 -- ---- what was read
 

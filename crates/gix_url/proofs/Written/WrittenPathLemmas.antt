@@ -14,8 +14,7 @@ use Rattle.gix_url.specs.Escapes.{has_percent, is_path_escaped}
 use Rattle.gix_url.specs.Schemes.{requires_path}
 use Rattle.gix_url.specs.Grammar.{path_for, or_root, from_home, retained_spelling}
 use Rattle.gix_url.specs.Text.{canonical_path, root_part, plain_path, matching_or}
-use Rattle.gix_url.specs.Settled.{HasMatch, IsFairSpelling, IsRawPath, IsTransportPath, first_byte, begins_at_home, IsWeb}
-use Rattle.gix_url.specs.SettledParts.{HasFairSpelling, HasUrlPath, IsRootedOrEmpty}
+use Rattle.gix_url.specs.Settled.{HasMatch, IsFairSpelling, IsRawPath, IsTransportPath, first_byte, begins_at_home, IsWeb, HasFairSpelling, HasUrlPath, IsRootedOrEmpty}
 use Rattle.gix_url.proofs.Written.WrittenPieces.{IsEscapedPiece, WritesPath, as_read}
 use Rattle.gix_url.proofs.Texts.EscapeLemmas.{decode_kept, decode_encode_utf8, encode_byte_kept, encode_sound, sound_free, sound_kept, utf8_byte, utf8_encode, white_space-append, white_space_byte}
 use Rattle.gix_url.proofs.Texts.EscapeSets.{path_holds, white_space_path}
