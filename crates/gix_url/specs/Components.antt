@@ -3,7 +3,7 @@ use Rattle.std.specs.Prelude.{◌≡◌, ℕ, ◌==◌, List, [], ◌∷◌, ◌
 use Rattle.std.specs.List.{join_with_byte}
 use Rattle.percent_encoding.specs.Percent.{percent_decode}
 use Rattle.gix_url.specs.Value.{Protocol, Location}
-use Rattle.gix_url.specs.Value.Protocol.{file, git, ssh, http, https, ext, helper, helper_url}
+use Rattle.gix_url.specs.Value.Protocol.{http, https}
 use Rattle.gix_url.specs.Bytes.{space, number_sign, ampersand, plus_sign, equals_sign, question_mark, FreeOf}
 use Rattle.gix_url.specs.Escapes.{matches}
 use Rattle.gix_url.specs.Grammar.{or_root}
@@ -95,12 +95,7 @@ whole_path text = record { path = text; query = None; fragment = None }
 abbrev pub PartsBy : Protocol → Location → Components → Type 0
 PartsBy http v components = WebParts v components
 PartsBy https v components = WebParts v components
-PartsBy file v components = components ≡ whole_path v.path
-PartsBy git v components = components ≡ whole_path v.path
-PartsBy ssh v components = components ≡ whole_path v.path
-PartsBy ext v components = components ≡ whole_path v.path
-PartsBy (helper name) v components = components ≡ whole_path v.path
-PartsBy (helper_url name) v components = components ≡ whole_path v.path
+PartsBy _ v components = components ≡ whole_path v.path
 
 -- the components of a location
 abbrev pub PartsOf : Location → Components → Type 0

@@ -110,10 +110,7 @@ path_for ssh path = from_home path
 path_for git path = from_home path
 path_for http path = or_root path
 path_for https path = or_root path
-path_for file path = path
-path_for ext path = path
-path_for (helper name) path = path
-path_for (helper_url name) path = path
+path_for _ path = path
 
 -- the spelling of a path is retained where it holds an escape
 abbrev pub retained_spelling : List ℕ → Option (List ℕ)

@@ -41,13 +41,7 @@ protocol_at (suc (suc (suc (suc (suc (suc (suc n))))))) name = helper_url (unwra
 at_itself : (p : Protocol) → protocol_at (rank p) (held_name p) ≡ p
 unfolding protocol_at
 at_itself file = refl
-at_itself git = refl
-at_itself ssh = refl
-at_itself http = refl
-at_itself https = refl
-at_itself ext = refl
-at_itself (helper name) = refl
-at_itself (helper_url name) = refl
+at_itself _ = refl
 
 -- protocols of one kind and one name are one
 pub kind_and_name : (p q : Protocol) → rank p ≡ rank q → held_name p ≡ held_name q → p ≡ q

@@ -1,7 +1,7 @@
 -- Git reads the same place: in the text of each location of the class it reads the location's own parts.
 use Rattle.std.proofs.Common.{◌≡◌, ◌∙◌, ℕ, ◌<◌, false, ◌⊎◌, inl, inr, List, [], ◌∷◌, ◌++◌, length, Option, Some, None, Ok, IfSome, IsUtf8, codes, refl, sym, ap, subst, arith, append_assoc}
 use Rattle.gix_url.specs.Value.{Protocol, Location}
-use Rattle.gix_url.specs.Value.Protocol.{file, git, ssh, http, https, ext, helper, helper_url}
+use Rattle.gix_url.specs.Value.Protocol.{file, git, ssh}
 use Rattle.gix_url.specs.Bytes.{slash, colon, at_sign, left_bracket, tilde, FreeOf, begins_with}
 use Rattle.gix_url.specs.Grammar.{ScpFront, IsNeither, IsScpShaped}
 use Rattle.gix_url.specs.Arguments.{is_option_like}
@@ -183,11 +183,7 @@ alike_by file v e is a suits (inr h) = file_url_alike v e a suits.0 h
 alike_by ssh v e is a suits (inl h) = scp_alike v e is a suits h
 alike_by ssh v e is a suits (inr h) = secure_url_alike v e is a suits.2 h
 alike_by git v e is a suits h = git_url_alike v e is a suits h
-alike_by http v e is a suits h = absurd suits
-alike_by https v e is a suits h = absurd suits
-alike_by ext v e is a suits h = absurd suits
-alike_by (helper name) v e is a suits h = absurd suits
-alike_by (helper_url name) v e is a suits h = absurd suits
+alike_by _ v e is a suits h = absurd suits
 
 -- Git reads in the text of each location of the class the location's own parts
 pub read_same : ReadAlike

@@ -5,7 +5,7 @@ use Rattle.std.proofs.lemmas.List.Elements.{All-nil, All-cons, All-head, All-tai
 use Rattle.std.proofs.lemmas.Bool.{cases_Bool, eqb-true}
 use Rattle.gix_url.specs.Bytes.{number_sign, question_mark, FreeOf, ampersand, equals_sign}
 use Rattle.gix_url.specs.Value.{Protocol, Location}
-use Rattle.gix_url.specs.Value.Protocol.{file, git, ssh, http, https, ext, helper, helper_url}
+use Rattle.gix_url.specs.Value.Protocol.{http, https}
 use Rattle.gix_url.specs.Grammar.{or_root}
 use Rattle.gix_url.specs.Components.{Components, stands_for, term_of, CutsPath, CutsFields, SplitsField, PairsOf, QueryOf, WebParts, PartsBy, whole_path}
 use Rattle.gix_url.specs.Text.{original_path}
@@ -222,22 +222,12 @@ web_some v =
 by_unique : (p : Protocol) (v : Location) (x y : Components) → PartsBy p v x → PartsBy p v y → x ≡ y
 by_unique http v x y h k = web_unique v x y h k
 by_unique https v x y h k = web_unique v x y h k
-by_unique file v x y h k = h ∙ sym k
-by_unique git v x y h k = h ∙ sym k
-by_unique ssh v x y h k = h ∙ sym k
-by_unique ext v x y h k = h ∙ sym k
-by_unique (helper name) v x y h k = h ∙ sym k
-by_unique (helper_url name) v x y h k = h ∙ sym k
+by_unique _ v x y h k = h ∙ sym k
 
 by_some : (p : Protocol) (v : Location) → (components : Components) × PartsBy p v components
 by_some http v = web_some v
 by_some https v = web_some v
-by_some file v = (whole_path v.path, refl)
-by_some git v = (whole_path v.path, refl)
-by_some ssh v = (whole_path v.path, refl)
-by_some ext v = (whole_path v.path, refl)
-by_some (helper name) v = (whole_path v.path, refl)
-by_some (helper_url name) v = (whole_path v.path, refl)
+by_some _ v = (whole_path v.path, refl)
 
 -- every location has components, and no two
 pub one_components : OneComponents

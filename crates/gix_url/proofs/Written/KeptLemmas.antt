@@ -3,7 +3,7 @@ use Rattle.std.proofs.Common.{◌≡◌, ℕ, true, false, inl, inr, List, ◌�
 use Rattle.std.proofs.lemmas.Bool.{both_ways, false≢true}
 use Rattle.std.proofs.lemmas.Slice.Eq.{bytes_eq-Decides}
 use Rattle.gix_url.specs.Value.{Protocol, Location, fields, path_alone}
-use Rattle.gix_url.specs.Value.Protocol.{file, git, ssh, http, https, ext, helper, helper_url}
+use Rattle.gix_url.specs.Value.Protocol.{file, ext, helper}
 use Rattle.gix_url.specs.Bytes.{colon, is_helper_name}
 use Rattle.gix_url.specs.Schemes.{protocol_of}
 use Rattle.gix_url.specs.Grammar.{LocalShape, helper_protocol, SpellsHelper, SpellsUrl, SpellsScp, SpellsLocal, Spells}
@@ -139,11 +139,7 @@ settled_by_fields file v w same keeps (inl h) = inl (local_by_fields v w same h)
 settled_by_fields file v w same keeps (inr h) = absurd (both_ways v.flag (sym (ap (λ l. l.flag) same) ∙ h.unflagged) keeps)
 settled_by_fields ext v w same keeps h = helper_by_fields (codes "ext") v w same h
 settled_by_fields (helper name) v w same keeps h = (helper_by_fields name v w same h.0, h.1)
-settled_by_fields git v w same keeps h = absurd (false≢true keeps)
-settled_by_fields ssh v w same keeps h = absurd (false≢true keeps)
-settled_by_fields http v w same keeps h = absurd (false≢true keeps)
-settled_by_fields https v w same keeps h = absurd (false≢true keeps)
-settled_by_fields (helper_url name) v w same keeps h = absurd (false≢true keeps)
+settled_by_fields _ v w same keeps h = absurd (false≢true keeps)
 
 -- a location that keeps its bytes is settled where bytes spell its fields
 pub kept_exact : (v : Location) → KeepsBytes v → (b : List ℕ) (w : Location) → Spells b w → fields w ≡ fields v → IsSettled v

@@ -51,12 +51,7 @@ right_empty x (b ∷ y) e = absurd (omega (arith, ap length e, length-append x (
 plain_empty : (p : Protocol) (path : List ℕ) → plain_path p path ≡ [] → path ≡ []
 plain_empty http path e = encode_empty path_set path e
 plain_empty https path e = encode_empty path_set path e
-plain_empty file path e = e
-plain_empty git path e = e
-plain_empty ssh path e = e
-plain_empty ext path e = e
-plain_empty (helper name) path e = e
-plain_empty (helper_url name) path e = e
+plain_empty _ path e = e
 
 path_empty : (v : Location) → canonical_path (fields v) ≡ [] → v.path ≡ []
 path_empty v e = plain_empty v.scheme v.path (right_empty (root_part v) (plain_path v.scheme v.path) e)
@@ -156,15 +151,11 @@ other_fitting name v (Some host) there e is h raw fits =
 
 -- what is settled without its spelling needs none
 needs_none : (p : Protocol) (v : Location) → IsSettledBy p (fields v) → is_raw_url p v.flag ≡ true → ((has_percent v.path ≡ false) × LacksWhiteSpace v.path) × HasFittingText (fields v)
-needs_none file v h kind = absurd (false≢true kind)
 needs_none ssh v (inl h) kind = absurd (both_ways (not v.flag) (ap not h.flagged) kind)
 needs_none ssh v (inr h) kind = (h.url.raw (no_match v), h.url.common.fits)
 needs_none git v h kind = (h.url.raw (no_match v), h.url.common.fits)
-needs_none http v h kind = absurd (false≢true kind)
-needs_none https v h kind = absurd (false≢true kind)
-needs_none ext v h kind = absurd (false≢true kind)
-needs_none (helper name) v h kind = absurd (false≢true kind)
 needs_none (helper_url name) v h kind = (h.url.raw (no_match v), h.url.common.fits)
+needs_none _ v h kind = absurd (false≢true kind)
 
 -- and what needs none is settled without it
 unspelled_by : (p : Protocol) (v : Location) → v.scheme ≡ p → IsValue v → IsSettledBy p v → (is_raw_url p v.flag ≡ true → (has_percent v.path ≡ false) × LacksWhiteSpace v.path) → (is_raw_url p v.flag ≡ true → v.host ≡ None → HasFittingText (fields v)) → IsSettledBy p (fields v)
