@@ -9,7 +9,6 @@ use Rattle.gix_url.specs.Value.{Location}
 use Rattle.gix_url.specs.Value.Protocol.{file, https}
 use Rattle.gix_url.specs.Bytes.{colon}
 use Rattle.gix_url.specs.Escapes.{has_percent}
-use Rattle.gix_url.specs.Components.{CutsPath}
 use Rattle.gix_url.specs.Text.{has_colon}
 use Rattle.gix_url.specs.Settled.{IsWeb}
 use Rattle.gix_url.specs.Laws.{IsCorner}
@@ -22,7 +21,7 @@ pub slip_rows : SlipRows
 unfolding percent_encoding_on_literals
 slip_rows = (
   refl,
-  record { front = codes "/a%20b"; query = None; fragment = None; cut = CutsPath.front_alone (refl, refl) refl refl refl; path_meant = refl; query_meant = refl; fragment_meant = refl },
+  record { front = codes "/a%20b"; query = None; fragment = None; cut = (codes "/a%20b", (refl, refl), (refl, refl)); path_meant = refl; query_meant = refl; fragment_meant = refl },
   refl,
 )
 
