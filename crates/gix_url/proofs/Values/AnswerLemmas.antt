@@ -1,10 +1,9 @@
 -- The answer to a line is one line: what is told of a line without byte 10 holds none.
 use Rattle.std.proofs.Common.{◌≡◌, ℕ, ◌<◌, ◌==◌, Bool, false, not, ◌⊎◌, inl, inr, ⊎_elim, List, [], ◌∷◌, ◌++◌, append_assoc, append-nil, All, Option, Some, None, IfSome, IsUtf8, Ok, codes, refl, sym, ap, subst, ◌∙◌, arith}
-use Rattle.std.specs.Prelude.{◌&&◌, bytes_eq}
+use Rattle.std.specs.Prelude.{◌&&◌}
 use Rattle.std.proofs.lemmas.Bool.{and_left, both_ways, cases_Bool, cond-true, cond-false, false≢true}
 use Rattle.std.proofs.lemmas.List.Elements.{All-append, All-cons, All-head, All-nil, All-tail}
-use Rattle.std.proofs.lemmas.Option.{none-some, same_Some}
-use Rattle.std.proofs.lemmas.Slice.Eq.{bytes_eq-Decides}
+use Rattle.std.proofs.lemmas.Option.{same_Some}
 use Rattle.percent_encoding.specs.Percent.{percent_decode, percent_encode}
 use Rattle.gix_url.specs.declared.escape.TheConstants.{PATH, PASSWORD, USER}
 use Rattle.gix_url.specs.declared.error.UrlFault.{UrlFault}
@@ -36,7 +35,7 @@ use Rattle.gix_url.proofs.Addresses.AddressLemmas.{address_free, address-lowerca
 use Rattle.gix_url.proofs.Readings.SchemeLemmas.{protocol_cases, helper_cases, means_scheme}
 use Rattle.gix_url.proofs.Written.KeptLemmas.{helper_unchanged, local_unchanged}
 use Rattle.gix_url.proofs.Written.PieceTextLemmas.{port_piece}
-use Rattle.gix_url.proofs.Written.WrittenPathLemmas.{matched}
+use Rattle.gix_url.proofs.Written.WrittenPathLemmas.{matching_cases}
 use Rattle.gix_url.proofs.Readings.ScpLemmas.{scp_meant_utf8}
 use Rattle.gix_url.proofs.Written.WrittenScpLemmas.{scp_written}
 use Rattle.gix_url.proofs.Written.WrittenAsUrlLemmas.{one_text, written_web, written_git, written_secure, written_other}
@@ -149,23 +148,11 @@ root_line v = ⊎_elim
     (λ other. subst (λ t. FreeOf newline t) (sym (cond-false _ _ _ other)) refl)
     (cases_Bool (requires_path v.scheme && not (begins_with slash v.path)))
 
--- nor does a spelling that stands for the path, or what stands in for it, where neither does
-spelling_line : (spelling : Option (List ℕ)) (path plain : List ℕ) → ((s : List ℕ) → spelling ≡ Some s → percent_decode s ≡ path → FreeOf newline s) → (¬ ((s : List ℕ) × (spelling ≡ Some s) × (percent_decode s ≡ path)) → FreeOf newline plain) → FreeOf newline (matching_or spelling path plain)
-spelling_line None path plain spelled other = other (λ (s, is, same). none-some s is)
-spelling_line (Some s) path plain spelled other = ⊎_elim
-    (λ yes.
-    let same : percent_decode s ≡ path = (bytes_eq-Decides (percent_decode s) path).0 yes in
-    subst (λ t. FreeOf newline t) (sym (matched s path plain same)) (spelled s refl same))
-    (λ no.
-    let apart : ¬ ((x : List ℕ) × (Some s ≡ Some x) × (percent_decode x ≡ path)) = λ (x, is, same). both_ways _ no ((bytes_eq-Decides (percent_decode s) path).1 (ap percent_decode (same_Some s x is) ∙ same)) in
-    subst (λ t. FreeOf newline t) (sym (cond-false _ _ _ no)) (other apart))
-    (cases_Bool (bytes_eq (percent_decode s) path))
-
 -- so the path of a settled URL is written without one
 path_line : (v : Location) → IsSettledUrl v → (¬ HasMatch v → FreeOf newline (plain_path v.scheme v.path)) → FreeOf newline (canonical_path v)
 path_line v h plain =
     let fair : (s : List ℕ) → v.spelling ≡ Some s → percent_decode s ≡ v.path → FreeOf newline s = λ s is same. no_line s (h.path.spelling s is same).text (h.path.spelling s is same).no_white_space in
-    free-append newline (root_part v) (matching_or v.spelling v.path (plain_path v.scheme v.path)) (root_line v) (spelling_line v.spelling v.path (plain_path v.scheme v.path) fair plain)
+    free-append newline (root_part v) (matching_or v.spelling v.path (plain_path v.scheme v.path)) (root_line v) (matching_cases (FreeOf newline) v.spelling v.path (plain_path v.scheme v.path) fair plain)
 
 -- a path that is written raw
 raw_line : (v : Location) (p : Protocol) → v.scheme ≡ p → plain_path p v.path ≡ v.path → IsSettledUrl v → IsRawPath v → ¬ HasMatch v → FreeOf newline (plain_path v.scheme v.path)
