@@ -14,7 +14,8 @@ use Rattle.gix_url.specs.Value.Protocol.{file, git, ssh, http, https, ext, helpe
 use Rattle.gix_url.specs.Bytes.{slash, colon, at_sign, backslash, is_scheme_text, Lacks, FreeOf, begins_by, LacksWhiteSpace, is_path_start, StartsPath}
 use Rattle.gix_url.specs.Escapes.{password_set, user_set}
 use Rattle.gix_url.specs.Hosts.{Mode, Names}
-use Rattle.gix_url.specs.Hosts.Names.{nothing, bracketed, bracketed_colon, bracketed_port, unbracketed, plain, plain_colon, plain_port, colons}
+use Rattle.gix_url.specs.Hosts.Names.{nothing}
+use Rattle.gix_url.proofs.Readings.HostLemmas.{names_unique}
 use Rattle.gix_url.specs.Schemes.{is_web_scheme, protocol_text}
 use Rattle.gix_url.specs.Authority.{Authority, is_any_slash, without_white_space, IsWithinLimit, Fits, FitsText}
 use Rattle.gix_url.specs.Authority.Authority.{host_alone, with_user}
@@ -163,25 +164,11 @@ short_fits scheme a p known h starts short =
 
 -- ---- the authority of a URL
 
--- a text that begins by a test isn't empty
-begins_some : (test : ℕ → Bool) (t : List ℕ) → begins_by test t ≡ true → 0 < length t
-begins_some test [] h = absurd (false≢true h)
-begins_some test (b ∷ t) h = omega arith
-
 -- what names a host isn't empty
 names_some : (mode : Mode) (piece host : List ℕ) (port : Option ℕ) → Names mode piece (Some host) port → 0 < length piece
-names_some mode piece host port (nothing e named at) = absurd (none-some host (sym named))
-names_some mode piece host port (bracketed x inner free spelled e named at) = omega (arith, ap length e)
-names_some mode piece host port (bracketed_colon x inner free spelled e named at) = omega (arith, ap length e)
-names_some mode piece host port (bracketed_port x inner digits number free spelled numbered e named at) = omega (arith, ap length e)
-names_some mode piece host port (unbracketed (is_bare, inl address) named at) =
-    let (x, y, z, e) = address_two_colons piece address in omega (arith, ap length e, length-append x (colon ∷ (y ++ colon ∷ z)))
-names_some mode piece host port (unbracketed (is_bare, inr (address, is, e)) named at) = omega (arith, ap length e, length-append address (colon ∷ []))
-names_some mode piece host port (plain meant is_plain spelled named at) = is_plain.nonempty
-names_some mode piece host port (plain_colon t meant is_plain spelled e named at) = omega (arith, ap length e, length-append t (colon ∷ []))
-names_some mode piece host port (plain_port t meant digits number is_plain spelled numbered e named at) = omega (arith, ap length e, length-append t (colon ∷ digits))
-names_some mode piece host port (colons meant not_strict other begins (inl colon_first) spelled named at) = begins_some (λ b. b == colon) piece colon_first
-names_some mode piece host port (colons meant not_strict other begins (inr (x, y, z, e)) spelled named at) = omega (arith, ap length e, length-append x (colon ∷ (y ++ colon ∷ z)))
+names_some mode [] host port n =
+    absurd (none-some host (sym (names_unique mode [] (Some host) None port None n (nothing refl refl refl)).0))
+names_some mode (b ∷ piece) host port n = omega arith
 
 -- so an authority with a host isn't
 authority_some : (mode : Mode) (a : List ℕ) (user password : Option (List ℕ)) (host : List ℕ) (port : Option ℕ) → Authority mode a user password (Some host) port → 0 < length a
