@@ -20,10 +20,6 @@ space = 32
 abbrev pub exclamation_mark : ℕ
 exclamation_mark = 33
 
--- `"`
-abbrev pub quotation_mark : ℕ
-quotation_mark = 34
-
 -- `#`
 abbrev pub number_sign : ℕ
 number_sign = 35
@@ -72,17 +68,9 @@ colon = 58
 abbrev pub semicolon : ℕ
 semicolon = 59
 
--- `<`
-abbrev pub less_than_sign : ℕ
-less_than_sign = 60
-
 -- `=`
 abbrev pub equals_sign : ℕ
 equals_sign = 61
-
--- `>`
-abbrev pub greater_than_sign : ℕ
-greater_than_sign = 62
 
 -- `?`
 abbrev pub question_mark : ℕ
@@ -104,29 +92,9 @@ backslash = 92
 abbrev pub right_bracket : ℕ
 right_bracket = 93
 
--- `^`
-abbrev pub circumflex : ℕ
-circumflex = 94
-
 -- `_`
 abbrev pub underscore : ℕ
 underscore = 95
-
--- `` ` ``
-abbrev pub grave_accent : ℕ
-grave_accent = 96
-
--- `{`
-abbrev pub left_brace : ℕ
-left_brace = 123
-
--- `|`
-abbrev pub vertical_bar : ℕ
-vertical_bar = 124
-
--- `}`
-abbrev pub right_brace : ℕ
-right_brace = 125
 
 -- `~`
 abbrev pub tilde : ℕ
