@@ -6,7 +6,7 @@ use Rattle.std.specs.List.{list_any, list_all}
 use Rattle.percent_encoding.specs.declared.ascii_set.AsciiSet.{AsciiSet}
 use Rattle.percent_encoding.specs.AsciiSet.{contains}
 use Rattle.percent_encoding.specs.Percent.{percent_decode}
-use Rattle.gix_url.specs.Bytes.{space, number_sign, percent_sign, slash, colon, question_mark, at_sign, left_bracket, backslash, right_bracket, delete, is_hexadecimal}
+use Rattle.gix_url.specs.Bytes.{space, percent_sign, colon, delete, is_hexadecimal, is_one_of}
 
 -- every `%` has two hexadecimal digits behind it
 abbrev pub is_sound : List ℕ → Bool
@@ -45,12 +45,6 @@ abbrev pub is_plain : List ℕ → Bool
 is_plain bs = list_all is_plain_byte bs
 
 -- ---- the sets of bytes that are escaped, besides every byte past ASCII
-
--- the byte is one of these
-abbrev pub is_one_of : List ℕ → ℕ → Bool
-is_one_of [] b = false
-is_one_of (c ∷ []) b = b == c
-is_one_of (c ∷ d ∷ cs) b = b == c || is_one_of (d ∷ cs) b
 
 -- a byte that a path of an HTTP location is not written with: a control, a space or one of these
 abbrev pub is_path_escaped : ℕ → Bool

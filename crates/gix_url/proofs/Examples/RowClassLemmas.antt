@@ -1,5 +1,5 @@
 -- Rows on the settled class: values that are in it, by their facts, and values that aren't, by the fact that they lack.
-use Rattle.std.proofs.Common.{◌≡◌, ℕ, true, false, ◌==◌, ◌⊎◌, inl, inr, List, [], ◌∷◌, ◌++◌, length, Option, Some, None, IsUtf8, codes, refl, sym, ap, subst, ◌∙◌, arith, length-append}
+use Rattle.std.proofs.Common.{◌≡◌, ℕ, false, ◌==◌, ◌⊎◌, inl, inr, List, [], ◌∷◌, ◌++◌, length, Option, Some, None, IsUtf8, codes, refl, sym, ap, subst, ◌∙◌, arith, length-append}
 use Rattle.std.specs.List.{list_any}
 use Rattle.std.specs.Str.{chars}
 use Rattle.std.proofs.lemmas.Bool.{both_ways, false≢true, ltb-true, leb-true}
@@ -7,13 +7,13 @@ use Rattle.std.proofs.lemmas.Option.{same_Some, none-some}
 use Rattle.std.proofs.lemmas.Str.{IsUtf8-from_is_utf8}
 use Rattle.percent_encoding.proofs.OnLiterals.{percent_encoding_on_literals}
 use Rattle.bstr.proofs.Computing.{computing}
-use Rattle.gix_url.specs.Value.{Protocol, path_alone}
-use Rattle.gix_url.specs.Value.Protocol.{file, git, ssh, http, https, helper, helper_url}
+use Rattle.gix_url.specs.Value.{Protocol}
+use Rattle.gix_url.specs.Value.Protocol.{ssh, http}
 use Rattle.gix_url.specs.Bytes.{colon, left_bracket, begins_with, is_helper_name}
 use Rattle.gix_url.specs.Escapes.{has_percent}
 use Rattle.gix_url.specs.AddressTest.{is_ipv6_text}
-use Rattle.gix_url.specs.Settled.{HasMatch, HasFittingText, IsSettledUrl, IsWebName, IsWebHost, IsNormalAddress, IsBracketedHost, IsScpName, IsSettled}
-use Rattle.gix_url.specs.ClassRows.{no_text, at_host, in_scp, SettledRows, WebHostRows, UnsettledWebRows, UnsettledUrlRows, UnsettledOtherRows}
+use Rattle.gix_url.specs.Settled.{HasMatch, HasFittingText, IsSettledUrl, IsWebName, IsWebHost, IsNormalAddress, IsBracketedHost, IsScpName}
+use Rattle.gix_url.specs.ClassRows.{no_text, at_host, SettledRows, WebHostRows, UnsettledWebRows, UnsettledUrlRows, UnsettledOtherRows}
 use Rattle.gix_url.proofs.Texts.CutLemmas.{different_bytes}
 use Rattle.std.proofs.lemmas.Option.{same_Some}
 use Rattle.gix_url.proofs.Addresses.AddressTestLemmas.{ipv6_text_from, ipv6_text_to}

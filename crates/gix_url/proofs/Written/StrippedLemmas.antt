@@ -25,7 +25,6 @@ use Rattle.gix_url.specs.SettledParts.{IsWrittenAsUrl}
 use Rattle.gix_url.specs.Safeguards.{SettledWithoutPassword}
 use Rattle.gix_url.proofs.Texts.CutLemmas.{lacks-append, lacks-cons, lacks_head_tail, lacks_parts, lacks_weaker, path_cut_unique, scheme_text_free}
 use Rattle.gix_url.proofs.Texts.EscapeLemmas.{ascii_byte, utf8_byte, white_space_parts}
-use Rattle.gix_url.proofs.Addresses.AddressLemmas.{address_two_colons}
 use Rattle.gix_url.proofs.Readings.LengthLemmas.{fits_from_text, other_left_in, without_shorter}
 use Rattle.gix_url.proofs.Written.AgainLemmas.{web_readable, secure_readable, git_readable, other_readable}
 use Rattle.gix_url.proofs.Written.WrittenUrlLemmas.{IsReadable, authority_text, canonical_cut, web_starts}
