@@ -1,9 +1,9 @@
 -- IPv6 texts, as RFC 4291 section 2.2 writes them, and the literals of RFC 6874.
-use Rattle.std.specs.Prelude.{◌≡◌, ℕ, ◌+◌, ◌<◌, ◌≤◌, Bool, true, false, ◌||◌, ◌==◌, ◌⊎◌, List, [], ◌∷◌, ◌++◌, length, decimal, codes, IsUtf8}
+use Rattle.std.specs.Prelude.{◌≡◌, ℕ, ◌+◌, ◌<◌, ◌≤◌, Bool, true, false, ◌||◌, ◌⊎◌, List, [], ◌∷◌, ◌++◌, length, decimal, codes, IsUtf8}
 use Rattle.std.specs.List.{list_all, join_with_byte}
 use Rattle.std.specs.Char.{is_ascii_alphanumeric}
 use Rattle.percent_encoding.specs.Percent.{percent_decode}
-use Rattle.gix_url.specs.Bytes.{percent_sign, hyphen, dot, colon, underscore, tilde, lowercase, is_hexadecimal}
+use Rattle.gix_url.specs.Bytes.{dot, colon, lowercase, is_hexadecimal, is_one_of}
 use Rattle.gix_url.specs.Escapes.{is_sound}
 
 -- a group: one to four hexadecimal digits
@@ -53,8 +53,7 @@ IsIpv6Text t = IsFullAddress t ⊎ IsShortAddress t
 
 -- a byte of a zone: a letter, a digit, `-`, `.`, `_`, `~`, or the `%` of an escape
 abbrev pub is_zone_byte : ℕ → Bool
-is_zone_byte b = is_ascii_alphanumeric b
-    || (b == hyphen || (b == dot || (b == underscore || (b == tilde || b == percent_sign))))
+is_zone_byte b = is_ascii_alphanumeric b || is_one_of (codes "-._~%") b
 
 -- a zone
 pub record IsZone (z : List ℕ) : Type 0 where

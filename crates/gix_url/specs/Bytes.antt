@@ -16,14 +16,6 @@ newline = 10
 abbrev pub space : ℕ
 space = 32
 
--- `!`
-abbrev pub exclamation_mark : ℕ
-exclamation_mark = 33
-
--- `"`
-abbrev pub quotation_mark : ℕ
-quotation_mark = 34
-
 -- `#`
 abbrev pub number_sign : ℕ
 number_sign = 35
@@ -39,10 +31,6 @@ percent_sign = 37
 -- `&`
 abbrev pub ampersand : ℕ
 ampersand = 38
-
--- `*`
-abbrev pub asterisk : ℕ
-asterisk = 42
 
 -- `+`
 abbrev pub plus_sign : ℕ
@@ -68,21 +56,9 @@ digit_zero = 48
 abbrev pub colon : ℕ
 colon = 58
 
--- `;`
-abbrev pub semicolon : ℕ
-semicolon = 59
-
--- `<`
-abbrev pub less_than_sign : ℕ
-less_than_sign = 60
-
 -- `=`
 abbrev pub equals_sign : ℕ
 equals_sign = 61
-
--- `>`
-abbrev pub greater_than_sign : ℕ
-greater_than_sign = 62
 
 -- `?`
 abbrev pub question_mark : ℕ
@@ -104,30 +80,6 @@ backslash = 92
 abbrev pub right_bracket : ℕ
 right_bracket = 93
 
--- `^`
-abbrev pub circumflex : ℕ
-circumflex = 94
-
--- `_`
-abbrev pub underscore : ℕ
-underscore = 95
-
--- `` ` ``
-abbrev pub grave_accent : ℕ
-grave_accent = 96
-
--- `{`
-abbrev pub left_brace : ℕ
-left_brace = 123
-
--- `|`
-abbrev pub vertical_bar : ℕ
-vertical_bar = 124
-
--- `}`
-abbrev pub right_brace : ℕ
-right_brace = 125
-
 -- `~`
 abbrev pub tilde : ℕ
 tilde = 126
@@ -135,6 +87,12 @@ tilde = 126
 -- the control past `~`
 abbrev pub delete : ℕ
 delete = 127
+
+-- the byte is one of these
+abbrev pub is_one_of : List ℕ → ℕ → Bool
+is_one_of [] b = false
+is_one_of (c ∷ []) b = b == c
+is_one_of (c ∷ d ∷ cs) b = b == c || is_one_of (d ∷ cs) b
 
 -- the text holds no byte that passes the test
 abbrev pub Lacks : (ℕ → Bool) → List ℕ → Type 0

@@ -1,9 +1,21 @@
 -- Rows: locations that are settled, and others that are not.
-use Rattle.std.specs.Prelude.{ℕ, true, false, [], codes, Option, Some, None}
-use Rattle.gix_url.specs.Value.{path_alone}
+use Rattle.std.specs.Prelude.{ℕ, true, false, List, [], ◌∷◌, codes, Option, Some, None}
+use Rattle.gix_url.specs.Value.{Protocol, Location, path_alone}
 use Rattle.gix_url.specs.Value.Protocol.{file, git, ssh, http, https, ext, helper, helper_url}
+use Rattle.gix_url.specs.Bytes.{slash}
 use Rattle.gix_url.specs.Settled.{IsWebHost, IsSettled}
-use Rattle.gix_url.specs.Examples.{no_text, at_host, in_scp}
+
+-- the bytes of `/` and of no character
+abbrev pub no_text : List ℕ
+no_text = slash ∷ 255 ∷ []
+
+-- a location with a host
+abbrev pub at_host : Protocol → List ℕ → List ℕ → Location
+at_host scheme host path = record (path_alone scheme false path) { host = Some host }
+
+-- a location of the scp form
+abbrev pub in_scp : Option (List ℕ) → List ℕ → List ℕ → Location
+in_scp user host path = record (path_alone ssh true path) { user = user; host = Some host }
 
 -- settled locations
 abbrev pub SettledRows : Type 0

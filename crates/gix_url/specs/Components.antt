@@ -3,7 +3,7 @@ use Rattle.std.specs.Prelude.{◌≡◌, ℕ, ◌==◌, List, [], ◌∷◌, ◌
 use Rattle.std.specs.List.{join_with_byte}
 use Rattle.percent_encoding.specs.Percent.{percent_decode}
 use Rattle.gix_url.specs.Value.{Protocol, Location}
-use Rattle.gix_url.specs.Value.Protocol.{file, git, ssh, http, https, ext, helper, helper_url}
+use Rattle.gix_url.specs.Value.Protocol.{http, https}
 use Rattle.gix_url.specs.Bytes.{space, number_sign, ampersand, plus_sign, equals_sign, question_mark, FreeOf}
 use Rattle.gix_url.specs.Escapes.{matches}
 use Rattle.gix_url.specs.Grammar.{or_root}
@@ -21,22 +21,15 @@ stands_for v piece = if matches v.spelling v.path then percent_decode piece else
 
 -- ---- the cuts
 
--- the text is free of `?` and `#`
-abbrev pub IsFront : List ℕ → Type 0
-IsFront text = FreeOf question_mark text × FreeOf number_sign text
+-- a text is cut at its first c: what stands before it, and what stands behind it, where there is one
+abbrev pub CutsText : ℕ → List ℕ → List ℕ → Option (List ℕ) → Type 0
+CutsText c text front None = FreeOf c text × (front ≡ text)
+CutsText c text front (Some behind) = FreeOf c front × (text ≡ front ++ c ∷ behind)
 
--- a text is a front, with or without a query behind `?` and a fragment behind `#`
-pub data CutsPath (text front : List ℕ) (query fragment : Option (List ℕ)) : Type 0 where
-  front_alone : IsFront front → text ≡ front → query ≡ None → fragment ≡ None
-      → CutsPath text front query fragment
-  with_query : (q : List ℕ) → IsFront front → FreeOf number_sign q
-      → text ≡ front ++ question_mark ∷ q
-      → query ≡ Some q → fragment ≡ None → CutsPath text front query fragment
-  with_fragment : (f : List ℕ) → IsFront front → text ≡ front ++ number_sign ∷ f
-      → query ≡ None → fragment ≡ Some f → CutsPath text front query fragment
-  with_both : (q f : List ℕ) → IsFront front → FreeOf number_sign q
-      → text ≡ front ++ question_mark ∷ (q ++ number_sign ∷ f)
-      → query ≡ Some q → fragment ≡ Some f → CutsPath text front query fragment
+-- a fragment stands behind the first `#`, and before that a front, with or without a query behind its first `?`
+abbrev pub CutsPath : List ℕ → List ℕ → Option (List ℕ) → Option (List ℕ) → Type 0
+CutsPath text front query fragment = (middle : List ℕ) × CutsText number_sign text middle fragment
+    × CutsText question_mark middle front query
 
 -- the text is fields free of `&`, joined by `&`
 pub record CutsFields (text : List ℕ) (fields : List (List ℕ)) : Type 0 where
@@ -95,12 +88,7 @@ whole_path text = record { path = text; query = None; fragment = None }
 abbrev pub PartsBy : Protocol → Location → Components → Type 0
 PartsBy http v components = WebParts v components
 PartsBy https v components = WebParts v components
-PartsBy file v components = components ≡ whole_path v.path
-PartsBy git v components = components ≡ whole_path v.path
-PartsBy ssh v components = components ≡ whole_path v.path
-PartsBy ext v components = components ≡ whole_path v.path
-PartsBy (helper name) v components = components ≡ whole_path v.path
-PartsBy (helper_url name) v components = components ≡ whole_path v.path
+PartsBy _ v components = components ≡ whole_path v.path
 
 -- the components of a location
 abbrev pub PartsOf : Location → Components → Type 0

@@ -6,7 +6,7 @@ use Rattle.std.specs.List.{list_any, list_all}
 use Rattle.percent_encoding.specs.declared.ascii_set.AsciiSet.{AsciiSet}
 use Rattle.percent_encoding.specs.AsciiSet.{contains}
 use Rattle.percent_encoding.specs.Percent.{percent_decode}
-use Rattle.gix_url.specs.Bytes.{space, quotation_mark, number_sign, percent_sign, slash, colon, less_than_sign, greater_than_sign, question_mark, at_sign, left_bracket, backslash, right_bracket, circumflex, grave_accent, left_brace, vertical_bar, right_brace, delete, is_hexadecimal}
+use Rattle.gix_url.specs.Bytes.{space, percent_sign, colon, delete, is_hexadecimal, is_one_of}
 
 -- every `%` has two hexadecimal digits behind it
 abbrev pub is_sound : List ℕ → Bool
@@ -54,19 +54,13 @@ is_plain bs = list_all is_plain_byte bs
 
 -- ---- the sets of bytes that are escaped, besides every byte past ASCII
 
--- a byte that a path of an HTTP location is not written with: a control, a space, `"`, `%`, `<`, `>`, `` ` ``, `{` or `}`
+-- a byte that a path of an HTTP location is not written with: a control, a space or one of these
 abbrev pub is_path_escaped : ℕ → Bool
-is_path_escaped b =
-    nat_le b space || b == delete || b == quotation_mark || b == percent_sign || b == less_than_sign
-    || b == greater_than_sign
-    || b == grave_accent || b == left_brace || b == right_brace
+is_path_escaped b = nat_le b space || b == delete || is_one_of (codes "\"%<>`{}") b
 
--- a byte that a password is not written with: those of the path, and `#`, `/`, `?`, `@`, `[`, `\`, `]`, `^`, `|`
+-- a byte that a password is not written with: those of the path, and these
 abbrev pub is_password_escaped : ℕ → Bool
-is_password_escaped b =
-    is_path_escaped b || b == number_sign || b == slash || b == question_mark || b == at_sign
-    || b == left_bracket
-    || b == backslash || b == right_bracket || b == circumflex || b == vertical_bar
+is_password_escaped b = is_path_escaped b || is_one_of (codes "#/?@[\\]^|") b
 
 -- a byte that a user is not written with: those of the password, and `:`
 abbrev pub is_user_escaped : ℕ → Bool

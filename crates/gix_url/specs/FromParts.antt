@@ -6,7 +6,7 @@ use Rattle.gix_url.specs.declared.error.Error.{Error}
 use Rattle.gix_url.specs.declared.error.Error.TheVariants as error
 use Rattle.gix_url.specs.declared.error.WriteFault.{WriteFault}
 use Rattle.gix_url.specs.Value.{Protocol, Location}
-use Rattle.gix_url.specs.Value.Protocol.{file, git, ssh, http, https, ext, helper, helper_url}
+use Rattle.gix_url.specs.Value.Protocol.{http, https, helper}
 use Rattle.gix_url.specs.Bytes.{is_helper_name}
 use Rattle.gix_url.specs.Text.{text}
 use Rattle.gix_url.specs.Settled.{IsSettled}
@@ -29,13 +29,7 @@ of_parts named user password host port path flag = record {
 -- the name of a remote helper, if no helper can have it
 abbrev pub invalid_name : Protocol → Option (List ℕ)
 invalid_name (helper name) = if is_helper_name name then None else Some name
-invalid_name file = None
-invalid_name git = None
-invalid_name ssh = None
-invalid_name http = None
-invalid_name https = None
-invalid_name ext = None
-invalid_name (helper_url name) = None
+invalid_name _ = None
 
 -- the error holds the name
 abbrev pub TellsName : List ℕ → Error → Type 0
@@ -54,12 +48,7 @@ with_given path read = record read { path = given_or path read.path; spelling = 
 abbrev pub keeping : Protocol → List ℕ → Location → Location
 keeping http path read = with_given path read
 keeping https path read = with_given path read
-keeping file path read = read
-keeping git path read = read
-keeping ssh path read = read
-keeping ext path read = read
-keeping (helper name) path read = read
-keeping (helper_url name) path read = read
+keeping _ path read = read
 
 -- what reading the text of parts answers, with their path where it is kept
 abbrev pub ReadsKept : Location → List ℕ → Result Location Error → Type 0

@@ -110,10 +110,7 @@ path_for ssh path = from_home path
 path_for git path = from_home path
 path_for http path = or_root path
 path_for https path = or_root path
-path_for file path = path
-path_for ext path = path
-path_for (helper name) path = path
-path_for (helper_url name) path = path
+path_for _ path = path
 
 -- the spelling of a path is retained where it holds an escape
 abbrev pub retained_spelling : List ℕ → Option (List ℕ)
@@ -258,6 +255,12 @@ abbrev pub SpellsScp : List ℕ → Location → Type 0
 SpellsScp b v = SpellsScpBefore b v ⊎ SpellsScpAddressed b v
 
 -- ---- local paths
+
+-- the text has the form of a local path
+pub record LocalShape (b : List ℕ) : Type 0 where
+  pub nonempty : 0 < length b
+  pub neither : IsNeither b
+  pub no_scp : ¬ IsScpShaped b
 
 -- a local path: any other text, as it is
 pub record SpellsLocal (b : List ℕ) (v : Location) : Type 0 where

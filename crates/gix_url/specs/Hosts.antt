@@ -1,10 +1,10 @@
 -- Hosts and ports: what may stand behind the user information of an authority, in three modes of strictness.
-use Rattle.std.specs.Prelude.{◌≡◌, ℕ, ◌<◌, ◌≤◌, Bool, true, false, ◌||◌, ◌==◌, nat_le, ◌&&◌, ◌⊎◌, List, [], ◌∷◌, ◌++◌, length, Option, Some, None, IsUtf8, if◌then◌else◌}
+use Rattle.std.specs.Prelude.{◌≡◌, ℕ, ◌<◌, ◌≤◌, Bool, true, false, ◌||◌, nat_le, ◌&&◌, ◌⊎◌, List, [], ◌∷◌, ◌++◌, length, codes, Option, Some, None, IsUtf8, if◌then◌else◌}
 use Rattle.std.specs.List.{list_all}
 use Rattle.std.specs.Char.{is_ascii_alphanumeric, is_ascii_digit}
 use Rattle.std.specs.Str.Parse.{digits_value}
 use Rattle.percent_encoding.specs.Percent.{percent_decode}
-use Rattle.gix_url.specs.Bytes.{exclamation_mark, dollar_sign, asterisk, hyphen, dot, colon, semicolon, equals_sign, left_bracket, right_bracket, underscore, tilde, FreeOf, begins_with, lowercase}
+use Rattle.gix_url.specs.Bytes.{dollar_sign, dot, colon, left_bracket, right_bracket, FreeOf, begins_with, lowercase, is_one_of}
 use Rattle.gix_url.specs.Addresses.{IsIpv6Text, Literal}
 
 -- how strictly a host is read: as HTTP has it, as Git's own transports have it, or as any other scheme
@@ -15,16 +15,13 @@ pub data Mode : Type 0 where
 
 -- a byte that looks like a part of a domain name: a letter, a digit, `-`, `.`, `_` or `*`
 abbrev pub is_dns_byte : ℕ → Bool
-is_dns_byte b = is_ascii_alphanumeric b
-    || (b == hyphen || (b == dot || (b == underscore || b == asterisk)))
+is_dns_byte b = is_ascii_alphanumeric b || is_one_of (codes "-._*") b
 
 -- a byte that the host of an HTTP location may hold: a letter, a digit or one of `-._~!$&'()*+,;=%`, of which those from
 -- `$` to `.` stand side by side
 abbrev pub is_http_host_byte : ℕ → Bool
 is_http_host_byte b = is_ascii_alphanumeric b
-    || ((nat_le dollar_sign b && nat_le b dot)
-    || (b == exclamation_mark
-    || (b == semicolon || (b == equals_sign || (b == underscore || b == tilde)))))
+    || ((nat_le dollar_sign b && nat_le b dot) || is_one_of (codes "!;=_~") b)
 
 -- the normal form of a host: in lower case where it looks like a domain name
 abbrev pub normal_host : List ℕ → List ℕ

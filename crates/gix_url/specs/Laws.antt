@@ -5,7 +5,7 @@ use Rattle.std.specs.Hash.{HashWrites}
 use Rattle.std.specs.declared.cmp.Ordering.{Ordering}
 use Rattle.std.specs.declared.cmp.Ordering.TheVariants.{Equal}
 use Rattle.gix_url.specs.Value.{Protocol, Location, fields, path_alone}
-use Rattle.gix_url.specs.Value.Protocol.{file, git, ssh, http, https, ext, helper, helper_url}
+use Rattle.gix_url.specs.Value.Protocol.{file, git, ssh, ext, helper, helper_url}
 use Rattle.gix_url.specs.Bytes.{colon, left_bracket, begins_with}
 use Rattle.gix_url.specs.Escapes.{has_percent}
 use Rattle.gix_url.specs.Grammar.{IsNeither, ScpShape, IsAddressed, SpellsHelper, SpellsUrl, SpellsFile, SpellsScpBefore, SpellsLocal, Spells}
@@ -56,14 +56,10 @@ SameComponents = (v w : Location) (t : List ℕ) → IsValue v → IsWeb v → I
 
 -- the protocols of which all that is read is settled, but for corners
 abbrev pub is_closed : Protocol → Bool
-is_closed file = true
-is_closed http = true
-is_closed https = true
-is_closed ext = true
-is_closed (helper name) = true
 is_closed git = false
 is_closed ssh = false
 is_closed (helper_url name) = false
+is_closed _ = true
 
 -- the corners: hosts that would be written in brackets, and texts that are too long to be read again
 pub data IsCorner (v : Location) : Type 0 where
@@ -99,11 +95,7 @@ abbrev pub keeps_bytes : Protocol → Bool → Bool
 keeps_bytes file flag = flag
 keeps_bytes ext flag = true
 keeps_bytes (helper name) flag = true
-keeps_bytes git flag = false
-keeps_bytes ssh flag = false
-keeps_bytes http flag = false
-keeps_bytes https flag = false
-keeps_bytes (helper_url name) flag = false
+keeps_bytes _ flag = false
 
 -- the location is of such a kind
 abbrev pub KeepsBytes : Location → Type 0

@@ -45,16 +45,10 @@ pub mod Url
 pub mod UrlRef
 pub mod Stored
 -- Here end the files that a user reads. Examples of the definitions: each row is proved.
-pub mod Examples
 pub mod ByteRows
-pub mod TextRows
-pub mod NameRows
-pub mod FormRows
 pub mod ClassRows
-pub mod HomeRows
 pub mod GitRows
-pub mod RefusalRows
-pub mod RunRows
+pub mod OtherRows
 -- What serves the proofs of the readers, of the writer and of the settled test alone.
 pub mod Cuts
 pub mod Walks

@@ -23,14 +23,9 @@ rank (helper_url name) = 7
 
 -- the name that a protocol brings with it, where its kind alone doesn't say which it is
 abbrev pub held_name : Protocol → Option (List ℕ)
-held_name file = None
-held_name git = None
-held_name ssh = None
-held_name http = None
-held_name https = None
-held_name ext = None
 held_name (helper name) = Some name
 held_name (helper_url name) = Some name
+held_name _ = None
 
 -- ---- equality
 

@@ -1,12 +1,13 @@
 -- The laws of equality, order and hash: what is equal is one value, and the order is total.
-use Rattle.std.specs.Prelude.{◌≡◌, ℕ, zero, suc, Bool, true, false, ◌&&◌, List, [], Option, Some, None, is_none, unwrap_or, bytes_eq, nat_eq}
+use Rattle.std.specs.Prelude.{◌≡◌, ℕ, zero, suc, Bool, true, false, List, [], Option, Some, None, is_none, unwrap_or, bytes_eq, nat_eq}
 use mathlib.Core.Path.{refl, sym, ap, subst, ◌∙◌}
 use mathlib.Core.Bool.{true≢false, beq}
 use Rattle.std.specs.Bool.{Decides}
+use Rattle.std.proofs.lemmas.Bool.Decides.{Decides-and}
 use Rattle.std.specs.Option.{option_eq, option_cmp}
 use Rattle.std.specs.declared.cmp.Ordering.{Ordering}
 use Rattle.std.specs.Ordering.{nat_cmp, bool_cmp, eq_by_cmp}
-use Rattle.std.specs.Cmp.{IsTotalOrder, IsEquivalence, IsPartialOrder, po, decided, nat_cmp_total, bool_cmp_total, on_total, then_total, both_tied, unsigned_ties, unsigned_Decides, booleans_Decides, first_so, second_so}
+use Rattle.std.specs.Cmp.{IsTotalOrder, IsEquivalence, IsPartialOrder, po, decided, nat_cmp_total, bool_cmp_total, on_total, then_total, both_tied, unsigned_ties, unsigned_Decides, booleans_Decides}
 use Rattle.std.specs.Cmp.Lexicographic.{nat_list_cmp_total, options_total, texts_ties, bytes_decides}
 use Rattle.gix_url.specs.Value.{Protocol, Location}
 use Rattle.gix_url.specs.Value.Protocol.{file, git, ssh, http, https, ext, helper, helper_url}
@@ -41,116 +42,61 @@ protocol_at (suc (suc (suc (suc (suc (suc (suc n))))))) name = helper_url (unwra
 at_itself : (p : Protocol) → protocol_at (rank p) (held_name p) ≡ p
 unfolding protocol_at
 at_itself file = refl
-at_itself git = refl
-at_itself ssh = refl
-at_itself http = refl
-at_itself https = refl
-at_itself ext = refl
-at_itself (helper name) = refl
-at_itself (helper_url name) = refl
+at_itself _ = refl
 
 -- protocols of one kind and one name are one
 pub kind_and_name : (p q : Protocol) → rank p ≡ rank q → held_name p ≡ held_name q → p ≡ q
 kind_and_name p q kinds names = sym (at_itself p) ∙
     ((λ i. protocol_at (kinds i) (names i)) ∙ at_itself q)
 
--- two tests that pass, pass together
-pub both_pass : (s t : Bool) → s ≡ true → t ≡ true → (s && t) ≡ true
-both_pass s t p q = λ i. p i && q i
-
-protocol_same : (p q : Protocol) → protocol_eq p q ≡ true → p ≡ q
-protocol_same p q h =
-    let kinds = (unsigned_Decides (rank p) (rank q)).0
-    (first_so (nat_eq (rank p) (rank q)) (text_eq (held_name p) (held_name q)) h) in
-    let names = (text_decides (held_name p) (held_name q)).0
-    (second_so (nat_eq (rank p) (rank q)) (text_eq (held_name p) (held_name q)) h) in
-    kind_and_name p q kinds names
-
-protocol_itself : (p : Protocol) → protocol_eq p p ≡ true
-protocol_itself p = both_pass (nat_eq (rank p) (rank p)) (text_eq (held_name p) (held_name p))
-    ((unsigned_Decides (rank p) (rank p)).1 refl)
-    ((text_decides (held_name p) (held_name p)).1 refl)
-
+-- protocols are equal where their kinds and their names are
 pub protocol_decides : (p q : Protocol) → Decides (protocol_eq p q) (p ≡ q)
 protocol_decides p q =
-    (protocol_same p q, λ e. subst (λ r. protocol_eq p r ≡ true) e (protocol_itself p))
+    let told = Decides-and _ _ (unsigned_Decides (rank p) (rank q))
+    (text_decides (held_name p) (held_name q)) in (
+      λ e. let same = told.0 e in kind_and_name p q same.0 same.1,
+      λ e. told.1 (ap rank e, ap held_name e),
+    )
 
 pub protocol_equiv : IsEquivalence protocol_eq
 protocol_equiv = decided protocol_eq protocol_decides
 
--- each of eight tests passes
-record AllPass (a b c d e f g h : Bool) : Type 0 where
-  scheme : a ≡ true
-  user : b ≡ true
-  password : c ≡ true
-  host : d ≡ true
-  flag : e ≡ true
-  port : f ≡ true
-  path : g ≡ true
-  spelling : h ≡ true
+-- two locations have the same parts
+abbrev SameParts : Location → Location → Type 0
+SameParts v w = (v.scheme ≡ w.scheme) × ((v.user ≡ w.user) × ((v.password ≡ w.password)
+    × ((v.host ≡ w.host) × ((v.flag ≡ w.flag) × ((v.port ≡ w.port)
+    × ((v.path ≡ w.path) × (v.spelling ≡ w.spelling)))))))
 
--- eight tests that pass one behind the other
-all_pass : (a b c d e f g h : Bool) → (a && (b && (c && (d && (e && (f && (g && h))))))) ≡ true
-    → AllPass a b c d e f g h
-all_pass a b c d e f g h whole =
-    let from_b = second_so a (b && (c && (d && (e && (f && (g && h)))))) whole in
-    let from_c = second_so b (c && (d && (e && (f && (g && h))))) from_b in
-    let from_d = second_so c (d && (e && (f && (g && h)))) from_c in
-    let from_e = second_so d (e && (f && (g && h))) from_d in
-    let from_f = second_so e (f && (g && h)) from_e in
-    let from_g = second_so f (g && h) from_f in
-    record {
-      scheme = first_so a (b && (c && (d && (e && (f && (g && h)))))) whole;
-      user = first_so b (c && (d && (e && (f && (g && h))))) from_b;
-      password = first_so c (d && (e && (f && (g && h)))) from_c;
-      host = first_so d (e && (f && (g && h))) from_d;
-      flag = first_so e (f && (g && h)) from_e;
-      port = first_so f (g && h) from_f;
-      path = first_so g h from_g;
-      spelling = second_so g h from_g;
-    }
+-- then they are one
+parts_same : (v w : Location) → SameParts v w → v ≡ w
+parts_same v w (scheme, (user, (password, (host, (flag, (port, (path, spelling))))))) = λ i. record {
+  scheme = scheme i;
+  user = user i;
+  password = password i;
+  host = host i;
+  flag = flag i;
+  port = port i;
+  path = path i;
+  spelling = spelling i;
+}
 
-location_same : (v w : Location) → location_eq v w ≡ true → v ≡ w
-location_same v w h =
-    let told = all_pass (protocol_eq v.scheme w.scheme) (text_eq v.user w.user)
-    (text_eq v.password w.password) (text_eq v.host w.host) (beq v.flag w.flag)
-    (option_eq nat_eq v.port w.port) (bytes_eq v.path w.path)
-    (text_eq v.spelling w.spelling) h in
-    let scheme = protocol_same v.scheme w.scheme told.scheme in
-    let user = (text_decides v.user w.user).0 told.user in
-    let password = (text_decides v.password w.password).0 told.password in
-    let host = (text_decides v.host w.host).0 told.host in
-    let flag = (booleans_Decides v.flag w.flag).0 told.flag in
-    let port = (options_decide nat_eq unsigned_Decides v.port w.port).0 told.port in
-    let path = (bytes_decides v.path w.path).0 told.path in
-    let spelling = (text_decides v.spelling w.spelling).0 told.spelling in
-    λ i. record {
-      scheme = scheme i;
-      user = user i;
-      password = password i;
-      host = host i;
-      flag = flag i;
-      port = port i;
-      path = path i;
-      spelling = spelling i;
-    }
-
-location_itself : (v : Location) → location_eq v v ≡ true
-location_itself v =
-    let scheme = protocol_itself v.scheme in
-    let user = (text_decides v.user v.user).1 refl in
-    let password = (text_decides v.password v.password).1 refl in
-    let host = (text_decides v.host v.host).1 refl in
-    let flag = (booleans_Decides v.flag v.flag).1 refl in
-    let port = (options_decide nat_eq unsigned_Decides v.port v.port).1 refl in
-    let path = (bytes_decides v.path v.path).1 refl in
-    let spelling = (text_decides v.spelling v.spelling).1 refl in
-    λ i. scheme i && (user i
-    && (password i && (host i && (flag i && (port i && (path i && spelling i))))))
+-- and are equal
+parts_decide : (v w : Location) → Decides (location_eq v w) (SameParts v w)
+parts_decide v w =
+    Decides-and _ _ (protocol_decides v.scheme w.scheme)
+    (Decides-and _ _ (text_decides v.user w.user)
+    (Decides-and _ _ (text_decides v.password w.password)
+    (Decides-and _ _ (text_decides v.host w.host)
+    (Decides-and _ _ (booleans_Decides v.flag w.flag)
+    (Decides-and _ _ (options_decide nat_eq unsigned_Decides v.port w.port)
+    (Decides-and _ _ (bytes_decides v.path w.path) (text_decides v.spelling w.spelling)))))))
 
 pub location_decides : (v w : Location) → Decides (location_eq v w) (v ≡ w)
-location_decides v w =
-    (location_same v w, λ e. subst (λ u. location_eq v u ≡ true) e (location_itself v))
+location_decides v w = (
+  λ e. parts_same v w ((parts_decide v w).0 e),
+  λ e. subst (λ u. location_eq v u ≡ true) e
+      ((parts_decide v v).1 (refl, (refl, (refl, (refl, (refl, (refl, (refl, refl)))))))),
+)
 
 pub location_equiv : IsEquivalence location_eq
 location_equiv = decided location_eq location_decides
@@ -217,7 +163,7 @@ location_po = po location_total location_ties
 -- ---- what is equal feeds a hasher alike
 
 pub protocols_alike : (p q : Protocol) → protocol_eq p q ≡ true → fed_protocol p ≡ fed_protocol q
-protocols_alike p q h = ap fed_protocol (protocol_same p q h)
+protocols_alike p q h = ap fed_protocol ((protocol_decides p q).0 h)
 
 pub locations_alike : (v w : Location) → location_eq v w ≡ true → fed_location v ≡ fed_location w
-locations_alike v w h = ap fed_location (location_same v w h)
+locations_alike v w h = ap fed_location ((location_decides v w).0 h)

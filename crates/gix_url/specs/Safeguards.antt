@@ -2,7 +2,7 @@
 use Rattle.std.specs.Prelude.{◌≡◌, ℕ, Bool, true, false, not, ◌⊎◌, ◌↔◌, List, [], Option, Some, None, IsTrue}
 use Rattle.gix_url.specs.declared.escape.TheConstants.{PATH, PASSWORD, USER}
 use Rattle.gix_url.specs.Value.{Protocol, Location, fields}
-use Rattle.gix_url.specs.Value.Protocol.{file, git, ssh, http, https, ext, helper, helper_url}
+use Rattle.gix_url.specs.Value.Protocol.{git, ssh, helper_url}
 use Rattle.gix_url.specs.Bytes.{LacksWhiteSpace}
 use Rattle.gix_url.specs.Escapes.{HoldsExactly, has_percent, path_set, password_set, user_set, is_path_escaped, is_password_escaped, is_user_escaped}
 use Rattle.gix_url.specs.Addresses.{IsIpv6Text}
@@ -59,11 +59,7 @@ abbrev pub is_raw_url : Protocol → Bool → Bool
 is_raw_url git flag = true
 is_raw_url ssh flag = not flag
 is_raw_url (helper_url name) flag = true
-is_raw_url file flag = false
-is_raw_url http flag = false
-is_raw_url https flag = false
-is_raw_url ext flag = false
-is_raw_url (helper name) flag = false
+is_raw_url _ flag = false
 
 -- a location of such a kind needs no spelling: its path has neither `%` nor white space, and without a host the text
 -- of its public fields is short enough

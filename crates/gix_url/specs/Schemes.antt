@@ -42,10 +42,7 @@ default_port_of http = Some 80
 default_port_of https = Some 443
 default_port_of ssh = Some 22
 default_port_of git = Some 9418
-default_port_of file = None
-default_port_of ext = None
-default_port_of (helper name) = None
-default_port_of (helper_url name) = None
+default_port_of _ = None
 
 -- how the host of a URL with this scheme is read
 abbrev pub mode_of : List ℕ → Mode
@@ -62,12 +59,7 @@ requires_host s = is_web_scheme s
 abbrev pub requires_path : Protocol → Bool
 requires_path ssh = true
 requires_path git = true
-requires_path http = false
-requires_path https = false
-requires_path file = false
-requires_path ext = false
-requires_path (helper name) = false
-requires_path (helper_url name) = false
+requires_path _ = false
 
 -- the scheme is one that has a name of its own
 abbrev pub is_known_scheme : List ℕ → Bool

@@ -10,7 +10,7 @@ use Rattle.gix_url.specs.Addresses.{IsIpv6Text, Literal}
 use Rattle.gix_url.specs.Hosts.{normal_host, is_http_host_byte}
 use Rattle.gix_url.specs.Schemes.{is_known_scheme}
 use Rattle.gix_url.specs.Authority.{FitsText}
-use Rattle.gix_url.specs.Grammar.{IsNeither, IsScpShaped}
+use Rattle.gix_url.specs.Grammar.{LocalShape}
 use Rattle.gix_url.specs.Text.{text}
 
 -- what holds of every value of the code: its texts are UTF-8, its bytes are bytes and its port is one
@@ -49,25 +49,43 @@ pub record IsOpenName (host : List ℕ) : Type 0 where
   pub no_right_bracket : FreeOf right_bracket host
 
 -- the location has neither user nor password nor port, so that before its path at most a host stands
-pub record HasAtMostHost (v : Location) : Type 0 where
-  pub no_user : v.user ≡ None
-  pub no_password : v.password ≡ None
-  pub no_port : v.port ≡ None
+abbrev pub HasAtMostHost : Location → Type 0
+HasAtMostHost v = (v.user ≡ None) × (v.password ≡ None) × (v.port ≡ None)
+
+-- it has nothing but a path, and the flag
+abbrev pub IsFlaggedPath : Location → Type 0
+IsFlaggedPath v = (v.flag ≡ true) × HasAtMostHost v × (v.host ≡ None)
 
 -- the location has a text, and it is short enough
 abbrev pub HasFittingText : Location → Type 0
 HasFittingText v = (t : List ℕ) × (text v ≡ Ok t) × FitsText t
 
+-- a password comes with a user and isn't empty, and an empty user comes with a password
+abbrev pub HasCredentials : Location → Type 0
+HasCredentials v = IfSome v.password (λ p. (0 < length p) × IsSome v.user)
+    × (v.user ≡ Some [] → IsSome v.password)
+
+-- a user and a port come with a host
+abbrev pub IsHosted : Location → Type 0
+IsHosted v = (IsSome v.user → IsSome v.host) × (IsSome v.port → IsSome v.host)
+
+-- a matching spelling is fair
+abbrev pub HasFairSpelling : Location → Type 0
+HasFairSpelling v = (s : List ℕ) → v.spelling ≡ Some s → DecodesTo s v.path
+    → IsFairSpelling s v.path
+
+-- the path is text, and a matching spelling is fair
+pub record HasUrlPath (v : Location) : Type 0 where
+  pub path_text : IsUtf8 v.path
+  pub spelling : HasFairSpelling v
+
 -- common to the URLs of HTTP, of Git's own transports and of helpers
 pub record IsSettledUrl (v : Location) : Type 0 where
   pub unflagged : v.flag ≡ false
-  pub password : IfSome v.password (λ p. (0 < length p) × IsSome v.user)
-  pub user : v.user ≡ Some [] → IsSome v.password
-  pub user_hosted : IsSome v.user → IsSome v.host
-  pub port_hosted : IsSome v.port → IsSome v.host
+  pub credentials : HasCredentials v
+  pub hosted : IsHosted v
+  pub path : HasUrlPath v
   pub fits : HasFittingText v
-  pub path_text : IsUtf8 v.path
-  pub spelling : (s : List ℕ) → v.spelling ≡ Some s → DecodesTo s v.path → IsFairSpelling s v.path
 
 -- ---- HTTP
 
@@ -92,10 +110,14 @@ pub data IsWebHost (port : Option ℕ) (host : List ℕ) : Type 0 where
   named_colon : (n : List ℕ) → IsWebName n → has_percent n ≡ false → port ≡ None
       → host ≡ n ++ colon ∷ [] → IsWebHost port host
 
+-- a host is there, and settled for HTTP
+abbrev pub HasWebHost : Location → Type 0
+HasWebHost v = (h : List ℕ) × (v.host ≡ Some h) × IsWebHost v.port h
+
 -- a settled location of HTTP
 pub record IsSettledWeb (v : Location) : Type 0 where
   pub common : IsSettledUrl v
-  pub host : (h : List ℕ) × (v.host ≡ Some h) × IsWebHost v.port h
+  pub host : HasWebHost v
   pub port : v.port ≢ Some 0
   pub path : begins_by (is_path_start true) v.path ≡ true
 
@@ -115,15 +137,22 @@ pub record IsNormalAddress (host : List ℕ) : Type 0 where
 abbrev pub IsBareHost : List ℕ → Type 0
 IsBareHost host = IsNormalName host ⊎ IsNormalAddress host
 
+-- brackets around a lowercase IPv6 text
+abbrev pub IsBracketedAddress : List ℕ → Type 0
+IsBracketedAddress host = (address : List ℕ) × IsNormalAddress address
+    × (host ≡ left_bracket ∷ (address ++ right_bracket ∷ []))
+
 -- a settled host with brackets around an address
 abbrev pub IsBracketedHost : List ℕ → Type 0
-IsBracketedHost host = IsNormalName host
-    ⊎ ((address : List ℕ) × IsNormalAddress address
-    × (host ≡ left_bracket ∷ (address ++ right_bracket ∷ [])))
+IsBracketedHost host = IsNormalName host ⊎ IsBracketedAddress host
 
--- where no spelling matches the path, which is UTF-8, it holds neither `%` nor white space
+-- neither `%` nor white space
+abbrev pub IsRaw : List ℕ → Type 0
+IsRaw path = (has_percent path ≡ false) × LacksWhiteSpace path
+
+-- the path, which is UTF-8, is raw where no spelling matches it
 abbrev pub IsRawPath : Location → Type 0
-IsRawPath v = ¬ HasMatch v → (has_percent v.path ≡ false) × LacksWhiteSpace v.path
+IsRawPath v = ¬ HasMatch v → IsRaw v.path
 
 -- the text begins with `/~`
 abbrev pub begins_at_home : List ℕ → Bool
@@ -131,38 +160,55 @@ begins_at_home [] = false
 begins_at_home (a ∷ []) = false
 begins_at_home (a ∷ b ∷ rest) = a == slash && b == tilde
 
+-- a rooted path, and none below a home folder
+abbrev pub IsHomeless : List ℕ → Type 0
+IsHomeless path = (begins_with slash path ≡ true) × (begins_at_home path ≡ false)
+
 -- a rooted path, or one below a home folder, which has no spelling that matches
 abbrev pub IsTransportPath : Location → Type 0
-IsTransportPath v = ((begins_with slash v.path ≡ true) × (begins_at_home v.path ≡ false))
-    ⊎ ((begins_with tilde v.path ≡ true) × (¬ HasMatch v))
+IsTransportPath v = IsHomeless v.path ⊎ ((begins_with tilde v.path ≡ true) × (¬ HasMatch v))
+
+-- a host is there, and settled for Secure Shell
+abbrev pub HasBareHost : Location → Type 0
+HasBareHost v = (h : List ℕ) × (v.host ≡ Some h) × IsBareHost h
+
+-- a host is there, and settled with brackets around an address
+abbrev pub HasBracketedHost : Location → Type 0
+HasBracketedHost v = (h : List ℕ) × (v.host ≡ Some h) × IsBracketedHost h
+
+-- what settled URLs have in common, and a path that is raw where no spelling matches it
+pub record IsSettledRaw (v : Location) : Type 0 where
+  pub common : IsSettledUrl v
+  pub raw : IsRawPath v
 
 -- a settled URL of Secure Shell
 pub record IsSettledSecure (v : Location) : Type 0 where
-  pub common : IsSettledUrl v
-  pub host : (h : List ℕ) × (v.host ≡ Some h) × IsBareHost h
+  pub url : IsSettledRaw v
+  pub host : HasBareHost v
   pub path : IsTransportPath v
-  pub raw : IsRawPath v
 
 -- a settled URL of Git's own protocol
 pub record IsSettledGit (v : Location) : Type 0 where
-  pub common : IsSettledUrl v
-  pub host : (h : List ℕ) × (v.host ≡ Some h) × IsBracketedHost h
+  pub url : IsSettledRaw v
+  pub host : HasBracketedHost v
   pub path : IsTransportPath v
-  pub raw : IsRawPath v
 
 -- the name is of FTP, whose URLs need a host
 abbrev pub is_ftp : List ℕ → Bool
 is_ftp name = bytes_eq name (codes "ftp") || bytes_eq name (codes "ftps")
 
+-- the path is empty, or rooted
+abbrev pub IsRootedOrEmpty : List ℕ → Type 0
+IsRootedOrEmpty path = (path ≡ []) ⊎ (begins_with slash path ≡ true)
+
 -- a settled URL of another scheme
 pub record IsSettledHelperUrl (name : List ℕ) (v : Location) : Type 0 where
-  pub common : IsSettledUrl v
+  pub url : IsSettledRaw v
   pub scheme_text : is_scheme_text name ≡ true
   pub unknown : is_known_scheme name ≡ false
   pub host : IfSome v.host IsBracketedHost
   pub hosted : is_ftp name ≡ true → IsSome v.host
-  pub path : (v.path ≡ []) ⊎ (begins_with slash v.path ≡ true)
-  pub raw : IsRawPath v
+  pub path : IsRootedOrEmpty v.path
 
 -- ---- the local file system
 
@@ -184,12 +230,8 @@ pub record IsSettledFile (v : Location) : Type 0 where
 
 -- a settled local path
 pub record IsSettledLocal (v : Location) : Type 0 where
-  pub flagged : v.flag ≡ true
-  pub alone : HasAtMostHost v
-  pub no_host : v.host ≡ None
-  pub nonempty : 0 < length v.path
-  pub neither : IsNeither v.path
-  pub no_scp : ¬ IsScpShaped v.path
+  pub bare : IsFlaggedPath v
+  pub shape : LocalShape v.path
 
 -- ---- the scp form
 
@@ -218,27 +260,36 @@ abbrev pub LooksLikeHelper : Location → List ℕ → Type 0
 LooksLikeHelper v host = (v.user ≡ None) × (is_helper_name host ≡ true)
     × (begins_with colon v.path ≡ true)
 
+-- a settled path in the scp form
+pub record IsScpPath (path : List ℕ) : Type 0 where
+  pub path_text : IsUtf8 path
+  pub nonempty : 0 < length path
+  pub not_home : begins_at_home path ≡ false
+  pub not_slashes : begins_with_slashes path ≡ false
+  pub no_mark : ¬ Holds (codes "://") path
+
+-- a settled host in the scp form
+abbrev pub IsScpHost : List ℕ → Type 0
+IsScpHost host = IsScpName host ⊎ IsNormalAddress host
+
+-- a host is there, and settled in the scp form
+abbrev pub HasScpHost : Location → Type 0
+HasScpHost v = (h : List ℕ) × (v.host ≡ Some h) × IsScpHost h × ¬ LooksLikeHelper v h
+
 -- a settled location in the scp form
 pub record IsSettledScp (v : Location) : Type 0 where
   pub flagged : v.flag ≡ true
   pub no_password : v.password ≡ None
   pub no_port : v.port ≡ None
-  pub path_text : IsUtf8 v.path
-  pub nonempty : 0 < length v.path
-  pub not_home : begins_at_home v.path ≡ false
-  pub not_slashes : begins_with_slashes v.path ≡ false
-  pub no_mark : ¬ Holds (codes "://") v.path
+  pub path : IsScpPath v.path
   pub user : IfSome v.user IsScpUser
-  pub host : (h : List ℕ) × (v.host ≡ Some h) × (IsScpName h ⊎ IsNormalAddress h)
-      × ¬ LooksLikeHelper v h
+  pub host : HasScpHost v
 
 -- ---- remote helpers
 
 -- a settled remote helper
 pub record IsSettledHelper (name : List ℕ) (v : Location) : Type 0 where
-  pub flagged : v.flag ≡ true
-  pub alone : HasAtMostHost v
-  pub no_host : v.host ≡ None
+  pub bare : IsFlaggedPath v
   pub named : is_helper_name name ≡ true
 
 -- ---- all kinds

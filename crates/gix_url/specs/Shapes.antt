@@ -1,9 +1,9 @@
 -- What the classifier answers: the form of a text, and the pieces that its marks cut it into.
-use Rattle.std.specs.Prelude.{◌≡◌, ℕ, ◌<◌, false, ◌⊎◌, List, [], ◌∷◌, ◌++◌, length}
+use Rattle.std.specs.Prelude.{◌≡◌, ℕ, false, ◌⊎◌, List, [], ◌∷◌, ◌++◌}
 use Rattle.gix_url.specs.declared.parse.classify.Shape.{Shape}
 use Rattle.gix_url.specs.declared.parse.classify.Shape.TheVariants as shape
 use Rattle.gix_url.specs.Bytes.{slash, colon, at_sign, left_bracket, right_bracket, FreeOf, begins_with}
-use Rattle.gix_url.specs.Grammar.{HelperCut, IsNeither, ScpFront, ScpShape, AddressedCut, AddressedShape, IsAddressed, IsScpShaped}
+use Rattle.gix_url.specs.Grammar.{HelperCut, ScpFront, ScpShape, AddressedCut, AddressedShape, IsAddressed, LocalShape}
 use Rattle.gix_url.specs.Flaws.{UrlShape}
 
 -- the pieces around the first colon of the text
@@ -57,12 +57,6 @@ pub record AddressedFront (b user behind : List ℕ) : Type 0 where
 pub record PlainScp (b front path : List ℕ) : Type 0 where
   pub shape : ScpShape b front path
   pub not_addressed : ¬ IsAddressed b
-
--- the text has the form of a local path
-pub record LocalShape (b : List ℕ) : Type 0 where
-  pub nonempty : 0 < length b
-  pub neither : IsNeither b
-  pub no_scp : ¬ IsScpShaped b
 
 -- the text has this form, with these pieces
 abbrev pub Classifies : List ℕ → Shape → Type 0

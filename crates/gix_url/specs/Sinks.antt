@@ -1,12 +1,11 @@
 -- What a place is after it took a text, for each sink, and that two texts taken are one: memory with room, a formatter,
 -- and the walk of the length test. What stands behind the text is any, so that texts join without counting.
-use Rattle.std.specs.Prelude.{◌≡◌, ℕ, ◌+◌, ◌-◌, ◌^◌, ◌≤◌, Bool, true, false, ◌||◌, List, [], ◌++◌, length, refl}
+use Rattle.std.specs.Prelude.{◌≡◌, ℕ, ◌+◌, ◌≤◌, Bool, true, false, ◌||◌, List, [], ◌∷◌, ◌++◌, length, refl}
 use Rattle.std.proofs.Common.{sym, ap, subst, ◌∙◌, append_assoc, append-nil}
-use Rattle.std.specs.List.{list_any}
-use Rattle.std.proofs.lemmas.Grind.{put_two}
-use Rattle.std.proofs.lemmas.List.Folds.{list_any-append}
+use Rattle.std.specs.List.{FoldsTo, list_any}
+use Rattle.std.proofs.lemmas.List.Folds.{concat-append, list_any-append}
 use Rattle.std.specs.declared.fmt.Formatter.{Formatter}
-use Rattle.std.specs.Fmt.{HasWrittenStyled, IsFlush, IsPlainFormatter, WritesInCalls}
+use Rattle.std.specs.Fmt.{HasWrittenStyled, IsFlush}
 use Rattle.gix_url.specs.declared.parse.length.TextWalk.{TextWalk}
 use Rattle.gix_url.specs.Bytes.{lossy_text}
 use Rattle.gix_url.specs.Walks.{text_walk_past}
@@ -44,41 +43,21 @@ module _ {W : Type 0} (took : W → List ℕ → W → Type 0) where
   abbrev pub ShowsEnd : Formatter W → List ℕ → Formatter W → Type 0
   ShowsEnd old end new = IsFlush old → HasWrittenStyled took old (lossy_text end) new
 
-  -- the formatter without options
-  abbrev plain : Formatter W → Formatter W
-  plain f = record f {
-    spec = record f.spec {
-      width = 0;
-      precision = 2 ^ 64 - 1;
-      plus = false;
-      alternate = false;
-    };
-    depth = 0;
-  }
-
-  is_plain : (f : Formatter W) → IsPlainFormatter (plain f)
-  is_plain f = record {
-    bare = record {
-      width = refl;
-      precision = refl;
-      plus = refl;
-      alternate = refl;
-    };
-    flush = refl;
-  }
+  -- calls one behind the other
+  calls_joined : (w : W) (xs : List (List ℕ)) (v : W) (ys : List (List ℕ)) (u : W)
+      → FoldsTo took w xs v → FoldsTo took v ys u → FoldsTo took w (xs ++ ys) u
+  calls_joined w [] v ys u p q = subst (λ x. FoldsTo took x ys u) (sym p) q
+  calls_joined w (x ∷ xs) v ys u p q = (p.0, p.1, calls_joined p.0 xs v ys u p.2 q)
 
   -- two texts that were written, one behind the other
-  written_joined : (a b c : Formatter W) (x y : List ℕ) → WritesInCalls took a.writer x b.writer
-      → WritesInCalls took b.writer y c.writer → WritesInCalls took a.writer (x ++ y) c.writer
-  written_joined a b c x y first second =
-      (put_two took (plain a) (plain b) (plain c) x y (x ++ y)
-      (record { wrote = first; plain = is_plain b })
-      (record { wrote = second; plain = is_plain c }) refl).wrote
-
   joined : (a b c : Formatter W) (x y : List ℕ) → HasWrittenStyled took a x b
       → HasWrittenStyled took b y c → HasWrittenStyled took a (x ++ y) c
-  joined a b c x y first second = record {
-    wrote = written_joined a b c x y first.wrote second.wrote;
+  joined a b c x y first second = let p = first.wrote in let q = second.wrote in record {
+    wrote = record {
+      parts = p.parts ++ q.parts;
+      calls = calls_joined a.writer p.parts b.writer q.parts c.writer p.calls q.calls;
+      whole = concat-append p.parts q.parts ∙ (λ i. p.whole i ++ q.whole i);
+    };
     spec = second.spec ∙ first.spec;
     flush = second.flush;
   }

@@ -5,7 +5,7 @@ use Rattle.percent_encoding.specs.Percent.{percent_encode}
 use Rattle.gix_url.specs.declared.error.WriteFault.{WriteFault}
 use Rattle.gix_url.specs.declared.error.WriteFault.TheVariants.{HelperName, HelperParts, RelativeSsh, UserWithoutHost}
 use Rattle.gix_url.specs.Value.{Protocol, Location}
-use Rattle.gix_url.specs.Value.Protocol.{file, git, ssh, http, https, ext, helper, helper_url}
+use Rattle.gix_url.specs.Value.Protocol.{file, ssh, http, https, ext, helper}
 use Rattle.gix_url.specs.Bytes.{slash, colon, at_sign, left_bracket, right_bracket, tilde, begins_with, is_helper_name}
 use Rattle.gix_url.specs.Escapes.{matches, has_percent, path_set, password_set, user_set, escaped_percents}
 use Rattle.gix_url.specs.AddressTest.{is_ipv6_text}
@@ -54,10 +54,7 @@ choice_by ext v = helper_choice (codes "ext") v
 choice_by (helper name) v = helper_choice name v
 choice_by ssh v = ssh_choice v
 choice_by file v = if is_alternative v then with_host v path_form else with_host v canonical_form
-choice_by git v = with_host v canonical_form
-choice_by http v = with_host v canonical_form
-choice_by https v = with_host v canonical_form
-choice_by (helper_url name) v = with_host v canonical_form
+choice_by _ v = with_host v canonical_form
 
 -- the form of a location, or the fault for which it has none
 abbrev pub choice : Location → Result Form WriteFault
@@ -116,11 +113,7 @@ abbrev pub keeps_host : Protocol → Bool
 keeps_host file = true
 keeps_host http = true
 keeps_host https = true
-keeps_host git = false
-keeps_host ssh = false
-keeps_host ext = false
-keeps_host (helper name) = false
-keeps_host (helper_url name) = false
+keeps_host _ = false
 
 -- a host outside brackets: as it is, or escaped, but for the colons of an address
 abbrev pub open_host : Protocol → List ℕ → List ℕ
@@ -155,12 +148,7 @@ root_part v = if requires_path v.scheme && not (begins_with slash v.path) then s
 abbrev pub plain_path : Protocol → List ℕ → List ℕ
 plain_path http path = percent_encode path_set path
 plain_path https path = percent_encode path_set path
-plain_path file path = path
-plain_path git path = path
-plain_path ssh path = path
-plain_path ext path = path
-plain_path (helper name) path = path
-plain_path (helper_url name) path = path
+plain_path _ path = path
 
 -- the spelling where it matches the path, and else what stands in for it
 abbrev pub matching_or : Option (List ℕ) → List ℕ → List ℕ → List ℕ

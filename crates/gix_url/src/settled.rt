@@ -5,9 +5,9 @@
 //! location is a value of which the laws speak. It takes no memory.
 
 ghost use Rattle.std.specs.Prelude.{◌↔◌, IsTrue};
+ghost use Rattle.gix_url.specs.Value.Protocol.{helper};
 ghost use Rattle.gix_url.specs.Pieces.{AreOwn};
-ghost use Rattle.gix_url.specs.Settled.{IsSettled, IsValue};
-ghost use Rattle.gix_url.specs.SettledParts.{IsSettledNamed};
+ghost use Rattle.gix_url.specs.Settled.{IsSettled, IsSettledBy, IsValue};
 
 mod host;
 mod local;
@@ -95,7 +95,7 @@ impl UrlRef<'_> {
 
 /// Whether the location is a settled remote helper of this name, which isn't that of `ext`.
 fn is_settled_named(url: &UrlRef<'_>, name: &[u8]) -> bool
-    ensures { IsTrue result ↔ IsSettledNamed name.now url.now }
+    ensures { IsTrue result ↔ IsSettledBy (helper name.now) url.now }
 {
     is_settled_helper(url, name) && name != b"ext".as_slice()
 }

@@ -4,7 +4,7 @@ use Rattle.std.specs.Prelude.{is_some, IsSome}
 use Rattle.std.proofs.lemmas.Bool.{both_ways, false≢true, leb-true, or_left}
 use Rattle.std.proofs.lemmas.Option.{none-some, same_Some}
 use Rattle.gix_url.specs.Value.{Protocol, Location}
-use Rattle.gix_url.specs.Value.Protocol.{file, git, ssh, http, https, ext, helper, helper_url}
+use Rattle.gix_url.specs.Value.Protocol.{file, http, https, ext, helper}
 use Rattle.gix_url.specs.Bytes.{colon, left_bracket, begins_with}
 use Rattle.gix_url.specs.Escapes.{has_percent}
 use Rattle.gix_url.specs.Schemes.{protocol_of, protocol_text}
@@ -80,7 +80,7 @@ web_written : (b : List ℕ) (v : Location) → SpellsUrl b v → IsWeb v → Is
 web_written b v h web =
     let (is_web, value) = web_read b v h web in
     let hosted : IsSome v.host = subst (λ l. IsSome l.host) (sym value) (h.spelled.hosted (or_left _ _ is_web)) in
-    (hosted, (written_web v web).canonical (ap (λ l. l.flag) value) (record { user_hosted = λ given. hosted; port_hosted = λ given. hosted }))
+    (hosted, (written_web v web).canonical (ap (λ l. l.flag) value) (λ given. hosted, λ given. hosted))
 
 -- a settled location of HTTP is settled
 web_settled : (v : Location) → IsWeb v → IsSettledWeb v → IsSettled v
@@ -137,9 +137,7 @@ closed_by http b v e h s = webs_closed b v (inl e) s
 closed_by https b v e h s = webs_closed b v (inr e) s
 closed_by ext b v e h s = bytes_closed b v ext v.flag e refl refl s
 closed_by (helper name) b v e h s = bytes_closed b v (helper name) v.flag e refl refl s
-closed_by git b v e h s = absurd (false≢true h)
-closed_by ssh b v e h s = absurd (false≢true h)
-closed_by (helper_url name) b v e h s = absurd (false≢true h)
+closed_by _ b v e h s = absurd (false≢true h)
 
 -- what is read of these kinds is settled, or stands in a corner
 pub closed : Closed
@@ -162,9 +160,7 @@ exact_by http v e h other back = webs_exact v (inl e) other back
 exact_by https v e h other back = webs_exact v (inr e) other back
 exact_by ext v e h other back = kept_exact v (ap (λ q. keeps_bytes q v.flag) e) back.written back.reread back.spelled back.same_fields
 exact_by (helper name) v e h other back = kept_exact v (ap (λ q. keeps_bytes q v.flag) e) back.written back.reread back.spelled back.same_fields
-exact_by git v e h other back = absurd (false≢true h)
-exact_by ssh v e h other back = absurd (false≢true h)
-exact_by (helper_url name) v e h other back = absurd (false≢true h)
+exact_by _ v e h other back = absurd (false≢true h)
 
 -- what comes back is settled, and nothing else
 pub exact : Exact

@@ -3,10 +3,9 @@ use Rattle.std.proofs.Common.{◌≡◌, ℕ, Bool, true, false, List, ◌++◌,
 use Rattle.std.specs.List.{list_all}
 use Rattle.std.proofs.lemmas.Bool.{cond-true, cond-false}
 use Rattle.gix_url.specs.Bytes.{lowercase}
-use Rattle.gix_url.specs.Addresses.{IsIpv6Text}
+use Rattle.gix_url.specs.Addresses.{IsIpv6Text, Literal}
 use Rattle.gix_url.specs.Addresses.Literal.{address, zoned}
 use Rattle.gix_url.specs.Hosts.{is_dns_byte, normal_host}
-use Rattle.gix_url.specs.NameRows.{NormalAgain, LiteralAgain}
 use Rattle.gix_url.proofs.Addresses.AddressLemmas.{lowercase_twice, address-lowercase}
 use Rattle.gix_url.proofs.Readings.HostLemmas.{dns_lowercase}
 
@@ -19,10 +18,12 @@ normal_by host false h =
     let same : normal_host host ≡ host = cond-false _ _ _ h in
     ap normal_host same
 
-pub normal_again : NormalAgain
+-- the normal form of a host is its own
+pub normal_again : (host : List ℕ) → normal_host (normal_host host) ≡ normal_host host
 normal_again host = normal_by host (list_all is_dns_byte host) refl
 
-pub literal_again : LiteralAgain
+-- the normal form of a literal is a literal, and its own
+pub literal_again : (given normal : List ℕ) → Literal given normal → Literal normal normal
 literal_again text normal (address is e) =
     address (subst IsIpv6Text (sym e) (address-lowercase text is)) (e ∙ sym (ap lowercase e ∙ lowercase_twice text))
 literal_again text normal (zoned a z is zone joined e) =

@@ -1,4 +1,4 @@
--- The settled class by its parts: what the small tests tell, joined.
+-- The settled class by its tests: what the small tests tell, joined.
 use Rattle.std.proofs.Common.{⊎_elim, ◌≡◌, ◌↔◌, ℕ, Bool, true, false, not, ◌⊎◌, inl, inr, List, [], ◌∷◌, ◌++◌, refl, sym, ap, subst, ◌∙◌, append_assoc, Option, Some, None, Ok, IsTrue}
 use Rattle.std.specs.List.{list_all}
 use Rattle.std.specs.Option.{is_some}
@@ -12,10 +12,9 @@ use Rattle.gix_url.specs.Addresses.{Literal, IsIpv6Text}
 use Rattle.gix_url.specs.Addresses.Literal.{address, zoned}
 use Rattle.gix_url.specs.Hosts.{is_http_host_byte}
 use Rattle.gix_url.specs.HostPieces.{IsEscapedZone}
-use Rattle.gix_url.specs.Shapes.{LocalShape}
-use Rattle.gix_url.specs.Settled.{HasFittingText, IsNormalAddress, IsSettledGit, IsSettledHelperUrl, IsSettledLocal, IsSettledSecure, IsSettledUrl, IsSettledWeb, IsWebName, IsWebHost}
+use Rattle.gix_url.specs.Settled.{HasFittingText, IsNormalAddress, IsWebName, IsWebHost}
 use Rattle.gix_url.specs.Settled.IsWebHost.{literal, literal_colon, named, named_colon}
-use Rattle.gix_url.specs.SettledParts.{HasUrlForm, IsFlaggedPath, IsGitTarget, IsNormalLiteral, IsBracketedLiteral, IsClosedHost, IsOtherForm, IsPiecesShort, IsSecureTarget, IsSettledRaw, IsWebTarget}
+use Rattle.gix_url.specs.SettledParts.{IsNormalLiteral, IsBracketedLiteral, IsClosedHost, IsPiecesShort}
 use Rattle.gix_url.specs.Schemes.{protocol_text}
 use Rattle.gix_url.specs.Text.{text, canonical_text, user_information, host_part, port_part, canonical_path}
 use Rattle.gix_url.specs.Authority.{FitsText}
@@ -23,8 +22,6 @@ use Rattle.gix_url.proofs.Readings.LengthLemmas.{fits_text}
 use Rattle.gix_url.proofs.Addresses.AddressLemmas.{address_free}
 use Rattle.gix_url.proofs.Texts.CutLemmas.{cut_unique, different_bytes, not_free, tails}
 use Rattle.gix_url.proofs.Written.WrittenAsUrlLemmas.{one_text}
--- what the tests of a kind say of its text, passed on
-pub use Rattle.gix_url.proofs.Written.WrittenAsUrlLemmas.{written_web, written_git, written_secure, written_other}
 
 -- ---- tests in a row
 
@@ -51,25 +48,6 @@ second_needed a b fails first second either = (
 pub none_tested : {A : Type 0} (o : Option A) (b : Bool) → is_some o ≡ not b → IsTrue b ↔ (o ≡ None)
 none_tested None b e = (λ yes. refl, λ none. not-false b (sym e))
 none_tested (Some x) b e = (λ yes. absurd (true≢false (e ∙ ap not yes)), λ none. cc)
-
--- ---- local paths
-
--- a settled local path is a flagged path with the form of a local path
-pub settled_local : (v : Location) → (IsFlaggedPath v × LocalShape v.path) ↔ IsSettledLocal v
-settled_local v = (
-  λ parts. record {
-    flagged = parts.0.flagged;
-    alone = parts.0.alone;
-    no_host = parts.0.no_host;
-    nonempty = parts.1.nonempty;
-    neither = parts.1.neither;
-    no_scp = parts.1.no_scp;
-  },
-  λ s. (
-    record { flagged = s.flagged; alone = s.alone; no_host = s.no_host },
-    record { nonempty = s.nonempty; neither = s.neither; no_scp = s.no_scp },
-  ),
-)
 
 -- ---- literals
 
@@ -174,76 +152,6 @@ pub host_tested : (P : List ℕ → Type 0) (host : Option (List ℕ)) (h : List
 host_tested P host h b is test = (
   λ yes. (h, is, test.0 yes),
   λ (x, e, passes). let same : Some x ≡ Some h = sym e ∙ is in let equal : x ≡ h = cc in test.1 (subst P equal passes),
-)
-
--- ---- the kinds of locations, by their parts
-
--- a settled URL has the form of one, and its text is short enough
-pub settled_url : (v : Location) → (HasUrlForm v × HasFittingText v) ↔ IsSettledUrl v
-settled_url v = (
-  λ parts. record {
-    unflagged = parts.0.0.unflagged;
-    password = parts.0.0.credentials.password;
-    user = parts.0.0.credentials.user;
-    user_hosted = parts.0.0.hosted.user_hosted;
-    port_hosted = parts.0.0.hosted.port_hosted;
-    fits = parts.1;
-    path_text = parts.0.1.path_text;
-    spelling = parts.0.1.spelling;
-  },
-  λ s. (
-    (
-      record {
-        unflagged = s.unflagged;
-        credentials = record { password = s.password; user = s.user };
-        hosted = record { user_hosted = s.user_hosted; port_hosted = s.port_hosted };
-      },
-      record { path_text = s.path_text; spelling = s.spelling },
-    ),
-    s.fits,
-  ),
-)
-
--- a settled location of HTTP
-pub settled_web : (v : Location) → (IsWebTarget v × IsSettledUrl v) ↔ IsSettledWeb v
-settled_web v = (
-  λ parts. record { common = parts.1; host = parts.0.host; port = parts.0.port; path = parts.0.path },
-  λ s. (record { host = s.host; port = s.port; path = s.path }, s.common),
-)
-
--- a settled URL of Secure Shell
-pub settled_secure : (v : Location) → (IsSecureTarget v × IsSettledRaw v) ↔ IsSettledSecure v
-settled_secure v = (
-  λ parts. record { common = parts.1.0; host = parts.0.0; path = parts.0.1; raw = parts.1.1 },
-  λ s. ((s.host, s.path), (s.common, s.raw)),
-)
-
--- a settled URL of Git's own protocol
-pub settled_git : (v : Location) → (IsGitTarget v × IsSettledRaw v) ↔ IsSettledGit v
-settled_git v = (
-  λ parts. record { common = parts.1.0; host = parts.0.0; path = parts.0.1; raw = parts.1.1 },
-  λ s. ((s.host, s.path), (s.common, s.raw)),
-)
-
--- a settled URL of another scheme
-pub settled_helper_url : (name : List ℕ) (v : Location) → (IsOtherForm name v × IsSettledRaw v) ↔ IsSettledHelperUrl name v
-settled_helper_url name v = (
-  λ parts. record {
-    common = parts.1.0;
-    scheme_text = parts.0.0.scheme_text;
-    unknown = parts.0.0.unknown;
-    host = parts.0.1.host;
-    hosted = parts.0.1.hosted;
-    path = parts.0.1.path;
-    raw = parts.1.1;
-  },
-  λ s. (
-    (
-      record { scheme_text = s.scheme_text; unknown = s.unknown },
-      record { host = s.host; hosted = s.hosted; path = s.path },
-    ),
-    (s.common, s.raw),
-  ),
 )
 
 -- ---- the texts of settled URLs

@@ -22,9 +22,8 @@ use Rattle.gix_url.specs.Authority.Credentials.{user_alone, with_password}
 use Rattle.gix_url.specs.Authority.Authority.{host_alone, with_user}
 use Rattle.gix_url.specs.Grammar.{UrlParts, SpellsParts, or_root, retained_spelling, MeansAs, SpellsUrl}
 use Rattle.gix_url.specs.Text.{user_information, host_part, port_part, root_part, plain_path, matching_or, canonical_text, text}
-use Rattle.gix_url.specs.Settled.{first_byte, IsFairSpelling, HasFittingText, IsWebName, IsWebHost, IsSettledWeb, IsWeb}
+use Rattle.gix_url.specs.Settled.{first_byte, IsFairSpelling, HasFittingText, IsWebName, IsWebHost, IsSettledWeb, IsWeb, IsHosted}
 use Rattle.gix_url.specs.Settled.IsWebHost.{literal, literal_colon, named, named_colon}
-use Rattle.gix_url.specs.SettledParts.{IsHosted}
 use Rattle.gix_url.proofs.Texts.CutLemmas.{free-append, free_begins, free_of_all, free_parts}
 use Rattle.gix_url.proofs.Texts.EscapeLemmas.{sound_tail, sound_parts, sound_around, sound_free, decode_byte, utf8_byte, utf8_seam, white_space_parts}
 use Rattle.gix_url.proofs.Closed.NormalLemmas.{normal_again, literal_again}
@@ -288,13 +287,10 @@ parts_closed {b} {parts} protocol web h apart fits =
     let host = web_host_closed names.0 some.0 parts.port names.1 (subst (λ o. Names strict names.0 o parts.port) some.1 names.2) (apart some.0 some.1) in record {
       common = record {
         unflagged = refl;
-        password = credentials.0;
-        user = credentials.1;
-        user_hosted = λ given. hosted;
-        port_hosted = λ given. hosted;
+        credentials = credentials;
+        hosted = (λ given. hosted, λ given. hosted);
+        path = record { path_text = way.meant_text; spelling = λ s e matches. way.fair s e };
         fits = fits;
-        path_text = way.meant_text;
-        spelling = λ s e matches. way.fair s e;
       };
       host = (some.0, some.1, host.0);
       port = host.1;
@@ -319,7 +315,7 @@ same_paths : (v : Location) (spelling : Option (List ℕ)) → IsWeb v → v.fla
 same_paths v spelling web unflagged hosted same =
     let w = spelled_as v spelling in
     let mine : text v ≡ Ok (canonical_text v) = (written_web v web).canonical unflagged hosted in
-    let other : text w ≡ Ok (canonical_text w) = (written_web w web).canonical unflagged record { user_hosted = hosted.user_hosted; port_hosted = hosted.port_hosted } in
+    let other : text w ≡ Ok (canonical_text w) = (written_web w web).canonical unflagged hosted in
     let whole : canonical_text w ≡ canonical_text v = one_text other (same ∙ mine) in
     let behind = append_cancel_left (protocol_text v.scheme) _ _ whole in
     let authority = append_cancel_left (codes "://") _ _ behind in
@@ -332,20 +328,17 @@ same_paths v spelling web unflagged hosted same =
 exact_as : (v : Location) (spelling : Option (List ℕ)) → IsWeb v → ¬ (v.spelling ≡ Some v.path) → text (spelled_as v spelling) ≡ text v → IsSettledWeb (spelled_as v spelling) → IsSettledWeb v
 exact_as v spelling web other same h =
     let c = h.common in
-    let hosted : IsHosted v = record { user_hosted = c.user_hosted; port_hosted = c.port_hosted } in
-    let paths = same_paths v spelling web c.unflagged hosted same in record {
+    let paths = same_paths v spelling web c.unflagged c.hosted same in
+    let fair : (s : List ℕ) → v.spelling ≡ Some s → percent_decode s ≡ v.path → IsFairSpelling s v.path = λ s e matches.
+    let plain = plain_path v.scheme v.path in
+    let written : matching_or v.spelling v.path plain ≡ s = ap (λ o. matching_or o v.path plain) e ∙ matched s v.path plain matches in
+    written_fair (spelled_as v spelling) web h.path c.path s (paths ∙ written) (λ k. other (e ∙ ap (λ t. Some t) k)) in record {
       common = record {
         unflagged = c.unflagged;
-        password = c.password;
-        user = c.user;
-        user_hosted = c.user_hosted;
-        port_hosted = c.port_hosted;
+        credentials = c.credentials;
+        hosted = c.hosted;
+        path = record { path_text = c.path.path_text; spelling = fair };
         fits = (c.fits.0, sym same ∙ c.fits.1, c.fits.2);
-        path_text = c.path_text;
-        spelling = λ s e matches.
-            let plain = plain_path v.scheme v.path in
-            let written : matching_or v.spelling v.path plain ≡ s = ap (λ o. matching_or o v.path plain) e ∙ matched s v.path plain matches in
-            written_fair (spelled_as v spelling) web h.path record { path_text = c.path_text; spelling = c.spelling } s (paths ∙ written) (λ k. other (e ∙ ap (λ t. Some t) k));
       };
       host = h.host;
       port = h.port;

@@ -171,7 +171,7 @@ path_shown {t} {parts} protocol web is_web h =
 -- what is read has its canonical text
 canonical_shown : (t : List ℕ) (protocol : Protocol) (parts : UrlParts) → IsWeb (web_meant protocol parts) → IsSome parts.host → text (web_meant protocol parts) ≡ Ok t → canonical_text (web_meant protocol parts) ≡ t
 canonical_shown t protocol parts web hosted written =
-    one_text ((written_web (web_meant protocol parts) web).canonical refl record { user_hosted = λ given. hosted; port_hosted = λ given. hosted }) written
+    one_text ((written_web (web_meant protocol parts) web).canonical refl (λ given. hosted, λ given. hosted)) written
 
 -- a host with an escape and a colon at its end, and without a bracket at its front, isn't written as it was read
 no_corner_parts : {t : List ℕ} {parts : UrlParts} → (protocol : Protocol) → IsWeb (web_meant protocol parts) → is_web_scheme parts.scheme ≡ true → SpellsParts t parts → text (web_meant protocol parts) ≡ Ok t → (host front : List ℕ) → parts.host ≡ Some host → host ≡ front ++ colon ∷ [] → begins_with left_bracket host ≡ false → has_percent host ≡ true → ⊥

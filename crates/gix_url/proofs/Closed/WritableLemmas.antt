@@ -6,7 +6,7 @@ use Rattle.std.proofs.lemmas.Slice.Eq.{bytes_eq-Decides}
 use Rattle.percent_encoding.specs.Percent.{percent_decode}
 use Rattle.percent_encoding.proofs.PercentLemmas.{length-percent_decode}
 use Rattle.gix_url.specs.Value.{Protocol, Location, path_alone}
-use Rattle.gix_url.specs.Value.Protocol.{file, git, ssh, http, https, ext, helper, helper_url}
+use Rattle.gix_url.specs.Value.Protocol.{file, git, ssh, http, https, helper_url}
 use Rattle.gix_url.specs.Bytes.{slash, tilde, begins_with, lowercase, StartsPath}
 use Rattle.gix_url.specs.Escapes.{is_sound, has_percent, begins_with_digits}
 use Rattle.gix_url.specs.Hosts.{Mode}
@@ -179,10 +179,7 @@ path_short ssh path some = from_home_short path
 path_short git path some = from_home_short path
 path_short http path some = or_root_short path some
 path_short https path some = or_root_short path some
-path_short file path some = omega arith
-path_short ext path some = omega arith
-path_short (helper name) path some = omega arith
-path_short (helper_url name) path some = omega arith
+path_short _ path some = omega arith
 
 -- a text that holds an escape isn't empty
 held_nonempty : (bs : List ℕ) → has_percent bs ≡ true → 0 < length bs

@@ -1,5 +1,5 @@
 -- Rows on the settled class: values that are in it, by their facts, and values that aren't, by the fact that they lack.
-use Rattle.std.proofs.Common.{◌≡◌, ℕ, true, false, ◌==◌, ◌⊎◌, inl, inr, List, [], ◌∷◌, ◌++◌, length, Option, Some, None, IsUtf8, codes, refl, sym, ap, subst, ◌∙◌, arith, length-append}
+use Rattle.std.proofs.Common.{◌≡◌, ℕ, false, ◌==◌, ◌⊎◌, inl, inr, List, [], ◌∷◌, ◌++◌, length, Option, Some, None, IsUtf8, codes, refl, sym, ap, subst, ◌∙◌, arith, length-append}
 use Rattle.std.specs.List.{list_any}
 use Rattle.std.specs.Str.{chars}
 use Rattle.std.proofs.lemmas.Bool.{both_ways, false≢true, ltb-true, leb-true}
@@ -7,19 +7,17 @@ use Rattle.std.proofs.lemmas.Option.{same_Some, none-some}
 use Rattle.std.proofs.lemmas.Str.{IsUtf8-from_is_utf8}
 use Rattle.percent_encoding.proofs.OnLiterals.{percent_encoding_on_literals}
 use Rattle.bstr.proofs.Computing.{computing}
-use Rattle.gix_url.specs.Value.{Protocol, path_alone}
-use Rattle.gix_url.specs.Value.Protocol.{file, git, ssh, http, https, helper, helper_url}
+use Rattle.gix_url.specs.Value.{Protocol}
+use Rattle.gix_url.specs.Value.Protocol.{ssh, http}
 use Rattle.gix_url.specs.Bytes.{colon, left_bracket, begins_with, is_helper_name}
 use Rattle.gix_url.specs.Escapes.{has_percent}
 use Rattle.gix_url.specs.AddressTest.{is_ipv6_text}
-use Rattle.gix_url.specs.Settled.{HasMatch, HasFittingText, IsSettledUrl, IsWebName, IsWebHost, IsNormalAddress, IsBracketedHost, IsScpName, IsSettled}
-use Rattle.gix_url.specs.ClassRows.{SettledRows, WebHostRows, UnsettledWebRows, UnsettledUrlRows, UnsettledOtherRows}
-use Rattle.gix_url.specs.Examples.{no_text, at_host, in_scp}
+use Rattle.gix_url.specs.Settled.{HasMatch, HasFittingText, IsSettledUrl, IsWebName, IsWebHost, IsNormalAddress, IsBracketedHost, IsScpName}
+use Rattle.gix_url.specs.ClassRows.{no_text, at_host, SettledRows, WebHostRows, UnsettledWebRows, UnsettledUrlRows, UnsettledOtherRows}
 use Rattle.gix_url.proofs.Texts.CutLemmas.{different_bytes}
 use Rattle.std.proofs.lemmas.Option.{same_Some}
 use Rattle.gix_url.proofs.Addresses.AddressTestLemmas.{ipv6_text_from, ipv6_text_to}
-use Rattle.gix_url.proofs.Examples.RowNameLemmas.{other_byte}
-use Rattle.gix_url.proofs.Examples.RowFormLemmas.{not_held, neither_free, neither_at, no_scp_free, dot_path_no_scp, shape_row, fits_row}
+use Rattle.gix_url.proofs.Examples.RowFormLemmas.{other_byte, not_held, neither_free, neither_at, no_scp_free, dot_path_no_scp, shape_row, fits_row}
 use Rattle.std.proofs.lemmas.List.{same_from_push}
 
 -- ---- hosts of HTTP
@@ -61,13 +59,10 @@ web_host_rows = (IsWebHost.named_colon (codes "h") web_name_row refl refl refl, 
 common_row : (scheme : Protocol) (host path : List ℕ) → HasFittingText (at_host scheme host path) → IsUtf8 path → IsSettledUrl (at_host scheme host path)
 common_row scheme host path fits utf8 = record {
   unflagged = refl;
-  password = tt;
-  user = λ e. absurd (none-some [] e);
-  user_hosted = λ e. refl;
-  port_hosted = λ e. refl;
+  credentials = (tt, λ e. absurd (none-some [] e));
+  hosted = (λ e. refl, λ e. refl);
+  path = record { path_text = utf8; spelling = λ s e. absurd (none-some s e) };
   fits = fits;
-  path_text = utf8;
-  spelling = λ s e. absurd (none-some s e);
 }
 
 -- no spelling matches where there is none
@@ -83,14 +78,14 @@ loopback_row = record { address = ipv6_text_from (codes "::1") refl; lower = ref
 pub settled_rows : SettledRows
 unfolding percent_encoding_on_literals computing chars is_ipv6_text
 settled_rows = (
-  (record { flagged = refl; alone = record { no_user = refl; no_password = refl; no_port = refl }; no_host = refl; named = refl }, refl),
-  record { flagged = refl; alone = record { no_user = refl; no_password = refl; no_port = refl }; no_host = refl; named = refl },
-  inl (record { flagged = refl; alone = record { no_user = refl; no_password = refl; no_port = refl }; no_host = refl; nonempty = ltb-true _ _ refl; neither = neither_free no_text refl refl; no_scp = no_scp_free no_text refl }),
-  inl (record { flagged = refl; alone = record { no_user = refl; no_password = refl; no_port = refl }; no_host = refl; nonempty = ltb-true _ _ refl; neither = neither_at (codes "./a:b") (codes "./a") (codes "b") refl refl refl refl; no_scp = dot_path_no_scp }),
-  inr (record { unflagged = refl; alone = record { no_user = refl; no_password = refl; no_port = refl }; no_match = λ m. absurd (none-some m.0 m.1); host = tt; path_text = IsUtf8-from_is_utf8 _ refl; rooted = refl }),
+  (record { bare = (refl, (refl, refl, refl), refl); named = refl }, refl),
+  record { bare = (refl, (refl, refl, refl), refl); named = refl },
+  inl (record { bare = (refl, (refl, refl, refl), refl); shape = record { nonempty = ltb-true _ _ refl; neither = neither_free no_text refl refl; no_scp = no_scp_free no_text refl } }),
+  inl (record { bare = (refl, (refl, refl, refl), refl); shape = record { nonempty = ltb-true _ _ refl; neither = neither_at (codes "./a:b") (codes "./a") (codes "b") refl refl refl refl; no_scp = dot_path_no_scp } }),
+  inr (record { unflagged = refl; alone = (refl, refl, refl); no_match = λ m. absurd (none-some m.0 m.1); host = tt; path_text = IsUtf8-from_is_utf8 _ refl; rooted = refl }),
   inr (record {
     unflagged = refl;
-    alone = record { no_user = refl; no_password = refl; no_port = refl };
+    alone = (refl, refl, refl);
     no_match = λ m. absurd (none-some m.0 m.1);
     host = record { nonempty = ltb-true _ _ refl; no_slash = refl; unbracketed = inl refl };
     path_text = IsUtf8-from_is_utf8 _ refl;
@@ -100,11 +95,7 @@ settled_rows = (
     flagged = refl;
     no_password = refl;
     no_port = refl;
-    path_text = IsUtf8-from_is_utf8 _ refl;
-    nonempty = ltb-true _ _ refl;
-    not_home = refl;
-    not_slashes = refl;
-    no_mark = not_held (codes "://") (codes "p") refl;
+    path = record { path_text = IsUtf8-from_is_utf8 _ refl; nonempty = ltb-true _ _ refl; not_home = refl; not_slashes = refl; no_mark = not_held (codes "://") (codes "p") refl };
     user = record { no_colon = refl; no_slash = refl; no_bracket = refl };
     host = (
       codes "h",
@@ -123,11 +114,7 @@ settled_rows = (
     flagged = refl;
     no_password = refl;
     no_port = refl;
-    path_text = IsUtf8-from_is_utf8 _ refl;
-    nonempty = ltb-true _ _ refl;
-    not_home = refl;
-    not_slashes = refl;
-    no_mark = not_held (codes "://") (codes "p") refl;
+    path = record { path_text = IsUtf8-from_is_utf8 _ refl; nonempty = ltb-true _ _ refl; not_home = refl; not_slashes = refl; no_mark = not_held (codes "://") (codes "p") refl };
     user = record { no_colon = refl; no_slash = refl; no_bracket = refl };
     host = (codes "::1", refl, inr loopback_row, λ l. absurd (none-some (codes "u") (sym l.0)));
   }),
@@ -140,12 +127,14 @@ settled_rows = (
     path = refl;
   },
   inr (record {
-    common = common_row ssh (codes "::1") (codes "/p")
-        (codes "ssh://::1/p", refl, record { scheme = codes "ssh"; rest = codes "::1/p"; no_colon = refl; joined = refl; fits = fits_row (codes "ssh") (codes "::1") (codes "/p") refl refl refl refl (inr refl) (leb-true _ _ refl) })
-        (IsUtf8-from_is_utf8 _ refl);
+    url = record {
+      common = common_row ssh (codes "::1") (codes "/p")
+          (codes "ssh://::1/p", refl, record { scheme = codes "ssh"; rest = codes "::1/p"; no_colon = refl; joined = refl; fits = fits_row (codes "ssh") (codes "::1") (codes "/p") refl refl refl refl (inr refl) (leb-true _ _ refl) })
+          (IsUtf8-from_is_utf8 _ refl);
+      raw = λ m. (refl, refl);
+    };
     host = (codes "::1", refl, inr loopback_row);
     path = inl (refl, refl);
-    raw = λ m. (refl, refl);
   }),
 )
 
@@ -155,134 +144,58 @@ settled_rows = (
 unsettled_host : (port : Option ℕ) (host : List ℕ) → ¬ IsWebHost port host → ¬ ((h : List ℕ) × (Some host ≡ Some h) × IsWebHost port h)
 unsettled_host port host other (h, e, w) = other (subst (λ t. IsWebHost port t) (sym (same_Some host h e)) w)
 
--- a password that is there is not empty
-present_password : ¬ IsSettled (record (at_host https (codes "h") (codes "/p")) { user = Some (codes "u"); password = Some [] })
-present_password s = omega (arith, s.common.password.0)
-
--- an empty user comes with a password
-empty_user : ¬ IsSettled (record (at_host https (codes "h") (codes "/p")) { user = Some [] })
-empty_user s = false≢true (s.common.user refl)
-
--- a password comes with a user
-password_alone : ¬ IsSettled (record (at_host https (codes "h") (codes "/p")) { password = Some (codes "x") })
-password_alone s = false≢true s.common.password.1
-
--- the flag is no matter of HTTP
-flagged_web : ¬ IsSettled (record (at_host https (codes "h") (codes "/p")) { flag = true })
-flagged_web s = false≢true (sym s.common.unflagged)
-
--- a host is in lower case
-upper_host : ¬ IsSettled (at_host https (codes "H") (codes "/p"))
-upper_host s = unsettled_host None (codes "H") (no_upper_case None) s.host
-
--- zero is no port of HTTP
-port_zero : ¬ IsSettled (record (at_host https (codes "h") (codes "/p")) { port = Some 0 })
-port_zero s = s.port refl
-
--- a path starts as one
-path_without_start : ¬ IsSettled (at_host https (codes "h") (codes "p"))
-path_without_start s = false≢true s.path
-
--- an escape in a host leaves no place for a colon behind it
-escape_and_colon : ¬ IsSettled (at_host http (codes "h%41:") (codes "/p"))
-escape_and_colon s = unsettled_host None (codes "h%41:") (no_escape_and_colon None) s.host
-
--- a spelling that matches has an escape
-spelling_without_escape : ¬ IsSettled (record (at_host https (codes "h") (codes "/a<b")) { spelling = Some (codes "/a<b") })
-unfolding percent_encoding_on_literals
-spelling_without_escape s = false≢true (s.common.spelling (codes "/a<b") refl refl).escaped
-
 -- locations of HTTP that are not settled
 pub unsettled_web_rows : UnsettledWebRows
-unsettled_web_rows = (present_password, empty_user, password_alone, flagged_web, upper_host, port_zero, path_without_start, escape_and_colon, spelling_without_escape)
+unfolding percent_encoding_on_literals
+unsettled_web_rows = (
+  -- a password that is there is not empty, an empty user comes with a password, and a password with a user
+  λ s. omega (arith, s.common.credentials.0.0),
+  λ s. false≢true (s.common.credentials.1 refl),
+  λ s. false≢true s.common.credentials.0.1,
+  -- the flag is no matter of HTTP
+  λ s. false≢true (sym s.common.unflagged),
+  -- a host is in lower case
+  λ s. unsettled_host None (codes "H") (no_upper_case None) s.host,
+  -- zero is no port of HTTP
+  λ s. s.port refl,
+  -- a path starts as one
+  λ s. false≢true s.path,
+  -- an escape in a host leaves no place for a colon behind it
+  λ s. unsettled_host None (codes "h%41:") (no_escape_and_colon None) s.host,
+  -- a spelling that matches has an escape
+  λ s. false≢true (s.common.path.spelling (codes "/a<b") refl refl).escaped,
+)
 
 -- ---- URLs of Git's own transports and of other schemes that aren't settled
-
--- a port has no place in the scp form
-flagged_with_port : ¬ IsSettled (record (at_host ssh (codes "h") (codes "/p")) { port = Some 22; flag = true })
-flagged_with_port (inl s) = absurd (none-some 22 (sym s.no_port))
-flagged_with_port (inr s) = false≢true (sym s.common.unflagged)
-
--- a path below a home folder has no slash in front
-slash_before_home : ¬ IsSettled (at_host ssh (codes "h") (codes "/~a"))
-slash_before_home (inl s) = false≢true s.flagged
-slash_before_home (inr s) = elim s.path [ inl p ↦ false≢true (sym p.1) | inr p ↦ false≢true p.0 ]
-
--- white space is not written raw
-raw_white_space : ¬ IsSettled (at_host ssh (codes "h") (codes "~a b"))
-unfolding chars
-raw_white_space (inl s) = false≢true s.flagged
-raw_white_space (inr s) = false≢true (sym (s.raw (no_match_row ssh (codes "h") (codes "~a b"))).1)
-
--- nor is `%`
-raw_percent : ¬ IsSettled (at_host ssh (codes "h") (codes "/a%20b"))
-raw_percent (inl s) = false≢true s.flagged
-raw_percent (inr s) = false≢true (sym (s.raw (no_match_row ssh (codes "h") (codes "/a%20b"))).0)
-
--- a path of Git's own protocol is rooted or below a home folder
-relative_git : ¬ IsSettled (at_host git (codes "h") (codes "p"))
-relative_git s = elim s.path [ inl p ↦ false≢true p.0 | inr p ↦ false≢true p.0 ]
 
 -- brackets stand around the whole of a host
 open_brackets : ¬ IsBracketedHost (codes "[x]y")
 open_brackets (inl h) = false≢true (sym h.unbracketed.no_left_bracket)
 open_brackets (inr (address, h, e)) = other_byte 121 93 refl (same_from_push (codes "[x]") (left_bracket ∷ address) 121 93 e).1
 
-odd_brackets : ¬ IsSettled (at_host git (codes "[x]y") (codes "/p"))
-odd_brackets s = open_brackets (subst IsBracketedHost (sym (same_Some (codes "[x]y") s.host.0 s.host.1)) s.host.2)
-
--- a known scheme is another protocol
-known_scheme : ¬ IsSettled (at_host (helper_url (codes "ssh")) (codes "h") (codes "/p"))
-known_scheme s = false≢true (sym s.unknown)
-
--- FTP has a host
-ftp_alone : ¬ IsSettled (path_alone (helper_url (codes "ftp")) false (codes "/p"))
-ftp_alone s = false≢true (s.hosted refl)
-
--- a port comes with a host
-port_alone : ¬ IsSettled (record (path_alone (helper_url (codes "x")) false (codes "/p")) { port = Some 1 })
-port_alone s = false≢true (s.common.port_hosted refl)
-
 -- locations of Git's own transports and of other schemes that are not settled
 pub unsettled_url_rows : UnsettledUrlRows
-unsettled_url_rows = (flagged_with_port, slash_before_home, raw_white_space, raw_percent, relative_git, odd_brackets, known_scheme, ftp_alone, port_alone)
+unfolding chars
+unsettled_url_rows = (
+  -- a port has no place in the scp form
+  λ s. elim s [ inl h ↦ absurd (none-some 22 (sym h.no_port)) | inr h ↦ false≢true (sym h.url.common.unflagged) ],
+  -- a path below a home folder has no slash in front
+  λ s. elim s [ inl h ↦ false≢true h.flagged | inr h ↦ elim h.path [ inl p ↦ false≢true (sym p.1) | inr p ↦ false≢true p.0 ] ],
+  -- neither white space nor `%` is written raw
+  λ s. elim s [ inl h ↦ false≢true h.flagged | inr h ↦ false≢true (sym (h.url.raw (no_match_row ssh (codes "h") (codes "~a b"))).1) ],
+  λ s. elim s [ inl h ↦ false≢true h.flagged | inr h ↦ false≢true (sym (h.url.raw (no_match_row ssh (codes "h") (codes "/a%20b"))).0) ],
+  -- a path of Git's own protocol is rooted or below a home folder
+  λ s. elim s.path [ inl p ↦ false≢true p.0 | inr p ↦ false≢true p.0 ],
+  -- brackets stand around the whole of a host
+  λ s. open_brackets (subst IsBracketedHost (sym (same_Some (codes "[x]y") s.host.0 s.host.1)) s.host.2),
+  -- a known scheme is another protocol
+  λ s. false≢true (sym s.unknown),
+  -- FTP has a host, and a port comes with one
+  λ s. false≢true (s.hosted refl),
+  λ s. false≢true (s.url.common.hosted.1 refl),
+)
 
 -- ---- others that aren't settled
-
--- the host of a file URL ends at a slash
-slash_in_host : ¬ IsSettled (at_host file (codes "a/b") (codes "/p"))
-slash_in_host (inl s) = false≢true s.flagged
-slash_in_host (inr s) = false≢true (sym s.host.no_slash)
-
--- a local path has no shape of the scp form
-scp_path : ¬ IsSettled (path_alone file true (codes "a:b"))
-scp_path (inl s) = s.no_scp (inl (codes "a", codes "b", shape_row (codes "a") (codes "b") refl refl refl refl refl))
-scp_path (inr s) = false≢true (sym s.unflagged)
-
--- nor the form of a remote helper
-helper_path : ¬ IsSettled (path_alone file true (codes "a::b"))
-helper_path (inl s) = s.neither.no_helper (codes "a", codes "b", record { named = refl; joined = refl })
-helper_path (inr s) = false≢true (sym s.unflagged)
-
--- nor a host
-local_host : ¬ IsSettled (record (path_alone file true (codes "/p")) { host = Some (codes "h") })
-local_host (inl s) = absurd (none-some (codes "h") (sym s.no_host))
-local_host (inr s) = false≢true (sym s.unflagged)
-
--- behind the colon of the scp form stand no two slashes
-scp_slashes : ¬ IsSettled (in_scp None (codes "h") (codes "//p"))
-scp_slashes (inl s) = false≢true (sym s.not_slashes)
-scp_slashes (inr s) = false≢true (sym s.common.unflagged)
-
--- the first colon of the scp form ends the host
-scp_user_colon : ¬ IsSettled (in_scp (Some (codes "a:b")) (codes "h") (codes "p"))
-scp_user_colon (inl s) = false≢true (sym s.user.no_colon)
-scp_user_colon (inr s) = false≢true (sym s.common.unflagged)
-
--- a host and a path behind two colons look like a remote helper
-scp_like_helper : ¬ IsSettled (in_scp None (codes "host") (codes ":path"))
-scp_like_helper (inl s) = s.host.3 (refl, ap is_helper_name (sym (same_Some (codes "host") s.host.0 s.host.1)), refl)
-scp_like_helper (inr s) = false≢true (sym s.common.unflagged)
 
 -- an address of the scp form has no zone
 scp_zone_host : (h : List ℕ) → codes "fe80::1%Eth0" ≡ h → IsScpName h ⊎ IsNormalAddress h → ⊥
@@ -290,23 +203,38 @@ unfolding is_ipv6_text
 scp_zone_host h e (inl n) = both_ways _ n.normal.unbracketed.no_colon (ap (list_any (λ b. b == colon)) (sym e))
 scp_zone_host h e (inr a) = both_ways _ refl (ap is_ipv6_text e ∙ ipv6_text_to h a.address)
 
-scp_zone : ¬ IsSettled (in_scp None (codes "fe80::1%Eth0") (codes "p"))
-scp_zone (inl s) = scp_zone_host s.host.0 (same_Some (codes "fe80::1%Eth0") s.host.0 s.host.1) s.host.2
-scp_zone (inr s) = false≢true (sym s.common.unflagged)
-
--- the name `ext` is no other helper's
-helper_ext : ¬ IsSettled (path_alone (helper (codes "ext")) true (codes "a"))
-helper_ext s = false≢true (sym s.1)
-
--- a helper has the flag
-unflagged_helper : ¬ IsSettled (path_alone (helper (codes "a")) false (codes "b"))
-unflagged_helper s = false≢true s.0.flagged
-
--- Secure Shell has a host
-no_host : ¬ IsSettled (path_alone ssh false [])
-no_host (inl s) = false≢true s.flagged
-no_host (inr s) = absurd (none-some s.host.0 s.host.1)
-
 -- others that are not settled
 pub unsettled_other_rows : UnsettledOtherRows
-unsettled_other_rows = (slash_in_host, scp_path, helper_path, local_host, scp_slashes, scp_user_colon, scp_like_helper, scp_zone, helper_ext, unflagged_helper, no_host)
+unsettled_other_rows = (
+  -- the host of a file URL ends at a slash
+  λ s. elim s [ inl h ↦ false≢true h.bare.0 | inr h ↦ false≢true (sym h.host.no_slash) ],
+  -- a local path has no shape of the scp form, nor the form of a remote helper, nor a host
+  λ s. elim s [
+    | inl h ↦ h.shape.no_scp (inl (codes "a", codes "b", shape_row (codes "a") (codes "b") refl refl refl refl refl))
+    | inr h ↦ false≢true (sym h.unflagged)
+  ],
+  λ s. elim s [
+    | inl h ↦ h.shape.neither.no_helper (codes "a", codes "b", record { named = refl; joined = refl })
+    | inr h ↦ false≢true (sym h.unflagged)
+  ],
+  λ s. elim s [ inl h ↦ absurd (none-some (codes "h") (sym h.bare.2)) | inr h ↦ false≢true (sym h.unflagged) ],
+  -- behind the colon of the scp form stand no two slashes
+  λ s. elim s [ inl h ↦ false≢true (sym h.path.not_slashes) | inr h ↦ false≢true (sym h.url.common.unflagged) ],
+  -- the first colon of the scp form ends the host
+  λ s. elim s [ inl h ↦ false≢true (sym h.user.no_colon) | inr h ↦ false≢true (sym h.url.common.unflagged) ],
+  -- a host and a path behind two colons look like a remote helper
+  λ s. elim s [
+    | inl h ↦ h.host.3 (refl, ap is_helper_name (sym (same_Some (codes "host") h.host.0 h.host.1)), refl)
+    | inr h ↦ false≢true (sym h.url.common.unflagged)
+  ],
+  -- an address of the scp form has no zone
+  λ s. elim s [
+    | inl h ↦ scp_zone_host h.host.0 (same_Some (codes "fe80::1%Eth0") h.host.0 h.host.1) h.host.2
+    | inr h ↦ false≢true (sym h.url.common.unflagged)
+  ],
+  -- the name `ext` is no other helper's, and a helper has the flag
+  λ s. false≢true (sym s.1),
+  λ s. false≢true s.0.bare.0,
+  -- Secure Shell has a host
+  λ s. elim s [ inl h ↦ false≢true h.flagged | inr h ↦ absurd (none-some h.host.0 h.host.1) ],
+)

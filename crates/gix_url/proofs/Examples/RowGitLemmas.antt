@@ -70,95 +70,12 @@ enclosed place front inside behind dropped found h port = HostAndPort.brackets f
 
 -- ---- URLs
 
--- a password belongs to the user, and the port to the host
-password_row : GitReads (codes "ssh://u:p@h:22/p") (by_ssh (Some (codes "u:p")) (Some (codes "h:22")) None (codes "/p"))
-password_row =
-    let place = codes "u:p@h:22" in
-    let word = reached place (codes "/p") place place (codes "h:22") None None (Some (codes "u:p")) (HostAndPort.none (lacks_brackets place refl) (BeforePort.unmarked (codes "u") (codes "p@h:22") refl refl (lit< tt) refl refl refl)) (SecurePort.unmarked (codes "u") (codes "p@h:22") refl refl refl refl refl refl) (UserCut.with_user (codes "u:p") (lit< tt) refl refl refl) refl refl refl in
-    record { whole = refl; no_option = refl; reads = ReadsGiven.secure_url (codes "u:p@h:22/p") place (codes "p") (url ssh (codes "ssh") (codes "u:p@h:22/p") (codes "u:p@h:22/p") refl refl) (place_cut slash (codes "u:p@h:22/p") place (codes "p") refl refl refl) word }
-
--- white space, a sign and zeros before a port
-port_row : GitReads (codes "ssh://h: +022/p") (by_ssh None (Some (codes "h")) (Some 22) (codes "/p"))
-port_row =
-    let place = codes "h: +022" in
-    let word = reached place (codes "/p") (codes "h") (codes "h") (codes "h") (Some 22) (Some 22) None (HostAndPort.none (lacks_brackets place refl) (BeforePort.marked (codes " +022") 22 refl refl refl refl)) (SecurePort.behind 22 refl refl refl) (UserCut.host_alone refl refl refl) refl refl refl in
-    record { whole = refl; no_option = refl; reads = ReadsGiven.secure_url (codes "h: +022/p") place (codes "p") (url ssh (codes "ssh") (codes "h: +022/p") (codes "h: +022/p") refl refl) (place_cut slash (codes "h: +022/p") place (codes "p") refl refl refl) word }
-
 -- a URL of Secure Shell without brackets and escapes, without a user, and with a port or none
 secure_row : (place path named : List ℕ) (port : Option ℕ) → FreeOf 37 (place ++ slash ∷ path) → FreeOf left_bracket (place ++ slash ∷ path) → FreeOf slash place → FreeOf left_bracket place → BeforePort place named port → SecurePort named port named port → FreeOf at_sign named → is_option_like named ≡ false → is_option_like (from_tilde (slash ∷ path)) ≡ false → FreeOf 0 (codes "ssh://" ++ (place ++ slash ∷ path)) → holds (codes "ssh://") named ≡ false → GitReads (codes "ssh://" ++ (place ++ slash ∷ path)) (by_ssh None (unless_empty named) port (from_tilde (slash ∷ path)))
 secure_row place path named port raw unbracketed free inside before secure userless first second whole other =
     let rest = place ++ slash ∷ path in
     let word = reached place (from_tilde (slash ∷ path)) named named named port port None (HostAndPort.none (lacks_brackets place inside) before) secure (UserCut.host_alone userless refl refl) first second other in
     record { whole = whole; no_option = refl; reads = ReadsGiven.secure_url rest place path (url ssh (codes "ssh") rest rest refl (sym (git_decode_kept rest raw))) (place_cut slash rest place path unbracketed free refl) word }
-
--- a tab before a port
-tab_row : GitReads (codes "ssh://h:" ++ tab ∷ codes "22/p") (by_ssh None (Some (codes "h")) (Some 22) (codes "/p"))
-tab_row = secure_row (codes "h:" ++ tab ∷ codes "22") (codes "p") (codes "h") (Some 22) refl refl refl refl (BeforePort.marked (tab ∷ codes "22") 22 refl refl refl refl) (SecurePort.behind 22 refl refl refl) refl refl refl refl refl
-
--- no number below zero is a port, but `-0` is 0
-zero_row : GitReads (codes "ssh://h:-0/p") (by_ssh None (Some (codes "h")) (Some 0) (codes "/p"))
-zero_row = secure_row (codes "h:-0") (codes "p") (codes "h") (Some 0) refl refl refl refl (BeforePort.marked (codes "-0") 0 refl refl refl refl) (SecurePort.behind 0 refl refl refl) refl refl refl refl refl
-
--- so any other belongs to the host
-below_zero_row : GitReads (codes "ssh://h:-5/p") (by_ssh None (Some (codes "h:-5")) None (codes "/p"))
-below_zero_row = secure_row (codes "h:-5") (codes "p") (codes "h:-5") None refl refl refl refl (BeforePort.unmarked (codes "h") (codes "-5") refl refl (lit< tt) refl refl refl) (SecurePort.unmarked (codes "h") (codes "-5") refl refl refl refl refl refl) refl refl refl refl refl
-
--- the largest port
-largest_row : GitReads (codes "ssh://h:65535/p") (by_ssh None (Some (codes "h")) (Some 65535) (codes "/p"))
-largest_row = secure_row (codes "h:65535") (codes "p") (codes "h") (Some 65535) refl refl refl refl (BeforePort.marked (codes "65535") 65535 refl refl refl refl) (SecurePort.behind 65535 refl refl refl) refl refl refl refl refl
-
--- and a number past it, which belongs to the host
-too_large_row : GitReads (codes "ssh://h:65536/p") (by_ssh None (Some (codes "h:65536")) None (codes "/p"))
-too_large_row = secure_row (codes "h:65536") (codes "p") (codes "h:65536") None refl refl refl refl (BeforePort.unmarked (codes "h") (codes "65536") refl refl (lit< tt) refl refl refl) (SecurePort.unmarked (codes "h") (codes "65536") refl refl refl refl refl refl) refl refl refl refl refl
-
--- a colon without a port is passed over
-colon_alone_row : GitReads (codes "ssh://h:/p") (by_ssh None (Some (codes "h")) None (codes "/p"))
-colon_alone_row = secure_row (codes "h:") (codes "p") (codes "h") None refl refl refl refl (BeforePort.colon_alone refl refl refl) (SecurePort.no_colon refl refl refl refl) refl refl refl refl refl
-
--- a bracket that isn't closed belongs to the host
-unclosed_row : GitReads (codes "ssh://[h/p") (by_ssh None (Some (codes "[h")) None (codes "/p"))
-unclosed_row =
-    let place = codes "[h" in
-    let open_place = LacksHostBrackets.unclosed [] (codes "h") (OpensHost.at_front (not_held host_mark place refl) refl refl) refl in
-    let open_rest = LacksHostBrackets.unclosed [] (codes "h/p") (OpensHost.at_front (not_held host_mark (codes "[h/p") refl) refl refl) refl in
-    let word = reached place (codes "/p") place place place None None None (HostAndPort.none open_place (BeforePort.no_colon refl refl refl)) (SecurePort.no_colon refl refl refl refl) (UserCut.host_alone refl refl refl) refl refl refl in
-    let cut : CutsPlace slash (codes "[h/p") place (codes "p") = record { passed = []; between = place; end = HostEnd.none open_rest refl refl; first = refl; joined = refl } in
-    record { whole = refl; no_option = refl; reads = ReadsGiven.secure_url (codes "[h/p") place (codes "p") (url ssh (codes "ssh") (codes "[h/p") (codes "[h/p") refl refl) cut word }
-
--- a bracket in the path opens the host
-path_bracket_row : GitReads (codes "ssh://h/@[x]/p") (by_ssh (Some (codes "h/")) (Some (codes "x")) None (codes "/p"))
-path_bracket_row =
-    let place = codes "h/@[x]" in
-    let opened = behind_at (codes "h/") (codes "x") (codes "/p") (not_held host_mark (codes "h/") refl) refl in
-    let inner = behind_at (codes "h/") (codes "x") [] (not_held host_mark (codes "h/") refl) refl in
-    let word = reached place (codes "/p") (codes "h/@x") (codes "h/@x") (codes "x") None None (Some (codes "h/")) (enclosed place (codes "h/@") (codes "x") [] [] None inner (BeforePort.no_colon refl refl refl)) (SecurePort.no_colon refl refl refl refl) (UserCut.with_user (codes "h/") (lit< tt) refl refl refl) refl refl refl in
-    record { whole = refl; no_option = refl; reads = ReadsGiven.secure_url (codes "h/@[x]/p") place (codes "p") (url ssh (codes "ssh") (codes "h/@[x]/p") (codes "h/@[x]/p") refl refl) (bracket_cut slash (codes "h/@[x]/p") (codes "h/@") (codes "x") [] (codes "p") opened refl refl) word }
-
--- a port in brackets
-inner_port_row : GitReads (codes "ssh://[h:22]/p") (by_ssh None (Some (codes "h")) (Some 22) (codes "/p"))
-inner_port_row =
-    let place = codes "[h:22]" in
-    let opened = at_front (codes "h:22") (codes "/p") (not_held host_mark (codes "[h:22]/p") refl) refl in
-    let inner = at_front (codes "h:22") [] (not_held host_mark place refl) refl in
-    let word = reached place (codes "/p") (codes "h:22") (codes "h") (codes "h") None (Some 22) None (enclosed place [] (codes "h:22") [] [] None inner (BeforePort.no_colon refl refl refl)) (SecurePort.inside (codes "22") 22 refl refl refl refl refl) (UserCut.host_alone refl refl refl) refl refl refl in
-    record { whole = refl; no_option = refl; reads = ReadsGiven.secure_url (codes "[h:22]/p") place (codes "p") (url ssh (codes "ssh") (codes "[h:22]/p") (codes "[h:22]/p") refl refl) (bracket_cut slash (codes "[h:22]/p") [] (codes "h:22") [] (codes "p") opened refl refl) word }
-
--- what stands behind a bracket is dropped
-behind_bracket_row : GitReads (codes "ssh://[x]u@h/p") (by_ssh None (Some (codes "x")) None (codes "/p"))
-behind_bracket_row =
-    let place = codes "[x]u@h" in
-    let opened = at_front (codes "x") (codes "u@h/p") (not_held host_mark (codes "[x]u@h/p") refl) refl in
-    let inner = at_front (codes "x") (codes "u@h") (not_held host_mark place refl) refl in
-    let word = reached place (codes "/p") (codes "x") (codes "x") (codes "x") None None None (enclosed place [] (codes "x") (codes "u@h") (codes "u@h") None inner (BeforePort.no_colon refl refl refl)) (SecurePort.no_colon refl refl refl refl) (UserCut.host_alone refl refl refl) refl refl refl in
-    record { whole = refl; no_option = refl; reads = ReadsGiven.secure_url (codes "[x]u@h/p") place (codes "p") (url ssh (codes "ssh") (codes "[x]u@h/p") (codes "[x]u@h/p") refl refl) (bracket_cut slash (codes "[x]u@h/p") [] (codes "x") (codes "u@h") (codes "p") opened refl refl) word }
-
--- no host, and a home folder
-no_host_row : GitReads (codes "ssh:///~") (by_ssh None None None (codes "~"))
-no_host_row = record {
-  whole = refl;
-  no_option = refl;
-  reads = ReadsGiven.secure_url (codes "/~") [] (codes "~") (url ssh (codes "ssh") (codes "/~") (codes "/~") refl refl) (place_cut slash (codes "/~") [] (codes "~") refl refl refl) (plain_word [] [] (codes "~") None refl refl (UserCut.host_alone refl refl refl) refl refl refl);
-}
 
 -- a place of Git's own protocol without brackets
 git_row : (spelled rest place path host : List ℕ) (port : Option ℕ) → rest ≡ git_decode spelled → FreeOf left_bracket rest → FreeOf slash place → rest ≡ place ++ slash ∷ path → FreeOf left_bracket place → BeforePort place host port → unless_empty host ≡ Some host → FreeOf 10 place → FreeOf 10 (from_tilde (slash ∷ path)) → FreeOf 0 (codes "git://" ++ spelled) → GitReads (codes "git://" ++ spelled) (by_git host port (from_tilde (slash ∷ path)))
@@ -184,19 +101,57 @@ file_row place path raw unbracketed free whole =
 -- URLs
 pub git_url_rows : GitUrlRows
 git_url_rows = (
-  password_row,
-  port_row,
-  tab_row,
-  zero_row,
-  below_zero_row,
-  largest_row,
-  too_large_row,
-  colon_alone_row,
-  unclosed_row,
-  path_bracket_row,
-  inner_port_row,
-  behind_bracket_row,
-  no_host_row,
+  -- a password belongs to the user, and the port to the host
+  let place = codes "u:p@h:22" in
+      let word = reached place (codes "/p") place place (codes "h:22") None None (Some (codes "u:p")) (HostAndPort.none (lacks_brackets place refl) (BeforePort.unmarked (codes "u") (codes "p@h:22") refl refl (lit< tt) refl refl refl)) (SecurePort.unmarked (codes "u") (codes "p@h:22") refl refl refl refl refl refl) (UserCut.with_user (codes "u:p") (lit< tt) refl refl refl) refl refl refl in
+      record { whole = refl; no_option = refl; reads = ReadsGiven.secure_url (codes "u:p@h:22/p") place (codes "p") (url ssh (codes "ssh") (codes "u:p@h:22/p") (codes "u:p@h:22/p") refl refl) (place_cut slash (codes "u:p@h:22/p") place (codes "p") refl refl refl) word },
+  -- white space, a sign and zeros before a port
+  let place = codes "h: +022" in
+      let word = reached place (codes "/p") (codes "h") (codes "h") (codes "h") (Some 22) (Some 22) None (HostAndPort.none (lacks_brackets place refl) (BeforePort.marked (codes " +022") 22 refl refl refl refl)) (SecurePort.behind 22 refl refl refl) (UserCut.host_alone refl refl refl) refl refl refl in
+      record { whole = refl; no_option = refl; reads = ReadsGiven.secure_url (codes "h: +022/p") place (codes "p") (url ssh (codes "ssh") (codes "h: +022/p") (codes "h: +022/p") refl refl) (place_cut slash (codes "h: +022/p") place (codes "p") refl refl refl) word },
+  -- a tab before a port
+  secure_row (codes "h:" ++ tab ∷ codes "22") (codes "p") (codes "h") (Some 22) refl refl refl refl (BeforePort.marked (tab ∷ codes "22") 22 refl refl refl refl) (SecurePort.behind 22 refl refl refl) refl refl refl refl refl,
+  -- no number below zero is a port, but `-0` is 0
+  secure_row (codes "h:-0") (codes "p") (codes "h") (Some 0) refl refl refl refl (BeforePort.marked (codes "-0") 0 refl refl refl refl) (SecurePort.behind 0 refl refl refl) refl refl refl refl refl,
+  -- so any other belongs to the host
+  secure_row (codes "h:-5") (codes "p") (codes "h:-5") None refl refl refl refl (BeforePort.unmarked (codes "h") (codes "-5") refl refl (lit< tt) refl refl refl) (SecurePort.unmarked (codes "h") (codes "-5") refl refl refl refl refl refl) refl refl refl refl refl,
+  -- the largest port
+  secure_row (codes "h:65535") (codes "p") (codes "h") (Some 65535) refl refl refl refl (BeforePort.marked (codes "65535") 65535 refl refl refl refl) (SecurePort.behind 65535 refl refl refl) refl refl refl refl refl,
+  -- and a number past it, which belongs to the host
+  secure_row (codes "h:65536") (codes "p") (codes "h:65536") None refl refl refl refl (BeforePort.unmarked (codes "h") (codes "65536") refl refl (lit< tt) refl refl refl) (SecurePort.unmarked (codes "h") (codes "65536") refl refl refl refl refl refl) refl refl refl refl refl,
+  -- a colon without a port is passed over
+  secure_row (codes "h:") (codes "p") (codes "h") None refl refl refl refl (BeforePort.colon_alone refl refl refl) (SecurePort.no_colon refl refl refl refl) refl refl refl refl refl,
+  -- a bracket that isn't closed belongs to the host
+  let place = codes "[h" in
+      let open_place = LacksHostBrackets.unclosed [] (codes "h") (OpensHost.at_front (not_held host_mark place refl) refl refl) refl in
+      let open_rest = LacksHostBrackets.unclosed [] (codes "h/p") (OpensHost.at_front (not_held host_mark (codes "[h/p") refl) refl refl) refl in
+      let word = reached place (codes "/p") place place place None None None (HostAndPort.none open_place (BeforePort.no_colon refl refl refl)) (SecurePort.no_colon refl refl refl refl) (UserCut.host_alone refl refl refl) refl refl refl in
+      let cut : CutsPlace slash (codes "[h/p") place (codes "p") = record { passed = []; between = place; end = HostEnd.none open_rest refl refl; first = refl; joined = refl } in
+      record { whole = refl; no_option = refl; reads = ReadsGiven.secure_url (codes "[h/p") place (codes "p") (url ssh (codes "ssh") (codes "[h/p") (codes "[h/p") refl refl) cut word },
+  -- a bracket in the path opens the host
+  let place = codes "h/@[x]" in
+      let opened = behind_at (codes "h/") (codes "x") (codes "/p") (not_held host_mark (codes "h/") refl) refl in
+      let inner = behind_at (codes "h/") (codes "x") [] (not_held host_mark (codes "h/") refl) refl in
+      let word = reached place (codes "/p") (codes "h/@x") (codes "h/@x") (codes "x") None None (Some (codes "h/")) (enclosed place (codes "h/@") (codes "x") [] [] None inner (BeforePort.no_colon refl refl refl)) (SecurePort.no_colon refl refl refl refl) (UserCut.with_user (codes "h/") (lit< tt) refl refl refl) refl refl refl in
+      record { whole = refl; no_option = refl; reads = ReadsGiven.secure_url (codes "h/@[x]/p") place (codes "p") (url ssh (codes "ssh") (codes "h/@[x]/p") (codes "h/@[x]/p") refl refl) (bracket_cut slash (codes "h/@[x]/p") (codes "h/@") (codes "x") [] (codes "p") opened refl refl) word },
+  -- a port in brackets
+  let place = codes "[h:22]" in
+      let opened = at_front (codes "h:22") (codes "/p") (not_held host_mark (codes "[h:22]/p") refl) refl in
+      let inner = at_front (codes "h:22") [] (not_held host_mark place refl) refl in
+      let word = reached place (codes "/p") (codes "h:22") (codes "h") (codes "h") None (Some 22) None (enclosed place [] (codes "h:22") [] [] None inner (BeforePort.no_colon refl refl refl)) (SecurePort.inside (codes "22") 22 refl refl refl refl refl) (UserCut.host_alone refl refl refl) refl refl refl in
+      record { whole = refl; no_option = refl; reads = ReadsGiven.secure_url (codes "[h:22]/p") place (codes "p") (url ssh (codes "ssh") (codes "[h:22]/p") (codes "[h:22]/p") refl refl) (bracket_cut slash (codes "[h:22]/p") [] (codes "h:22") [] (codes "p") opened refl refl) word },
+  -- what stands behind a bracket is dropped
+  let place = codes "[x]u@h" in
+      let opened = at_front (codes "x") (codes "u@h/p") (not_held host_mark (codes "[x]u@h/p") refl) refl in
+      let inner = at_front (codes "x") (codes "u@h") (not_held host_mark place refl) refl in
+      let word = reached place (codes "/p") (codes "x") (codes "x") (codes "x") None None None (enclosed place [] (codes "x") (codes "u@h") (codes "u@h") None inner (BeforePort.no_colon refl refl refl)) (SecurePort.no_colon refl refl refl refl) (UserCut.host_alone refl refl refl) refl refl refl in
+      record { whole = refl; no_option = refl; reads = ReadsGiven.secure_url (codes "[x]u@h/p") place (codes "p") (url ssh (codes "ssh") (codes "[x]u@h/p") (codes "[x]u@h/p") refl refl) (bracket_cut slash (codes "[x]u@h/p") [] (codes "x") (codes "u@h") (codes "p") opened refl refl) word },
+  -- no host, and a home folder
+  record {
+    whole = refl;
+    no_option = refl;
+    reads = ReadsGiven.secure_url (codes "/~") [] (codes "~") (url ssh (codes "ssh") (codes "/~") (codes "/~") refl refl) (place_cut slash (codes "/~") [] (codes "~") refl refl refl) (plain_word [] [] (codes "~") None refl refl (UserCut.host_alone refl refl refl) refl refl refl);
+  },
   git_row (codes "h%2Fx/p") (codes "h/x/p") (codes "h") (codes "x/p") (codes "h") None refl refl refl refl refl (BeforePort.no_colon refl refl refl) refl refl refl refl,
   git_row (codes "h/p%00q") (codes "h/p%00q") (codes "h") (codes "p%00q") (codes "h") None refl refl refl refl refl (BeforePort.no_colon refl refl refl) refl refl refl refl,
   git_row (codes "u@h:22/p") (codes "u@h:22/p") (codes "u@h:22") (codes "p") (codes "u@h") (Some 22) refl refl refl refl refl (BeforePort.marked (codes "22") 22 refl refl refl refl) refl refl refl refl,
@@ -225,45 +180,6 @@ no_url_free t free = record {
   no_rsync = λ more is. not_free colon (codes "rsync") more (subst (λ s. FreeOf colon s) is free);
 }
 
-user_bracket_row : GitReads (codes "[u@h]:p") (by_ssh (Some (codes "u")) (Some (codes "h")) None (codes "p"))
-user_bracket_row =
-    let place = codes "[u@h]" in
-    let none = not_held host_mark (codes "[u@h]:p") refl in
-    let word = reached place (codes "p") (codes "u@h") (codes "u@h") (codes "h") None None (Some (codes "u")) (enclosed place [] (codes "u@h") [] [] None (at_front (codes "u@h") [] (not_held host_mark place refl) refl) (BeforePort.no_colon refl refl refl)) (SecurePort.no_colon refl refl refl refl) (UserCut.with_user (codes "u") (lit< tt) refl refl refl) refl refl refl in
-    record { whole = refl; no_option = refl; reads = ReadsGiven.scp_form place (codes "p") (no_url (codes "[u@h]:p") place (codes "p") refl refl (not_held (codes "://") (codes "[u@h]:p") refl) refl (λ e. cc) (λ e. different_bytes 91 114 refl e)) record { front = place; rest = codes "p"; joined = refl; no_slash = refl } (bracket_cut colon (codes "[u@h]:p") [] (codes "u@h") [] (codes "p") (at_front (codes "u@h") (codes ":p") none refl) refl refl) word }
-
--- brackets behind a colon
-behind_colon_row : GitReads (codes "u:p@[h]:q") (by_ssh (Some (codes "u:p")) (Some (codes "h")) None (codes "q"))
-behind_colon_row =
-    let place = codes "u:p@[h]" in
-    let none = not_held host_mark (codes "u:p") refl in
-    let word = reached place (codes "q") (codes "u:p@h") (codes "u:p@h") (codes "h") None None (Some (codes "u:p")) (enclosed place (codes "u:p@") (codes "h") [] [] None (behind_at (codes "u:p") (codes "h") [] none refl) (BeforePort.no_colon refl refl refl)) (SecurePort.unmarked (codes "u") (codes "p@h") refl refl refl refl refl refl) (UserCut.with_user (codes "u:p") (lit< tt) refl refl refl) refl refl refl in
-    record { whole = refl; no_option = refl; reads = ReadsGiven.scp_form place (codes "q") (no_url (codes "u:p@[h]:q") (codes "u") (codes "p@[h]:q") refl refl (not_held (codes "://") (codes "u:p@[h]:q") refl) refl (λ e. cc) (λ e. different_bytes 117 114 refl e)) record { front = codes "u"; rest = codes "p@[h]:q"; joined = refl; no_slash = refl } (bracket_cut colon (codes "u:p@[h]:q") (codes "u:p@") (codes "h") [] (codes "q") (behind_at (codes "u:p") (codes "h") (codes ":q") none refl) refl refl) word }
-
--- a byte before `~` is lost
-tilde_row : GitReads (codes "h:a~u/p") (by_ssh None (Some (codes "h")) None (codes "~u/p"))
-tilde_row = record {
-  whole = refl;
-  no_option = refl;
-  reads = ReadsGiven.scp_form (codes "h") (codes "a~u/p") (no_url (codes "h:a~u/p") (codes "h") (codes "a~u/p") refl refl (not_held (codes "://") (codes "h:a~u/p") refl) refl (λ e. cc) (λ e. different_bytes 104 114 refl e)) record { front = codes "h"; rest = codes "a~u/p"; joined = refl; no_slash = refl } (place_cut colon (codes "h:a~u/p") (codes "h") (codes "a~u/p") refl refl refl) (plain_word (codes "h") (codes "h") (codes "~u/p") None refl refl (UserCut.host_alone refl refl refl) refl refl refl);
-}
-
--- a local path with brackets
-local_bracket_row : GitReads (codes "/srv/a@[b]/c") (on_this_machine (codes "]/c"))
-local_bracket_row = record {
-  whole = refl;
-  no_option = refl;
-  reads = ReadsGiven.local_path (codes "/srv/a@[b") (codes "]/c") (no_url_free (codes "/srv/a@[b]/c") refl) (inl refl) (HostEnd.brackets (codes "/srv/a@") (codes "b") (codes "/c") (behind_at (codes "/srv/a") (codes "b") (codes "/c") (not_held host_mark (codes "/srv/a") refl) refl) refl refl) (lit< tt) refl refl refl;
-}
-
--- a local path with a colon
-local_row : GitReads (codes "./a:b") (on_this_machine (codes "./a:b"))
-local_row = record {
-  whole = refl;
-  no_option = refl;
-  reads = ReadsGiven.local_path [] (codes "./a:b") (no_url (codes "./a:b") (codes "./a") (codes "b") refl refl (not_held (codes "://") (codes "./a:b") refl) refl (λ e. cc) (λ e. different_bytes 46 114 refl e)) (inr (codes ".", codes "a:b", refl, refl)) (nothing_passed (codes "./a:b") refl) (lit< tt) refl refl refl;
-}
-
 -- a local path without colons and brackets, that begins with neither `-` nor `~`
 plain_local_row : (t : List ℕ) → FreeOf colon t → FreeOf left_bracket t → 0 < length t → is_option_like t ≡ false → begins_with tilde t ≡ false → FreeOf 0 t → GitReads t (on_this_machine t)
 plain_local_row t free unbracketed some safe homeless whole = record {
@@ -275,11 +191,33 @@ plain_local_row t free unbracketed some safe homeless whole = record {
 -- other texts
 pub git_text_rows : GitTextRows
 git_text_rows = (
-  user_bracket_row,
-  behind_colon_row,
-  tilde_row,
-  local_bracket_row,
-  local_row,
+  let place = codes "[u@h]" in
+      let none = not_held host_mark (codes "[u@h]:p") refl in
+      let word = reached place (codes "p") (codes "u@h") (codes "u@h") (codes "h") None None (Some (codes "u")) (enclosed place [] (codes "u@h") [] [] None (at_front (codes "u@h") [] (not_held host_mark place refl) refl) (BeforePort.no_colon refl refl refl)) (SecurePort.no_colon refl refl refl refl) (UserCut.with_user (codes "u") (lit< tt) refl refl refl) refl refl refl in
+      record { whole = refl; no_option = refl; reads = ReadsGiven.scp_form place (codes "p") (no_url (codes "[u@h]:p") place (codes "p") refl refl (not_held (codes "://") (codes "[u@h]:p") refl) refl (λ e. cc) (λ e. different_bytes 91 114 refl e)) record { front = place; rest = codes "p"; joined = refl; no_slash = refl } (bracket_cut colon (codes "[u@h]:p") [] (codes "u@h") [] (codes "p") (at_front (codes "u@h") (codes ":p") none refl) refl refl) word },
+  -- brackets behind a colon
+  let place = codes "u:p@[h]" in
+      let none = not_held host_mark (codes "u:p") refl in
+      let word = reached place (codes "q") (codes "u:p@h") (codes "u:p@h") (codes "h") None None (Some (codes "u:p")) (enclosed place (codes "u:p@") (codes "h") [] [] None (behind_at (codes "u:p") (codes "h") [] none refl) (BeforePort.no_colon refl refl refl)) (SecurePort.unmarked (codes "u") (codes "p@h") refl refl refl refl refl refl) (UserCut.with_user (codes "u:p") (lit< tt) refl refl refl) refl refl refl in
+      record { whole = refl; no_option = refl; reads = ReadsGiven.scp_form place (codes "q") (no_url (codes "u:p@[h]:q") (codes "u") (codes "p@[h]:q") refl refl (not_held (codes "://") (codes "u:p@[h]:q") refl) refl (λ e. cc) (λ e. different_bytes 117 114 refl e)) record { front = codes "u"; rest = codes "p@[h]:q"; joined = refl; no_slash = refl } (bracket_cut colon (codes "u:p@[h]:q") (codes "u:p@") (codes "h") [] (codes "q") (behind_at (codes "u:p") (codes "h") (codes ":q") none refl) refl refl) word },
+  -- a byte before `~` is lost
+  record {
+    whole = refl;
+    no_option = refl;
+    reads = ReadsGiven.scp_form (codes "h") (codes "a~u/p") (no_url (codes "h:a~u/p") (codes "h") (codes "a~u/p") refl refl (not_held (codes "://") (codes "h:a~u/p") refl) refl (λ e. cc) (λ e. different_bytes 104 114 refl e)) record { front = codes "h"; rest = codes "a~u/p"; joined = refl; no_slash = refl } (place_cut colon (codes "h:a~u/p") (codes "h") (codes "a~u/p") refl refl refl) (plain_word (codes "h") (codes "h") (codes "~u/p") None refl refl (UserCut.host_alone refl refl refl) refl refl refl);
+  },
+  -- a local path with brackets
+  record {
+    whole = refl;
+    no_option = refl;
+    reads = ReadsGiven.local_path (codes "/srv/a@[b") (codes "]/c") (no_url_free (codes "/srv/a@[b]/c") refl) (inl refl) (HostEnd.brackets (codes "/srv/a@") (codes "b") (codes "/c") (behind_at (codes "/srv/a") (codes "b") (codes "/c") (not_held host_mark (codes "/srv/a") refl) refl) refl refl) (lit< tt) refl refl refl;
+  },
+  -- a local path with a colon
+  record {
+    whole = refl;
+    no_option = refl;
+    reads = ReadsGiven.local_path [] (codes "./a:b") (no_url (codes "./a:b") (codes "./a") (codes "b") refl refl (not_held (codes "://") (codes "./a:b") refl) refl (λ e. cc) (λ e. different_bytes 46 114 refl e)) (inr (codes ".", codes "a:b", refl, refl)) (nothing_passed (codes "./a:b") refl) (lit< tt) refl refl refl;
+  },
   plain_local_row (codes "./~/x") refl refl (lit< tt) refl refl refl,
   plain_local_row (codes "/~root/x") refl refl (lit< tt) refl refl refl,
 )

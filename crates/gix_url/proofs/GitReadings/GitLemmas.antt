@@ -1,7 +1,7 @@
 -- Git reads the same place: in the text of each location of the class it reads the location's own parts.
 use Rattle.std.proofs.Common.{◌≡◌, ◌∙◌, ℕ, ◌<◌, false, ◌⊎◌, inl, inr, List, [], ◌∷◌, ◌++◌, length, Option, Some, None, Ok, IfSome, IsUtf8, codes, refl, sym, ap, subst, arith, append_assoc}
 use Rattle.gix_url.specs.Value.{Protocol, Location}
-use Rattle.gix_url.specs.Value.Protocol.{file, git, ssh, http, https, ext, helper, helper_url}
+use Rattle.gix_url.specs.Value.Protocol.{file, git, ssh}
 use Rattle.gix_url.specs.Bytes.{slash, colon, at_sign, left_bracket, tilde, FreeOf, begins_with}
 use Rattle.gix_url.specs.Grammar.{ScpFront, IsNeither, IsScpShaped}
 use Rattle.gix_url.specs.Arguments.{is_option_like}
@@ -14,7 +14,7 @@ use Rattle.gix_url.proofs.Texts.CutLemmas.{begins_cut, cut_unique, free-append, 
 use Rattle.gix_url.proofs.Addresses.AddressLemmas.{address_two_colons}
 use Rattle.gix_url.proofs.Written.FileLemmas.{hostless_text}
 use Rattle.gix_url.proofs.Written.KeptLemmas.{flagged_text}
-use Rattle.gix_url.proofs.Written.WrittenScpLemmas.{scp_value_of, scp_written, scp_spelled, scp_path}
+use Rattle.gix_url.proofs.Written.WrittenScpLemmas.{scp_value_of, scp_written, scp_spelled}
 use Rattle.gix_url.proofs.GitReadings.GitCutLemmas.{lacks_brackets, nothing_passed, place_cut, portless_free}
 use Rattle.gix_url.proofs.GitReadings.GitPieceLemmas.{from_tilde_kept, scp_host_raw}
 use Rattle.gix_url.proofs.GitReadings.GitTransportLemmas.{IsUncontested, plain_text, read_alike, secure_reading, word_of, secure_reached, host_safe, own_url, behind_plain, secure_url_alike, git_url_alike}
@@ -38,7 +38,7 @@ file_url_alike v e a none h =
     let (t, has, lacks) = a.plain in
     let written = hostless_text v e h none in
     let plain = behind_plain v (codes "file") v.path (plain_text v t (codes "file://" ++ v.path) has lacks written) in
-    read_alike v (codes "file://" ++ v.path) (on_this_machine v.path) (machine_reading v e h.alone.no_user none h.alone.no_port) written a refl (file_url_reads v.path rest rooted plain)
+    read_alike v (codes "file://" ++ v.path) (on_this_machine v.path) (machine_reading v e h.alone.0 none h.alone.2) written a refl (file_url_reads v.path rest rooted plain)
 
 -- without brackets a colon before any `/` would make it the scp form
 unshaped : (t front rest : List ℕ) → IsUncontested t → IsNeither t → ¬ IsScpShaped t → FreeOf colon front → t ≡ front ++ colon ∷ rest → ¬ FreeOf slash front
@@ -73,7 +73,7 @@ local_alike v e a homeless h =
     let (t, has, lacks) = a.plain in
     let written : text v ≡ Ok v.path = flagged_text v e h in
     let plain = plain_text v t v.path has lacks written in
-    read_alike v v.path (on_this_machine v.path) (machine_reading v e h.alone.no_user h.no_host h.alone.no_port) written a a.no_option.path (ReadsGiven.local_path [] v.path (local_no_url v.path plain h.neither h.no_scp) (local_text v.path plain h.neither h.no_scp) (nothing_passed v.path plain.left) h.nonempty a.no_option.path homeless refl)
+    read_alike v v.path (on_this_machine v.path) (machine_reading v e h.bare.1.0 h.bare.2 h.bare.1.2) written a a.no_option.path (ReadsGiven.local_path [] v.path (local_no_url v.path plain h.shape.neither h.shape.no_scp) (local_text v.path plain h.shape.neither h.shape.no_scp) (nothing_passed v.path plain.left) h.shape.nonempty a.no_option.path homeless refl)
 
 -- ---- the scp form
 
@@ -120,7 +120,7 @@ scp_text v host e is a h there kind other =
     let has : text v ≡ Ok whole = ap (λ l. text l) (scp_value_of v host e h there) ∙ scp_written v.user host v.path v.spelling in
     let open_text = (plain_text v t whole given lacks has).left in
     let (same, free) = scp_host_raw host (free_parts left_bracket (raw_host (Some host)) (colon ∷ v.path) (free_parts left_bracket (raw_user v.user) (raw_host (Some host) ++ colon ∷ v.path) open_text).1).0 in
-    let spelled = scp_spelled v.user host v.path is.user (subst (λ o. IfSome o IsUtf8) there is.host) h.user kind (scp_path v h) other in
+    let spelled = scp_spelled v.user host v.path is.user (subst (λ o. IfSome o IsUtf8) there is.host) h.user kind h.path other in
     scp_pieces v host h there same (scp_name host free kind) free (scp_neither spelled) has
 
 -- a word with a host isn't empty
@@ -183,11 +183,7 @@ alike_by file v e is a suits (inr h) = file_url_alike v e a suits.0 h
 alike_by ssh v e is a suits (inl h) = scp_alike v e is a suits h
 alike_by ssh v e is a suits (inr h) = secure_url_alike v e is a suits.2 h
 alike_by git v e is a suits h = git_url_alike v e is a suits h
-alike_by http v e is a suits h = absurd suits
-alike_by https v e is a suits h = absurd suits
-alike_by ext v e is a suits h = absurd suits
-alike_by (helper name) v e is a suits h = absurd suits
-alike_by (helper_url name) v e is a suits h = absurd suits
+alike_by _ v e is a suits h = absurd suits
 
 -- Git reads in the text of each location of the class the location's own parts
 pub read_same : ReadAlike

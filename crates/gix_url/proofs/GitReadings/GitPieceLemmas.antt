@@ -5,7 +5,7 @@ use Rattle.std.specs.Char.{is_ascii_digit}
 use Rattle.std.proofs.lemmas.Bool.{cases_Bool, cond-true, cond-false, and_right, and_from, false≢true, true≢false, both_ways, not_from_true}
 use Rattle.percent_encoding.specs.AsciiSet.{contains, should_percent_encode}
 use Rattle.percent_encoding.specs.declared.ascii_set.AsciiSet.{AsciiSet}
-use Rattle.percent_encoding.specs.Percent.{percent_encode, percent_encode_byte, percent_decode}
+use Rattle.percent_encoding.specs.Percent.{percent_encode, percent_encode_byte}
 use Rattle.percent_encoding.proofs.PercentLemmas.{percent_encode-nil, percent_encode_escaped, percent_encode_kept}
 use Rattle.gix_url.specs.declared.escape.TheConstants.{PASSWORD, USER}
 use Rattle.gix_url.specs.Value.{Protocol, Location}
@@ -15,8 +15,7 @@ use Rattle.gix_url.specs.Escapes.{has_percent}
 use Rattle.gix_url.specs.AddressTest.{is_ipv6_text}
 use Rattle.gix_url.specs.Schemes.{requires_path}
 use Rattle.gix_url.specs.Text.{has_colon, wants_brackets, raw_user, raw_host, keeps_host, open_host, needs_brackets, canonical_host, user_information, port_part, root_part, plain_path, matching_or, canonical_path}
-use Rattle.gix_url.specs.Settled.{HasMatch, IsTransportPath, begins_at_home}
-use Rattle.gix_url.specs.SettledParts.{HasFairSpelling}
+use Rattle.gix_url.specs.Settled.{HasMatch, IsTransportPath, begins_at_home, HasFairSpelling}
 use Rattle.gix_url.specs.Git.{from_tilde}
 use Rattle.gix_url.specs.GitClass.{is_tilde_second}
 use Rattle.gix_url.proofs.Texts.CutLemmas.{free_parts, free_head_tail, free-append, free-cons, free_of_all, free_begins, begins_cut}
@@ -136,16 +135,13 @@ port_free c (Some p) other mark small =
 
 -- ---- the path
 
--- no spelling matches a path that is written without `%`
-plain_unmatched : (v : Location) → HasFairSpelling v → FreeOf percent_sign (matching_or v.spelling v.path (plain_path v.scheme v.path)) → (s : List ℕ) → v.spelling ≡ Some s → percent_decode s ≡ v.path → ⊥
-plain_unmatched v fair free s is same =
-    let written : matching_or v.spelling v.path (plain_path v.scheme v.path) ≡ s = ap (λ o. matching_or o v.path (plain_path v.scheme v.path)) is ∙ matched s v.path (plain_path v.scheme v.path) same in
-    both_ways (has_percent s) (subst (λ t. FreeOf percent_sign t) written free) (fair s is same).escaped
-
 -- of a path that is written without `%` no spelling matches
 pub no_match : (v : Location) → HasFairSpelling v → FreeOf percent_sign (canonical_path v) → ¬ HasMatch v
 no_match v fair free (s, is, same) =
-    plain_unmatched v fair (free_parts percent_sign (root_part v) (matching_or v.spelling v.path (plain_path v.scheme v.path)) free).1 s is same
+    let plain = plain_path v.scheme v.path in
+    let behind = (free_parts percent_sign (root_part v) (matching_or v.spelling v.path plain) free).1 in
+    let written : matching_or v.spelling v.path plain ≡ s = ap (λ o. matching_or o v.path plain) is ∙ matched s v.path plain same in
+    both_ways (has_percent s) (subst (λ t. FreeOf percent_sign t) written behind) (fair s is same).escaped
 
 -- the path stands in the text behind a `/`, and Git reads it as it is
 pub record IsPathRaw (v : Location) : Type 0 where

@@ -10,7 +10,6 @@ use Rattle.gix_url.specs.Authority.{unless_empty}
 use Rattle.gix_url.specs.Arguments.{is_option_like}
 use Rattle.gix_url.specs.Text.{raw_user, keeps_host, canonical_host, user_information, host_part, port_part, canonical_path, canonical_text, text, needs_brackets}
 use Rattle.gix_url.specs.Settled.{IsValue, IsNormalName, IsBareHost, IsBracketedHost, IsTransportPath, IsSettledUrl, IsSettledSecure, IsSettledGit, IsRawPath, HasMatch}
-use Rattle.gix_url.specs.SettledParts.{IsHosted}
 use Rattle.gix_url.specs.Git.{GitReading, HostAndPort, SecurePort, UserCut, ReachesSecure, ReachesGit, CutsPlace, OwnUrl, ReadsGiven, GitReads}
 use Rattle.gix_url.specs.GitClass.{is_contested, HasNoOption, AgreesWithGit, own_reading, IsReadAlike}
 use Rattle.gix_url.proofs.Texts.CutLemmas.{free-append, free_of_lacked, free_parts, not_free}
@@ -170,7 +169,7 @@ transport_text v host h plain =
     let open_pieces = free_pieces left_bracket v host h.there h.no_password plain.left in
     let user = user_raw v.user whole.user in
     let hosted = host_raw v host h.escapes whole.hosted open_pieces.hosted in
-    let pathed = path_raw v h.transport h.common.spelling h.path whole.path in
+    let pathed = path_raw v h.transport h.common.path.spelling h.path whole.path in
     let behind = ap (λ t. t ++ canonical_path v) (authority_raw v host h user hosted) ∙ ap (λ t. (word_of v.user host ++ port_part v.port) ++ t) pathed.written in
     record { user = user; hosted = hosted; pathed = pathed; behind = behind; plain = subst IsUncontested behind plain }
 
@@ -224,10 +223,6 @@ transport_plain : (v : Location) (t : List ℕ) → text v ≡ Ok t → Lacks is
 transport_plain v t has lacks is =
     behind_plain v (protocol_text v.scheme) (authority_text v ++ canonical_path v) (subst IsUncontested (canonical_cut v) (plain_text v t (canonical_text v) has lacks is))
 
--- a user and a port come with the host
-hosted_url : (v : Location) → IsSettledUrl v → IsHosted v
-hosted_url v h = record { user_hosted = h.user_hosted; port_hosted = h.port_hosted }
-
 -- the parts of a host that is there
 pub host_safe : (v : Location) (host : List ℕ) → v.host ≡ Some host → HasNoOption v → is_option_like host ≡ false
 host_safe v host there h = subst (λ o. IfSome o (λ x. is_option_like x ≡ false)) there h.host
@@ -261,8 +256,8 @@ pub secure_url_alike : (v : Location) → v.scheme ≡ ssh → IsValue v → Agr
 secure_url_alike v e is a named h =
     let (host, there, kind) = h.host in
     let (t, has, lacks) = a.plain in
-    let written = (written_secure v e h.path).canonical h.common.unflagged (hosted_url v h.common) in
-    let given : HasHostGiven v host = record { transport = inl e; escapes = ap keeps_host e; there = there; no_password = a.no_password; common = h.common; path = h.path } in
+    let written = (written_secure v e h.path).canonical h.url.common.unflagged h.url.common.hosted in
+    let given : HasHostGiven v host = record { transport = inl e; escapes = ap keeps_host e; there = there; no_password = a.no_password; common = h.url.common; path = h.path } in
     let found = transport_text v host given (transport_plain v t has lacks written) in
     let whole = transport_whole v host ssh e found in
     let value : own_reading v ≡ secure_reading v.user (Some host) v.port v.path = λ i. record { protocol = e i; user = v.user; host = there i; port = v.port; path = v.path } in
@@ -310,12 +305,12 @@ pub git_url_alike : (v : Location) → v.scheme ≡ git → IsValue v → Agrees
 git_url_alike v e is a none h =
     let (host, there, kind) = h.host in
     let (t, has, lacks) = a.plain in
-    let written = (written_git v e).canonical h.common.unflagged (hosted_url v h.common) in
-    let given : HasHostGiven v host = record { transport = inr e; escapes = ap keeps_host e; there = there; no_password = a.no_password; common = h.common; path = h.path } in
+    let written = (written_git v e).canonical h.url.common.unflagged h.url.common.hosted in
+    let given : HasHostGiven v host = record { transport = inr e; escapes = ap keeps_host e; there = there; no_password = a.no_password; common = h.url.common; path = h.path } in
     let plain = transport_plain v t has lacks written in
     let found = transport_text v host given plain in
     let whole = transport_whole v host git e found in
     let value : own_reading v ≡ git_reading None (Some host) v.port v.path = λ i. record { protocol = e i; user = none i; host = there i; port = v.port; path = v.path } in
     let behind = free_pieces percent_sign v host there a.no_password plain.percent in
-    let lines = raw_lines v h.raw h.common.path_text (no_match v h.common.spelling behind.path) in
+    let lines = raw_lines v h.url.raw h.url.common.path.path_text (no_match v h.url.common.path.spelling behind.path) in
     read_alike v (codes "git" ++ (codes "://" ++ ((word_of v.user host ++ port_part v.port) ++ slash ∷ found.pathed.rest))) (git_reading None (Some host) v.port v.path) value (written ∙ ap Ok whole) a refl (git_url_reads v host is found kind none lines)

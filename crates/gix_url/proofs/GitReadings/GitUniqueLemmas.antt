@@ -4,7 +4,7 @@ use Rattle.std.proofs.lemmas.Bool.{both_ways, false≢true}
 use Rattle.std.proofs.lemmas.Option.{none-some}
 use Rattle.std.proofs.lemmas.Slice.Eq.{bytes_eq-Decides}
 use Rattle.gix_url.specs.Value.{Protocol}
-use Rattle.gix_url.specs.Value.Protocol.{file, git, ssh, http, https, ext, helper, helper_url}
+use Rattle.gix_url.specs.Value.Protocol.{file, git, ssh}
 use Rattle.gix_url.specs.Bytes.{slash, colon, at_sign, left_bracket, right_bracket, FreeOf, Holds, begins_with}
 use Rattle.gix_url.specs.Schemes.{protocol_of, requires_path}
 use Rattle.gix_url.specs.Authority.{unless_empty}
@@ -236,11 +236,7 @@ abbrev pub is_own : Protocol → Bool
 is_own file = true
 is_own git = true
 is_own ssh = true
-is_own http = false
-is_own https = false
-is_own ext = false
-is_own (helper name) = false
-is_own (helper_url name) = false
+is_own _ = false
 
 -- the scheme of a transport has no colon
 pub own_free : (p : Protocol) (s : List ℕ) → protocol_of s ≡ p → is_own p ≡ true → FreeOf colon s
@@ -251,11 +247,7 @@ own_free file s e own =
     protocol_cases (λ p. (is_own p && not (requires_path p)) ≡ true → FreeOf colon s) s (λ is h. absurd (false≢true h))
     (λ is h. subst (λ x. FreeOf colon x) (sym ((bytes_eq-Decides s (codes "file")).0 is)) refl)
     (λ h. absurd (false≢true h)) (λ is h. absurd (false≢true h)) (λ is h. absurd (false≢true h)) (λ h. absurd (false≢true h)) (λ h. absurd (false≢true h)) is_file
-own_free http s e own = absurd (false≢true own)
-own_free https s e own = absurd (false≢true own)
-own_free ext s e own = absurd (false≢true own)
-own_free (helper name) s e own = absurd (false≢true own)
-own_free (helper_url name) s e own = absurd (false≢true own)
+own_free _ s e own = absurd (false≢true own)
 
 -- a URL of a transport is one of no other, and one rest stands behind its scheme
 pub own_unique : (p q : Protocol) (t rest other : List ℕ) → is_own p ≡ true → is_own q ≡ true → OwnUrl p t rest → OwnUrl q t other → (p ≡ q) × (rest ≡ other)

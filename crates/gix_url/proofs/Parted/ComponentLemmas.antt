@@ -17,10 +17,9 @@ use Rattle.gix_url.specs.Escapes.{has_percent, is_path_escaped, matches}
 use Rattle.gix_url.specs.Value.{Location}
 use Rattle.gix_url.specs.Schemes.{requires_path}
 use Rattle.gix_url.specs.Grammar.{or_root, retained_spelling, Spells}
-use Rattle.gix_url.specs.Components.{Components, stands_for, IsFront, CutsPath, CutsFields, SplitsField, with_spaces, term_of, PairsOf, QueryOf, WebParts, PartsBy, PartsOf}
+use Rattle.gix_url.specs.Components.{Components, stands_for, CutsText, CutsPath, CutsFields, SplitsField, with_spaces, term_of, PairsOf, QueryOf, WebParts, PartsBy, PartsOf}
 use Rattle.gix_url.specs.Text.{plain_path, matching_or, canonical_path, canonical_text, text, original_path}
-use Rattle.gix_url.specs.Settled.{IsSettledUrl, IsWeb}
-use Rattle.gix_url.specs.SettledParts.{HasFairSpelling}
+use Rattle.gix_url.specs.Settled.{IsSettledUrl, IsWeb, HasFairSpelling}
 use Rattle.gix_url.proofs.Written.WrittenPieces.{as_read}
 use Rattle.gix_url.specs.Laws.{SameComponents}
 use Rattle.gix_url.proofs.Texts.CutLemmas.{cut_unique, free_or_cut, not_free}
@@ -105,20 +104,17 @@ bytes_around c (b ∷ x) y small =
     let rest = bytes_around c x y (All-tail (λ b. b < 256) b (x ++ c ∷ y) small) in
     (All-cons (λ b. b < 256) b x (All-head (λ b. b < 256) b (x ++ c ∷ y) small) rest.0, rest.1)
 
+-- so are the parts around a first one
+bytes_off : (c : ℕ) (t front : List ℕ) (behind : Option (List ℕ)) → IsBytes t → CutsText c t front behind → IsBytes front × IfSome behind IsBytes
+bytes_off c t front None small (free, e) = (subst IsBytes (sym e) small, tt)
+bytes_off c t front (Some x) small (free, e) = bytes_around c front x (subst IsBytes e small)
+
 -- the pieces of a path are made of bytes where it is
 bytes_cut : (t front : List ℕ) (query fragment : Option (List ℕ)) → IsBytes t → CutsPath t front query fragment → IsBytes front × IfSome query IsBytes × IfSome fragment IsBytes
-bytes_cut t front query fragment small (CutsPath.front_alone g e j k) =
-    (subst IsBytes e small, subst (λ o. IfSome o IsBytes) (sym j) tt, subst (λ o. IfSome o IsBytes) (sym k) tt)
-bytes_cut t front query fragment small (CutsPath.with_query q g free e j k) =
-    let parts = bytes_around question_mark front q (subst IsBytes e small) in
-    (parts.0, subst (λ o. IfSome o IsBytes) (sym j) parts.1, subst (λ o. IfSome o IsBytes) (sym k) tt)
-bytes_cut t front query fragment small (CutsPath.with_fragment f g e j k) =
-    let parts = bytes_around number_sign front f (subst IsBytes e small) in
-    (parts.0, subst (λ o. IfSome o IsBytes) (sym j) tt, subst (λ o. IfSome o IsBytes) (sym k) parts.1)
-bytes_cut t front query fragment small (CutsPath.with_both q f g free e j k) =
-    let parts = bytes_around question_mark front (q ++ number_sign ∷ f) (subst IsBytes e small) in
-    let rest = bytes_around number_sign q f parts.1 in
-    (parts.0, subst (λ o. IfSome o IsBytes) (sym j) rest.0, subst (λ o. IfSome o IsBytes) (sym k) rest.1)
+bytes_cut t front query fragment small (middle, first, second) =
+    let outer = bytes_off number_sign t middle fragment small first in
+    let inner = bytes_off question_mark middle front query outer.0 second in
+    (inner.0, inner.1, outer.1)
 
 -- the fields of a text are made of bytes where it is
 bytes_fields : (fields : List (List ℕ)) → IsBytes (join_with_byte ampersand fields) → All IsBytes fields
@@ -202,25 +198,25 @@ cut_back f c t front rest way mark free e =
           (x, y, lone, cut, both.0, both.1)
     ]
 
--- a front is written as a front
-front_written : (f : List ℕ → List ℕ) (x : List ℕ) → IsWay f → IsFront x → IsFront (f x)
-front_written f x way front = (way.free question_mark x question_mark_mark front.0, way.free number_sign x number_sign_mark front.1)
+-- the parts around a first mark are written as those of what is written
+off_written : (f : List ℕ → List ℕ) (c : ℕ) (t front : List ℕ) (behind : Option (List ℕ)) → IsWay f → IsMark c → CutsText c t front behind → CutsText c (f t) (f front) (option_map f behind)
+off_written f c t front None way mark (free, e) = (way.free c t mark free, ap f e)
+off_written f c t front (Some x) way mark (free, e) = (way.free c front mark free, ap f e ∙ way.around c front x mark)
 
--- and only a front is written as one
-front_freed : (f : List ℕ → List ℕ) (x : List ℕ) → IsWay f → IsFront (f x) → IsFront x
-front_freed f x way front = (way.freed question_mark x question_mark_mark front.0, way.freed number_sign x number_sign_mark front.1)
+-- those of what is written are written of parts of the text
+off_back : (f : List ℕ → List ℕ) (c : ℕ) (t front : List ℕ) (behind : Option (List ℕ)) → IsWay f → IsMark c → CutsText c (f t) front behind → (x : List ℕ) × (y : Option (List ℕ)) × (front ≡ f x) × (behind ≡ option_map f y) × CutsText c t x y
+off_back f c t front None way mark (free, e) = (t, None, e, refl, (way.freed c t mark free, refl))
+off_back f c t front (Some r) way mark (free, e) =
+    let (x, y, lone, cut, is_x, is_y) = cut_back f c t front r way mark free e in
+    (x, Some y, is_x, ap Some is_y, (lone, cut))
 
 -- the pieces of a path are written as those of what is written
 cuts_written : (f : List ℕ → List ℕ) (t front : List ℕ) (query fragment : Option (List ℕ)) → IsWay f → CutsPath t front query fragment → CutsPath (f t) (f front) (option_map f query) (option_map f fragment)
-cuts_written f t front query fragment way (CutsPath.front_alone g e j k) =
-    CutsPath.front_alone (front_written f front way g) (ap f e) (ap (option_map f) j) (ap (option_map f) k)
-cuts_written f t front query fragment way (CutsPath.with_query q g free e j k) =
-    CutsPath.with_query (f q) (front_written f front way g) (way.free number_sign q number_sign_mark free) (ap f e ∙ way.around question_mark front q question_mark_mark) (ap (option_map f) j) (ap (option_map f) k)
-cuts_written f t front query fragment way (CutsPath.with_fragment r g e j k) =
-    CutsPath.with_fragment (f r) (front_written f front way g) (ap f e ∙ way.around number_sign front r number_sign_mark) (ap (option_map f) j) (ap (option_map f) k)
-cuts_written f t front query fragment way (CutsPath.with_both q r g free e j k) =
-    let whole = ap f e ∙ way.around question_mark front (q ++ number_sign ∷ r) question_mark_mark ∙ ap (λ z. f front ++ question_mark ∷ z) (way.around number_sign q r number_sign_mark) in
-    CutsPath.with_both (f q) (f r) (front_written f front way g) (way.free number_sign q number_sign_mark free) whole (ap (option_map f) j) (ap (option_map f) k)
+cuts_written f t front query fragment way (middle, first, second) = (
+  f middle,
+  off_written f number_sign t middle fragment way number_sign_mark first,
+  off_written f question_mark middle front query way question_mark_mark second,
+)
 
 -- these pieces of what is written are written of pieces of the path
 record IsCutBack (f : List ℕ → List ℕ) (t front : List ℕ) (query fragment : Option (List ℕ)) : Type 0 where
@@ -234,46 +230,11 @@ record IsCutBack (f : List ℕ → List ℕ) (t front : List ℕ) (query fragmen
 
 -- the pieces of what is written are
 cuts_back : (f : List ℕ → List ℕ) (t front : List ℕ) (query fragment : Option (List ℕ)) → IsWay f → CutsPath (f t) front query fragment → IsCutBack f t front query fragment
-cuts_back f t front query fragment way (CutsPath.front_alone g e j k) = record {
-  first = t;
-  second = None;
-  third = None;
-  is_front = sym e;
-  is_query = j;
-  is_fragment = k;
-  cut = CutsPath.front_alone (front_freed f t way (subst IsFront (sym e) g)) refl refl refl;
-}
-cuts_back f t front query fragment way (CutsPath.with_query q g free e j k) =
-    let (x, y, lone, cut, is_x, is_y) = cut_back f question_mark t front q way question_mark_mark g.0 e in record {
-      first = x;
-      second = Some y;
-      third = None;
-      is_front = is_x;
-      is_query = j ∙ ap Some is_y;
-      is_fragment = k;
-      cut = CutsPath.with_query y (front_freed f x way (subst IsFront is_x g)) (way.freed number_sign y number_sign_mark (subst (λ z. FreeOf number_sign z) is_y free)) cut refl refl;
-    }
-cuts_back f t front query fragment way (CutsPath.with_fragment r g e j k) =
-    let (x, y, lone, cut, is_x, is_y) = cut_back f number_sign t front r way number_sign_mark g.1 e in record {
-      first = x;
-      second = None;
-      third = Some y;
-      is_front = is_x;
-      is_query = j;
-      is_fragment = k ∙ ap Some is_y;
-      cut = CutsPath.with_fragment y (front_freed f x way (subst IsFront is_x g)) cut refl refl;
-    }
-cuts_back f t front query fragment way (CutsPath.with_both q r g free e j k) =
-    let (x, y, lone, cut, is_x, is_y) = cut_back f question_mark t front (q ++ number_sign ∷ r) way question_mark_mark g.0 e in
-    let (m, n, single, joined, is_m, is_n) = cut_back f number_sign y q r way number_sign_mark free (sym is_y) in record {
-      first = x;
-      second = Some m;
-      third = Some n;
-      is_front = is_x;
-      is_query = j ∙ ap Some is_m;
-      is_fragment = k ∙ ap Some is_n;
-      cut = CutsPath.with_both m n (front_freed f x way (subst IsFront is_x g)) single (cut ∙ ap (λ z. x ++ question_mark ∷ z) joined) refl refl;
-    }
+cuts_back f t front query fragment way (middle, first, second) =
+    let (outer, third, is_middle, is_fragment, off) = off_back f number_sign t middle fragment way number_sign_mark first in
+    let inside = subst (λ z. CutsText question_mark z front query) is_middle second in
+    let (inner, asked, is_front, is_query, cut) = off_back f question_mark outer front query way question_mark_mark inside in
+    record { first = inner; second = asked; third = third; is_front = is_front; is_query = is_query; is_fragment = is_fragment; cut = (outer, off, cut) }
 
 -- ---- fields of what is written
 
@@ -487,10 +448,10 @@ retained_parts v false components text h = parts_rewritten (λ x. x) v (spelled_
 -- the components with the spelling that is read, by whether the given one matches
 parts_by : (v : Location) (b : Bool) (components : Components) → IsWeb v → IsSettledUrl v → matches v.spelling v.path ≡ b → WebParts (as_read v) components ↔ WebParts v components
 parts_by v true components web settled h =
-    subst (λ o. WebParts (spelled_as v o) components ↔ WebParts v components) (sym (spelled_again v web settled.spelling h)) (λ parts. parts, λ parts. parts)
+    subst (λ o. WebParts (spelled_as v o) components ↔ WebParts v components) (sym (spelled_again v web settled.path.spelling h)) (λ parts. parts, λ parts. parts)
 parts_by v false components web settled h =
     let read : retained_spelling (percent_encode PATH v.path) ≡ retained_spelling (canonical_path v) = ap retained_spelling (sym (web_path v web ∙ unmatched v.spelling v.path (percent_encode PATH v.path) h)) in
-    subst (λ o. WebParts (spelled_as v o) components ↔ WebParts v components) read (retained_parts v (has_percent (percent_encode PATH v.path)) components settled.path_text h)
+    subst (λ o. WebParts (spelled_as v o) components ↔ WebParts v components) read (retained_parts v (has_percent (percent_encode PATH v.path)) components settled.path.path_text h)
 
 -- ---- what is read of a settled location
 
@@ -501,7 +462,7 @@ web_parts v components (inr e) = (λ h. subst (λ p. PartsBy p v components) e h
 
 -- its text is the one of a URL
 web_text : (v : Location) (t : List ℕ) → IsWeb v → IsSettledUrl v → text v ≡ Ok t → t ≡ canonical_text v
-web_text v t web h has = one_text has ((written_web v web).canonical h.unflagged record { user_hosted = h.user_hosted; port_hosted = h.port_hosted })
+web_text v t web h has = one_text has ((written_web v web).canonical h.unflagged h.hosted)
 
 -- what is read of a settled location of HTTP has the same components
 pub same_components : SameComponents

@@ -12,10 +12,11 @@ use Rattle.gix_url.specs.declared.components.QueryText.{QueryText}
 use Rattle.gix_url.specs.declared.components.QueryText.TheVariants.{Borrowed, Owned}
 use Rattle.gix_url.specs.declared.components.cuts.Spelled.{Spelled}
 use Rattle.gix_url.specs.Bytes.{slash, number_sign, question_mark, Holds, ampersand, equals_sign}
+use Rattle.std.proofs.lemmas.Option.{IfSome_then}
 use Rattle.gix_url.specs.Value.{Location}
 use Rattle.gix_url.specs.Grammar.{or_root}
 use Rattle.gix_url.specs.Text.{matching_or, original_path}
-use Rattle.gix_url.specs.Components.{Components, term_of, CutsPath, SplitsField, PairsOf, QueryOf, WebParts}
+use Rattle.gix_url.specs.Components.{Components, term_of, CutsText, CutsPath, SplitsField, PairsOf, QueryOf, WebParts}
 use Rattle.gix_url.specs.Escapes.{matches}
 use Rattle.gix_url.specs.Meanings.{meant_by}
 use Rattle.gix_url.specs.ComponentViews.{text_bytes, pair_bytes, components, LentTerm, LentPairs, LentQuery}
@@ -77,6 +78,12 @@ question_parts = record { digit = refl; percent = refl }
 number_parts : Parts number_sign
 number_parts = record { digit = refl; percent = refl }
 
+-- what the parts of a text around its first c stand for stands in what the text stands for
+held_off : (escaped : Bool) (text front : List ℕ) (behind : Option (List ℕ)) (c : ℕ) → Parts c → CutsText c text front behind → Holds (meant_by escaped front) (meant_by escaped text) × IfSome behind (λ x. Holds (meant_by escaped x) (meant_by escaped text))
+held_off escaped text front None c parts (free, e) =
+    (subst (λ t. Holds (meant_by escaped front) (meant_by escaped t)) e (held_self (meant_by escaped front)), tt)
+held_off escaped text front (Some x) c parts (free, e) = held_around escaped text front x c parts e
+
 -- what the pieces of a path stand for stands in what the path stands for
 record HoldsPieces (escaped : Bool) (whole front : List ℕ) (query fragment : Option (List ℕ)) : Type 0 where
   front_held : Holds (meant_by escaped front) whole
@@ -85,31 +92,12 @@ record HoldsPieces (escaped : Bool) (whole front : List ℕ) (query fragment : O
 
 -- it does
 held_pieces : (escaped : Bool) (text front : List ℕ) (query fragment : Option (List ℕ)) → CutsPath text front query fragment → HoldsPieces escaped (meant_by escaped text) front query fragment
-held_pieces escaped text front query fragment (CutsPath.front_alone g e j k) = record {
-  front_held = subst (λ t. Holds (meant_by escaped front) (meant_by escaped t)) (sym e) (held_self (meant_by escaped front));
-  query_held = subst (λ o. IfSome o (λ q. Holds (meant_by escaped q) (meant_by escaped text))) (sym j) tt;
-  fragment_held = subst (λ o. IfSome o (λ f. Holds (meant_by escaped f) (meant_by escaped text))) (sym k) tt;
-}
-held_pieces escaped text front query fragment (CutsPath.with_query q g free e j k) =
-    let held = held_around escaped text front q question_mark question_parts e in record {
-      front_held = held.0;
-      query_held = subst (λ o. IfSome o (λ q. Holds (meant_by escaped q) (meant_by escaped text))) (sym j) held.1;
-      fragment_held = subst (λ o. IfSome o (λ f. Holds (meant_by escaped f) (meant_by escaped text))) (sym k) tt;
-    }
-held_pieces escaped text front query fragment (CutsPath.with_fragment f g e j k) =
-    let held = held_around escaped text front f number_sign number_parts e in record {
-      front_held = held.0;
-      query_held = subst (λ o. IfSome o (λ q. Holds (meant_by escaped q) (meant_by escaped text))) (sym j) tt;
-      fragment_held = subst (λ o. IfSome o (λ f. Holds (meant_by escaped f) (meant_by escaped text))) (sym k) held.1;
-    }
-held_pieces escaped text front query fragment (CutsPath.with_both q f g free e j k) =
-    let held = held_around escaped text front (q ++ number_sign ∷ f) question_mark question_parts e in
-    let rest = held_around escaped (q ++ number_sign ∷ f) q f number_sign number_parts refl in
-    let behind = meant_by escaped (q ++ number_sign ∷ f) in record {
-      front_held = held.0;
-      query_held = subst (λ o. IfSome o (λ q. Holds (meant_by escaped q) (meant_by escaped text))) (sym j) (held_within (meant_by escaped q) behind (meant_by escaped text) rest.0 held.1);
-      fragment_held = subst (λ o. IfSome o (λ f. Holds (meant_by escaped f) (meant_by escaped text))) (sym k) (held_within (meant_by escaped f) behind (meant_by escaped text) rest.1 held.1);
-    }
+held_pieces escaped text front query fragment (middle, first, second) =
+    let (middle_held, fragment_held) = held_off escaped text middle fragment number_sign number_parts first in
+    let (front_held, query_held) = held_off escaped middle front query question_mark question_parts second in
+    let held : (t : List ℕ) → Holds (meant_by escaped t) (meant_by escaped middle) → Holds (meant_by escaped t) (meant_by escaped text) =
+    λ t inside. held_within (meant_by escaped t) (meant_by escaped middle) (meant_by escaped text) inside middle_held in
+    record { front_held = held front front_held; query_held = IfSome_then query query_held held; fragment_held = fragment_held }
 
 -- what each of these texts stands for stands in the path
 abbrev AreHeld : Bool → List ℕ → List (List ℕ) → Type 0

@@ -7,11 +7,10 @@ use Rattle.std.proofs.lemmas.List.Splits.{slice_split_none, slice_split_at}
 use Rattle.gix_url.specs.declared.components.QueryText.{QueryText}
 use Rattle.gix_url.specs.declared.components.cuts.Spelled.{Spelled}
 use Rattle.gix_url.specs.Bytes.{number_sign, plus_sign, question_mark, FreeOf, space, ampersand}
-use Rattle.gix_url.specs.Components.{CutsPath, with_spaces}
+use Rattle.gix_url.specs.Components.{CutsText, CutsPath, with_spaces}
 use Rattle.gix_url.specs.Meanings.{meant_by}
 use Rattle.gix_url.specs.ComponentPieces.{CutsAround, CutsOff, LendsFields, AddsPair, HasQuery, LendsQuery, is_field, one_field, field_count}
 use Rattle.gix_url.proofs.Texts.CutLemmas.{free_head_tail}
-use Rattle.gix_url.proofs.Parted.PartsLemmas.{CutsText, path_from_cuts}
 use Rattle.gix_url.proofs.Parted.MeaningLemmas.{Parts, meant_around, meant_around_plus, meant_spaces}
 
 -- ---- pieces and what they stand for
@@ -166,7 +165,7 @@ pub cuts_twice : (whole front path : Spelled) (query fragment : Option Spelled) 
 cuts_twice whole front path query fragment h k =
     let first = cuts_piece number_sign whole front fragment h in
     let second = cuts_piece question_mark front path query k in record {
-      cut = path_from_cuts whole.text.now front.text.now path.text.now (option_map (λ p. p.text.now) query) (option_map (λ p. p.text.now) fragment) first.text second.text;
+      cut = (front.text.now, first.text, second.text);
       front_escaped = second.front_escaped ∙ first.front_escaped;
       query_escaped = escaped_on query front.escaped whole.escaped first.front_escaped second.behind_escaped;
       fragment_escaped = first.behind_escaped;

@@ -1,25 +1,20 @@
 -- Every location has components, and no two: a text determines its pieces, and each text has some.
-use Rattle.std.proofs.Common.{◌≡◌, ◌∙◌, ℕ, ◌==◌, inl, inr, List, [], ◌∷◌, ◌++◌, Option, Some, None, option_map, All, refl, sym, ap, subst, append_assoc}
+use Rattle.std.proofs.Common.{◌≡◌, ◌∙◌, ℕ, ◌==◌, inl, inr, List, [], ◌∷◌, Option, Some, None, option_map, All, refl, sym, ap, subst}
 use Rattle.std.specs.List.{join_with_byte}
 use Rattle.std.proofs.lemmas.List.Elements.{All-nil, All-cons, All-head, All-tail}
 use Rattle.std.proofs.lemmas.Bool.{cases_Bool, eqb-true}
 use Rattle.gix_url.specs.Bytes.{number_sign, question_mark, FreeOf, ampersand, equals_sign}
 use Rattle.gix_url.specs.Value.{Protocol, Location}
-use Rattle.gix_url.specs.Value.Protocol.{file, git, ssh, http, https, ext, helper, helper_url}
+use Rattle.gix_url.specs.Value.Protocol.{http, https}
 use Rattle.gix_url.specs.Grammar.{or_root}
-use Rattle.gix_url.specs.Components.{Components, stands_for, term_of, CutsPath, CutsFields, SplitsField, PairsOf, QueryOf, WebParts, PartsBy, whole_path}
+use Rattle.gix_url.specs.Components.{Components, stands_for, term_of, CutsText, CutsPath, CutsFields, SplitsField, PairsOf, QueryOf, WebParts, PartsBy, whole_path}
 use Rattle.gix_url.specs.Text.{original_path}
 use Rattle.gix_url.specs.ComponentLaws.{OneComponents}
-use Rattle.gix_url.proofs.Texts.CutLemmas.{cut_unique, free_or_cut, not_free, free_parts, free_head_tail, free-cons, free-append}
+use Rattle.gix_url.proofs.Texts.CutLemmas.{cut_unique, free_or_cut, not_free, free-cons}
 
 -- ---- the path, the query and the fragment
 
--- the part of a text before the first c, and the part behind it where there is one
-abbrev pub CutsText : ℕ → List ℕ → List ℕ → Option (List ℕ) → Type 0
-CutsText c text front None = FreeOf c text × (front ≡ text)
-CutsText c text front (Some behind) = FreeOf c front × (text ≡ front ++ c ∷ behind)
-
--- these parts are determined
+-- the parts of a text around its first c are determined
 off_unique : (c : ℕ) (text f g : List ℕ) (p q : Option (List ℕ)) → CutsText c text f p → CutsText c text g q → (f ≡ g) × (p ≡ q)
 off_unique c text f g None None h k = (h.1 ∙ sym k.1, refl)
 off_unique c text f g None (Some y) h k = absurd (not_free c g y (subst (FreeOf c) k.1 h.0))
@@ -32,50 +27,9 @@ off_unique c text f g (Some x) (Some y) h k =
 off_some : (c : ℕ) (text : List ℕ) → (front : List ℕ) × (behind : Option (List ℕ)) × CutsText c text front behind
 off_some c text = elim (free_or_cut c text) [ inl none ↦ (text, None, (none, refl)) | inr (x, y, free, cut) ↦ (x, Some y, (free, cut)) ]
 
--- a path is cut at its first `#`, and what stands before that at its first `?`
-pub path_from_cuts : (text middle front : List ℕ) (query fragment : Option (List ℕ)) → CutsText number_sign text middle fragment → CutsText question_mark middle front query → CutsPath text front query fragment
-path_from_cuts text middle front None None (free, same) (none, is) =
-    CutsPath.front_alone (subst (FreeOf question_mark) (sym is) none, subst (FreeOf number_sign) (sym (is ∙ same)) free) (sym (is ∙ same)) refl refl
-path_from_cuts text middle front None (Some f) (free, cut) (none, is) =
-    CutsPath.with_fragment f (subst (FreeOf question_mark) (sym is) none, subst (FreeOf number_sign) (sym is) free) (cut ∙ ap (λ t. t ++ number_sign ∷ f) (sym is)) refl refl
-path_from_cuts text middle front (Some q) None (free, same) (free_2, cut) =
-    let parts = free_parts number_sign front (question_mark ∷ q) (subst (FreeOf number_sign) (sym same ∙ cut) free) in
-    CutsPath.with_query q (free_2, parts.0) (free_head_tail number_sign question_mark q parts.1).1 (sym same ∙ cut) refl refl
-path_from_cuts text middle front (Some q) (Some f) (free, off) (free_2, cut) =
-    let parts = free_parts number_sign front (question_mark ∷ q) (subst (FreeOf number_sign) cut free) in
-    CutsPath.with_both q f (free_2, parts.0) (free_head_tail number_sign question_mark q parts.1).1 (off ∙ ap (λ t. t ++ number_sign ∷ f) cut ∙ append_assoc front (question_mark ∷ q) (number_sign ∷ f)) refl refl
-
--- so it is in no other way
-cuts_from_path : (text front : List ℕ) (query fragment : Option (List ℕ)) → CutsPath text front query fragment → (middle : List ℕ) × CutsText number_sign text middle fragment × CutsText question_mark middle front query
-cuts_from_path text front query fragment (CutsPath.front_alone g e j k) = (
-  front,
-  subst (CutsText number_sign text front) (sym k) (subst (FreeOf number_sign) (sym e) g.1, sym e),
-  subst (CutsText question_mark front front) (sym j) (g.0, refl),
-)
-cuts_from_path text front query fragment (CutsPath.with_query q g free e j k) =
-    let none = free-append number_sign front (question_mark ∷ q) g.1 (free-cons number_sign question_mark q refl free) in (
-      text,
-      subst (CutsText number_sign text text) (sym k) (subst (FreeOf number_sign) (sym e) none, refl),
-      subst (CutsText question_mark text front) (sym j) (g.0, e),
-    )
-cuts_from_path text front query fragment (CutsPath.with_fragment f g e j k) = (
-  front,
-  subst (CutsText number_sign text front) (sym k) (g.1, e),
-  subst (CutsText question_mark front front) (sym j) (g.0, refl),
-)
-cuts_from_path text front query fragment (CutsPath.with_both q f g free e j k) =
-    let middle = front ++ question_mark ∷ q in
-    let none = free-append number_sign front (question_mark ∷ q) g.1 (free-cons number_sign question_mark q refl free) in (
-      middle,
-      subst (CutsText number_sign text middle) (sym k) (none, e ∙ sym (append_assoc front (question_mark ∷ q) (number_sign ∷ f))),
-      subst (CutsText question_mark middle front) (sym j) (g.0, refl),
-    )
-
 -- the path, the query and the fragment of a text are determined
 pub path_unique : (text f g : List ℕ) (p q r s : Option (List ℕ)) → CutsPath text f p r → CutsPath text g q s → (f ≡ g) × (p ≡ q) × (r ≡ s)
-path_unique text f g p q r s h k =
-    let (a, first, second) = cuts_from_path text f p r h in
-    let (b, third, fourth) = cuts_from_path text g q s k in
+path_unique text f g p q r s (a, first, second) (b, third, fourth) =
     let (middle, fragment) = off_unique number_sign text a b r s first third in
     let (front, query) = off_unique question_mark b f g p q (subst (λ m. CutsText question_mark m f p) middle second) fourth in
     (front, query, fragment)
@@ -211,7 +165,7 @@ web_some v =
         front = front;
         query = query;
         fragment = fragment;
-        cut = path_from_cuts (original_path v) middle front query fragment first second;
+        cut = (middle, first, second);
         path_meant = refl;
         query_meant = of;
         fragment_meant = refl;
@@ -222,22 +176,12 @@ web_some v =
 by_unique : (p : Protocol) (v : Location) (x y : Components) → PartsBy p v x → PartsBy p v y → x ≡ y
 by_unique http v x y h k = web_unique v x y h k
 by_unique https v x y h k = web_unique v x y h k
-by_unique file v x y h k = h ∙ sym k
-by_unique git v x y h k = h ∙ sym k
-by_unique ssh v x y h k = h ∙ sym k
-by_unique ext v x y h k = h ∙ sym k
-by_unique (helper name) v x y h k = h ∙ sym k
-by_unique (helper_url name) v x y h k = h ∙ sym k
+by_unique _ v x y h k = h ∙ sym k
 
 by_some : (p : Protocol) (v : Location) → (components : Components) × PartsBy p v components
 by_some http v = web_some v
 by_some https v = web_some v
-by_some file v = (whole_path v.path, refl)
-by_some git v = (whole_path v.path, refl)
-by_some ssh v = (whole_path v.path, refl)
-by_some ext v = (whole_path v.path, refl)
-by_some (helper name) v = (whole_path v.path, refl)
-by_some (helper_url name) v = (whole_path v.path, refl)
+by_some _ v = (whole_path v.path, refl)
 
 -- every location has components, and no two
 pub one_components : OneComponents

@@ -11,13 +11,13 @@ use Rattle.gix_url.specs.Value.{Location, path_alone}
 use Rattle.gix_url.specs.Value.Protocol.{file}
 use Rattle.gix_url.specs.Bytes.{slash, colon, at_sign, left_bracket, right_bracket, FreeOf, Holds, begins_with, is_helper_name, is_name_byte}
 use Rattle.gix_url.specs.Addresses.{IsIpv6Text}
-use Rattle.gix_url.specs.Grammar.{HelperCut, HasHelperForm, IsNeither, ScpFront, AddressedShape, IsScpShaped, SpellsHelper, SpellsUrl, SpellsFile, SpellsScp, SpellsLocal, Spells, AddressedCut}
+use Rattle.gix_url.specs.Grammar.{HelperCut, HasHelperForm, IsNeither, ScpFront, AddressedShape, IsScpShaped, SpellsHelper, SpellsUrl, SpellsFile, SpellsScp, SpellsLocal, Spells, AddressedCut, LocalShape}
 use Rattle.gix_url.specs.Grammar.Spells.{url, file_url, remote_helper, scp_form, local_path}
 use Rattle.gix_url.specs.Grammar.ScpFront.{plain, bracketed}
 use Rattle.gix_url.specs.Authority.{unless_empty, Fits}
 use Rattle.gix_url.specs.Flaws.{UrlShape, OtherShape, MissesPath}
 use Rattle.gix_url.specs.Flaws.MissesPath.{in_file}
-use Rattle.gix_url.specs.Shapes.{ColonCut, FrontCut, HasFrontCut, ScpCut, HasScpCut, AddressedFront, HasAddressedCut, LacksBrackets, PlainScp, LocalShape}
+use Rattle.gix_url.specs.Shapes.{ColonCut, FrontCut, HasFrontCut, ScpCut, HasScpCut, AddressedFront, HasAddressedCut, LacksBrackets, PlainScp}
 use Rattle.gix_url.proofs.Texts.CutLemmas.{heads, tails, different_bytes, begins_cut, free_or_cut, not_free, free-cons, free_parts, cut_unique, last_cut_unique, mark_cut_unique, held_free, helper_name_bytes, helper_name_free, scheme_text_free}
 use Rattle.gix_url.proofs.Addresses.AddressLemmas.{address_free}
 use Rattle.gix_url.proofs.Texts.EscapeLemmas.{utf8_behind, utf8_class, utf8_parts}

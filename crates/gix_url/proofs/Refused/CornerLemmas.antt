@@ -18,7 +18,7 @@ file_host_apart host open_front marked escaped h =
 
 -- nor is its location
 file_apart : (v : Location) (host : List ℕ) → v.host ≡ Some host → ¬ IsFileHost host → IsSettledLocal v ⊎ IsSettledFile v → ⊥
-file_apart v host there corner (inl h) = none-some host (sym h.no_host ∙ there)
+file_apart v host there corner (inl h) = none-some host (sym h.bare.2 ∙ there)
 file_apart v host there corner (inr h) = corner (subst (λ o. IfSome o IsFileHost) there h.host)
 
 -- a host in the corner of HTTP isn't settled

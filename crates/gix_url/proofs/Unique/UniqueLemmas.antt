@@ -4,7 +4,7 @@ use Rattle.std.proofs.lemmas.Bool.{eqb-false}
 use Rattle.std.proofs.lemmas.Option.{same_Some}
 use Rattle.percent_encoding.specs.Percent.{percent_decode}
 use Rattle.gix_url.specs.Value.{Protocol, Location, path_alone}
-use Rattle.gix_url.specs.Value.Protocol.{file, git, ssh, http, https, ext, helper, helper_url}
+use Rattle.gix_url.specs.Value.Protocol.{file, ssh}
 use Rattle.gix_url.specs.Bytes.{percent_sign, slash, colon, at_sign, left_bracket, right_bracket, Lacks, FreeOf, lowercase, is_path_start, StartsPath}
 use Rattle.gix_url.specs.Escapes.{escaped_percents}
 use Rattle.gix_url.specs.Addresses.{IsIpv6Text, Literal}
@@ -104,13 +104,7 @@ peels_unique host x y (Peels.same no_brackets no_colon no_end e) (Peels.same a b
 pub host_for_unique : (protocol : Protocol) (named host other : Option (List ℕ)) → HostFor protocol named host → HostFor protocol named other → host ≡ other
 host_for_unique ssh None host other h k = h ∙ sym k
 host_for_unique ssh (Some named) host other (x, p, e) (y, q, f) = e ∙ ap (λ z. Some z) (peels_unique named x y p q) ∙ sym f
-host_for_unique file named host other h k = h ∙ sym k
-host_for_unique git named host other h k = h ∙ sym k
-host_for_unique http named host other h k = h ∙ sym k
-host_for_unique https named host other h k = h ∙ sym k
-host_for_unique ext named host other h k = h ∙ sym k
-host_for_unique (helper name) named host other h k = h ∙ sym k
-host_for_unique (helper_url name) named host other h k = h ∙ sym k
+host_for_unique _ named host other h k = h ∙ sym k
 
 -- what the parts of a URL mean with this host
 abbrev pub meant_with : Protocol → UrlParts → Option (List ℕ) → Location

@@ -1,10 +1,9 @@
 -- The answer to a line is one line: what is told of a line without byte 10 holds none.
 use Rattle.std.proofs.Common.{◌≡◌, ℕ, ◌<◌, ◌==◌, Bool, false, not, ◌⊎◌, inl, inr, ⊎_elim, List, [], ◌∷◌, ◌++◌, append_assoc, append-nil, All, Option, Some, None, IfSome, IsUtf8, Ok, codes, refl, sym, ap, subst, ◌∙◌, arith}
-use Rattle.std.specs.Prelude.{◌&&◌, bytes_eq}
+use Rattle.std.specs.Prelude.{◌&&◌}
 use Rattle.std.proofs.lemmas.Bool.{and_left, both_ways, cases_Bool, cond-true, cond-false, false≢true}
 use Rattle.std.proofs.lemmas.List.Elements.{All-append, All-cons, All-head, All-nil, All-tail}
-use Rattle.std.proofs.lemmas.Option.{none-some, same_Some}
-use Rattle.std.proofs.lemmas.Slice.Eq.{bytes_eq-Decides}
+use Rattle.std.proofs.lemmas.Option.{same_Some}
 use Rattle.percent_encoding.specs.Percent.{percent_decode, percent_encode}
 use Rattle.gix_url.specs.declared.escape.TheConstants.{PATH, PASSWORD, USER}
 use Rattle.gix_url.specs.declared.error.UrlFault.{UrlFault}
@@ -36,7 +35,7 @@ use Rattle.gix_url.proofs.Addresses.AddressLemmas.{address_free, address-lowerca
 use Rattle.gix_url.proofs.Readings.SchemeLemmas.{protocol_cases, helper_cases, means_scheme}
 use Rattle.gix_url.proofs.Written.KeptLemmas.{helper_unchanged, local_unchanged}
 use Rattle.gix_url.proofs.Written.PieceTextLemmas.{port_piece}
-use Rattle.gix_url.proofs.Written.WrittenPathLemmas.{matched}
+use Rattle.gix_url.proofs.Written.WrittenPathLemmas.{matching_cases}
 use Rattle.gix_url.proofs.Readings.ScpLemmas.{scp_meant_utf8}
 use Rattle.gix_url.proofs.Written.WrittenScpLemmas.{scp_written}
 use Rattle.gix_url.proofs.Written.WrittenAsUrlLemmas.{one_text, written_web, written_git, written_secure, written_other}
@@ -149,35 +148,23 @@ root_line v = ⊎_elim
     (λ other. subst (λ t. FreeOf newline t) (sym (cond-false _ _ _ other)) refl)
     (cases_Bool (requires_path v.scheme && not (begins_with slash v.path)))
 
--- nor does a spelling that stands for the path, or what stands in for it, where neither does
-spelling_line : (spelling : Option (List ℕ)) (path plain : List ℕ) → ((s : List ℕ) → spelling ≡ Some s → percent_decode s ≡ path → FreeOf newline s) → (¬ ((s : List ℕ) × (spelling ≡ Some s) × (percent_decode s ≡ path)) → FreeOf newline plain) → FreeOf newline (matching_or spelling path plain)
-spelling_line None path plain spelled other = other (λ (s, is, same). none-some s is)
-spelling_line (Some s) path plain spelled other = ⊎_elim
-    (λ yes.
-    let same : percent_decode s ≡ path = (bytes_eq-Decides (percent_decode s) path).0 yes in
-    subst (λ t. FreeOf newline t) (sym (matched s path plain same)) (spelled s refl same))
-    (λ no.
-    let apart : ¬ ((x : List ℕ) × (Some s ≡ Some x) × (percent_decode x ≡ path)) = λ (x, is, same). both_ways _ no ((bytes_eq-Decides (percent_decode s) path).1 (ap percent_decode (same_Some s x is) ∙ same)) in
-    subst (λ t. FreeOf newline t) (sym (cond-false _ _ _ no)) (other apart))
-    (cases_Bool (bytes_eq (percent_decode s) path))
-
 -- so the path of a settled URL is written without one
 path_line : (v : Location) → IsSettledUrl v → (¬ HasMatch v → FreeOf newline (plain_path v.scheme v.path)) → FreeOf newline (canonical_path v)
 path_line v h plain =
-    let fair : (s : List ℕ) → v.spelling ≡ Some s → percent_decode s ≡ v.path → FreeOf newline s = λ s is same. no_line s (h.spelling s is same).text (h.spelling s is same).no_white_space in
-    free-append newline (root_part v) (matching_or v.spelling v.path (plain_path v.scheme v.path)) (root_line v) (spelling_line v.spelling v.path (plain_path v.scheme v.path) fair plain)
+    let fair : (s : List ℕ) → v.spelling ≡ Some s → percent_decode s ≡ v.path → FreeOf newline s = λ s is same. no_line s (h.path.spelling s is same).text (h.path.spelling s is same).no_white_space in
+    free-append newline (root_part v) (matching_or v.spelling v.path (plain_path v.scheme v.path)) (root_line v) (matching_cases (FreeOf newline) v.spelling v.path (plain_path v.scheme v.path) fair plain)
 
 -- a path that is written raw
 raw_line : (v : Location) (p : Protocol) → v.scheme ≡ p → plain_path p v.path ≡ v.path → IsSettledUrl v → IsRawPath v → ¬ HasMatch v → FreeOf newline (plain_path v.scheme v.path)
 raw_line v p e same h raw none =
-    subst (λ t. FreeOf newline t) (sym (ap (λ q. plain_path q v.path) e ∙ same)) (no_line v.path h.path_text (raw none).1)
+    subst (λ t. FreeOf newline t) (sym (ap (λ q. plain_path q v.path) e ∙ same)) (no_line v.path h.path.path_text (raw none).1)
 
 -- ---- settled URLs
 
 -- a settled URL is written without a line's end
 url_line : (v : Location) (t : List ℕ) → IsWrittenAsUrl v → IsSettledUrl v → IsPort v.port → FreeOf newline (protocol_text v.scheme) → FreeOf newline (host_part v v.host) → (¬ HasMatch v → FreeOf newline (plain_path v.scheme v.path)) → text v ≡ Ok t → FreeOf newline t
 url_line v t written h small scheme host plain is =
-    let canonical = written.canonical h.unflagged (record { user_hosted = h.user_hosted; port_hosted = h.port_hosted }) in
+    let canonical = written.canonical h.unflagged h.hosted in
     let behind_host = port_part v.port ++ canonical_path v in
     let behind_user = host_part v v.host ++ behind_host in
     let behind_mark = user_information v.user v.password ++ behind_user in
@@ -201,20 +188,20 @@ secure_settled : (v : Location) (t : List ℕ) → v.scheme ≡ ssh → IsPort v
 secure_settled v t e small h is =
     let (host, there, kind) = h.host in
     let part = subst (λ o. FreeOf newline (host_part v o)) (sym there) (bare_line v host (ap keeps_host e) kind) in
-    url_line v t (written_secure v e h.path) h.common small (subst (λ q. FreeOf newline (protocol_text q)) (sym e) refl) part (raw_line v ssh e refl h.common h.raw) is
+    url_line v t (written_secure v e h.path) h.url.common small (subst (λ q. FreeOf newline (protocol_text q)) (sym e) refl) part (raw_line v ssh e refl h.url.common h.url.raw) is
 
 -- one of Git's own protocol
 git_settled : (v : Location) (t : List ℕ) → v.scheme ≡ git → IsPort v.port → IsSettledGit v → text v ≡ Ok t → FreeOf newline t
 git_settled v t e small h is =
     let (host, there, kind) = h.host in
     let part = subst (λ o. FreeOf newline (host_part v o)) (sym there) (part_line v (Some host) (ap keeps_host e) kind) in
-    url_line v t (written_git v e) h.common small (subst (λ q. FreeOf newline (protocol_text q)) (sym e) refl) part (raw_line v git e refl h.common h.raw) is
+    url_line v t (written_git v e) h.url.common small (subst (λ q. FreeOf newline (protocol_text q)) (sym e) refl) part (raw_line v git e refl h.url.common h.url.raw) is
 
 -- one of another scheme
 other_settled : (v : Location) (t name : List ℕ) → v.scheme ≡ helper_url name → IsPort v.port → IsSettledHelperUrl name v → text v ≡ Ok t → FreeOf newline t
 other_settled v t name e small h is =
     let scheme = subst (λ q. FreeOf newline (protocol_text q)) (sym e) (scheme_text_free name newline h.scheme_text refl) in
-    url_line v t (written_other v name e h.scheme_text) h.common small scheme (part_line v v.host (ap keeps_host e) h.host) (raw_line v (helper_url name) e refl h.common h.raw) is
+    url_line v t (written_other v name e h.scheme_text) h.url.common small scheme (part_line v v.host (ap keeps_host e) h.host) (raw_line v (helper_url name) e refl h.url.common h.url.raw) is
 
 -- what a URL means that is settled is written without a line's end, by its protocol
 abbrev IsWrittenLine : List ℕ → UrlParts → Location → List ℕ → Protocol → Type 0
@@ -289,7 +276,7 @@ settled_host_line : (user : Option (List ℕ)) (host path : List ℕ) → IsUtf8
 settled_host_line user host path is (inl h) =
     let (x, e, kind, other) = h.host in
     scp_host_line host is (subst (λ y. IsScpName y ⊎ IsNormalAddress y) (sym (same_Some host x e)) kind)
-settled_host_line user host path is (inr h) = absurd (false≢true (sym h.common.unflagged))
+settled_host_line user host path is (inr h) = absurd (false≢true (sym h.url.common.unflagged))
 
 -- the scp form, but for `user@[address]:path`
 scp_before_line : (b : List ℕ) (v : Location) (t : List ℕ) → FreeOf newline b → SpellsScpBefore b v → IsSettled v → text v ≡ Ok t → FreeOf newline t

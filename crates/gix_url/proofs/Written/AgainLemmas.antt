@@ -10,7 +10,6 @@ use Rattle.gix_url.proofs.Unique.UniqueLemmas.{spells_unique}
 use Rattle.gix_url.specs.Value.Protocol.{file, git, ssh, http, https, ext, helper, helper_url}
 use Rattle.gix_url.specs.Hosts.Mode.{strict, bare, loose}
 use Rattle.gix_url.specs.Settled.{is_ftp, IsValue, IsSettledUrl, IsSettledWeb, IsSettledSecure, IsSettledGit, IsSettledHelperUrl, IsSettledBy, IsSettled, IsBracketedHost, IsWeb}
-use Rattle.gix_url.specs.SettledParts.{HasUrlPath}
 use Rattle.gix_url.specs.Laws.{ComesBack, TextDecides}
 use Rattle.gix_url.proofs.Written.WrittenPieces.{as_read, WritesPath, IsAuthorityPiece}
 use Rattle.gix_url.proofs.Written.WrittenUrlLemmas.{IsUrlProtocol, IsReadable, authority_with_host, authority_without_host, readable_spelled, url_readable, url_again, authority_text}
@@ -23,10 +22,6 @@ use Rattle.gix_url.proofs.Written.KeptLemmas.{local_again, ext_again, helper_aga
 use Rattle.gix_url.specs.Text.{keeps_host, canonical_text}
 use Rattle.gix_url.specs.Authority.{Authority}
 use Rattle.gix_url.proofs.Written.WrittenAsUrlLemmas.{one_text, written_web, written_git, written_secure, written_other}
-
--- the path of a settled URL
-path_of : (v : Location) → IsSettledUrl v → HasUrlPath v
-path_of v h = record { path_text = h.path_text; spelling = h.spelling }
 
 -- ---- HTTP
 
@@ -41,11 +36,11 @@ pub web_readable : (v : Location) → IsWeb v → IsValue v → IsSettledWeb v �
 web_readable v (inl e) is h =
     let (host, there, web) = h.host in
     let writes = web_host_written v host (inl e) web h.port is.port in
-    (host, url_readable v http (Some host) e http_protocol h.common (authority_with_host strict v host host h.common is there writes) (λ need. refl) there (web_path_written v (inl e) h.path (path_of v h.common)) (written_web v (inl e)))
+    (host, url_readable v http (Some host) e http_protocol h.common (authority_with_host strict v host host h.common is there writes) (λ need. refl) there (web_path_written v (inl e) h.path h.common.path) (written_web v (inl e)))
 web_readable v (inr e) is h =
     let (host, there, web) = h.host in
     let writes = web_host_written v host (inr e) web h.port is.port in
-    (host, url_readable v https (Some host) e https_protocol h.common (authority_with_host strict v host host h.common is there writes) (λ need. refl) there (web_path_written v (inr e) h.path (path_of v h.common)) (written_web v (inr e)))
+    (host, url_readable v https (Some host) e https_protocol h.common (authority_with_host strict v host host h.common is there writes) (λ need. refl) there (web_path_written v (inr e) h.path h.common.path) (written_web v (inr e)))
 
 -- its text is read as the location with the spelling that was written
 pub web_spelled : (v : Location) → IsWeb v → IsValue v → IsSettledWeb v → Spells (canonical_text v) (as_read v)
@@ -76,15 +71,15 @@ pub secure_readable : (v : Location) → v.scheme ≡ ssh → IsValue v → IsSe
 secure_readable v e is h =
     let (host, there, unbracketed) = h.host in
     let (named, writes, peels) = bare_host_written v host e unbracketed (subst (λ o. IfSome o IsUtf8) there is.host) is.port in
-    let (path, homed, raw) = transport_path_written v (inl e) h.path (path_of v h.common) h.raw in
-    (named, url_readable v ssh (Some named) e ssh_protocol h.common (authority_with_host bare v host named h.common is there writes) (λ need. refl) (host, peels, there) path (written_secure v e h.path))
+    let (path, homed, raw) = transport_path_written v (inl e) h.path h.url.common.path h.url.raw in
+    (named, url_readable v ssh (Some named) e ssh_protocol h.url.common (authority_with_host bare v host named h.url.common is there writes) (λ need. refl) (host, peels, there) path (written_secure v e h.path))
 
 -- a settled URL of Secure Shell comes back
 secure_again : (v : Location) → v.scheme ≡ ssh → IsValue v → IsSettledSecure v → (back : ComesBack v) × IsSettled back.reread
 secure_again v e is h =
     let (named, readable) = secure_readable v e is h in
-    let (path, homed, raw) = transport_path_written v (inl e) h.path (path_of v h.common) h.raw in
-    url_again v ssh (Some named) e h.common readable (written_secure v e h.path) (written_secure (as_read v) e homed) (λ c. inr record { common = c; host = h.host; path = homed; raw = raw })
+    let (path, homed, raw) = transport_path_written v (inl e) h.path h.url.common.path h.url.raw in
+    url_again v ssh (Some named) e h.url.common readable (written_secure v e h.path) (written_secure (as_read v) e homed) (λ c. inr record { url = record { common = c; raw = raw }; host = h.host; path = homed })
 
 -- ---- Git's own protocol
 
@@ -96,15 +91,15 @@ pub git_readable : (v : Location) → v.scheme ≡ git → IsValue v → IsSettl
 git_readable v e is h =
     let (host, there, bracketed) = h.host in
     let writes = bracketed_host_written bare v host (λ e. cc) (ap keeps_host e) bracketed (subst (λ o. IfSome o IsUtf8) there is.host) is.port in
-    let (path, homed, raw) = transport_path_written v (inr e) h.path (path_of v h.common) h.raw in
-    (host, url_readable v git (Some host) e git_protocol h.common (authority_with_host bare v host host h.common is there writes) (λ need. refl) there path (written_git v e))
+    let (path, homed, raw) = transport_path_written v (inr e) h.path h.url.common.path h.url.raw in
+    (host, url_readable v git (Some host) e git_protocol h.url.common (authority_with_host bare v host host h.url.common is there writes) (λ need. refl) there path (written_git v e))
 
 -- a settled URL of Git's own protocol comes back
 git_again : (v : Location) → v.scheme ≡ git → IsValue v → IsSettledGit v → (back : ComesBack v) × IsSettled back.reread
 git_again v e is h =
     let (host, readable) = git_readable v e is h in
-    let (path, homed, raw) = transport_path_written v (inr e) h.path (path_of v h.common) h.raw in
-    url_again v git (Some host) e h.common readable (written_git v e) (written_git (as_read v) e) (λ c. record { common = c; host = h.host; path = homed; raw = raw })
+    let (path, homed, raw) = transport_path_written v (inr e) h.path h.url.common.path h.url.raw in
+    url_again v git (Some host) e h.url.common readable (written_git v e) (written_git (as_read v) e) (λ c. record { url = record { common = c; raw = raw }; host = h.host; path = homed })
 
 -- ---- other schemes
 
@@ -152,24 +147,24 @@ helper_url_protocol name spelled h = record {
 pub other_readable : (name : List ℕ) (v : Location) (host : Option (List ℕ)) → v.scheme ≡ helper_url name → v.host ≡ host → IsValue v → IsSettledHelperUrl name v → IsReadable v host
 other_readable name v None e there is h =
     let other = other_scheme name h.unknown in
-    let (path, raw) = other_path_written v name e h.path (path_of v h.common) h.raw in
-    let authority = authority_without_host (mode_of name) v h.common there in
+    let (path, raw) = other_path_written v name e h.path h.url.common.path h.url.raw in
+    let authority = authority_without_host (mode_of name) v h.url.common there in
     let required : requires_host name ≡ true → IsSome {T = List ℕ} None = λ need. subst IsSome there (h.hosted (sym (other_hosted name other) ∙ need)) in
-    url_readable v (helper_url name) None e (helper_url_protocol name h.scheme_text other) h.common authority required there (subst (λ web. WritesPath web v) (sym other.not_web) path) (written_other v name e h.scheme_text)
+    url_readable v (helper_url name) None e (helper_url_protocol name h.scheme_text other) h.url.common authority required there (subst (λ web. WritesPath web v) (sym other.not_web) path) (written_other v name e h.scheme_text)
 other_readable name v (Some host) e there is h =
     let other = other_scheme name h.unknown in
     let bracketed = subst (λ o. IfSome o IsBracketedHost) there h.host in
     let writes = bracketed_host_written loose v host (λ e. cc) (ap keeps_host e) bracketed (subst (λ o. IfSome o IsUtf8) there is.host) is.port in
-    let (path, raw) = other_path_written v name e h.path (path_of v h.common) h.raw in
-    let authority = subst (λ mode. Authority mode (authority_text v) v.user v.password (Some host) v.port × IsAuthorityPiece (authority_text v)) (sym (other_mode name other)) (authority_with_host loose v host host h.common is there writes) in
-    url_readable v (helper_url name) (Some host) e (helper_url_protocol name h.scheme_text other) h.common authority (λ need. refl) there (subst (λ web. WritesPath web v) (sym other.not_web) path) (written_other v name e h.scheme_text)
+    let (path, raw) = other_path_written v name e h.path h.url.common.path h.url.raw in
+    let authority = subst (λ mode. Authority mode (authority_text v) v.user v.password (Some host) v.port × IsAuthorityPiece (authority_text v)) (sym (other_mode name other)) (authority_with_host loose v host host h.url.common is there writes) in
+    url_readable v (helper_url name) (Some host) e (helper_url_protocol name h.scheme_text other) h.url.common authority (λ need. refl) there (subst (λ web. WritesPath web v) (sym other.not_web) path) (written_other v name e h.scheme_text)
 
 -- a settled URL of another scheme comes back
 other_again : (name : List ℕ) (v : Location) → v.scheme ≡ helper_url name → IsValue v → IsSettledHelperUrl name v → (back : ComesBack v) × IsSettled back.reread
 other_again name v e is h =
     let readable = other_readable name v v.host e refl is h in
-    let (path, raw) = other_path_written v name e h.path (path_of v h.common) h.raw in
-    url_again v (helper_url name) v.host e h.common readable (written_other v name e h.scheme_text) (written_other (as_read v) name e h.scheme_text) (λ c. record { common = c; scheme_text = h.scheme_text; unknown = h.unknown; host = h.host; hosted = h.hosted; path = h.path; raw = raw })
+    let (path, raw) = other_path_written v name e h.path h.url.common.path h.url.raw in
+    url_again v (helper_url name) v.host e h.url.common readable (written_other v name e h.scheme_text) (written_other (as_read v) name e h.scheme_text) (λ c. record { url = record { common = c; raw = raw }; scheme_text = h.scheme_text; unknown = h.unknown; host = h.host; hosted = h.hosted; path = h.path })
 
 -- ---- all kinds
 

@@ -38,13 +38,13 @@ at_file host path spelling = record (path_alone file false path) { host = host; 
 -- a settled file URL is such a value
 file_value : (v : Location) → v.scheme ≡ file → IsSettledFile v → v ≡ at_file v.host v.path v.spelling
 file_value v scheme h =
-    value_of v file false scheme h.unflagged h.alone.no_password h.alone.no_port ∙ ap (λ user. record (at_file v.host v.path v.spelling) { user = user }) h.alone.no_user
+    value_of v file false scheme h.unflagged h.alone.1 h.alone.2 ∙ ap (λ user. record (at_file v.host v.path v.spelling) { user = user }) h.alone.0
 
 -- such a value is settled where its host and its path are, and no spelling matches
 settled_at : (host : Option (List ℕ)) (path : List ℕ) (spelling : Option (List ℕ)) → ¬ HasMatch (at_file host path spelling) → IfSome host IsFileHost → IsUtf8 path → begins_with slash path ≡ true → IsSettledFile (at_file host path spelling)
 settled_at host path spelling apart hosted is_text rooted = record {
   unflagged = refl;
-  alone = record { no_user = refl; no_password = refl; no_port = refl };
+  alone = (refl, refl, refl);
   no_match = apart;
   host = hosted;
   path_text = is_text;

@@ -35,13 +35,8 @@ invalid_test (helper n) name h = tested (is_helper_name n) refl h
     tested : (b : Bool) → is_helper_name n ≡ b → cond b None (Some n) ≡ Some name → (helper n ≡ helper name) × (is_helper_name name ≡ false)
     tested true e h = absurd (cc)
     tested false e h = let same : n ≡ name = cc in (ap helper same, ap is_helper_name (sym same) ∙ e)
-invalid_test file name h = absurd (cc)
-invalid_test git name h = absurd (cc)
-invalid_test ssh name h = absurd (cc)
-invalid_test http name h = absurd (cc)
-invalid_test https name h = absurd (cc)
-invalid_test ext name h = absurd (cc)
 invalid_test (helper_url n) name h = absurd (cc)
+invalid_test _ name h = absurd (cc)
 
 -- parts with such a name have no text
 invalid_unwritten : (v : Location) (name : List ℕ) → invalid_name v.scheme ≡ Some name → text v ≡ Err HelperName
@@ -73,10 +68,7 @@ is_bare_kind file flag = true
 is_bare_kind ssh flag = flag
 is_bare_kind ext flag = true
 is_bare_kind (helper name) flag = true
-is_bare_kind git flag = false
-is_bare_kind http flag = false
-is_bare_kind https flag = false
-is_bare_kind (helper_url name) flag = false
+is_bare_kind _ flag = false
 
 -- no URL is of such a kind, but those of `ext`
 url_spelled : (s : List ℕ) → bytes_eq s (codes "file") ≡ false → ¬ (protocol_of s ≡ ext) → is_bare_kind (protocol_of s) false ≡ true → ⊥
@@ -116,7 +108,7 @@ none_retained v p e plain bare raw =
 -- so the text of a URL with such a path is read without one
 readable_bare : (v w : Location) (named : Option (List ℕ)) (t : List ℕ) → IsReadable v named → IsWrittenAsUrl v → IsSettledUrl v → retained_spelling (canonical_path v) ≡ None → text v ≡ Ok t → Spells t w → w.spelling ≡ None
 readable_bare v w named t r written h none is spelled =
-    let same = one_text (written.canonical h.unflagged (record { user_hosted = h.user_hosted; port_hosted = h.port_hosted })) is in
+    let same = one_text (written.canonical h.unflagged h.hosted) is in
     ap (λ l. l.spelling) (spells_unique t w (as_read v) spelled (subst (λ s. Spells s (as_read v)) same (readable_spelled v named r))) ∙ none
 
 -- a path that no spelling matches is raw
@@ -126,20 +118,18 @@ raw_alone v bare raw = (raw (λ (s, e, same). none-some s (sym bare ∙ e))).0
 -- the text of a settled location without a spelling is read without one, outside HTTP
 read_bare : (p : Protocol) (v w : Location) (t : List ℕ) → v.scheme ≡ p → v.spelling ≡ None → ¬ (p ≡ http) → ¬ (p ≡ https) → IsValue v → IsSettledBy p v → fields w ≡ fields v → text v ≡ Ok t → Spells t w → w.spelling ≡ None
 unfolding is_bare_kind
-read_bare file v w t e bare a b is h same written spelled = spelled_bare t w spelled (ap (λ q. is_bare_kind q w.flag) (ap (λ l. l.scheme) same ∙ e))
 read_bare ssh v w t e bare a b is (inl h) same written spelled = spelled_bare t w spelled (ap (λ q. is_bare_kind q w.flag) (ap (λ l. l.scheme) same ∙ e) ∙ ap (λ l. l.flag) same ∙ h.flagged)
 read_bare ssh v w t e bare a b is (inr h) same written spelled =
     let (named, r) = secure_readable v e is h in
-    readable_bare v w (Some named) t r (written_secure v e h.path) h.common (none_retained v ssh e refl bare (raw_alone v bare h.raw)) written spelled
+    readable_bare v w (Some named) t r (written_secure v e h.path) h.url.common (none_retained v ssh e refl bare (raw_alone v bare h.url.raw)) written spelled
 read_bare git v w t e bare a b is h same written spelled =
     let (named, r) = git_readable v e is h in
-    readable_bare v w (Some named) t r (written_git v e) h.common (none_retained v git e refl bare (raw_alone v bare h.raw)) written spelled
+    readable_bare v w (Some named) t r (written_git v e) h.url.common (none_retained v git e refl bare (raw_alone v bare h.url.raw)) written spelled
 read_bare http v w t e bare a b is h same written spelled = absurd (a refl)
 read_bare https v w t e bare a b is h same written spelled = absurd (b refl)
-read_bare ext v w t e bare a b is h same written spelled = spelled_bare t w spelled (ap (λ q. is_bare_kind q w.flag) (ap (λ l. l.scheme) same ∙ e))
-read_bare (helper name) v w t e bare a b is h same written spelled = spelled_bare t w spelled (ap (λ q. is_bare_kind q w.flag) (ap (λ l. l.scheme) same ∙ e))
 read_bare (helper_url name) v w t e bare a b is h same written spelled =
-    readable_bare v w v.host t (other_readable name v v.host e refl is h) (written_other v name e h.scheme_text) h.common (none_retained v (helper_url name) e refl bare (raw_alone v bare h.raw)) written spelled
+    readable_bare v w v.host t (other_readable name v v.host e refl is h) (written_other v name e h.scheme_text) h.url.common (none_retained v (helper_url name) e refl bare (raw_alone v bare h.url.raw)) written spelled
+read_bare _ v w t e bare a b is h same written spelled = spelled_bare t w spelled (ap (λ q. is_bare_kind q w.flag) (ap (λ l. l.scheme) same ∙ e))
 
 -- ---- what was read
 
@@ -163,12 +153,7 @@ bare_back v w bare none same = ap (λ s. record w { spelling = s }) none ∙ sam
 keeping_back : (p : Protocol) (v w : Location) → v.spelling ≡ None → fields w ≡ fields v → (¬ (p ≡ http) → ¬ (p ≡ https) → w.spelling ≡ None) → keeping p v.path w ≡ v
 keeping_back http v w bare same none = with_given_back v w bare same
 keeping_back https v w bare same none = with_given_back v w bare same
-keeping_back file v w bare same none = bare_back v w bare (none (λ e. cc) (λ e. cc)) same
-keeping_back git v w bare same none = bare_back v w bare (none (λ e. cc) (λ e. cc)) same
-keeping_back ssh v w bare same none = bare_back v w bare (none (λ e. cc) (λ e. cc)) same
-keeping_back ext v w bare same none = bare_back v w bare (none (λ e. cc) (λ e. cc)) same
-keeping_back (helper name) v w bare same none = bare_back v w bare (none (λ e. cc) (λ e. cc)) same
-keeping_back (helper_url name) v w bare same none = bare_back v w bare (none (λ e. cc) (λ e. cc)) same
+keeping_back _ v w bare same none = bare_back v w bare (none (λ e. cc) (λ e. cc)) same
 
 -- settled parts come back as they are
 parts_back : (v w : Location) → v.spelling ≡ None → IsValue v → IsSettled v → IsAgain v w → ((t : List ℕ) → text v ≡ Ok t → Reads t (Ok w)) → keeping v.scheme v.path w ≡ v

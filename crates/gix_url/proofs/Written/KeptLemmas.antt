@@ -1,14 +1,14 @@
 -- Remote helpers and local paths: what is read as one is settled and is written as it was read; a settled one comes back, and nothing else does.
-use Rattle.std.proofs.Common.{◌≡◌, ℕ, ◌<◌, true, false, inl, inr, List, ◌∷◌, ◌++◌, length, Option, None, Ok, refl, sym, ap, subst, ◌∙◌, codes, bytes_eq, Bool}
+use Rattle.std.proofs.Common.{◌≡◌, ℕ, true, false, inl, inr, List, ◌∷◌, ◌++◌, Option, None, Ok, refl, sym, ap, subst, ◌∙◌, codes, bytes_eq, Bool}
 use Rattle.std.proofs.lemmas.Bool.{both_ways, false≢true}
 use Rattle.std.proofs.lemmas.Slice.Eq.{bytes_eq-Decides}
 use Rattle.gix_url.specs.Value.{Protocol, Location, fields, path_alone}
-use Rattle.gix_url.specs.Value.Protocol.{file, git, ssh, http, https, ext, helper, helper_url}
+use Rattle.gix_url.specs.Value.Protocol.{file, ext, helper}
 use Rattle.gix_url.specs.Bytes.{colon, is_helper_name}
 use Rattle.gix_url.specs.Schemes.{protocol_of}
-use Rattle.gix_url.specs.Grammar.{IsNeither, IsScpShaped, helper_protocol, SpellsHelper, SpellsUrl, SpellsScp, SpellsLocal, Spells}
+use Rattle.gix_url.specs.Grammar.{LocalShape, helper_protocol, SpellsHelper, SpellsUrl, SpellsScp, SpellsLocal, Spells}
 use Rattle.gix_url.specs.Text.{text}
-use Rattle.gix_url.specs.Settled.{HasAtMostHost, IsSettledLocal, IsSettledHelper, IsSettledBy, IsSettled}
+use Rattle.gix_url.specs.Settled.{IsFlaggedPath, IsSettledLocal, IsSettledHelper, IsSettledBy, IsSettled}
 use Rattle.gix_url.specs.Laws.{keeps_bytes, KeepsBytes, ComesBack}
 use Rattle.gix_url.proofs.Readings.SchemeLemmas.{protocol_cases, helper_cases, means_cases}
 
@@ -32,15 +32,15 @@ abbrev kept : Protocol → List ℕ → Option (List ℕ) → Location
 kept protocol path spelling = record (path_alone protocol true path) { spelling = spelling }
 
 -- a location without the other parts is such a value
-kept_value : (v : Location) (protocol : Protocol) → v.scheme ≡ protocol → v.flag ≡ true → HasAtMostHost v → v.host ≡ None → v ≡ kept protocol v.path v.spelling
-kept_value v protocol scheme flagged alone no_host =
-    value_of v protocol true scheme flagged alone.no_password alone.no_port
-    ∙ ap (λ user. record (kept protocol v.path v.spelling) { user = user; host = v.host }) alone.no_user
+kept_value : (v : Location) (protocol : Protocol) → v.scheme ≡ protocol → IsFlaggedPath v → v ≡ kept protocol v.path v.spelling
+kept_value v protocol scheme (flagged, alone, no_host) =
+    value_of v protocol true scheme flagged alone.1 alone.2
+    ∙ ap (λ user. record (kept protocol v.path v.spelling) { user = user; host = v.host }) alone.0
     ∙ ap (λ host. record (kept protocol v.path v.spelling) { host = host }) no_host
 
 -- a value without parts of an authority
-path_alone_alone : (protocol : Protocol) (path : List ℕ) → HasAtMostHost (path_alone protocol true path)
-path_alone_alone protocol path = record { no_user = refl; no_password = refl; no_port = refl }
+path_alone_bare : (protocol : Protocol) (path : List ℕ) → IsFlaggedPath (path_alone protocol true path)
+path_alone_bare protocol path = (refl, (refl, refl, refl), refl)
 
 -- ---- texts
 
@@ -55,15 +55,15 @@ local_written path spelling = refl
 -- the text of a settled local path is the path
 pub flagged_text : (v : Location) → v.scheme ≡ file → IsSettledLocal v → text v ≡ Ok v.path
 flagged_text v scheme h =
-    ap (λ l. text l) (kept_value v file scheme h.flagged h.alone h.no_host) ∙ local_written v.path v.spelling
+    ap (λ l. text l) (kept_value v file scheme h.bare) ∙ local_written v.path v.spelling
 
 -- ---- what is spelled is settled, and written as it was read
 
 -- a remote helper without a spelling is settled
 helper_settled : (name path : List ℕ) → is_helper_name name ≡ true → IsSettled (path_alone (helper_protocol name) true path)
 helper_settled name path named = helper_cases (λ p. IsSettled (path_alone p true path)) name
-    (λ same. record { flagged = refl; alone = path_alone_alone ext path; no_host = refl; named = refl })
-    (λ other. (record { flagged = refl; alone = path_alone_alone (helper name) path; no_host = refl; named = named }, other))
+    (λ same. record { bare = path_alone_bare ext path; named = refl })
+    (λ other. (record { bare = path_alone_bare (helper name) path; named = named }, other))
 
 -- and written as its name, `::` and its path
 helper_text : (name path : List ℕ) → is_helper_name name ≡ true → text (path_alone (helper_protocol name) true path) ≡ Ok (name ++ colon ∷ (colon ∷ path))
@@ -79,20 +79,13 @@ helper_unchanged b v h = (
 )
 
 -- a local path without a spelling is settled
-local_settled : (b : List ℕ) → 0 < length b → IsNeither b → ¬ IsScpShaped b → IsSettled (path_alone file true b)
-local_settled b nonempty neither no_scp = inl record {
-  flagged = refl;
-  alone = path_alone_alone file b;
-  no_host = refl;
-  nonempty = nonempty;
-  neither = neither;
-  no_scp = no_scp;
-}
+local_settled : (b : List ℕ) → LocalShape b → IsSettled (path_alone file true b)
+local_settled b shape = inl record { bare = path_alone_bare file b; shape = shape }
 
 -- what a local path spells is settled, and written as it was read
 pub local_unchanged : (b : List ℕ) (v : Location) → SpellsLocal b v → IsSettled v × (text v ≡ Ok b)
 local_unchanged b v h = (
-  subst (λ l. IsSettled l) (sym h.value) (local_settled b h.nonempty h.neither h.no_scp),
+  subst (λ l. IsSettled l) (sym h.value) (local_settled b record { nonempty = h.nonempty; neither = h.neither; no_scp = h.no_scp }),
   ap (λ l. text l) h.value ∙ local_written b None,
 )
 
@@ -132,34 +125,13 @@ kept_closed b v (Spells.local_path h) keeps = (local_unchanged b v h).0
 
 -- ---- exactness
 
--- parts of an authority are fields
-alone_by_fields : (v w : Location) → fields w ≡ fields v → HasAtMostHost w → HasAtMostHost v
-alone_by_fields v w same h = record {
-  no_user = sym (ap (λ l. l.user) same) ∙ h.no_user;
-  no_password = sym (ap (λ l. l.password) same) ∙ h.no_password;
-  no_port = sym (ap (λ l. l.port) same) ∙ h.no_port;
-}
-
 -- what the class says of a remote helper it says of the fields
 helper_by_fields : (name : List ℕ) (v w : Location) → fields w ≡ fields v → IsSettledHelper name w → IsSettledHelper name v
-helper_by_fields name v w same h = record {
-  flagged = sym (ap (λ l. l.flag) same) ∙ h.flagged;
-  alone = alone_by_fields v w same h.alone;
-  no_host = sym (ap (λ l. l.host) same) ∙ h.no_host;
-  named = h.named;
-}
+helper_by_fields name v w same h = record { bare = subst IsFlaggedPath same h.bare; named = h.named }
 
 -- and of a local path
 local_by_fields : (v w : Location) → fields w ≡ fields v → IsSettledLocal w → IsSettledLocal v
-local_by_fields v w same h =
-    let path : w.path ≡ v.path = ap (λ l. l.path) same in record {
-      flagged = sym (ap (λ l. l.flag) same) ∙ h.flagged;
-      alone = alone_by_fields v w same h.alone;
-      no_host = sym (ap (λ l. l.host) same) ∙ h.no_host;
-      nonempty = subst (λ p. 0 < length p) path h.nonempty;
-      neither = subst (λ p. IsNeither p) path h.neither;
-      no_scp = subst (λ p. ¬ IsScpShaped p) path h.no_scp;
-    }
+local_by_fields v w same h = record { bare = subst IsFlaggedPath same h.bare; shape = subst LocalShape (ap (λ l. l.path) same) h.shape }
 
 -- of the kinds that keep their bytes, the class looks at the fields alone
 pub settled_by_fields : (protocol : Protocol) (v w : Location) → fields w ≡ fields v → keeps_bytes protocol v.flag ≡ true → IsSettledBy protocol w → IsSettledBy protocol v
@@ -167,11 +139,7 @@ settled_by_fields file v w same keeps (inl h) = inl (local_by_fields v w same h)
 settled_by_fields file v w same keeps (inr h) = absurd (both_ways v.flag (sym (ap (λ l. l.flag) same) ∙ h.unflagged) keeps)
 settled_by_fields ext v w same keeps h = helper_by_fields (codes "ext") v w same h
 settled_by_fields (helper name) v w same keeps h = (helper_by_fields name v w same h.0, h.1)
-settled_by_fields git v w same keeps h = absurd (false≢true keeps)
-settled_by_fields ssh v w same keeps h = absurd (false≢true keeps)
-settled_by_fields http v w same keeps h = absurd (false≢true keeps)
-settled_by_fields https v w same keeps h = absurd (false≢true keeps)
-settled_by_fields (helper_url name) v w same keeps h = absurd (false≢true keeps)
+settled_by_fields _ v w same keeps h = absurd (false≢true keeps)
 
 -- a location that keeps its bytes is settled where bytes spell its fields
 pub kept_exact : (v : Location) → KeepsBytes v → (b : List ℕ) (w : Location) → Spells b w → fields w ≡ fields v → IsSettled v
@@ -208,14 +176,14 @@ other_helper name other = rw other refl
 pub helper_again : (name : List ℕ) (v : Location) → v.scheme ≡ helper name → bytes_eq name (codes "ext") ≡ false → IsSettledHelper name v → (back : ComesBack v) × IsSettled back.reread
 helper_again name v scheme other h =
     let named : helper_protocol name ≡ helper name = other_helper name other in
-    kept_back v (helper name) (name ++ colon ∷ (colon ∷ v.path)) (kept_value v (helper name) scheme h.flagged h.alone h.no_host) (λ spelling. helper_written name v.path spelling h.named) (subst (λ p. Spells (name ++ colon ∷ (colon ∷ v.path)) (path_alone p true v.path)) named (helper_spelled name v.path h.named)) (subst (λ p. IsSettled (path_alone p true v.path)) named (helper_settled name v.path h.named))
+    kept_back v (helper name) (name ++ colon ∷ (colon ∷ v.path)) (kept_value v (helper name) scheme h.bare) (λ spelling. helper_written name v.path spelling h.named) (subst (λ p. Spells (name ++ colon ∷ (colon ∷ v.path)) (path_alone p true v.path)) named (helper_spelled name v.path h.named)) (subst (λ p. IsSettled (path_alone p true v.path)) named (helper_settled name v.path h.named))
 
 -- so does one of `ext`
 pub ext_again : (v : Location) → v.scheme ≡ ext → IsSettledHelper (codes "ext") v → (back : ComesBack v) × IsSettled back.reread
 ext_again v scheme h =
-    kept_back v ext (codes "ext::" ++ v.path) (kept_value v ext scheme h.flagged h.alone h.no_host) (λ spelling. refl) (helper_spelled (codes "ext") v.path refl) (helper_settled (codes "ext") v.path refl)
+    kept_back v ext (codes "ext::" ++ v.path) (kept_value v ext scheme h.bare) (λ spelling. refl) (helper_spelled (codes "ext") v.path refl) (helper_settled (codes "ext") v.path refl)
 
 -- and a settled local path
 pub local_again : (v : Location) → v.scheme ≡ file → IsSettledLocal v → (back : ComesBack v) × IsSettled back.reread
 local_again v scheme h =
-    kept_back v file v.path (kept_value v file scheme h.flagged h.alone h.no_host) (local_written v.path) (Spells.local_path record { nonempty = h.nonempty; neither = h.neither; no_scp = h.no_scp; value = refl }) (local_settled v.path h.nonempty h.neither h.no_scp)
+    kept_back v file v.path (kept_value v file scheme h.bare) (local_written v.path) (Spells.local_path record { nonempty = h.shape.nonempty; neither = h.shape.neither; no_scp = h.shape.no_scp; value = refl }) (local_settled v.path h.shape)

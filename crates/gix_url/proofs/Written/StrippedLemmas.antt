@@ -14,7 +14,8 @@ use Rattle.gix_url.specs.Value.Protocol.{file, git, ssh, http, https, ext, helpe
 use Rattle.gix_url.specs.Bytes.{slash, colon, at_sign, backslash, is_scheme_text, Lacks, FreeOf, begins_by, LacksWhiteSpace, is_path_start, StartsPath}
 use Rattle.gix_url.specs.Escapes.{password_set, user_set}
 use Rattle.gix_url.specs.Hosts.{Mode, Names}
-use Rattle.gix_url.specs.Hosts.Names.{nothing, bracketed, bracketed_colon, bracketed_port, unbracketed, plain, plain_colon, plain_port, colons}
+use Rattle.gix_url.specs.Hosts.Names.{nothing}
+use Rattle.gix_url.proofs.Readings.HostLemmas.{names_unique}
 use Rattle.gix_url.specs.Schemes.{is_web_scheme, protocol_text}
 use Rattle.gix_url.specs.Authority.{Authority, is_any_slash, without_white_space, IsWithinLimit, Fits, FitsText}
 use Rattle.gix_url.specs.Authority.Authority.{host_alone, with_user}
@@ -24,7 +25,6 @@ use Rattle.gix_url.specs.SettledParts.{IsWrittenAsUrl}
 use Rattle.gix_url.specs.Safeguards.{SettledWithoutPassword}
 use Rattle.gix_url.proofs.Texts.CutLemmas.{lacks-append, lacks-cons, lacks_head_tail, lacks_parts, lacks_weaker, path_cut_unique, scheme_text_free}
 use Rattle.gix_url.proofs.Texts.EscapeLemmas.{ascii_byte, utf8_byte, white_space_parts}
-use Rattle.gix_url.proofs.Addresses.AddressLemmas.{address_two_colons}
 use Rattle.gix_url.proofs.Readings.LengthLemmas.{fits_from_text, other_left_in, without_shorter}
 use Rattle.gix_url.proofs.Written.AgainLemmas.{web_readable, secure_readable, git_readable, other_readable}
 use Rattle.gix_url.proofs.Written.WrittenUrlLemmas.{IsReadable, authority_text, canonical_cut, web_starts}
@@ -163,25 +163,11 @@ short_fits scheme a p known h starts short =
 
 -- ---- the authority of a URL
 
--- a text that begins by a test isn't empty
-begins_some : (test : ℕ → Bool) (t : List ℕ) → begins_by test t ≡ true → 0 < length t
-begins_some test [] h = absurd (false≢true h)
-begins_some test (b ∷ t) h = omega arith
-
 -- what names a host isn't empty
 names_some : (mode : Mode) (piece host : List ℕ) (port : Option ℕ) → Names mode piece (Some host) port → 0 < length piece
-names_some mode piece host port (nothing e named at) = absurd (none-some host (sym named))
-names_some mode piece host port (bracketed x inner free spelled e named at) = omega (arith, ap length e)
-names_some mode piece host port (bracketed_colon x inner free spelled e named at) = omega (arith, ap length e)
-names_some mode piece host port (bracketed_port x inner digits number free spelled numbered e named at) = omega (arith, ap length e)
-names_some mode piece host port (unbracketed (is_bare, inl address) named at) =
-    let (x, y, z, e) = address_two_colons piece address in omega (arith, ap length e, length-append x (colon ∷ (y ++ colon ∷ z)))
-names_some mode piece host port (unbracketed (is_bare, inr (address, is, e)) named at) = omega (arith, ap length e, length-append address (colon ∷ []))
-names_some mode piece host port (plain meant is_plain spelled named at) = is_plain.nonempty
-names_some mode piece host port (plain_colon t meant is_plain spelled e named at) = omega (arith, ap length e, length-append t (colon ∷ []))
-names_some mode piece host port (plain_port t meant digits number is_plain spelled numbered e named at) = omega (arith, ap length e, length-append t (colon ∷ digits))
-names_some mode piece host port (colons meant not_strict other begins (inl colon_first) spelled named at) = begins_some (λ b. b == colon) piece colon_first
-names_some mode piece host port (colons meant not_strict other begins (inr (x, y, z, e)) spelled named at) = omega (arith, ap length e, length-append x (colon ∷ (y ++ colon ∷ z)))
+names_some mode [] host port n =
+    absurd (none-some host (sym (names_unique mode [] (Some host) None port None n (nothing refl refl refl)).0))
+names_some mode (b ∷ piece) host port n = omega arith
 
 -- so an authority with a host isn't
 authority_some : (mode : Mode) (a : List ℕ) (user password : Option (List ℕ)) (host : List ℕ) (port : Option ℕ) → Authority mode a user password (Some host) port → 0 < length a
@@ -297,13 +283,10 @@ stripped_fits v user password named known secret r =
 url_stripped : (v : Location) → IsSettledUrl v → ¬ (v.user ≡ Some []) → IsWrittenAsUrl (stripped v) → FitsText (canonical_text (stripped v)) → IsSettledUrl (stripped v)
 url_stripped v h some written fits = record {
   unflagged = h.unflagged;
-  password = tt;
-  user = λ e. absurd (some e);
-  user_hosted = h.user_hosted;
-  port_hosted = h.port_hosted;
-  fits = (canonical_text (stripped v), written.canonical h.unflagged (record { user_hosted = h.user_hosted; port_hosted = h.port_hosted }), fits);
-  path_text = h.path_text;
-  spelling = h.spelling;
+  credentials = (tt, λ e. absurd (some e));
+  hosted = h.hosted;
+  path = record { path_text = h.path.path_text; spelling = h.path.spelling };
+  fits = (canonical_text (stripped v), written.canonical h.unflagged h.hosted, fits);
 }
 
 -- HTTP
@@ -315,52 +298,59 @@ web_stripped v user password web known secret some is h =
 -- a URL of another scheme has a host, where it has a user
 other_stripped : (name : List ℕ) (v : Location) (user password : List ℕ) (host : Option (List ℕ)) → v.host ≡ host → v.scheme ≡ helper_url name → v.user ≡ Some user → v.password ≡ Some password → ¬ (v.user ≡ Some []) → IsValue v → IsSettledHelperUrl name v → IsSettledHelperUrl name (stripped v)
 other_stripped name v user password None there e known secret some is h =
-    absurd (false≢true (subst (λ o. IsSome o) there (h.common.user_hosted (ap is_some known))))
+    absurd (false≢true (subst (λ o. IsSome o) there (h.url.common.hosted.0 (ap is_some known))))
 other_stripped name v user password (Some host) there e known secret some is h =
     let r = other_readable name v (Some host) e there is h in
     record {
-      common = url_stripped v h.common some (written_other (stripped v) name e h.scheme_text) (stripped_fits v user password host known secret r);
+      url = record { common = url_stripped v h.url.common some (written_other (stripped v) name e h.scheme_text) (stripped_fits v user password host known secret r); raw = h.url.raw };
       scheme_text = h.scheme_text;
       unknown = h.unknown;
       host = h.host;
       hosted = h.hosted;
       path = h.path;
-      raw = h.raw;
     }
 
 -- a settled location with a user that isn't empty, and a password, is settled without that
 stripped_by : (p : Protocol) (v : Location) (user password : List ℕ) → v.scheme ≡ p → v.user ≡ Some user → v.password ≡ Some password → ¬ (v.user ≡ Some []) → IsValue v → IsSettledBy p v → IsSettledBy p (stripped v)
-stripped_by file v user password e known secret some is (inl h) = absurd (none-some password (sym h.alone.no_password ∙ secret))
-stripped_by file v user password e known secret some is (inr h) = absurd (none-some password (sym h.alone.no_password ∙ secret))
+stripped_by file v user password e known secret some is (inl h) = absurd (none-some password (sym h.bare.1.1 ∙ secret))
+stripped_by file v user password e known secret some is (inr h) = absurd (none-some password (sym h.alone.1 ∙ secret))
 stripped_by ssh v user password e known secret some is (inl h) = absurd (none-some password (sym h.no_password ∙ secret))
 stripped_by ssh v user password e known secret some is (inr h) =
     let (named, r) = secure_readable v e is h in
-    inr record { common = url_stripped v h.common some (written_secure (stripped v) e h.path) (stripped_fits v user password named known secret r); host = h.host; path = h.path; raw = h.raw }
+    inr record { url = record { common = url_stripped v h.url.common some (written_secure (stripped v) e h.path) (stripped_fits v user password named known secret r); raw = h.url.raw }; host = h.host; path = h.path }
 stripped_by git v user password e known secret some is h =
     let (named, r) = git_readable v e is h in
-    record { common = url_stripped v h.common some (written_git (stripped v) e) (stripped_fits v user password named known secret r); host = h.host; path = h.path; raw = h.raw }
+    record { url = record { common = url_stripped v h.url.common some (written_git (stripped v) e) (stripped_fits v user password named known secret r); raw = h.url.raw }; host = h.host; path = h.path }
 stripped_by http v user password e known secret some is h = web_stripped v user password (inl e) known secret some is h
 stripped_by https v user password e known secret some is h = web_stripped v user password (inr e) known secret some is h
-stripped_by ext v user password e known secret some is h = absurd (none-some password (sym h.alone.no_password ∙ secret))
-stripped_by (helper name) v user password e known secret some is h = absurd (none-some password (sym h.0.alone.no_password ∙ secret))
+stripped_by ext v user password e known secret some is h = absurd (none-some password (sym h.bare.1.1 ∙ secret))
+stripped_by (helper name) v user password e known secret some is h = absurd (none-some password (sym h.0.bare.1.1 ∙ secret))
 stripped_by (helper_url name) v user password e known secret some is h = other_stripped name v user password v.host refl e known secret some is h
 
--- the password of a URL comes with a user
-url_user : (v : Location) (password : List ℕ) → v.password ≡ Some password → IsSettledUrl v → IsSome v.user
-url_user v password secret h = (subst (λ o. IfSome o (λ p. (0 < length p) × IsSome v.user)) secret h.password).1
+-- what is settled is a URL, or has no password, and no user beside none of the flag
+url_or_plain : (p : Protocol) (v : Location) → IsSettledBy p v → IsSettledUrl v ⊎ ((v.password ≡ None) × (v.flag ≡ false → v.user ≡ None))
+url_or_plain file v (inl h) = inr (h.bare.1.1, λ unflagged. h.bare.1.0)
+url_or_plain file v (inr h) = inr (h.alone.1, λ unflagged. h.alone.0)
+url_or_plain ssh v (inl h) = inr (h.no_password, λ unflagged. absurd (both_ways v.flag unflagged h.flagged))
+url_or_plain ssh v (inr h) = inl h.url.common
+url_or_plain git v h = inl h.url.common
+url_or_plain http v h = inl h.common
+url_or_plain https v h = inl h.common
+url_or_plain ext v h = inr (h.bare.1.1, λ unflagged. h.bare.1.0)
+url_or_plain (helper name) v h = inr (h.0.bare.1.1, λ unflagged. h.0.bare.1.0)
+url_or_plain (helper_url name) v h = inl h.url.common
 
--- so does that of every settled location
+-- what is settled and has a password is a URL
+url_with_password : (p : Protocol) (v : Location) (password : List ℕ) → v.password ≡ Some password → IsSettledBy p v → IsSettledUrl v
+url_with_password p v password secret h = elim (url_or_plain p v h) [
+  | inl url ↦ url
+  | inr none ↦ absurd (none-some password (sym none.0 ∙ secret))
+]
+
+-- and has a user
 user_beside : (p : Protocol) (v : Location) (password : List ℕ) → v.password ≡ Some password → IsSettledBy p v → IsSome v.user
-user_beside file v password secret (inl h) = absurd (none-some password (sym h.alone.no_password ∙ secret))
-user_beside file v password secret (inr h) = absurd (none-some password (sym h.alone.no_password ∙ secret))
-user_beside ssh v password secret (inl h) = absurd (none-some password (sym h.no_password ∙ secret))
-user_beside ssh v password secret (inr h) = url_user v password secret h.common
-user_beside git v password secret h = url_user v password secret h.common
-user_beside http v password secret h = url_user v password secret h.common
-user_beside https v password secret h = url_user v password secret h.common
-user_beside ext v password secret h = absurd (none-some password (sym h.alone.no_password ∙ secret))
-user_beside (helper name) v password secret h = absurd (none-some password (sym h.0.alone.no_password ∙ secret))
-user_beside (helper_url name) v password secret h = url_user v password secret h.common
+user_beside p v password secret h =
+    (subst (λ o. IfSome o (λ p. (0 < length p) × IsSome v.user)) secret (url_with_password p v password secret h).credentials.0).1
 
 -- by the password and the user
 without_password_by : (v : Location) (password user : Option (List ℕ)) → v.password ≡ password → v.user ≡ user → IsValue v → IsSettled v → (v.password ≡ None) ⊎ ¬ (v.user ≡ Some []) → IsSettled (stripped v)
@@ -371,34 +361,15 @@ without_password_by v (Some password) (Some user) secret known is h (inr some) =
 
 -- an empty user comes with a password, where the location is settled as a URL
 empty_user : (p : Protocol) (v : Location) → v.flag ≡ false → v.user ≡ Some [] → IsSettledBy p v → IsSome v.password
-empty_user file v unflagged known (inl h) = absurd (none-some [] (sym h.alone.no_user ∙ known))
-empty_user file v unflagged known (inr h) = absurd (none-some [] (sym h.alone.no_user ∙ known))
-empty_user ssh v unflagged known (inl h) = absurd (both_ways v.flag unflagged h.flagged)
-empty_user ssh v unflagged known (inr h) = h.common.user known
-empty_user git v unflagged known h = h.common.user known
-empty_user http v unflagged known h = h.common.user known
-empty_user https v unflagged known h = h.common.user known
-empty_user ext v unflagged known h = absurd (none-some [] (sym h.alone.no_user ∙ known))
-empty_user (helper name) v unflagged known h = absurd (none-some [] (sym h.0.alone.no_user ∙ known))
-empty_user (helper_url name) v unflagged known h = h.common.user known
-
--- a settled location with a password is a URL
-secret_unflagged : (p : Protocol) (v : Location) (password : List ℕ) → v.password ≡ Some password → IsSettledBy p v → v.flag ≡ false
-secret_unflagged file v password secret (inl h) = absurd (none-some password (sym h.alone.no_password ∙ secret))
-secret_unflagged file v password secret (inr h) = h.unflagged
-secret_unflagged ssh v password secret (inl h) = absurd (none-some password (sym h.no_password ∙ secret))
-secret_unflagged ssh v password secret (inr h) = h.common.unflagged
-secret_unflagged git v password secret h = h.common.unflagged
-secret_unflagged http v password secret h = h.common.unflagged
-secret_unflagged https v password secret h = h.common.unflagged
-secret_unflagged ext v password secret h = absurd (none-some password (sym h.alone.no_password ∙ secret))
-secret_unflagged (helper name) v password secret h = absurd (none-some password (sym h.0.alone.no_password ∙ secret))
-secret_unflagged (helper_url name) v password secret h = h.common.unflagged
+empty_user p v unflagged known h = elim (url_or_plain p v h) [
+  | inl url ↦ url.credentials.1 known
+  | inr none ↦ absurd (none-some [] (sym (none.1 unflagged) ∙ known))
+]
 
 -- so what is settled without its password has none, or a user that isn't empty
 kept_user : (v : Location) (password : Option (List ℕ)) → v.password ≡ password → IsSettled v → IsSettled (stripped v) → (v.password ≡ None) ⊎ ¬ (v.user ≡ Some [])
 kept_user v None secret h less = inl secret
-kept_user v (Some password) secret h less = inr (λ e. false≢true (empty_user v.scheme (stripped v) (secret_unflagged v.scheme v password secret h) e less))
+kept_user v (Some password) secret h less = inr (λ e. false≢true (empty_user v.scheme (stripped v) (url_with_password v.scheme v password secret h).unflagged e less))
 
 -- a settled location is settled without its password exactly there
 pub without_password : SettledWithoutPassword

@@ -11,8 +11,8 @@ use Rattle.gix_url.specs.Schemes.{is_web_scheme, protocol_text}
 use Rattle.gix_url.specs.Authority.{FitsText}
 use Rattle.gix_url.specs.Grammar.{path_for}
 use Rattle.gix_url.specs.Text.{user_information, host_part, port_part, root_part, plain_path, canonical_path, canonical_text}
-use Rattle.gix_url.specs.Settled.{IsValue, HasMatch, HasFittingText, IsSettledUrl, IsTransportPath, IsSettledWeb, IsSettledSecure, IsSettledGit, IsSettledHelperUrl, IsSettledBy, IsWeb}
-use Rattle.gix_url.specs.SettledParts.{HasUrlPath, IsWrittenAsUrl}
+use Rattle.gix_url.specs.Settled.{IsValue, HasMatch, HasFittingText, IsSettledUrl, IsTransportPath, IsSettledWeb, IsSettledSecure, IsSettledGit, IsSettledHelperUrl, IsSettledBy, IsWeb, HasUrlPath}
+use Rattle.gix_url.specs.SettledParts.{IsWrittenAsUrl}
 use Rattle.gix_url.specs.Safeguards.{WebSettledWithoutSpelling, SettledWithoutSpelling, is_raw_url}
 use Rattle.gix_url.proofs.Texts.EscapeLemmas.{decode_empty, encode_empty}
 use Rattle.gix_url.proofs.Written.WrittenUrlLemmas.{IsReadable, authority_text}
@@ -51,12 +51,7 @@ right_empty x (b ∷ y) e = absurd (omega (arith, ap length e, length-append x (
 plain_empty : (p : Protocol) (path : List ℕ) → plain_path p path ≡ [] → path ≡ []
 plain_empty http path e = encode_empty path_set path e
 plain_empty https path e = encode_empty path_set path e
-plain_empty file path e = e
-plain_empty git path e = e
-plain_empty ssh path e = e
-plain_empty ext path e = e
-plain_empty (helper name) path e = e
-plain_empty (helper_url name) path e = e
+plain_empty _ path e = e
 
 path_empty : (v : Location) → canonical_path (fields v) ≡ [] → v.path ≡ []
 path_empty v e = plain_empty v.scheme v.path (right_empty (root_part v) (plain_path v.scheme v.path) e)
@@ -73,24 +68,15 @@ no_match v (s, e, same) = none-some s e
 
 -- the path is text
 url_path : (v : Location) → IsSettledUrl v → HasUrlPath (fields v)
-url_path v h = record { path_text = h.path_text; spelling = λ s e same. absurd (none-some s e) }
+url_path v h = record { path_text = h.path.path_text; spelling = λ s e same. absurd (none-some s e) }
 
 -- the location has a text that is short enough
 fitting : (v : Location) → IsSettledUrl v → IsWrittenAsUrl (fields v) → FitsText (canonical_text (fields v)) → HasFittingText (fields v)
-fitting v h written fits = (canonical_text (fields v), written.canonical h.unflagged (record { user_hosted = h.user_hosted; port_hosted = h.port_hosted }), fits)
+fitting v h written fits = (canonical_text (fields v), written.canonical h.unflagged h.hosted, fits)
 
 -- all else stays
 url_unspelled : (v : Location) → IsSettledUrl v → HasFittingText (fields v) → IsSettledUrl (fields v)
-url_unspelled v h fits = record {
-  unflagged = h.unflagged;
-  password = h.password;
-  user = h.user;
-  user_hosted = h.user_hosted;
-  port_hosted = h.port_hosted;
-  fits = fits;
-  path_text = h.path_text;
-  spelling = λ s e same. absurd (none-some s e);
-}
+url_unspelled v h fits = record { unflagged = h.unflagged; credentials = h.credentials; hosted = h.hosted; path = url_path v h; fits = fits }
 
 -- ---- each kind of URL
 
@@ -123,31 +109,30 @@ secure_unspelled : (v : Location) → v.scheme ≡ ssh → IsValue v → IsSettl
 secure_unspelled v e is h raw =
     let (named, r) = secure_readable v e is h in
     let path = transport_unspelled v h.path in
-    let written = transport_path_written (fields v) (inl e) path (url_path v h.common) (λ none. raw) in
+    let written = transport_path_written (fields v) (inl e) path (url_path v h.url.common) (λ none. raw) in
     let starts = subst (λ b. StartsPath b (canonical_path (fields v))) (sym (ap (λ p. is_web_scheme (protocol_text p)) e)) written.0.starts in
     let fits = unspelled_fits v named r starts (λ empty. transport_written v h.path empty) in
-    record { common = url_unspelled v h.common (fitting v h.common (written_secure (fields v) e path) fits); host = h.host; path = path; raw = λ none. raw }
+    record { url = record { common = url_unspelled v h.url.common (fitting v h.url.common (written_secure (fields v) e path) fits); raw = λ none. raw }; host = h.host; path = path }
 
 -- Git's own protocol
 git_unspelled : (v : Location) → v.scheme ≡ git → IsValue v → IsSettledGit v → (has_percent v.path ≡ false) × LacksWhiteSpace v.path → IsSettledGit (fields v)
 git_unspelled v e is h raw =
     let (named, r) = git_readable v e is h in
     let path = transport_unspelled v h.path in
-    let written = transport_path_written (fields v) (inr e) path (url_path v h.common) (λ none. raw) in
+    let written = transport_path_written (fields v) (inr e) path (url_path v h.url.common) (λ none. raw) in
     let starts = subst (λ b. StartsPath b (canonical_path (fields v))) (sym (ap (λ p. is_web_scheme (protocol_text p)) e)) written.0.starts in
     let fits = unspelled_fits v named r starts (λ empty. transport_written v h.path empty) in
-    record { common = url_unspelled v h.common (fitting v h.common (written_git (fields v) e) fits); host = h.host; path = path; raw = λ none. raw }
+    record { url = record { common = url_unspelled v h.url.common (fitting v h.url.common (written_git (fields v) e) fits); raw = λ none. raw }; host = h.host; path = path }
 
 -- another scheme, where the text is short enough
 other_unspelled : (name : List ℕ) (v : Location) → IsSettledHelperUrl name v → (has_percent v.path ≡ false) × LacksWhiteSpace v.path → HasFittingText (fields v) → IsSettledHelperUrl name (fields v)
 other_unspelled name v h raw fits = record {
-  common = url_unspelled v h.common fits;
+  url = record { common = url_unspelled v h.url.common fits; raw = λ none. raw };
   scheme_text = h.scheme_text;
   unknown = h.unknown;
   host = h.host;
   hosted = h.hosted;
   path = h.path;
-  raw = λ none. raw;
 }
 
 -- and with a host it is
@@ -155,51 +140,36 @@ other_fitting : (name : List ℕ) (v : Location) (host : Option (List ℕ)) → 
 other_fitting name v None there e is h raw fits = fits there
 other_fitting name v (Some host) there e is h raw fits =
     let r = other_readable name v (Some host) e there is h in
-    let written = other_path_written (fields v) name e h.path (url_path v h.common) (λ none. raw) in
+    let written = other_path_written (fields v) name e h.path (url_path v h.url.common) (λ none. raw) in
     let named = ap (λ p. is_web_scheme (protocol_text p)) e ∙ (other_scheme name h.unknown).not_web in
     let starts = subst (λ b. StartsPath b (canonical_path (fields v))) (sym named) written.0.starts in
     let decoded : percent_decode (canonical_path v) ≡ v.path = sym (ap (λ p. path_for p (percent_decode (canonical_path v))) e) ∙ r.path.meant in
-    fitting v h.common (written_other (fields v) name e h.scheme_text)
+    fitting v h.url.common (written_other (fields v) name e h.scheme_text)
     (unspelled_fits v host r starts (λ empty. decode_empty (canonical_path v) (decoded ∙ path_empty v empty)))
 
 -- ---- all kinds
 
 -- what is settled without its spelling needs none
 needs_none : (p : Protocol) (v : Location) → IsSettledBy p (fields v) → is_raw_url p v.flag ≡ true → ((has_percent v.path ≡ false) × LacksWhiteSpace v.path) × HasFittingText (fields v)
-needs_none file v h kind = absurd (false≢true kind)
 needs_none ssh v (inl h) kind = absurd (both_ways (not v.flag) (ap not h.flagged) kind)
-needs_none ssh v (inr h) kind = (h.raw (no_match v), h.common.fits)
-needs_none git v h kind = (h.raw (no_match v), h.common.fits)
-needs_none http v h kind = absurd (false≢true kind)
-needs_none https v h kind = absurd (false≢true kind)
-needs_none ext v h kind = absurd (false≢true kind)
-needs_none (helper name) v h kind = absurd (false≢true kind)
-needs_none (helper_url name) v h kind = (h.raw (no_match v), h.common.fits)
+needs_none ssh v (inr h) kind = (h.url.raw (no_match v), h.url.common.fits)
+needs_none git v h kind = (h.url.raw (no_match v), h.url.common.fits)
+needs_none (helper_url name) v h kind = (h.url.raw (no_match v), h.url.common.fits)
+needs_none _ v h kind = absurd (false≢true kind)
 
 -- and what needs none is settled without it
 unspelled_by : (p : Protocol) (v : Location) → v.scheme ≡ p → IsValue v → IsSettledBy p v → (is_raw_url p v.flag ≡ true → (has_percent v.path ≡ false) × LacksWhiteSpace v.path) → (is_raw_url p v.flag ≡ true → v.host ≡ None → HasFittingText (fields v)) → IsSettledBy p (fields v)
-unspelled_by file v e is (inl h) raw fits = settled_by_fields file (fields v) v refl h.flagged (inl h)
+unspelled_by file v e is (inl h) raw fits = settled_by_fields file (fields v) v refl h.bare.0 (inl h)
 unspelled_by file v e is (inr h) raw fits = inr record {
   unflagged = h.unflagged;
-  alone = record { no_user = h.alone.no_user; no_password = h.alone.no_password; no_port = h.alone.no_port };
+  alone = h.alone;
   no_match = no_match v;
   host = h.host;
   path_text = h.path_text;
   rooted = h.rooted;
 }
-unspelled_by ssh v e is (inl h) raw fits = inl record {
-  flagged = h.flagged;
-  no_password = h.no_password;
-  no_port = h.no_port;
-  path_text = h.path_text;
-  nonempty = h.nonempty;
-  not_home = h.not_home;
-  not_slashes = h.not_slashes;
-  no_mark = h.no_mark;
-  user = h.user;
-  host = h.host;
-}
-unspelled_by ssh v e is (inr h) raw fits = inr (secure_unspelled v e is h (raw (ap not h.common.unflagged)))
+unspelled_by ssh v e is (inl h) raw fits = inl record { flagged = h.flagged; no_password = h.no_password; no_port = h.no_port; path = h.path; user = h.user; host = h.host }
+unspelled_by ssh v e is (inr h) raw fits = inr (secure_unspelled v e is h (raw (ap not h.url.common.unflagged)))
 unspelled_by git v e is h raw fits = git_unspelled v e is h (raw refl)
 unspelled_by http v e is h raw fits = web_unspelled v (inl e) is h
 unspelled_by https v e is h raw fits = web_unspelled v (inr e) is h

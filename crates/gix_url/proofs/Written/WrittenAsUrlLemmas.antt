@@ -5,8 +5,8 @@ use Rattle.std.proofs.lemmas.Bool.{cond-false, and_right, false≢true}
 use Rattle.gix_url.specs.Value.{Location}
 use Rattle.gix_url.specs.Value.Protocol.{ssh, git, helper_url}
 use Rattle.gix_url.specs.Bytes.{colon, slash, tilde, begins_with, is_scheme_text, FreeOf}
-use Rattle.gix_url.specs.Settled.{IsTransportPath, IsWeb}
-use Rattle.gix_url.specs.SettledParts.{IsHosted, IsWrittenAsUrl}
+use Rattle.gix_url.specs.Settled.{IsTransportPath, IsWeb, IsHosted}
+use Rattle.gix_url.specs.SettledParts.{IsWrittenAsUrl}
 use Rattle.gix_url.specs.Schemes.{protocol_text}
 use Rattle.gix_url.specs.Text.{Form, choice, choice_by, ssh_choice, with_host, is_relative, in_form, text, canonical_text}
 use Rattle.gix_url.specs.Text.Form.{canonical_form}
@@ -28,7 +28,7 @@ host_given v form hosted = cond-false _ _ _ (both_given v.user v.host hosted)
 
 -- a location whose form is that of a URL has the text of a URL
 canonical_by : (v : Location) → choice v ≡ with_host v canonical_form → IsHosted v → text v ≡ Ok (canonical_text v)
-canonical_by v chosen hosted = ap (λ form. in_form form v) (chosen ∙ host_given v canonical_form hosted.user_hosted)
+canonical_by v chosen hosted = ap (λ form. in_form form v) (chosen ∙ host_given v canonical_form hosted.0)
 
 -- one of HTTP
 pub written_web : (v : Location) → IsWeb v → IsWrittenAsUrl v

@@ -1,5 +1,5 @@
 -- The written path of a settled URL means the same path, and is written the same again.
-use Rattle.std.proofs.Common.{◌≡◌, ℕ, ◌<◌, Bool, true, false, not, ◌⊎◌, inl, inr, List, [], ◌∷◌, ◌++◌, length, bytes_eq, Option, Some, None, IsUtf8, if◌then◌else◌, refl, sym, ap, subst, ◌∙◌, arith}
+use Rattle.std.proofs.Common.{⊎_elim, ◌≡◌, ℕ, ◌<◌, Bool, true, false, not, ◌⊎◌, inl, inr, List, [], ◌∷◌, ◌++◌, length, bytes_eq, Option, Some, None, IsUtf8, if◌then◌else◌, refl, sym, ap, subst, ◌∙◌, arith}
 use Rattle.std.specs.Option.{is_some}
 use Rattle.std.proofs.lemmas.Bool.{cases_Bool, cond-true, cond-false, both_ways, false≢true, and_left, and_right, and_from, not_from_true}
 use Rattle.std.proofs.lemmas.Bool.Decides.{nat_tests}
@@ -14,8 +14,7 @@ use Rattle.gix_url.specs.Escapes.{has_percent, is_path_escaped}
 use Rattle.gix_url.specs.Schemes.{requires_path}
 use Rattle.gix_url.specs.Grammar.{path_for, or_root, from_home, retained_spelling}
 use Rattle.gix_url.specs.Text.{canonical_path, root_part, plain_path, matching_or}
-use Rattle.gix_url.specs.Settled.{HasMatch, IsFairSpelling, IsRawPath, IsTransportPath, first_byte, begins_at_home, IsWeb}
-use Rattle.gix_url.specs.SettledParts.{HasFairSpelling, HasUrlPath, IsRootedOrEmpty}
+use Rattle.gix_url.specs.Settled.{HasMatch, IsFairSpelling, IsRawPath, IsTransportPath, first_byte, begins_at_home, IsWeb, HasFairSpelling, HasUrlPath, IsRootedOrEmpty}
 use Rattle.gix_url.proofs.Written.WrittenPieces.{IsEscapedPiece, WritesPath, as_read}
 use Rattle.gix_url.proofs.Texts.EscapeLemmas.{decode_kept, decode_encode_utf8, encode_byte_kept, encode_sound, sound_free, sound_kept, utf8_byte, utf8_encode, white_space-append, white_space_byte}
 use Rattle.gix_url.proofs.Texts.EscapeSets.{path_holds, white_space_path}
@@ -42,15 +41,19 @@ IsFair spelling path = (s : List ℕ) → spelling ≡ Some s → percent_decode
 pub matched : (s path plain : List ℕ) → percent_decode s ≡ path → matching_or (Some s) path plain ≡ s
 matched s path plain same = cond-true _ _ _ ((bytes_eq-Decides (percent_decode s) path).1 same)
 
--- where none does, the plain path is written
-unmatched_by : (b : Bool) (s path plain : List ℕ) → bytes_eq (percent_decode s) path ≡ b → ¬ Matches (Some s) path → (if b then s else plain) ≡ plain
-unmatched_by true s path plain test none = absurd (none (s, refl, (bytes_eq-Decides (percent_decode s) path).0 test))
-unmatched_by false s path plain test none = refl
+-- what is written is a spelling that stands for the path, or what stands in where none does
+pub matching_cases : (P : List ℕ → Type 0) (spelling : Option (List ℕ)) (path plain : List ℕ) → ((s : List ℕ) → spelling ≡ Some s → percent_decode s ≡ path → P s) → (¬ Matches spelling path → P plain) → P (matching_or spelling path plain)
+matching_cases P None path plain spelled other = other (λ (s, is, same). none-some s is)
+matching_cases P (Some s) path plain spelled other = ⊎_elim
+    (λ yes. let same = (bytes_eq-Decides (percent_decode s) path).0 yes in subst P (sym (matched s path plain same)) (spelled s refl same))
+    (λ no.
+    let apart : ¬ Matches (Some s) path = λ (x, is, same). both_ways _ no ((bytes_eq-Decides (percent_decode s) path).1 (ap percent_decode (same_Some s x is) ∙ same)) in
+    subst P (sym (cond-false _ _ _ no)) (other apart))
+    (cases_Bool (bytes_eq (percent_decode s) path))
 
--- the same for a spelling that may be missing
+-- where none does, the plain path is written
 pub unmatched : (spelling : Option (List ℕ)) (path plain : List ℕ) → ¬ Matches spelling path → matching_or spelling path plain ≡ plain
-unmatched None path plain none = refl
-unmatched (Some s) path plain none = unmatched_by (bytes_eq (percent_decode s) path) s path plain refl none
+unmatched spelling path plain none = matching_cases (λ t. t ≡ plain) spelling path plain (λ s is same. absurd (none (s, is, same))) (λ apart. refl)
 
 -- a fair spelling is a writing of the path
 fair_writing : (s path plain : List ℕ) → IsFairSpelling s path → percent_decode s ≡ path → IsWriting path plain s
@@ -61,20 +64,9 @@ fair_writing s path plain fair decoded = record {
   unescaped = λ none. absurd (both_ways _ none fair.escaped);
 }
 
--- what is written, by whether the given spelling stands for the path
-matching_writing_by : (b : Bool) (s path plain : List ℕ) → bytes_eq (percent_decode s) path ≡ b → IsFair (Some s) path → (¬ Matches (Some s) path → IsWriting path plain plain) → IsWriting path plain (if b then s else plain)
-matching_writing_by true s path plain test fair other =
-    let same : percent_decode s ≡ path = (bytes_eq-Decides (percent_decode s) path).0 test in
-    fair_writing s path plain (fair s refl same) same
-matching_writing_by false s path plain test fair other =
-    other (λ (x, is, same).
-    let equal : percent_decode s ≡ path = ap percent_decode (same_Some s x is) ∙ same in
-    both_ways _ test ((bytes_eq-Decides (percent_decode s) path).1 equal))
-
 -- a matching spelling or what stands in for it is a writing of the path
 matching_writing : (spelling : Option (List ℕ)) (path plain : List ℕ) → IsFair spelling path → (¬ Matches spelling path → IsWriting path plain plain) → IsWriting path plain (matching_or spelling path plain)
-matching_writing None path plain fair other = other (λ (s, is, same). none-some s is)
-matching_writing (Some s) path plain fair other = matching_writing_by (bytes_eq (percent_decode s) path) s path plain refl fair other
+matching_writing spelling path plain fair other = matching_cases (IsWriting path plain) spelling path plain (λ s is same. fair_writing s path plain (fair s is same) same) other
 
 -- ---- read again
 

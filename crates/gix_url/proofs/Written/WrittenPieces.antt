@@ -9,7 +9,7 @@ use Rattle.gix_url.specs.Schemes.{requires_path}
 use Rattle.gix_url.specs.Authority.{Credentials}
 use Rattle.gix_url.specs.Grammar.{path_for, retained_spelling}
 use Rattle.gix_url.specs.Text.{user_information, canonical_host, port_part, canonical_path}
-use Rattle.gix_url.specs.SettledParts.{HasFairSpelling}
+use Rattle.gix_url.specs.Settled.{HasFairSpelling}
 
 -- text without white space, in which every escape is sound
 pub record IsEscapedPiece (t : List ℕ) : Type 0 where

@@ -1,5 +1,5 @@
 -- A settled location in the scp form comes back.
-use Rattle.std.proofs.Common.{◌≡◌, ℕ, Bool, true, false, not, ◌==◌, ◌⊎◌, inl, inr, ◌<◌, List, [], ◌∷◌, ◌++◌, Option, Some, None, Ok, IfSome, refl, sym, ap, subst, ◌∙◌, arith, append_assoc, codes, eq-eqb, IsUtf8, All, ◌↔◌}
+use Rattle.std.proofs.Common.{◌≡◌, ℕ, Bool, true, false, not, ◌==◌, ◌⊎◌, inl, inr, ◌<◌, List, [], ◌∷◌, ◌++◌, Option, Some, None, Ok, IfSome, refl, sym, ap, subst, ◌∙◌, arith, append_assoc, codes, eq-eqb, IsUtf8, All}
 use Rattle.std.proofs.lemmas.Bool.{both_ways, false≢true, cond-true, cond-false, and_parts, and_from, or_right}
 use Rattle.std.proofs.lemmas.Bool.Decides.{nat_tests}
 use Rattle.std.proofs.lemmas.List.Elements.{All-cons, All-nil}
@@ -16,8 +16,7 @@ use Rattle.gix_url.specs.Hosts.{Names, normal_host}
 use Rattle.gix_url.specs.Hosts.Mode.{bare}
 use Rattle.gix_url.specs.Grammar.{HasHelperForm, IsNeither, ScpFront, ScpShape, AddressedShape, ScpUser, ScpHost, IsBracketed, Unbrackets, SpellsScp, SpellsScpBefore, Spells, scp_location}
 use Rattle.gix_url.specs.Text.{text, is_relative, raw_user, raw_host, has_colon, wants_brackets}
-use Rattle.gix_url.specs.Settled.{IsValue, IsScpName, IsScpUser, IsNormalAddress, IsSettledScp, IsSettled, LooksLikeHelper, begins_at_home, begins_with_slashes}
-use Rattle.gix_url.specs.SettledParts.{IsScpPath, HasScpForm, HasScpParts}
+use Rattle.gix_url.specs.Settled.{IsValue, IsScpName, IsScpUser, IsNormalAddress, IsSettledScp, IsSettled, LooksLikeHelper, begins_at_home, begins_with_slashes, IsScpPath}
 use Rattle.gix_url.specs.Laws.{ComesBack}
 use Rattle.gix_url.proofs.Texts.CutLemmas.{heads, tails, different_bytes, not_free, free-append, free_begins, free-cons, free_head_tail, helper_name_free}
 use Rattle.gix_url.proofs.Addresses.AddressLemmas.{is_address_byte, address_byte_ascii, address_bytes, address_free, address_utf8}
@@ -36,36 +35,6 @@ use Rattle.gix_url.proofs.Written.KeptLemmas.{value_of}
 -- the value of a location in the scp form, perhaps with a spelling
 abbrev pub scp_value : Option (List ℕ) → List ℕ → List ℕ → Option (List ℕ) → Location
 scp_value user host path spelling = record (path_alone ssh true path) { user = user; host = Some host; spelling = spelling }
-
--- a settled location in the scp form
-pub settled_scp : (v : Location) → (HasScpForm v × HasScpParts v) ↔ IsSettledScp v
-settled_scp v = (
-  λ parts. record {
-    flagged = parts.0.flagged;
-    no_password = parts.0.no_password;
-    no_port = parts.0.no_port;
-    path_text = parts.1.0.path_text;
-    nonempty = parts.1.0.nonempty;
-    not_home = parts.1.0.not_home;
-    not_slashes = parts.1.0.not_slashes;
-    no_mark = parts.1.0.no_mark;
-    user = parts.1.1.0;
-    host = parts.1.1.1;
-  },
-  λ s. (
-    record { flagged = s.flagged; no_password = s.no_password; no_port = s.no_port },
-    (
-      record {
-        path_text = s.path_text;
-        nonempty = s.nonempty;
-        not_home = s.not_home;
-        not_slashes = s.not_slashes;
-        no_mark = s.no_mark;
-      },
-      (s.user, s.host),
-    ),
-  ),
-)
 
 -- a settled location in the scp form is such a value
 pub scp_value_of : (v : Location) (h : List ℕ) → v.scheme ≡ ssh → IsSettledScp v → v.host ≡ Some h → v ≡ scp_value v.user h v.path v.spelling
@@ -383,14 +352,10 @@ scp_spelled user h path named host u (inr a) p other =
 
 -- ---- settled locations come back
 
--- the path of a settled location
-pub scp_path : (v : Location) → IsSettledScp v → IsScpPath v.path
-scp_path v s = ((settled_scp v).1 s).1.0
-
 -- the location without its spelling is settled
 scp_read_settled : (v : Location) (h : List ℕ) → IsSettledScp v → IsScpName h ⊎ IsNormalAddress h → ¬ LooksLikeHelper v h → IsSettledScp (scp_value v.user h v.path None)
 scp_read_settled v h s kind other =
-    (settled_scp (scp_value v.user h v.path None)).0 (record { flagged = refl; no_password = refl; no_port = refl }, (scp_path v s, (s.user, (h, refl, kind, other))))
+    record { flagged = refl; no_password = refl; no_port = refl; path = s.path; user = s.user; host = (h, refl, kind, other) }
 
 -- a settled location in the scp form comes back without its spelling
 pub scp_again : (v : Location) → v.scheme ≡ ssh → IsValue v → IsSettledScp v → (back : ComesBack v) × IsSettled back.reread
@@ -402,7 +367,7 @@ scp_again v scheme is s =
         written = raw_user v.user ++ (raw_host (Some h) ++ colon ∷ v.path);
         reread = scp_value v.user h v.path None;
         has_text = ap (λ l. text l) value ∙ scp_written v.user h v.path v.spelling;
-        spelled = Spells.scp_form (scp_spelled v.user h v.path is.user text_of_host s.user kind (scp_path v s) other);
+        spelled = Spells.scp_form (scp_spelled v.user h v.path is.user text_of_host s.user kind s.path other);
         same_fields = sym (ap (λ l. fields l) value);
         same_text = scp_written v.user h v.path None;
       },

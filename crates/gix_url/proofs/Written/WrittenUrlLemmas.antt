@@ -13,8 +13,8 @@ use Rattle.gix_url.specs.Authority.{Authority, FitsText}
 use Rattle.gix_url.specs.Authority.Authority.{host_alone, with_user}
 use Rattle.gix_url.specs.Grammar.{UrlParts, SpellsParts, HostFor, Spells}
 use Rattle.gix_url.specs.Text.{user_information, host_part, port_part, canonical_path, canonical_text, text}
-use Rattle.gix_url.specs.Settled.{IsValue, IsSettledUrl, IsSettledBy, IsSettled}
-use Rattle.gix_url.specs.SettledParts.{HasFairSpelling, IsHosted, IsWrittenAsUrl}
+use Rattle.gix_url.specs.Settled.{IsValue, IsSettledUrl, IsSettledBy, IsSettled, HasFairSpelling}
+use Rattle.gix_url.specs.SettledParts.{IsWrittenAsUrl}
 use Rattle.std.proofs.lemmas.Option.{IfSome_then}
 use Rattle.gix_url.specs.Hosts.Names.{nothing}
 use Rattle.gix_url.specs.Laws.{ComesBack}
@@ -156,13 +156,13 @@ password_beside user (Some p) h given = h.1
 -- the user information of a settled URL is read as its user and password
 information_of : (v : Location) → IsSettledUrl v → IsValue v → (u : List ℕ) → v.user ≡ Some u → WritesInformation u v.password
 information_of v h is u e =
-    information_written u v.password (subst (λ o. IfSome o IsUtf8) e is.user) is.password (IfSome_then v.password h.password (λ p parts. parts.0)) (λ empty. h.user (e ∙ ap Some empty))
+    information_written u v.password (subst (λ o. IfSome o IsUtf8) e is.user) is.password (IfSome_then v.password h.credentials.0 (λ p parts. parts.0)) (λ empty. h.credentials.1 (e ∙ ap Some empty))
 
 -- the authority of a settled URL with a host
 pub authority_with_host : (mode : Mode) (v : Location) (host named : List ℕ) → IsSettledUrl v → IsValue v → v.host ≡ Some host → WritesHost mode v host named → Authority mode (authority_text v) v.user v.password (Some named) v.port × IsAuthorityPiece (authority_text v)
 authority_with_host mode v host named h is e writes =
     let same : authority_text v ≡ user_information v.user v.password ++ host_and_port v host = ap (λ o. user_information v.user v.password ++ (host_part v o ++ port_part v.port)) e in
-    let both = hosted_written mode v host named v.user v.password (information_of v h is) (password_beside v.user v.password h.password) writes in
+    let both = hosted_written mode v host named v.user v.password (information_of v h is) (password_beside v.user v.password h.credentials.0) writes in
     subst (λ t. Authority mode t v.user v.password (Some named) v.port × IsAuthorityPiece t) (sym same) both
 
 -- no optional text is there
@@ -173,9 +173,9 @@ none_given (Some x) p e h = absurd (false≢true (ap is_some (sym e) ∙ h refl)
 -- the authority of a settled URL without a host is empty
 pub authority_without_host : (mode : Mode) (v : Location) → IsSettledUrl v → v.host ≡ None → Authority mode (authority_text v) v.user v.password None v.port × IsAuthorityPiece (authority_text v)
 authority_without_host mode v h e =
-    let user : v.user ≡ None = none_given v.user v.host e h.user_hosted in
-    let port : v.port ≡ None = none_given v.port v.host e h.port_hosted in
-    let password : v.password ≡ None = none_given v.password v.user user (password_beside v.user v.password h.password) in
+    let user : v.user ≡ None = none_given v.user v.host e h.hosted.0 in
+    let port : v.port ≡ None = none_given v.port v.host e h.hosted.1 in
+    let password : v.password ≡ None = none_given v.password v.user user (password_beside v.user v.password h.credentials.0) in
     let empty : authority_text v ≡ [] =
     ap (λ o. user_information o v.password ++ (host_part v v.host ++ port_part v.port)) user ∙ ap (λ o. host_part v o ++ port_part v.port) e ∙ ap port_part port in
     (subst (λ t. Authority mode t v.user v.password None v.port) (sym empty) (host_alone refl (nothing refl refl port) user password), subst IsAuthorityPiece (sym empty) (authority_piece [] refl refl))
@@ -184,21 +184,17 @@ authority_without_host mode v h e =
 url_as_read : (v : Location) → IsSettledUrl v → FitsText (canonical_text v) → text (as_read v) ≡ Ok (canonical_text v) → HasFairSpelling (as_read v) → IsSettledUrl (as_read v)
 url_as_read v h fits written fair = record {
   unflagged = h.unflagged;
-  password = h.password;
-  user = h.user;
-  user_hosted = h.user_hosted;
-  port_hosted = h.port_hosted;
+  credentials = h.credentials;
+  hosted = h.hosted;
+  path = record { path_text = h.path.path_text; spelling = fair };
   fits = (canonical_text v, written, fits);
-  path_text = h.path_text;
-  spelling = fair;
 }
 
 -- a settled URL is readable, where its authority and its path are written so that they are read
 pub url_readable : (v : Location) (p : Protocol) (named : Option (List ℕ)) → v.scheme ≡ p → IsUrlProtocol p → IsSettledUrl v → Authority (mode_of (protocol_text p)) (authority_text v) v.user v.password named v.port × IsAuthorityPiece (authority_text v) → (requires_host (protocol_text p) ≡ true → IsSome named) → HostFor p named v.host → WritesPath (is_web_scheme (protocol_text p)) v → IsWrittenAsUrl v → IsReadable v named
 url_readable v p named e known h authority required hosted path written =
-    let is_hosted : IsHosted v = record { user_hosted = h.user_hosted; port_hosted = h.port_hosted } in
     let (t, is, short) = h.fits in
-    let okay : Ok t ≡ Ok (canonical_text v) = sym is ∙ written.canonical h.unflagged is_hosted in
+    let okay : Ok t ≡ Ok (canonical_text v) = sym is ∙ written.canonical h.unflagged h.hosted in
     let same : t ≡ canonical_text v = cc in
     record {
       scheme = subst IsUrlProtocol (sym e) known;
@@ -214,7 +210,7 @@ url_readable v p named e known h authority required hosted path written =
 -- a readable settled URL comes back
 pub url_again : (v : Location) (p : Protocol) (named : Option (List ℕ)) → v.scheme ≡ p → IsSettledUrl v → IsReadable v named → IsWrittenAsUrl v → IsWrittenAsUrl (as_read v) → (IsSettledUrl (as_read v) → IsSettledBy p (as_read v)) → (back : ComesBack v) × IsSettled back.reread
 url_again v p named e h readable written rewritten settled =
-    let first : text v ≡ Ok (canonical_text v) = written.canonical h.unflagged (record { user_hosted = h.user_hosted; port_hosted = h.port_hosted }) in
-    let second : text (as_read v) ≡ Ok (canonical_text v) = rewritten.canonical h.unflagged (record { user_hosted = h.user_hosted; port_hosted = h.port_hosted }) ∙ ap Ok (text_as_read v named readable) in
+    let first : text v ≡ Ok (canonical_text v) = written.canonical h.unflagged h.hosted in
+    let second : text (as_read v) ≡ Ok (canonical_text v) = rewritten.canonical h.unflagged h.hosted ∙ ap Ok (text_as_read v named readable) in
     let again = settled (url_as_read v h readable.fits second readable.path.fair) in
     readable_again v named readable first second (subst (λ q. IsSettledBy q (as_read v)) (sym e) again)

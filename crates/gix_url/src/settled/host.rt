@@ -4,8 +4,8 @@
 //! the hosts that the definitions settle. It takes no memory.
 
 ghost use Rattle.std.specs.Prelude.{◌≡◌, ◌↔◌, IsTrue, Option};
-ghost use Rattle.gix_url.specs.Settled.{IsBareHost, IsBracketedHost, IsWebHost, IsWebName};
-ghost use Rattle.gix_url.specs.SettledParts.{IsBracketedAddress, IsBracketedLiteral, IsClosedHost, IsNormalLiteral, StripsBrackets};
+ghost use Rattle.gix_url.specs.Settled.{IsBareHost, IsBracketedAddress, IsBracketedHost, IsWebHost, IsWebName};
+ghost use Rattle.gix_url.specs.SettledParts.{IsBracketedLiteral, IsClosedHost, IsNormalLiteral, StripsBrackets};
 
 use super::parts::{is_normal, is_normal_address, is_normal_name};
 use crate::bytes::{after, before, cut};

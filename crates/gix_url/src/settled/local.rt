@@ -4,8 +4,8 @@
 //! exactly for those that the definitions settle. It takes no memory.
 
 ghost use Rattle.std.specs.Prelude.{◌↔◌, IsTrue, IfSome};
+ghost use Rattle.gix_url.specs.Grammar.{LocalShape};
 ghost use Rattle.gix_url.specs.Settled.{IsFileHost, IsSettledFile, IsSettledHelper, IsSettledLocal};
-ghost use Rattle.gix_url.specs.Shapes.{LocalShape};
 
 use super::parts::{has_at_most_host, has_match, is_flagged_path};
 use crate::bytes::{is_free_of, is_helper_name, starts_with_byte};

@@ -6,8 +6,7 @@
 ghost use Rattle.std.specs.Prelude.{◌≡◌, ◌↔◌, IsTrue, codes};
 ghost use Rattle.gix_url.specs.Bytes.{Holds};
 ghost use Rattle.gix_url.specs.Hosts.{normal_host};
-ghost use Rattle.gix_url.specs.Settled.{HasAtMostHost, HasMatch, IsNormalAddress, IsNormalName, IsOpenName, begins_with_slashes};
-ghost use Rattle.gix_url.specs.SettledParts.{IsFlaggedPath};
+ghost use Rattle.gix_url.specs.Settled.{HasAtMostHost, HasMatch, IsFlaggedPath, IsNormalAddress, IsNormalName, IsOpenName, begins_with_slashes};
 
 use crate::bytes::{cut_at_mark, is_free_of, is_lowercase};
 use crate::escape::decodes_to;

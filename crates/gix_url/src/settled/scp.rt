@@ -4,8 +4,7 @@
 //! definitions settle. It takes no memory.
 
 ghost use Rattle.std.specs.Prelude.{◌↔◌, IsTrue, IfSome};
-ghost use Rattle.gix_url.specs.Settled.{IsScpName, IsScpUser, IsSettledScp, LooksLikeHelper};
-ghost use Rattle.gix_url.specs.SettledParts.{HasScpForm, HasScpFront, HasScpHost, HasScpParts, IsScpHost, IsScpPath};
+ghost use Rattle.gix_url.specs.Settled.{HasScpHost, IsScpHost, IsScpName, IsScpPath, IsScpUser, IsSettledScp, LooksLikeHelper};
 
 use super::parts::{begins_with_slashes, is_normal_address, is_normal_name, lacks_mark};
 use crate::bytes::{is_free_of, is_helper_name, starts_with_byte};
@@ -18,28 +17,12 @@ use crate::url_ref::UrlRef;
 pub(crate) fn is_settled_scp(url: &UrlRef<'_>) -> bool
     ensures { IsTrue result ↔ IsSettledScp url.now }
 {
-    has_scp_form(url) && has_scp_parts(url)
-}
-
-/// Whether user, host and path are settled in the scp form.
-fn has_scp_parts(url: &UrlRef<'_>) -> bool
-    ensures { IsTrue result ↔ HasScpParts url.now }
-{
-    is_scp_path(url.path) && has_scp_front(url)
-}
-
-/// Whether user and host are settled in the scp form.
-fn has_scp_front(url: &UrlRef<'_>) -> bool
-    ensures { IsTrue result ↔ HasScpFront url.now }
-{
-    has_scp_user(url) && has_scp_host(url)
-}
-
-/// Whether the location has the flag, and neither password nor port.
-fn has_scp_form(url: &UrlRef<'_>) -> bool
-    ensures { IsTrue result ↔ HasScpForm url.now }
-{
-    url.serialize_alternative_form && url.password.is_none() && url.port.is_none()
+    url.serialize_alternative_form
+        && url.password.is_none()
+        && url.port.is_none()
+        && is_scp_path(url.path)
+        && has_scp_user(url)
+        && has_scp_host(url)
 }
 
 /// Whether the text is a settled path in the scp form.

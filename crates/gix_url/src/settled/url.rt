@@ -7,8 +7,8 @@ ghost use Rattle.std.specs.Prelude.{◌≡◌, ◌↔◌, IsTrue, IsUtf8, true, 
 ghost use Rattle.gix_url.specs.Value.Protocol.{git, helper_url, ssh};
 ghost use Rattle.gix_url.specs.Bytes.{begins_by, is_path_start};
 ghost use Rattle.gix_url.specs.Pieces.{AreOwn};
-ghost use Rattle.gix_url.specs.Settled.{IsBracketedHost, IsFairSpelling, IsRawPath, IsSettledGit, IsSettledHelperUrl, IsSettledSecure, IsSettledUrl, IsSettledWeb, IsTransportPath, IsWeb, first_byte};
-ghost use Rattle.gix_url.specs.SettledParts.{HasBareHost, HasBracketedHost, HasCredentials, HasFairSpelling, HasUrlForm, HasUrlParts, HasUrlPath, HasWebHost, IsEscapedText, IsGitTarget, IsHomeless, IsHosted, IsOtherForm, IsOtherScheme, IsOtherTarget, IsRaw, IsRootedOrEmpty, IsSecureTarget, IsSettledRaw, IsWebTarget, IsWrittenAsUrl};
+ghost use Rattle.gix_url.specs.Settled.{HasBareHost, HasBracketedHost, HasCredentials, HasFairSpelling, HasUrlPath, HasWebHost, IsBracketedHost, IsFairSpelling, IsHomeless, IsHosted, IsRaw, IsRawPath, IsRootedOrEmpty, IsSettledGit, IsSettledHelperUrl, IsSettledRaw, IsSettledSecure, IsSettledUrl, IsSettledWeb, IsTransportPath, IsWeb, first_byte};
+ghost use Rattle.gix_url.specs.SettledParts.{IsWrittenAsUrl};
 
 use super::host::{is_bare_host, is_bracketed_host, is_web_host};
 use super::measure::has_fitting_text;
@@ -27,14 +27,10 @@ pub(crate) fn is_settled_web(url: &UrlRef<'_>, laid: Option<&Pieces<'_>>) -> boo
     requires laid { AreOwn laid url.now }
     ensures { IsTrue result ↔ IsSettledWeb url.now }
 {
-    is_web_target(url) && is_settled_url(url, laid)
-}
-
-/// Whether host, port and path are those of a settled location of HTTP.
-fn is_web_target(url: &UrlRef<'_>) -> bool
-    ensures { IsTrue result ↔ IsWebTarget url.now }
-{
-    has_web_host(url) && url.port != Some(0) && begins_web_path(url.path)
+    has_web_host(url)
+        && url.port != Some(0)
+        && begins_web_path(url.path)
+        && is_settled_url(url, laid)
 }
 
 /// Whether there is a host, settled for HTTP.
@@ -63,14 +59,7 @@ pub(crate) fn is_settled_secure(url: &UrlRef<'_>, laid: Option<&Pieces<'_>>) -> 
     requires laid { AreOwn laid url.now }
     ensures { IsTrue result ↔ IsSettledSecure url.now }
 {
-    is_secure_target(url) && is_settled_raw(url, laid)
-}
-
-/// Whether host and path are those of a settled URL of Secure Shell.
-fn is_secure_target(url: &UrlRef<'_>) -> bool
-    ensures { IsTrue result ↔ IsSecureTarget url.now }
-{
-    has_bare_host(url) && is_transport_path(url)
+    has_bare_host(url) && is_transport_path(url) && is_settled_raw(url, laid)
 }
 
 /// Whether there is a host, settled for Secure Shell.
@@ -89,14 +78,7 @@ pub(crate) fn is_settled_git(url: &UrlRef<'_>, laid: Option<&Pieces<'_>>) -> boo
     requires laid { AreOwn laid url.now }
     ensures { IsTrue result ↔ IsSettledGit url.now }
 {
-    is_git_target(url) && is_settled_raw(url, laid)
-}
-
-/// Whether host and path are those of a settled URL of Git's own protocol.
-fn is_git_target(url: &UrlRef<'_>) -> bool
-    ensures { IsTrue result ↔ IsGitTarget url.now }
-{
-    has_bracketed_host(url) && is_transport_path(url)
+    has_bracketed_host(url) && is_transport_path(url) && is_settled_raw(url, laid)
 }
 
 /// Whether there is a host, settled with its addresses between brackets.
@@ -133,28 +115,12 @@ pub(crate) fn is_settled_helper_url(
     requires laid { AreOwn laid url.now }
     ensures { IsTrue result ↔ IsSettledHelperUrl name.now url.now }
 {
-    is_other_form(url, name) && is_settled_raw(url, laid)
-}
-
-/// Whether scheme, host and path are those of a settled URL of another scheme.
-fn is_other_form(url: &UrlRef<'_>, name: &[u8]) -> bool
-    ensures { IsTrue result ↔ IsOtherForm name.now url.now }
-{
-    is_other_scheme(name) && is_other_target(url, name)
-}
-
-/// Whether the name is a scheme without a name of its own.
-fn is_other_scheme(name: &[u8]) -> bool
-    ensures { IsTrue result ↔ IsOtherScheme name.now }
-{
-    is_scheme_text(name) && !is_known_scheme(name)
-}
-
-/// Whether host and path are those of a settled URL of another scheme.
-fn is_other_target(url: &UrlRef<'_>, name: &[u8]) -> bool
-    ensures { IsTrue result ↔ IsOtherTarget name.now url.now }
-{
-    has_other_host(url) && (url.host.is_some() || !is_ftp(name)) && is_rooted_or_empty(url.path)
+    has_other_host(url)
+        && (url.host.is_some() || !is_ftp(name))
+        && is_rooted_or_empty(url.path)
+        && !is_known_scheme(name)
+        && is_scheme_text(name)
+        && is_settled_raw(url, laid)
 }
 
 /// Whether the host, where there is one, is settled.
@@ -208,21 +174,11 @@ fn is_settled_url(url: &UrlRef<'_>, laid: Option<&Pieces<'_>>) -> bool
     requires laid { AreOwn laid url.now }
     ensures { IsTrue result ↔ IsSettledUrl url.now }
 {
-    has_url_form(url) && has_fitting_text(url, laid)
-}
-
-/// The same, but for the length of the text.
-fn has_url_form(url: &UrlRef<'_>) -> bool
-    ensures { IsTrue result ↔ HasUrlForm url.now }
-{
-    has_url_parts(url) && has_url_path(url)
-}
-
-/// Whether flag, user, password and port are those of a settled URL.
-fn has_url_parts(url: &UrlRef<'_>) -> bool
-    ensures { IsTrue result ↔ HasUrlParts url.now }
-{
-    !url.serialize_alternative_form && has_credentials(url) && is_hosted(url)
+    !url.serialize_alternative_form
+        && has_credentials(url)
+        && is_hosted(url)
+        && has_url_path(url)
+        && has_fitting_text(url, laid)
 }
 
 /// Whether a password comes with a user and isn't empty, and an empty user comes with a password.
@@ -266,17 +222,14 @@ fn is_fair_spelling(spelling: &[u8], path: &[u8]) -> bool
     ensures { IsTrue result ↔ IsFairSpelling spelling.now path.now }
 {
     match str::from_utf8(spelling) {
-        Ok(text) => is_escaped_text(text) && begin_alike(spelling, path),
+        Ok(text) => {
+            is_sound(spelling)
+                && has_percent(spelling)
+                && lacks_white_space(text)
+                && begin_alike(spelling, path)
+        }
         Err(_) => false,
     }
-}
-
-/// Whether the text holds escapes, all of them sound, and no white space.
-fn is_escaped_text(text: &str) -> bool
-    ensures { IsTrue result ↔ IsEscapedText text.now }
-{
-    let bytes = text.as_bytes();
-    is_sound(bytes) && has_percent(bytes) && lacks_white_space(text)
 }
 
 /// Whether the texts have the same first byte, or none.
