@@ -10,7 +10,7 @@ ghost use Rattle.gix_url.specs.AnswerLaws.{LineForLine, OneLine, OneSplit};
 ghost use Rattle.gix_url.specs.ComponentLaws.{EqualComponents, OneComponents};
 ghost use Rattle.gix_url.specs.Git.{OneGitReading};
 ghost use Rattle.gix_url.specs.GitClass.{ReadAlike};
-ghost use Rattle.gix_url.specs.Laws.{Apart, Closed, EqualIsSame, Exact, ExactByFields, FedAlike, KeepsEarlier, LocationsFedApart, ProtocolsFedApart, ReadAgain, SameComponents, SettledAgain, SpellingLast, TextDecides, TiedIsEqual, Unchanged, Unique, Writable};
+ghost use Rattle.gix_url.specs.Laws.{Apart, Closed, EqualIsSame, Exact, ExactByFields, FedAlike, KeepsEarlier, LocationsFedApart, ProtocolsFedApart, ReadAgain, ReadersAgree, SameComponents, SameWithRoom, SettledAgain, SpellingLast, TextDecides, TiedIsEqual, Unchanged, Unique, Writable};
 ghost use Rattle.gix_url.specs.Order.{fed_location, fed_protocol, location_cmp, location_eq, protocol_cmp, protocol_eq};
 ghost use Rattle.gix_url.specs.Records.{KeepsMeaning, MigratedOnce, Migrates, RespelledOnce};
 ghost use Rattle.gix_url.specs.Refusals.{Decided, Exclusive, Flawless};
@@ -61,6 +61,18 @@ pub fn law_separation()
     ensures text_decides { TextDecides }
     ensures components { SameComponents }
     ensures before { KeepsEarlier }
+{}
+
+/// Reading with memory and reading without it are one.
+///
+/// - `agree`: to the same bytes [`parse`](crate::parse::parse) and [`UrlRef::parse_in`](crate::UrlRef::parse_in) answer the
+///   same location, or both refuse them; else memory was refused to the first, or the room of the second is shorter than
+///   the bytes.
+/// - `same`: with room for as many bytes, the second answers a location exactly where the first does and memory isn't
+///   refused. So a program that has no memory to ask for reads every text as one that has.
+pub fn law_readers()
+    ensures agree { ReadersAgree }
+    ensures same { SameWithRoom }
 {}
 
 /// Records of the legacy form, whose spelling is their path, stand for the same bytes after migration.
