@@ -76,7 +76,7 @@ pub data IsTold (v : Location) (answer : List ℕ) (good : Bool) : Type 0 where
 pub data IsAnswer (line answer : List ℕ) (good : Bool) : Type 0 where
   -- what is told of the one location that it spells
   told : (v : Location) → Spells line v → IsTold v answer good → IsAnswer line answer good
-  -- a refusal whose flaw stands in it, so that it spells none (`Exclusive`)
+  -- a refusal whose flaw stands in it, so that it spells none (`RefusalExclusive`)
   refused : (r : Refusal) → NamesFlaw line r → answer ≡ told_line (codes "refused") (refusal_name r)
       → good ≡ false → IsAnswer line answer good
 

@@ -13,7 +13,7 @@ ghost use Rattle.gix_url.specs.GitClass.{ReadAlike};
 ghost use Rattle.gix_url.specs.Laws.{Apart, Closed, EqualIsSame, Exact, ExactByFields, FedAlike, KeepsEarlier, LocationsFedApart, ProtocolsFedApart, ReadAgain, ReadersAgree, SameComponents, SameWithRoom, SettledAgain, SpellingLast, TextDecides, TiedIsEqual, Unchanged, Unique, Writable};
 ghost use Rattle.gix_url.specs.Order.{fed_location, fed_protocol, location_cmp, location_eq, protocol_cmp, protocol_eq};
 ghost use Rattle.gix_url.specs.Records.{KeepsMeaning, MigratedOnce, Migrates, RespelledOnce};
-ghost use Rattle.gix_url.specs.Refusals.{Decided, Exclusive, Flawless};
+ghost use Rattle.gix_url.specs.Refusals.{Decided, Exclusive, Flawless, RefusalExclusive};
 ghost use Rattle.gix_url.specs.Safeguards.{SettledWithoutPassword, SettledWithoutSpelling, WebSettledWithoutSpelling};
 
 pub use crate::address_law::law_address_test;
@@ -158,12 +158,15 @@ pub fn law_scheme_order()
 ///
 /// - `exclusive`: bytes in which the flaw of an error stands spell no location, whichever error it is but want of memory.
 ///   So no reader that keeps to these definitions takes what [`parse`](crate::parse::parse) refuses.
+/// - `refusal`: so it is with the flaw of a [`Refusal`](crate::Refusal), which reading into a room names, and the answer to
+///   a line.
 /// - `flawless`: no flaw stands in bytes that spell a location, whether or not there is an error that holds a copy of
 ///   them.
 /// - `decided`: bytes spell a location, or one of these flaws stands in them. There is no third case, and by `flawless`
 ///   none is both: what a text lacks to be read, an error can name.
 pub fn law_refusals()
     ensures exclusive { Exclusive }
+    ensures refusal { RefusalExclusive }
     ensures flawless { Flawless }
     ensures decided { Decided }
 {}

@@ -1,6 +1,6 @@
 //! The program's work: reads locations, a line each, and answers a line for each.
 //!
-//! It uses `parse_in`, the settled test, the writer, and `bytes` to cut lines. Its contract: all of the input is
+//! It uses reading into a room, the settled test, the writer, and `bytes` to cut lines. Its contract: all of the input is
 //! answered, line by line, as the definitions have it; where memory or the reader fails nothing is written, and a
 //! fault of the writer comes only once all is read. Memory is asked for to hold the input, a room as long as its longest
 //! line, and the answers; no line asks for memory of its own.

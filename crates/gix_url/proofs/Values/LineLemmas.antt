@@ -151,10 +151,6 @@ within_next most room b line behind within (free, cut) same = subst (λ n. HasLi
 abbrev pub Measured : List ℕ → List ℕ → ℕ → Type 0
 Measured whole rest longest = (most : ℕ) → HasLinesWithin most whole ↔ ((longest ≤ most) × HasLinesWithin most rest)
 
--- before the first line
-pub measured_none : (whole : List ℕ) → Measured whole whole 0
-measured_none whole most = (λ within. (omega arith, within), λ (least, within). within)
-
 -- one more line
 pub measured_step : (whole rest line behind : List ℕ) (longest : ℕ) → Measured whole rest longest → FreeOf newline line × (rest ≡ line ++ newline ∷ behind) → Measured whole behind (max longest (length line))
 measured_step whole rest line behind longest measured (free, cut) most =
