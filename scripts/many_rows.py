@@ -8,11 +8,15 @@
   each       the first and the last of some characters, or `"bytes"` for all bytes: every `*` in the texts of the line is each
              of them in turn. The outcomes are what the second reading gives, and `settled` says in how many rows `url` is
              settled
+  texts_of   the name of a table: the call is over each text that this table reads by `parse::parse`, with what the second
+             reading gives
   random     how many random paths the call is over, the same each time, with the outcomes that `plain_paths.py` reads
 """
 import itertools
+import json
 
 import plain_paths
+from kit import ROOT
 from recomputed import location, oracle, outcome
 from row_text import joined, text_of
 
@@ -77,6 +81,14 @@ def each(members, ends):
     return [{**it, "is": outcome(it)} for it in found]
 
 
+def texts_of(members, table):
+    """The rows of all texts that a table reads, with the outcomes of the second reading."""
+    with open(f"{ROOT}/vectors/{table}.jsonl", encoding="utf-8") as it:
+        told = [json.loads(line) for line in it if line.startswith("{")]
+    found = [{**members, "text": joined(it["text"])} for it in told if it["call"] == "parse::parse" and "text" in it]
+    return [{**it, "is": outcome(it)} for it in found]
+
+
 def in_texts(value):
     """A value with its bytes as texts of a row."""
     if isinstance(value, dict):
@@ -92,7 +104,7 @@ def random_rows(members, number):
         yield {**members, **in_texts(given), "is": in_texts(outcome)}
 
 
-WAYS = {"in_order": pairs, "over": choices, "fronts": fronts, "each": each, "random": random_rows}
+WAYS = {"in_order": pairs, "over": choices, "fronts": fronts, "each": each, "texts_of": texts_of, "random": random_rows}
 
 
 def expanded(members):

@@ -57,6 +57,16 @@ def read(given):
     return refused(given) if found is None else told_location(found)
 
 
+def read_in(row):
+    """What reading a text into a room gives; an error keeps nothing of the text but the front of one that is too long."""
+    given = bytes_of(row["text"])
+    found = oracle.spells(given)
+    if found is None:
+        error = refused(given)
+        return error if error["error"] == "TooLong" else {"error": error["error"]}
+    return {"error": "NoRoom"} if row.get("room", len(given)) < len(given) else record(found)
+
+
 def written(of, call=text_of):
     """What a call gives for the text of a location, or why that has none."""
     text = oracle.text(of)
@@ -137,6 +147,7 @@ CALLS = {
     "parse::parse": over_text(read),
     "Url::from_text": over_text(read),
     "Url::from_bytes": over_text(read),
+    "UrlRef::parse_in": read_in,
     "Url::to_bstring": over_url(written),
     "UrlRef::to_bstring": over_url(written),
     "Url::write_to": over_url(write_to),

@@ -63,7 +63,9 @@ class Row:
         self.requests, self.bytes = members.get("requests"), members.get("bytes")
         self.class_name, self.git = members.get("class"), members.get("git")
         self.members = {name: joined(it) for name, it in members.items() if name not in OWN}
-        self.expected = keeps(joined(members.get("is")), self.members.get("text"))
+        expected = joined(members.get("is"))
+        # What is read into a room keeps nothing.
+        self.expected = expected if members.get("call") == "UrlRef::parse_in" else keeps(expected, self.members.get("text"))
 
     def order(self, **more):
         return json.dumps({**self.members, **more})

@@ -15,7 +15,7 @@ use gix_url::lines::{fault_line, run, status};
 use gix_url::parse::parse;
 use gix_url::stored::StoredUrl;
 use gix_url::testing::TestUrlExtension;
-use gix_url::{Error, PathComponents, Scheme, Url, UrlRef, WriteError, ipv6, laws};
+use gix_url::{Error, ParseError, PathComponents, Scheme, Url, UrlRef, WriteError, ipv6, laws};
 use std::alloc::Global;
 use std::hash::{DefaultHasher, Hash, Hasher};
 use std::io::Write;
@@ -52,9 +52,65 @@ fn is_over_error(name: &str) -> bool {
 /// Calls that read a text, or judge it.
 fn over_text(alloc: Global, order: Order<'_>, out: &mut Out) -> Result<(), Halt> {
     let bytes = order.bytes(alloc, "text")?;
-    let outcome = read(alloc, order, BStr::new(bytes.as_slice()), out);
+    let outcome = if is_in_room(order.name()) {
+        over_room(alloc, order, bytes.as_slice(), out)
+    } else {
+        read(alloc, order, BStr::new(bytes.as_slice()), out)
+    };
     drop(bytes);
     outcome
+}
+
+/// Whether a call reads into a room, or shows what such a call refuses.
+fn is_in_room(name: &str) -> bool {
+    name == "UrlRef::parse_in" || name == "ParseError:fmt" || name == "Refusal:fmt"
+}
+
+/// Calls over a text and a room: of as many bytes as the order says, and else as the text has. It isn't empty: what the
+/// library leaves there is none of a location.
+fn over_room(alloc: Global, order: Order<'_>, text: &[u8], out: &mut Out) -> Result<(), Halt> {
+    let size = match order.number("room") {
+        Some(size) => usize::try_from(size).unwrap_or(0),
+        None => text.len(),
+    };
+    let mut room = vec![in alloc; b'#'; size]?;
+    let outcome = read_in(order, text, &mut room, out);
+    drop(room);
+    outcome
+}
+
+/// Reads a text into a room, and tells the location or shows the error.
+fn read_in(order: Order<'_>, text: &[u8], room: &mut [u8], out: &mut Out) -> Result<(), Halt> {
+    match order.call() {
+        "UrlRef::parse_in" => told(out, UrlRef::parse_in(text, room)),
+        "ParseError:fmt" => show_unread(order, UrlRef::parse_in(text, room), out),
+        "Refusal:fmt" => show_refused(order, UrlRef::parse_in(text, room), out),
+        call => unknown(call),
+    }
+}
+
+/// Shows why a text was not read.
+fn show_unread(
+    order: Order<'_>,
+    outcome: Result<UrlRef<'_>, ParseError<'_>>,
+    out: &mut Out,
+) -> Result<(), Halt> {
+    match outcome {
+        Ok(_) => Err(Halt::Unprepared),
+        Err(error) => show(out, order.style(), &error),
+    }
+}
+
+/// Shows why a text spells no location.
+fn show_refused(
+    order: Order<'_>,
+    outcome: Result<UrlRef<'_>, ParseError<'_>>,
+    out: &mut Out,
+) -> Result<(), Halt> {
+    match outcome {
+        Err(ParseError::Refused(refusal)) => show(out, order.style(), &refusal),
+        _ => Err(Halt::Unprepared),
+    }
 }
 
 /// Calls over bytes, or over the text that they are.
@@ -702,6 +758,7 @@ fn over_nothing(order: Order<'_>, out: &mut Out) -> Result<(), Halt> {
 fn over_nothing_else(order: Order<'_>, out: &mut Out) -> Result<(), Halt> {
     match order.call() {
         "laws::law_refusals" => lent(out, &laws::law_refusals()),
+        "laws::law_readers" => lent(out, &laws::law_readers()),
         "laws::law_lines" => lent(out, &laws::law_lines()),
         "laws::law_components" => lent(out, &laws::law_components()),
         "laws::law_git" => lent(out, &laws::law_git()),

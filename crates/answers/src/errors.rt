@@ -6,7 +6,7 @@ use crate::tell::{Out, Tell, tell_member, tell_name};
 use bstr::{BStr, BString};
 use gix_url::lines::RunError;
 use gix_url::parse::{UrlKind, parse};
-use gix_url::{Error, UrlFault, WriteError, WriteFault};
+use gix_url::{Error, ParseError, Refusal, UrlFault, WriteError, WriteFault};
 use std::alloc::Global;
 use std::io::{self, ErrorKind, Write};
 
@@ -61,6 +61,32 @@ fn tell_other(out: &mut Out, error: &Error) -> io::Result<()> {
         }
         Error::Unwritable(fault) => write!(out, "Unwritable {fault:?}\""),
         _ => write!(out, "{error:?}\""),
+    }
+}
+
+impl Tell for ParseError<'_> {
+    fn tell(&self, out: &mut Out) -> io::Result<()> {
+        out.write_all(b"{\"error\":\"")?;
+        match self {
+            ParseError::NoRoom => out.write_all(b"NoRoom\"")?,
+            ParseError::Refused(refusal) => tell_refusal(out, refusal)?,
+        }
+        out.write_all(b"}")
+    }
+}
+
+/// Tells the name of a refusal, with the form and the fault, and the front that it shows.
+fn tell_refusal(out: &mut Out, refusal: &Refusal<'_>) -> io::Result<()> {
+    match refusal {
+        Refusal::EmptyLocal => out.write_all(b"EmptyLocal\""),
+        Refusal::MissingPath { kind, .. } => write!(out, "MissingPath {kind:?}\""),
+        Refusal::NotUtf8 { kind, .. } => write!(out, "NotUtf8 {kind:?}\""),
+        Refusal::BadUrl { kind, fault, .. } => write!(out, "BadUrl {fault:?} {kind:?}\""),
+        Refusal::TooLong { shown, total, .. } => {
+            out.write_all(b"TooLong\"")?;
+            tell_member(out, "kept", &Some(BStr::new(shown)))?;
+            write!(out, ",\"total\":{total}")
+        }
     }
 }
 

@@ -1,12 +1,11 @@
 -- What `lines::run` answers: a line for each line.
-use Rattle.std.specs.Prelude.{◌≡◌, ℕ, Bool, true, false, ◌&&◌, List, [], ◌∷◌, ◌++◌, All, flat_map, codes, Option, Some, None, Result, Ok, Err, IfSome}
-use Rattle.std.specs.Borrow.{Bor}
+use Rattle.std.specs.Prelude.{◌≡◌, ℕ, ◌≤◌, Bool, true, false, ◌&&◌, List, [], ◌∷◌, ◌++◌, All, length, flat_map, codes, Option, Result, Ok, Err, IfSome}
 use Rattle.std.specs.Io.KnownBytes.{Appends, IsAtEnd}
 use Rattle.gix_url.specs.declared.error.UrlFault.{UrlFault}
 use Rattle.gix_url.specs.declared.error.UrlFault.TheVariants as fault
 use Rattle.gix_url.specs.declared.error.WriteFault.{WriteFault}
-use Rattle.gix_url.specs.declared.error.Error.{Error}
-use Rattle.gix_url.specs.declared.error.Error.TheVariants as error
+use Rattle.gix_url.specs.declared.parse_error.Refusal.{Refusal}
+use Rattle.gix_url.specs.declared.parse_error.Refusal.TheVariants as refusal
 use Rattle.gix_url.specs.declared.lines.RunError.{RunError}
 use Rattle.gix_url.specs.declared.lines.RunError.TheVariants as run
 use Rattle.gix_url.specs.Value.{Location}
@@ -15,7 +14,7 @@ use Rattle.gix_url.specs.Schemes.{protocol_text}
 use Rattle.gix_url.specs.Grammar.{Spells}
 use Rattle.gix_url.specs.Text.{text}
 use Rattle.gix_url.specs.Settled.{IsSettled}
-use Rattle.gix_url.specs.Flaws.{Flaw}
+use Rattle.gix_url.specs.Flaws.{NamesFlaw}
 
 -- lines, each with the line end behind it
 abbrev pub ended_lines : List (List ℕ) → List ℕ
@@ -35,6 +34,11 @@ pub record SplitsLines (b : List ℕ) (lines : List (List ℕ)) : Type 0 where
   pub joined : b ≡ ended_lines full ++ last
   pub counted : lines ≡ full ++ last_line last
 
+-- no line of the text is longer than this: nothing that stands in it without a line end is
+abbrev pub HasLinesWithin : ℕ → List ℕ → Type 0
+HasLinesWithin most b = (before line behind : List ℕ) → FreeOf newline line
+    → b ≡ before ++ (line ++ behind) → length line ≤ most
+
 -- the name of a fault
 abbrev pub fault_name : UrlFault → List ℕ
 fault_name fault.NoScheme = codes "NoScheme"
@@ -42,23 +46,13 @@ fault_name fault.BadPort = codes "BadPort"
 fault_name fault.BadCharacter = codes "BadCharacter"
 fault_name fault.HostRequired = codes "HostRequired"
 
--- the word for an error that a text is refused with; others have none
-abbrev pub refusal : Error → List ℕ
-refusal error.EmptyLocal = codes "EmptyLocal"
-refusal (error.MissingPath kind input) = codes "MissingPath"
-refusal (error.NotUtf8 kind input) = codes "NotUtf8"
-refusal (error.TooLong shown total) = codes "TooLong"
-refusal (error.BadUrl kind named input) = codes "BadUrl " ++ fault_name named
-refusal _ = []
-
--- the error is a refusal of a text, and no want of memory
-abbrev pub IsRefusal : Error → Type 0
-IsRefusal error.EmptyLocal = Unit {0}
-IsRefusal (error.MissingPath kind input) = Unit {0}
-IsRefusal (error.NotUtf8 kind input) = Unit {0}
-IsRefusal (error.TooLong shown total) = Unit {0}
-IsRefusal (error.BadUrl kind named input) = Unit {0}
-IsRefusal _ = ⊥
+-- the name of what a text is refused for
+abbrev pub refusal_name : Refusal → List ℕ
+refusal_name refusal.EmptyLocal = codes "EmptyLocal"
+refusal_name (refusal.MissingPath kind) = codes "MissingPath"
+refusal_name (refusal.NotUtf8 kind) = codes "NotUtf8"
+refusal_name (refusal.TooLong shown total) = codes "TooLong"
+refusal_name (refusal.BadUrl kind named) = codes "BadUrl " ++ fault_name named
 
 -- a word and what it is said of, on a line
 abbrev pub told_line : List ℕ → List ℕ → List ℕ
@@ -82,9 +76,9 @@ pub data IsTold (v : Location) (answer : List ℕ) (good : Bool) : Type 0 where
 pub data IsAnswer (line answer : List ℕ) (good : Bool) : Type 0 where
   -- what is told of the one location that it spells
   told : (v : Location) → Spells line v → IsTold v answer good → IsAnswer line answer good
-  -- an error whose flaw stands in it, so that it spells none (`Exclusive`)
-  refused : (e : Error) → IsRefusal e → Flaw line e
-      → answer ≡ told_line (codes "refused") (refusal e) → good ≡ false → IsAnswer line answer good
+  -- a refusal whose flaw stands in it, so that it spells none (`RefusalExclusive`)
+  refused : (r : Refusal) → NamesFlaw line r → answer ≡ told_line (codes "refused") (refusal_name r)
+      → good ≡ false → IsAnswer line answer good
 
 -- the answers to lines, in order, and whether each line is settled
 abbrev pub AnswersEach : List (List ℕ) → List ℕ → Bool → Type 0
@@ -131,16 +125,11 @@ abbrev pub Tells : Location → List ℕ → List ℕ → Result Bool RunError �
 Tells v old new (Ok good) = (answer : List ℕ) × IsTold v answer good × (new ≡ old ++ answer)
 Tells v old new (Err fault) = fault ≡ run.Memory
 
--- the word for an error: none only where it refuses no text
-abbrev pub NamesRefusal : Error → Option (Bor (List ℕ)) → Type 0
-NamesRefusal e None = ¬ IsRefusal e
-NamesRefusal e (Some name) = IsRefusal e × (name.now ≡ refusal e)
-
--- the call appended the answer to a line that is refused with this error, or memory was wanting
-abbrev pub TellsRefusal : Error → List ℕ → List ℕ → Result Bool RunError → Type 0
-TellsRefusal e old new (Ok good) = IsRefusal e × (good ≡ false)
-    × (new ≡ old ++ told_line (codes "refused") (refusal e))
-TellsRefusal e old new (Err fault) = fault ≡ run.Memory
+-- the call appended the answer to a line that is refused so, or memory was wanting
+abbrev pub TellsRefusal : Refusal → List ℕ → List ℕ → Result Bool RunError → Type 0
+TellsRefusal r old new (Ok good) = (good ≡ false)
+    × (new ≡ old ++ told_line (codes "refused") (refusal_name r))
+TellsRefusal r old new (Err fault) = fault ≡ run.Memory
 
 -- the call appended these bytes, or memory was wanting
 abbrev pub Puts : List ℕ → List ℕ → List ℕ → Result (Unit {0}) RunError → Type 0

@@ -1,9 +1,13 @@
 -- The laws of the library, over the definitions alone: one definition for each.
-use Rattle.std.specs.Prelude.{◌≡◌, ℕ, ◌<◌, Bool, true, false, ◌⊎◌, ◌↔◌, IsTrue, List, [], ◌∷◌, ◌++◌, length, Some, Ok}
+use Rattle.std.specs.Prelude.{◌≡◌, ℕ, ◌<◌, ◌≤◌, Bool, true, false, ◌⊎◌, ◌↔◌, IsTrue, List, [], ◌∷◌, ◌++◌, length, Some, Result, Ok, Err}
 use Rattle.std.specs.Ordering.{ordering_then}
 use Rattle.std.specs.Hash.{HashWrites}
 use Rattle.std.specs.declared.cmp.Ordering.{Ordering}
 use Rattle.std.specs.declared.cmp.Ordering.TheVariants.{Equal}
+use Rattle.gix_url.specs.declared.error.Error.{Error}
+use Rattle.gix_url.specs.declared.error.Error.TheVariants as error
+use Rattle.gix_url.specs.declared.parse_error.ParseError.{ParseError}
+use Rattle.gix_url.specs.declared.parse_error.ParseError.TheVariants as unread
 use Rattle.gix_url.specs.Value.{Protocol, Location, fields, path_alone}
 use Rattle.gix_url.specs.Value.Protocol.{file, git, ssh, ext, helper, helper_url}
 use Rattle.gix_url.specs.Bytes.{colon, left_bracket, begins_with}
@@ -11,7 +15,7 @@ use Rattle.gix_url.specs.Escapes.{has_percent}
 use Rattle.gix_url.specs.Grammar.{IsNeither, ScpShape, IsAddressed, SpellsHelper, SpellsUrl, SpellsFile, SpellsScpBefore, SpellsLocal, Spells}
 use Rattle.gix_url.specs.Text.{has_colon, text}
 use Rattle.gix_url.specs.Settled.{IsValue, HasFittingText, IsSettled, IsWeb}
-use Rattle.gix_url.specs.Readings.{IsAgain}
+use Rattle.gix_url.specs.Readings.{Reads, ReadsIn, IsAgain}
 use Rattle.gix_url.specs.Components.{Components, PartsOf}
 use Rattle.gix_url.specs.Records.{migrated}
 use Rattle.gix_url.specs.Order.{text_cmp, location_cmp, fed_protocol, fed_location}
@@ -21,6 +25,29 @@ use Rattle.gix_url.specs.Order.{text_cmp, location_cmp, fed_protocol, fed_locati
 -- no bytes spell two locations
 abbrev pub Unique : Type 0
 Unique = (b : List ℕ) (v w : Location) → Spells b v → Spells b w → v ≡ w
+
+-- what two readers answer to the same bytes, one with memory and one into a room: the same location, or a refusal each;
+-- else memory was refused to the one, or the room of the other is shorter than the bytes
+abbrev pub AnswerAlike : List ℕ → ℕ → Result Location Error → Result Location ParseError → Type 0
+AnswerAlike b room (Ok v) (Ok w) = v ≡ w
+AnswerAlike b room (Ok v) (Err unread.NoRoom) = room < length b
+AnswerAlike b room (Ok v) (Err (unread.Refused refusal)) = ⊥
+AnswerAlike b room (Err e) (Ok w) = e ≡ error.Memory
+AnswerAlike b room (Err e) (Err unread.NoRoom) = (e ≡ error.Memory) × (room < length b)
+AnswerAlike b room (Err e) (Err (unread.Refused refusal)) = Unit {0}
+
+-- reading with memory and reading into a room answer alike
+abbrev pub ReadersAgree : Type 0
+ReadersAgree = (b : List ℕ) (room : ℕ) (owned : Result Location Error)
+    (lent : Result Location ParseError) → Reads b owned → ReadsIn b room lent
+    → AnswerAlike b room owned lent
+
+-- with room for as many bytes, the one answers a location exactly where the other does, unless memory was refused
+abbrev pub SameWithRoom : Type 0
+SameWithRoom = (b : List ℕ) (room : ℕ) (owned : Result Location Error)
+    (lent : Result Location ParseError) → length b ≤ room → Reads b owned → ReadsIn b room lent
+    → ¬ (owned ≡ Err error.Memory)
+    → (v : Location) → (owned ≡ Ok v) ↔ (lent ≡ Ok v)
 
 -- the location has a text, and what that text spells has the same fields and the same text
 pub record ComesBack (v : Location) : Type 0 where

@@ -4,13 +4,18 @@ use Rattle.gix_url.specs.declared.error.UrlKind.{UrlKind}
 use Rattle.gix_url.specs.declared.error.UrlFault.{UrlFault}
 use Rattle.gix_url.specs.declared.error.Error.{Error}
 use Rattle.gix_url.specs.declared.error.Error.TheVariants as error
+use Rattle.gix_url.specs.declared.parse_error.Refusal.{Refusal}
 use Rattle.gix_url.specs.Value.{Location}
 use Rattle.gix_url.specs.Grammar.{Spells}
-use Rattle.gix_url.specs.Flaws.{MissesPath, HasShape, IsTooLong, KindFlaw, Flaw}
+use Rattle.gix_url.specs.Flaws.{MissesPath, HasShape, IsTooLong, KindFlaw, NamesFlaw, Flaw}
 
 -- no location is spelled by bytes in which the flaw of an error stands; want of memory is no flaw of them
 abbrev pub Exclusive : Type 0
 Exclusive = (b : List ℕ) (e : Error) (v : Location) → e ≢ error.Memory → Flaw b e → ¬ Spells b v
+
+-- nor by bytes in which the flaw of a refusal stands
+abbrev pub RefusalExclusive : Type 0
+RefusalExclusive = (b : List ℕ) (r : Refusal) (v : Location) → NamesFlaw b r → ¬ Spells b v
 
 -- a flaw stands in the bytes: one of those that errors name, without the copy that an error holds
 pub data HasFlaw (b : List ℕ) : Type 0 where

@@ -10,10 +10,10 @@ ghost use Rattle.gix_url.specs.AnswerLaws.{LineForLine, OneLine, OneSplit};
 ghost use Rattle.gix_url.specs.ComponentLaws.{EqualComponents, OneComponents};
 ghost use Rattle.gix_url.specs.Git.{OneGitReading};
 ghost use Rattle.gix_url.specs.GitClass.{ReadAlike};
-ghost use Rattle.gix_url.specs.Laws.{Apart, Closed, EqualIsSame, Exact, ExactByFields, FedAlike, KeepsEarlier, LocationsFedApart, ProtocolsFedApart, ReadAgain, SameComponents, SettledAgain, SpellingLast, TextDecides, TiedIsEqual, Unchanged, Unique, Writable};
+ghost use Rattle.gix_url.specs.Laws.{Apart, Closed, EqualIsSame, Exact, ExactByFields, FedAlike, KeepsEarlier, LocationsFedApart, ProtocolsFedApart, ReadAgain, ReadersAgree, SameComponents, SameWithRoom, SettledAgain, SpellingLast, TextDecides, TiedIsEqual, Unchanged, Unique, Writable};
 ghost use Rattle.gix_url.specs.Order.{fed_location, fed_protocol, location_cmp, location_eq, protocol_cmp, protocol_eq};
 ghost use Rattle.gix_url.specs.Records.{KeepsMeaning, MigratedOnce, Migrates, RespelledOnce};
-ghost use Rattle.gix_url.specs.Refusals.{Decided, Exclusive, Flawless};
+ghost use Rattle.gix_url.specs.Refusals.{Decided, Exclusive, Flawless, RefusalExclusive};
 ghost use Rattle.gix_url.specs.Safeguards.{SettledWithoutPassword, SettledWithoutSpelling, WebSettledWithoutSpelling};
 
 pub use crate::address_law::law_address_test;
@@ -61,6 +61,18 @@ pub fn law_separation()
     ensures text_decides { TextDecides }
     ensures components { SameComponents }
     ensures before { KeepsEarlier }
+{}
+
+/// Reading with memory and reading without it are one.
+///
+/// - `agree`: to the same bytes [`parse`](crate::parse::parse) and [`UrlRef::parse_in`](crate::UrlRef::parse_in) answer the
+///   same location, or both refuse them; else memory was refused to the first, or the room of the second is shorter than
+///   the bytes.
+/// - `same`: with room for as many bytes, the second answers a location exactly where the first does and memory isn't
+///   refused. So a program that has no memory to ask for reads every text as one that has.
+pub fn law_readers()
+    ensures agree { ReadersAgree }
+    ensures same { SameWithRoom }
 {}
 
 /// Records of the legacy form, whose spelling is their path, stand for the same bytes after migration.
@@ -146,12 +158,15 @@ pub fn law_scheme_order()
 ///
 /// - `exclusive`: bytes in which the flaw of an error stands spell no location, whichever error it is but want of memory.
 ///   So no reader that keeps to these definitions takes what [`parse`](crate::parse::parse) refuses.
+/// - `refusal`: so it is with the flaw of a [`Refusal`](crate::Refusal), which reading into a room names, and the answer to
+///   a line.
 /// - `flawless`: no flaw stands in bytes that spell a location, whether or not there is an error that holds a copy of
 ///   them.
 /// - `decided`: bytes spell a location, or one of these flaws stands in them. There is no third case, and by `flawless`
 ///   none is both: what a text lacks to be read, an error can name.
 pub fn law_refusals()
     ensures exclusive { Exclusive }
+    ensures refusal { RefusalExclusive }
     ensures flawless { Flawless }
     ensures decided { Decided }
 {}

@@ -1,24 +1,23 @@
 //! The program's work: reads locations, a line each, and answers a line for each.
 //!
-//! It uses `parse`, the settled test, the writer, and `bytes` to cut lines. Its contract: all of the input is
+//! It uses reading into a room, the settled test, the writer, and `bytes` to cut lines. Its contract: all of the input is
 //! answered, line by line, as the definitions have it; where memory or the reader fails nothing is written, and a
-//! fault of the writer comes only once all is read.
+//! fault of the writer comes only once all is read. Memory is asked for to hold the input, a room as long as its longest
+//! line, and the answers; no line asks for memory of its own.
 
 ghost use Rattle.std.specs.Prelude.{◌≡◌, ℕ, ◌≤◌, ◌^◌, ◌++◌, List, None, Ok, codes, length, IfErr, IfOk, IfSome, OnOk};
 ghost use Rattle.std.specs.Io.KnownBytes.{IsAtEnd};
-ghost use Rattle.gix_url.specs.Answers.{Answers, AppendsAnswer, IsBeforeWriting, NamesRefusal, Puts, Ran, RanToEnd, Tells, TellsRefusal, fault_name, fault_text, status_of, told_line};
+ghost use Rattle.gix_url.specs.Answers.{Answers, AppendsAnswer, HasLinesWithin, IsBeforeWriting, Puts, Ran, RanToEnd, Tells, TellsRefusal, fault_name, fault_text, refusal_name, status_of, told_line};
 ghost use Rattle.gix_url.specs.Pieces.{pieces_text};
 ghost use Rattle.gix_url.specs.Schemes.{protocol_text};
 ghost use Rattle.gix_url.specs.Text.{text};
 
 use crate::bytes;
-use crate::error::{Error, UrlFault};
-use crate::location::Url;
-use crate::parse::parse;
+use crate::error::UrlFault;
+use crate::parse_error::{ParseError, Refusal};
 use crate::url_ref::UrlRef;
 use crate::writer::piece::Pieces;
 use crate::writer::sink::Output;
-use bstr::BStr;
 use itoa::Buffer;
 use std::alloc::{AllocError, Global};
 use std::io::{self, ErrorKind, Read, Write};
@@ -93,7 +92,8 @@ pub fn status(outcome: &Result<bool, RunError>) -> u8
 /// [`law_lines`](crate::laws::law_lines).
 ///
 /// `Ok(true)` says that every line was settled. The errors are those of [`RunError`]; a reader that hasn't ended
-/// after 2^40 calls is answered `Read`. The whole answer is built in memory before it is written.
+/// after 2^40 calls is answered `Read`. The whole answer is built in memory before it is written. Lines ask for no memory
+/// of their own: beside the input and the answer there is one room, as long as the longest line.
 ///
 /// ```
 /// /// The answers to lines in memory.
@@ -159,41 +159,66 @@ fn answers(alloc: Global, text: &[u8]) -> Result<(Vec<u8>, bool), RunError>
     ensures answered { IfOk result (λ found. Answers text.now found.0.items found.1) }
     ensures memory { IfErr result (λ fault. fault ≡ RunError.Memory) }
 {
+    let mut room = vec![in alloc; 0u8; longest_line(text)]?;
+    answers_in(alloc, text, &mut room)
+}
+
+/// The length of the longest line of a text.
+fn longest_line(text: &[u8]) -> usize
+    ensures room { HasLinesWithin result text.now }
+    ensures least { (most : ℕ) → HasLinesWithin most text.now → result ≤ most }
+{
+    let mut longest: usize = 0;
+    let mut rest = text;
+    while let Some((line, behind)) = bytes::cut(rest, b'\n') {
+        longest = longest.max(line.len());
+        rest = behind;
+    }
+    longest.max(rest.len())
+}
+
+/// The answers to all lines of a text, each of which is read into the room.
+fn answers_in(alloc: Global, text: &[u8], room: &mut [u8]) -> Result<(Vec<u8>, bool), RunError>
+    requires { HasLinesWithin (length room.old) text.now }
+    ensures answered { IfOk result (λ found. Answers text.now found.0.items found.1) }
+    ensures memory { IfErr result (λ fault. fault ≡ RunError.Memory) }
+{
     let mut out = Vec::new(alloc);
     let mut all = true;
     let mut rest = text;
     while let Some((line, behind)) = bytes::cut(rest, b'\n') {
-        let settled = answer(alloc, line, &mut out)?;
+        let settled = answer(line, room, &mut out)?;
         all &= settled;
         rest = behind;
     }
     if rest.is_empty() {
         return Ok((out, all));
     }
-    let settled = answer(alloc, rest, &mut out)?;
+    let settled = answer(rest, room, &mut out)?;
     Ok((out, all & settled))
 }
 
-/// Appends the answer to a line, and says whether the line is settled.
-fn answer(alloc: Global, line: &[u8], out: &mut Vec<u8>) -> Result<bool, RunError>
+/// Appends the answer to a line, which is read into the room, and says whether the line is settled.
+fn answer(line: &[u8], room: &mut [u8], out: &mut Vec<u8>) -> Result<bool, RunError>
+    requires { length line.now ≤ length room.old }
     ensures { AppendsAnswer line.now out.old.items out.new.items result }
 {
-    match parse(alloc, BStr::new(line)) {
-        Ok(url) => tell(&url, out),
-        Err(error) => refuse(&error, out),
+    match UrlRef::parse_in(line, room) {
+        Ok(url) => tell(url, out),
+        Err(ParseError::Refused(refusal)) => refuse(&refusal, out),
+        Err(ParseError::NoRoom) => unreachable!(),
     }
 }
 
 /// Appends what is told of a location, and says whether it is settled. Its text is laid out once.
-fn tell(url: &Url, out: &mut Vec<u8>) -> Result<bool, RunError>
-    ensures { Tells url.now out.old.items out.new.items result }
+fn tell(url: UrlRef<'_>, out: &mut Vec<u8>) -> Result<bool, RunError>
+    ensures { Tells url.entry out.old.items out.new.items result }
 {
     let mut digits = Buffer::new();
-    let lent = url.as_ref();
-    match lent.own_pieces(&mut digits) {
-        Ok(pieces) => tell_written(&lent, &pieces, out),
+    match url.own_pieces(&mut digits) {
+        Ok(pieces) => tell_written(&url, &pieces, out),
         Err(_) => {
-            put_scheme(out, "unwritable", &lent)?;
+            put_scheme(out, "unwritable", &url)?;
             Ok(false)
         }
     }
@@ -213,32 +238,23 @@ fn tell_written(url: &UrlRef<'_>, pieces: &Pieces<'_>, out: &mut Vec<u8>) -> Res
 }
 
 /// Appends the answer for a line that is refused.
-fn refuse(error: &Error, out: &mut Vec<u8>) -> Result<bool, RunError>
-    ensures { TellsRefusal error.now out.old.items out.new.items result }
+fn refuse(refusal: &Refusal<'_>, out: &mut Vec<u8>) -> Result<bool, RunError>
+    ensures { TellsRefusal refusal.now out.old.items out.new.items result }
 {
-    let Some(name) = refusal_name(error) else {
-        return Err(RunError::Memory);
-    };
-    put_line(out, "refused", name.as_bytes())?;
+    put_line(out, "refused", refusal_name(refusal).as_bytes())?;
     Ok(false)
 }
 
-/// The name of an error that a line is refused with: none for want of memory, and for what no text is refused with.
-fn refusal_name(error: &Error) -> Option<&'static str>
-    ensures { NamesRefusal error.now result }
+/// The name of what a line is refused for.
+fn refusal_name(refusal: &Refusal<'_>) -> &'static str
+    ensures { result.now ≡ refusal_name refusal.now }
 {
-    match error {
-        Error::Memory => None,
-        Error::EmptyLocal => Some("EmptyLocal"),
-        Error::MissingPath { .. } => Some("MissingPath"),
-        Error::NotUtf8 { .. } => Some("NotUtf8"),
-        Error::TooLong { .. } => Some("TooLong"),
-        Error::BadUrl { fault, .. } => Some(bad_url_name(*fault)),
-        Error::HelperName { .. }
-        | Error::Unwritable(_)
-        | Error::NoHome(_)
-        | Error::PathNotUtf8
-        | Error::Unresolved => None,
+    match refusal {
+        Refusal::EmptyLocal => "EmptyLocal",
+        Refusal::MissingPath { .. } => "MissingPath",
+        Refusal::NotUtf8 { .. } => "NotUtf8",
+        Refusal::TooLong { .. } => "TooLong",
+        Refusal::BadUrl { fault, .. } => bad_url_name(*fault),
     }
 }
 

@@ -8,6 +8,7 @@ mod coming;
 mod copies;
 mod from_arguments;
 mod from_input;
+mod in_room;
 mod parts;
 mod paths;
 mod reading;

@@ -1,4 +1,5 @@
--- What a reader answers that finds what the bytes spell, and refuses where they spell nothing, with memory or with a room.
+-- What a reader answers that finds what the bytes spell, and refuses where they spell nothing, with memory or with a room;
+-- and that both answer alike.
 use Rattle.std.proofs.Common.{◌≡◌, ◌≤◌, ◌⊎◌, inl, inr, ℕ, List, [], length, Result, Ok, Err, ap, subst, arith}
 use Rattle.std.specs.Prelude.{IfOk, IfErr}
 use Rattle.gix_url.specs.declared.error.Error.{Error}
@@ -9,6 +10,7 @@ use Rattle.gix_url.specs.Value.{Location}
 use Rattle.gix_url.specs.Grammar.{Spells}
 use Rattle.gix_url.specs.Flaws.{Flaw}
 use Rattle.gix_url.specs.Readings.{Refuses, RefusesIn, Reads, ReadsIn}
+use Rattle.gix_url.specs.Laws.{ReadersAgree, SameWithRoom}
 use Rattle.gix_url.proofs.Unique.UniqueLemmas.{spells_unique}
 
 -- the location that the bytes spell is the answer, unless memory ran out
@@ -24,8 +26,8 @@ reads_by b t r same found refused flaw empty = subst (λ s. Reads s r) same reco
 -- ---- reading into a room
 
 -- what is answered is spelled
-answer_spelled : (b : List ℕ) (r : Result Location ParseError) → IfOk r (Spells b) → (v : Location) → r ≡ Ok v → Spells b v
-answer_spelled b r found v e = let Found : Result Location ParseError → Type 0 = λ answer. IfOk answer (Spells b) in subst Found e found
+answer_spelled : {E : Type 0} (b : List ℕ) (r : Result Location E) → IfOk r (Spells b) → (v : Location) → r ≡ Ok v → Spells b v
+answer_spelled {E} b r found v e = let Found : Result Location E → Type 0 = λ answer. IfOk answer (Spells b) in subst Found e found
 
 -- what is spelled is answered where there is room for as many bytes
 spelled_answered : (b : List ℕ) (room : ℕ) (r : Result Location ParseError) → IfOk r (Spells b) → IfErr r (RefusesIn b room) → length b ≤ room → (v : Location) → Spells b v → r ≡ Ok v
@@ -36,3 +38,31 @@ spelled_answered b room (Err (unread.Refused refusal)) found (none, flaw) enough
 -- so such an answer is that of reading into a room
 pub reads_in_by : (b : List ℕ) (room : ℕ) (r : Result Location ParseError) → IfOk r (Spells b) → IfErr r (RefusesIn b room) → ReadsIn b room r
 reads_in_by b room r found refused = record { found = found; refused = refused; exact = λ enough v. (answer_spelled b r found v, spelled_answered b room r found refused enough v) }
+
+-- ---- both readers
+
+-- an error of the one says that memory ran out, where the bytes spell a location
+memory_alone : (b : List ℕ) (e : Error) (v : Location) → Refuses b e → Spells b v → e ≡ error.Memory
+memory_alone b e v (inl memory) spelled = memory
+memory_alone b e v (inr none) spelled = absurd (none v spelled)
+
+-- they answer alike
+pub readers_agree : ReadersAgree
+readers_agree b room (Ok v) (Ok w) owned lent = spells_unique b v w owned.found lent.found
+readers_agree b room (Ok v) (Err unread.NoRoom) owned lent = lent.refused.1
+readers_agree b room (Ok v) (Err (unread.Refused refusal)) owned lent = lent.refused.0 v owned.found
+readers_agree b room (Err e) (Ok w) owned lent = memory_alone b e w owned.refused lent.found
+readers_agree b room (Err e) (Err unread.NoRoom) owned lent =
+    let (some, short) = lent.refused in (memory_alone b e some.0 owned.refused some.1, short)
+readers_agree b room (Err e) (Err (unread.Refused refusal)) owned lent = tt
+
+-- what the one answers, unless memory ran out, is what is spelled
+answer_owned : (b : List ℕ) (r : Result Location Error) → Reads b r → ¬ (r ≡ Err error.Memory) → (v : Location) → Spells b v → r ≡ Ok v
+answer_owned b r reads ample v spelled = elim (reads.answered v spelled) [ inl is ↦ is | inr memory ↦ absurd (ample memory) ]
+
+-- and with room for as many bytes they answer the same locations
+pub same_with_room : SameWithRoom
+same_with_room b room owned lent enough reads reads_in ample v = (
+  λ is. (reads_in.exact enough v).1 (answer_spelled b owned reads.found v is),
+  λ is. answer_owned b owned reads ample v ((reads_in.exact enough v).0 is),
+)

@@ -8,8 +8,8 @@ use Rattle.percent_encoding.specs.Percent.{percent_decode, percent_encode}
 use Rattle.gix_url.specs.declared.escape.TheConstants.{PATH, PASSWORD, USER}
 use Rattle.gix_url.specs.declared.error.UrlFault.{UrlFault}
 use Rattle.gix_url.specs.declared.error.UrlFault.TheVariants as fault
-use Rattle.gix_url.specs.declared.error.Error.{Error}
-use Rattle.gix_url.specs.declared.error.Error.TheVariants as error
+use Rattle.gix_url.specs.declared.parse_error.Refusal.{Refusal}
+use Rattle.gix_url.specs.declared.parse_error.Refusal.TheVariants as refusal
 use Rattle.gix_url.specs.Value.{Protocol, Location, path_alone}
 use Rattle.gix_url.specs.Value.Protocol.{file, git, ssh, http, https, helper_url}
 use Rattle.gix_url.specs.Bytes.{tab, newline, slash, tilde, colon, at_sign, left_bracket, right_bracket, FreeOf, begins_with, lowercase}
@@ -26,7 +26,7 @@ use Rattle.gix_url.specs.Text.{keeps_host, open_host, needs_brackets, wants_brac
 use Rattle.gix_url.specs.Settled.{HasMatch, IsRawPath, IsWeb, IsWebHost, IsNormalName, IsBareHost, IsBracketedHost, IsScpName, IsNormalAddress, IsSettledUrl, IsSettledWeb, IsSettledSecure, IsSettledGit, IsSettledHelperUrl, IsSettledBy, IsSettled}
 use Rattle.gix_url.specs.Settled.IsWebHost.{literal, literal_colon, named, named_colon}
 use Rattle.gix_url.specs.SettledParts.{IsWrittenAsUrl}
-use Rattle.gix_url.specs.Answers.{ended_lines, last_line, fault_name, refusal, told_line, IsTold, IsAnswer, AnswersEach}
+use Rattle.gix_url.specs.Answers.{ended_lines, last_line, fault_name, refusal_name, told_line, IsTold, IsAnswer, AnswersEach}
 use Rattle.gix_url.specs.AnswerLaws.{IsOneLine, OneLine, AreAnswered, LineForLine}
 use Rattle.gix_url.proofs.Texts.CutLemmas.{free-append, free-cons, free_head_tail, free_of_all, free_parts, helper_name_free, scheme_text_free}
 use Rattle.gix_url.proofs.Texts.EscapeLemmas.{encode_free, lacks_escaped_percents, no_line}
@@ -324,16 +324,19 @@ scheme_line b v (Spells.scp_form (inl h)) = subst HasSchemeLine (sym (ap (λ (l 
 scheme_line b v (Spells.scp_form (inr h)) = subst HasSchemeLine (sym (ap (λ (l : Location). l.scheme) h.value)) refl
 scheme_line b v (Spells.local_path h) = subst HasSchemeLine (sym (ap (λ (l : Location). l.scheme) h.value)) refl
 
--- the words for errors hold none
+-- the names of refusals hold none
 fault_line : (f : UrlFault) → FreeOf newline (codes "BadUrl " ++ fault_name f)
 fault_line fault.NoScheme = refl
 fault_line fault.BadPort = refl
 fault_line fault.BadCharacter = refl
 fault_line fault.HostRequired = refl
 
-refusal_line : (e : Error) → FreeOf newline (refusal e)
-refusal_line (error.BadUrl kind f input) = fault_line f
-refusal_line _ = refl
+refusal_line : (r : Refusal) → FreeOf newline (refusal_name r)
+refusal_line refusal.EmptyLocal = refl
+refusal_line (refusal.MissingPath kind) = refl
+refusal_line (refusal.NotUtf8 kind) = refl
+refusal_line (refusal.TooLong shown total) = refl
+refusal_line (refusal.BadUrl kind f) = fault_line f
 
 -- ---- answers
 
@@ -351,7 +354,7 @@ location_line line answer v good free spelled (IsTold.unwritable f is e k) = sai
 -- the law for one line
 pub one_line : OneLine
 one_line line answer good free (IsAnswer.told v spelled is) = location_line line answer v good free spelled is
-one_line line answer good free (IsAnswer.refused e is flaw k bad) = said_line (codes "refused") (refusal e) answer refl (refusal_line e) k
+one_line line answer good free (IsAnswer.refused r flaw k bad) = said_line (codes "refused") (refusal_name r) answer refl (refusal_line r) k
 
 -- ---- all lines
 

@@ -1,8 +1,12 @@
+use Rattle.std.proofs.Common.{subst, length}
+use Rattle.gix_url.specs.Readings.{RefusesIn}
 use Rattle.gix_url.proofs.Values.LineLemmas.{told_answer, refused_answer}
 use Rattle.gix_url.proofs.lines.answer.Goals as goal
 
 pub returns-in-Ok : goal.returns-in-Ok
-returns-in-Ok c = told_answer _ c.args.line.now _ _ _ _ c.new.ensures c.in-Ok.ensures.found c.tell.ensures
+returns-in-Ok c = told_answer c.args.line.now _ _ _ _ c.in-Ok.ensures.found c.tell.ensures
 
-pub returns-in-Err : goal.returns-in-Err
-returns-in-Err c = refused_answer _ c.args.line.now _ _ c.in-Err.error _ c.new.ensures c.in-Err.ensures.flaw c.refuse.ensures
+pub returns-in-Err-Refused : goal.returns-in-Err-Refused
+returns-in-Err-Refused c =
+    let refused = subst (RefusesIn c.args.line.now (length c.args.room.now)) c.in-Err-Refused.field-0-is c.in-Err-Refused.ensures.refused in
+    refused_answer c.args.line.now _ _ _ _ refused.1 c.refuse.ensures

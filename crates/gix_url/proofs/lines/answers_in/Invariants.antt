@@ -1,9 +1,13 @@
 use Rattle.std.proofs.Common.{length}
+use Rattle.gix_url.specs.Answers.{HasLinesWithin}
 use Rattle.gix_url.proofs.Values.LineLemmas.{Done}
-use Rattle.gix_url.proofs.lines.answers.Given as goal
+use Rattle.gix_url.proofs.lines.answers_in.Given as goal
 
 abbrev pub invariant-loop-line : goal.invariant-loop-line
-invariant-loop-line l = Done l.fn.text l.rest l.out.items l.all
+invariant-loop-line l = record {
+  done : Done l.fn.text l.rest l.out.items l.all;
+  room : HasLinesWithin (length l.room) l.rest;
+}
 
 abbrev pub decreases-loop-line : goal.decreases-loop-line
 decreases-loop-line l = length l.rest
