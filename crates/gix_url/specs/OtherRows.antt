@@ -16,11 +16,13 @@ use Rattle.gix_url.specs.Flaws.{Flaw}
 use Rattle.gix_url.specs.Laws.{IsCorner}
 use Rattle.gix_url.specs.ClassRows.{at_host}
 
--- FTP needs a host, an escape that is broken is none in a path without a spelling, nor is one in a record of the older form
+-- FTP needs a host; in a path without a spelling an escape stands for itself; in a record of the older form a `%`
+-- without digits is no escape
 abbrev pub SlipRows : Type 0
 SlipRows =
     (requires_host (codes "ftps") ≡ true)
-    × PartsOf (at_host https (codes "h") (codes "/a%20b")) (record { path = codes "/a%20b"; query = None; fragment = None })
+    × PartsOf (at_host https (codes "h") (codes "/a%20b"))
+    (record { path = codes "/a%20b"; query = None; fragment = None })
     × (migrated (record (at_host https (codes "h") (codes "/%%41")) { spelling = Some (codes "/%%41") })
     ≡ record (at_host https (codes "h") (codes "/%A")) { spelling = Some (codes "/%25%41") })
 
@@ -28,7 +30,8 @@ SlipRows =
 
 -- locations that stand in a corner
 abbrev pub CornerRows : Type 0
-CornerRows = IsCorner (at_host file (codes "a:%") (codes "/p")) × IsCorner (at_host http (codes "h%41:") (codes "/p"))
+CornerRows = IsCorner (at_host file (codes "a:%") (codes "/p"))
+    × IsCorner (at_host http (codes "h%41:") (codes "/p"))
 
 -- unsettled locations that stand in none
 abbrev pub NoCornerRows : Type 0
