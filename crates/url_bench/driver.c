@@ -1,6 +1,6 @@
 // Makes one call of the library for each line of a file, in passes: driver CALL PASSES FILE
 //
-// CALL is parse, write or settled. It prints how many calls answered that all is well, so that calls which give up
+// CALL is parse, parse_in, write or settled. It prints how many calls answered that all is well, so that calls which give up
 // early are seen.
 #include <stdbool.h>
 #include <stdio.h>
@@ -8,6 +8,7 @@
 #include <string.h>
 
 bool url_bench_parse(const unsigned char *bytes, size_t length);
+bool url_bench_parse_in(const unsigned char *bytes, size_t length, unsigned char *room, size_t room_length);
 size_t url_bench_write(const unsigned char *bytes, size_t length);
 bool url_bench_settled(const unsigned char *bytes, size_t length);
 
@@ -16,8 +17,12 @@ struct line {
     size_t length;
 };
 
+// Room for as many bytes as a line has.
+static unsigned char room[1 << 16];
+
 // A call, and whether all is well.
 static bool parses(const struct line *line) { return url_bench_parse(line->bytes, line->length); }
+static bool parses_in(const struct line *line) { return url_bench_parse_in(line->bytes, line->length, room, line->length); }
 static bool writes(const struct line *line) { return url_bench_write(line->bytes, line->length) > 0; }
 static bool settles(const struct line *line) { return url_bench_settled(line->bytes, line->length); }
 
@@ -51,10 +56,11 @@ static struct line *lines_of(const char *bytes, size_t size, size_t *count) {
 int main(int words, char **word) {
     if (words != 4) fail("usage: driver CALL PASSES FILE");
     bool (*call)(const struct line *) = !strcmp(word[1], "parse") ? parses
+        : !strcmp(word[1], "parse_in") ? parses_in
         : !strcmp(word[1], "write") ? writes
         : !strcmp(word[1], "settled") ? settles
         : NULL;
-    if (!call) fail("CALL is parse, write or settled");
+    if (!call) fail("CALL is parse, parse_in, write or settled");
     size_t size, count, well = 0;
     char *bytes = contents(word[3], &size);
     struct line *lines = lines_of(bytes, size, &count);

@@ -3,4 +3,5 @@ pub mod CutLemmas
 pub mod EscapeLemmas
 pub mod EscapeSets
 pub mod PlainLemmas
+pub mod AsciiLemmas
 pub mod ReadyLemmas

@@ -36,6 +36,14 @@ matches (Some spelling) path = bytes_eq (percent_decode spelling) path
 abbrev pub has_percent : List ℕ → Bool
 has_percent bs = list_any (λ b. b == percent_sign) bs
 
+-- a printable byte of ASCII
+abbrev pub is_printable_byte : ℕ → Bool
+is_printable_byte b = nat_lt space b && nat_lt b delete
+
+-- each byte is one
+abbrev pub is_printable : List ℕ → Bool
+is_printable bs = list_all is_printable_byte bs
+
 -- a printable byte of ASCII but for `%`
 abbrev pub is_plain_byte : ℕ → Bool
 is_plain_byte b = nat_lt space b && (nat_lt b delete && not (b == percent_sign))

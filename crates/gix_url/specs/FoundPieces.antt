@@ -12,6 +12,7 @@ use Rattle.gix_url.specs.declared.parse.simple_url.ParsedUrl.{ParsedUrl}
 use Rattle.gix_url.specs.Value.{Protocol, Location, path_alone}
 use Rattle.gix_url.specs.Value.Protocol.{file, git, ssh, http, https, ext, helper, helper_url}
 use Rattle.gix_url.specs.Bytes.{colon, left_bracket, right_bracket}
+use Rattle.gix_url.specs.Escapes.{has_percent}
 use Rattle.gix_url.specs.Schemes.{protocol_of}
 use Rattle.gix_url.specs.SchemeRules.{AreRulesOf}
 use Rattle.gix_url.specs.Hosts.{normal_host}
@@ -71,13 +72,13 @@ url_location protocol parts = record {
 abbrev pub scp_slice : ScpHost → List ℕ
 scp_slice (host.Literal text) = text.now
 scp_slice (host.Name text) = text.now
-scp_slice (host.Inner text) = text.now
+scp_slice (host.Kept text) = text.now
 
 -- the host that it stands for
 abbrev pub scp_host_of : ScpHost → List ℕ
 scp_host_of (host.Literal text) = lowercase_address text.now
 scp_host_of (host.Name text) = normal_host text.now
-scp_host_of (host.Inner text) = text.now
+scp_host_of (host.Kept text) = text.now
 
 -- the location that the slices mean
 abbrev pub meant : Found → Location
@@ -88,11 +89,12 @@ meant (found.Ext text) = path_alone ext true text.now
 meant (found.Url rules url) = url_location (protocol_of url.scheme.now) (parts_of url)
 meant (found.Scp user host path) = scp_location (option_copied user) (scp_host_of host) path.now
 
--- the rules of a URL are those of its scheme, and what becomes text is UTF-8
+-- the rules of a URL are those of its scheme, what becomes text is UTF-8, and it is known whether its path holds a `%`
 pub record IsReadyUrl (rules : Rules) (url : ParsedUrl) : Type 0 where
   pub ruled : AreRulesOf url.scheme.now rules
   pub scheme_text : IsUtf8 url.scheme.now
   pub texts : AreTexts (parts_of url)
+  pub escaped : url.escaped ≡ has_percent url.path.now
 
 -- a user and a host are UTF-8
 pub record AreScpTexts (user : Option (List ℕ)) (host : List ℕ) : Type 0 where

@@ -1,14 +1,15 @@
 -- What the slices stand for that the reader of hosts answers, and what it tells of them.
-use Rattle.std.specs.Prelude.{◌≡◌, ℕ, Bool, true, false, ◌==◌, ◌⊎◌, List, [], ◌∷◌, ◌++◌, Option, Some, None, codes, option_map, Result, MatchResult, if◌then◌else◌}
-use Rattle.std.specs.Char.{to_ascii_lowercase}
+use Rattle.std.specs.Prelude.{◌≡◌, ◌<◌, ℕ, Bool, true, false, ◌||◌, ◌==◌, ◌⊎◌, List, [], ◌∷◌, ◌++◌, length, Option, Some, None, codes, option_map, Result, MatchResult, if◌then◌else◌}
+use Rattle.std.specs.List.{list_all}
+use Rattle.std.specs.Char.{is_ascii_digit, is_ascii_lowercase, to_ascii_lowercase}
 use Rattle.percent_encoding.specs.Percent.{percent_decode}
 use Rattle.gix_url.specs.declared.error.UrlFault.{UrlFault}
 use Rattle.gix_url.specs.declared.parse.host.Mode as rust
 use Rattle.gix_url.specs.declared.parse.host.Mode.TheVariants as read
 use Rattle.gix_url.specs.declared.parse.host.HostPiece.{HostPiece}
-use Rattle.gix_url.specs.declared.parse.host.HostPiece.TheVariants.{Address, Kept, Decoded, Literal, DecodedLiteral, Bracketed}
+use Rattle.gix_url.specs.declared.parse.host.HostPiece.TheVariants.{Simple, Address, Kept, Decoded, Literal, DecodedLiteral, Bracketed}
 use Rattle.gix_url.specs.declared.parse.host.NamedHost.{NamedHost}
-use Rattle.gix_url.specs.Bytes.{colon, percent_sign, left_bracket, right_bracket, begins_with, lowercase}
+use Rattle.gix_url.specs.Bytes.{colon, dot, hyphen, percent_sign, left_bracket, right_bracket, begins_with, lowercase}
 use Rattle.gix_url.specs.Addresses.{IsZone}
 use Rattle.gix_url.specs.Hosts.{Mode, Inner, normal_host, Names, Number}
 use Rattle.gix_url.specs.Hosts.Mode.{strict, bare, loose}
@@ -19,6 +20,15 @@ abbrev pub strictness : rust.Mode → Mode
 strictness read.Strict = strict
 strictness read.Bare = bare
 strictness read.Loose = loose
+
+-- a lower-case letter, a digit, `-` or `.`
+abbrev pub is_simple_byte : ℕ → Bool
+is_simple_byte b = is_ascii_lowercase b || (is_ascii_digit b || (b == hyphen || b == dot))
+
+-- a host that every mode takes as it is
+pub record IsSimpleHost (text : List ℕ) : Type 0 where
+  pub nonempty : 0 < length text
+  pub bytes : list_all is_simple_byte text ≡ true
 
 -- the text between brackets, in them
 abbrev pub in_brackets : List ℕ → List ℕ
@@ -32,6 +42,7 @@ lowercase_address (b ∷ bs) = if b == percent_sign then b ∷ bs
 
 -- the host that a piece stands for
 abbrev pub meant_host : HostPiece → List ℕ
+meant_host (Simple text) = text.now
 meant_host (Address text) = lowercase text.now
 meant_host (Kept text) = normal_host text.now
 meant_host (Decoded text) = normal_host (percent_decode text.now)
@@ -41,6 +52,7 @@ meant_host (Bracketed text) = in_brackets (percent_decode text.now)
 
 -- the slice that a piece holds
 abbrev pub slice_text : HostPiece → List ℕ
+slice_text (Simple text) = text.now
 slice_text (Address text) = text.now
 slice_text (Kept text) = text.now
 slice_text (Decoded text) = text.now
@@ -50,6 +62,7 @@ slice_text (Bracketed text) = text.now
 
 -- the same, decoded where it has to be
 abbrev pub unescaped_host : HostPiece → List ℕ
+unescaped_host (Simple text) = text.now
 unescaped_host (Address text) = text.now
 unescaped_host (Kept text) = text.now
 unescaped_host (Decoded text) = percent_decode text.now
@@ -59,6 +72,7 @@ unescaped_host (Bracketed text) = percent_decode text.now
 
 -- the letters of a host in the case that they are shown in
 abbrev pub normal_case : HostPiece → List ℕ → List ℕ
+normal_case (Simple text) host = host
 normal_case (Address text) host = lowercase host
 normal_case (Kept text) host = normal_host host
 normal_case (Decoded text) host = normal_host host
@@ -68,6 +82,7 @@ normal_case (Bracketed text) host = host
 
 -- brackets stand around the host
 abbrev pub is_bracketed : HostPiece → Bool
+is_bracketed (Simple text) = false
 is_bracketed (Address text) = false
 is_bracketed (Kept text) = false
 is_bracketed (Decoded text) = false

@@ -1,6 +1,6 @@
 //! What the path of a location is made of: on the web a path, a query and a fragment, lent without copying.
 //!
-//! It may use `location`, `scheme`, the spelling that `writer` finds to match, and the rooms below: `cuts` cuts a
+//! It may use `home`, `location`, `scheme`, the spelling that `writer` finds to match, and the rooms below: `cuts` cuts a
 //! text together with what it stands for, `measure` counts that, `fields` goes over the fields of a query, and
 //! `lend` hands out their names and values. Its contract: the answer is what the definitions cut out of the path,
 //! for every location. Pieces are cut first and stand for bytes after, whatever is escaped in them. Memory is asked
@@ -13,7 +13,6 @@ ghost use Rattle.gix_url.specs.Bytes.{Holds, slash};
 ghost use Rattle.gix_url.specs.ComponentPieces.{HasQuery, LendsParts, SpellsPath};
 ghost use Rattle.gix_url.specs.ComponentViews.{LentQuery, components};
 ghost use Rattle.gix_url.specs.Components.{Components, PartsOf};
-ghost use Rattle.gix_url.specs.Grammar as grammar;
 
 mod cuts;
 mod fields;
@@ -22,6 +21,7 @@ mod measure;
 mod same;
 
 use crate::error::Error;
+use crate::home::or_root;
 use crate::location::Url;
 use crate::scheme::Scheme;
 use bstr::{BStr, BString};
@@ -153,13 +153,6 @@ fn web_components<'a>(alloc: Global, whole: Spelled<'a>) -> Result<PathComponent
         query,
         fragment: meant_option(fragment),
     })
-}
-
-/// The path, or `/` where it is empty.
-fn or_root(path: &[u8]) -> &[u8]
-    ensures { result.now ≡ grammar.or_root path.now }
-{
-    if path.is_empty() { b"/" } else { path }
 }
 
 /// What the piece stands for, if there is one.

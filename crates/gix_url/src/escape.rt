@@ -1,19 +1,20 @@
 //! Percent-encoding: the sets of bytes that are escaped, tests of escaped texts, and decoding.
 //!
-//! It uses the crates `percent_encoding` and `bstr`, and `text`. Each test is exactly the definition in
+//! It uses the crates `percent_encoding` and `bstr`, `bytes` and `text`. Each test is exactly the definition in
 //! `specs/Escapes.antt` or `specs/Bytes.antt` that it is named after, and asks for no memory. `decoded` and
 //! `decoded_text` ask once, and not at all where the text is empty. A text without `%` is copied as it is.
 
-ghost use Rattle.std.specs.Prelude.{◌≡◌, ℕ, List, ◌+◌, ◌≤◌, ◌↔◌, IsTrue, IfOk, IsUtf8, length, take, drop, chars, string_bytes};
+ghost use Rattle.std.specs.Prelude.{◌≡◌, ℕ, List, ◌+◌, ◌≤◌, ◌↔◌, IsTrue, IfOk, IsUtf8, length, nat_le, take, true, drop, chars, string_bytes};
 ghost use Rattle.std.specs.Char.{is_digit, is_whitespace};
 ghost use Rattle.std.specs.List.{list_any};
 ghost use Rattle.percent_encoding.specs.Percent as percent;
 ghost use Rattle.percent_encoding.specs.Iter.{decoded_bytes};
 ghost use Rattle.gix_url.specs.Escapes as spec;
 ghost use Rattle.gix_url.specs.Safeguards.{PasswordSet, PathSet, UserSet};
-ghost use Rattle.gix_url.specs.Bytes.{LacksWhiteSpace};
+ghost use Rattle.gix_url.specs.Bytes.{LacksWhiteSpace, begins_by};
 
-use crate::text::{into_text, is_plain};
+use crate::bytes::cut;
+use crate::text::{into_text, is_plain, is_printable};
 use bstr::{ByteSlice, decode_utf8};
 use percent_encoding::{AsciiSet, CONTROLS, PercentDecode, ascii_set, percent_decode};
 use std::alloc::{AllocError, Global};
@@ -66,11 +67,11 @@ pub(crate) fn is_sound(text: &[u8]) -> bool
     ensures { result ≡ spec.is_sound text.now }
 {
     let mut rest = text;
-    while let Some((first, tail)) = rest.split_first() {
-        if *first == b'%' && !begins_with_digits(tail) {
+    while let Some((_, behind)) = cut(rest, b'%') {
+        if !begins_with_digits(behind) {
             return false;
         }
-        rest = tail;
+        rest = behind;
     }
     true
 }
@@ -106,10 +107,39 @@ pub(crate) fn decodes_to_utf8(text: &[u8]) -> bool
     if is_plain(text) {
         return true;
     }
+    if is_printable(text) && decodes_to_ascii(text) {
+        return true;
+    }
     if has_percent(text) {
         decoding_is_utf8(percent_decode(text))
     } else {
         text.is_utf8()
+    }
+}
+
+/// Whether a printable text decodes to ASCII, as far as it is seen without decoding: no escape in it begins with a digit
+/// from 8 on.
+fn decodes_to_ascii(text: &[u8]) -> bool
+    requires { spec.is_printable text.now ≡ true }
+    ensures { IsTrue result → IsUtf8 (percent.percent_decode text.now) }
+{
+    let mut rest = text;
+    while let Some((_, behind)) = cut(rest, b'%') {
+        if begins_high(behind) {
+            return false;
+        }
+        rest = behind;
+    }
+    true
+}
+
+/// Whether the text begins with `8` or a byte behind it.
+fn begins_high(text: &[u8]) -> bool
+    ensures { result ≡ begins_by (λ b. nat_le 56 b) text.now }
+{
+    match text {
+        [] => false,
+        [first, ..] => b'8' <= *first,
     }
 }
 
@@ -179,7 +209,7 @@ pub(crate) fn decodes_to(spelling: &[u8], path: &[u8]) -> bool
 pub(crate) fn lacks_white_space(text: &str) -> bool
     ensures { IsTrue result ↔ LacksWhiteSpace text.now }
 {
-    !has_white_space(text)
+    is_printable(text.as_bytes()) || !has_white_space(text)
 }
 
 /// Whether some character of the text is white space.

@@ -4,7 +4,7 @@
 //! answer is yes exactly for the class of the definitions, and in the text of each location of that class Git reads the
 //! location's own protocol, user, host, port and path (`law_git`).
 
-ghost use Rattle.std.specs.Prelude.{◌≡◌, ◌↔◌, IsTrue, IfSome, None, Some, [], false, option_map};
+ghost use Rattle.std.specs.Prelude.{◌≡◌, ◌↔◌, IsTrue, IfSome, None, Some, false, option_map};
 ghost use Rattle.std.specs.List.{list_any};
 ghost use Rattle.gix_url.specs.Arguments.{is_option_like};
 ghost use Rattle.gix_url.specs.GitClass.{AgreesWithGit, HasNoOption, HasPlainText, IsRsync, SuitsTransport, is_contested, is_tilde_second};
@@ -99,7 +99,7 @@ fn suits_transport(url: &UrlRef<'_>) -> bool
     ensures { IsTrue result ↔ SuitsTransport url.now.scheme url.now }
 {
     match url.scheme {
-        SchemeRef::Ssh => !is_tilde_second(url.path) && !is_rsync(url) && !has_empty_user(url),
+        SchemeRef::Ssh => !is_tilde_second(url.path) && !is_rsync(url) && !url.has_empty_user(),
         SchemeRef::Git => url.user.is_none(),
         SchemeRef::File => url.host.is_none() && !starts_with_byte(url.path, b'~'),
         SchemeRef::Http
@@ -125,16 +125,6 @@ fn is_rsync(url: &UrlRef<'_>) -> bool
     ensures { IsTrue result ↔ IsRsync url.now }
 {
     url.serialize_alternative_form && url.user.is_none() && has_host(url, b"rsync")
-}
-
-/// Whether the location has a user, and it is empty.
-fn has_empty_user(url: &UrlRef<'_>) -> bool
-    ensures { IsTrue result ↔ (url.now.user ≡ Some []) }
-{
-    match url.user {
-        None => false,
-        Some(user) => user.is_empty(),
-    }
 }
 
 /// Whether the location has this host.

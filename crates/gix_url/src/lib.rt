@@ -27,6 +27,7 @@ mod escape;
 pub mod expand_path;
 mod from_parts;
 mod git;
+mod home;
 mod home_law;
 mod impls;
 pub mod ipv6;

@@ -26,6 +26,25 @@ fn is_plain_byte(byte: u8) -> bool
     b' ' < byte && byte < 127 && byte != b'%'
 }
 
+/// Whether each byte is printable ASCII. Such a text is UTF-8 and holds no white space.
+pub(crate) fn is_printable(text: &[u8]) -> bool
+    ensures { result ≡ spec.is_printable text.now }
+{
+    // A loop without an early exit is compiled to look at many bytes at once.
+    let mut printable = true;
+    for byte in text {
+        printable &= is_printable_byte(*byte);
+    }
+    printable
+}
+
+/// Whether the byte is printable ASCII.
+fn is_printable_byte(byte: u8) -> bool
+    ensures { result ≡ spec.is_printable_byte byte }
+{
+    b' ' < byte && byte < 127
+}
+
 /// Whether the bytes are UTF-8.
 pub(crate) fn is_text(bytes: &[u8]) -> bool
     ensures { IsTrue result ↔ IsUtf8 bytes.now }

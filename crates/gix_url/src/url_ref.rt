@@ -3,7 +3,7 @@
 //! It uses `location` and `scheme`. Its contract: to all others a borrowed location is the same value of eight parts as
 //! the [`Url`] that lends it. What only looks at a location is defined on it, and takes no memory.
 
-ghost use Rattle.std.specs.Prelude.{◌≡◌};
+ghost use Rattle.std.specs.Prelude.{◌≡◌, ◌↔◌, [], IsTrue, Some};
 
 use crate::location::Url;
 use crate::scheme::SchemeRef;
@@ -89,6 +89,18 @@ impl Url {
                 None => None,
                 Some(spelling) => Some(spelling.as_bytes()),
             },
+        }
+    }
+}
+
+impl UrlRef<'_> {
+    /// Whether the location has a user, and it is empty.
+    pub(crate) fn has_empty_user(&self) -> bool
+        ensures { IsTrue result ↔ (self.now.user ≡ Some []) }
+    {
+        match self.user {
+            None => false,
+            Some(user) => user.is_empty(),
         }
     }
 }

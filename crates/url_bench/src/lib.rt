@@ -1,4 +1,4 @@
-//! Three calls for programs in C, over one text each, so that the instructions that they take can be counted.
+//! Calls for programs in C, over one text each, so that the instructions that they take can be counted.
 //!
 //! Glue alone: it stands on `gix_url`, and each call says what the calls beneath it promise. The lines that are counted
 //! are `remotes.txt`, the program that makes the calls is `driver.c`, and `scripts/instructions` counts.
@@ -11,7 +11,7 @@ ghost use Rattle.gix_url.specs.Text as spec;
 ghost use Rattle.gix_url.specs.Value.{Location};
 
 use bstr::BStr;
-use gix_url::Url;
+use gix_url::{Url, UrlRef};
 use std::alloc::Global;
 
 /// Whether the bytes are read as a location.
@@ -20,6 +20,14 @@ pub extern "C" fn url_bench_parse(alloc: Global, bytes: &[u8]) -> bool
     ensures { IsTrue result → (v : Location) × Spells bytes.now v }
 {
     matches!(Url::from_bytes(alloc, BStr::new(bytes)), Ok(_))
+}
+
+/// Whether the bytes are read as a location without memory, in this room.
+#[unsafe(no_mangle)]
+pub extern "C" fn url_bench_parse_in(bytes: &[u8], room: &mut [u8]) -> bool
+    ensures { IsTrue result → (v : Location) × Spells bytes.now v }
+{
+    matches!(UrlRef::parse_in(bytes, room), Ok(_))
 }
 
 /// The length of the text of the location that the bytes are read as, or 0 where there is none.

@@ -6,7 +6,7 @@ use Rattle.std.specs.Str.Parse.{IsNumeral, digits_value, without_leading_plus}
 use Rattle.std.specs.Fmt.{decimal}
 use Rattle.std.proofs.lemmas.Fmt.{decimal_is_IsNumeral, digits_decimal}
 use Rattle.std.proofs.lemmas.Str.Parse.{IsNumeralModel, numerals_by_value, parse_digits}
-use Rattle.std.proofs.lemmas.Bool.{cond-false, cond_both, both_ways, false≢true, eqb-true}
+use Rattle.std.proofs.lemmas.Bool.{and_parts, cond-false, cond_both, both_ways, false≢true, eqb-true}
 use Rattle.std.proofs.lemmas.Bool.Decides.{nat_tests}
 use Rattle.std.proofs.lemmas.Option.{same_Some}
 use Rattle.std.proofs.lemmas.List.{append-nil, map-append, take_all, drop_all}
@@ -26,7 +26,7 @@ use Rattle.gix_url.specs.Hosts as spec
 use Rattle.gix_url.specs.Hosts.{Mode, is_dns_byte, is_http_host_byte, HostText, IsLiteral, Bracketed, Inner, AllowsPort, IsDigits, Number, IsAddressPiece, ReadsAddress, HoldsTwoColons, IsManyColoned, IsPlainHost, Names, normal_host}
 use Rattle.gix_url.specs.Hosts.Mode.{strict, bare, loose}
 use Rattle.gix_url.specs.Flaws.{IsNoPort, HasBadPort, IsPortPlace, IsNoInner, BracketsAround, HasBadHost, NameFlaw}
-use Rattle.gix_url.specs.HostPieces.{EndsHost, Follows, IsBadPort, named_text, IsEscapedZone, IsInner, in_brackets, lowercase_address, shown_literal}
+use Rattle.gix_url.specs.HostPieces.{EndsHost, Follows, IsBadPort, named_text, IsEscapedZone, IsInner, IsSimpleHost, is_simple_byte, in_brackets, lowercase_address, shown_literal}
 use Rattle.gix_url.proofs.Texts.CutLemmas.{heads, tails, class_cut_unique, cut_unique, free-append, free_begins, free_head_tail, free_of_all, free_or_cut, begins-append, not_free}
 use Rattle.gix_url.proofs.Texts.EscapeLemmas.{decode_kept, decodes_in_parts, sound_free, utf8_byte, utf8_class}
 use Rattle.gix_url.proofs.Addresses.AddressLemmas.{address_free, address_two_colons, address_utf8, address-lowercase, all_lowercase}
@@ -647,3 +647,54 @@ shape_utf8 mode piece host port (Shape.many m (ManyNames.other_host n s r t h) p
 -- a host that is named is text
 pub names_utf8 : (mode : Mode) (piece host : List ℕ) (port : Option ℕ) → Names mode piece (Some host) port → IsUtf8 host
 names_utf8 mode piece host port h = shape_utf8 mode piece host port (name_shape h)
+
+-- ---- simple hosts
+
+-- a byte of a simple host is the same in lower case
+simple_byte_lowercase : (b : ℕ) → is_simple_byte b ≡ true → to_ascii_lowercase b ≡ b
+simple_byte_lowercase b h = grind (arith, nat_tests)
+
+-- and one of a host of HTTP
+simple_byte_http : (b : ℕ) → is_simple_byte b ≡ true → is_http_host_byte b ≡ true
+simple_byte_http b h = grind (arith, nat_tests)
+
+-- so is a text of them
+simple_lowercase : (t : List ℕ) → list_all is_simple_byte t ≡ true → lowercase t ≡ t
+simple_lowercase [] h = refl
+simple_lowercase (b ∷ bs) h =
+    let (byte, more) = and_parts (is_simple_byte b) (list_all is_simple_byte bs) h in
+    ap (λ c. c ∷ lowercase bs) (simple_byte_lowercase b byte) ∙ ap (λ t. b ∷ t) (simple_lowercase bs more)
+
+simple_http : (t : List ℕ) → list_all is_simple_byte t ≡ true → list_all is_http_host_byte t ≡ true
+simple_http [] h = refl
+simple_http (b ∷ bs) h =
+    let (byte, more) = and_parts (is_simple_byte b) (list_all is_simple_byte bs) h in rw (simple_byte_http b byte) (simple_http bs more)
+
+-- a simple host is its own normal form
+simple_normal : (t : List ℕ) → list_all is_simple_byte t ≡ true → normal_host t ≡ t
+simple_normal t h = cond_both (list_all is_dns_byte t) (lowercase t) t (λ n. n ≡ t) (λ _. simple_lowercase t h) (λ _. refl)
+
+-- it decodes to itself
+simple_decoded : (t : List ℕ) → list_all is_simple_byte t ≡ true → percent_decode t ≡ t
+simple_decoded t h = decode_kept t (free_of_all is_simple_byte percent_sign t h refl)
+
+-- it is text
+simple_utf8 : (t : List ℕ) → list_all is_simple_byte t ≡ true → IsUtf8 t
+simple_utf8 t h = utf8_class is_http_host_byte http_byte_ascii t (simple_http t h)
+
+-- so it stands for itself in every mode
+simple_text : (mode : Mode) (t : List ℕ) → list_all is_simple_byte t ≡ true → HostText mode t t
+simple_text strict t h = (simple_http t h, sym (simple_normal t h))
+simple_text bare t h = (subst IsUtf8 (sym (simple_decoded t h)) (simple_utf8 t h), sym (ap normal_host (simple_decoded t h) ∙ simple_normal t h))
+simple_text loose t h = (subst IsUtf8 (sym (simple_decoded t h)) (simple_utf8 t h), sym (ap normal_host (simple_decoded t h) ∙ simple_normal t h))
+
+-- and names itself, with no port
+pub simple_named : (mode : Mode) (t : List ℕ) → IsSimpleHost t → Names mode t (Some t) None
+simple_named mode t h =
+    Names.plain t (record { nonempty = h.nonempty; no_colon = free_of_all is_simple_byte colon t h.bytes refl; no_bracket = free_begins left_bracket t (free_of_all is_simple_byte left_bracket t h.bytes refl) })
+    (simple_text mode t h.bytes) refl refl
+
+-- so does a host that was read of it
+pub simple_host_named : (mode : Mode) (t : List ℕ) (host : NamedHost) → IsSimpleHost t → named_text host ≡ t → host.port ≡ None → Names mode t (Some (named_text host)) host.port
+simple_host_named mode t host h e p =
+    subst (λ n. Names mode t (Some n) host.port) (sym e) (subst (λ n. Names mode t (Some t) n) (sym p) (simple_named mode t h))

@@ -15,7 +15,7 @@ use Rattle.gix_url.specs.Hosts.{Mode, HostText, Inner, Names, is_dns_byte, norma
 use Rattle.gix_url.specs.Hosts.Mode.{strict, bare, loose}
 use Rattle.gix_url.specs.declared.parse.host.NamedHost.{NamedHost}
 use Rattle.gix_url.specs.declared.parse.host.HostPiece.{HostPiece}
-use Rattle.gix_url.specs.declared.parse.host.HostPiece.TheVariants.{Address, Kept, Decoded, Literal, DecodedLiteral, Bracketed}
+use Rattle.gix_url.specs.declared.parse.host.HostPiece.TheVariants.{Simple, Address, Kept, Decoded, Literal, DecodedLiteral, Bracketed}
 use Rattle.gix_url.specs.HostPieces.{in_brackets, is_bracketed, lowercase_address, meant_host, named_text, normal_case, slice_text, unescaped_host}
 use Rattle.gix_url.specs.Authority.{Authority, Credentials, unless_empty, user_beside}
 use Rattle.gix_url.specs.Grammar.{AddressedCut, ScpUser, SpellsParts, UrlParts}
@@ -53,6 +53,7 @@ normal_host_kept t h = cond_both (list_all is_dns_byte t) (lowercase t) t (λ n.
 
 -- a piece shows as many bytes as it stands for
 pub normal_case_length : (piece : HostPiece) (t : List ℕ) → length (normal_case piece t) ≡ length t
+normal_case_length (Simple text) t = refl
 normal_case_length (Address text) t = lowercase_length t
 normal_case_length (Kept text) t = normal_host_length t
 normal_case_length (Decoded text) t = normal_host_length t
@@ -66,6 +67,7 @@ brackets_length inner rest = omega (arith, length-append inner (right_bracket �
 
 -- a host in brackets is what its piece shows, in them
 pub bracketed_host : (piece : HostPiece) → is_bracketed piece ≡ true → meant_host piece ≡ in_brackets (normal_case piece (unescaped_host piece))
+bracketed_host (Simple text) h = absurd (false≢true h)
 bracketed_host (Address text) h = absurd (false≢true h)
 bracketed_host (Kept text) h = absurd (false≢true h)
 bracketed_host (Decoded text) h = absurd (false≢true h)
@@ -89,6 +91,7 @@ brackets_put (b ∷ []) behind shown size one within e =
 
 -- a piece takes two bytes more than its slice at most
 meant_host_length : (piece : HostPiece) → length (meant_host piece) ≤ length (slice_text piece) + 2
+meant_host_length (Simple text) = omega arith
 meant_host_length (Address text) = omega (arith, lowercase_length text.now)
 meant_host_length (Kept text) = omega (arith, normal_host_length text.now)
 meant_host_length (Decoded text) = omega (arith, normal_host_length (percent_decode text.now), (length-percent_decode text.now).0)

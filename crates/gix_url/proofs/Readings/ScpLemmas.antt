@@ -3,7 +3,7 @@ use Rattle.std.proofs.Common.{◌≡◌, ℕ, ◌<◌, Bool, false, ◌==◌, �
 use Rattle.std.proofs.lemmas.Bool.{both_ways, cases_Bool, false≢true, eqb-true}
 use Rattle.std.proofs.lemmas.Bool.Decides.{nat_tests}
 use Rattle.std.specs.List.{list_all}
-use Rattle.std.specs.Char.{is_ascii_digit, to_ascii_lowercase}
+use Rattle.std.specs.Char.{is_ascii_digit, is_whitespace, to_ascii_lowercase}
 use Rattle.gix_url.specs.declared.error.UrlFault.{UrlFault}
 use Rattle.gix_url.specs.declared.parse.found.ScpHost as rust
 use Rattle.gix_url.specs.Value.{Location}
@@ -11,7 +11,7 @@ use Rattle.gix_url.specs.Bytes.{percent_sign, colon, at_sign, left_bracket, back
 use Rattle.gix_url.specs.Escapes.{escaped_percents, is_plain, is_sound}
 use Rattle.gix_url.specs.Addresses.{IsIpv6Text, IsZone, is_zone_byte}
 use Rattle.gix_url.specs.Hosts.{Bracketed, HostText, Inner, IsAddressPiece, IsDigits, IsLiteral, IsManyColoned, Names, ReadsAddress, is_dns_byte, normal_host}
-use Rattle.gix_url.specs.HostPieces.{lowercase_address}
+use Rattle.gix_url.specs.HostPieces.{IsSimpleHost, is_simple_byte, lowercase_address}
 use Rattle.gix_url.specs.Hosts.Mode.{bare}
 use Rattle.gix_url.specs.Grammar.{IsBracketed, ScpFront, ScpShape, AddressedShape, ScpUser, ScpHost, Unbrackets, SpellsScpBefore, SpellsScp}
 use Rattle.gix_url.specs.Grammar.ScpFront.{plain, bracketed}
@@ -19,11 +19,11 @@ use Rattle.gix_url.specs.Grammar.ScpUser.{host_alone, with_user}
 use Rattle.gix_url.specs.Flaws.{HasBadHost, HasBadPort, ScpHostFlaw}
 use Rattle.gix_url.specs.FoundPieces.{scp_host_of}
 use Rattle.gix_url.specs.ScpPieces.{ColonsInside, NamesNoPort, NamesHost, ReadsScpPiece, ReadsScpHost}
-use Rattle.gix_url.proofs.Texts.CutLemmas.{heads, tails, not_free, free-append, free_parts, free_head_tail, free_of_all, free_begins, free_or_cut, cut_unique}
-use Rattle.gix_url.proofs.Texts.EscapeLemmas.{decode_escaped_percents, lacks_escaped_percents, escaped_percents-append, escaped_percents_kept, sound_kept, utf8_class, utf8_parts}
+use Rattle.gix_url.proofs.Texts.CutLemmas.{heads, tails, not_free, free-append, free_parts, free_head_tail, free_of_all, free_begins, free_or_cut, lacks_of_all, cut_unique}
+use Rattle.gix_url.proofs.Texts.EscapeLemmas.{ascii_class, decode_escaped_percents, lacks_escaped_percents, escaped_percents-append, escaped_percents_kept, sound_kept, utf8_class, utf8_parts, white_space_ascii}
 use Rattle.gix_url.proofs.Texts.PlainLemmas.{plain_parts}
 use Rattle.gix_url.proofs.Addresses.AddressLemmas.{address_free}
-use Rattle.gix_url.proofs.Readings.HostLemmas.{bare_not_strict, colon_first, literal_inner, literal_parts, names_utf8, not_digits, not_ended, some_tested, zone_byte_ascii}
+use Rattle.gix_url.proofs.Readings.HostLemmas.{bare_not_strict, colon_first, literal_inner, literal_parts, names_utf8, not_digits, not_ended, simple_named, some_tested, zone_byte_ascii}
 use Rattle.gix_url.proofs.Readings.ShapeLemmas.{nil_tested, same_front}
 use Rattle.gix_url.proofs.Readings.FormLemmas.{address_cut, address_front_free}
 use Rattle.gix_url.proofs.Readings.ScpFrontLemmas.{scp_user_unique, addressed_unique, open_bracket_no_host, front_of_addressed}
@@ -415,3 +415,28 @@ unbracketed_utf8 host inner (Unbrackets.same other e) is = subst IsUtf8 (sym e) 
 -- so is the host that one of the scp form stands for
 pub scp_meant_utf8 : {host meant : List ℕ} → ScpHost host meant → IsUtf8 meant
 scp_meant_utf8 {host} {meant} h = unbracketed_utf8 h.named meant h.unbracketed (names_utf8 bare (escaped_percents host) h.named None h.names)
+
+-- ---- simple hosts
+
+-- a byte of a simple host is ASCII and no white space
+simple_byte_ascii : (b : ℕ) → is_simple_byte b ≡ true → b < 128
+simple_byte_ascii b h = grind (arith, nat_tests)
+
+simple_byte_no_space : (b : ℕ) → is_simple_byte b ≡ true → is_whitespace b ≡ false
+simple_byte_no_space b h = grind (arith, nat_tests)
+
+-- a simple host is no text in brackets
+simple_unbracketed : (t : List ℕ) → IsSimpleHost t → ¬ IsBracketed t
+simple_unbracketed t h (inner, e) =
+    both_ways _ (free_begins left_bracket t (free_of_all is_simple_byte left_bracket t h.bytes refl)) (ap (begins_with left_bracket) e)
+
+-- it stands for itself in the scp form
+pub simple_scp_host : (t : List ℕ) → IsSimpleHost t → ScpHost t t
+simple_scp_host t h = record {
+  named = t;
+  no_at = free_of_all is_simple_byte at_sign t h.bytes refl;
+  no_backslash = free_of_all is_simple_byte backslash t h.bytes refl;
+  no_white_space = white_space_ascii t (ascii_class is_simple_byte simple_byte_ascii t h.bytes) (lacks_of_all is_simple_byte is_whitespace simple_byte_no_space t h.bytes);
+  names = subst (λ n. Names bare n (Some t) None) (sym (escaped_percents_kept t (free_of_all is_simple_byte percent_sign t h.bytes refl))) (simple_named bare t h);
+  unbracketed = Unbrackets.same (simple_unbracketed t h) refl;
+}

@@ -1,6 +1,6 @@
 -- URLs: what their text determines of their pieces, and what leaves no reading.
-use Rattle.std.proofs.Common.{◌≡◌, ℕ, ◌<◌, Bool, true, false, List, [], ◌∷◌, ◌++◌, length, Option, Some, None, refl, sym, ap, subst, ◌∙◌, arith}
-use Rattle.std.specs.Prelude.{IsSome, is_some, IsUtf8}
+use Rattle.std.proofs.Common.{◌≡◌, ℕ, ◌<◌, ◌⊎◌, Bool, true, false, List, [], ◌∷◌, ◌++◌, length, Option, Some, None, Result, Ok, Err, inl, inr, refl, sym, ap, subst, ◌∙◌, arith}
+use Rattle.std.specs.Prelude.{IfOk, IsSome, is_some, IsUtf8}
 use Rattle.std.proofs.lemmas.Bool.{both_ways, false≢true}
 use Rattle.std.proofs.lemmas.List.{nil_from_length}
 use Rattle.percent_encoding.specs.Percent.{percent_decode}
@@ -16,10 +16,10 @@ use Rattle.gix_url.specs.Authority.Authority.{host_alone, with_user}
 use Rattle.gix_url.specs.Grammar.{UrlParts, SpellsParts}
 use Rattle.gix_url.specs.Flaws.{AuthorityFlaw, HasBadUser, OtherShape, UrlCut}
 use Rattle.gix_url.specs.declared.parse.host.NamedHost.{NamedHost}
-use Rattle.gix_url.specs.HostPieces.{host_of}
+use Rattle.gix_url.specs.HostPieces.{IsSimpleHost, host_of, is_simple_byte, named_text}
 use Rattle.gix_url.specs.UrlPieces.{CutsRest, HasNoText, HoldsHosted, IsNoAuthority}
-use Rattle.gix_url.proofs.Texts.CutLemmas.{not_free, cut_unique, last_cut_unique, path_cut_unique, mark_cut_unique, held_free, scheme_text_free}
-use Rattle.gix_url.proofs.Readings.HostLemmas.{names_unique}
+use Rattle.gix_url.proofs.Texts.CutLemmas.{free_of_all, not_free, cut_unique, last_cut_unique, path_cut_unique, mark_cut_unique, held_free, scheme_text_free}
+use Rattle.gix_url.proofs.Readings.HostLemmas.{names_unique, simple_host_named}
 use Rattle.gix_url.proofs.Texts.EscapeLemmas.{decode_empty}
 use Rattle.percent_encoding.proofs.PercentLemmas.{percent_decode-nil}
 
@@ -222,3 +222,26 @@ no_authority_refutes b scheme authority path parts cut none h =
     let own : HoldsHosted (mode_of parts.scheme) (requires_host parts.scheme) h.authority parts.user parts.password parts.host parts.port = record { named = h.named; hosted = h.hosted } in
     let same : HoldsHosted (mode_of parts.scheme) (requires_host parts.scheme) authority parts.user parts.password parts.host parts.port = subst (λ a. HoldsHosted (mode_of parts.scheme) (requires_host parts.scheme) a parts.user parts.password parts.host parts.port) pieces.1 own in
     none parts.user parts.password parts.host parts.port (subst (λ s. HoldsHosted (mode_of s) (requires_host s) authority parts.user parts.password parts.host parts.port) pieces.0 same)
+
+-- an authority with a backslash, or one that holds nothing, spells no parts
+pub authority_refutes : (b scheme authority path : List ℕ) (parts : UrlParts) → UrlCut b scheme authority path → (¬ FreeOf backslash authority) ⊎ IsNoAuthority (mode_of scheme) (requires_host scheme) authority → ¬ SpellsParts b parts
+authority_refutes b scheme authority path parts cut (inl held) = backslash_refutes b scheme authority path parts cut held
+authority_refutes b scheme authority path parts cut (inr none) = no_authority_refutes b scheme authority path parts cut none
+
+-- ---- simple hosts
+
+-- a simple host holds no backslash
+pub simple_clean : (t : List ℕ) → IsSimpleHost t → FreeOf backslash t
+simple_clean t h = free_of_all is_simple_byte backslash t h.bytes refl
+
+-- it is a whole authority
+pub simple_held : (mode : Mode) (needed : Bool) (t : List ℕ) (host : NamedHost) → IsSimpleHost t → named_text host ≡ t → host.port ≡ None → HoldsHosted mode needed t None None (Some (named_text host)) host.port
+simple_held mode needed t host h e p = record {
+  named = Authority.host_alone (free_of_all is_simple_byte at_sign t h.bytes refl) (simple_host_named mode t host h e p) refl refl;
+  hosted = λ need. refl;
+}
+
+-- what holds of the whole holds of each answer
+pub on_each_ok : {A B : Type 0} (r : Result A B) (P : Type 0) → P → IfOk r (λ _. P)
+on_each_ok (Ok x) P h = h
+on_each_ok (Err e) P h = tt

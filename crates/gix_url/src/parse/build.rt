@@ -1,12 +1,12 @@
 //! Building: the location that found slices mean, with bytes of its own.
 //!
-//! It may use `found`, `bytes`, `copies`, `host`, `made`, `meaning`, `scheme` and `text`. Its contract: the location is
+//! It may use `found`, `bytes`, `copies`, `home`, `host`, `made`, `meaning`, `scheme` and `text`. Its contract: the location is
 //! the one that the slices mean. Memory is asked for once for each part.
 
 ghost use Rattle.std.specs.Prelude.{◌≡◌, IfOk, IfSome, IsUtf8, option_map, string_bytes};
 ghost use Rattle.std.specs.Option.{option_copied};
 ghost use Rattle.gix_url.specs.FoundPieces.{AreScpTexts, IsReady, meant, scp_host_of};
-ghost use Rattle.gix_url.specs.Grammar.{from_home, helper_protocol, scp_location};
+ghost use Rattle.gix_url.specs.Grammar.{helper_protocol, scp_location};
 ghost use Rattle.gix_url.specs.Value.{path_alone};
 ghost use Rattle.gix_url.specs.Views.{protocol};
 
@@ -15,7 +15,8 @@ use super::found::{Found, ScpHost};
 use super::host::build::{lowercase_address, normalize};
 use super::made::{path_alone, plain_location};
 use super::meaning::url_location;
-use crate::bytes::{append_within, starts_with_byte};
+use crate::bytes::append_within;
+use crate::home::from_home;
 use crate::location::Url;
 use crate::scheme::Scheme;
 use crate::text::into_text;
@@ -98,7 +99,7 @@ fn host_text(alloc: Global, host: ScpHost<'_>) -> Result<String, AllocError>
             normalize(&mut copy);
             Ok(into_text(copy))
         }
-        ScpHost::Inner(text) => Ok(into_text(copy_of(alloc, text)?)),
+        ScpHost::Kept(text) => Ok(into_text(copy_of(alloc, text)?)),
     }
 }
 
@@ -109,14 +110,4 @@ fn copy_of(alloc: Global, text: &[u8]) -> Result<Vec<u8>, AllocError>
     let mut copy = Vec::with_capacity(alloc, text.len())?;
     append_within(&mut copy, text);
     Ok(copy)
-}
-
-/// The path without the `/` before a `~` at its front.
-fn from_home(path: &[u8]) -> &[u8]
-    ensures { result.now ≡ from_home path.now }
-{
-    match path {
-        [b'/', rest @ ..] if starts_with_byte(rest, b'~') => rest,
-        _ => path,
-    }
 }

@@ -48,6 +48,6 @@ pub(super) enum ScpHost<'a> {
     Literal(&'a [u8]),
     /// A host outside brackets: it is lowercased where it looks like a domain name.
     Name(&'a [u8]),
-    /// Any other text that stood between brackets: it stays as it is.
-    Inner(&'a [u8]),
+    /// A simple host, or any other text that stood between brackets: it stays as it is.
+    Kept(&'a [u8]),
 }

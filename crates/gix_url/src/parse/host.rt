@@ -10,7 +10,7 @@ ghost use Rattle.gix_url.specs.Bytes.{FreeOf, begins_with, left_bracket, right_b
 ghost use Rattle.gix_url.specs.Flaws.{IsNoHost, IsNoInner, NameFlaw};
 ghost use Rattle.gix_url.specs.Hosts as spec;
 ghost use Rattle.gix_url.specs.Hosts.{HostText, IsAddressPiece, IsLiteral, IsManyColoned, Names, ReadsAddress};
-ghost use Rattle.gix_url.specs.HostPieces.{IsInner, ReadsName, host_of, in_brackets, meant_host, named_text, port_of, shown_literal, strictness};
+ghost use Rattle.gix_url.specs.HostPieces.{IsInner, IsSimpleHost, ReadsName, host_of, in_brackets, meant_host, named_text, port_of, shown_literal, strictness};
 
 pub(super) mod build;
 pub(crate) mod bytes;
@@ -20,7 +20,7 @@ use crate::bytes::{after, before, cut, is_free_of};
 use crate::error::UrlFault;
 use crate::escape::decodes_to_utf8;
 use crate::ipv6::is_address;
-use bytes::{are_http_host_bytes, is_literal};
+use bytes::{are_http_host_bytes, are_simple_bytes, is_literal};
 use port::{are_digits, ends_host, with_port, with_rest};
 
 /// How strictly a host is read.
@@ -37,6 +37,8 @@ pub(crate) enum Mode {
 /// The text of a host as it stands in the input, with what has to be done to it.
 #[derive(Clone, Copy)]
 pub(crate) enum HostPiece<'a> {
+    /// A host of lower-case letters, digits, `-` and `.`: it stands for itself in every mode.
+    Simple(&'a [u8]),
     /// An IPv6 text without brackets, perhaps with a colon behind it: it is lowercased.
     Address(&'a [u8]),
     /// A host of HTTP: its escapes stay.
@@ -75,8 +77,41 @@ pub(crate) fn read_host(mode: Mode, piece: &[u8]) -> Result<Option<NamedHost<'_>
     if piece.is_empty() {
         return Ok(None);
     }
+    if let Some(named) = simple_host(piece) {
+        return Ok(Some(named));
+    }
     let named = read_some(mode, piece)?;
     Ok(Some(named))
+}
+
+/// The port of a host that may be missing.
+pub(crate) fn port_of(host: Option<NamedHost<'_>>) -> Option<u16>
+    ensures { result ≡ port_of host.entry }
+{
+    match host {
+        None => None,
+        Some(host) => host.port,
+    }
+}
+
+/// The host, where the piece is a simple one: most are.
+pub(crate) fn simple_host(piece: &[u8]) -> Option<NamedHost<'_>>
+    ensures simple { IfSome result (λ host. IsSimpleHost piece.now) }
+    ensures host { IfSome result (λ host. named_text host ≡ piece.now) }
+    ensures port { IfSome result (λ host. host.port ≡ None) }
+{
+    if is_simple_host(piece) {
+        Some(alone(HostPiece::Simple(piece)))
+    } else {
+        None
+    }
+}
+
+/// Whether the text is a simple host.
+pub(crate) fn is_simple_host(text: &[u8]) -> bool
+    ensures { IsTrue result → IsSimpleHost text.now }
+{
+    !text.is_empty() && are_simple_bytes(text)
 }
 
 /// Reads a host and a port, where there is something to read.

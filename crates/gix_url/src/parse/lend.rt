@@ -1,16 +1,16 @@
 //! Lending: the location that found slices mean, in slices of the text and of a room.
 //!
-//! It may use `found`, `room`, `peeled`, `bytes`, `escape`, `host`, `rules`, `scheme`, `simple_url`, `text` and the type
+//! It may use `found`, `room`, `peeled`, `home`, `host`, `rules`, `scheme`, `simple_url`, `text` and the type
 //! of borrowed locations. Its contract: the location is the one that the slices mean. It takes no memory: what has other
 //! bytes than the text is written into the room.
 
-ghost use Rattle.std.specs.Prelude.{◌≡◌, ◌≤◌, List, ℕ, IfSome, IsUtf8, false, length, option_map, true};
+ghost use Rattle.std.specs.Prelude.{◌≡◌, ◌≤◌, List, ℕ, IfSome, IsUtf8, false, length, option_map};
 ghost use Rattle.std.specs.Option.{option_copied};
 ghost use Rattle.gix_url.specs.Authority.{unless_empty};
 ghost use Rattle.gix_url.specs.FoundPieces.{AreScpTexts, IsReady, IsReadyUrl, host_for, meant, parts_length, room_for, scp_host_of, scp_slice, url_location};
-ghost use Rattle.gix_url.specs.Grammar as grammar;
+ghost use Rattle.percent_encoding.specs.Percent.{percent_decode};
+ghost use Rattle.gix_url.specs.Escapes.{has_percent};
 ghost use Rattle.gix_url.specs.Grammar.{helper_protocol, path_for, retained_spelling, scp_location};
-ghost use Rattle.gix_url.specs.HostPieces.{port_of};
 ghost use Rattle.gix_url.specs.SchemeRules.{AreRulesOf, named_protocol};
 ghost use Rattle.gix_url.specs.Schemes.{protocol_of};
 ghost use Rattle.gix_url.specs.UrlPieces.{parts_of};
@@ -19,13 +19,12 @@ ghost use Rattle.gix_url.specs.Value.Protocol.{file};
 ghost use Rattle.gix_url.specs.Views.{lent_protocol};
 
 use super::found::{Found, ScpHost};
-use super::host::NamedHost;
+use super::host::port_of;
 use super::peeled::peeled_text;
 use super::room::{decoded_in, host_in, optional_in, scp_host_in};
 use super::rules::Rules;
 use super::simple_url::ParsedUrl;
-use crate::bytes::starts_with_byte;
-use crate::escape::has_percent;
+use crate::home::{from_home, or_root};
 use crate::scheme::{Protocol, SchemeRef};
 use crate::text::as_text;
 use crate::url_ref::UrlRef;
@@ -94,7 +93,7 @@ fn url_location<'a>(rules: Rules, url: ParsedUrl<'a>, room: &'a mut [u8]) -> Url
     let (user, room) = optional_in(url.user, room);
     let (password, room) = optional_in(url.password, room);
     let (host, room) = host_in(url.host, room);
-    let (path, _) = decoded_in(url.path, room);
+    let path = path_in(url, room);
     UrlRef {
         scheme: SchemeRef::of_protocol(rules.protocol, as_text(url.scheme)),
         user: text_of(user),
@@ -103,7 +102,7 @@ fn url_location<'a>(rules: Rules, url: ParsedUrl<'a>, room: &'a mut [u8]) -> Url
         serialize_alternative_form: false,
         port: port_of(url.host),
         path: path_for(rules, url.scheme, path),
-        spelling: retained(url.path),
+        spelling: retained(url),
     }
 }
 
@@ -130,16 +129,6 @@ fn host_for(protocol: Protocol, host: Option<&[u8]>) -> Option<&[u8]>
     }
 }
 
-/// The port, if there is one.
-fn port_of(host: Option<NamedHost<'_>>) -> Option<u16>
-    ensures { result ≡ port_of host.entry }
-{
-    match host {
-        None => None,
-        Some(host) => host.port,
-    }
-}
-
 /// The path of a location, of the decoded one of its URL.
 fn path_for<'a>(rules: Rules, scheme: &[u8], path: &'a [u8]) -> &'a [u8]
     requires { AreRulesOf scheme.now rules }
@@ -155,28 +144,25 @@ fn path_for<'a>(rules: Rules, scheme: &[u8], path: &'a [u8]) -> &'a [u8]
     path
 }
 
-/// The path without the `/` before a `~` at its front.
-fn from_home(path: &[u8]) -> &[u8]
-    ensures { result.now ≡ grammar.from_home path.now }
+/// The decoded path of a URL.
+fn path_in<'a>(url: ParsedUrl<'a>, room: &'a mut [u8]) -> &'a [u8]
+    requires escaped { url.escaped ≡ has_percent url.path.now }
+    requires room { length (percent_decode url.path.now) ≤ length room.old }
+    ensures { result.now ≡ percent_decode url.entry.path.now }
 {
-    match path {
-        [b'/', rest @ ..] if starts_with_byte(rest, b'~') => rest,
-        _ => path,
+    if !url.escaped {
+        return url.path;
     }
+    let (path, _) = decoded_in(url.path, room);
+    path
 }
 
-/// The path, or `/` where it is empty.
-fn or_root(path: &[u8]) -> &[u8]
-    ensures { result.now ≡ grammar.or_root path.now }
+/// The spelling of the path of a URL, where it holds an escape.
+fn retained<'a>(url: ParsedUrl<'a>) -> Option<&'a [u8]>
+    requires { url.escaped ≡ has_percent url.path.now }
+    ensures { option_copied result ≡ retained_spelling url.entry.path.now }
 {
-    if path.is_empty() { b"/" } else { path }
-}
-
-/// The spelling of the path, where it holds an escape.
-fn retained(path: &[u8]) -> Option<&[u8]>
-    ensures { option_copied result ≡ retained_spelling path.now }
-{
-    if has_percent(path) { Some(path) } else { None }
+    if url.escaped { Some(url.path) } else { None }
 }
 
 /// A location that Secure Shell reaches, with this user and this host.

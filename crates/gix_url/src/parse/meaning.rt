@@ -7,22 +7,23 @@
 ghost use Rattle.std.specs.Prelude.{◌≡◌, ◌<◌, ◌↔◌, List, ℕ, IsTrue, IfOk, IfSome, IsUtf8, true, length, option_map, string_bytes};
 ghost use Rattle.bstr.specs.Owned.{bstring_bytes};
 ghost use Rattle.percent_encoding.specs.Percent.{percent_decode};
+ghost use Rattle.gix_url.specs.Escapes.{has_percent};
 ghost use Rattle.gix_url.specs.Grammar as grammar;
 ghost use Rattle.gix_url.specs.FoundPieces.{IsReadyUrl, host_for, url_location};
 ghost use Rattle.gix_url.specs.Grammar.{path_for};
-ghost use Rattle.gix_url.specs.HostPieces.{host_of, port_of};
+ghost use Rattle.gix_url.specs.HostPieces.{host_of};
 ghost use Rattle.gix_url.specs.SchemeRules.{AreRulesOf, named_protocol};
 ghost use Rattle.gix_url.specs.Schemes.{protocol_of};
-ghost use Rattle.gix_url.specs.Settled.{begins_at_home};
 ghost use Rattle.gix_url.specs.UrlPieces.{decoded_option, parts_of};
 
 use super::copies::copied;
-use super::host::NamedHost;
+use super::host::{NamedHost, port_of};
 use super::made::full_location;
 use super::peeled::peeled;
 use super::rules::Rules;
 use super::simple_url::ParsedUrl;
-use crate::escape::{decoded, decoded_text, has_percent};
+use crate::escape::{decoded, decoded_text};
+use crate::home::begins_at_home;
 use crate::location::Url;
 use crate::scheme::{Protocol, Scheme};
 use crate::text::as_text;
@@ -44,7 +45,7 @@ pub(super) fn url_location(
     let password = decoded_part(alloc, url.password)?;
     let host = host_for(rules.protocol, built(alloc, url.host)?);
     let path = path_for(alloc, rules, url)?;
-    let spelling = retained(alloc, url.path)?;
+    let spelling = retained(alloc, url)?;
     let port = port_of(url.host);
     Ok(full_location(scheme, user, password, host, false, port, path, spelling))
 }
@@ -68,16 +69,6 @@ fn built(alloc: Global, host: Option<NamedHost<'_>>) -> Result<Option<String>, A
     match host {
         None => Ok(None),
         Some(host) => Ok(Some(host.build(alloc)?)),
-    }
-}
-
-/// The port, if there is one.
-fn port_of(host: Option<NamedHost<'_>>) -> Option<u16>
-    ensures { result ≡ port_of host.entry }
-{
-    match host {
-        None => None,
-        Some(host) => host.port,
     }
 }
 
@@ -125,16 +116,6 @@ fn from_home(mut path: Vec<u8>) -> Vec<u8>
     path
 }
 
-/// Whether the path begins with `/~`.
-fn begins_at_home(path: &[u8]) -> bool
-    ensures { result ≡ begins_at_home path.now }
-{
-    match path {
-        [first, second, ..] => *first == b'/' && *second == b'~',
-        _ => false,
-    }
-}
-
 /// The path, or `/` where it is empty.
 fn or_root(path: &[u8]) -> &[u8]
     ensures { percent_decode result.now ≡ grammar.or_root (percent_decode path.now) }
@@ -143,12 +124,14 @@ fn or_root(path: &[u8]) -> &[u8]
 }
 
 /// The spelling of the path, where it holds an escape.
-fn retained(alloc: Global, path: &[u8]) -> Result<Option<BString>, AllocError>
+fn retained(alloc: Global, url: ParsedUrl<'_>) -> Result<Option<BString>, AllocError>
+    requires { url.escaped ≡ has_percent url.path.now }
     ensures { IfOk result
-        (λ spelling. option_map bstring_bytes spelling ≡ grammar.retained_spelling path.now) }
+        (λ spelling. option_map bstring_bytes spelling
+        ≡ grammar.retained_spelling url.entry.path.now) }
 {
-    if has_percent(path) {
-        Ok(Some(copied(alloc, path)?))
+    if url.escaped {
+        Ok(Some(copied(alloc, url.path)?))
     } else {
         Ok(None)
     }

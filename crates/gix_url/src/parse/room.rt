@@ -19,6 +19,7 @@ use crate::bytes::is_lowercase;
 use crate::escape::{decode_into, has_percent};
 
 /// The decoding of a text.
+#[inline(always)]
 pub(super) fn decoded_in<'a>(text: &'a [u8], room: &'a mut [u8]) -> (&'a [u8], &'a mut [u8])
     requires { length (percent.percent_decode text.now) ≤ length room.old }
     ensures text { result.0.now ≡ percent.percent_decode text.now }
@@ -34,6 +35,7 @@ pub(super) fn decoded_in<'a>(text: &'a [u8], room: &'a mut [u8]) -> (&'a [u8], &
 }
 
 /// The decoding of a text that may be missing.
+#[inline(always)]
 pub(super) fn optional_in<'a>(
     text: Option<&'a [u8]>,
     room: &'a mut [u8],
@@ -53,6 +55,7 @@ pub(super) fn optional_in<'a>(
 }
 
 /// The text of a host that may be missing.
+#[inline(always)]
 pub(super) fn host_in<'a>(
     host: Option<NamedHost<'a>>,
     room: &'a mut [u8],
@@ -71,6 +74,7 @@ pub(super) fn host_in<'a>(
 }
 
 /// The text of a host.
+#[inline(always)]
 fn named_in<'a>(host: NamedHost<'a>, room: &'a mut [u8]) -> (&'a [u8], &'a mut [u8])
     requires { length (named_text host) ≤ length room.old }
     ensures text { result.0.now ≡ named_text host.entry }
@@ -85,11 +89,15 @@ fn named_in<'a>(host: NamedHost<'a>, room: &'a mut [u8]) -> (&'a [u8], &'a mut [
 }
 
 /// The slice of a host, where it is the host's text as it stands.
+#[inline(always)]
 fn own_slice(host: NamedHost<'_>) -> Option<&[u8]>
     ensures { IfSome result (λ text. text.now ≡ named_text host.entry) }
 {
     if host.keeps_colon {
         return None;
+    }
+    if let HostPiece::Simple(text) = host.piece {
+        return Some(text);
     }
     let text = undecoded(host.piece)?;
     if is_lowercase(text) { Some(text) } else { None }
@@ -101,7 +109,7 @@ fn undecoded(piece: HostPiece<'_>) -> Option<&[u8]>
         (λ text. IsLowercase text.now → text.now ≡ meant_host piece.entry) }
 {
     match piece {
-        HostPiece::Address(text) | HostPiece::Kept(text) => Some(text),
+        HostPiece::Simple(text) | HostPiece::Address(text) | HostPiece::Kept(text) => Some(text),
         HostPiece::Decoded(text) => {
             if has_percent(text) {
                 None
@@ -129,7 +137,7 @@ pub(super) fn scp_host_in<'a>(host: ScpHost<'a>, room: &'a mut [u8]) -> &'a [u8]
     ensures { result.now ≡ scp_host_of host.entry }
 {
     match host {
-        ScpHost::Inner(text) => text,
+        ScpHost::Kept(text) => text,
         ScpHost::Literal(text) => {
             if is_lowercase(text) {
                 return text;

@@ -17,6 +17,7 @@ ghost use Rattle.gix_url.specs.ScpPieces.{ColonsInside, CutsUser, ReadsScpHost, 
 
 use super::found::{Found, ScpHost};
 use super::host::bytes::are_zone_bytes;
+use super::host::is_simple_host;
 use crate::bytes::{after, cut, is_free_of, last_cut};
 use crate::error::{UrlFault, UrlKind};
 use crate::escape::lacks_white_space;
@@ -106,6 +107,9 @@ fn find_host(plain: bool, host: &[u8]) -> Result<ScpHost<'_>, UrlFault>
     ensures read { ReadsScpHost host.now result }
     ensures within { IfOk result (λ found. length (scp_slice found) ≤ length host.now) }
 {
+    if is_simple_host(host) {
+        return Ok(ScpHost::Kept(host));
+    }
     if !has_no_white_space(plain, host) {
         return Err(UrlFault::BadCharacter);
     }
@@ -165,7 +169,7 @@ fn find_in_brackets(behind: &[u8]) -> Result<ScpHost<'_>, UrlFault>
     if is_literal(inner) {
         Ok(ScpHost::Literal(inner))
     } else {
-        Ok(ScpHost::Inner(inner))
+        Ok(ScpHost::Kept(inner))
     }
 }
 

@@ -3,7 +3,7 @@
 //! It may use `bytes`, `escape`, `host` and `rules`. Its contract: the parts are read exactly where the definitions
 //! spell a URL with them, and each refusal has its flaw. It takes no memory and copies nothing.
 
-ghost use Rattle.std.specs.Prelude.{◌≡◌, ◌↔◌, IfErr, IfOk, IsTrue, IsUtf8, MatchOption, true};
+ghost use Rattle.std.specs.Prelude.{◌≡◌, ◌↔◌, ◌⊎◌, IfErr, IfOk, IsTrue, IsUtf8, MatchOption, true};
 ghost use Rattle.percent_encoding.specs.Percent.{percent_decode};
 ghost use Rattle.gix_url.specs.Authority as authority;
 ghost use Rattle.gix_url.specs.Authority.{Fits};
@@ -13,14 +13,14 @@ ghost use Rattle.gix_url.specs.Flaws.{AuthorityFlaw, OtherShape, UrlFlaw};
 ghost use Rattle.gix_url.specs.Grammar.{SpellsParts, UrlParts};
 ghost use Rattle.gix_url.specs.HostPieces.{strictness};
 ghost use Rattle.gix_url.specs.SchemeRules.{AreRulesOf};
-ghost use Rattle.gix_url.specs.Bytes.{FreeOf, LacksWhiteSpace, at_sign, colon};
+ghost use Rattle.gix_url.specs.Bytes.{FreeOf, LacksWhiteSpace, at_sign, backslash, colon};
 ghost use Rattle.gix_url.specs.UrlPieces.{HasNoText, HoldsCredentials, HoldsParts, IsNoAuthority, decoded_option, parts_of};
 
-use super::host::{Mode, NamedHost, read_host};
+use super::host::{Mode, NamedHost, read_host, simple_host};
 use super::rules::Rules;
 use crate::bytes::{cut, cut_before_path, is_free_of, is_scheme_text, last_cut};
 use crate::error::UrlFault;
-use crate::escape::{decodes_to_utf8, is_sound, lacks_white_space};
+use crate::escape::{decodes_to_utf8, has_percent, is_sound, lacks_white_space};
 
 /// The parts of a URL, as slices of its text: nothing is decoded, nothing is copied.
 #[derive(Clone, Copy)]
@@ -35,6 +35,8 @@ pub(crate) struct ParsedUrl<'a> {
     pub(crate) host: Option<NamedHost<'a>>,
     /// The path with its escapes, and with what HTTP has behind it.
     pub(crate) path: &'a [u8],
+    /// Whether the path holds a `%`.
+    pub(crate) escaped: bool,
 }
 
 /// What an authority holds, as slices of it.
@@ -70,6 +72,7 @@ pub(crate) fn read_simple_url<'a>(
     requires fits { Fits scheme.now rest.now }
     ensures read { IfOk result (λ url. SpellsParts text.now (parts_of url)) }
     ensures same_scheme { IfOk result (λ url. url.scheme.now ≡ scheme.now) }
+    ensures escaped { IfOk result (λ url. url.escaped ≡ escape.has_percent url.path.now) }
     ensures refused { IfErr result (λ fault. (parts : UrlParts) → ¬ SpellsParts text.now parts) }
     ensures flaw { IfErr result (λ fault. UrlFlaw text.now fault) }
 {
@@ -83,23 +86,26 @@ pub(crate) fn read_simple_url<'a>(
         return Err(UrlFault::NoScheme);
     }
     let (authority, path) = cut_before_path(rest, rules.web);
-    if !is_free_of(authority, b'\\') {
-        return Err(UrlFault::BadCharacter);
-    }
     if !means_text(plain, path) {
         return Err(UrlFault::BadCharacter);
     }
     let parts = read_authority(rules.mode, rules.needs_host, authority)?;
-    Ok(parsed(scheme, parts, path))
+    Ok(parsed(scheme, parts, path, holds_escape(plain, path)))
 }
 
 /// The parts of a URL, from those of its authority.
-fn parsed<'a>(scheme: &'a [u8], parts: AuthorityParts<'a>, path: &'a [u8]) -> ParsedUrl<'a>
+fn parsed<'a>(
+    scheme: &'a [u8],
+    parts: AuthorityParts<'a>,
+    path: &'a [u8],
+    escaped: bool,
+) -> ParsedUrl<'a>
     ensures scheme { result.scheme.now ≡ scheme.now }
     ensures user { result.user ≡ parts.entry.credentials.user }
     ensures password { result.password ≡ parts.entry.credentials.password }
     ensures host { result.host ≡ parts.entry.host }
     ensures path { result.path.now ≡ path.now }
+    ensures escaped { result.escaped ≡ escaped }
 {
     ParsedUrl {
         scheme,
@@ -107,6 +113,7 @@ fn parsed<'a>(scheme: &'a [u8], parts: AuthorityParts<'a>, path: &'a [u8]) -> Pa
         password: parts.credentials.password,
         host: parts.host,
         path,
+        escaped,
     }
 }
 
@@ -134,8 +141,47 @@ fn means_text(plain: bool, piece: &[u8]) -> bool
     plain || decodes_to_utf8(piece)
 }
 
-/// Reads an authority, in which a host may be needed.
+/// Whether the piece holds a `%`, as a plain one doesn't.
+fn holds_escape(plain: bool, piece: &[u8]) -> bool
+    requires { plain ≡ true → is_plain piece.now ≡ true }
+    ensures { result ≡ escape.has_percent piece.now }
+{
+    if plain {
+        return false;
+    }
+    has_percent(piece)
+}
+
+/// Reads an authority, in which a host may be needed. Mostly it is a simple host.
 fn read_authority(
+    mode: Mode,
+    needed: bool,
+    authority: &[u8],
+) -> Result<AuthorityParts<'_>, UrlFault>
+    ensures read { IfOk result (λ parts. HoldsParts (strictness mode) needed authority.now parts) }
+    ensures clean { IfOk result (λ parts. FreeOf backslash authority.now) }
+    ensures refused { IfErr result (λ fault. (¬ FreeOf backslash authority.now)
+        ⊎ IsNoAuthority (strictness mode) needed authority.now) }
+    ensures flaw { IfErr result
+        (λ fault. AuthorityFlaw (strictness mode) needed authority.now fault) }
+{
+    if let Some(host) = simple_host(authority) {
+        return Ok(AuthorityParts {
+            credentials: CredentialParts {
+                user: None,
+                password: None,
+            },
+            host: Some(host),
+        });
+    }
+    if !is_free_of(authority, b'\\') {
+        return Err(UrlFault::BadCharacter);
+    }
+    read_marked(mode, needed, authority)
+}
+
+/// Reads an authority in which marks may stand.
+fn read_marked(
     mode: Mode,
     needed: bool,
     authority: &[u8],

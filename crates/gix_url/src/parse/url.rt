@@ -6,7 +6,7 @@
 
 ghost use Rattle.std.specs.Prelude.{◌≡◌, ◌+◌, ◌<◌, ◌≤◌, ◌↔◌, IfErr, IfOk, IsTrue, codes, length, take, true};
 ghost use Rattle.gix_url.specs.Authority.{Fits};
-ghost use Rattle.gix_url.specs.Escapes.{is_plain};
+ghost use Rattle.gix_url.specs.Escapes.{has_percent, is_plain};
 ghost use Rattle.gix_url.specs.Flaws.{NamesFlaw, OtherShape, UrlShape};
 ghost use Rattle.gix_url.specs.FoundPieces.{IsReady, meant, room_for};
 ghost use Rattle.gix_url.specs.Grammar.{Spells, SpellsFile, SpellsParts, SpellsUrl};
@@ -148,6 +148,7 @@ fn find_parts<'a>(
 fn located<'a>(input: &'a [u8], rules: Rules, url: ParsedUrl<'a>) -> Result<Found<'a>, Refusal<'a>>
     requires spelled { SpellsParts input.now (parts_of url) }
     requires rules { AreRulesOf url.scheme.now rules }
+    requires escaped { url.escaped ≡ has_percent url.path.now }
     ensures found { IfOk result (λ found. SpellsUrl input.now (meant found)) }
     ensures ready { IfOk result (λ found. IsReady found) }
     ensures room { IfOk result (λ found. room_for found ≤ length input.now) }

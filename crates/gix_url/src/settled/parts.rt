@@ -6,7 +6,7 @@
 ghost use Rattle.std.specs.Prelude.{◌≡◌, ◌↔◌, IsTrue, codes};
 ghost use Rattle.gix_url.specs.Bytes.{Holds};
 ghost use Rattle.gix_url.specs.Hosts.{normal_host};
-ghost use Rattle.gix_url.specs.Settled.{HasAtMostHost, HasMatch, IsNormalAddress, IsNormalName, IsOpenName, begins_at_home, begins_with_slashes};
+ghost use Rattle.gix_url.specs.Settled.{HasAtMostHost, HasMatch, IsNormalAddress, IsNormalName, IsOpenName, begins_with_slashes};
 ghost use Rattle.gix_url.specs.SettledParts.{IsFlaggedPath};
 
 use crate::bytes::{cut_at_mark, is_free_of, is_lowercase};
@@ -36,16 +36,6 @@ pub(crate) fn has_match(url: &UrlRef<'_>) -> bool
     match url.spelling {
         None => false,
         Some(spelling) => decodes_to(spelling, url.path),
-    }
-}
-
-/// Whether the text begins with `/~`.
-pub(crate) fn begins_at_home(text: &[u8]) -> bool
-    ensures { result ≡ begins_at_home text.now }
-{
-    match text {
-        [first, second, ..] => *first == b'/' && *second == b'~',
-        _ => false,
     }
 }
 

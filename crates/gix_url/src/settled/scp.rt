@@ -1,17 +1,16 @@
 //! The settled locations in the scp form.
 //!
-//! It uses `parts`, `bytes`, `escape` and `text`. Its contract: the answer is yes exactly for those that the
+//! It uses `parts`, `bytes`, `escape`, `home` and `text`. Its contract: the answer is yes exactly for those that the
 //! definitions settle. It takes no memory.
 
 ghost use Rattle.std.specs.Prelude.{◌↔◌, IsTrue, IfSome};
 ghost use Rattle.gix_url.specs.Settled.{IsScpName, IsScpUser, IsSettledScp, LooksLikeHelper};
 ghost use Rattle.gix_url.specs.SettledParts.{HasScpForm, HasScpFront, HasScpHost, HasScpParts, IsScpHost, IsScpPath};
 
-use super::parts::{
-    begins_at_home, begins_with_slashes, is_normal_address, is_normal_name, lacks_mark,
-};
+use super::parts::{begins_with_slashes, is_normal_address, is_normal_name, lacks_mark};
 use crate::bytes::{is_free_of, is_helper_name, starts_with_byte};
 use crate::escape::lacks_white_space;
+use crate::home::begins_at_home;
 use crate::text::is_text;
 use crate::url_ref::UrlRef;
 

@@ -1,9 +1,9 @@
 //! The settled URLs, but for those of files.
 //!
-//! It uses `host`, `measure`, `parts`, `bytes`, `escape`, `scheme` and `text`. Its contract: the answer is yes exactly
+//! It uses `host`, `measure`, `parts`, `bytes`, `escape`, `home`, `scheme` and `text`. Its contract: the answer is yes exactly
 //! for those that the definitions settle. It takes no memory.
 
-ghost use Rattle.std.specs.Prelude.{◌≡◌, ◌↔◌, IsTrue, IsUtf8, Some, [], true, IfSome};
+ghost use Rattle.std.specs.Prelude.{◌≡◌, ◌↔◌, IsTrue, IsUtf8, true, IfSome};
 ghost use Rattle.gix_url.specs.Value.Protocol.{git, helper_url, ssh};
 ghost use Rattle.gix_url.specs.Bytes.{begins_by, is_path_start};
 ghost use Rattle.gix_url.specs.Pieces.{AreOwn};
@@ -12,9 +12,10 @@ ghost use Rattle.gix_url.specs.SettledParts.{HasBareHost, HasBracketedHost, HasC
 
 use super::host::{is_bare_host, is_bracketed_host, is_web_host};
 use super::measure::has_fitting_text;
-use super::parts::{begins_at_home, has_match};
+use super::parts::has_match;
 use crate::bytes::{is_scheme_text, starts_with_byte};
 use crate::escape::{decodes_to, has_percent, is_sound, lacks_white_space};
+use crate::home::begins_at_home;
 use crate::scheme::{is_ftp, is_known_scheme};
 use crate::text::is_text;
 use crate::url_ref::UrlRef;
@@ -229,18 +230,8 @@ fn has_credentials(url: &UrlRef<'_>) -> bool
     ensures { IsTrue result ↔ HasCredentials url.now }
 {
     match url.password {
-        None => !has_empty_user(url),
+        None => !url.has_empty_user(),
         Some(password) => !password.is_empty() && url.user.is_some(),
-    }
-}
-
-/// Whether the user is empty.
-fn has_empty_user(url: &UrlRef<'_>) -> bool
-    ensures { IsTrue result ↔ (url.now.user ≡ Some []) }
-{
-    match url.user {
-        None => false,
-        Some(user) => user.is_empty(),
     }
 }
 

@@ -1,9 +1,10 @@
+-- A text is as sound as what stands behind its escapes.
 use Rattle.std.proofs.Common.{◌≡◌, length}
 use Rattle.gix_url.specs.Escapes.{is_sound}
 use Rattle.gix_url.proofs.escape.is_sound.Given as goal
 
-abbrev pub invariant-loop-first : goal.invariant-loop-first
-invariant-loop-first l = is_sound l.rest ≡ is_sound l.text
+abbrev pub invariant-loop-behind : goal.invariant-loop-behind
+invariant-loop-behind l = is_sound l.rest ≡ is_sound l.text
 
-abbrev pub decreases-loop-first : goal.decreases-loop-first
-decreases-loop-first l = length l.rest
+abbrev pub decreases-loop-behind : goal.decreases-loop-behind
+decreases-loop-behind l = length l.rest

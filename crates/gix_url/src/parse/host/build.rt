@@ -47,7 +47,8 @@ fn piece_bytes(piece: HostPiece<'_>) -> &[u8]
     ensures { result.now ≡ slice_text piece.entry }
 {
     match piece {
-        HostPiece::Address(text)
+        HostPiece::Simple(text)
+        | HostPiece::Address(text)
         | HostPiece::Kept(text)
         | HostPiece::Decoded(text)
         | HostPiece::Literal(text)
@@ -77,7 +78,10 @@ fn is_bracketed(piece: HostPiece<'_>) -> bool
     ensures { result ≡ is_bracketed piece.entry }
 {
     match piece {
-        HostPiece::Address(_) | HostPiece::Kept(_) | HostPiece::Decoded(_) => false,
+        HostPiece::Simple(_)
+        | HostPiece::Address(_)
+        | HostPiece::Kept(_)
+        | HostPiece::Decoded(_) => false,
         HostPiece::Literal(_) | HostPiece::DecodedLiteral(_) | HostPiece::Bracketed(_) => true,
     }
 }
@@ -100,8 +104,10 @@ fn write_unescaped(room: &mut [u8], piece: HostPiece<'_>) -> usize
     ensures bytes { take result room.new ≡ unescaped_host piece.entry }
 {
     match piece {
-        HostPiece::Address(text) | HostPiece::Kept(text) | HostPiece::Literal(text) =>
-            copy_into(room, text),
+        HostPiece::Simple(text)
+        | HostPiece::Address(text)
+        | HostPiece::Kept(text)
+        | HostPiece::Literal(text) => copy_into(room, text),
         HostPiece::Decoded(text) | HostPiece::DecodedLiteral(text) | HostPiece::Bracketed(text) =>
             decode_into(room, text),
     }
@@ -115,7 +121,7 @@ fn settle(host: &mut [u8], piece: HostPiece<'_>)
         HostPiece::Address(_) => host.make_ascii_lowercase(),
         HostPiece::Kept(_) | HostPiece::Decoded(_) => normalize(host),
         HostPiece::Literal(_) | HostPiece::DecodedLiteral(_) => lowercase_address(host),
-        HostPiece::Bracketed(_) => {}
+        HostPiece::Simple(_) | HostPiece::Bracketed(_) => {}
     }
 }
 

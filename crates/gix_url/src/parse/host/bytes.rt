@@ -8,7 +8,7 @@ ghost use Rattle.std.specs.List.{list_all};
 ghost use Rattle.gix_url.specs.Addresses as address;
 ghost use Rattle.gix_url.specs.Hosts as spec;
 ghost use Rattle.gix_url.specs.Hosts.{IsLiteral};
-ghost use Rattle.gix_url.specs.HostPieces.{IsEscapedZone};
+ghost use Rattle.gix_url.specs.HostPieces.{IsEscapedZone, is_simple_byte};
 
 use crate::bytes::{after, cut};
 use crate::escape::{decodes_to_utf8, is_sound};
@@ -37,6 +37,20 @@ fn is_http_host_byte(byte: u8) -> bool
         || byte == b'='
         || byte == b'_'
         || byte == b'~'
+}
+
+/// Whether each byte is a lower-case letter, a digit, `-` or `.`.
+pub(super) fn are_simple_bytes(text: &[u8]) -> bool
+    ensures { result ≡ list_all is_simple_byte text.now }
+{
+    text.iter().all(|byte| is_simple_byte(*byte))
+}
+
+/// Whether the byte is a lower-case letter, a digit, `-` or `.`.
+fn is_simple_byte(byte: u8) -> bool
+    ensures { result ≡ is_simple_byte byte }
+{
+    byte.is_ascii_lowercase() || byte.is_ascii_digit() || byte == b'-' || byte == b'.'
 }
 
 /// Whether the text is an IPv6 literal: an address, or one with `%25` and a zone behind it.

@@ -1,7 +1,7 @@
 -- A piece with a flaw names nothing.
 use Rattle.std.proofs.lemmas.Result.{err_from_is_err_and}
 use Rattle.gix_url.specs.HostPieces.{named_text, strictness}
-use Rattle.gix_url.proofs.Readings.HostLemmas.{flawed_unnamed, names_utf8}
+use Rattle.gix_url.proofs.Readings.HostLemmas.{flawed_unnamed, names_utf8, simple_host_named}
 use Rattle.gix_url.proofs.parse.host.read_host.Goals as goal
 
 pub returns-in_err-named-clause-unnamed : goal.returns-in_err-named-clause-unnamed
@@ -11,3 +11,11 @@ returns-in_err-named-clause-unnamed c =
 
 pub returns-clause-text : goal.returns-clause-text
 returns-clause-text c = names_utf8 (strictness c.args.mode) c.args.piece.now (named_text c.in_ok-named.named) c.in_ok-named.named.port c.in_ok-named.ensures
+
+pub returns-in-Some-clause-named : goal.returns-in-Some-clause-named
+returns-in-Some-clause-named c = simple_host_named (strictness c.args.mode) c.args.piece.now c.in-Some.named c.in-Some.ensures.simple c.in-Some.ensures.host c.in-Some.ensures.port
+
+pub returns-in-Some-clause-text : goal.returns-in-Some-clause-text
+returns-in-Some-clause-text c =
+    names_utf8 (strictness c.args.mode) c.args.piece.now (named_text c.in-Some.named) c.in-Some.named.port
+    (simple_host_named (strictness c.args.mode) c.args.piece.now c.in-Some.named c.in-Some.ensures.simple c.in-Some.ensures.host c.in-Some.ensures.port)

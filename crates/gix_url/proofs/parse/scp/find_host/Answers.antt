@@ -4,8 +4,11 @@ use Rattle.std.proofs.lemmas.Bool.{false≢true}
 use Rattle.gix_url.specs.Flaws.{ScpHostFlaw}
 use Rattle.gix_url.specs.ScpPieces.{ReadsScpPiece}
 use Rattle.gix_url.proofs.Readings.ShapeLemmas.{nil_tested}
-use Rattle.gix_url.proofs.Readings.ScpLemmas.{scp_host_read}
+use Rattle.gix_url.proofs.Readings.ScpLemmas.{scp_host_read, simple_scp_host}
 use Rattle.gix_url.proofs.parse.scp.find_host.Goals as goal
+
+pub returns-then-is_simple_host-clause-read : goal.returns-then-is_simple_host-clause-read
+returns-then-is_simple_host-clause-read c = simple_scp_host c.args.host.now (c.if-is_simple_host.ensures refl)
 
 pub returns-then-not-has_no_white_space-clause-read : goal.returns-then-not-has_no_white_space-clause-read
 returns-then-not-has_no_white_space-clause-read c = ScpHostFlaw.white_space c.requires.text (λ lacks. false≢true (c.if-not-has_no_white_space.ensures.1 lacks))

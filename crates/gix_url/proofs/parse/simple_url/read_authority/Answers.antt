@@ -1,43 +1,30 @@
--- User information, and a host and a port, are what stands around the last `@`.
-use Rattle.std.proofs.Common.{◌∷◌, ◌++◌, refl, ap, ◌∙◌}
-use Rattle.std.proofs.lemmas.Result.{err_from_is_err_and}
-use Rattle.gix_url.specs.Bytes.{at_sign}
-use Rattle.gix_url.specs.HostPieces.{host_of}
-use Rattle.gix_url.specs.Authority.Authority.{with_user}
-use Rattle.gix_url.specs.Flaws.{AuthorityFlaw, PieceOf}
-use Rattle.gix_url.proofs.Readings.UrlLemmas.{nothing_named, no_name_behind, no_text_before, no_host_behind, bad_user_flaw}
+-- A simple host is the whole authority.
+use Rattle.std.proofs.Common.{refl, inl, inr, ◌⊎◌}
+use Rattle.std.proofs.lemmas.Bool.{false≢true}
+use Rattle.std.proofs.lemmas.Result.{IfErr-weaker}
+use Rattle.gix_url.specs.Bytes.{FreeOf, backslash}
+use Rattle.gix_url.specs.Flaws.{AuthorityFlaw}
+use Rattle.gix_url.specs.HostPieces.{strictness}
+use Rattle.gix_url.specs.UrlPieces.{IsNoAuthority}
+use Rattle.gix_url.proofs.Readings.UrlLemmas.{on_each_ok, simple_clean, simple_held}
 use Rattle.gix_url.proofs.parse.simple_url.read_authority.Goals as goal
 
-pub returns-in_default-read_credentials-clause-refused : goal.returns-in_default-read_credentials-clause-refused
-returns-in_default-read_credentials-clause-refused c =
-    no_text_before _ c.args.needed _ c.in-Some.information.now c.in-Some.piece.now c.in-Some.ensures.0 c.in-Some.ensures.1 c.in_default-read_credentials.ensures
+pub returns-in-Some-clause-read : goal.returns-in-Some-clause-read
+returns-in-Some-clause-read c = simple_held (strictness c.args.mode) c.args.needed c.args.authority.now c.in-Some.host c.in-Some.ensures.simple c.in-Some.ensures.host c.in-Some.ensures.port
 
-pub returns-in_default-read_credentials-clause-flaw : goal.returns-in_default-read_credentials-clause-flaw
-returns-in_default-read_credentials-clause-flaw c =
-    bad_user_flaw _ c.args.needed _ c.in-Some.information.now c.in-Some.piece.now c.in-Some.ensures.0 c.in-Some.ensures.1 c.in_default-read_credentials.ensures
+pub returns-in-Some-clause-clean : goal.returns-in-Some-clause-clean
+returns-in-Some-clause-clean c = simple_clean c.args.authority.now c.in-Some.ensures.simple
 
-pub returns-in_err-host-clause-refused : goal.returns-in_err-host-clause-refused
-returns-in_err-host-clause-refused c =
-    let p = err_from_is_err_and c.from_residual.result c.from_residual.ensures.1 in
-    rw (p.1) (no_name_behind _ c.args.needed _ c.in-Some.information.now c.in-Some.piece.now c.in-Some.ensures.0 c.in-Some.ensures.1 c.in_err-host.ensures.unnamed)
+pub returns-then-not-is_free_of-clause-refused : goal.returns-then-not-is_free_of-clause-refused
+returns-then-not-is_free_of-clause-refused c = inl (λ h. false≢true (c.if-not-is_free_of.ensures.1 h))
 
-pub returns-in_err-host-clause-flaw : goal.returns-in_err-host-clause-flaw
-returns-in_err-host-clause-flaw c =
-    let p = err_from_is_err_and c.from_residual.result c.from_residual.ensures.1 in
-    rw (p.1, p.2) (AuthorityFlaw.bad_name c.in-Some.piece.now _ (PieceOf.behind c.in-Some.information.now c.in-Some.ensures.0 c.in-Some.ensures.1) c.in_err-host.ensures.flaw)
+pub returns-then-not-is_free_of-clause-flaw : goal.returns-then-not-is_free_of-clause-flaw
+returns-then-not-is_free_of-clause-flaw c = AuthorityFlaw.holds_backslash (λ h. false≢true (c.if-not-is_free_of.ensures.1 h))
 
-pub returns-in-Some-2-clause-read : goal.returns-in-Some-2-clause-read
-returns-in-Some-2-clause-read c = record {
-  named = with_user c.in-Some.information.now c.in-Some.piece.now c.in-Some.ensures.0 c.in-Some.ensures.1 c.in-Some-read_credentials.ensures (rw c.in-Some-2.is at c.in_ok-host.ensures.named) refl;
-  hosted = λ need. refl;
-}
+pub returns-clause-clean : goal.returns-clause-clean
+returns-clause-clean c = on_each_ok c.read_marked.result (FreeOf backslash c.args.authority.now) (c.if-not-is_free_of.ensures.0 refl)
 
-pub returns-in-None-clause-refused : goal.returns-in-None-clause-refused
-returns-in-None-clause-refused c =
-    let empty = nothing_named _ c.in-Some.piece.now _ _ c.in_ok-host.ensures.named (ap host_of c.in-None.is) in
-    no_host_behind _ c.args.needed _ c.in-Some.information.now c.in-Some.piece.now c.in-Some.ensures.0 c.in-Some.ensures.1 empty
-
-pub returns-in-None-clause-flaw : goal.returns-in-None-clause-flaw
-returns-in-None-clause-flaw c =
-    let empty = nothing_named _ c.in-Some.piece.now _ _ c.in_ok-host.ensures.named (ap host_of c.in-None.is) in
-    AuthorityFlaw.no_host c.in-Some.information.now (c.in-Some.ensures.1 ∙ ap (λ p. c.in-Some.information.now ++ at_sign ∷ p) empty)
+pub returns-clause-refused : goal.returns-clause-refused
+returns-clause-refused c =
+    let no_authority = IsNoAuthority (strictness c.args.mode) c.args.needed c.args.authority.now in
+    IfErr-weaker c.read_marked.result (λ _. no_authority) (λ _. (¬ FreeOf backslash c.args.authority.now) ⊎ no_authority) (λ _ h. inr h) c.read_marked.ensures.refused

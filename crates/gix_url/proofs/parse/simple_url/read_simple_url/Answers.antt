@@ -3,9 +3,9 @@ use Rattle.std.proofs.Common.{refl, sym, subst, ◌∙◌}
 use Rattle.std.proofs.lemmas.Bool.{false≢true}
 use Rattle.std.proofs.lemmas.Result.{err_from_is_err_and}
 use Rattle.gix_url.specs.Authority.{Fits}
-use Rattle.gix_url.specs.Flaws.{AuthorityFlaw, UrlFlaw}
+use Rattle.gix_url.specs.Flaws.{UrlFlaw}
 use Rattle.gix_url.proofs.Texts.PlainLemmas.{plain_path}
-use Rattle.gix_url.proofs.Readings.UrlLemmas.{rest_cut, url_cut, spelled, no_scheme_refutes, bad_path_refutes, backslash_refutes, no_authority_refutes}
+use Rattle.gix_url.proofs.Readings.UrlLemmas.{rest_cut, url_cut, spelled, no_scheme_refutes, bad_path_refutes, authority_refutes}
 use Rattle.gix_url.proofs.parse.simple_url.read_simple_url.Goals as goal
 
 pub returns-then-not-has_no_white_space-clause-refused : goal.returns-then-not-has_no_white_space-clause-refused
@@ -32,16 +32,6 @@ pub returns-then-not-is_scheme_text-clause-flaw : goal.returns-then-not-is_schem
 returns-then-not-is_scheme_text-clause-flaw c =
     UrlFlaw.no_scheme c.args.scheme.now c.args.rest.now c.requires.shape (sym c.if-not-is_scheme_text.ensures)
 
-pub returns-then-not-is_free_of-clause-refused : goal.returns-then-not-is_free_of-clause-refused
-returns-then-not-is_free_of-clause-refused c =
-    let cut = url_cut c.requires.shape c.if-not-is_scheme_text.ensures (rest_cut c.requires.rules.web c.cut_before_path.ensures.joined c.cut_before_path.ensures.front c.cut_before_path.ensures.rest) in
-    λ parts. backslash_refutes _ _ _ _ parts cut (λ h. false≢true (c.if-not-is_free_of.ensures.1 h))
-
-pub returns-then-not-is_free_of-clause-flaw : goal.returns-then-not-is_free_of-clause-flaw
-returns-then-not-is_free_of-clause-flaw c =
-    let cut = url_cut c.requires.shape c.if-not-is_scheme_text.ensures (rest_cut c.requires.rules.web c.cut_before_path.ensures.joined c.cut_before_path.ensures.front c.cut_before_path.ensures.rest) in
-    UrlFlaw.bad_authority _ _ _ _ cut (AuthorityFlaw.holds_backslash (λ h. false≢true (c.if-not-is_free_of.ensures.1 h)))
-
 pub means_text-requires : goal.means_text-requires
 means_text-requires c = λ plain.
     plain_path c.args.text.now c.args.scheme.now c.args.rest.now c.cut_before_path.result.0.now c.cut_before_path.result.1.now c.requires.shape.shape.joined c.cut_before_path.ensures.joined (c.requires.plain plain)
@@ -60,7 +50,7 @@ pub returns-in_err-parts-clause-refused : goal.returns-in_err-parts-clause-refus
 returns-in_err-parts-clause-refused c =
     let p = err_from_is_err_and c.from_residual.result c.from_residual.ensures.1 in
     let cut = url_cut c.requires.shape c.if-not-is_scheme_text.ensures (rest_cut c.requires.rules.web c.cut_before_path.ensures.joined c.cut_before_path.ensures.front c.cut_before_path.ensures.rest) in
-    rw (p.1) (λ parts. no_authority_refutes _ _ _ _ parts cut (rw (c.requires.rules.mode, c.requires.rules.host) at c.in_err-parts.ensures.refused))
+    rw (p.1) (λ parts. authority_refutes _ _ _ _ parts cut (rw (c.requires.rules.mode, c.requires.rules.host) at c.in_err-parts.ensures.refused))
 
 pub returns-in_err-parts-clause-flaw : goal.returns-in_err-parts-clause-flaw
 returns-in_err-parts-clause-flaw c =
@@ -74,4 +64,8 @@ returns-clause-read c =
     let sound = c.if-not-has_sound_escapes.ensures in
     let fits = subst (λ rest. Fits c.args.scheme.now rest) c.cut_before_path.ensures.joined c.requires.fits in
     let held = rw (c.requires.rules.mode, c.requires.rules.host) at c.in_ok-parts.ensures.read in
-    rw (c.parsed.ensures.scheme, c.parsed.ensures.user, c.parsed.ensures.password, c.parsed.ensures.host, c.parsed.ensures.path) (spelled cut c.utf8.text (c.if-not-has_no_white_space.ensures.0 refl) sound (c.if-not-is_free_of.ensures.0 refl) fits held (c.if-not-means_text.ensures.0 refl))
+    rw (c.parsed.ensures.scheme, c.parsed.ensures.user, c.parsed.ensures.password, c.parsed.ensures.host, c.parsed.ensures.path) (spelled cut c.utf8.text (c.if-not-has_no_white_space.ensures.0 refl) sound c.in_ok-parts.ensures.clean fits held (c.if-not-means_text.ensures.0 refl))
+
+pub holds_escape-requires : goal.holds_escape-requires
+holds_escape-requires c = λ plain.
+    plain_path c.args.text.now c.args.scheme.now c.args.rest.now c.cut_before_path.result.0.now c.cut_before_path.result.1.now c.requires.shape.shape.joined c.cut_before_path.ensures.joined (c.requires.plain plain)
