@@ -556,14 +556,6 @@ pub port_follows : (mode : Mode) (base rest digits : List ℕ) (named : Option N
 port_follows mode base rest digits None is h = (digits, h, is)
 port_follows mode base rest digits (Some n) is h = subst (λ t. Follows mode base t (Some (named_text n)) n.port) (sym is) h
 
--- there is room for one more byte of a decoding, where there is for the text
-pub room_for_next : (text yielded rest : List ℕ) (byte : ℕ) (left : List ℕ) → percent_decode text ≡ yielded ++ rest → rest ≡ byte ∷ left → length yielded + 1 ≤ length text
-room_for_next text yielded rest byte left e f =
-    omega (arith, (length-percent_decode text).0, ap length e, length-append yielded rest, ap length f)
-
-pub room_for_all : (text yielded rest : List ℕ) → percent_decode text ≡ yielded ++ rest → length yielded ≤ length text
-room_for_all text yielded rest e = omega (arith, (length-percent_decode text).0, ap length e, length-append yielded rest)
-
 -- ---- hosts are text
 
 -- a byte of a domain name stays one in lower case
