@@ -82,8 +82,10 @@ impl fmt::Debug for Refusal<'_> {
     fn fmt<W: fmt::Write>(&self, f: &mut fmt::Formatter<W>) -> fmt::Result {
         match self {
             Refusal::EmptyLocal => f.write_str("EmptyLocal"),
-            Refusal::MissingPath { kind } =>
-                f.debug_struct("MissingPath").field("kind", kind).finish(),
+            Refusal::MissingPath { kind } => f
+                .debug_struct("MissingPath")
+                .field("kind", kind)
+                .finish(),
             Refusal::NotUtf8 { kind } => f.debug_struct("NotUtf8").field("kind", kind).finish(),
             Refusal::TooLong { shown, total } => f
                 .debug_struct("TooLong")

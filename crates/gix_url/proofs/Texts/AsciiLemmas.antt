@@ -65,7 +65,7 @@ ascii_escape (high ∷ low ∷ rest) below h =
       | inl digits ↦
           let (first, second) = and_parts _ _ digits in
           let kept : percent_decode (high ∷ low ∷ rest) ≡ high ∷ low ∷ percent_decode rest =
-              decode_byte high (low ∷ rest) (digit_not_percent high first) ∙ ap (λ t. high ∷ t) (decode_byte low rest (digit_not_percent low second)) in
+          decode_byte high (low ∷ rest) (digit_not_percent high first) ∙ ap (λ t. high ∷ t) (decode_byte low rest (digit_not_percent low second)) in
           let left : IsAscii (percent_decode rest) = λ i. subst IsAscii kept h (suc (suc i)) in
           subst IsAscii (sym (decode_escape percent_sign high low rest refl first second)) (ascii_cons _ _ (low_escape high low first second below) left)
     ]

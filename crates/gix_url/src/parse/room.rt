@@ -83,7 +83,7 @@ fn named_in<'a>(host: NamedHost<'a>, room: &'a mut [u8]) -> (&'a [u8], &'a mut [
     if let Some(text) = own_slice(host) {
         return (text, room);
     }
-    let size = host.write_into(room);
+    let size = host.put_into(room);
     let (text, left) = room.split_at_mut(size);
     (text, left)
 }
@@ -110,13 +110,7 @@ fn undecoded(piece: HostPiece<'_>) -> Option<&[u8]>
 {
     match piece {
         HostPiece::Simple(text) | HostPiece::Address(text) | HostPiece::Kept(text) => Some(text),
-        HostPiece::Decoded(text) => {
-            if has_percent(text) {
-                None
-            } else {
-                Some(text)
-            }
-        }
+        HostPiece::Decoded(text) => { if has_percent(text) { None } else { Some(text) } }
         HostPiece::Literal(_) | HostPiece::DecodedLiteral(_) | HostPiece::Bracketed(_) => None,
     }
 }

@@ -181,11 +181,7 @@ fn read_authority(
 }
 
 /// Reads an authority in which marks may stand.
-fn read_marked(
-    mode: Mode,
-    needed: bool,
-    authority: &[u8],
-) -> Result<AuthorityParts<'_>, UrlFault>
+fn read_marked(mode: Mode, needed: bool, authority: &[u8]) -> Result<AuthorityParts<'_>, UrlFault>
     ensures read { IfOk result (λ parts. HoldsParts (strictness mode) needed authority.now parts) }
     ensures refused { IfErr result (λ fault. IsNoAuthority (strictness mode) needed authority.now) }
     ensures flaw { IfErr result

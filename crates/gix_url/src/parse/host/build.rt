@@ -22,13 +22,13 @@ impl NamedHost<'_> {
         ensures { IfOk result (λ s. string_bytes s ≡ named_text self.entry) }
     {
         let mut text = vec![in alloc; 0; piece_bytes(self.piece).len() + 3]?;
-        let size = self.write_into(&mut text);
+        let size = self.put_into(&mut text);
         text.truncate(size);
         Ok(into_text(text))
     }
 
     /// Writes the text of the host into the front of the room, and returns its length.
-    pub(crate) fn write_into(self, room: &mut [u8]) -> usize
+    pub(crate) fn put_into(self, room: &mut [u8]) -> usize
         requires { length (named_text self) ≤ length room.old }
         ensures size { result ≡ length (named_text self.entry) }
         ensures bytes { take result room.new ≡ named_text self.entry }
@@ -78,10 +78,8 @@ fn is_bracketed(piece: HostPiece<'_>) -> bool
     ensures { result ≡ is_bracketed piece.entry }
 {
     match piece {
-        HostPiece::Simple(_)
-        | HostPiece::Address(_)
-        | HostPiece::Kept(_)
-        | HostPiece::Decoded(_) => false,
+        HostPiece::Simple(_) | HostPiece::Address(_) | HostPiece::Kept(_) | HostPiece::Decoded(_) =>
+            false,
         HostPiece::Literal(_) | HostPiece::DecodedLiteral(_) | HostPiece::Bracketed(_) => true,
     }
 }

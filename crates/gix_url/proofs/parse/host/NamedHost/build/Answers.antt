@@ -3,6 +3,6 @@ use Rattle.std.proofs.Common.{arith, length, ap}
 use Rattle.gix_url.proofs.Readings.RoomLemmas.{named_text_length}
 use Rattle.gix_url.proofs.parse.host.NamedHost.build.Goals as goal
 
-pub write_into-size-requires : goal.write_into-size-requires
-write_into-size-requires c =
+pub put_into-size-requires : goal.put_into-size-requires
+put_into-size-requires c =
     omega (arith, named_text_length c.args.self, ap length c.deref_mut.ensures.value, c.in_ok-text.ensures.len, ap length c.piece_bytes.ensures)
