@@ -1,5 +1,5 @@
 -- Texts of printable ASCII, and escapes that stand for ASCII.
-use Rattle.std.proofs.Common.{◌≡◌, ◌∙◌, ◌<◌, ◌&&◌, ◌++◌, ◌∷◌, ◌==◌, ◌*◌, ◌+◌, ℕ, zero, suc, true, false, List, [], IsAscii, refl, sym, ap, subst, inl, inr, arith}
+use Rattle.std.proofs.Common.{◌≡◌, ◌∙◌, ◌<◌, ◌&&◌, ◌++◌, ◌∷◌, ◌*◌, ◌+◌, ℕ, zero, suc, true, false, List, [], IsAscii, refl, sym, ap, subst, inl, inr, arith}
 use Rattle.std.specs.Prelude.{nat_le}
 use Rattle.std.specs.Char.{is_digit, digit_value, is_whitespace}
 use Rattle.std.specs.Str.{IsUtf8}
@@ -11,7 +11,7 @@ use Rattle.percent_encoding.specs.Percent.{percent_decode}
 use Rattle.gix_url.specs.Bytes.{percent_sign, FreeOf, LacksWhiteSpace, begins_by}
 use Rattle.gix_url.specs.Escapes.{begins_with_digits, is_printable, is_printable_byte, is_sound}
 use Rattle.gix_url.proofs.Texts.CutLemmas.{free_head_tail, lacks_of_all}
-use Rattle.gix_url.proofs.Texts.EscapeLemmas.{ascii_class, decode_broken, decode_byte, decode_escape, decode_kept, decodes_in_parts, digit_not_percent, sound_free, sound_kept, sound_step, utf8_class, white_space_ascii}
+use Rattle.gix_url.proofs.Texts.EscapeLemmas.{ascii_class, decode_broken, decode_byte, decode_escape, decode_kept, decodes_in_parts, digit_not_percent, sound_free, sound_kept, sound_step, white_space_ascii}
 
 -- ---- printable texts
 

@@ -1,7 +1,5 @@
 -- What stands behind the first `%` decides.
-use Rattle.std.proofs.Common.{sym, subst, true}
-use Rattle.gix_url.specs.Bytes.{percent_sign}
-use Rattle.gix_url.specs.Escapes.{is_printable}
+use Rattle.std.proofs.Common.{sym}
 use Rattle.gix_url.proofs.Texts.AsciiLemmas.{ascii_kept, ascii_means_utf8, ascii_past, printable_behind}
 use Rattle.gix_url.proofs.escape.decodes_to_ascii.Goals as goal
 

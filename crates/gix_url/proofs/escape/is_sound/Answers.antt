@@ -1,5 +1,5 @@
 -- The first `%` decides, and what stands behind it.
-use Rattle.std.proofs.Common.{◌&&◌, true, sym, ap, ◌∙◌}
+use Rattle.std.proofs.Common.{◌&&◌, sym, ap, ◌∙◌}
 use Rattle.gix_url.specs.Escapes.{is_sound}
 use Rattle.gix_url.proofs.Texts.AsciiLemmas.{sound_at_cut}
 use Rattle.gix_url.proofs.Texts.EscapeLemmas.{sound_free}

@@ -1,5 +1,5 @@
 -- A printable text holds no white space.
-use Rattle.std.proofs.Common.{sym, subst, true}
+use Rattle.std.proofs.Common.{sym, subst}
 use Rattle.gix_url.specs.Bytes.{LacksWhiteSpace}
 use Rattle.gix_url.proofs.Texts.AsciiLemmas.{printable_white_space}
 use Rattle.gix_url.proofs.escape.lacks_white_space.Goals as goal
