@@ -1,13 +1,6 @@
 -- Lemmas by topic, lowest first.
-pub mod Texts
-pub mod Addresses
-pub mod Readings
 pub mod Unique
-pub mod Refused
 pub mod Written
-pub mod Values
-pub mod Closed
 pub mod Parted
 pub mod Homes
-pub mod GitReadings
 pub mod Examples

@@ -1,3 +1,2 @@
 -- Bytes spell one location at most.
-pub mod UniqueLemmas
-pub mod AnsweredLemmas
+pub mod ReaderLemmas

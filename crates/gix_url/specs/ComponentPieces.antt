@@ -7,12 +7,12 @@ use Rattle.gix_url.specs.declared.components.PathComponents.{PathComponents}
 use Rattle.gix_url.specs.declared.components.QueryText.{QueryText}
 use Rattle.gix_url.specs.declared.components.QueryText.TheVariants.{Borrowed, Owned}
 use Rattle.gix_url.specs.declared.components.cuts.Spelled.{Spelled}
-use Rattle.gix_url.specs.Bytes.{plus_sign, FreeOf, ampersand}
-use Rattle.gix_url.specs.Value.{Location}
-use Rattle.gix_url.specs.Grammar.{or_root}
-use Rattle.gix_url.specs.Components.{CutsPath, CutsFields, SplitsField, with_spaces}
-use Rattle.gix_url.specs.Escapes.{matches}
-use Rattle.gix_url.specs.Text.{original_path}
+use Rattle.git_syntax.specs.Bytes.{plus_sign, FreeOf, ampersand}
+use Rattle.git_syntax.specs.Value.{Location}
+use Rattle.git_syntax.specs.Grammar.{or_root}
+use Rattle.git_location.specs.Components.{CutsPath, CutsFields, SplitsField, with_spaces}
+use Rattle.git_syntax.specs.Escapes.{matches}
+use Rattle.git_location.specs.Text.{original_path}
 use Rattle.gix_url.specs.Meanings.{meant_by}
 
 -- the original path of a location, and what it stands for

@@ -5,10 +5,10 @@ use Rattle.bstr.specs.Owned.{bstring_bytes}
 use Rattle.gix_url.specs.declared.components.PathComponents.{PathComponents}
 use Rattle.gix_url.specs.declared.components.QueryText.{QueryText}
 use Rattle.gix_url.specs.declared.components.QueryText.TheVariants.{Borrowed, Owned}
-use Rattle.gix_url.specs.Bytes.{plus_sign, FreeOf, Holds}
-use Rattle.gix_url.specs.Value.{Location}
-use Rattle.gix_url.specs.Components.{Components, CutsPath, CutsFields, SplitsField}
-use Rattle.gix_url.specs.Text.{original_path}
+use Rattle.git_syntax.specs.Bytes.{plus_sign, FreeOf, Holds}
+use Rattle.git_syntax.specs.Value.{Location}
+use Rattle.git_location.specs.Components.{Components, CutsPath, CutsFields, SplitsField}
+use Rattle.git_location.specs.Text.{original_path}
 
 -- the bytes of a name or a value
 abbrev pub text_bytes : QueryText → List ℕ

@@ -4,12 +4,12 @@ use Rattle.bstr.specs.declared.bstring.BString.{BString}
 use Rattle.bstr.specs.Owned.{bstring_bytes}
 use Rattle.gix_url.specs.declared.error.Error.{Error}
 use Rattle.gix_url.specs.declared.error.Error.TheVariants as error
-use Rattle.gix_url.specs.declared.error.WriteFault.{WriteFault}
-use Rattle.gix_url.specs.Value.{Protocol, Location}
-use Rattle.gix_url.specs.Value.Protocol.{http, https, helper}
-use Rattle.gix_url.specs.Bytes.{is_helper_name}
-use Rattle.gix_url.specs.Text.{text}
-use Rattle.gix_url.specs.Settled.{IsSettled}
+use Rattle.git_location.specs.declared.write_error.WriteFault.{WriteFault}
+use Rattle.git_syntax.specs.Value.{Protocol, Location}
+use Rattle.git_syntax.specs.Value.Protocol.{http, https, helper}
+use Rattle.git_syntax.specs.Bytes.{is_helper_name}
+use Rattle.git_location.specs.Text.{text}
+use Rattle.git_location.specs.Settled.{IsSettled}
 use Rattle.gix_url.specs.Readings.{Reads}
 
 -- the location with these parts, and no spelling

@@ -8,8 +8,8 @@ use Rattle.std.specs.Cmp.{IsEquivalence, IsPartialOrder, IsTotalOrder, decided, 
 use Rattle.std.specs.Hash.{HashWrites}
 use Rattle.gix_url.specs.Homes.{HomeUser}
 use Rattle.gix_url.specs.Homes.HomeUser.{current, named}
-use Rattle.gix_url.specs.Order.{text_eq, text_cmp, fed_text}
-use Rattle.gix_url.specs.OrderLaws.{text_decides, text_total, text_ties}
+use Rattle.git_location.specs.Order.{text_eq, text_cmp, fed_text}
+use Rattle.git_laws.specs.OrderLaws.{text_decides, text_total, text_ties}
 
 -- the name that a user brings with it
 abbrev pub user_name : HomeUser → Option (List ℕ)

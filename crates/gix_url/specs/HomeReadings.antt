@@ -7,10 +7,10 @@ use Rattle.gix_url.specs.declared.expand_path.ForUser.{ForUser}
 use Rattle.gix_url.specs.declared.expand_path.ForUser.TheVariants.{Current, Name}
 use Rattle.gix_url.specs.declared.error.Error.{Error}
 use Rattle.gix_url.specs.declared.error.Error.TheVariants as error
-use Rattle.gix_url.specs.Value.{Location}
-use Rattle.gix_url.specs.Value.Protocol.{file}
-use Rattle.gix_url.specs.Bytes.{slash, tilde, FreeOf}
-use Rattle.gix_url.specs.Settled.{begins_at_home}
+use Rattle.git_syntax.specs.Value.{Location}
+use Rattle.git_syntax.specs.Value.Protocol.{file}
+use Rattle.git_syntax.specs.Bytes.{slash, tilde, FreeOf}
+use Rattle.git_syntax.specs.Grammar.{begins_at_home}
 use Rattle.gix_url.specs.Paths.{EndsInPiece, IsIdle, LiesBelow}
 use Rattle.gix_url.specs.Homes.{HomeUser, Expands}
 use Rattle.gix_url.specs.Homes.HomeUser.{current, named}

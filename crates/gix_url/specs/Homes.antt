@@ -1,7 +1,7 @@
 -- Home folders: whose folder a path means, and which folder that is.
 use Rattle.std.specs.Prelude.{◌≡◌, ℕ, false, List, [], ◌∷◌, ◌++◌, Option, Some, None}
-use Rattle.gix_url.specs.Bytes.{slash, tilde, FreeOf, lossy_text}
-use Rattle.gix_url.specs.Settled.{begins_at_home}
+use Rattle.git_syntax.specs.Bytes.{slash, tilde, FreeOf, lossy_text}
+use Rattle.git_syntax.specs.Grammar.{begins_at_home}
 use Rattle.gix_url.specs.Paths.{Joins, LiesBelow, IsParent}
 
 -- ---- whose home folder

@@ -1,67 +1,51 @@
--- What a user reads, in this order: a location, its grammar, its text and the settled class.
-pub mod Value
-pub mod Bytes
-pub mod Escapes
-pub mod Addresses
-pub mod Hosts
-pub mod Schemes
-pub mod Authority
-pub mod Grammar
-pub mod AddressTest
-pub mod Text
-pub mod Settled
--- What calls answer, and what they tell of a text that they refuse.
+-- What a user reads.
 pub mod Flaws
 pub mod Readings
 pub mod FromParts
-pub mod Display
-pub mod Words
-pub mod Arguments
-pub mod Answers
--- What Git reads, and where it reads the same.
-pub mod Git
-pub mod GitClass
--- What the path of a location is made of, home folders, stored locations, order.
-pub mod Components
-pub mod ComponentEquality
 pub mod ComponentViews
 pub mod Paths
 pub mod Homes
 pub mod HomeReadings
 pub mod HomeOrder
-pub mod Records
-pub mod Order
--- The laws.
 pub mod Laws
 pub mod Refusals
-pub mod AnswerLaws
-pub mod ComponentLaws
 pub mod HomeLaws
-pub mod OrderLaws
-pub mod Safeguards
--- How the code's types are seen.
 pub mod Views
 pub mod Url
-pub mod UrlRef
 pub mod Stored
--- Here end the files that a user reads. Examples of the definitions: each row is proved.
-pub mod ByteRows
-pub mod ClassRows
-pub mod GitRows
+-- Examples of the definitions: each row is proved.
 pub mod OtherRows
--- What serves the proofs of the readers, of the writer and of the settled test alone.
-pub mod Cuts
-pub mod Walks
-pub mod HostPieces
-pub mod UrlPieces
-pub mod SchemeRules
-pub mod FoundPieces
-pub mod ScpPieces
-pub mod Shapes
-pub mod KeptBytes
-pub mod Pieces
-pub mod Sinks
-pub mod Fills
-pub mod SettledParts
+-- What serves the proofs of this crate and of those above it alone.
 pub mod Meanings
 pub mod ComponentPieces
+-- What stands in the layers below, under the names by which users of this crate know it.
+pub use Rattle.git_syntax.specs.Value
+pub use Rattle.git_syntax.specs.Bytes
+pub use Rattle.git_syntax.specs.Escapes
+pub use Rattle.git_syntax.specs.Addresses
+pub use Rattle.git_syntax.specs.Hosts
+pub use Rattle.git_syntax.specs.Schemes
+pub use Rattle.git_syntax.specs.Authority
+pub use Rattle.git_syntax.specs.Grammar
+pub use Rattle.git_syntax.specs.AddressTest
+pub use Rattle.git_syntax.specs.Words
+pub use Rattle.git_syntax.specs.Safeguards
+pub use Rattle.git_location.specs.Text
+pub use Rattle.git_location.specs.Settled
+pub use Rattle.git_location.specs.Display
+pub use Rattle.git_location.specs.Words
+pub use Rattle.git_location.specs.Arguments
+pub use Rattle.git_location.specs.Answers
+pub use Rattle.git_location.specs.Git
+pub use Rattle.git_location.specs.GitClass
+pub use Rattle.git_location.specs.Components
+pub use Rattle.git_location.specs.Records
+pub use Rattle.git_location.specs.Order
+pub use Rattle.git_location.specs.Safeguards
+pub use Rattle.git_location.specs.UrlRef
+pub use Rattle.git_lines.specs.Answers
+pub use Rattle.git_laws.specs.ComponentEquality
+pub use Rattle.git_laws.specs.AnswerLaws
+pub use Rattle.git_laws.specs.ComponentLaws
+pub use Rattle.git_laws.specs.OrderLaws
+pub use Rattle.git_laws.specs.Safeguards

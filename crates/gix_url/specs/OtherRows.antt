@@ -3,18 +3,18 @@ use Rattle.std.specs.Prelude.{◌≡◌, ℕ, true, List, [], codes, Some, None,
 use Rattle.std.specs.declared.io.Error.{Error}
 use Rattle.bstr.specs.Owned.{bstring_bytes}
 use Rattle.bstr.specs.declared.bstring.BString.{BString}
-use Rattle.gix_url.specs.declared.error.UrlKind.{UrlKind}
-use Rattle.gix_url.specs.declared.error.UrlFault.{UrlFault}
+use Rattle.git_syntax.specs.declared.refusal.UrlKind.{UrlKind}
+use Rattle.git_syntax.specs.declared.refusal.UrlFault.{UrlFault}
 use Rattle.gix_url.specs.declared.error.Error.TheVariants as error
-use Rattle.gix_url.specs.declared.lines.RunError.TheVariants as run
-use Rattle.gix_url.specs.Value.Protocol.{file, git, http, https}
-use Rattle.gix_url.specs.Schemes.{requires_host}
-use Rattle.gix_url.specs.Components.{PartsOf}
-use Rattle.gix_url.specs.Records.{migrated}
-use Rattle.gix_url.specs.Answers.{Ran, RanToEnd}
+use Rattle.git_lines.specs.declared.lines.RunError.TheVariants as run
+use Rattle.git_syntax.specs.Value.Protocol.{file, git, http, https}
+use Rattle.git_syntax.specs.Schemes.{requires_host}
+use Rattle.git_location.specs.Components.{PartsOf}
+use Rattle.git_location.specs.Records.{migrated}
+use Rattle.git_lines.specs.Answers.{Ran, RanToEnd}
 use Rattle.gix_url.specs.Flaws.{Flaw}
-use Rattle.gix_url.specs.Laws.{IsCorner}
-use Rattle.gix_url.specs.ClassRows.{at_host}
+use Rattle.git_laws.specs.Laws.{IsCorner}
+use Rattle.git_laws.specs.ClassRows.{at_host}
 
 -- FTP needs a host; in a path without a spelling an escape stands for itself; in a record of the older form a `%`
 -- without digits is no escape

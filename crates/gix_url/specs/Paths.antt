@@ -1,7 +1,7 @@
 -- Paths as text: segments with a `/` between each two, the pieces among them, and what lies above and below.
 use Rattle.std.specs.Prelude.{◌≡◌, ℕ, ◌<◌, Bool, true, false, not, ◌==◌, List, [], ◌∷◌, ◌++◌, length, flat_map, Option, Some, None}
 use Rattle.std.specs.List.{list_any, join_with_byte}
-use Rattle.gix_url.specs.Bytes.{dot, slash, FreeOf, begins_with}
+use Rattle.git_syntax.specs.Bytes.{dot, slash, FreeOf, begins_with}
 
 -- ---- pieces
 

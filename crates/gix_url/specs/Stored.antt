@@ -2,7 +2,7 @@
 use Rattle.std.specs.Prelude.{string_bytes, option_map}
 use Rattle.std.specs.Vec.{vec_items}
 use Rattle.gix_url.specs.declared.stored.StoredUrl.{StoredUrl}
-use Rattle.gix_url.specs.Value.{Location}
+use Rattle.git_syntax.specs.Value.{Location}
 use Rattle.gix_url.specs.Views.{protocol}
 
 -- the eight parts of a record, as plain values

@@ -2,7 +2,7 @@
 use Rattle.std.specs.Prelude.{string_bytes, option_map}
 use Rattle.bstr.specs.Owned.{bstring_bytes}
 use Rattle.gix_url.specs.declared.location.Url.TheInside.{Inside}
-use Rattle.gix_url.specs.Value.{Location}
+use Rattle.git_syntax.specs.Value.{Location}
 use Rattle.gix_url.specs.Views.{protocol}
 
 -- the eight parts of a `Url`, as plain values

@@ -8,7 +8,7 @@ ghost use Rattle.std.specs.Prelude.{◌≡◌, ◌⊎◌, Err, IfErr, IfOk, IsUt
 ghost use Rattle.std.specs.Fn.{FnOnceReturnsAt, FnOnceTakesAt};
 ghost use Rattle.std.specs.Bool.{MatchBool};
 ghost use Rattle.gix_url.specs.HomeReadings.{IsUnresolved};
-ghost use Rattle.gix_url.specs.Value.Protocol.{file};
+ghost use Rattle.git_syntax.specs.Value.Protocol.{file};
 ghost use Rattle.gix_url.specs.Views.{protocol};
 
 use crate::error::Error;

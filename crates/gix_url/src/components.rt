@@ -9,10 +9,10 @@
 
 ghost use Rattle.std.specs.Prelude.{◌≡◌, ◌⊎◌, [], ◌∷◌, None, IfErr, IfOk, IfSome, IsErr, IsOk, option_map};
 ghost use Rattle.bstr.specs.BStr.{bstr_bytes};
-ghost use Rattle.gix_url.specs.Bytes.{Holds, slash};
+ghost use Rattle.git_syntax.specs.Bytes.{Holds, slash};
 ghost use Rattle.gix_url.specs.ComponentPieces.{HasQuery, LendsParts, SpellsPath};
 ghost use Rattle.gix_url.specs.ComponentViews.{LentQuery, components};
-ghost use Rattle.gix_url.specs.Components.{Components, PartsOf};
+ghost use Rattle.git_location.specs.Components.{Components, PartsOf};
 
 mod cuts;
 mod fields;
@@ -21,10 +21,10 @@ mod measure;
 mod same;
 
 use crate::error::Error;
-use crate::home::or_root;
+use git_syntax::home::or_root;
 use crate::location::Url;
-use crate::scheme::SchemeRef;
-use crate::url_ref::UrlRef;
+use git_syntax::scheme::SchemeRef;
+use git_location::url_ref::UrlRef;
 use bstr::{BStr, BString};
 use cuts::Spelled;
 use fields::lend_query;

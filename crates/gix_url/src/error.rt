@@ -8,76 +8,7 @@ ghost use Rattle.std.specs.Prelude.{◌≡◌, ◌↔◌, IsTrue};
 use crate::expand_path::ForUser;
 use bstr::BString;
 use std::alloc::AllocError;
-use std::io;
 use thiserror::Error;
-
-/// The form that a text was taken for. `Display` names it, as in `the URL has no path`.
-///
-/// ```
-/// fn is_scp(error: &Error) -> bool {
-///     matches!(
-///         error,
-///         Error::MissingPath {
-///             kind: UrlKind::Scp,
-///             ..
-///         }
-///     )
-/// }
-/// ```
-#[derive(Clone, Copy, Debug, PartialEq, Eq)]
-pub enum UrlKind {
-    /// A URL: `://` stands in it.
-    Url,
-    /// The form `user@host:path` of `scp`.
-    Scp,
-    /// A path of the local file system. The Rust crate's type has it too; no error of this library does.
-    Local,
-}
-
-/// What is wrong with a URL, or with the host of the scp form. `Display` says it in words.
-///
-/// ```
-/// fn has_bad_port(error: &Error) -> bool {
-///     matches!(
-///         error,
-///         Error::BadUrl {
-///             fault: UrlFault::BadPort,
-///             ..
-///         }
-///     )
-/// }
-/// ```
-#[derive(Clone, Copy, Debug, PartialEq, Eq)]
-pub enum UrlFault {
-    /// What stands before `://` is no scheme.
-    NoScheme,
-    /// What stands in a port's place is no port.
-    BadPort,
-    /// A byte or a character stands where it is not allowed, or an escape is broken or stands for no text.
-    BadCharacter,
-    /// The scheme, or the scp form, needs a host.
-    HostRequired,
-}
-
-/// Why a location has no text. What is read always has one: it is a location made of parts, or changed by hand, that can
-/// lack it.
-///
-/// ```
-/// fn lacks_host(error: &WriteError) -> bool {
-///     matches!(error, WriteError::Fault(WriteFault::UserWithoutHost))
-/// }
-/// ```
-#[derive(Clone, Copy, Debug, PartialEq, Eq)]
-pub enum WriteFault {
-    /// The name of the remote helper is no such name.
-    HelperName,
-    /// A remote helper has a user, a password, a host or a port.
-    HelperParts,
-    /// A relative path of Secure Shell comes without a host, or with a password or a port.
-    RelativeSsh,
-    /// A user comes without a host.
-    UserWithoutHost,
-}
 
 /// Why a text or a value was refused.
 ///
@@ -177,21 +108,4 @@ impl From<AllocError> for Error {
     fn from(_: AllocError) -> Error {
         Error::Memory
     }
-}
-
-/// Why a location was not written to a writer.
-///
-/// ```
-/// fn lacks_host(error: &WriteError) -> bool {
-///     matches!(error, WriteError::Fault(WriteFault::UserWithoutHost))
-/// }
-/// ```
-#[derive(Debug, Drop, Error)]
-pub enum WriteError {
-    /// The location has no text. Nothing was written.
-    #[error("the location can't be written: {0}")]
-    Fault(WriteFault),
-    /// The writer failed. Nothing is said of how much it took.
-    #[error("the writer failed: {0}")]
-    Io(io::Error),
 }

@@ -8,7 +8,7 @@ ghost use Rattle.std.specs.Fn.{FnOnceReturnsAt};
 ghost use Rattle.std.specs.Option.{option_copied};
 ghost use Rattle.bstr.specs.BStr.{bstr_bytes};
 ghost use Rattle.bstr.specs.Owned.{bstring_bytes};
-ghost use Rattle.gix_url.specs.Settled.{begins_at_home};
+ghost use Rattle.git_syntax.specs.Grammar.{begins_at_home};
 ghost use Rattle.gix_url.specs.Homes.{ForShell, HomeFolder, SplitsHome};
 ghost use Rattle.gix_url.specs.Homes.HomeUser.{current, named};
 ghost use Rattle.gix_url.specs.HomeOrder.{user_name};

@@ -5,7 +5,7 @@
 ghost use Rattle.std.specs.Cmp.{IsTotalOrder};
 ghost use Rattle.gix_url.specs.HomeLaws.{OneExpansion, OneFolder, OneJoined, OneParent, OneReading, OneRest, OneSplit};
 ghost use Rattle.gix_url.specs.HomeOrder.{fed_user, user_cmp, user_eq};
-ghost use Rattle.gix_url.specs.Laws.{EqualIsSame, FedAlike, TiedIsEqual};
+ghost use Rattle.git_laws.specs.Laws.{EqualIsSame, FedAlike, TiedIsEqual};
 
 /// Each definition of home folders and of paths as text names one thing, for every text.
 ///

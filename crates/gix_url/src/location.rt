@@ -48,11 +48,51 @@ pub struct Url {
 }
 
 impl Model for Url {
-    ghost use Rattle.gix_url.specs.Value.{Location};
+    ghost use Rattle.git_syntax.specs.Value.{Location};
 
     ghost Value = { Location };
 
     ghost use Rattle.gix_url.specs.Url.{location};
 
     ghost view = { location };
+}
+
+impl Url {
+    /// The same location, borrowed. It takes no memory.
+    ///
+    /// ```
+    /// /// Whether the location is settled without its password.
+    /// fn is_settled_without_password(url: &Url) -> bool {
+    ///     let mut bare = url.as_ref();
+    ///     bare.password = None; // the password of `url` stays
+    ///     bare.is_settled()
+    /// }
+    /// ```
+    #[inline(always)]
+    pub fn as_ref(&self) -> UrlRef<'_>
+        ensures { result ≡ self.now }
+    {
+        UrlRef {
+            scheme: self.scheme.as_ref(),
+            user: self.user.as_deref(),
+            password: self.password.as_deref(),
+            host: self.host.as_deref(),
+            serialize_alternative_form: self.serialize_alternative_form,
+            port: self.port,
+            path: self.path.as_bytes(),
+            spelling: match &self.spelling {
+                None => None,
+                Some(spelling) => Some(spelling.as_bytes()),
+            },
+        }
+    }
+}
+
+/// Every location is a value of which the laws speak: its texts are UTF-8, its bytes are bytes and its port is one.
+///
+/// Users of `law_separation` meet that premise by this law, whatever they put into the public fields.
+pub fn law_value(url: &Url)
+    ensures value { IsValue url.now }
+{
+    law_lent_value(&url.as_ref());
 }

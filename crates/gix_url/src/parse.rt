@@ -3,39 +3,24 @@
 //! It may use every room that reads. Its contract: the answer is the one location that the definitions spell with
 //! the bytes, a refusal comes only where they spell none, and what a refusal names stands in the bytes.
 
-ghost use Rattle.std.specs.Prelude.{◌≡◌, [], Err, IfErr, IfOk, length};
+ghost use Rattle.std.specs.Prelude.{◌≡◌, [], Err, IfErr, IfOk};
 ghost use Rattle.bstr.specs.BStr.{bstr_bytes};
 ghost use Rattle.gix_url.specs.Flaws.{Flaw};
-ghost use Rattle.gix_url.specs.Grammar.{Spells};
-ghost use Rattle.gix_url.specs.Readings.{Reads, ReadsIn, Refuses};
+ghost use Rattle.git_syntax.specs.Grammar.{Spells};
+ghost use Rattle.gix_url.specs.Readings.{Reads, Refuses};
 
 mod build;
-pub(crate) mod classify;
 mod copies;
-mod find;
-mod found;
-pub(crate) mod host;
-mod lend;
-pub(crate) mod length;
 mod made;
 mod meaning;
-mod peeled;
 mod refusal;
-mod room;
-mod rules;
-mod scp;
-mod simple_url;
-mod url;
 
 use crate::error::Error;
-pub use crate::error::UrlKind;
+pub use git_syntax::refusal::UrlKind;
 use crate::location::Url;
-use crate::parse_error::ParseError;
-use crate::url_ref::UrlRef;
 use bstr::BStr;
 use build::build;
 use find::find;
-use lend::lend;
 use refusal::error_of;
 use std::alloc::Global;
 
@@ -102,42 +87,6 @@ impl Url {
         ensures { Reads text.now result }
     {
         read(alloc, text.as_bytes())
-    }
-}
-
-impl<'a> UrlRef<'a> {
-    /// The one location that the bytes spell, read as [`parse`] reads it, but without memory: its parts are slices of the
-    /// text, and where they have other bytes, as an escape or a capital of a host, slices of the room.
-    ///
-    /// Room for as many bytes as the text has is enough for every text; of less room there is no answer for a text that
-    /// spells a location. A refusal needs no room. What is in the room behind the call is not said.
-    ///
-    /// # Errors
-    ///
-    /// [`ParseError::Refused`] where the bytes spell no location, with a flaw that stands in them, and
-    /// [`ParseError::NoRoom`] where they spell one and the room is shorter than they are.
-    ///
-    /// ```
-    /// /// The host that a line names, in a room that is used for line after line.
-    /// fn host_in<'a>(line: &'a [u8], room: &'a mut [u8]) -> Option<&'a str> {
-    ///     match UrlRef::parse_in(line, room) {
-    ///         Ok(url) => url.host, // `example.com` of `ssh://git@Example.com/repo`
-    ///         Err(_) => None,
-    ///     }
-    /// }
-    /// ```
-    pub fn parse_in(text: &'a [u8], room: &'a mut [u8]) -> Result<UrlRef<'a>, ParseError<'a>>
-        ensures { ReadsIn text.now (length room.old) result }
-    {
-        match find(text) {
-            Err(refusal) => Err(ParseError::Refused(refusal)),
-            Ok(found) => {
-                if room.len() < text.len() {
-                    return Err(ParseError::NoRoom);
-                }
-                Ok(lend(found, room))
-            }
-        }
     }
 }
 

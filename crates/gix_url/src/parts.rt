@@ -6,14 +6,13 @@
 
 ghost use Rattle.std.specs.Prelude.{◌≡◌, ◌↔◌, IsSome, IsTrue, [], ◌∷◌, false, option_map, string_bytes};
 ghost use Rattle.std.specs.Option.{option_or};
-ghost use Rattle.gix_url.specs.Bytes.{slash};
-ghost use Rattle.gix_url.specs.Schemes.{default_port_of};
-ghost use Rattle.gix_url.specs.Value.{fields, path_alone};
-ghost use Rattle.gix_url.specs.Value.Protocol.{ssh};
+ghost use Rattle.git_syntax.specs.Bytes.{slash};
+ghost use Rattle.git_syntax.specs.Schemes.{default_port_of};
+ghost use Rattle.git_syntax.specs.Value.{fields, path_alone};
+ghost use Rattle.git_syntax.specs.Value.Protocol.{ssh};
 
 use crate::location::Url;
 use crate::scheme::Scheme;
-use crate::url_ref::UrlRef;
 use bstr::BString;
 use std::alloc::Global;
 use std::mem;
@@ -193,40 +192,5 @@ impl Url {
     {
         self.serialize_alternative_form = flag;
         self
-    }
-}
-
-impl UrlRef<'_> {
-    /// The port, or else the one that the scheme stands for, as [`Url::port_or_default`] has it. It takes no
-    /// memory.
-    ///
-    /// ```
-    /// fn is_same_service(one: &UrlRef<'_>, other: &UrlRef<'_>) -> bool {
-    ///     // `https://host/repo` and `https://host:443/repo` are
-    ///     one.host == other.host && one.port_or_default() == other.port_or_default()
-    /// }
-    /// ```
-    #[inline(always)]
-    pub fn port_or_default(&self) -> Option<u16>
-        ensures { result ≡ option_or self.now.port (default_port_of self.now.scheme) }
-    {
-        match self.port {
-            Some(port) => Some(port),
-            None => self.scheme.default_port(),
-        }
-    }
-
-    /// Whether the path is `/`, as [`Url::path_is_root`] tells. It takes no memory.
-    ///
-    /// ```
-    /// fn names_a_repository(url: &UrlRef<'_>) -> bool {
-    ///     !url.path_is_root()
-    /// }
-    /// ```
-    #[inline(always)]
-    pub fn path_is_root(&self) -> bool
-        ensures { IsTrue result ↔ (self.now.path ≡ slash ∷ []) }
-    {
-        self.path == b"/".as_slice()
     }
 }

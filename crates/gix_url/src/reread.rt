@@ -4,10 +4,10 @@
 //! settled location comes back with the same public fields and the same text.
 
 ghost use Rattle.std.specs.Prelude.{◌≡◌, ℕ, List, Ok, Err};
-ghost use Rattle.gix_url.specs.declared.error.WriteFault.{WriteFault};
+ghost use Rattle.git_location.specs.declared.write_error.WriteFault.{WriteFault};
 ghost use Rattle.gix_url.specs.Readings.{Reads, ReadsAgain};
-ghost use Rattle.gix_url.specs.Settled.{IsSettled};
-ghost use Rattle.gix_url.specs.Text.{text};
+ghost use Rattle.git_location.specs.Settled.{IsSettled};
+ghost use Rattle.git_location.specs.Text.{text};
 
 use crate::error::Error;
 use crate::location::Url;

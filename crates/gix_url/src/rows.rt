@@ -2,37 +2,7 @@
 //!
 //! It has no code and uses nothing: the contract of each function is a group of rows.
 
-ghost use Rattle.gix_url.specs.ByteRows.{EscapeSetRows, EscapedByteRows, GitByteRows, HostByteRows, NameByteRows, QuickByteRows, WhiteSpaceRows};
-ghost use Rattle.gix_url.specs.ClassRows.{SettledRows, UnsettledOtherRows, UnsettledUrlRows, UnsettledWebRows, WebHostRows};
-ghost use Rattle.gix_url.specs.GitRows.{GitTextRows, GitUrlRows, NoGitRows};
 ghost use Rattle.gix_url.specs.OtherRows.{CornerRows, KeptRows, NoCornerRows, ReadRow, SlipRows, UnwrittenRow};
-
-/// Classes of bytes, with all their members.
-fn law_bytes()
-    ensures names { NameByteRows }
-    ensures hosts { HostByteRows }
-    ensures white_space { WhiteSpaceRows }
-    ensures git { GitByteRows }
-    ensures quick { QuickByteRows }
-    ensures documented { EscapedByteRows }
-    ensures sets { EscapeSetRows }
-{}
-
-/// The settled class.
-fn law_class()
-    ensures settled { SettledRows }
-    ensures hosts { WebHostRows }
-    ensures web { UnsettledWebRows }
-    ensures urls { UnsettledUrlRows }
-    ensures others { UnsettledOtherRows }
-{}
-
-/// What Git reads.
-fn law_git()
-    ensures urls { GitUrlRows }
-    ensures others { GitTextRows }
-    ensures none { NoGitRows }
-{}
 
 /// Corners of what is read, what runs and errors hold on to where something failed, and slips in definitions.
 fn law_others()

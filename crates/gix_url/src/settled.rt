@@ -5,25 +5,10 @@
 //! location is a value of which the laws speak. It takes no memory.
 
 ghost use Rattle.std.specs.Prelude.{◌↔◌, IsTrue};
-ghost use Rattle.gix_url.specs.Value.Protocol.{helper};
-ghost use Rattle.gix_url.specs.Pieces.{AreOwn};
-ghost use Rattle.gix_url.specs.Settled.{IsSettled, IsSettledBy, IsValue};
+ghost use Rattle.git_location.specs.Settled.{IsSettled, IsValue};
 
-mod host;
-mod local;
-mod measure;
-mod parts;
-mod scp;
-mod url;
 
 use crate::location::Url;
-use crate::scheme::SchemeRef;
-use crate::url_ref::UrlRef;
-use crate::value_law::law_lent_value;
-use crate::writer::piece::Pieces;
-use local::{is_settled_file, is_settled_helper, is_settled_local};
-use scp::is_settled_scp;
-use url::{is_settled_git, is_settled_helper_url, is_settled_secure, is_settled_web};
 
 impl Url {
     /// Whether the location is of the settled class. It takes no memory.
@@ -36,7 +21,7 @@ impl Url {
     /// with a field that was changed so that its text means another place.
     ///
     /// The contract says too that the location is a value of which the laws speak (`value`), so a proof that asks this
-    /// meets the premise of [`law_separation`](crate::laws::law_separation) and of the other laws.
+    /// meets the premise of [`law_separation`](git_laws::laws::law_separation) and of the other laws.
     ///
     /// ```
     /// /// The text to store for a location, if others read it as the same.
@@ -53,49 +38,4 @@ impl Url {
     {
         self.as_ref().is_settled()
     }
-}
-
-impl UrlRef<'_> {
-    /// Whether the location is of the settled class, as [`Url::is_settled`] tells. It takes no memory.
-    ///
-    /// ```
-    /// /// Writes the location if others read it as the same.
-    /// fn write_settled(out: &mut Vec<u8>, url: &UrlRef<'_>) -> Result<bool, WriteError> {
-    ///     if !url.is_settled() {
-    ///         return Ok(false);
-    ///     }
-    ///     url.write_to(out)?;
-    ///     Ok(true)
-    /// }
-    /// ```
-    pub fn is_settled(&self) -> bool
-        ensures decided { IsTrue result ↔ IsSettled self.now }
-        ensures value { IsValue self.now }
-    {
-        law_lent_value(self);
-        self.is_settled_as(None)
-    }
-
-    /// The same, where the pieces of the location's text may be at hand: they aren't laid out again then.
-    pub(crate) fn is_settled_as(&self, laid: Option<&Pieces<'_>>) -> bool
-        requires { AreOwn laid self.now }
-        ensures { IsTrue result ↔ IsSettled self.now }
-    {
-        match self.scheme {
-            SchemeRef::File => is_settled_local(self) || is_settled_file(self),
-            SchemeRef::Ssh => is_settled_scp(self) || is_settled_secure(self, laid),
-            SchemeRef::Git => is_settled_git(self, laid),
-            SchemeRef::Http | SchemeRef::Https => is_settled_web(self, laid),
-            SchemeRef::Ext => is_settled_helper(self, b"ext"),
-            SchemeRef::Helper(name) => is_settled_named(self, name.as_bytes()),
-            SchemeRef::HelperUrl(name) => is_settled_helper_url(self, laid, name.as_bytes()),
-        }
-    }
-}
-
-/// Whether the location is a settled remote helper of this name, which isn't that of `ext`.
-fn is_settled_named(url: &UrlRef<'_>, name: &[u8]) -> bool
-    ensures { IsTrue result ↔ IsSettledBy (helper name.now) url.now }
-{
-    is_settled_helper(url, name) && name != b"ext".as_slice()
 }

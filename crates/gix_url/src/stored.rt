@@ -5,13 +5,13 @@
 //! say, which migrate the older form of records. Whoever stores what was read gets it back.
 
 ghost use Rattle.std.specs.Prelude.{◌≡◌, ◌↔◌, [], IfErr, IfOk, IsOk, IsTrue, MatchOption, length};
-ghost use Rattle.gix_url.specs.Records.{IsLegacy, SpellsFront, begins_escape, from_legacy, migrated, new_spelling};
+ghost use Rattle.git_location.specs.Records.{IsLegacy, SpellsFront, begins_escape, from_legacy, migrated, new_spelling};
 ghost use Rattle.gix_url.specs.Stored.{recorded_location};
 
-use crate::bytes::append_within;
+use git_syntax::bytes::append_within;
 use crate::error::Error;
-use crate::escape::{PATH, begins_with_digits, decoded};
-use crate::impls::hidden_password;
+use git_syntax::escape::{PATH, begins_with_digits, decoded};
+use git_location::display::hidden_password;
 use crate::location::Url;
 use crate::scheme::Scheme;
 use bstr::BString;

@@ -5,34 +5,21 @@
 //! tells texts that need no escape, and `sink`, `fill` and `show` are the sinks. The contract of each public
 //! call is the text of the definitions.
 
-ghost use Rattle.std.specs.Prelude.{◌≡◌, [], Ok, Err, IsOk, IfOk, IfErr, is_ok, length, option_map};
+ghost use Rattle.std.specs.Prelude.{◌≡◌, [], Ok, Err, IsOk, IfOk, IfErr};
 ghost use Rattle.bstr.specs.BStr.{bstr_bytes};
 ghost use Rattle.bstr.specs.Owned.{bstring_bytes};
-ghost use Rattle.gix_url.specs.declared.error.WriteFault.{WriteFault};
-ghost use Rattle.gix_url.specs.Fills.{Placed};
-ghost use Rattle.gix_url.specs.Text.{canonical_text, in_form, original_path, text, text_in};
-ghost use Rattle.gix_url.specs.Pieces.{form_chosen, form_of, pieces_text, text_length, text_of_pieces};
-ghost use Rattle.gix_url.specs.Readings.{Written, IsUnwritten, WritesAgain};
-ghost use Rattle.gix_url.specs.Settled.{IsSettled};
+ghost use Rattle.git_location.specs.declared.write_error.WriteFault.{WriteFault};
+ghost use Rattle.git_location.specs.Text.{original_path, text};
+ghost use Rattle.git_location.specs.Pieces.{text_length};
+ghost use Rattle.git_location.specs.Readings.{Written};
+ghost use Rattle.gix_url.specs.Readings.{IsUnwritten, WritesAgain};
+ghost use Rattle.git_location.specs.Settled.{IsSettled};
 
-mod fill;
-mod form;
-mod layout;
-pub(crate) mod piece;
-mod ready;
-pub(crate) mod show;
-pub(crate) mod sink;
 
-use crate::error::{Error, WriteError, WriteFault};
+use crate::error::Error;
+use git_location::write_error::{WriteError, WriteFault};
 use crate::location::Url;
-use crate::url_ref::UrlRef;
-use crate::value_law::law_lent_value;
-use crate::writer::fill::fill;
-use crate::writer::form::Form;
-use crate::writer::piece::Pieces;
-use crate::writer::sink::{Output, Room};
 use bstr::{BStr, BString};
-use itoa::Buffer;
 use std::alloc::Global;
 use std::io::Write;
 
@@ -113,215 +100,4 @@ impl Url {
     {
         self.as_ref().original_path()
     }
-}
-
-impl<'a> UrlRef<'a> {
-    /// Writes the text of the location, as [`Url::write_to`] does. It takes no memory.
-    ///
-    /// ```
-    /// fn append(out: &mut Vec<u8>, url: &UrlRef<'_>) -> Result<(), WriteError> {
-    ///     url.write_to(out)
-    /// }
-    /// ```
-    ///
-    /// # Errors
-    ///
-    /// [`WriteError::Fault`] exactly where the location has no text; nothing was written then. [`WriteError::Io`]
-    /// where the writer failed; nothing is said of how much it took.
-    pub fn write_to<W: Write>(&self, out: &mut W) -> Result<(), WriteError>
-        ensures { Written W.contents out.old out.new (text self.now) result }
-    {
-        let mut digits = Buffer::new();
-        match self.own_pieces(&mut digits) {
-            Ok(pieces) => match pieces.put::<W, Output>(out) {
-                Ok(()) => Ok(()),
-                Err(error) => Err(WriteError::Io(error)),
-            },
-            Err(fault) => Err(WriteError::Fault(fault)),
-        }
-    }
-
-    /// The length of the text of the location, in bytes. It takes no memory.
-    ///
-    /// ```
-    /// /// Whether the text fits into a field of so many bytes.
-    /// fn fits(url: &UrlRef<'_>, room: u128) -> bool {
-    ///     url.text_len().is_ok_and(|length| length <= room)
-    /// }
-    /// ```
-    ///
-    /// # Errors
-    ///
-    /// The fault, exactly where the location has no text.
-    pub fn text_len(&self) -> Result<u128, WriteFault>
-        ensures { result ≡ text_length (text self.now) }
-    {
-        let mut digits = Buffer::new();
-        let pieces = self.own_pieces(&mut digits)?;
-        Ok(pieces.len())
-    }
-
-    /// Puts the text of the location at the front of the room, if it fits, and answers its length. The rest
-    /// of the room is as it was; so is all of it where the text doesn't fit, which the length tells, or where
-    /// there is none. It takes no memory.
-    ///
-    /// ```
-    /// /// The text of a location in room that is at hand, if it fits.
-    /// fn in_room<'a>(url: &UrlRef<'_>, room: &'a mut [u8]) -> Result<Option<&'a [u8]>, WriteFault> {
-    ///     let length = url.write_into(room)?;
-    ///     Ok(usize::try_from(length).ok().and_then(|length| room.get(..length)))
-    /// }
-    /// ```
-    ///
-    /// # Errors
-    ///
-    /// The fault, exactly where the location has no text.
-    pub fn write_into(&self, room: &mut [u8]) -> Result<u128, WriteFault>
-        ensures length { result ≡ text_length (text self.now) }
-        ensures placed { Placed (text self.now) room.old room.new }
-    {
-        match self.own_form() {
-            Ok(form) => Ok(self.place_in(form, room)),
-            Err(fault) => Err(fault),
-        }
-    }
-
-    /// The text of the location, as [`Url::to_bstring`] has it. Memory is asked for once, for the whole text, and not at
-    /// all where there is none.
-    ///
-    /// ```
-    /// /// The text of a location without its password, which stays as it is.
-    /// fn without_password(alloc: Global, url: &Url) -> Result<BString, Error> {
-    ///     let mut bare = url.as_ref();
-    ///     bare.password = None;
-    ///     bare.to_bstring(alloc) // `https://u@h/p` of `https://u:p@h/p`
-    /// }
-    /// ```
-    ///
-    /// # Errors
-    ///
-    /// [`Error::Unwritable`] exactly where the location has no text. [`Error::Memory`] where memory is refused, or
-    /// where the text is longer than any memory; for a settled location no other.
-    pub fn to_bstring(&self, alloc: Global) -> Result<BString, Error>
-        ensures text { IfOk result (λ s. text self.now ≡ Ok (bstring_bytes s)) }
-        ensures fault { (f : WriteFault) → text self.now ≡ Err f → result
-            ≡ Err (Error.Unwritable f) }
-        ensures refused { IfErr result (λ e. IsUnwritten (text self.now) e) }
-        ensures empty { text self.now ≡ Ok [] → IsOk result }
-        ensures settled { IsSettled self.now → WritesAgain self.now result }
-    {
-        law_lent_value(self);
-        match self.own_form() {
-            Ok(form) => self.collect_in(alloc, form),
-            Err(fault) => Err(Error::Unwritable(fault)),
-        }
-    }
-
-    /// The path as it was spelled, with its escapes: the spelling where it stands for the path, and else the path itself.
-    /// It takes no memory, and lives as long as what lends the location.
-    ///
-    /// ```
-    /// fn spelled<'a>(url: &UrlRef<'a>) -> BStr<'a> {
-    ///     url.original_path() // `/my%20repo` of `https://host/my%20repo`, whose path is `/my repo`
-    /// }
-    /// ```
-    pub fn original_path(&self) -> BStr<'a>
-        ensures { bstr_bytes result ≡ original_path self.now }
-    {
-        match self.matching_spelling() {
-            Some(spelling) => BStr::new(spelling),
-            None => BStr::new(self.path),
-        }
-    }
-
-    /// The form of the text, or why there is none.
-    fn own_form(&self) -> Result<Form, WriteFault>
-        ensures { in_form (form_chosen result) self.now ≡ text self.now }
-    {
-        self.form(self.password)
-    }
-
-    /// The text in this form. Each form is collected by itself, so that the compiler knows which pieces it lacks.
-    fn collect_in(&self, alloc: Global, form: Form) -> Result<BString, Error>
-        ensures text { IfOk result (λ s. bstring_bytes s ≡ text_in (form_of form) self.now) }
-        ensures memory { IfErr result (λ e. e ≡ Error.Memory) }
-        ensures empty { text_in (form_of form) self.now ≡ [] → IsOk result }
-    {
-        match form {
-            Form::Helper => collect(alloc, &self.helper_pieces()),
-            Form::Path => collect(alloc, &self.path_pieces()),
-            Form::Scp => collect(alloc, &self.scp_pieces()),
-            Form::Canonical => self.collect_canonical(alloc),
-        }
-    }
-
-    /// The text as a URL.
-    #[inline(never)]
-    fn collect_canonical(&self, alloc: Global) -> Result<BString, Error>
-        ensures text { IfOk result (λ s. bstring_bytes s ≡ canonical_text self.now) }
-        ensures memory { IfErr result (λ e. e ≡ Error.Memory) }
-        ensures empty { canonical_text self.now ≡ [] → IsOk result }
-    {
-        let mut digits = Buffer::new();
-        collect(alloc, &self.canonical_pieces(self.password, &mut digits))
-    }
-
-    /// Puts the text in this form into the room, if it fits, and answers its length. Each form is put by
-    /// itself, as it is collected.
-    fn place_in(&self, form: Form, room: &mut [u8]) -> u128
-        ensures length { result ≡ length (text_in (form_of form) self.now) }
-        ensures placed { Placed (Ok (text_in (form_of form) self.now)) room.old room.new }
-    {
-        match form {
-            Form::Helper => place(&self.helper_pieces(), room),
-            Form::Path => place(&self.path_pieces(), room),
-            Form::Scp => place(&self.scp_pieces(), room),
-            Form::Canonical => self.place_canonical(room),
-        }
-    }
-
-    /// Puts the text as a URL into the room, if it fits, and answers its length.
-    #[inline(never)]
-    fn place_canonical(&self, room: &mut [u8]) -> u128
-        ensures length { result ≡ length (canonical_text self.now) }
-        ensures placed { Placed (Ok (canonical_text self.now)) room.old room.new }
-    {
-        let mut digits = Buffer::new();
-        place(&self.canonical_pieces(self.password, &mut digits), room)
-    }
-
-    /// The pieces of the text, or why there is none. The digits of the port stand in the buffer.
-    pub(crate) fn own_pieces<'b>(&'b self, digits: &'b mut Buffer) -> Result<Pieces<'b>, WriteFault>
-        ensures { text_of_pieces result ≡ text self.now }
-    {
-        self.pieces(self.password, digits)
-    }
-}
-
-/// The text of the pieces. Memory is asked for once, and a length that no memory has counts as refused.
-#[inline(always)]
-fn collect(alloc: Global, pieces: &Pieces<'_>) -> Result<BString, Error>
-    ensures text { IfOk result (λ s. bstring_bytes s ≡ pieces_text pieces.now) }
-    ensures memory { IfErr result (λ e. e ≡ Error.Memory) }
-    ensures empty { pieces_text pieces.now ≡ [] → IsOk result }
-{
-    let Ok(len) = usize::try_from(pieces.len()) else {
-        return Err(Error::Memory);
-    };
-    let mut text = Vec::with_capacity(alloc, len)?;
-    let Ok(()) = pieces.put::<Vec<u8>, Room>(&mut text);
-    Ok(BString::new(text))
-}
-
-/// Puts the text of the pieces at the front of the room, if it fits, and answers its length.
-#[inline(always)]
-fn place(pieces: &Pieces<'_>, room: &mut [u8]) -> u128
-    ensures length { result ≡ length (pieces_text pieces.now) }
-    ensures placed { Placed (Ok (pieces_text pieces.now)) room.old room.new }
-{
-    let len = pieces.len();
-    if len <= room.len() as u128 {
-        fill(room, pieces);
-    }
-    len
 }

@@ -5,16 +5,16 @@ use Rattle.std.proofs.lemmas.Bool.{both_ways, leb-true, and_from}
 use Rattle.std.proofs.lemmas.List.{same_from_push}
 use Rattle.std.proofs.lemmas.Option.{same_Some}
 use Rattle.percent_encoding.proofs.OnLiterals.{percent_encoding_on_literals}
-use Rattle.gix_url.specs.Value.{Location}
-use Rattle.gix_url.specs.Value.Protocol.{file, https}
-use Rattle.gix_url.specs.Bytes.{colon}
-use Rattle.gix_url.specs.Escapes.{has_percent}
-use Rattle.gix_url.specs.Text.{has_colon}
-use Rattle.gix_url.specs.Settled.{IsWeb}
-use Rattle.gix_url.specs.Laws.{IsCorner}
-use Rattle.gix_url.specs.ClassRows.{at_host}
+use Rattle.git_syntax.specs.Value.{Location}
+use Rattle.git_syntax.specs.Value.Protocol.{file, https}
+use Rattle.git_syntax.specs.Bytes.{colon}
+use Rattle.git_syntax.specs.Escapes.{has_percent}
+use Rattle.git_location.specs.Text.{has_colon}
+use Rattle.git_location.specs.Settled.{IsWeb}
+use Rattle.git_laws.specs.Laws.{IsCorner}
+use Rattle.git_laws.specs.ClassRows.{at_host}
 use Rattle.gix_url.specs.OtherRows.{SlipRows, CornerRows, NoCornerRows, UnwrittenRow, ReadRow, KeptRows}
-use Rattle.gix_url.proofs.Examples.RowFormLemmas.{other_byte, fits_row}
+use Rattle.git_laws.proofs.Examples.RowFormLemmas.{other_byte, fits_row}
 
 -- slips
 pub slip_rows : SlipRows

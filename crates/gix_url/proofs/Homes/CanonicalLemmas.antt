@@ -4,7 +4,7 @@ use Rattle.std.specs.Global.{Global}
 use Rattle.std.specs.String.{string_bytes}
 use Rattle.gix_url.specs.declared.error.Error.{Error}
 use Rattle.gix_url.specs.declared.error.Error.TheVariants as error
-use Rattle.gix_url.specs.Value.{Location}
+use Rattle.git_syntax.specs.Value.{Location}
 
 -- an answer of the resolver: a text that becomes the path, or none, which is told
 abbrev pub Resolves : (Option (String Global) → Type 0) → Location → Location → Result (Unit {0}) Error → Type 0

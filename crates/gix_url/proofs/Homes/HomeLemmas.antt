@@ -5,8 +5,8 @@ use Rattle.std.specs.Option.{option_copied}
 use Rattle.bstr.proofs.Computing.{computing}
 use Rattle.gix_url.specs.declared.error.Error.{Error}
 use Rattle.gix_url.specs.declared.error.Error.TheVariants as error
-use Rattle.gix_url.specs.Bytes.{slash, tilde, FreeOf, begins_with, lossy_text}
-use Rattle.gix_url.specs.Settled.{begins_at_home}
+use Rattle.git_syntax.specs.Bytes.{slash, tilde, FreeOf, begins_with, lossy_text}
+use Rattle.git_syntax.specs.Grammar.{begins_at_home}
 use Rattle.gix_url.specs.Paths.{IsParent}
 use Rattle.gix_url.specs.Homes.{HomeUser, home_user, SplitsHome, shell_text, ForShell, HomeFolder, Expands}
 use Rattle.gix_url.specs.Homes.HomeUser.{current, named}

@@ -1,12 +1,12 @@
 -- A path has one home split, one reading for a shell and one expansion, and a user has one home folder.
 use Rattle.std.proofs.Common.{◌≡◌, ℕ, true, false, ◌==◌, ◌⊎◌, inl, inr, List, [], ◌∷◌, ◌++◌, Option, Some, None, refl, sym, ap, subst, ◌∙◌}
 use Rattle.std.proofs.lemmas.Bool.{cases_Bool, false≢true, eqb-true, and_parts}
-use Rattle.gix_url.specs.Bytes.{slash, tilde, FreeOf, lossy_text}
-use Rattle.gix_url.specs.Settled.{begins_at_home}
+use Rattle.git_syntax.specs.Bytes.{slash, tilde, FreeOf, lossy_text}
+use Rattle.git_syntax.specs.Grammar.{begins_at_home}
 use Rattle.gix_url.specs.Paths.{Joins, LiesBelow, IsParent}
 use Rattle.gix_url.specs.Homes.{HomeUser, home_user, SplitsHome, shell_text, ForShell, HomeFolder, Expands}
 use Rattle.gix_url.specs.Homes.HomeUser.{current, named}
-use Rattle.gix_url.proofs.Texts.CutLemmas.{tails, free_or_cut, cut_unique, not_free}
+use Rattle.git_syntax.proofs.Texts.CutLemmas.{tails, free_or_cut, cut_unique, not_free}
 use Rattle.gix_url.proofs.Homes.PathUniqueLemmas.{parent_unique, some_parent, joins_unique, some_joined, below_unique, some_below}
 
 -- ---- splits

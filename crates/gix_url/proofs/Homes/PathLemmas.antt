@@ -6,12 +6,12 @@ use Rattle.std.specs.Str.Pattern.{FindsChar, RFindsChar, HasCharAt, SplitsAround
 use Rattle.std.proofs.lemmas.Bool.{eqb-true, false≢true, false_from_ne_true, or_from}
 use Rattle.std.proofs.lemmas.List.{take-append-drop, length-append}
 use Rattle.std.proofs.lemmas.Str.Pattern.{NoCharPasses-char, drop_at_char}
-use Rattle.gix_url.specs.Bytes.{slash, FreeOf, begins_with}
-use Rattle.gix_url.specs.Cuts.{CutsAt, CutsAtLast}
-use Rattle.gix_url.specs.Grammar.{or_root}
+use Rattle.git_syntax.specs.Bytes.{slash, FreeOf, begins_with}
+use Rattle.git_syntax.specs.Cuts.{CutsAt, CutsAtLast}
+use Rattle.git_syntax.specs.Grammar.{or_root}
 use Rattle.gix_url.specs.Paths.{counts, IsPiece, IsIdle, HoldsPieces, WithoutFirst, LiesBelow, Opens, Joins, EndsInPiece, IsParent}
 use Rattle.gix_url.specs.HomeReadings.{CutsSegment, UpToLast}
-use Rattle.gix_url.proofs.Texts.CutLemmas.{lacks_after, free_begins, last_cut_unique, not_free}
+use Rattle.git_syntax.proofs.Texts.CutLemmas.{lacks_after, free_begins, last_cut_unique, not_free}
 
 -- ---- cuts of texts
 

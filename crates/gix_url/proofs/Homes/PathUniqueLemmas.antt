@@ -3,10 +3,10 @@ use Rattle.std.proofs.Common.{◌≡◌, ℕ, ◌<◌, true, false, ◌==◌, �
 use Rattle.std.specs.List.{list_any, join_with_byte}
 use Rattle.std.proofs.lemmas.Bool.{both_ways, cases_Bool, eqb-true, eq-eqb, false≢true, not-false, or_from, or_parts}
 use Rattle.std.proofs.lemmas.List.Concat.{flat_map-append}
-use Rattle.gix_url.specs.Bytes.{dot, slash, FreeOf, begins_by, begins_with}
-use Rattle.gix_url.specs.Grammar.{or_root}
+use Rattle.git_syntax.specs.Bytes.{dot, slash, FreeOf, begins_by, begins_with}
+use Rattle.git_syntax.specs.Grammar.{or_root}
 use Rattle.gix_url.specs.Paths.{counts, IsPiece, behind_slashes, IsIdle, HoldsPieces, HasPieces, WithoutFirst, Opens, Joins, LiesBelow, EndsInPiece, IsParent}
-use Rattle.gix_url.proofs.Texts.CutLemmas.{tails, class_cut_unique, free-cons}
+use Rattle.git_syntax.proofs.Texts.CutLemmas.{tails, class_cut_unique, free-cons}
 use Rattle.gix_url.proofs.Homes.PathLemmas.{idle_none, last_byte, pieces_past}
 use Rattle.std.proofs.lemmas.List.{same_from_push}
 use Rattle.std.proofs.lemmas.List.Elements.{filter-append}

@@ -11,19 +11,19 @@ use Rattle.gix_url.specs.declared.components.PathComponents.{PathComponents}
 use Rattle.gix_url.specs.declared.components.QueryText.{QueryText}
 use Rattle.gix_url.specs.declared.components.QueryText.TheVariants.{Borrowed, Owned}
 use Rattle.gix_url.specs.declared.components.cuts.Spelled.{Spelled}
-use Rattle.gix_url.specs.Bytes.{slash, number_sign, question_mark, Holds, ampersand, equals_sign}
+use Rattle.git_syntax.specs.Bytes.{slash, number_sign, question_mark, Holds, ampersand, equals_sign}
 use Rattle.std.proofs.lemmas.Option.{IfSome_then}
-use Rattle.gix_url.specs.Value.{Location}
-use Rattle.gix_url.specs.Grammar.{or_root}
-use Rattle.gix_url.specs.Text.{matching_or, original_path}
-use Rattle.gix_url.specs.Components.{Components, term_of, CutsText, CutsPath, SplitsField, PairsOf, QueryOf, WebParts}
-use Rattle.gix_url.specs.Escapes.{matches}
+use Rattle.git_syntax.specs.Value.{Location}
+use Rattle.git_syntax.specs.Grammar.{or_root}
+use Rattle.git_location.specs.Text.{matching_or, original_path}
+use Rattle.git_location.specs.Components.{Components, term_of, CutsText, CutsPath, SplitsField, PairsOf, QueryOf, WebParts}
+use Rattle.git_syntax.specs.Escapes.{matches}
 use Rattle.gix_url.specs.Meanings.{meant_by}
 use Rattle.gix_url.specs.ComponentViews.{text_bytes, pair_bytes, components, LentTerm, LentPairs, LentQuery}
 use Rattle.gix_url.specs.ComponentPieces.{LendsTerm, LendsPairs, LendsQuery, LendsParts, HasQuery, SpellsPath}
-use Rattle.gix_url.proofs.Parted.ComponentLemmas.{matched, unmatched}
+use Rattle.git_laws.proofs.Parted.ComponentLemmas.{matched, unmatched}
 use Rattle.gix_url.proofs.Parted.MeaningLemmas.{Parts, meant-nil, meant_around, meant_spaces}
-use Rattle.gix_url.proofs.Parted.PartsLemmas.{path_unique, no_query}
+use Rattle.git_laws.proofs.Parted.PartsLemmas.{path_unique, no_query}
 
 -- ---- the spelling that matches
 

@@ -5,12 +5,12 @@ use Rattle.std.proofs.lemmas.Bool.{cases_Bool, and_parts, false_from_ne_true, bo
 use Rattle.std.proofs.lemmas.List.{take_at, drop_at, length-append, map-append}
 use Rattle.percent_encoding.specs.Percent.{percent_decode}
 use Rattle.percent_encoding.proofs.PercentLemmas.{percent_decode-nil}
-use Rattle.gix_url.specs.Bytes.{plus_sign, FreeOf, space}
-use Rattle.gix_url.specs.Escapes.{begins_with_digits}
-use Rattle.gix_url.specs.Components.{with_spaces}
+use Rattle.git_syntax.specs.Bytes.{plus_sign, FreeOf, space}
+use Rattle.git_syntax.specs.Escapes.{begins_with_digits}
+use Rattle.git_location.specs.Components.{with_spaces}
 use Rattle.gix_url.specs.Meanings.{meant_by}
-use Rattle.gix_url.proofs.Parted.ComponentLemmas.{spaces_free}
-use Rattle.gix_url.proofs.Texts.EscapeLemmas.{decode_byte, decode_broken, decode_escape, digits_before}
+use Rattle.git_laws.proofs.Parted.ComponentLemmas.{spaces_free}
+use Rattle.git_syntax.proofs.Texts.EscapeLemmas.{decode_byte, decode_broken, decode_escape, digits_before}
 
 -- a byte that parts a text: it is neither `%` nor a hexadecimal digit, so it neither begins an escape nor ends one
 pub record Parts (c : ℕ) : Type 0 where

@@ -5,26 +5,27 @@ use Rattle.std.proofs.lemmas.Bool.{both_ways, cond-false, cond_both, false≢tru
 use Rattle.std.proofs.lemmas.Option.{none-some}
 use Rattle.gix_url.specs.declared.error.Error.{Error}
 use Rattle.gix_url.specs.declared.error.Error.TheVariants as error
-use Rattle.gix_url.specs.declared.error.WriteFault.{WriteFault}
-use Rattle.gix_url.specs.declared.error.WriteFault.TheVariants.{HelperName}
-use Rattle.gix_url.specs.Value.{Protocol, Location, fields}
-use Rattle.gix_url.specs.Value.Protocol.{file, git, ssh, http, https, ext, helper, helper_url}
-use Rattle.gix_url.specs.Bytes.{percent_sign, slash, begins_with, is_helper_name}
-use Rattle.gix_url.specs.Escapes.{has_percent}
-use Rattle.gix_url.specs.Schemes.{protocol_of, requires_path}
-use Rattle.gix_url.specs.Grammar.{SpellsUrl, Spells, retained_spelling}
-use Rattle.gix_url.specs.Text.{text, in_form, choice_by, root_part, plain_path, matching_or, canonical_path}
-use Rattle.gix_url.specs.Settled.{IsValue, IsSettledUrl, IsRawPath, IsSettled, IsSettledBy}
-use Rattle.gix_url.specs.SettledParts.{IsWrittenAsUrl}
-use Rattle.gix_url.specs.Readings.{Reads, IsAgain}
+use Rattle.git_location.specs.declared.write_error.WriteFault.{WriteFault}
+use Rattle.git_location.specs.declared.write_error.WriteFault.TheVariants.{HelperName}
+use Rattle.git_syntax.specs.Value.{Protocol, Location, fields}
+use Rattle.git_syntax.specs.Value.Protocol.{file, git, ssh, http, https, ext, helper, helper_url}
+use Rattle.git_syntax.specs.Bytes.{percent_sign, slash, begins_with, is_helper_name}
+use Rattle.git_syntax.specs.Escapes.{has_percent}
+use Rattle.git_syntax.specs.Schemes.{protocol_of, requires_path}
+use Rattle.git_syntax.specs.Grammar.{SpellsUrl, Spells, retained_spelling}
+use Rattle.git_location.specs.Text.{text, in_form, choice_by, root_part, plain_path, matching_or, canonical_path}
+use Rattle.git_location.specs.Settled.{IsValue, IsSettledUrl, IsRawPath, IsSettled, IsSettledBy}
+use Rattle.git_location.specs.SettledParts.{IsWrittenAsUrl}
+use Rattle.gix_url.specs.Readings.{Reads}
+use Rattle.git_location.specs.Readings.{IsAgain}
 use Rattle.gix_url.specs.FromParts.{MadeOf, TellsName, invalid_name, given_or, with_given, keeping}
-use Rattle.gix_url.proofs.Texts.CutLemmas.{lacks-append}
-use Rattle.gix_url.proofs.Readings.SchemeLemmas.{protocol_cases, means_cases}
-use Rattle.gix_url.proofs.Unique.UniqueLemmas.{spells_unique}
-use Rattle.gix_url.proofs.Written.WrittenPieces.{as_read}
-use Rattle.gix_url.proofs.Written.WrittenUrlLemmas.{IsReadable, readable_spelled}
-use Rattle.gix_url.proofs.Written.AgainLemmas.{secure_readable, git_readable, other_readable, settled_again}
-use Rattle.gix_url.proofs.Written.WrittenAsUrlLemmas.{one_text, written_git, written_secure, written_other}
+use Rattle.git_syntax.proofs.Texts.CutLemmas.{lacks-append}
+use Rattle.git_syntax.proofs.Readings.SchemeLemmas.{protocol_cases, means_cases}
+use Rattle.git_syntax.proofs.Unique.UniqueLemmas.{spells_unique}
+use Rattle.git_laws.proofs.Written.WrittenPieces.{as_read}
+use Rattle.git_laws.proofs.Written.WrittenUrlLemmas.{IsReadable, readable_spelled}
+use Rattle.git_laws.proofs.Written.AgainLemmas.{secure_readable, git_readable, other_readable, settled_again}
+use Rattle.git_location.proofs.Written.WrittenAsUrlLemmas.{one_text, written_git, written_secure, written_other}
 
 -- ---- names that no helper can have
 

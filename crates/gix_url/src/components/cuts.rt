@@ -8,8 +8,8 @@ ghost use Rattle.std.specs.Char.{is_digit};
 ghost use Rattle.percent_encoding.specs.Percent.{percent_decode};
 ghost use Rattle.gix_url.specs.Meanings.{meant_by};
 
-use super::measure::meant_len;
-use crate::bytes::cut;
+use crate::components::measure::meant_len;
+use git_syntax::bytes::cut;
 
 /// A text as it is spelled, together with what it stands for.
 #[derive(Clone, Copy)]

@@ -7,9 +7,9 @@ ghost use Rattle.std.specs.Prelude.{◌≡◌, ◌+◌, ◌≤◌, ◌<◌, ◌+
 ghost use Rattle.gix_url.specs.ComponentPieces.{AddsPair, LendsFields, field_count, one_field};
 
 use super::QueryText;
-use super::cuts::Spelled;
-use super::lend::lend_pair;
-use crate::bytes::cut;
+use crate::components::cuts::Spelled;
+use crate::components::lend::lend_pair;
+use git_syntax::bytes::cut;
 use std::alloc::{AllocError, Global};
 
 /// The names and values of the query.

@@ -4,14 +4,14 @@
 //! raw `+` a space, and memory is asked for only where there is one, and then once.
 
 ghost use Rattle.std.specs.Prelude.{◌≡◌, IfOk};
-ghost use Rattle.gix_url.specs.Bytes.{FreeOf, plus_sign};
+ghost use Rattle.git_syntax.specs.Bytes.{FreeOf, plus_sign};
 ghost use Rattle.gix_url.specs.ComponentPieces.{LendsPair, LendsTerm};
-ghost use Rattle.gix_url.specs.Components.{with_spaces};
+ghost use Rattle.git_location.specs.Components.{with_spaces};
 ghost use Rattle.gix_url.specs.Meanings.{meant_by};
 
 use super::QueryText;
-use super::cuts::Spelled;
-use crate::bytes::{append_within, is_free_of};
+use crate::components::cuts::Spelled;
+use git_syntax::bytes::{append_within, is_free_of};
 use bstr::{BStr, BString};
 use std::alloc::{AllocError, Global};
 

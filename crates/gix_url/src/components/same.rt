@@ -9,11 +9,11 @@ ghost use Rattle.std.specs.Prelude.{◌≡◌, ◌+◌, ◌<◌, ◌≤◌, ◌�
 ghost use Rattle.std.specs.Cmp.{on_equiv, on_per, partial_equiv_from_equiv};
 ghost use Rattle.std.specs.Cmp.Lexicographic.{nat_list_eq_equiv, pointwise};
 ghost use Rattle.bstr.specs.BStr.{bstr_bytes};
-ghost use Rattle.gix_url.specs.ComponentEquality.{components_eq, components_equiv, fragment_eq, pair_eq, query_eq};
+ghost use Rattle.git_laws.specs.ComponentEquality.{components_eq, components_equiv, fragment_eq, pair_eq, query_eq};
 ghost use Rattle.gix_url.specs.ComponentViews.{components, is_borrowed, pair_bytes, pair_lent, text_bytes, what_is_lent};
 
-use super::fields::push_within;
-use super::{PathComponents, QueryText};
+use crate::components::fields::push_within;
+use crate::components::{PathComponents, QueryText};
 use crate::error::Error;
 use bstr::{BStr, BString};
 use std::alloc::{AllocError, Global};

@@ -5,13 +5,13 @@
 
 ghost use Rattle.std.specs.Prelude.{◌≡◌, ◌++◌, List, ℕ, OnOk, string_bytes};
 ghost use Rattle.std.specs.Option.{option_copied};
-ghost use Rattle.gix_url.specs.Bytes.{slash};
-ghost use Rattle.gix_url.specs.Cuts.{CutsAt, CutsAtLast};
-ghost use Rattle.gix_url.specs.Grammar.{or_root};
+ghost use Rattle.git_syntax.specs.Bytes.{slash};
+ghost use Rattle.git_syntax.specs.Cuts.{CutsAt, CutsAtLast};
+ghost use Rattle.git_syntax.specs.Grammar.{or_root};
 ghost use Rattle.gix_url.specs.HomeReadings.{CutsSegment, UpToLast};
 ghost use Rattle.gix_url.specs.Paths.{IsParent, Joins, LiesBelow, Opens, WithoutFirst, counts};
 
-use crate::bytes::{before, starts_with_byte};
+use git_syntax::bytes::{before, starts_with_byte};
 use std::alloc::AllocError;
 
 /// What stands before and behind the first `/`.

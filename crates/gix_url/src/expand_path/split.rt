@@ -4,12 +4,12 @@
 
 ghost use Rattle.std.specs.Prelude.{◌≡◌, ◌∷◌, Some, IfOk};
 ghost use Rattle.bstr.specs.Owned.{bstring_bytes};
-ghost use Rattle.gix_url.specs.Bytes.{lossy_text, slash};
+ghost use Rattle.git_syntax.specs.Bytes.{lossy_text, slash};
 ghost use Rattle.gix_url.specs.HomeReadings.{CutsHome, user_of};
 ghost use Rattle.gix_url.specs.Homes.{home_user};
 
 use super::ForUser;
-use crate::bytes::{after, cut};
+use git_syntax::bytes::{after, cut};
 use bstr::{BString, ByteSlice};
 use std::alloc::{AllocError, Global};
 

@@ -5,21 +5,21 @@
 
 ghost use Rattle.std.specs.Prelude.{◌≡◌, IfOk, IfSome, IsUtf8, option_map, string_bytes};
 ghost use Rattle.std.specs.Option.{option_copied};
-ghost use Rattle.gix_url.specs.FoundPieces.{AreScpTexts, IsReady, meant, scp_host_of};
-ghost use Rattle.gix_url.specs.Grammar.{helper_protocol, scp_location};
-ghost use Rattle.gix_url.specs.Value.{path_alone};
+ghost use Rattle.git_syntax.specs.FoundPieces.{AreScpTexts, IsReady, meant, scp_host_of};
+ghost use Rattle.git_syntax.specs.Grammar.{helper_protocol, scp_location};
+ghost use Rattle.git_syntax.specs.Value.{path_alone};
 ghost use Rattle.gix_url.specs.Views.{protocol};
 
-use super::copies::{copied, copied_text, copied_unless_empty};
-use super::found::{Found, ScpHost};
-use super::host::build::{lowercase_address, normalize};
-use super::made::{path_alone, plain_location};
-use super::meaning::url_location;
-use crate::bytes::append_within;
-use crate::home::from_home;
+use crate::parse::copies::{copied, copied_text, copied_unless_empty};
+use git_syntax::found::{Found, ScpHost};
+use git_syntax::host::build::{lowercase_address, normalize};
+use crate::parse::made::{path_alone, plain_location};
+use crate::parse::meaning::url_location;
+use git_syntax::bytes::append_within;
+use git_syntax::home::from_home;
 use crate::location::Url;
 use crate::scheme::Scheme;
-use crate::text::into_text;
+use git_syntax::text::into_text;
 use std::alloc::{AllocError, Global};
 
 /// The location that found slices mean.

@@ -4,9 +4,9 @@
 
 ghost use Rattle.std.specs.Prelude.{◌≡◌, IfOk, IsUtf8, option_map, string_bytes};
 ghost use Rattle.bstr.specs.Owned.{bstring_bytes};
-ghost use Rattle.gix_url.specs.Authority.{unless_empty};
+ghost use Rattle.git_syntax.specs.Authority.{unless_empty};
 
-use crate::text::as_text;
+use git_syntax::text::as_text;
 use bstr::BString;
 use std::alloc::{AllocError, Global};
 

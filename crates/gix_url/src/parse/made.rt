@@ -5,7 +5,7 @@
 
 ghost use Rattle.std.specs.Prelude.{◌≡◌, option_map, string_bytes};
 ghost use Rattle.bstr.specs.Owned.{bstring_bytes};
-ghost use Rattle.gix_url.specs.Value.{path_alone};
+ghost use Rattle.git_syntax.specs.Value.{path_alone};
 ghost use Rattle.gix_url.specs.Views.{protocol};
 
 use crate::location::Url;

@@ -4,11 +4,12 @@
 //! tells. It asks for memory once, for the copy, and where that is refused the error is `Memory`.
 
 ghost use Rattle.std.specs.Prelude.{◌≡◌, IfOk, Ok};
-ghost use Rattle.gix_url.specs.Flaws.{Flaw, NamesFlaw};
+ghost use Rattle.gix_url.specs.Flaws.{Flaw};
+ghost use Rattle.git_syntax.specs.Flaws.{NamesFlaw};
 
-use super::copies::copied;
+use crate::parse::copies::copied;
 use crate::error::Error;
-use crate::parse_error::Refusal;
+use git_syntax::refusal::Refusal;
 use std::alloc::{AllocError, Global};
 
 /// The error of a text that is refused.

@@ -3,7 +3,7 @@ use Rattle.std.proofs.Common.{refl, ap, subst, ◌∙◌, ◌++◌}
 use Rattle.std.specs.String.{string_bytes}
 use Rattle.gix_url.specs.Paths.{Joins}
 use Rattle.gix_url.specs.Homes.{HomeFolder}
-use Rattle.gix_url.specs.Bytes.{lossy_text}
+use Rattle.git_syntax.specs.Bytes.{lossy_text}
 use Rattle.gix_url.proofs.Homes.HomeLemmas.{folder_topmost}
 use Rattle.gix_url.proofs.expand_path.folder_beside.Goals as goal
 

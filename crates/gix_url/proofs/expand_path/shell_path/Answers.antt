@@ -1,6 +1,6 @@
 -- The name and what lies below, written one after the other.
 use Rattle.std.proofs.Common.{ap, ◌∙◌, ◌∷◌, ◌++◌}
-use Rattle.gix_url.specs.Bytes.{tilde}
+use Rattle.git_syntax.specs.Bytes.{tilde}
 use Rattle.gix_url.proofs.Homes.HomeLemmas.{shell_at}
 use Rattle.gix_url.proofs.expand_path.shell_path.Goals as goal
 

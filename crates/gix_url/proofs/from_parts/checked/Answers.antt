@@ -1,7 +1,7 @@
 -- The name that is told is the scheme's, and no helper's.
 use Rattle.std.proofs.Common.{sym, ap, ◌∙◌}
 use Rattle.std.proofs.lemmas.Bool.{cond-false}
-use Rattle.gix_url.specs.Bytes.{is_helper_name}
+use Rattle.git_syntax.specs.Bytes.{is_helper_name}
 use Rattle.gix_url.specs.Views.{protocol}
 use Rattle.gix_url.specs.FromParts.{invalid_name}
 use Rattle.gix_url.proofs.from_parts.checked.Goals as goal

@@ -1,5 +1,5 @@
 -- The laws are lemmas.
-use Rattle.gix_url.proofs.Unique.AnsweredLemmas.{readers_agree, same_with_room}
+use Rattle.gix_url.proofs.Unique.ReaderLemmas.{readers_agree, same_with_room}
 use Rattle.gix_url.proofs.laws.law_readers.Goals as goal
 
 pub returns : goal.returns

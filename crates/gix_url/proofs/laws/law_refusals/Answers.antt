@@ -1,6 +1,7 @@
 -- The laws are lemmas.
-use Rattle.gix_url.proofs.Refused.RefusalLemmas.{exclusive, flawless, refused_unspelled}
-use Rattle.gix_url.proofs.Refused.FormDecisions.{decided}
+use Rattle.gix_url.proofs.Unique.ReaderLemmas.{exclusive}
+use Rattle.git_syntax.proofs.Refused.RefusalLemmas.{flawless, refused_unspelled}
+use Rattle.git_laws.proofs.Refused.FormDecisions.{decided}
 use Rattle.gix_url.proofs.laws.law_refusals.Goals as goal
 
 pub returns : goal.returns

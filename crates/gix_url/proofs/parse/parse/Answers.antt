@@ -1,6 +1,6 @@
 -- What is found and what is refused is what reading answers.
 use Rattle.bstr.specs.BStr.{bstr_bytes}
-use Rattle.gix_url.proofs.Unique.AnsweredLemmas.{reads_by}
+use Rattle.gix_url.proofs.Unique.ReaderLemmas.{reads_by}
 use Rattle.gix_url.proofs.parse.parse.Goals as goal
 
 pub returns : goal.returns

@@ -1,7 +1,7 @@
 -- A field that was cut off is counted, and the rest is shorter.
 use Rattle.std.proofs.Common.{◌∷◌, arith, ap, length}
 use Rattle.std.proofs.lemmas.List.{length-append}
-use Rattle.gix_url.specs.Bytes.{ampersand}
+use Rattle.git_syntax.specs.Bytes.{ampersand}
 use Rattle.gix_url.proofs.Parted.LentLemmas.{one_field-small, field_count_cut, field_count_last}
 use Rattle.gix_url.proofs.components.fields.count_fields.Goals as goal
 

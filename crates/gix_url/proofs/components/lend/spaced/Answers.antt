@@ -1,7 +1,7 @@
 -- What stands before the next `+` and a space go behind what was made, and there is room for both.
 use Rattle.std.proofs.Common.{◌+◌, ◌≤◌, ◌∷◌, ◌++◌, ◌∙◌, arith, ap, length, [], vec_len, vec_capacity}
 use Rattle.std.proofs.lemmas.List.{length-append}
-use Rattle.gix_url.specs.Bytes.{plus_sign}
+use Rattle.git_syntax.specs.Bytes.{plus_sign}
 use Rattle.gix_url.proofs.Parted.LentLemmas.{meant_as, spelled_cut, plus_parts, spaced_more, spaced_whole}
 use Rattle.gix_url.proofs.components.lend.spaced.Goals as goal
 

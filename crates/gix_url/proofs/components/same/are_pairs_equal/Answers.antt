@@ -2,7 +2,7 @@
 use Rattle.std.proofs.Common.{◌≡◌, ◌∙◌, ◌&&◌, ◌+◌, false, Bool, ap, sym, drop, arith}
 use Rattle.std.specs.Cmp.Lexicographic.{pointwise}
 use Rattle.gix_url.specs.declared.components.QueryText.{QueryText}
-use Rattle.gix_url.specs.ComponentEquality.{pair_eq}
+use Rattle.git_laws.specs.ComponentEquality.{pair_eq}
 use Rattle.gix_url.specs.ComponentViews.{pair_bytes}
 use Rattle.gix_url.proofs.Parted.SameLemmas.{pointwise_map, pointwise_step, pointwise_end}
 use Rattle.gix_url.proofs.components.same.are_pairs_equal.Goals as goal

@@ -1,7 +1,7 @@
 -- The pairs so far are equal, so that the rests decide.
 use Rattle.std.proofs.Common.{◌≡◌, drop}
 use Rattle.std.specs.Cmp.Lexicographic.{pointwise}
-use Rattle.gix_url.specs.ComponentEquality.{pair_eq}
+use Rattle.git_laws.specs.ComponentEquality.{pair_eq}
 use Rattle.gix_url.specs.ComponentViews.{pair_bytes}
 use Rattle.gix_url.proofs.components.same.are_pairs_equal.Given as goal
 

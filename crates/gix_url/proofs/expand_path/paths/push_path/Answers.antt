@@ -1,6 +1,6 @@
 -- A path that doesn't begin with `/` stands behind the folder made ready.
 use Rattle.std.proofs.Common.{sym, ap, ◌∙◌}
-use Rattle.gix_url.specs.Bytes.{slash, begins_with}
+use Rattle.git_syntax.specs.Bytes.{slash, begins_with}
 use Rattle.gix_url.specs.Paths.{Joins}
 use Rattle.gix_url.proofs.expand_path.paths.push_path.Goals as goal
 

@@ -1,7 +1,7 @@
 -- Each segment is passed, or is appended as a piece.
 use Rattle.std.proofs.Common.{ap, sym, subst, ◌∙◌, [], ◌∷◌, ◌++◌, append_assoc, rules}
 use Rattle.std.specs.String.{string_bytes}
-use Rattle.gix_url.specs.Bytes.{slash}
+use Rattle.git_syntax.specs.Bytes.{slash}
 use Rattle.gix_url.specs.Paths.{IsPiece}
 use Rattle.gix_url.proofs.Homes.PathLemmas.{Gathers, unread, unread_none, segment_cut, shorter, gathers_none, gathers_past, gathers_more, gathers_all}
 use Rattle.gix_url.proofs.expand_path.paths.push_pieces.Goals as goal

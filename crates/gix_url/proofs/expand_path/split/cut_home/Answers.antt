@@ -1,7 +1,7 @@
 -- A path that begins with `/~` is these two bytes and what follows; any other doesn't begin so.
 use Rattle.std.proofs.Common.{ap, refl, inl, inr, ◌∙◌, ◌∷◌}
-use Rattle.gix_url.specs.Bytes.{slash, tilde}
-use Rattle.gix_url.specs.Settled.{begins_at_home}
+use Rattle.git_syntax.specs.Bytes.{slash, tilde}
+use Rattle.git_syntax.specs.Grammar.{begins_at_home}
 use Rattle.gix_url.proofs.Homes.HomeLemmas.{no_slash_no_home, no_tilde_no_home}
 use Rattle.gix_url.proofs.expand_path.split.cut_home.Goals as goal
 

@@ -4,7 +4,7 @@ use Rattle.std.specs.Fn.{FnOnceReturnsAt}
 use Rattle.std.specs.Str.{IsUtf8}
 use Rattle.std.proofs.lemmas.Result.{err_from_is_err_and}
 use Rattle.gix_url.specs.HomeReadings.{IsUnresolved}
-use Rattle.gix_url.specs.Value.Protocol.{file}
+use Rattle.git_syntax.specs.Value.Protocol.{file}
 use Rattle.gix_url.proofs.Homes.CanonicalLemmas.{Resolves, resolved_text, resolved_none}
 use Rattle.gix_url.proofs.location.Url.canonicalized.Goals as goal
 

@@ -1,5 +1,5 @@
 -- What is found and what is refused is what reading answers.
-use Rattle.gix_url.proofs.Unique.AnsweredLemmas.{reads_by}
+use Rattle.gix_url.proofs.Unique.ReaderLemmas.{reads_by}
 use Rattle.gix_url.proofs.location.Url.from_text.Goals as goal
 
 pub returns : goal.returns

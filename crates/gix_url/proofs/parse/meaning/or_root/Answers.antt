@@ -1,7 +1,7 @@
 -- An empty path is the root, any other stays.
 use Rattle.std.proofs.Common.{arith}
 use Rattle.std.proofs.lemmas.Bool.Decides.{nat_tests}
-use Rattle.gix_url.proofs.Readings.UrlLocationLemmas.{root_meant, path_meant}
+use Rattle.git_syntax.proofs.Readings.UrlLocationLemmas.{root_meant, path_meant}
 use Rattle.gix_url.proofs.parse.meaning.or_root.Goals as goal
 
 pub returns-then-is_empty : goal.returns-then-is_empty

@@ -1,0 +1,167 @@
+-- What is read is settled but for corners, and of these kinds what comes back is settled.
+use Rattle.std.proofs.Common.{◌≡◌, ℕ, Bool, true, false, ◌⊎◌, inl, inr, List, [], ◌∷◌, ◌++◌, Option, Some, None, Ok, refl, sym, ap, subst, ◌∙◌, ◌≤◌, length, codes, bytes_eq}
+use Rattle.std.specs.Prelude.{is_some, IsSome}
+use Rattle.std.proofs.lemmas.Bool.{both_ways, false≢true, leb-true, or_left}
+use Rattle.std.proofs.lemmas.Option.{none-some, same_Some}
+use Rattle.git_syntax.specs.Value.{Protocol, Location}
+use Rattle.git_syntax.specs.Value.Protocol.{file, http, https, ext, helper}
+use Rattle.git_syntax.specs.Bytes.{colon, left_bracket, begins_with}
+use Rattle.git_syntax.specs.Escapes.{has_percent}
+use Rattle.git_syntax.specs.Schemes.{protocol_of, protocol_text}
+use Rattle.git_syntax.specs.Walks.{is_walk_short, text_walk_past, text_walk_for}
+use Rattle.git_syntax.specs.Grammar.{SpellsUrl, SpellsFile, Spells}
+use Rattle.git_location.specs.Text.{has_colon, canonical_text, text}
+use Rattle.git_location.specs.Settled.{IsSettledFile, IsSettledWeb, HasFittingText, IsSettledBy, IsSettled, IsWeb}
+use Rattle.git_laws.specs.Laws.{keeps_bytes, ComesBack, is_closed, IsCorner, Closed, Exact}
+use Rattle.git_laws.proofs.Written.KeptLemmas.{kept_closed, kept_exact}
+use Rattle.git_laws.proofs.Written.FileLemmas.{StaysOpen, file_closed, file_exact}
+use Rattle.git_laws.proofs.Closed.WebClosedLemmas.{StaysBare, IsApart, web_read, web_closed}
+use Rattle.git_syntax.proofs.Readings.SchemeLemmas.{protocol_cases, means_scheme}
+use Rattle.git_location.proofs.Closed.SettledLemmas.{fitting_text}
+use Rattle.git_laws.proofs.Closed.WebExactLemmas.{spelled_by_url, web_exact}
+use Rattle.git_laws.proofs.Written.AgainLemmas.{settled_again}
+use Rattle.git_syntax.proofs.Texts.CutLemmas.{ends_or_not}
+use Rattle.git_location.proofs.Written.WrittenAsUrlLemmas.{written_web}
+
+-- ---- file URLs
+
+-- a host of a file URL is settled, or stands in the corner
+file_host_by : (v : Location) (host : List ℕ) (bracket has_mark escaped : Bool) → v.scheme ≡ file → v.host ≡ Some host → begins_with left_bracket host ≡ bracket → has_colon host ≡ has_mark → has_percent host ≡ escaped → StaysOpen host ⊎ IsCorner v
+file_host_by v host true has_mark escaped e there b c p = inl (inl b)
+file_host_by v host false false escaped e there b c p = inl (inr (inl c))
+file_host_by v host false true false e there b c p = inl (inr (inr p))
+file_host_by v host false true true e there b c p = inr (IsCorner.file_host host e there b c p)
+
+-- a settled file URL is settled
+file_settled : (v : Location) → v.scheme ≡ file → IsSettledFile v → IsSettled v
+file_settled v e h = subst (λ p. IsSettledBy p v) (sym e) (inr h)
+
+-- a file URL that is read is settled, or stands in the corner
+file_closed_by : (b : List ℕ) (v : Location) (host : Option (List ℕ)) → v.host ≡ host → v.scheme ≡ file → SpellsFile b v → IsSettled v ⊎ IsCorner v
+file_closed_by b v None there e h = inl (file_settled v e (file_closed b v h (λ host is. absurd (none-some host (sym there ∙ is)))))
+file_closed_by b v (Some host) there e h =
+    elim (file_host_by v host (begins_with left_bracket host) (has_colon host) (has_percent host) e there refl refl refl) [
+      | inl apart ↦ inl (file_settled v e (file_closed b v h (λ other is. subst StaysOpen (same_Some host other (sym there ∙ is)) apart)))
+      | inr corner ↦ inr corner
+    ]
+
+-- ---- HTTP
+
+-- a host of HTTP that ends in `:` stands in the corner, or doesn't
+ending_by : (v : Location) (host front : List ℕ) (bracket escaped : Bool) → IsWeb v → v.host ≡ Some host → host ≡ front ++ colon ∷ [] → begins_with left_bracket host ≡ bracket → has_percent host ≡ escaped → StaysBare host ⊎ IsCorner v
+ending_by v host front true escaped web there ends b p = inl (inl b)
+ending_by v host front false false web there ends b p = inl (inr p)
+ending_by v host front false true web there ends b p = inr (IsCorner.web_host front web (there ∙ ap Some ends) (ap (begins_with left_bracket) (sym ends) ∙ b) (ap has_percent (sym ends) ∙ p))
+
+-- any host of HTTP does
+web_host_by : (v : Location) (host : List ℕ) → IsWeb v → v.host ≡ Some host → IsApart host ⊎ IsCorner v
+web_host_by v host web there =
+    elim (ends_or_not colon host) [
+      | inl (front, ends) ↦
+          elim (ending_by v host front (begins_with left_bracket host) (has_percent host) web there ends refl refl) [
+            | inl apart ↦ inl (λ other same. apart)
+            | inr corner ↦ inr corner
+          ]
+      | inr other ↦ inl (λ front e. absurd (other front e))
+    ]
+
+-- a scheme of HTTP is short
+web_scheme_short : (v : Location) → IsWeb v → length (protocol_text v.scheme) ≤ 1024
+web_scheme_short v (inl e) = subst (λ p. length (protocol_text p) ≤ 1024) (sym e) (leb-true _ _ refl)
+web_scheme_short v (inr e) = subst (λ p. length (protocol_text p) ≤ 1024) (sym e) (leb-true _ _ refl)
+
+-- a text is short enough to be read again, or isn't
+fitting_by : (v : Location) (short : Bool) → IsWeb v → text v ≡ Ok (canonical_text v) → is_walk_short (text_walk_past (text_walk_for (protocol_text v.scheme)) (canonical_text v)).walk ≡ short → HasFittingText v ⊎ ¬ HasFittingText v
+fitting_by v true web written e = inl ((fitting_text v (canonical_text v) (written_web v web).no_colon written (sym written)).0 (web_scheme_short v web, e))
+fitting_by v false web written e = inr (λ fits. both_ways _ e ((fitting_text v (canonical_text v) (written_web v web).no_colon written (sym written)).1 fits).1)
+
+-- a URL of HTTP that is read has a host, and the text of a URL
+web_written : (b : List ℕ) (v : Location) → SpellsUrl b v → IsWeb v → IsSome v.host × (text v ≡ Ok (canonical_text v))
+web_written b v h web =
+    let (is_web, value) = web_read b v h web in
+    let hosted : IsSome v.host = subst (λ l. IsSome l.host) (sym value) (h.spelled.hosted (or_left _ _ is_web)) in
+    (hosted, (written_web v web).canonical (ap (λ l. l.flag) value) (λ given. hosted, λ given. hosted))
+
+-- a settled location of HTTP is settled
+web_settled : (v : Location) → IsWeb v → IsSettledWeb v → IsSettled v
+web_settled v (inl e) h = subst (λ p. IsSettledBy p v) (sym e) h
+web_settled v (inr e) h = subst (λ p. IsSettledBy p v) (sym e) h
+
+-- a location of HTTP that is read is settled, or stands in a corner
+web_closed_by : (b : List ℕ) (v : Location) (host : Option (List ℕ)) → v.host ≡ host → SpellsUrl b v → IsWeb v → IsSettled v ⊎ IsCorner v
+web_closed_by b v None there h web = absurd (false≢true (ap is_some (sym there) ∙ (web_written b v h web).0))
+web_closed_by b v (Some host) there h web =
+    let written = (web_written b v h web).1 in
+    elim (web_host_by v host web there) [
+      | inr corner ↦ inr corner
+      | inl apart ↦
+          elim (fitting_by v _ web written refl) [
+            | inr long ↦ inr (IsCorner.web_length web long)
+            | inl fits ↦ inl (web_settled v web (web_closed b v h web (λ other is. subst IsApart (same_Some host other (sym there ∙ is)) apart) fits))
+          ]
+    ]
+
+-- ---- all kinds
+
+-- no scheme of a URL but `file` has the protocol of local files
+not_file_scheme : (s : List ℕ) → bytes_eq s (codes "file") ≡ false → ¬ (protocol_of s ≡ file)
+not_file_scheme s other = protocol_cases (λ p. ¬ (p ≡ file)) s (λ same e. cc) (λ same e. both_ways _ other same) (λ e. cc) (λ same e. cc) (λ same e. cc) (λ e. cc) (λ e. cc)
+
+-- a location of local files without the flag is spelled by a file URL
+spelled_by_file : (b : List ℕ) (v : Location) → v.scheme ≡ file → v.flag ≡ false → Spells b v → SpellsFile b v
+spelled_by_file b v e unflagged (Spells.url h) =
+    absurd (not_file_scheme h.parts.scheme h.spelled.not_file (sym (means_scheme (protocol_of h.parts.scheme) b h.parts v h.means) ∙ e))
+spelled_by_file b v e unflagged (Spells.file_url h) = h
+spelled_by_file b v e unflagged (Spells.remote_helper h) = absurd (both_ways v.flag unflagged (ap (λ l. l.flag) h.value))
+spelled_by_file b v e unflagged (Spells.scp_form (inl h)) = absurd (both_ways v.flag unflagged (ap (λ l. l.flag) h.value))
+spelled_by_file b v e unflagged (Spells.scp_form (inr h)) = absurd (both_ways v.flag unflagged (ap (λ l. l.flag) h.value))
+spelled_by_file b v e unflagged (Spells.local_path h) = absurd (both_ways v.flag unflagged (ap (λ l. l.flag) h.value))
+
+-- what keeps its bytes is settled
+bytes_closed : (b : List ℕ) (v : Location) (p : Protocol) (flag : Bool) → v.scheme ≡ p → v.flag ≡ flag → keeps_bytes p flag ≡ true → Spells b v → IsSettled v ⊎ IsCorner v
+bytes_closed b v p flag e f keeps s = inl (kept_closed b v s (ap (λ q. keeps_bytes q v.flag) e ∙ ap (keeps_bytes p) f ∙ keeps))
+
+-- local files are settled, with the flag or without it
+files_closed : (b : List ℕ) (v : Location) (flag : Bool) → v.scheme ≡ file → v.flag ≡ flag → Spells b v → IsSettled v ⊎ IsCorner v
+files_closed b v true e f s = bytes_closed b v file true e f refl s
+files_closed b v false e f s = file_closed_by b v v.host refl e (spelled_by_file b v e f s)
+
+-- a location of HTTP is
+webs_closed : (b : List ℕ) (v : Location) → IsWeb v → Spells b v → IsSettled v ⊎ IsCorner v
+webs_closed b v web s = web_closed_by b v v.host refl (spelled_by_url b v web s) web
+
+-- by protocol
+closed_by : (p : Protocol) (b : List ℕ) (v : Location) → v.scheme ≡ p → is_closed p ≡ true → Spells b v → IsSettled v ⊎ IsCorner v
+closed_by file b v e h s = files_closed b v v.flag e refl s
+closed_by http b v e h s = webs_closed b v (inl e) s
+closed_by https b v e h s = webs_closed b v (inr e) s
+closed_by ext b v e h s = bytes_closed b v ext v.flag e refl refl s
+closed_by (helper name) b v e h s = bytes_closed b v (helper name) v.flag e refl refl s
+closed_by _ b v e h s = absurd (false≢true h)
+
+-- what is read of these kinds is settled, or stands in a corner
+pub closed : Closed
+closed b v s h = closed_by v.scheme b v refl h s
+
+-- ---- exactness
+
+-- local files that come back are settled
+files_exact : (v : Location) (flag : Bool) → v.scheme ≡ file → v.flag ≡ flag → ¬ (v.spelling ≡ Some v.path) → ComesBack v → IsSettled v
+files_exact v true e f other back = kept_exact v (ap (λ q. keeps_bytes q v.flag) e ∙ f) back.written back.reread back.spelled back.same_fields
+files_exact v false e f other back = file_settled v e (file_exact v back.reread back.written e f other back.has_text back.spelled back.same_fields back.same_text)
+
+-- so are locations of HTTP
+webs_exact : (v : Location) → IsWeb v → ¬ (v.spelling ≡ Some v.path) → ComesBack v → IsSettled v
+webs_exact v web other back = web_settled v web (web_exact v back.reread back.written web other back.has_text back.spelled back.same_fields back.same_text)
+
+exact_by : (p : Protocol) (v : Location) → v.scheme ≡ p → is_closed p ≡ true → ¬ (v.spelling ≡ Some v.path) → ComesBack v → IsSettled v
+exact_by file v e h other back = files_exact v v.flag e refl other back
+exact_by http v e h other back = webs_exact v (inl e) other back
+exact_by https v e h other back = webs_exact v (inr e) other back
+exact_by ext v e h other back = kept_exact v (ap (λ q. keeps_bytes q v.flag) e) back.written back.reread back.spelled back.same_fields
+exact_by (helper name) v e h other back = kept_exact v (ap (λ q. keeps_bytes q v.flag) e) back.written back.reread back.spelled back.same_fields
+exact_by _ v e h other back = absurd (false≢true h)
+
+-- what comes back is settled, and nothing else
+pub exact : Exact
+exact v is h other = (λ settled. (settled_again v is settled).0, exact_by v.scheme v refl h other)

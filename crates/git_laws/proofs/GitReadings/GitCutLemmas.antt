@@ -1,0 +1,171 @@
+-- How Git cuts texts without brackets and escapes.
+use Rattle.std.proofs.Common.{◌≡◌, ◌∙◌, ℕ, ◌<◌, ◌≤◌, Bool, true, false, List, [], ◌∷◌, ◌++◌, length, decimal, Option, Some, None, if◌then◌else◌, ◌==◌, nat_le, eq-eqb, inl, inr, refl, sym, ap, subst, arith, append_assoc, append-nil}
+use Rattle.std.specs.List.{list_all}
+use Rattle.std.specs.Char.{is_ascii_digit}
+use Rattle.std.specs.Str.Parse.{digits_value}
+use Rattle.std.proofs.lemmas.Bool.{cond-true, cond-false, and_left, and_right, and_from, false≢true, both_ways, and_parts}
+use Rattle.std.proofs.lemmas.Bool.Decides.{nat_tests}
+use Rattle.git_syntax.specs.Bytes.{percent_sign, colon, left_bracket, plus_sign, hyphen, FreeOf, Holds}
+use Rattle.git_syntax.specs.Hosts.{HoldsTwoColons}
+use Rattle.git_syntax.specs.Hosts.Mode.{bare}
+use Rattle.git_location.specs.Text.{port_part}
+use Rattle.git_location.specs.Git.{is_git_escape, git_decode, host_mark, LacksHostBrackets, HostEnd, CutsPlace, is_c_space, digits_port, negative_port, signed_port, git_port, BeforePort, HostAndPort, SecurePort}
+use Rattle.git_syntax.proofs.Texts.CutLemmas.{heads, tails, not_free, free_parts, free_head_tail, free_begins, free_or_cut, free-append}
+use Rattle.git_syntax.proofs.Readings.HostLemmas.{number_written}
+
+-- ---- brackets
+
+-- no bracket opens a host in a text without `[`
+no_host_mark : (t : List ℕ) → FreeOf left_bracket t → ¬ Holds host_mark t
+no_host_mark t free (front, rest, e) =
+    let there : FreeOf left_bracket (front ++ (host_mark ++ rest)) = subst (λ x. FreeOf left_bracket x) e free in
+    false≢true (sym (free_parts left_bracket front (host_mark ++ rest) there).1)
+
+-- so no host is in brackets
+pub lacks_brackets : (t : List ℕ) → FreeOf left_bracket t → LacksHostBrackets t
+lacks_brackets t free = LacksHostBrackets.unopened (no_host_mark t free) (free_begins left_bracket t free)
+
+-- so nothing of it is passed over
+pub nothing_passed : (t : List ℕ) → FreeOf left_bracket t → HostEnd t [] t
+nothing_passed t free = HostEnd.none (lacks_brackets t free) refl refl
+
+-- and it is cut at its first c
+pub place_cut : (c : ℕ) (t place rest : List ℕ) → FreeOf left_bracket t → FreeOf c place → t ≡ place ++ c ∷ rest → CutsPlace c t place rest
+place_cut c t place rest free first e = record {
+  passed = [];
+  between = place;
+  end = HostEnd.none (lacks_brackets t free) refl (sym e);
+  first = first;
+  joined = refl;
+}
+
+-- ---- escapes
+
+-- no escape begins with another byte than `%`
+no_git_escape : (b high low : ℕ) → (b == percent_sign) ≡ false → is_git_escape b high low ≡ false
+no_git_escape b high low other = rw other refl
+
+-- a text without `%` is decoded to itself
+pub git_decode_kept : (t : List ℕ) → FreeOf percent_sign t → git_decode t ≡ t
+git_decode_kept [] free = refl
+git_decode_kept (b ∷ []) free = refl
+git_decode_kept (b ∷ c ∷ []) free = refl
+git_decode_kept (b ∷ high ∷ low ∷ rest) free =
+    let parts = free_head_tail percent_sign b (high ∷ low ∷ rest) free in
+    cond-false _ _ _ (no_git_escape b high low parts.0) ∙ ap (λ x. b ∷ x) (git_decode_kept (high ∷ low ∷ rest) parts.1)
+
+-- ---- ports
+
+-- a text with a colon is no port
+digits_colon : (x y : List ℕ) → list_all is_ascii_digit (x ++ colon ∷ y) ≡ false
+digits_colon [] y = refl
+digits_colon (b ∷ x) y = and_right (is_ascii_digit b) _ (digits_colon x y)
+
+-- so it is none without a sign
+digits_port_colon : (x y : List ℕ) → digits_port (x ++ colon ∷ y) ≡ None
+digits_port_colon [] y = refl
+digits_port_colon (b ∷ x) y = cond-false _ _ _ (and_left _ _ (digits_colon (b ∷ x) y))
+
+-- nor with one, whichever it is
+signed_by : (plus minus : Bool) (b : ℕ) (bs : List ℕ) → digits_port bs ≡ None → digits_port (b ∷ bs) ≡ None → (if plus then digits_port bs else (if minus then negative_port (digits_port bs) else digits_port (b ∷ bs))) ≡ None
+signed_by true minus b bs behind whole = behind
+signed_by false true b bs behind whole = ap negative_port behind
+signed_by false false b bs behind whole = whole
+
+-- nor with a sign
+signed_port_colon : (x y : List ℕ) → signed_port (x ++ colon ∷ y) ≡ None
+signed_port_colon [] y = refl
+signed_port_colon (b ∷ x) y =
+    signed_by (b == plus_sign) (b == hyphen) b (x ++ colon ∷ y) (digits_port_colon x y) (digits_port_colon (b ∷ x) y)
+
+-- nor behind white space
+spaced_by : (space : Bool) (b : ℕ) (bs : List ℕ) → git_port bs ≡ None → signed_port (b ∷ bs) ≡ None → (if space then git_port bs else signed_port (b ∷ bs)) ≡ None
+spaced_by true b bs behind whole = behind
+spaced_by false b bs behind whole = whole
+
+-- so it is none for C's `strtol`
+git_port_colon : (x y : List ℕ) → git_port (x ++ colon ∷ y) ≡ None
+git_port_colon [] y = refl
+git_port_colon (b ∷ x) y = spaced_by (is_c_space b) b (x ++ colon ∷ y) (git_port_colon x y) (signed_port_colon (b ∷ x) y)
+
+-- digits are a port where their value is one
+digit_begins : (b : ℕ) → is_ascii_digit b ≡ true → (is_c_space b ≡ false) × ((b == plus_sign) ≡ false) × ((b == hyphen) ≡ false)
+digit_begins b digit = (grind (arith, nat_tests), grind (arith, nat_tests), grind (arith, nat_tests))
+
+-- a number that is small enough passes the test
+small_value : (n : ℕ) → n ≤ 65535 → nat_le n 65535 ≡ true
+small_value n small = grind (arith, nat_tests)
+
+-- digits whose value is small enough are read as it
+git_port_digits : (t : List ℕ) → 0 < length t → list_all is_ascii_digit t ≡ true → digits_value 10 t ≤ 65535 → git_port t ≡ Some (digits_value 10 t)
+git_port_digits [] some digits small = absurd (omega arith)
+git_port_digits (b ∷ bs) some digits small =
+    let (space, plus, minus) = digit_begins b (and_parts (is_ascii_digit b) (list_all is_ascii_digit bs) digits).0 in
+    cond-false _ _ _ space ∙ cond-false _ _ _ plus ∙ cond-false _ _ _ minus ∙ cond-true _ _ _ (and_from _ _ digits (small_value (digits_value 10 (b ∷ bs)) small))
+
+-- what a port is written with is that port
+pub git_port_written : (port : ℕ) → port < 65536 → git_port (decimal port) ≡ Some port
+git_port_written port small =
+    let number = number_written bare port small tt in
+    git_port_digits (decimal port) number.digits.0 number.digits.1 (subst (λ n. n ≤ 65535) number.value number.within) ∙ ap Some (sym number.value)
+
+-- ---- hosts
+
+-- of two colons one stands behind the first
+second_colon : (a b x y z : List ℕ) → FreeOf colon a → a ++ colon ∷ b ≡ x ++ colon ∷ (y ++ colon ∷ z) → (p : List ℕ) × (q : List ℕ) × (b ≡ p ++ colon ∷ q)
+second_colon [] b [] y z free e = (y, z, tails e)
+second_colon [] b (d ∷ x) y z free e = (x, y ++ colon ∷ z, tails e)
+second_colon (c ∷ a) b [] y z free e = absurd (both_ways (c == colon) (free_head_tail colon c a free).0 (eq-eqb c colon (heads e)))
+second_colon (c ∷ a) b (d ∷ x) y z free e = second_colon a b x y z (free_head_tail colon c a free).1 (tails e)
+
+-- the word names itself, and no port
+pub record IsPortless (word : List ℕ) : Type 0 where
+  pub before : BeforePort word word None
+  pub secure : SecurePort word None word None
+
+-- a word without a colon names no port
+pub portless_free : (word : List ℕ) → FreeOf colon word → IsPortless word
+portless_free word free = record { before = BeforePort.no_colon free refl refl; secure = SecurePort.no_colon refl free refl refl }
+
+-- a text with a colon in it holds something
+pub some_behind : (p q : List ℕ) → 0 < length (p ++ colon ∷ q)
+some_behind [] q = omega arith
+some_behind (b ∷ p) q = omega arith
+
+-- nor does one with a colon behind its first one
+portless_cut : (word host other p q : List ℕ) → FreeOf colon host → word ≡ host ++ colon ∷ other → other ≡ p ++ colon ∷ q → IsPortless word
+portless_cut word host other p q free e behind =
+    let none : git_port other ≡ None = ap git_port behind ∙ git_port_colon p q in
+    let some : 0 < length other = subst (λ t. 0 < length t) (sym behind) (some_behind p q) in record {
+      before = BeforePort.unmarked host other free e some none refl refl;
+      secure = SecurePort.unmarked host other refl free e none refl refl;
+    }
+
+-- nor does a front with such a host
+pub portless_coloned : (front host : List ℕ) → FreeOf colon front → HoldsTwoColons host → IsPortless (front ++ host)
+portless_coloned front host free (x, y, z, e) =
+    elim (free_or_cut colon host) [
+      | inl none ↦ absurd (not_free colon x (y ++ colon ∷ z) (subst (λ t. FreeOf colon t) e none))
+      | inr (a, b, first, cut) ↦
+          let (p, q, behind) = second_colon a b x y z first (sym cut ∙ e) in
+          portless_cut (front ++ host) (front ++ a) b p q (free-append colon front a free first) (ap (λ t. front ++ t) cut ∙ sym (append_assoc front a (colon ∷ b))) behind
+    ]
+
+-- a place is read as a word and the port that is written behind it
+pub record ReadsPlace (word : List ℕ) (port : Option ℕ) : Type 0 where
+  pub cut : HostAndPort (word ++ port_part port) word port
+  pub secure : SecurePort word port word port
+
+-- where there is a port, the word has no colon
+pub place_with_port : (word : List ℕ) (port : ℕ) → port < 65536 → FreeOf colon word → FreeOf left_bracket (word ++ port_part (Some port)) → ReadsPlace word (Some port)
+place_with_port word port small free unbracketed = record {
+  cut = HostAndPort.none (lacks_brackets (word ++ port_part (Some port)) unbracketed) (BeforePort.marked (decimal port) port free refl (git_port_written port small) refl);
+  secure = SecurePort.behind port refl refl refl;
+}
+
+-- without one the word names none
+pub place_without_port : (word : List ℕ) → IsPortless word → FreeOf left_bracket word → ReadsPlace word None
+place_without_port word portless unbracketed = record {
+  cut = subst (λ t. HostAndPort t word None) (sym (append-nil word)) (HostAndPort.none (lacks_brackets word unbracketed) portless.before);
+  secure = portless.secure;
+}

@@ -1,0 +1,190 @@
+-- Git reads the same place: in the text of each location of the class it reads the location's own parts.
+use Rattle.std.proofs.Common.{◌≡◌, ◌∙◌, ℕ, ◌<◌, false, ◌⊎◌, inl, inr, List, [], ◌∷◌, ◌++◌, length, Option, Some, None, Ok, IfSome, IsUtf8, codes, refl, sym, ap, subst, arith, append_assoc}
+use Rattle.git_syntax.specs.Value.{Protocol, Location}
+use Rattle.git_syntax.specs.Value.Protocol.{file, git, ssh}
+use Rattle.git_syntax.specs.Bytes.{slash, colon, at_sign, left_bracket, tilde, FreeOf, begins_with}
+use Rattle.git_syntax.specs.Grammar.{ScpFront, IsNeither, IsScpShaped}
+use Rattle.git_location.specs.Arguments.{is_option_like}
+use Rattle.git_location.specs.Text.{raw_user, raw_host, text}
+use Rattle.git_location.specs.Settled.{IsValue, IsNormalAddress, IsScpName, IsSettledLocal, IsSettledFile, IsSettledScp, IsSettledBy, LooksLikeHelper}
+use Rattle.std.proofs.lemmas.Option.{IfSome_then}
+use Rattle.git_location.specs.Git.{HostAndPort, on_this_machine, IsNoUrl, IsLocal, ReachesSecure, ReadsGiven}
+use Rattle.git_location.specs.GitClass.{is_tilde_second, IsRsync, SuitsTransport, AgreesWithGit, own_reading, IsReadAlike, ReadAlike}
+use Rattle.git_syntax.proofs.Texts.CutLemmas.{begins_cut, cut_unique, free-append, free_or_cut, free_parts, not_free}
+use Rattle.git_syntax.proofs.Addresses.AddressLemmas.{address_two_colons}
+use Rattle.git_laws.proofs.Written.FileLemmas.{hostless_text}
+use Rattle.git_laws.proofs.Written.KeptLemmas.{flagged_text}
+use Rattle.git_laws.proofs.Written.WrittenScpLemmas.{scp_value_of, scp_written, scp_spelled}
+use Rattle.git_laws.proofs.GitReadings.GitCutLemmas.{lacks_brackets, nothing_passed, place_cut, portless_free}
+use Rattle.git_laws.proofs.GitReadings.GitPieceLemmas.{from_tilde_kept, scp_host_raw}
+use Rattle.git_laws.proofs.GitReadings.GitTransportLemmas.{IsUncontested, plain_text, read_alike, secure_reading, word_of, secure_reached, host_safe, own_url, behind_plain, secure_url_alike, git_url_alike}
+use Rattle.git_syntax.proofs.Readings.FormLemmas.{scp_neither}
+
+-- ---- this machine
+
+-- a location without a user, a host and a port is one of this machine
+machine_reading : (v : Location) → v.scheme ≡ file → v.user ≡ None → v.host ≡ None → v.port ≡ None → own_reading v ≡ on_this_machine v.path
+machine_reading v scheme user host port = λ i. record { protocol = scheme i; user = user i; host = host i; port = port i; path = v.path }
+
+-- behind `file://` stands the path alone
+file_url_reads : (path rest : List ℕ) → path ≡ slash ∷ rest → IsUncontested path → ReadsGiven (codes "file://" ++ path) (on_this_machine path)
+file_url_reads path rest e plain =
+    ReadsGiven.file_url path [] rest (own_url file (codes "file") path refl plain.percent) (place_cut slash path [] rest plain.left refl e) (ap on_this_machine e)
+
+-- a settled file URL without a host
+file_url_alike : (v : Location) → v.scheme ≡ file → AgreesWithGit v → v.host ≡ None → IsSettledFile v → IsReadAlike v
+file_url_alike v e a none h =
+    let (rest, rooted) = begins_cut slash v.path h.rooted in
+    let (t, has, lacks) = a.plain in
+    let written = hostless_text v e h none in
+    let plain = behind_plain v (codes "file") v.path (plain_text v t (codes "file://" ++ v.path) has lacks written) in
+    read_alike v (codes "file://" ++ v.path) (on_this_machine v.path) (machine_reading v e h.alone.0 none h.alone.2) written a refl (file_url_reads v.path rest rooted plain)
+
+-- without brackets a colon before any `/` would make it the scp form
+unshaped : (t front rest : List ℕ) → IsUncontested t → IsNeither t → ¬ IsScpShaped t → FreeOf colon front → t ≡ front ++ colon ∷ rest → ¬ FreeOf slash front
+unshaped t front rest plain neither no_scp first e free =
+    no_scp (inl (front, rest, record { joined = e; neither = neither; no_slash = free; shape = ScpFront.plain first (inr plain.right) }))
+
+-- so it has no colon, or a `/` before it
+local_text : (t : List ℕ) → IsUncontested t → IsNeither t → ¬ IsScpShaped t → IsLocal t
+local_text t plain neither no_scp =
+    elim (free_or_cut colon t) [
+      | inl free ↦ inl free
+      | inr (x, y, first, e) ↦
+          elim (free_or_cut slash x) [
+            | inl free ↦ absurd (unshaped t x y plain neither no_scp first e free)
+            | inr (p, q, before, cut) ↦
+                inr (p, q ++ colon ∷ y, (free_parts colon p (slash ∷ q) (subst (λ s. FreeOf colon s) cut first)).0, e ∙ ap (λ s. s ++ colon ∷ y) cut ∙ append_assoc p (slash ∷ q) (colon ∷ y))
+          ]
+    ]
+
+-- such a text is neither a URL nor for a remote helper nor for `rsync`
+local_no_url : (t : List ℕ) → IsUncontested t → IsNeither t → ¬ IsScpShaped t → IsNoUrl t
+local_no_url t plain neither no_scp = record {
+  no_mark = neither.no_mark;
+  no_helper = neither.no_helper;
+  no_empty_helper = λ rest e. unshaped t [] (colon ∷ rest) plain neither no_scp refl e refl;
+  no_rsync = λ rest e. unshaped t (codes "rsync") rest plain neither no_scp refl e refl;
+}
+
+-- a settled local path
+local_alike : (v : Location) → v.scheme ≡ file → AgreesWithGit v → begins_with tilde v.path ≡ false → IsSettledLocal v → IsReadAlike v
+local_alike v e a homeless h =
+    let (t, has, lacks) = a.plain in
+    let written : text v ≡ Ok v.path = flagged_text v e h in
+    let plain = plain_text v t v.path has lacks written in
+    read_alike v v.path (on_this_machine v.path) (machine_reading v e h.bare.1.0 h.bare.2 h.bare.1.2) written a a.no_option.path (ReadsGiven.local_path [] v.path (local_no_url v.path plain h.shape.neither h.shape.no_scp) (local_text v.path plain h.shape.neither h.shape.no_scp) (nothing_passed v.path plain.left) h.shape.nonempty a.no_option.path homeless refl)
+
+-- ---- the scp form
+
+-- the pieces of a settled location in the scp form whose text has no bracket
+record IsScpText (v : Location) (host : List ℕ) : Type 0 where
+  there : v.host ≡ Some host
+  host_same : raw_host (Some host) ≡ host
+  name : IsScpName host
+  no_colon : FreeOf colon (word_of v.user host)
+  no_slash : FreeOf slash (word_of v.user host)
+  neither : IsNeither (word_of v.user host ++ colon ∷ v.path)
+  written : text v ≡ Ok (word_of v.user host ++ colon ∷ v.path)
+
+-- without a colon the host is a name
+scp_name : (host : List ℕ) → FreeOf colon host → IsScpName host ⊎ IsNormalAddress host → IsScpName host
+scp_name host free (inl name) = name
+scp_name host free (inr address) =
+    let (x, y, z, e) = address_two_colons host address.address in
+    absurd (not_free colon x (y ++ colon ∷ z) (subst (λ t. FreeOf colon t) e free))
+
+-- a settled user is free of `:` and `/`, and so is the user with its `@`
+user_free : (c : ℕ) (user : Option (List ℕ)) → FreeOf c (at_sign ∷ []) → IfSome user (λ u. FreeOf c u) → FreeOf c (raw_user user)
+user_free c None mark free = refl
+user_free c (Some u) mark free = free-append c u (at_sign ∷ []) free mark
+
+-- these are its pieces, where the host goes without brackets
+scp_pieces : (v : Location) (host : List ℕ) → IsSettledScp v → v.host ≡ Some host → raw_host (Some host) ≡ host → IsScpName host → FreeOf colon host → IsNeither (raw_user v.user ++ (raw_host (Some host) ++ colon ∷ v.path)) → text v ≡ Ok (raw_user v.user ++ (raw_host (Some host) ++ colon ∷ v.path)) → IsScpText v host
+scp_pieces v host h there same name free neither has =
+    let joined = ap (λ x. raw_user v.user ++ (x ++ colon ∷ v.path)) same ∙ sym (append_assoc (raw_user v.user) host (colon ∷ v.path)) in record {
+      there = there;
+      host_same = same;
+      name = name;
+      no_colon = free-append colon (raw_user v.user) host (user_free colon v.user refl (IfSome_then v.user h.user (λ u parts. parts.no_colon))) free;
+      no_slash = free-append slash (raw_user v.user) host (user_free slash v.user refl (IfSome_then v.user h.user (λ u parts. parts.no_slash))) name.no_slash;
+      neither = subst IsNeither joined neither;
+      written = has ∙ ap Ok joined;
+    }
+
+-- and it goes without them where the text has none
+scp_text : (v : Location) (host : List ℕ) → v.scheme ≡ ssh → IsValue v → AgreesWithGit v → IsSettledScp v → v.host ≡ Some host → IsScpName host ⊎ IsNormalAddress host → ¬ LooksLikeHelper v host → IsScpText v host
+scp_text v host e is a h there kind other =
+    let whole = raw_user v.user ++ (raw_host (Some host) ++ colon ∷ v.path) in
+    let (t, given, lacks) = a.plain in
+    let has : text v ≡ Ok whole = ap (λ l. text l) (scp_value_of v host e h there) ∙ scp_written v.user host v.path v.spelling in
+    let open_text = (plain_text v t whole given lacks has).left in
+    let (same, free) = scp_host_raw host (free_parts left_bracket (raw_host (Some host)) (colon ∷ v.path) (free_parts left_bracket (raw_user v.user) (raw_host (Some host) ++ colon ∷ v.path) open_text).1).0 in
+    let spelled = scp_spelled v.user host v.path is.user (subst (λ o. IfSome o IsUtf8) there is.host) h.user kind h.path other in
+    scp_pieces v host h there same (scp_name host free kind) free (scp_neither spelled) has
+
+-- a word with a host isn't empty
+word_nonempty : (user : Option (List ℕ)) (host : List ℕ) → 0 < length host → 0 < length (word_of user host)
+word_nonempty None host some = some
+word_nonempty (Some []) host some = omega arith
+word_nonempty (Some (b ∷ u)) host some = omega arith
+
+-- `rsync` is a host alone
+rsync_word : (user : Option (List ℕ)) (host : List ℕ) → word_of user host ≡ codes "rsync" → (user ≡ None) × (host ≡ codes "rsync")
+rsync_word None host e = (refl, e)
+rsync_word (Some u) host e =
+    absurd (not_free at_sign u host (subst (λ t. FreeOf at_sign t) (sym (sym (append_assoc u (at_sign ∷ []) host) ∙ e)) refl))
+
+-- so the text is neither a URL nor for a remote helper nor for `rsync`
+scp_no_url : (v : Location) (host : List ℕ) → IsSettledScp v → IsScpText v host → ¬ IsRsync v → IsNoUrl (word_of v.user host ++ colon ∷ v.path)
+scp_no_url v host h t other = record {
+  no_mark = t.neither.no_mark;
+  no_helper = t.neither.no_helper;
+  no_empty_helper = λ rest e.
+      let empty = (cut_unique colon (word_of v.user host) [] v.path (colon ∷ rest) t.no_colon refl e).0 in
+      omega (arith, ap length empty, word_nonempty v.user host t.name.normal.unbracketed.nonempty);
+  no_rsync = λ rest e.
+      let (none, same) = rsync_word v.user host (cut_unique colon (word_of v.user host) (codes "rsync") v.path rest t.no_colon refl e).0 in
+      other record { scp = h.flagged; no_user = none; host = t.there ∙ ap Some same };
+}
+
+-- Git reads in it what the location holds
+scp_reads : (v : Location) (host : List ℕ) → IsSettledScp v → (t : IsScpText v host) → AgreesWithGit v → is_tilde_second v.path ≡ false → ¬ IsRsync v → ¬ (v.user ≡ Some []) → FreeOf left_bracket (word_of v.user host ++ colon ∷ v.path) → ReadsGiven (word_of v.user host ++ colon ∷ v.path) (secure_reading v.user (Some host) None v.path)
+scp_reads v host h t a second other named free =
+    let word = word_of v.user host in
+    let portless = portless_free word t.no_colon in
+    let front = (free_parts left_bracket word (colon ∷ v.path) free).0 in
+    let reached = secure_reached v.user host None word v.path (HostAndPort.none (lacks_brackets word front) portless.before) portless.secure t.no_slash t.name.no_at t.name.normal.unbracketed.nonempty named a.no_option.user (host_safe v host t.there a.no_option) a.no_option.path in
+    ReadsGiven.scp_form word v.path (scp_no_url v host h t other) record { front = word; rest = v.path; joined = refl; no_slash = t.no_slash } (place_cut colon (word ++ colon ∷ v.path) word v.path free t.no_colon refl) (subst (λ p. ReachesSecure word p (secure_reading v.user (Some host) None v.path)) (sym (from_tilde_kept v.path second)) reached)
+
+-- with a path behind it a word is no option where it is none itself
+word_option : (user : Option (List ℕ)) (host path : List ℕ) → 0 < length host → IfSome user (λ u. is_option_like u ≡ false) → is_option_like host ≡ false → is_option_like (word_of user host ++ colon ∷ path) ≡ false
+word_option None [] path some first second = absurd (omega arith)
+word_option None (b ∷ host) path some first second = second
+word_option (Some []) host path some first second = refl
+word_option (Some (b ∷ u)) host path some first second = first
+
+-- a settled location in the scp form
+scp_alike : (v : Location) → v.scheme ≡ ssh → IsValue v → AgreesWithGit v → SuitsTransport ssh v → IsSettledScp v → IsReadAlike v
+scp_alike v e is a suits h =
+    let (host, there, kind, other) = h.host in
+    let found = scp_text v host e is a h there kind other in
+    let (t, has, lacks) = a.plain in
+    let free = (plain_text v t (word_of v.user host ++ colon ∷ v.path) has lacks found.written).left in
+    let value : own_reading v ≡ secure_reading v.user (Some host) None v.path = λ i. record { protocol = e i; user = v.user; host = there i; port = h.no_port i; path = v.path } in
+    read_alike v (word_of v.user host ++ colon ∷ v.path) (secure_reading v.user (Some host) None v.path) value found.written a (word_option v.user host v.path found.name.normal.unbracketed.nonempty a.no_option.user (host_safe v host there a.no_option)) (scp_reads v host h found a suits.0 suits.1 suits.2 free)
+
+-- ---- all kinds
+
+-- by protocol
+alike_by : (p : Protocol) (v : Location) → v.scheme ≡ p → IsValue v → AgreesWithGit v → SuitsTransport p v → IsSettledBy p v → IsReadAlike v
+alike_by file v e is a suits (inl h) = local_alike v e a suits.1 h
+alike_by file v e is a suits (inr h) = file_url_alike v e a suits.0 h
+alike_by ssh v e is a suits (inl h) = scp_alike v e is a suits h
+alike_by ssh v e is a suits (inr h) = secure_url_alike v e is a suits.2 h
+alike_by git v e is a suits h = git_url_alike v e is a suits h
+alike_by _ v e is a suits h = absurd suits
+
+-- Git reads in the text of each location of the class the location's own parts
+pub read_same : ReadAlike
+read_same v is a = alike_by v.scheme v refl is a a.suits a.settled

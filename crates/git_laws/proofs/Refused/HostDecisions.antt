@@ -1,0 +1,212 @@
+-- Decisions on hosts: each piece of an authority names a host and a port, or is flawed.
+use Rattle.std.proofs.Common.{◌≡◌, ℕ, ◌<◌, false, ◌⊎◌, inl, inr, List, [], ◌∷◌, ◌++◌, length, Option, refl, sym, ap, subst, ◌∙◌, arith, IsUtf8}
+use Rattle.std.specs.List.{list_all}
+use Rattle.std.specs.Char.{is_ascii_digit}
+use Rattle.std.specs.Str.Parse.{digits_value}
+use Rattle.std.proofs.lemmas.Bool.{both_ways, cases_Bool, cases_lt}
+use Rattle.std.proofs.lemmas.List.{append-nil, same_from_push}
+use Rattle.percent_encoding.specs.Percent.{percent_decode}
+use Rattle.git_syntax.specs.declared.refusal.UrlFault.{UrlFault}
+use Rattle.git_syntax.specs.declared.refusal.UrlFault.TheVariants as fault
+use Rattle.git_syntax.specs.Bytes.{colon, left_bracket, right_bracket, FreeOf, begins_with}
+use Rattle.git_syntax.specs.Addresses.{IsIpv6Text, Literal}
+use Rattle.git_syntax.specs.Hosts.{Mode, is_http_host_byte, normal_host, HostText, Bracketed, Inner, AllowsPort, Number, IsAddressPiece, ReadsAddress, IsManyColoned, IsPlainHost, Names}
+use Rattle.git_syntax.specs.Hosts.Mode.{strict, bare, loose}
+use Rattle.git_syntax.specs.Flaws.{IsNoHost, IsNoInner, HasBadPort, HasBadHost, NameFlaw}
+use Rattle.git_syntax.specs.HostPieces.{EndsHost, shown_literal}
+use Rattle.git_syntax.proofs.Texts.CutLemmas.{tails, begins_cut, free_or_cut, not_free, ends_or_not}
+use Rattle.git_syntax.proofs.Readings.HostLemmas.{loose_not_strict, bare_not_strict, loose_not_bare, literal_inner, not_ended, not_inner}
+use Rattle.git_laws.proofs.Refused.TextDecisions.{Decides, utf8_or_not, address_or_not, literal_or_not}
+
+-- ---- ports
+
+-- a port is allowed, or not
+allowed_or_not : (mode : Mode) (port : ℕ) → Decides (AllowsPort mode port)
+allowed_or_not strict port = elim (cases_lt 0 port) [ inl some ↦ inl some | inr none ↦ inr (λ some. absurd (omega arith)) ]
+allowed_or_not bare port = inl tt
+allowed_or_not loose port = inl tt
+
+-- a text spells a port, or none
+number_or_not : (mode : Mode) (t : List ℕ) → ((port : ℕ) × Number mode t port) ⊎ ((port : ℕ) → ¬ Number mode t port)
+number_or_not mode t =
+    elim (cases_lt 0 (length t)) [
+      | inr none ↦ inr (λ port n. absurd (omega (arith, n.digits.0)))
+      | inl some ↦
+          elim (cases_Bool (list_all is_ascii_digit t)) [
+            | inr other ↦ inr (λ port n. both_ways _ other n.digits.1)
+            | inl each ↦
+                elim (cases_lt 65535 (digits_value 10 t)) [
+                  | inl large ↦ inr (λ port n. absurd (omega (arith, n.value, n.within)))
+                  | inr within ↦
+                      elim (allowed_or_not mode (digits_value 10 t)) [
+                        | inl allowed ↦ inl (digits_value 10 t, record { digits = (some, each); value = refl; within = within; allowed = allowed })
+                        | inr other ↦ inr (λ port n. other (subst (λ p. AllowsPort mode p) n.value n.allowed))
+                      ]
+                ]
+          ]
+    ]
+
+-- ---- hosts
+
+-- a text stands for a host, or for none
+text_or_not : (mode : Mode) (t : List ℕ) → ((host : List ℕ) × HostText mode t host) ⊎ IsNoHost mode t
+text_or_not strict t =
+    elim (cases_Bool (list_all is_http_host_byte t)) [ inl each ↦ inl (normal_host t, (each, refl)) | inr other ↦ inr (λ host h. both_ways _ other h.0) ]
+text_or_not bare t =
+    elim (utf8_or_not (percent_decode t)) [ inl text ↦ inl (normal_host (percent_decode t), (text, refl)) | inr bad ↦ inr (λ host h. bad h.0) ]
+text_or_not loose t =
+    elim (utf8_or_not (percent_decode t)) [ inl text ↦ inl (normal_host (percent_decode t), (text, refl)) | inr bad ↦ inr (λ host h. bad h.0) ]
+
+-- no literal, and no text when it is decoded: it stands for nothing
+not_bracketed : (t : List ℕ) → ¬ ((n : List ℕ) × Literal t n) → ¬ IsUtf8 (percent_decode t) → (inner : List ℕ) → ¬ Bracketed t inner
+not_bracketed t none bad inner (Bracketed.literal n h e u) = none (n, h)
+not_bracketed t none bad inner (Bracketed.other h e u) = bad (subst IsUtf8 e u)
+
+-- a text between brackets stands for another, or for nothing
+bracketed_or_not : (t : List ℕ) → ((inner : List ℕ) × Bracketed t inner) ⊎ ((inner : List ℕ) → ¬ Bracketed t inner)
+bracketed_or_not t =
+    elim (literal_or_not t) [
+      | inl h ↦ inl (shown_literal bare t, literal_inner bare t h)
+      | inr none ↦
+          elim (utf8_or_not (percent_decode t)) [ inl text ↦ inl (percent_decode t, Bracketed.other none refl text) | inr bad ↦ inr (not_bracketed t none bad) ]
+    ]
+
+-- the same in every mode
+inner_or_not : (mode : Mode) (t : List ℕ) → ((inner : List ℕ) × Inner mode t inner) ⊎ IsNoInner mode t
+inner_or_not strict t = elim (literal_or_not t) [ inl h ↦ inl h | inr none ↦ inr (λ inner h. none (inner, h)) ]
+inner_or_not bare t = bracketed_or_not t
+inner_or_not loose t = bracketed_or_not t
+
+-- a piece is an address, with or without a colon behind it, or not
+address_piece_or_not : (piece : List ℕ) → Decides (IsAddressPiece piece)
+address_piece_or_not piece =
+    elim (address_or_not piece) [
+      | inl h ↦ inl (inl h)
+      | inr none ↦
+          elim (ends_or_not colon piece) [
+            | inr other ↦ inr (λ p. elim p [ inl h ↦ none h | inr (a, h, e) ↦ other a e ])
+            | inl (front, e) ↦
+                elim (address_or_not front) [
+                  | inl h ↦ inl (inr (front, h, e))
+                  | inr other ↦ inr (λ p. elim p [ inl h ↦ none h | inr (a, h, k) ↦ other (subst IsIpv6Text (same_from_push a front colon colon (sym k ∙ e)).0 h) ])
+                ]
+          ]
+    ]
+
+-- ---- names
+
+-- a piece names a host and a port, or is flawed
+abbrev pub NamesOrFlawed : Mode → List ℕ → Type 0
+NamesOrFlawed mode piece = ((host : Option (List ℕ)) × (port : Option ℕ) × Names mode piece host port) ⊎ ((named : UrlFault) × NameFlaw mode piece named)
+
+-- what follows brackets and a colon
+behind_colon : (mode : Mode) (x digits inner : List ℕ) → FreeOf right_bracket x → Inner mode x inner → NamesOrFlawed mode (left_bracket ∷ (x ++ right_bracket ∷ (colon ∷ digits)))
+behind_colon mode x [] inner free h = inl (_, _, Names.bracketed_colon x inner free h refl refl refl)
+behind_colon mode x (d ∷ digits) inner free h =
+    elim (number_or_not mode (d ∷ digits)) [
+      | inl (port, n) ↦ inl (_, _, Names.bracketed_port x inner (d ∷ digits) port free h n refl refl refl)
+      | inr none ↦ inr (fault.BadPort, HasBadPort.bracketed x (d ∷ digits) free refl (omega arith, none))
+    ]
+
+-- what follows brackets
+behind_brackets : (mode : Mode) (x rest inner : List ℕ) → FreeOf right_bracket x → Inner mode x inner → EndsHost rest → NamesOrFlawed mode (left_bracket ∷ (x ++ right_bracket ∷ rest))
+behind_brackets mode x rest inner free h (inl e) =
+    subst (λ t. NamesOrFlawed mode (left_bracket ∷ (x ++ right_bracket ∷ t))) (sym e) (inl (_, _, Names.bracketed x inner free h refl refl refl))
+behind_brackets mode x rest inner free h (inr begins) =
+    let (digits, e) = begins_cut colon rest begins in
+    subst (λ t. NamesOrFlawed mode (left_bracket ∷ (x ++ right_bracket ∷ t))) (sym e) (behind_colon mode x digits inner free h)
+
+-- a host ends, or not
+ends_host_or_not : (rest : List ℕ) → Decides (EndsHost rest)
+ends_host_or_not [] = inl (inl refl)
+ends_host_or_not (b ∷ rest) =
+    elim (cases_Bool (begins_with colon (b ∷ rest))) [ inl e ↦ inl (inr e) | inr other ↦ inr (λ h. elim h [ inl none ↦ absurd (omega (arith, ap length none)) | inr e ↦ both_ways _ other e ]) ]
+
+-- closed brackets
+closed_named : (mode : Mode) (x rest : List ℕ) → FreeOf right_bracket x → NamesOrFlawed mode (left_bracket ∷ (x ++ right_bracket ∷ rest))
+closed_named mode x rest free =
+    elim (ends_host_or_not rest) [
+      | inr other ↦ inr (fault.BadCharacter, not_ended mode (x ++ right_bracket ∷ rest) x rest free refl other)
+      | inl ended ↦
+          elim (inner_or_not mode x) [
+            | inr none ↦ inr (fault.BadCharacter, not_inner mode (x ++ right_bracket ∷ rest) x rest free refl ended none)
+            | inl (inner, h) ↦ behind_brackets mode x rest inner free h ended
+          ]
+    ]
+
+-- a bracket in front
+bracket_named : (mode : Mode) (behind : List ℕ) → NamesOrFlawed mode (left_bracket ∷ behind)
+bracket_named mode behind =
+    elim (free_or_cut right_bracket behind) [
+      | inl free ↦ inr (fault.BadCharacter, HasBadHost.open_bracket refl (λ x rest a. not_free right_bracket x rest (subst (λ t. FreeOf right_bracket t) (tails a.joined) free)))
+      | inr (x, rest, free, e) ↦ subst (λ t. NamesOrFlawed mode (left_bracket ∷ t)) (sym e) (closed_named mode x rest free)
+    ]
+
+-- a host outside brackets, alone
+plain_named : (mode : Mode) (piece : List ℕ) → IsPlainHost piece → NamesOrFlawed mode piece
+plain_named mode piece h =
+    elim (text_or_not mode piece) [
+      | inl (named, t) ↦ inl (_, _, Names.plain named h t refl refl)
+      | inr none ↦ inr (fault.BadCharacter, HasBadHost.plain piece [] h (inl refl) (sym (append-nil piece)) none)
+    ]
+
+-- what follows it and a colon
+port_named : (mode : Mode) (front named digits : List ℕ) → IsPlainHost front → HostText mode front named → FreeOf colon digits → NamesOrFlawed mode (front ++ colon ∷ digits)
+port_named mode front named [] h t free = inl (_, _, Names.plain_colon front named h t refl refl refl)
+port_named mode front named (d ∷ digits) h t free =
+    elim (number_or_not mode (d ∷ digits)) [
+      | inl (port, n) ↦ inl (_, _, Names.plain_port front named (d ∷ digits) port h t n refl refl refl)
+      | inr none ↦ inr (fault.BadPort, HasBadPort.plain front (d ∷ digits) h free refl (omega arith, none))
+    ]
+
+-- a host outside brackets and its only colon
+colon_named : (mode : Mode) (front digits : List ℕ) → IsPlainHost front → FreeOf colon digits → NamesOrFlawed mode (front ++ colon ∷ digits)
+colon_named mode front digits h free =
+    elim (text_or_not mode front) [
+      | inl (named, t) ↦ port_named mode front named digits h t free
+      | inr none ↦ inr (fault.BadCharacter, HasBadHost.plain front (colon ∷ digits) h (inr (digits, free, refl)) refl none)
+    ]
+
+-- colons that mark no port, where no address is read
+other_named : (mode : Mode) (piece : List ℕ) → ¬ (mode ≡ strict) → ¬ ReadsAddress mode piece → begins_with left_bracket piece ≡ false → IsManyColoned piece → NamesOrFlawed mode piece
+other_named mode piece lax unread open_front many =
+    elim (text_or_not mode piece) [
+      | inl (named, t) ↦ inl (_, _, Names.colons named lax unread open_front many t refl refl)
+      | inr none ↦ inr (fault.BadCharacter, HasBadHost.colons lax unread open_front many none)
+    ]
+
+-- colons that mark no port
+many_named : (mode : Mode) (piece : List ℕ) → begins_with left_bracket piece ≡ false → IsManyColoned piece → NamesOrFlawed mode piece
+many_named strict piece open_front many = inr (fault.BadCharacter, HasBadHost.colons_on_the_web refl open_front many)
+many_named bare piece open_front many =
+    elim (address_piece_or_not piece) [
+      | inl h ↦ inl (_, _, Names.unbracketed (refl, h) refl refl)
+      | inr none ↦ other_named bare piece bare_not_strict (λ r. none r.1) open_front many
+    ]
+many_named loose piece open_front many = other_named loose piece loose_not_strict (λ r. loose_not_bare r.0) open_front many
+
+-- what stands around the first colon
+around_colon : (mode : Mode) (front rest : List ℕ) → FreeOf colon front → begins_with left_bracket (front ++ colon ∷ rest) ≡ false → NamesOrFlawed mode (front ++ colon ∷ rest)
+around_colon mode [] rest free open_front = many_named mode (colon ∷ rest) open_front (inl refl)
+around_colon mode (b ∷ front) rest free open_front =
+    elim (free_or_cut colon rest) [
+      | inl lone ↦ colon_named mode (b ∷ front) rest (record { nonempty = omega arith; no_colon = free; no_bracket = open_front }) lone
+      | inr (y, z, none, e) ↦ many_named mode (b ∷ front ++ colon ∷ rest) open_front (inr (b ∷ front, y, z, ap (λ t. b ∷ front ++ colon ∷ t) e))
+    ]
+
+-- no bracket in front
+open_named : (mode : Mode) (piece : List ℕ) → 0 < length piece → begins_with left_bracket piece ≡ false → NamesOrFlawed mode piece
+open_named mode piece some open_front =
+    elim (free_or_cut colon piece) [
+      | inl free ↦ plain_named mode piece (record { nonempty = some; no_colon = free; no_bracket = open_front })
+      | inr (front, rest, free, e) ↦ subst (NamesOrFlawed mode) (sym e) (around_colon mode front rest free (ap (begins_with left_bracket) (sym e) ∙ open_front))
+    ]
+
+-- a piece names a host and a port, or is flawed
+pub named_or_flawed : (mode : Mode) (piece : List ℕ) → NamesOrFlawed mode piece
+named_or_flawed mode [] = inl (_, _, Names.nothing refl refl refl)
+named_or_flawed mode (b ∷ piece) =
+    elim (cases_Bool (begins_with left_bracket (b ∷ piece))) [
+      | inl front ↦ let (behind, e) = begins_cut left_bracket (b ∷ piece) front in subst (NamesOrFlawed mode) (sym e) (bracket_named mode behind)
+      | inr open_front ↦ open_named mode (b ∷ piece) (omega arith) open_front
+    ]

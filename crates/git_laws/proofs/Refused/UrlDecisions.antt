@@ -1,0 +1,204 @@
+-- Decisions on URLs: each has a meaning, or a flaw stands in it.
+use Rattle.std.proofs.Common.{◌≡◌, ℕ, ◌<◌, Bool, true, false, ◌⊎◌, inl, inr, List, ◌∷◌, ◌++◌, length, take, drop, Option, Some, None, refl, sym, ap, subst, ◌∙◌, codes, bytes_eq, IsUtf8}
+use Rattle.std.specs.List.{position_or_len}
+use Rattle.std.proofs.lemmas.Bool.{both_ways, false≢true, cases_Bool}
+use Rattle.std.proofs.lemmas.Slice.Eq.{bytes_eq-Decides}
+use Rattle.percent_encoding.specs.Percent.{percent_decode}
+use Rattle.git_syntax.specs.declared.refusal.UrlKind.TheVariants as kind
+use Rattle.git_syntax.specs.declared.refusal.UrlFault.{UrlFault}
+use Rattle.git_syntax.specs.declared.refusal.UrlFault.TheVariants as fault
+use Rattle.git_syntax.specs.Value.{Protocol, Location, path_alone}
+use Rattle.git_syntax.specs.Value.Protocol.{file, git, ssh, http, https, ext, helper, helper_url}
+use Rattle.git_syntax.specs.Bytes.{slash, colon, at_sign, backslash, FreeOf, LacksWhiteSpace, is_scheme_text, is_path_start}
+use Rattle.git_syntax.specs.Escapes.{is_sound}
+use Rattle.git_syntax.specs.Hosts.{Mode, Names}
+use Rattle.git_syntax.specs.Schemes.{is_web_scheme, protocol_of, mode_of, requires_host, requires_path}
+use Rattle.git_syntax.specs.Authority.{unless_empty, Credentials, Authority, Fits}
+use Rattle.git_syntax.specs.Grammar.{UrlParts, SpellsParts, MeansByProtocol, MeansAs, Spells}
+use Rattle.git_syntax.specs.Flaws.{UrlShape, OtherShape, UrlCut, PieceOf, AuthorityFlaw, UrlFlaw}
+use Rattle.git_syntax.specs.UrlPieces.{CutsRest, HasNoText, HoldsHosted}
+use Rattle.git_syntax.specs.FoundPieces.{url_location}
+use Rattle.git_syntax.specs.Refusals.{HasFlaw}
+use Rattle.git_syntax.proofs.Texts.CutLemmas.{cut_at_first, free_or_cut}
+use Rattle.git_syntax.proofs.Readings.ShapeLemmas.{file_found, file_misses_path}
+use Rattle.git_syntax.proofs.Readings.UrlLemmas.{nothing_named, bad_user_flaw, url_cut, spelled}
+use Rattle.git_syntax.proofs.Readings.UrlLocationLemmas.{path_missed}
+use Rattle.git_syntax.proofs.Readings.FoundLemmas.{means_location}
+use Rattle.git_laws.proofs.Refused.TextDecisions.{nil_or_some, free_or_not, white_or_not, utf8_or_not, fits_or_not, free_or_last_cut}
+use Rattle.git_laws.proofs.Refused.HostDecisions.{named_or_flawed}
+
+-- ---- authorities
+
+-- user information holds a user and a password, or what is no text
+credentials_or_not : (text : List ℕ) → ((user : Option (List ℕ)) × (password : Option (List ℕ)) × Credentials text user password) ⊎ HasNoText text
+credentials_or_not text =
+    elim (free_or_cut colon text) [
+      | inl free ↦
+          elim (utf8_or_not (percent_decode text)) [ inl u ↦ inl (_, _, Credentials.user_alone free u refl refl) | inr bad ↦ inr (HasNoText.user free bad) ]
+      | inr (u, w, free, e) ↦
+          elim (utf8_or_not (percent_decode u)) [
+            | inr bad ↦ inr (HasNoText.user_before_password u w free e bad)
+            | inl first ↦
+                elim (utf8_or_not (percent_decode w)) [
+                  | inl second ↦ inl (_, _, Credentials.with_password u w free e first second refl refl)
+                  | inr bad ↦ inr (HasNoText.password u w free e bad)
+                ]
+          ]
+    ]
+
+-- an authority holds these, and a host where one is needed, or is flawed
+abbrev pub HeldOrFlawed : Mode → Bool → List ℕ → Type 0
+HeldOrFlawed mode needed authority =
+    ((user : Option (List ℕ)) × (password : Option (List ℕ)) × (host : Option (List ℕ)) × (port : Option ℕ) × HoldsHosted mode needed authority user password host port)
+    ⊎ ((named : UrlFault) × AuthorityFlaw mode needed authority named)
+
+-- an authority without user information
+alone_held : (mode : Mode) (needed : Bool) (authority : List ℕ) (host : Option (List ℕ)) (port : Option ℕ) → FreeOf at_sign authority → Names mode authority host port → HeldOrFlawed mode needed authority
+alone_held mode needed authority (Some host) port free n = inl (_, _, _, _, record { named = Authority.host_alone free n refl refl; hosted = λ e. refl })
+alone_held mode true authority None port free n = inr (fault.HostRequired, AuthorityFlaw.host_required refl (nothing_named mode authority None port n refl))
+alone_held mode false authority None port free n =
+    inl (_, _, _, _, record { named = Authority.host_alone free n refl refl; hosted = λ e. absurd (false≢true e) })
+
+-- an authority with user information
+behind_held : (mode : Mode) (needed : Bool) (authority information piece : List ℕ) (host : Option (List ℕ)) (port : Option ℕ) → FreeOf at_sign piece → authority ≡ information ++ at_sign ∷ piece → Names mode piece host port → HeldOrFlawed mode needed authority
+behind_held mode needed authority information piece None port free e n =
+    inr (fault.BadCharacter, AuthorityFlaw.no_host information (e ∙ ap (λ p. information ++ at_sign ∷ p) (nothing_named mode piece None port n refl)))
+behind_held mode needed authority information piece (Some host) port free e n =
+    elim (credentials_or_not information) [
+      | inr bad ↦ inr (fault.BadCharacter, bad_user_flaw mode needed authority information piece free e bad)
+      | inl (user, password, c) ↦ inl (_, _, _, _, record { named = Authority.with_user information piece free e c n refl; hosted = λ e. refl })
+    ]
+
+-- an authority holds what is needed, or is flawed
+held_or_flawed : (mode : Mode) (needed : Bool) (authority : List ℕ) → HeldOrFlawed mode needed authority
+held_or_flawed mode needed authority =
+    elim (free_or_last_cut at_sign authority) [
+      | inl free ↦
+          elim (named_or_flawed mode authority) [
+            | inl (host, port, n) ↦ alone_held mode needed authority host port free n
+            | inr (named, flaw) ↦ inr (named, AuthorityFlaw.bad_name authority named (PieceOf.whole free refl) flaw)
+          ]
+      | inr (information, piece, free, e) ↦
+          elim (named_or_flawed mode piece) [
+            | inl (host, port, n) ↦ behind_held mode needed authority information piece host port free e n
+            | inr (named, flaw) ↦ inr (named, AuthorityFlaw.bad_name piece named (PieceOf.behind information free e) flaw)
+          ]
+    ]
+
+-- ---- parts
+
+-- the text has the parts of a URL, or a flaw
+abbrev pub PartsOrFlawed : List ℕ → Type 0
+PartsOrFlawed b = ((parts : UrlParts) × SpellsParts b parts) ⊎ ((named : UrlFault) × UrlFlaw b named)
+
+-- a URL that was cut
+cut_or_flawed : (b scheme authority path : List ℕ) → UrlCut b scheme authority path → Fits scheme (authority ++ path) → IsUtf8 b → LacksWhiteSpace b → is_sound b ≡ true → PartsOrFlawed b
+cut_or_flawed b scheme authority path cut fits text white sound =
+    elim (free_or_not backslash authority) [
+      | inr held ↦ inr (fault.BadCharacter, UrlFlaw.bad_authority scheme authority path fault.BadCharacter cut (AuthorityFlaw.holds_backslash held))
+      | inl free ↦
+          elim (held_or_flawed (mode_of scheme) (requires_host scheme) authority) [
+            | inr (named, flaw) ↦ inr (named, UrlFlaw.bad_authority scheme authority path named cut flaw)
+            | inl (user, password, host, port, held) ↦
+                elim (utf8_or_not (percent_decode path)) [
+                  | inr bad ↦ inr (fault.BadCharacter, UrlFlaw.bad_path scheme authority path cut bad)
+                  | inl good ↦ inl (_, spelled cut text white (sym sound) free fits held good)
+                ]
+          ]
+    ]
+
+-- a URL that is short enough, and text
+parts_or_flawed : (b front rest : List ℕ) → OtherShape b front rest → Fits front rest → IsUtf8 b → PartsOrFlawed b
+parts_or_flawed b front rest shape fits text =
+    elim (white_or_not b) [
+      | inr held ↦ inr (fault.BadCharacter, UrlFlaw.white_space front rest shape text held)
+      | inl white ↦
+          elim (cases_Bool (is_sound b)) [
+            | inr broken ↦ inr (fault.BadCharacter, UrlFlaw.unsound front rest shape broken)
+            | inl sound ↦
+                elim (cases_Bool (is_scheme_text front)) [
+                  | inr none ↦ inr (fault.NoScheme, UrlFlaw.no_scheme front rest shape none)
+                  | inl named ↦
+                      let (joined, before, starts) = cut_at_first (is_path_start (is_web_scheme front)) rest in
+                      let place = position_or_len (is_path_start (is_web_scheme front)) rest in
+                      let cut : CutsRest front rest (take place rest) (drop place rest) = record { joined = joined; before_path = before; path_starts = starts } in
+                      cut_or_flawed b front (take place rest) (drop place rest) (url_cut shape (sym named) cut) (subst (λ t. Fits front t) joined fits) text white sound
+                ]
+          ]
+    ]
+
+-- ---- meanings
+
+-- the parts of a URL mean a location by a protocol
+by_protocol : (protocol : Protocol) (parts : UrlParts) → (requires_path protocol ≡ true → 0 < length parts.path) → (v : Location) × MeansByProtocol protocol parts v
+by_protocol protocol parts pathed = (url_location protocol parts, means_location protocol parts pathed)
+
+-- the parts of a URL mean a location
+meaning : (protocol : Protocol) (b : List ℕ) (parts : UrlParts) → (requires_path protocol ≡ true → 0 < length parts.path) → (v : Location) × MeansAs protocol b parts v
+meaning ext b parts pathed = (path_alone ext true b, refl)
+meaning file b parts pathed = by_protocol file parts pathed
+meaning git b parts pathed = by_protocol git parts pathed
+meaning ssh b parts pathed = by_protocol ssh parts pathed
+meaning http b parts pathed = by_protocol http parts pathed
+meaning https b parts pathed = by_protocol https parts pathed
+meaning (helper name) b parts pathed = by_protocol (helper name) parts pathed
+meaning (helper_url name) b parts pathed = by_protocol (helper_url name) parts pathed
+
+-- ---- URLs
+
+-- the text spells a location, or a flaw stands in it
+abbrev pub SpelledOrFlawed : List ℕ → Type 0
+SpelledOrFlawed b = ((v : Location) × Spells b v) ⊎ HasFlaw b
+
+-- a text with the parts of a URL
+parts_spelled : (b : List ℕ) (parts : UrlParts) → SpellsParts b parts → SpelledOrFlawed b
+parts_spelled b parts h =
+    elim (nil_or_some parts.path) [
+      | inr some ↦ let (v, m) = meaning (protocol_of parts.scheme) b parts (λ need. some) in inl (v, Spells.url (record { parts = parts; spelled = h; means = m }))
+      | inl none ↦
+          elim (cases_Bool (requires_path (protocol_of parts.scheme))) [
+            | inl need ↦ inr (HasFlaw.no_path kind.Url (path_missed h need none))
+            | inr other ↦
+                let (v, m) = meaning (protocol_of parts.scheme) b parts (λ need. absurd (both_ways _ other need)) in
+                inl (v, Spells.url (record { parts = parts; spelled = h; means = m }))
+          ]
+    ]
+
+-- a URL that is no file URL
+other_decided : (b front rest : List ℕ) → OtherShape b front rest → SpelledOrFlawed b
+other_decided b front rest shape =
+    elim (fits_or_not front rest) [
+      | inr unfit ↦ inr (HasFlaw.too_long _ _ (record { front = front; rest = rest; shape = shape; unfit = unfit; front_shown = refl; length_told = refl }))
+      | inl fits ↦
+          elim (utf8_or_not b) [
+            | inr bad ↦ inr (HasFlaw.no_text kind.Url bad (front, rest, shape.shape))
+            | inl text ↦
+                elim (parts_or_flawed b front rest shape fits text) [
+                  | inl (parts, h) ↦ parts_spelled b parts h
+                  | inr (named, flaw) ↦ inr (HasFlaw.bad_url kind.Url named flaw)
+                ]
+          ]
+    ]
+
+-- a file URL
+file_decided : (b rest : List ℕ) → UrlShape b (codes "file") rest → SpelledOrFlawed b
+file_decided b rest shape =
+    elim (utf8_or_not b) [
+      | inr bad ↦ inr (HasFlaw.no_text kind.Url bad (codes "file", rest, shape))
+      | inl text ↦
+          elim (free_or_cut slash rest) [
+            | inl free ↦ inr (HasFlaw.no_path kind.Url (file_misses_path b rest shape free))
+            | inr (host, behind, free, e) ↦
+                let path = drop (length host) rest in
+                let v = record (path_alone file false path) { host = unless_empty host } in
+                inl (v, Spells.file_url (file_found b rest host behind path v shape text free e refl refl))
+          ]
+    ]
+
+-- a URL
+pub url_decided : (b front rest : List ℕ) → UrlShape b front rest → SpelledOrFlawed b
+url_decided b front rest shape =
+    elim (cases_Bool (bytes_eq front (codes "file"))) [
+      | inr other ↦ other_decided b front rest (record { shape = shape; not_file = other })
+      | inl same ↦ file_decided b rest (subst (λ t. UrlShape b t rest) ((bytes_eq-Decides front (codes "file")).0 same) shape)
+    ]

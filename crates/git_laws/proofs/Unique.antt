@@ -1,0 +1,2 @@
+-- Bytes spell one location at most.
+pub mod BeforeLemmas

@@ -1,0 +1,251 @@
+-- Stored locations: the new spelling of a legacy path is one, and stands for the same bytes; what is migrated stays.
+use Rattle.std.proofs.Common.{◌≡◌, ℕ, ◌<◌, ◌≤◌, ◌+◌, ◌*◌, ◌/◌, ◌%◌, Bool, true, false, ◌||◌, ◌==◌, nat_lt, ⊎_elim, List, [], ◌∷◌, ◌++◌, take, drop, length, All, Option, Some, None, refl, sym, ap, subst, ◌∙◌, arith, bytes_eq}
+use Rattle.std.specs.Char.{is_digit, digit_value}
+use Rattle.std.specs.Fmt.{digit_glyph}
+use Rattle.std.proofs.lemmas.Bool.{cond-true, cond-false, cases_Bool, and_parts, and_from, eqb-true, true≢false, and_right}
+use Rattle.std.proofs.lemmas.Bool.Decides.{nat_tests}
+use Rattle.std.proofs.lemmas.List.{append-nil}
+use Rattle.std.proofs.lemmas.List.Elements.{All-nil, All-cons, All-head, All-tail}
+use Rattle.std.proofs.lemmas.Slice.Eq.{bytes_eq-Decides}
+use Rattle.percent_encoding.specs.AsciiSet.{contains, should_percent_encode}
+use Rattle.percent_encoding.specs.Percent.{percent_encode, percent_encode_byte, percent_decode}
+use Rattle.percent_encoding.proofs.PercentLemmas.{percent_encode-nil, percent_encode_escaped, percent_encode_kept, round_trip}
+use Rattle.git_syntax.specs.Value.{Location}
+use Rattle.git_syntax.specs.Bytes.{percent_sign}
+use Rattle.git_syntax.specs.Escapes.{begins_with_digits, is_path_escaped}
+use Rattle.git_syntax.specs.declared.escape.TheConstants.{PATH}
+use Rattle.git_location.specs.Records.{written_in_path, begins_escape, Respells, new_spelling, SpellsFront, from_legacy, migrated_by, migrated, RespelledOnce, KeepsMeaning, Migrates, MigratedOnce}
+use Rattle.git_location.specs.Records.Respells.{nothing, escape, other}
+use Rattle.git_syntax.proofs.Texts.EscapeSets.{path_holds}
+use Rattle.git_syntax.proofs.Texts.EscapeLemmas.{decode_byte, decode_escape, decode_broken, decodes_in_parts, encode_sound, glyph_is_digit}
+
+-- ---- one byte
+
+-- the code's set and the test escape the same bytes
+pub escaped_alike : (b : ℕ) → should_percent_encode PATH b ≡ (is_path_escaped b || nat_lt 127 b)
+unfolding should_percent_encode
+escaped_alike b = ⊎_elim
+    (λ (ascii : nat_lt b 128 ≡ true). let held : contains PATH b ≡ is_path_escaped b = path_holds b (grind (arith, nat_tests)) in rw held (grind (arith, nat_tests)))
+    (λ (past : nat_lt b 128 ≡ false). grind (arith, nat_tests))
+    (cases_Bool (nat_lt b 128))
+
+-- a byte by itself is written as the code's set has it
+written_alone : (b : ℕ) → written_in_path b ≡ percent_encode PATH (b ∷ [])
+written_alone b = ⊎_elim
+    (λ escaped. cond-true _ _ _ (sym (escaped_alike b) ∙ escaped) ∙ sym (percent_encode_escaped PATH b [] escaped ∙ ap (λ t. percent_encode_byte b ++ t) (percent_encode-nil PATH) ∙ append-nil _))
+    (λ kept. cond-false _ _ _ (sym (escaped_alike b) ∙ kept) ∙ sym (percent_encode_kept PATH b [] kept ∙ ap (λ t. b ∷ t) (percent_encode-nil PATH)))
+    (cases_Bool (should_percent_encode PATH b))
+
+-- a byte that is written by itself is read back, whatever follows
+written_back : (b : ℕ) (rest : List ℕ) → b < 256 → percent_decode (written_in_path b ++ rest) ≡ b ∷ percent_decode rest
+written_back b rest small =
+    let back = round_trip PATH (b ∷ []) refl (All-cons (λ c. c < 256) b [] small (All-nil (λ c. c < 256))) in
+    ap (λ t. percent_decode (t ++ rest)) (written_alone b) ∙ decodes_in_parts (percent_encode PATH (b ∷ [])) rest (encode_sound PATH (b ∷ []) refl) ∙ ap (λ t. t ++ percent_decode rest) back
+
+-- a byte that begins no escape stays
+byte_kept : (b : ℕ) (behind : List ℕ) → begins_escape b behind ≡ false → percent_decode (b ∷ behind) ≡ b ∷ percent_decode behind
+byte_kept b behind none = ⊎_elim
+    (λ percent. decode_broken b behind (rw percent at none))
+    (λ kept. decode_byte b behind kept)
+    (cases_Bool (b == 37))
+
+-- a hexadecimal digit is written as it is, and begins no escape
+digit_written : (d : ℕ) → is_digit d 16 ≡ true → written_in_path d ≡ d ∷ []
+digit_written d digit =
+    let outside : (is_path_escaped d || nat_lt 127 d) ≡ false = grind (arith, nat_tests) in
+    cond-false _ _ _ outside
+
+digit_begins_none : (d : ℕ) (behind : List ℕ) → is_digit d 16 ≡ true → begins_escape d behind ≡ false
+digit_begins_none d behind digit = let kept : (d == 37) ≡ false = grind (arith, nat_tests) in rw kept refl
+
+-- ---- the new spelling
+
+-- a byte that begins no escape is written as in a path
+respelled_other : (b : ℕ) (path : List ℕ) → begins_escape b path ≡ false → new_spelling (b ∷ path) ≡ written_in_path b ++ new_spelling path
+respelled_other b path none = ap (λ t. t ++ new_spelling path) (cond-false _ _ _ none)
+
+-- a byte that begins an escape stays
+respelled_begin : (b : ℕ) (path : List ℕ) → begins_escape b path ≡ true → new_spelling (b ∷ path) ≡ b ∷ new_spelling path
+respelled_begin b path begins = ap (λ t. t ++ new_spelling path) (cond-true _ _ _ begins)
+
+-- a digit stays
+respelled_digit : (d : ℕ) (path : List ℕ) → is_digit d 16 ≡ true → new_spelling (d ∷ path) ≡ d ∷ new_spelling path
+respelled_digit d path digit = respelled_other d path (digit_begins_none d path digit) ∙ ap (λ t. t ++ new_spelling path) (digit_written d digit)
+
+-- so an escape stays
+respelled_escape : (high low : ℕ) (path : List ℕ) → is_digit high 16 ≡ true → is_digit low 16 ≡ true → new_spelling (percent_sign ∷ high ∷ low ∷ path) ≡ percent_sign ∷ high ∷ low ∷ new_spelling path
+respelled_escape high low path h l =
+    respelled_begin percent_sign (high ∷ low ∷ path) (and_from _ _ h l)
+    ∙ ap (λ t. percent_sign ∷ t) (respelled_digit high (low ∷ path) h ∙ ap (λ t. high ∷ t) (respelled_digit low path l))
+
+-- the front of a new spelling that has the byte as it is
+front_itself : (b : ℕ) (path behind front rest : List ℕ) → path ≡ b ∷ behind → front ≡ take 1 path → rest ≡ drop 1 path → new_spelling (b ∷ behind) ≡ b ∷ new_spelling behind → SpellsFront path front rest
+front_itself b path behind front rest whole first last spelled =
+    let one : front ≡ b ∷ [] = first ∙ ap (λ t. take 1 t) whole in
+    let others : rest ≡ behind = last ∙ ap (λ t. drop 1 t) whole in
+    record {
+      spelled = ap new_spelling whole ∙ spelled ∙ sym (ap (λ t. t ++ new_spelling rest) one ∙ ap (λ t. b ∷ new_spelling t) others);
+      shorter = omega (arith, ap length whole, ap length others);
+      short = omega (arith, ap length one);
+    }
+
+-- a byte that begins an escape stands there
+pub front_begins : (b : ℕ) (path behind front rest : List ℕ) → path ≡ b ∷ behind → front ≡ take 1 path → rest ≡ drop 1 path → begins_escape b behind ≡ true → SpellsFront path front rest
+front_begins b path behind front rest whole first last begins = front_itself b path behind front rest whole first last (respelled_begin b behind begins)
+
+-- so does a byte that a path is written with
+pub front_kept : (b : ℕ) (path behind front rest : List ℕ) → path ≡ b ∷ behind → front ≡ take 1 path → rest ≡ drop 1 path → begins_escape b behind ≡ false → should_percent_encode PATH b ≡ false → SpellsFront path front rest
+front_kept b path behind front rest whole first last none kept =
+    let itself : written_in_path b ≡ b ∷ [] = cond-false _ _ _ (sym (escaped_alike b) ∙ kept) in
+    front_itself b path behind front rest whole first last (respelled_other b behind none ∙ ap (λ t. t ++ new_spelling behind) itself)
+
+three_bytes : (b : ℕ) → length (percent_encode_byte b) ≤ 3
+unfolding percent_encode_byte
+three_bytes b = omega arith
+
+-- any other byte has its escape there
+pub front_escaped : (b : ℕ) (path behind front : List ℕ) → path ≡ b ∷ behind → front ≡ percent_encode_byte b → begins_escape b behind ≡ false → should_percent_encode PATH b ≡ true → SpellsFront path front behind
+front_escaped b path behind front whole digits none escaped =
+    let written : written_in_path b ≡ front = cond-true _ _ _ (sym (escaped_alike b) ∙ escaped) ∙ sym digits in
+    record {
+      spelled = ap new_spelling whole ∙ respelled_other b behind none ∙ ap (λ t. t ++ new_spelling behind) written;
+      shorter = omega (arith, ap length whole);
+      short = omega (arith, ap length digits, three_bytes b);
+    }
+
+-- one byte more, and one escape more
+byte_more : (b : ℕ) (path : List ℕ) → begins_escape b path ≡ false → Respells path (new_spelling path) → Respells (b ∷ path) (new_spelling (b ∷ path))
+byte_more b path none rest = subst (Respells (b ∷ path)) (sym (respelled_other b path none)) (other b path (new_spelling path) none rest)
+
+escape_more : (b high low : ℕ) (path : List ℕ) → begins_escape b (high ∷ low ∷ path) ≡ true → Respells path (new_spelling path) → Respells (b ∷ high ∷ low ∷ path) (new_spelling (b ∷ high ∷ low ∷ path))
+escape_more b high low path begins rest =
+    let parts = and_parts _ _ begins in
+    let digits = and_parts _ _ parts.1 in
+    let is : percent_sign ≡ b = sym (eqb-true b 37 parts.0) in
+    let whole = subst (Respells (percent_sign ∷ high ∷ low ∷ path)) (sym (respelled_escape high low path digits.0 digits.1)) (escape high low path (new_spelling path) digits.0 digits.1 rest) in
+    subst (λ c. Respells (c ∷ high ∷ low ∷ path) (new_spelling (c ∷ high ∷ low ∷ path))) is whole
+
+no_digits : (b : ℕ) (behind : List ℕ) → begins_with_digits behind ≡ false → begins_escape b behind ≡ false
+no_digits b behind none = and_right _ _ none
+
+-- each path has a new spelling
+pub respells : (path : List ℕ) → Respells path (new_spelling path)
+respells [] = nothing
+respells (b ∷ []) = byte_more b [] (no_digits b [] refl) (respells [])
+respells (b ∷ c ∷ []) = byte_more b (c ∷ []) (no_digits b (c ∷ []) refl) (respells (c ∷ []))
+respells (b ∷ high ∷ low ∷ path) = ⊎_elim
+    (λ begins. escape_more b high low path begins (respells path))
+    (λ none. byte_more b (high ∷ low ∷ path) none (respells (high ∷ low ∷ path)))
+    (cases_Bool (begins_escape b (high ∷ low ∷ path)))
+
+-- and no other
+pub respelled_by : (path spelling : List ℕ) → Respells path spelling → spelling ≡ new_spelling path
+respelled_by path spelling nothing = refl
+respelled_by path spelling (escape high low rest written h l r) =
+    ap (λ t. percent_sign ∷ high ∷ low ∷ t) (respelled_by rest written r) ∙ sym (respelled_escape high low rest h l)
+respelled_by path spelling (other b rest written none r) =
+    ap (λ t. written_in_path b ++ t) (respelled_by rest written r) ∙ sym (respelled_other b rest none)
+
+pub respelled_once : RespelledOnce
+respelled_once path spelling = (respelled_by path spelling, λ e. subst (Respells path) (sym e) (respells path))
+
+-- the new spelling decodes as the path does
+pub keeps_meaning : KeepsMeaning
+keeps_meaning path spelling small nothing = refl
+keeps_meaning path spelling small (escape high low rest written h l r) =
+    let last = All-tail (λ c. c < 256) low rest (All-tail (λ c. c < 256) high (low ∷ rest) (All-tail (λ c. c < 256) percent_sign (high ∷ low ∷ rest) small)) in
+    let byte = 16 * digit_value high + digit_value low in
+    decode_escape percent_sign high low written refl h l ∙ ap (λ t. byte ∷ t) (keeps_meaning rest written last r) ∙ sym (decode_escape percent_sign high low rest refl h l)
+keeps_meaning path spelling small (other b rest written none r) =
+    let behind = All-tail (λ c. c < 256) b rest small in
+    written_back b written (All-head (λ c. c < 256) b rest small) ∙ ap (λ t. b ∷ t) (keeps_meaning rest written behind r) ∙ sym (byte_kept b rest none)
+
+-- ---- the new spelling of a new spelling
+
+-- an escape that is written stays, and so does a byte that a path is written with
+escape_stays : (b : ℕ) (spelling : List ℕ) → new_spelling spelling ≡ spelling → new_spelling (percent_encode_byte b ++ spelling) ≡ percent_encode_byte b ++ spelling
+unfolding percent_encode_byte
+escape_stays b spelling rest =
+    let high = digit_glyph true (b / 16 % 16) in
+    let low = digit_glyph true (b % 16) in
+    respelled_escape high low spelling (glyph_is_digit (b / 16 % 16) (omega arith)) (glyph_is_digit (b % 16) (omega arith)) ∙ ap (λ t. percent_sign ∷ high ∷ low ∷ t) rest
+
+kept_stays : (b : ℕ) (spelling : List ℕ) → (is_path_escaped b || nat_lt 127 b) ≡ false → new_spelling spelling ≡ spelling → new_spelling (b ∷ spelling) ≡ b ∷ spelling
+kept_stays b spelling kept rest =
+    let no_percent : (b == 37) ≡ false = grind (arith, nat_tests) in
+    let none : begins_escape b spelling ≡ false = rw no_percent refl in
+    respelled_other b spelling none ∙ ap (λ t. t ++ new_spelling spelling) (cond-false _ _ _ kept) ∙ ap (λ t. b ∷ t) rest
+
+-- so a byte as it is written stays, whatever follows
+written_stays : (b : ℕ) (spelling : List ℕ) → new_spelling spelling ≡ spelling → new_spelling (written_in_path b ++ spelling) ≡ written_in_path b ++ spelling
+written_stays b spelling rest =
+    let stays : List ℕ → Type 0 = λ t. new_spelling (t ++ spelling) ≡ t ++ spelling in
+    ⊎_elim
+    (λ escaped. subst stays (sym (cond-true _ _ _ escaped)) (escape_stays b spelling rest))
+    (λ kept. subst stays (sym (cond-false _ _ _ kept)) (kept_stays b spelling kept rest))
+    (cases_Bool (is_path_escaped b || nat_lt 127 b))
+
+-- a new spelling stays
+spelling_stays : (path spelling : List ℕ) → Respells path spelling → new_spelling spelling ≡ spelling
+spelling_stays path spelling nothing = refl
+spelling_stays path spelling (escape high low rest written h l r) =
+    respelled_escape high low written h l ∙ ap (λ t. percent_sign ∷ high ∷ low ∷ t) (spelling_stays rest written r)
+spelling_stays path spelling (other b rest written none r) = written_stays b written (spelling_stays rest written r)
+
+-- ---- migration
+
+-- a spelling that is the path makes a record legacy, and one that isn't doesn't
+migrated_same : (spelling : Option (List ℕ)) (v : Location) → spelling ≡ Some v.path → migrated_by spelling v ≡ from_legacy v
+migrated_same None v same = cc
+migrated_same (Some s) v same =
+    let is : s ≡ v.path = cc in
+    cond-true _ _ _ ((bytes_eq-Decides s v.path).1 is)
+
+unmigrated_by : (same : Bool) (s : List ℕ) (v : Location) → bytes_eq s v.path ≡ same → ¬ (s ≡ v.path) → migrated_by (Some s) v ≡ v
+unmigrated_by true s v e differs = absurd (differs ((bytes_eq-Decides s v.path).0 e))
+unmigrated_by false s v e differs = cond-false _ _ _ e
+
+unmigrated_as : (spelling : Option (List ℕ)) (v : Location) → ¬ (spelling ≡ Some v.path) → migrated_by spelling v ≡ v
+unmigrated_as None v differs = refl
+unmigrated_as (Some s) v differs = unmigrated_by (bytes_eq s v.path) s v refl (λ e. differs (ap (λ t. Some t) e))
+
+-- a location whose spelling isn't its path stands for itself when it was stored
+pub unmigrated : (v : Location) → ¬ (v.spelling ≡ Some v.path) → migrated v ≡ v
+unmigrated v differs = unmigrated_as v.spelling v differs
+
+-- a record of the legacy form is migrated
+pub migrated_legacy : (v : Location) → v.spelling ≡ Some v.path → migrated v ≡ from_legacy v
+migrated_legacy v same = migrated_same v.spelling v same
+
+-- both cases
+pub migrates : Migrates
+migrates v = (
+  λ spelling same r. migrated_legacy v same ∙ ap (λ s. record v { path = percent_decode v.path; spelling = Some s }) (sym (respelled_by v.path spelling r)),
+  unmigrated v,
+)
+
+-- a legacy location that was migrated, and looks legacy again, stays
+legacy_stays : (v : Location) → All (λ b. b < 256) v.path → new_spelling v.path ≡ percent_decode v.path → from_legacy (from_legacy v) ≡ from_legacy v
+legacy_stays v small same =
+    let decoded = ap percent_decode (sym same) ∙ keeps_meaning v.path (new_spelling v.path) small (respells v.path) in
+    let spelled = ap new_spelling (sym same) ∙ spelling_stays v.path (new_spelling v.path) (respells v.path) in
+    λ i. record v { path = decoded i; spelling = Some (spelled i) }
+
+-- a legacy location that was migrated stays, as its new spelling is its new path or isn't
+again_legacy : (v : Location) → All (λ b. b < 256) v.path → migrated (from_legacy v) ≡ from_legacy v
+again_legacy v small = ⊎_elim
+    (λ same. cond-true _ _ _ same ∙ legacy_stays v small ((bytes_eq-Decides (new_spelling v.path) (percent_decode v.path)).0 same))
+    (λ differs. cond-false _ _ _ differs)
+    (cases_Bool (bytes_eq (new_spelling v.path) (percent_decode v.path)))
+
+-- what a record with this spelling stands for stays
+again : (spelling : Option (List ℕ)) (v : Location) → v.spelling ≡ spelling → All (λ b. b < 256) v.path → migrated (migrated v) ≡ migrated v
+again None v is small = ap migrated (unmigrated v (λ same. absurd (cc)))
+again (Some s) v is small = ⊎_elim
+    (λ same. let e = migrated_legacy v (is ∙ ap (λ t. Some t) ((bytes_eq-Decides s v.path).0 same)) in ap migrated e ∙ again_legacy v small ∙ sym e)
+    (λ differs. ap migrated (unmigrated v (λ e. let same : s ≡ v.path = cc in true≢false (sym ((bytes_eq-Decides s v.path).1 same) ∙ differs))))
+    (cases_Bool (bytes_eq s v.path))
+
+-- what was migrated stays
+pub migrated_once : MigratedOnce
+migrated_once v small = again v.spelling v refl small

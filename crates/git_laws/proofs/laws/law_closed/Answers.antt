@@ -1,0 +1,23 @@
+-- Each law is a lemma.
+use Rattle.std.proofs.Common.{inl, inr}
+use Rattle.git_laws.specs.Laws.{Unchanged}
+use Rattle.git_laws.proofs.Closed.ClosedLemmas.{closed, exact}
+use Rattle.git_laws.proofs.Refused.CornerLemmas.{apart}
+use Rattle.git_laws.proofs.Written.KeptLemmas.{helper_unchanged, local_unchanged, kept_exact}
+use Rattle.git_laws.proofs.Closed.WritableLemmas.{writable}
+use Rattle.git_laws.proofs.laws.law_closed.Goals as goal
+
+-- both forms write what they read
+unchanged : Unchanged
+unchanged b v (inl h) = helper_unchanged b v h
+unchanged b v (inr h) = local_unchanged b v h
+
+pub returns : goal.returns
+returns c = record {
+  closed = closed;
+  apart = apart;
+  exact = exact;
+  unchanged = unchanged;
+  exact_by_fields = kept_exact;
+  writable = writable;
+}

@@ -1,0 +1,7 @@
+-- Each law is a lemma.
+use Rattle.git_laws.proofs.GitReadings.GitLemmas.{read_same}
+use Rattle.git_laws.proofs.GitReadings.GitUniqueLemmas.{one_reading}
+use Rattle.git_laws.proofs.laws.law_git.Goals as goal
+
+pub returns : goal.returns
+returns c = record { alike = read_same; one = one_reading }

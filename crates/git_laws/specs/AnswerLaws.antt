@@ -1,0 +1,32 @@
+-- Laws on the answers to lines, over the definitions alone: a line for each line, and lines in one way.
+use Rattle.std.specs.Prelude.{◌≡◌, ℕ, Bool, List, [], ◌∷◌, ◌++◌}
+use Rattle.git_syntax.specs.Bytes.{newline, FreeOf}
+use Rattle.git_location.specs.Answers.{SplitsLines, IsAnswer, Answers}
+
+-- the bytes are one line and its end
+abbrev pub IsOneLine : List ℕ → Type 0
+IsOneLine b = (line : List ℕ) × FreeOf newline line × (b ≡ line ++ newline ∷ [])
+
+-- the answer to a line is one line and its end
+abbrev pub OneLine : Type 0
+OneLine = (line answer : List ℕ) (good : Bool) → FreeOf newline line → IsAnswer line answer good
+    → IsOneLine answer
+
+-- of two lists of lines each second one is, with its end, the answer to the first one at its place
+abbrev pub AreAnswered : List (List ℕ) → List (List ℕ) → Type 0
+AreAnswered [] [] = Unit {0}
+AreAnswered [] (told ∷ others) = ⊥
+AreAnswered (line ∷ lines) [] = ⊥
+AreAnswered (line ∷ lines) (told ∷ others) =
+    ((good : Bool) × IsAnswer line (told ++ newline ∷ []) good) × AreAnswered lines others
+
+-- a text is split into lines in one way
+abbrev pub OneSplit : Type 0
+OneSplit = (b : List ℕ) (lines more : List (List ℕ)) → SplitsLines b lines → SplitsLines b more
+    → lines ≡ more
+
+-- the answers to a text are as many lines as the text, each the answer to the one at its place
+abbrev pub LineForLine : Type 0
+LineForLine = (b out : List ℕ) (good : Bool) → Answers b out good
+    → (lines : List (List ℕ)) × (told : List (List ℕ)) × SplitsLines b lines × SplitsLines out told
+    × AreAnswered lines told

@@ -1,0 +1,57 @@
+-- Equality of components: part by part, names and values by their bytes. What is equal is one value.
+use Rattle.std.specs.Prelude.{◌≡◌, ℕ, Bool, ◌&&◌, List, Option, bytes_eq}
+use mathlib.Core.Path.{refl, ap}
+use Rattle.std.specs.Bool.{Decides}
+use Rattle.std.proofs.lemmas.Bool.Decides.{Decides-and}
+use Rattle.std.proofs.lemmas.Slice.Eq.{slice_eq-Decides}
+use Rattle.std.specs.Option.{option_eq}
+use Rattle.std.specs.Cmp.{IsEquivalence, decided}
+use Rattle.std.specs.Cmp.Lexicographic.{pointwise, bytes_decides}
+use Rattle.git_laws.specs.OrderLaws.{options_decide}
+use Rattle.git_location.specs.Components.{Components}
+
+-- pairs of a name and a value are equal where both have the same bytes
+abbrev pub pair_eq : List ℕ × List ℕ → List ℕ × List ℕ → Bool
+pair_eq p q = bytes_eq p.0 q.0 && bytes_eq p.1 q.1
+
+-- queries are equal where both are missing, or both are there with equal pairs in the same order
+abbrev pub query_eq : Option (List (List ℕ × List ℕ)) → Option (List (List ℕ × List ℕ)) → Bool
+query_eq = option_eq (pointwise pair_eq)
+
+-- fragments are equal where both are missing, or both are there with the same bytes
+abbrev pub fragment_eq : Option (List ℕ) → Option (List ℕ) → Bool
+fragment_eq = option_eq bytes_eq
+
+-- components are equal where path, query and fragment are
+abbrev pub components_eq : Components → Components → Bool
+components_eq c d = bytes_eq c.path d.path
+    && (query_eq c.query d.query && fragment_eq c.fragment d.fragment)
+
+-- ---- what is equal is one value
+
+pair_decides : (p q : List ℕ × List ℕ) → Decides (pair_eq p q) (p ≡ q)
+pair_decides p q =
+    let told = Decides-and _ _ (bytes_decides p.0 q.0) (bytes_decides p.1 q.1) in (
+      λ e. let same = told.0 e in λ i. (same.0 i, same.1 i),
+      λ e. told.1 (ap (λ r. r.0) e, ap (λ r. r.1) e),
+    )
+
+query_decides : (p q : Option (List (List ℕ × List ℕ))) → Decides (query_eq p q) (p ≡ q)
+query_decides = options_decide (pointwise pair_eq)
+    (λ xs ys. slice_eq-Decides pair_decides xs ys (pointwise pair_eq xs ys) refl)
+
+fragment_decides : (p q : Option (List ℕ)) → Decides (fragment_eq p q) (p ≡ q)
+fragment_decides = options_decide bytes_eq bytes_decides
+
+-- equal components are one value, and one value is equal to itself
+pub components_decide : (c d : Components) → Decides (components_eq c d) (c ≡ d)
+components_decide c d =
+    let told = Decides-and _ _ (bytes_decides c.path d.path)
+    (Decides-and _ _ (query_decides c.query d.query) (fragment_decides c.fragment d.fragment)) in (
+      λ e. let (path, (query, fragment)) = told.0 e in
+          λ i. record { path = path i; query = query i; fragment = fragment i },
+      λ e. told.1 (ap (λ u. u.path) e, (ap (λ u. u.query) e, ap (λ u. u.fragment) e)),
+    )
+
+pub components_equiv : IsEquivalence components_eq
+components_equiv = decided components_eq components_decide

@@ -1,0 +1,34 @@
+//! Rows: that the definitions say of written-out texts and values what they should.
+//!
+//! It has no code and uses nothing: the contract of each function is a group of rows.
+
+ghost use Rattle.git_laws.specs.ByteRows.{EscapeSetRows, EscapedByteRows, GitByteRows, HostByteRows, NameByteRows, QuickByteRows, WhiteSpaceRows};
+ghost use Rattle.git_laws.specs.ClassRows.{SettledRows, UnsettledOtherRows, UnsettledUrlRows, UnsettledWebRows, WebHostRows};
+ghost use Rattle.git_laws.specs.GitRows.{GitTextRows, GitUrlRows, NoGitRows};
+
+/// Classes of bytes, with all their members.
+fn law_bytes()
+    ensures names { NameByteRows }
+    ensures hosts { HostByteRows }
+    ensures white_space { WhiteSpaceRows }
+    ensures git { GitByteRows }
+    ensures quick { QuickByteRows }
+    ensures documented { EscapedByteRows }
+    ensures sets { EscapeSetRows }
+{}
+
+/// The settled class.
+fn law_class()
+    ensures settled { SettledRows }
+    ensures hosts { WebHostRows }
+    ensures web { UnsettledWebRows }
+    ensures urls { UnsettledUrlRows }
+    ensures others { UnsettledOtherRows }
+{}
+
+/// What Git reads.
+fn law_git()
+    ensures urls { GitUrlRows }
+    ensures others { GitTextRows }
+    ensures none { NoGitRows }
+{}

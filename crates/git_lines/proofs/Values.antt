@@ -1,0 +1,2 @@
+-- Order and hash of values, stored records, lines and their answers, each of which is one line, and one split into lines.
+pub mod LineLemmas

@@ -1,0 +1,306 @@
+//! The program's work: reads locations, a line each, and answers a line for each.
+//!
+//! It uses reading into a room, the settled test, the writer, and `bytes` to cut lines. Its contract: all of the input is
+//! answered, line by line, as the definitions have it; where memory or the reader fails nothing is written, and a
+//! fault of the writer comes only once all is read. Memory is asked for to hold the input, a room as long as its longest
+//! line, and the answers; no line asks for memory of its own.
+
+ghost use Rattle.std.specs.Prelude.{◌≡◌, ℕ, ◌≤◌, ◌^◌, ◌++◌, List, None, Ok, codes, length, IfErr, IfOk, IfSome, OnOk};
+ghost use Rattle.std.specs.Io.KnownBytes.{IsAtEnd};
+ghost use Rattle.git_location.specs.Answers.{Answers, HasLinesWithin, fault_name, refusal_name, told_line};
+ghost use Rattle.git_lines.specs.Answers.{AppendsAnswer, IsBeforeWriting, Puts, Ran, RanToEnd, Tells, TellsRefusal, fault_text, status_of};
+ghost use Rattle.git_location.specs.Pieces.{pieces_text};
+ghost use Rattle.git_syntax.specs.Schemes.{protocol_text};
+ghost use Rattle.git_location.specs.Text.{text};
+
+use git_syntax::bytes;
+use git_syntax::refusal::UrlFault;
+use git_location::parse_error::ParseError;
+use git_syntax::refusal::Refusal;
+use git_location::url_ref::UrlRef;
+use git_location::writer::piece::Pieces;
+use git_location::writer::sink::Output;
+use itoa::Buffer;
+use std::alloc::{AllocError, Global};
+use std::io::{self, ErrorKind, Read, Write};
+use thiserror::Error as ThisError;
+
+/// Why a run ended without an answer.
+#[derive(Debug, Drop, ThisError)]
+pub enum RunError {
+    /// Memory was refused. Nothing was written.
+    #[error("out of memory")]
+    Memory,
+    /// The input can't be read to its end. Nothing was written.
+    #[error("cannot read: {0}")]
+    Read(io::Error),
+    /// The answer can't be written. All of the input was read; nothing is said of how much of the answer went out.
+    #[error("cannot write: {0}")]
+    Write(io::Error),
+}
+
+impl From<AllocError> for RunError {
+    ghost use Rattle.git_lines.specs.declared.lines.RunError.TheVariants.{Memory};
+
+    ghost from_gives = { λ _ e. e ≡ Memory };
+
+    fn from(_: AllocError) -> RunError {
+        RunError::Memory
+    }
+}
+
+/// How often the input is read at most: a reader that hasn't ended by then is given up.
+const MOST_READS: u64 = 1 << 40;
+
+/// The line, without its end, that the program `locations` says of a fault on standard error. It takes no memory.
+///
+/// ```
+/// /// What a program of one's own says of a run, and the status that it ends with.
+/// fn ended(rt: &impl Eprint, outcome: &Result<bool, RunError>) -> u8 {
+///     if let Err(fault) = outcome {
+///         let _ = rt.eprintln(lines::fault_line(fault));
+///     }
+///     lines::status(outcome)
+/// }
+/// ```
+pub fn fault_line(fault: &RunError) -> &'static str
+    ensures { result.now ≡ fault_text fault.now }
+{
+    match fault {
+        RunError::Memory => "locations: out of memory",
+        RunError::Read(_) => "locations: cannot read",
+        RunError::Write(_) => "locations: cannot write",
+    }
+}
+
+/// The exit status of the program: 0 where every line was settled, 1 where one was not, 2 for a fault. It takes no
+/// memory. [`fault_line`] has an example.
+pub fn status(outcome: &Result<bool, RunError>) -> u8
+    ensures { result ≡ status_of outcome.now }
+{
+    match outcome {
+        Ok(true) => 0,
+        Ok(false) => 1,
+        Err(_) => 2,
+    }
+}
+
+/// Reads all of the input, answers each of its lines by a line, and writes the answers. Byte 10 ends a line and
+/// byte 13 is nothing special; a last line may lack its end, and counts unless it is empty.
+///
+/// The answer is `settled`, a tab and the location's text, where it is settled; `unsettled`, a tab and its scheme,
+/// where it isn't; `refused`, a tab and the error's name, where the line is no location. What is read always has a
+/// text: [`law_closed`](git_laws::laws::law_closed). Each answer is one line, whatever the location holds:
+/// [`law_lines`](git_laws::laws::law_lines).
+///
+/// `Ok(true)` says that every line was settled. The errors are those of [`RunError`]; a reader that hasn't ended
+/// after 2^40 calls is answered `Read`. The whole answer is built in memory before it is written. Lines ask for no memory
+/// of their own: beside the input and the answer there is one room, as long as the longest line.
+///
+/// ```
+/// /// The answers to lines in memory.
+/// fn answers(alloc: Global, input: &[u8]) -> Result<Vec<u8>, RunError> {
+///     let mut input = input;
+///     let mut output = Vec::new(alloc);
+///     lines::run(alloc, &mut input, &mut output)?;
+///     Ok(output)
+/// }
+/// ```
+pub fn run<R: Read, W: Write>(
+    alloc: Global,
+    input: &mut R,
+    output: &mut W,
+) -> Result<bool, RunError>
+    ensures answered { Ran W.contents (R.remaining input.old) output.old output.new result }
+    ensures read_to_end { RanToEnd (R.remaining input.new) result }
+{
+    let text = read_all(alloc, input)?;
+    let (answer, all) = answers(alloc, text.as_slice())?;
+    output
+        .write_all(answer.as_slice())
+        .map_err(RunError::Write)?;
+    Ok(all)
+}
+
+/// All bytes of a reader.
+fn read_all<R: Read>(alloc: Global, input: &mut R) -> Result<Vec<u8>, RunError>
+    ensures bytes { IfOk result (λ all. IfSome (R.remaining input.old) (λ b. all.items ≡ b)) }
+    ensures end { OnOk result (IsAtEnd (R.remaining input.new)) }
+    ensures fault { IfErr result IsBeforeWriting }
+{
+    match read_to_end(alloc, input)? {
+        Some(all) => Ok(all),
+        None => Err(RunError::Read(io::Error::from(ErrorKind::Other))),
+    }
+}
+
+/// All bytes of a reader, or none where it hasn't ended after the most reads, each of which gave a byte at least. No
+/// clause outside can say so: what a reader of any type fails by is open, so nothing tells its faults from giving up.
+fn read_to_end<R: Read>(alloc: Global, input: &mut R) -> Result<Option<Vec<u8>>, RunError>
+    ensures bytes { IfOk result
+        (λ found. IfSome found (λ all. IfSome (R.remaining input.old) (λ b. all.items ≡ b))) }
+    ensures end { IfOk result (λ found. IfSome found (λ _. IsAtEnd (R.remaining input.new))) }
+    ensures given_up { IfOk result
+        (λ found. found ≡ None → IfSome (R.remaining input.old) (λ b. 2 ^ 40 ≤ length b)) }
+    ensures fault { IfErr result IsBeforeWriting }
+{
+    let mut all = Vec::new(alloc);
+    let mut buffer = [0u8; 4096];
+    for _turn in 0..MOST_READS {
+        match input.read(&mut buffer) {
+            Err(fault) => return Err(RunError::Read(fault)),
+            Ok(0) => return Ok(Some(all)),
+            Ok(count) => all.extend_from_slice(&buffer[..count])?,
+        }
+    }
+    Ok(None)
+}
+
+/// The answers to all lines of a text, and whether each line is settled.
+fn answers(alloc: Global, text: &[u8]) -> Result<(Vec<u8>, bool), RunError>
+    ensures answered { IfOk result (λ found. Answers text.now found.0.items found.1) }
+    ensures memory { IfErr result (λ fault. fault ≡ RunError.Memory) }
+{
+    let mut room = vec![in alloc; 0u8; longest_line(text)]?;
+    answers_in(alloc, text, &mut room)
+}
+
+/// The length of the longest line of a text.
+fn longest_line(text: &[u8]) -> usize
+    ensures room { HasLinesWithin result text.now }
+    ensures least { (most : ℕ) → HasLinesWithin most text.now → result ≤ most }
+{
+    let mut longest: usize = 0;
+    let mut rest = text;
+    while let Some((line, behind)) = bytes::cut(rest, b'\n') {
+        longest = longest.max(line.len());
+        rest = behind;
+    }
+    longest.max(rest.len())
+}
+
+/// The answers to all lines of a text, each of which is read into the room.
+fn answers_in(alloc: Global, text: &[u8], room: &mut [u8]) -> Result<(Vec<u8>, bool), RunError>
+    requires { HasLinesWithin (length room.old) text.now }
+    ensures answered { IfOk result (λ found. Answers text.now found.0.items found.1) }
+    ensures memory { IfErr result (λ fault. fault ≡ RunError.Memory) }
+{
+    let mut out = Vec::new(alloc);
+    let mut all = true;
+    let mut rest = text;
+    while let Some((line, behind)) = bytes::cut(rest, b'\n') {
+        let settled = answer(line, room, &mut out)?;
+        all &= settled;
+        rest = behind;
+    }
+    if rest.is_empty() {
+        return Ok((out, all));
+    }
+    let settled = answer(rest, room, &mut out)?;
+    Ok((out, all & settled))
+}
+
+/// Appends the answer to a line, which is read into the room, and says whether the line is settled.
+fn answer(line: &[u8], room: &mut [u8], out: &mut Vec<u8>) -> Result<bool, RunError>
+    requires { length line.now ≤ length room.old }
+    ensures { AppendsAnswer line.now out.old.items out.new.items result }
+{
+    match UrlRef::parse_in(line, room) {
+        Ok(url) => tell(url, out),
+        Err(ParseError::Refused(refusal)) => refuse(&refusal, out),
+        Err(ParseError::NoRoom) => unreachable!(),
+    }
+}
+
+/// Appends what is told of a location, and says whether it is settled. Its text is laid out once.
+fn tell(url: UrlRef<'_>, out: &mut Vec<u8>) -> Result<bool, RunError>
+    ensures { Tells url.entry out.old.items out.new.items result }
+{
+    let mut digits = Buffer::new();
+    match url.own_pieces(&mut digits) {
+        Ok(pieces) => tell_written(&url, &pieces, out),
+        Err(_) => {
+            put_scheme(out, "unwritable", &url)?;
+            Ok(false)
+        }
+    }
+}
+
+/// The same of a location whose text these pieces make up.
+fn tell_written(url: &UrlRef<'_>, pieces: &Pieces<'_>, out: &mut Vec<u8>) -> Result<bool, RunError>
+    requires { text url.now ≡ Ok (pieces_text pieces.now) }
+    ensures { Tells url.now out.old.items out.new.items result }
+{
+    if url.is_settled_as(Some(pieces)) {
+        put_text(out, pieces)?;
+        return Ok(true);
+    }
+    put_scheme(out, "unsettled", url)?;
+    Ok(false)
+}
+
+/// Appends the answer for a line that is refused.
+fn refuse(refusal: &Refusal<'_>, out: &mut Vec<u8>) -> Result<bool, RunError>
+    ensures { TellsRefusal refusal.now out.old.items out.new.items result }
+{
+    put_line(out, "refused", refusal_name(refusal).as_bytes())?;
+    Ok(false)
+}
+
+/// The name of what a line is refused for.
+fn refusal_name(refusal: &Refusal<'_>) -> &'static str
+    ensures { result.now ≡ refusal_name refusal.now }
+{
+    match refusal {
+        Refusal::EmptyLocal => "EmptyLocal",
+        Refusal::MissingPath { .. } => "MissingPath",
+        Refusal::NotUtf8 { .. } => "NotUtf8",
+        Refusal::TooLong { .. } => "TooLong",
+        Refusal::BadUrl { fault, .. } => bad_url_name(*fault),
+    }
+}
+
+/// The words for a fault of a URL.
+fn bad_url_name(fault: UrlFault) -> &'static str
+    ensures { result.now ≡ codes "BadUrl " ++ fault_name fault }
+{
+    match fault {
+        UrlFault::NoScheme => "BadUrl NoScheme",
+        UrlFault::BadPort => "BadUrl BadPort",
+        UrlFault::BadCharacter => "BadUrl BadCharacter",
+        UrlFault::HostRequired => "BadUrl HostRequired",
+    }
+}
+
+/// Appends the line of a location that isn't settled: a word and the scheme.
+fn put_scheme(out: &mut Vec<u8>, word: &str, url: &UrlRef<'_>) -> Result<(), RunError>
+    ensures { Puts (told_line word.now (protocol_text url.now.scheme)) out.old.items out.new.items
+        result }
+{
+    put_line(out, word, url.scheme.as_str().as_bytes())
+}
+
+/// Appends a line: a word, a tab, and what it is said of.
+fn put_line(out: &mut Vec<u8>, word: &str, of_what: &[u8]) -> Result<(), RunError>
+    ensures { Puts (told_line word.now of_what.now) out.old.items out.new.items result }
+{
+    out.extend_from_slice(word.as_bytes())?;
+    out.extend_from_slice(b"\t")?;
+    out.extend_from_slice(of_what)?;
+    out.extend_from_slice(b"\n")?;
+    Ok(())
+}
+
+/// Appends the line of a settled location: the text that its pieces make up.
+fn put_text(out: &mut Vec<u8>, pieces: &Pieces<'_>) -> Result<(), RunError>
+    ensures { Puts (told_line (codes "settled") (pieces_text pieces.now)) out.old.items
+        out.new.items result }
+{
+    out.extend_from_slice(b"settled\t")?;
+    match pieces.put::<Vec<u8>, Output>(out) {
+        Ok(()) => {}
+        Err(_) => return Err(RunError::Memory),
+    }
+    out.extend_from_slice(b"\n")?;
+    Ok(())
+}

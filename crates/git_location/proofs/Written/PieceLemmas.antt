@@ -1,0 +1,114 @@
+-- Pieces of a text: what escapes and written percents make up, and how long they are.
+use Rattle.std.proofs.Common.{◌≡◌, ℕ, ◌+◌, ◌*◌, ◌<◌, Bool, cond, ◌==◌, Option, Some, None, Result, Ok, Err, List, [], ◌∷◌, ◌++◌, length, take, drop, get_or, inl, inr, refl, sym, ap, ◌∙◌, arith, append_assoc, length-append}
+use Rattle.std.specs.Borrow.{Bor}
+use Rattle.std.specs.List.{count_by, position_or_len}
+use Rattle.std.proofs.lemmas.Bool.{both_ways, cases_Bool, eqb-true, cond-true, cond-false}
+use Rattle.std.proofs.lemmas.List.Sums.{sum_by-cons, fails_before_first, passes_at_first, split_at_first}
+use Rattle.std.proofs.lemmas.Str.Pattern.{IsSplitOnceResult, split_once_first}
+use Rattle.percent_encoding.specs.declared.ascii_set.AsciiSet.{AsciiSet}
+use Rattle.percent_encoding.specs.AsciiSet.{should_percent_encode}
+use Rattle.percent_encoding.specs.Percent.{percent_encode, percent_encode_byte}
+use Rattle.percent_encoding.proofs.PercentLemmas.{percent_encode-nil, percent_encode_escaped, percent_encode_kept}
+use Rattle.std.specs.Prelude.{OnOk}
+use Rattle.git_location.specs.declared.write_error.WriteFault.{WriteFault}
+use Rattle.git_syntax.specs.Bytes.{percent_sign, FreeOf}
+use Rattle.git_syntax.specs.Cuts.{CutsAt}
+use Rattle.git_syntax.specs.Escapes.{escaped_percents}
+use Rattle.git_syntax.proofs.Texts.CutLemmas.{lacks_before, lacks_after}
+use Rattle.git_syntax.proofs.Texts.EscapeLemmas.{escaped_percents-append, escaped_percents_kept}
+
+-- ---- lengths
+
+-- the count over a list is that of its first element and that of the others
+counted : (p : ℕ → Bool) (b : ℕ) (bs : List ℕ) (n : ℕ) → cond (p b) 1 0 ≡ n → count_by p (b ∷ bs) ≡ n + count_by p bs
+counted p b bs n h = sum_by-cons (λ x. cond (p x) 1 0) b bs ∙ ap (λ m. m + count_by p bs) h
+
+-- the escape of a byte has three bytes
+length_escape : (b : ℕ) → length (percent_encode_byte b) ≡ 3
+unfolding percent_encode_byte
+length_escape b = refl
+
+-- each escape makes a text longer by two
+pub length_escapes : (set : AsciiSet) (bs : List ℕ) → length (percent_encode set bs) ≡ length bs + 2 * count_by (should_percent_encode set) bs
+length_escapes set [] = ap length (percent_encode-nil set)
+length_escapes set (b ∷ bs) =
+    let rest = length_escapes set bs in
+    elim (cases_Bool (should_percent_encode set b)) [
+      | inl escaped ↦
+          let whole = ap length (percent_encode_escaped set b bs escaped) ∙ length-append (percent_encode_byte b) (percent_encode set bs) in
+          let three = length_escape b in
+          let one = counted (should_percent_encode set) b bs 1 (cond-true {A = ℕ} (should_percent_encode set b) 1 0 escaped) in
+          omega (arith, whole, three, one, rest)
+      | inr kept ↦
+          let whole = ap length (percent_encode_kept set b bs kept) in
+          let none = counted (should_percent_encode set) b bs 0 (cond-false {A = ℕ} (should_percent_encode set b) 1 0 kept) in
+          omega (arith, whole, none, rest)
+    ]
+
+-- and so does each written percent
+pub length_percents : (bs : List ℕ) → length (escaped_percents bs) ≡ length bs + 2 * count_by (λ b. b == percent_sign) bs
+length_percents [] = refl
+length_percents (b ∷ bs) =
+    let rest = length_percents bs in
+    elim (cases_Bool (b == percent_sign)) [
+      | inl escaped ↦
+          let whole = ap length (cond-true (b == percent_sign) (37 ∷ 50 ∷ 53 ∷ escaped_percents bs) (b ∷ escaped_percents bs) escaped) in
+          let one = counted (λ d. d == percent_sign) b bs 1 (cond-true {A = ℕ} (b == percent_sign) 1 0 escaped) in
+          omega (arith, whole, one, rest)
+      | inr kept ↦
+          let whole = ap length (cond-false (b == percent_sign) (37 ∷ 50 ∷ 53 ∷ escaped_percents bs) (b ∷ escaped_percents bs) kept) in
+          let none = counted (λ d. d == percent_sign) b bs 0 (cond-false {A = ℕ} (b == percent_sign) 1 0 kept) in
+          omega (arith, whole, none, rest)
+    ]
+
+-- a text of which no byte has to be escaped is written as it is
+pub kept_text : (set : AsciiSet) (bs : List ℕ) → count_by (should_percent_encode set) bs ≡ 0 → percent_encode set bs ≡ bs
+kept_text set [] none = percent_encode-nil set
+kept_text set (b ∷ bs) none =
+    elim (cases_Bool (should_percent_encode set b)) [
+      | inl escaped ↦
+          let one = counted (should_percent_encode set) b bs 1 (cond-true {A = ℕ} (should_percent_encode set b) 1 0 escaped) in
+          absurd (omega (arith, one, none))
+      | inr kept ↦
+          let rest = counted (should_percent_encode set) b bs 0 (cond-false {A = ℕ} (should_percent_encode set b) 1 0 kept) in
+          let others : count_by (should_percent_encode set) bs ≡ 0 = omega (arith, rest, none) in
+          percent_encode_kept set b bs kept ∙ ap (λ x. b ∷ x) (kept_text set bs others)
+    ]
+
+-- ---- percents
+
+-- a text is written as what stands before the first `%`, its escape, and what is written behind it
+pub percents_cut : (t x y : List ℕ) → FreeOf percent_sign x → t ≡ x ++ percent_sign ∷ y → escaped_percents t ≡ x ++ 37 ∷ 50 ∷ 53 ∷ escaped_percents y
+percents_cut t x y free whole =
+    ap escaped_percents whole ∙ escaped_percents-append x (percent_sign ∷ y) ∙ ap (λ z. z ++ escaped_percents (percent_sign ∷ y)) (escaped_percents_kept x free)
+
+-- ---- the first byte
+
+-- the parts that `split_once` answers, as a cut
+pub split_cuts : (c : ℕ) (bs : List ℕ) (r : Option (Bor (List ℕ) × Bor (List ℕ))) → IsSplitOnceResult c bs r → c < 128 → CutsAt c bs r
+split_cuts c bs None h small =
+    let none : position_or_len (λ b. b == c) bs ≡ length bs = split_once_first c bs None h small in
+    lacks_after (λ b. b == c) bs 0 (λ k l m e. both_ways (get_or bs k 0 == c) (fails_before_first (λ b. b == c) bs k 0 (omega (arith, none))) e)
+split_cuts c bs (Some x) h small =
+    let at = position_or_len (λ b. b == c) bs in
+    let found = split_once_first c bs (Some x) h small in
+    let front : FreeOf c (take at bs) = lacks_before (λ b. b == c) bs at (λ k l e. both_ways (get_or bs k 0 == c) (fails_before_first (λ b. b == c) bs k 0 l) e) in
+    let here : get_or bs at 0 ≡ c = eqb-true (get_or bs at 0) c (passes_at_first (λ b. b == c) bs 0 found.0) in
+    rw (found.1, found.2) (front, split_at_first (λ b. b == c) bs 0 found.0 ∙ ap (λ b. take at bs ++ b ∷ drop (at + 1) bs) here)
+
+-- ---- texts that are put
+
+-- a text of which one slice more was handed out
+pub handed_on : (whole done rest chunk left : List ℕ) → whole ≡ done ++ rest → rest ≡ chunk ++ left → whole ≡ (done ++ chunk) ++ left
+handed_on whole done rest chunk left first second = first ∙ (ap (λ x. done ++ x) second ∙ sym (append_assoc done chunk left))
+
+-- ---- results
+
+-- what follows where a call succeeds
+pub on_ok : {T E P Q : Type 0} (r : Result T E) → (P → Q) → OnOk r P → OnOk r Q
+on_ok (Ok x) follows h = follows h
+on_ok (Err e) follows h = tt
+
+-- equal results tell the same fault
+pub same_fault : {A : Type 0} (r : Result A WriteFault) (f g : WriteFault) → Err f ≡ r → r ≡ Err g → f ≡ g
+same_fault r f g h k = let e : Err f ≡ Err g = h ∙ k in cc

@@ -1,0 +1,6 @@
+-- The text is that of a URL.
+use Rattle.git_location.proofs.Written.WrittenAsUrlLemmas.{written_git}
+use Rattle.git_location.proofs.settled.url.is_settled_git.Goals as goal
+
+pub is_settled_raw-requires-clause-form : goal.is_settled_raw-requires-clause-form
+is_settled_raw-requires-clause-form c = written_git c.args.url.now c.requires.scheme

@@ -1,0 +1,9 @@
+-- Pieces that were put to their end were shown.
+use Rattle.git_location.specs.Pieces.{pieces_text}
+use Rattle.git_location.proofs.Written.DisplayLemmas.{shown_plain, shown_whole}
+use Rattle.git_location.proofs.writer.show.show_pieces.Goals as goal
+
+pub returns : goal.returns
+returns g c =
+    let whole = shown_whole g.W.Write.write_str_gives c.args.f.now c.put.new.place c.put.result (pieces_text c.args.pieces.now) c.put.ensures in
+    record { writes = shown_plain _ _ _ _ _ whole; styled = whole }

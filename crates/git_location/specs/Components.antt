@@ -1,0 +1,95 @@
+-- What the path of a location is made of: on the web a path, a query and a fragment.
+use Rattle.std.specs.Prelude.{◌≡◌, ℕ, ◌==◌, List, [], ◌∷◌, ◌++◌, map, All, Option, Some, None, option_map, if◌then◌else◌}
+use Rattle.std.specs.List.{join_with_byte}
+use Rattle.percent_encoding.specs.Percent.{percent_decode}
+use Rattle.git_syntax.specs.Value.{Protocol, Location}
+use Rattle.git_syntax.specs.Value.Protocol.{http, https}
+use Rattle.git_syntax.specs.Bytes.{space, number_sign, ampersand, plus_sign, equals_sign, question_mark, FreeOf}
+use Rattle.git_syntax.specs.Escapes.{matches}
+use Rattle.git_syntax.specs.Grammar.{or_root}
+use Rattle.git_location.specs.Text.{original_path}
+
+-- a path, the names and values of a query, and a fragment, as they are meant
+pub record Components : Type 0 where
+  pub path : List ℕ
+  pub query : Option (List (List ℕ × List ℕ))
+  pub fragment : Option (List ℕ)
+
+-- what a piece of the original path stands for: its decoding, where that is a spelling, and else itself
+abbrev pub stands_for : Location → List ℕ → List ℕ
+stands_for v piece = if matches v.spelling v.path then percent_decode piece else piece
+
+-- ---- the cuts
+
+-- a text is cut at its first c: what stands before it, and what stands behind it, where there is one
+abbrev pub CutsText : ℕ → List ℕ → List ℕ → Option (List ℕ) → Type 0
+CutsText c text front None = FreeOf c text × (front ≡ text)
+CutsText c text front (Some behind) = FreeOf c front × (text ≡ front ++ c ∷ behind)
+
+-- a fragment stands behind the first `#`, and before that a front, with or without a query behind its first `?`
+abbrev pub CutsPath : List ℕ → List ℕ → Option (List ℕ) → Option (List ℕ) → Type 0
+CutsPath text front query fragment = (middle : List ℕ) × CutsText number_sign text middle fragment
+    × CutsText question_mark middle front query
+
+-- the text is fields free of `&`, joined by `&`
+pub record CutsFields (text : List ℕ) (fields : List (List ℕ)) : Type 0 where
+  pub each : All (FreeOf ampersand) fields
+  pub joined : text ≡ join_with_byte ampersand fields
+
+-- a field is a name, or a name, `=` and a value
+pub data SplitsField (field name value : List ℕ) : Type 0 where
+  name_alone : FreeOf equals_sign field → name ≡ field → value ≡ [] → SplitsField field name value
+  with_value : FreeOf equals_sign name → field ≡ name ++ equals_sign ∷ value
+      → SplitsField field name value
+
+-- ---- what the pieces stand for
+
+-- each raw `+` is a space
+abbrev pub with_spaces : List ℕ → List ℕ
+with_spaces piece = map (λ b. if b == plus_sign then space else b) piece
+
+-- what a name or a value stands for
+abbrev pub term_of : Location → List ℕ → List ℕ
+term_of v piece = stands_for v (with_spaces piece)
+
+-- the fields stand for these names and values, in order; empty fields stand for nothing
+abbrev pub PairsOf : Location → List (List ℕ) → List (List ℕ × List ℕ) → Type 0
+PairsOf v [] pairs = pairs ≡ []
+PairsOf v ([] ∷ fields) pairs = PairsOf v fields pairs
+PairsOf v ((b ∷ bs) ∷ fields) pairs =
+    (name : List ℕ) × (value : List ℕ) × (others : List (List ℕ × List ℕ))
+    × SplitsField (b ∷ bs) name value × PairsOf v fields others
+    × (pairs ≡ (term_of v name, term_of v value) ∷ others)
+
+-- the query, where there is one, stands for these names and values
+abbrev pub QueryOf : Location → Option (List ℕ) → Option (List (List ℕ × List ℕ)) → Type 0
+QueryOf v None query = query ≡ None
+QueryOf v (Some text) query =
+    (fields : List (List ℕ)) × (pairs : List (List ℕ × List ℕ)) × CutsFields text fields
+    × PairsOf v fields pairs × (query ≡ Some pairs)
+
+-- ---- the components
+
+-- the components of a location of HTTP: an empty front is the root
+pub record WebParts (v : Location) (components : Components) : Type 0 where
+  pub front : List ℕ
+  pub query : Option (List ℕ)
+  pub fragment : Option (List ℕ)
+  pub cut : CutsPath (original_path v) front query fragment
+  pub path_meant : components.path ≡ or_root (stands_for v front)
+  pub query_meant : QueryOf v query components.query
+  pub fragment_meant : components.fragment ≡ option_map (stands_for v) fragment
+
+-- any other path is a path alone
+abbrev pub whole_path : List ℕ → Components
+whole_path text = record { path = text; query = None; fragment = None }
+
+-- the components of a location, by its protocol
+abbrev pub PartsBy : Protocol → Location → Components → Type 0
+PartsBy http v components = WebParts v components
+PartsBy https v components = WebParts v components
+PartsBy _ v components = components ≡ whole_path v.path
+
+-- the components of a location
+abbrev pub PartsOf : Location → Components → Type 0
+PartsOf v components = PartsBy v.scheme v components

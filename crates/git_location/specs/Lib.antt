@@ -1,0 +1,22 @@
+-- What a user reads.
+pub mod Text
+pub mod Settled
+pub mod Readings
+pub mod Display
+pub mod Words
+pub mod Arguments
+pub mod Answers
+pub mod Git
+pub mod GitClass
+pub mod Components
+pub mod Records
+pub mod Order
+pub mod Safeguards
+pub mod Views
+pub mod UrlRef
+-- What serves the proofs of this crate and of those above it alone.
+pub mod KeptBytes
+pub mod Pieces
+pub mod Sinks
+pub mod Fills
+pub mod SettledParts

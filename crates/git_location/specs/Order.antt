@@ -1,0 +1,92 @@
+-- Equality, order and hash of protocols and of locations: part by part in declared order, texts by their bytes.
+use Rattle.std.specs.Prelude.{ℕ, Bool, ◌&&◌, nat_eq, List, [], ◌∷◌, ◌++◌, length, bytes_eq, Option, Some, None}
+use Rattle.std.specs.Option.{option_eq, option_cmp}
+use Rattle.std.specs.declared.cmp.Ordering.{Ordering}
+use Rattle.std.specs.Ordering.{nat_cmp, bool_cmp, on, then_cmp}
+use Rattle.std.specs.Cmp.Lexicographic.{slice_cmp}
+use Rattle.std.specs.Hash as fed
+use Rattle.std.specs.Hash.{HashWrites}
+use mathlib.Core.Bool.{beq}
+use Rattle.git_syntax.specs.Value.{Protocol, Location}
+use Rattle.git_syntax.specs.Value.Protocol.{file, git, ssh, http, https, ext, helper, helper_url}
+
+-- where a protocol stands among the kinds of them, as they are declared
+abbrev pub rank : Protocol → ℕ
+rank file = 0
+rank git = 1
+rank ssh = 2
+rank http = 3
+rank https = 4
+rank ext = 5
+rank (helper name) = 6
+rank (helper_url name) = 7
+
+-- the name that a protocol brings with it, where its kind alone doesn't say which it is
+abbrev pub held_name : Protocol → Option (List ℕ)
+held_name (helper name) = Some name
+held_name (helper_url name) = Some name
+held_name _ = None
+
+-- ---- equality
+
+-- texts that may be missing are equal where both are missing, or both are there with the same bytes
+abbrev pub text_eq : Option (List ℕ) → Option (List ℕ) → Bool
+text_eq = option_eq bytes_eq
+
+-- protocols are equal where their kinds and their names are
+abbrev pub protocol_eq : Protocol → Protocol → Bool
+protocol_eq p q = nat_eq (rank p) (rank q) && text_eq (held_name p) (held_name q)
+
+-- locations are equal where all eight parts are
+abbrev pub location_eq : Location → Location → Bool
+location_eq v w =
+    protocol_eq v.scheme w.scheme
+    && (text_eq v.user w.user && (text_eq v.password w.password && (text_eq v.host w.host
+    && (beq v.flag w.flag
+    && (option_eq nat_eq v.port w.port
+    && (bytes_eq v.path w.path && text_eq v.spelling w.spelling))))))
+
+-- ---- order
+
+-- bytes are ordered by the first that differs, and a text comes behind its own front
+abbrev pub bytes_cmp : List ℕ → List ℕ → Ordering
+bytes_cmp = slice_cmp nat_cmp
+
+-- a text that is missing comes before each that is there
+abbrev pub text_cmp : Option (List ℕ) → Option (List ℕ) → Ordering
+text_cmp = option_cmp bytes_cmp
+
+-- protocols are ordered by their kinds as declared, and then by their names
+abbrev pub protocol_cmp : Protocol → Protocol → Ordering
+protocol_cmp = then_cmp (on rank nat_cmp) (on held_name text_cmp)
+
+-- locations are ordered by the first part that differs, in declared order, the retained spelling last
+abbrev pub location_cmp : Location → Location → Ordering
+location_cmp =
+    then_cmp (on (λ v. v.scheme) protocol_cmp)
+    (then_cmp (on (λ v. v.user) text_cmp) (then_cmp (on (λ v. v.password) text_cmp)
+    (then_cmp (on (λ v. v.host) text_cmp)
+    (then_cmp (on (λ v. v.flag) bool_cmp) (then_cmp (on (λ v. v.port) (option_cmp nat_cmp))
+    (then_cmp (on (λ v. v.path) bytes_cmp) (on (λ v. v.spelling) text_cmp)))))))
+
+-- ---- hash
+
+-- of a text a hasher is fed the length, and then the bytes at once
+abbrev pub fed_bytes : List ℕ → HashWrites
+fed_bytes bs = fed.usize (length bs) ++ (bs ∷ [])
+
+-- of a text that may be missing it is fed a byte that tells, and then the text
+abbrev pub fed_text : Option (List ℕ) → HashWrites
+fed_text None = fed.u8 0
+fed_text (Some bs) = fed.u8 1 ++ fed_bytes bs
+
+-- of a protocol it is fed the kind and the name
+abbrev pub fed_protocol : Protocol → HashWrites
+fed_protocol p = fed.u8 (rank p) ++ fed_text (held_name p)
+
+-- of a location it is fed all eight parts
+abbrev pub fed_location : Location → HashWrites
+fed_location v =
+    fed_protocol v.scheme ++ (fed_text v.user ++ (fed_text v.password ++ (fed_text v.host
+    ++ (fed.bool v.flag ++
+    (fed.option fed.u16 v.port ++ (fed_bytes v.path ++ fed_text v.spelling))))))

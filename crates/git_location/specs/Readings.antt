@@ -1,0 +1,49 @@
+-- What a call answers: words for results that name the errors of the code.
+use Rattle.std.specs.Prelude.{◌≡◌, ◌<◌, ◌≤◌, ◌↔◌, ℕ, length, List, Option, Result, Ok, Err, IfOk, IfErr}
+use Rattle.std.specs.Io.KnownBytes.{Appends}
+use Rattle.git_location.specs.declared.parse_error.ParseError.{ParseError}
+use Rattle.git_location.specs.declared.parse_error.ParseError.TheVariants as unread
+use Rattle.git_location.specs.declared.write_error.WriteFault.{WriteFault}
+use Rattle.git_location.specs.declared.write_error.WriteError.{WriteError}
+use Rattle.git_location.specs.declared.write_error.WriteError.TheVariants.{Fault, Io}
+use Rattle.git_syntax.specs.Value.{Location, fields}
+use Rattle.git_syntax.specs.Grammar.{Spells}
+use Rattle.git_location.specs.Text.{text}
+use Rattle.git_location.specs.Settled.{IsSettled}
+use Rattle.git_syntax.specs.Flaws.{NamesFlaw}
+
+-- the bytes spell a location, and the room is shorter than they are; or they spell none, and the flaw that the refusal
+-- names stands in them
+abbrev pub RefusesIn : List ℕ → ℕ → ParseError → Type 0
+RefusesIn b room unread.NoRoom = ((v : Location) × Spells b v) × (room < length b)
+RefusesIn b room (unread.Refused refusal) = ((v : Location) → ¬ Spells b v) × NamesFlaw b refusal
+
+-- what reading the bytes answers where there is room for so many: no premise speaks of memory
+pub record ReadsIn (b : List ℕ) (room : ℕ) (result : Result Location ParseError) : Type 0 where
+  -- a location that they spell
+  pub found : IfOk result (Spells b)
+  -- or an error, and then they spell none, or the room is shorter than they are
+  pub refused : IfErr result (RefusesIn b room)
+  -- where there is room for as many bytes, it is answered exactly where they spell it
+  pub exact : length b ≤ room → (v : Location) → (result ≡ Ok v) ↔ Spells b v
+
+-- the location has the public fields and the text of the other, and is settled
+pub record IsAgain (v again : Location) : Type 0 where
+  pub same_fields : fields again ≡ fields v
+  pub same_text : text again ≡ text v
+  pub settled : IsSettled again
+
+-- the bytes spell the location again
+pub record SpellsAgain (v : Location) (b : List ℕ) : Type 0 where
+  pub back : Location
+  pub spelled : Spells b back
+  pub again : IsAgain v back
+
+-- what a call left that wrote a text to a writer: on `Ok` the text is appended; where there is none the fault is
+-- told and the writer is as it was
+abbrev pub Written : {W : Type 0} → (W → Option (List ℕ)) → W → W → Result (List ℕ) WriteFault
+    → Result (Unit {0}) WriteError → Type 0
+Written contents old new (Ok t) (Ok u) = Appends (contents old) (contents new) t
+Written contents old new (Ok t) (Err (Fault f)) = ⊥
+Written contents old new (Ok t) (Err (Io e)) = Unit {0}
+Written contents old new (Err f) r = (r ≡ Err (Fault f)) × (new ≡ old)

@@ -1,0 +1,21 @@
+-- Laws that keep passwords, options and escapes in their places, and of locations without a password or a spelling.
+use Rattle.std.specs.Prelude.{◌≡◌, ℕ, false, List, Option, Some}
+use Rattle.git_syntax.specs.Value.{Location}
+use Rattle.git_location.specs.Arguments.{judgement_of, path_argument, is_option_like}
+use Rattle.git_location.specs.Arguments.Judgement.{usable}
+use Rattle.git_location.specs.Display.{display}
+
+-- locations that differ in nothing but what their passwords are look alike
+abbrev pub HidesPassword : Type 0
+HidesPassword = (v : Location) (p q : List ℕ)
+    → display (record v { password = Some p }) ≡ display (record v { password = Some q })
+
+-- what is judged usable doesn't begin with `-`, and is the part itself
+abbrev pub UsableIsNoOption : Type 0
+UsableIsNoOption = (part : Option (List ℕ)) (text : List ℕ) → judgement_of part ≡ usable text
+    → (part ≡ Some text) × (is_option_like text ≡ false)
+
+-- the path that is handed over doesn't begin with `-`, and is the path itself
+abbrev pub PathIsNoOption : Type 0
+PathIsNoOption = (path text : List ℕ) → path_argument path ≡ Some text
+    → (path ≡ text) × (is_option_like text ≡ false)

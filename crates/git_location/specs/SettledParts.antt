@@ -1,0 +1,40 @@
+-- What the tests of the settled class tell of hosts and of texts on the way.
+use Rattle.std.specs.Prelude.{◌≡◌, ℕ, ◌≤◌, true, false, ◌⊎◌, List, [], ◌∷◌, ◌++◌, length, Option, MatchOption, Ok}
+use Rattle.std.specs.Borrow.{Bor}
+use Rattle.git_syntax.specs.Value.{Location}
+use Rattle.git_syntax.specs.Bytes.{colon, left_bracket, right_bracket, FreeOf}
+use Rattle.git_syntax.specs.Escapes.{has_percent}
+use Rattle.git_syntax.specs.Addresses.{Literal}
+use Rattle.git_syntax.specs.Schemes.{protocol_text}
+use Rattle.git_location.specs.Text.{text, canonical_text}
+use Rattle.git_syntax.specs.Walks.{is_walk_short, text_walk_past, text_walk_for}
+use Rattle.git_location.specs.Settled.{IsHosted, IsWebName}
+
+-- a literal that stays as it is
+abbrev pub IsNormalLiteral : List ℕ → Type 0
+IsNormalLiteral text = Literal text text
+
+-- brackets around such a literal
+abbrev pub IsBracketedLiteral : List ℕ → Type 0
+IsBracketedLiteral host = (n : List ℕ) × Literal n n
+    × (host ≡ left_bracket ∷ (n ++ right_bracket ∷ []))
+
+-- what stands between brackets, or none where the text isn't in brackets
+abbrev pub StripsBrackets : List ℕ → Option (Bor (List ℕ)) → Type 0
+StripsBrackets host r = MatchOption r
+    ((inner : List ℕ) → ¬ (host ≡ left_bracket ∷ (inner ++ right_bracket ∷ [])))
+    (λ inner. host ≡ left_bracket ∷ (inner.now ++ right_bracket ∷ []))
+
+-- a host of HTTP that may have a colon behind it
+abbrev pub IsClosedHost : List ℕ → Type 0
+IsClosedHost host = IsBracketedLiteral host ⊎ (IsWebName host × (has_percent host ≡ false))
+
+-- the scheme is free of `:`, and the text is the canonical one, where the location has the parts of a URL
+pub record IsWrittenAsUrl (v : Location) : Type 0 where
+  pub no_colon : FreeOf colon (protocol_text v.scheme)
+  pub canonical : v.flag ≡ false → IsHosted v → text v ≡ Ok (canonical_text v)
+
+-- the scheme is short enough, and so is what follows it and its mark in the text
+abbrev pub IsPiecesShort : List ℕ → List ℕ → Type 0
+IsPiecesShort scheme whole = (length scheme ≤ 1024)
+    × (is_walk_short (text_walk_past (text_walk_for scheme) whole).walk ≡ true)

@@ -1,0 +1,124 @@
+-- What a place is after it took a text, for each sink, and that two texts taken are one: memory with room, a formatter,
+-- and the walk of the length test. What stands behind the text is any, so that texts join without counting.
+use Rattle.std.specs.Prelude.{◌≡◌, ℕ, ◌+◌, ◌≤◌, Bool, true, false, ◌||◌, List, [], ◌∷◌, ◌++◌, length, refl}
+use Rattle.std.proofs.Common.{sym, ap, subst, ◌∙◌, append_assoc, append-nil}
+use Rattle.std.specs.List.{FoldsTo, list_any}
+use Rattle.std.proofs.lemmas.List.Folds.{concat-append, list_any-append}
+use Rattle.std.specs.declared.fmt.Formatter.{Formatter}
+use Rattle.std.specs.Fmt.{HasWrittenStyled, IsFlush}
+use Rattle.git_syntax.specs.declared.length.TextWalk.{TextWalk}
+use Rattle.git_syntax.specs.Bytes.{lossy_text}
+use Rattle.git_syntax.specs.Walks.{text_walk_past}
+
+-- ---- memory
+
+module _ {A : Type 0} (items : A → List ℕ) (len capacity : A → ℕ) where
+  -- memory with room for a text and for what comes behind it has the text appended, and still has that room
+  abbrev pub AppendsWithin : A → List ℕ → A → Type 0
+  AppendsWithin old text new =
+      (behind : List ℕ) → len old + length (text ++ behind) ≤ capacity old
+      → (items new ≡ items old ++ text) × (len new + length behind ≤ capacity new)
+
+  pub appends_nothing : (a : A) → AppendsWithin a [] a
+  appends_nothing a behind room = (sym (append-nil (items a)), room)
+
+  pub appends_joined : (a b c : A) (x y : List ℕ) → AppendsWithin a x b → AppendsWithin b y c
+      → AppendsWithin a (x ++ y) c
+  appends_joined a b c x y first second behind room =
+      let one = first (y ++ behind)
+      (subst (λ z. len a + length z ≤ capacity a) (append_assoc x y behind) room) in
+      let two = second behind one.1 in
+      (two.0 ∙ ap (λ z. z ++ y) one.0 ∙ append_assoc (items a) x y, two.1)
+
+-- ---- a formatter
+
+module _ {W : Type 0} (took : W → List ℕ → W → Type 0) where
+  -- a formatter that indents nothing took a text that is shown as it is, whatever comes behind it, and whatever its options
+  abbrev pub ShowsText : Formatter W → List ℕ → Formatter W → Type 0
+  ShowsText old text new =
+      ((behind : List ℕ) → lossy_text (text ++ behind) ≡ text ++ lossy_text behind)
+      × (IsFlush old → HasWrittenStyled took old text new)
+
+  -- it took the end of a text, which may be any bytes
+  abbrev pub ShowsEnd : Formatter W → List ℕ → Formatter W → Type 0
+  ShowsEnd old end new = IsFlush old → HasWrittenStyled took old (lossy_text end) new
+
+  -- calls one behind the other
+  calls_joined : (w : W) (xs : List (List ℕ)) (v : W) (ys : List (List ℕ)) (u : W)
+      → FoldsTo took w xs v → FoldsTo took v ys u → FoldsTo took w (xs ++ ys) u
+  calls_joined w [] v ys u p q = subst (λ x. FoldsTo took x ys u) (sym p) q
+  calls_joined w (x ∷ xs) v ys u p q = (p.0, p.1, calls_joined p.0 xs v ys u p.2 q)
+
+  -- two texts that were written, one behind the other
+  joined : (a b c : Formatter W) (x y : List ℕ) → HasWrittenStyled took a x b
+      → HasWrittenStyled took b y c → HasWrittenStyled took a (x ++ y) c
+  joined a b c x y first second = let p = first.wrote in let q = second.wrote in record {
+    wrote = record {
+      parts = p.parts ++ q.parts;
+      calls = calls_joined a.writer p.parts b.writer q.parts c.writer p.calls q.calls;
+      whole = concat-append p.parts q.parts ∙ (λ i. p.whole i ++ q.whole i);
+    };
+    spec = second.spec ∙ first.spec;
+    flush = second.flush;
+  }
+
+  pub shows_nothing : (a : Formatter W) → ShowsText a [] a
+  shows_nothing a = (
+    λ behind. refl,
+    λ flush. record {
+      wrote = record {
+        parts = [];
+        calls = refl;
+        whole = refl;
+      };
+      spec = refl;
+      flush = flush;
+    },
+  )
+
+  pub shows_joined : (a b c : Formatter W) (x y : List ℕ) → ShowsText a x b → ShowsText b y c
+      → ShowsText a (x ++ y) c
+  shows_joined a b c x y first second = (
+    λ behind.
+        ap lossy_text (append_assoc x y behind) ∙ first.0 (y ++ behind) ∙ ap
+        (λ z. x ++ z) (second.0 behind) ∙ sym (append_assoc x y (lossy_text behind)),
+    λ flush. let before = first.1 flush in joined a b c x y before (second.1 before.flush),
+  )
+
+  pub shows_to_end : (a b c : Formatter W) (x y : List ℕ) → ShowsText a x b → ShowsEnd b y c
+      → ShowsEnd a (x ++ y) c
+  shows_to_end a b c x y first second flush =
+      let before = first.1 flush in
+      subst (λ t. HasWrittenStyled took a t c) (sym (first.0 y))
+      (joined a b c x (lossy_text y) before (second before.flush))
+
+-- ---- a walk
+
+-- a walk past a text leads where it leads with the text before it, whatever comes behind
+abbrev pub WalksPast : TextWalk → List ℕ → TextWalk → Type 0
+WalksPast old text new = (behind : List ℕ)
+    → text_walk_past old (text ++ behind) ≡ text_walk_past new behind
+
+pub walks_nothing : (a : TextWalk) → WalksPast a [] a
+walks_nothing a behind = refl
+
+pub walks_joined : (a b c : TextWalk) (x y : List ℕ) → WalksPast a x b → WalksPast b y c
+    → WalksPast a (x ++ y) c
+walks_joined a b c x y first second behind = ap (text_walk_past a) (append_assoc x y behind) ∙ first
+    (y ++ behind) ∙ second behind
+
+-- ---- a note
+
+-- a note is made where the text holds a byte that passes the test; one that was made stays
+abbrev pub Notes : (ℕ → Bool) → Bool → List ℕ → Bool → Type 0
+Notes test old text new = new ≡ (old || list_any test text)
+
+pub notes_nothing : (test : ℕ → Bool) (a : Bool) → Notes test a [] a
+notes_nothing test false = refl
+notes_nothing test true = refl
+
+pub notes_joined : (test : ℕ → Bool) (a b c : Bool) (x y : List ℕ) → Notes test a x b
+    → Notes test b y c → Notes test a (x ++ y) c
+notes_joined test false b c x y first second = second ∙ ap
+    (λ n. n || list_any test y) first ∙ sym (list_any-append test x y)
+notes_joined test true b c x y first second = second ∙ ap (λ n. n || list_any test y) first

@@ -1,0 +1,18 @@
+-- The location that a `UrlRef` stands for.
+use Rattle.std.specs.Prelude.{option_map}
+use Rattle.git_location.specs.declared.url_ref.UrlRef.TheInside.{Inside}
+use Rattle.git_syntax.specs.Value.{Location}
+use Rattle.git_syntax.specs.Views.{lent_protocol}
+
+-- the eight parts of a `UrlRef`, as plain values
+abbrev pub lent_location : Inside → Location
+lent_location u = record {
+  scheme = lent_protocol u.scheme;
+  user = option_map (λ t. t.now) u.user;
+  password = option_map (λ t. t.now) u.password;
+  host = option_map (λ t. t.now) u.host;
+  flag = u.serialize_alternative_form;
+  port = u.port;
+  path = u.path.now;
+  spelling = option_map (λ t. t.now) u.spelling;
+}

@@ -1,0 +1,170 @@
+//! Which parts of a location may be handed to a command as arguments.
+//!
+//! A user, a host or a path that begins with `-` is taken for an option by the command that gets it, and options can
+//! run programs: `ssh://-oProxyCommand=..@host/repo` is such an attempt. It uses `bytes`, looks at fields and takes no
+//! memory. Its contract: each answer is the judgement of the definitions, and no text that begins with `-` is ever
+//! handed out as usable.
+
+ghost use Rattle.std.specs.Prelude.{◌≡◌, Some, IfSome, false, option_map};
+ghost use Rattle.bstr.specs.BStr.{bstr_bytes};
+ghost use Rattle.git_location.specs.Arguments.{IsNoOption, is_option_like, judgement_of, judgement_of_text, path_argument, usable_text};
+ghost use Rattle.git_location.specs.Views.{judgement};
+ghost use Rattle.git_location.specs.Safeguards.{PathIsNoOption, UsableIsNoOption};
+
+use git_syntax::bytes::{after, starts_with_byte};
+use crate::url_ref::UrlRef;
+use bstr::BStr;
+
+/// What a part of a location is to a command line.
+///
+/// Two are equal where they are the same variant with the same text. It is borrowed from the location, and copies
+/// take no memory.
+///
+/// ```
+/// fn ssh_user<'a>(url: &'a Url) -> Result<Option<&'a str>, Refused> {
+///     match url.user_as_argument() {
+///         ArgumentSafety::Absent => Ok(None),
+///         ArgumentSafety::Usable(user) => Ok(Some(user)),
+///         ArgumentSafety::Dangerous(_) => Err(Refused),
+///     }
+/// }
+/// ```
+#[derive(Clone, Copy, Debug, PartialEq, Eq)]
+pub enum ArgumentSafety<'a> {
+    /// The location has no such part.
+    Absent,
+    /// The part, which doesn't begin with `-`. Nothing more is said of it: quoting for a shell is another matter.
+    Usable(&'a str),
+    /// The part, which begins with `-`. As an argument it may be taken for an option.
+    Dangerous(&'a str),
+}
+
+impl<'a> UrlRef<'a> {
+    /// The user as an argument of a command, as [`Url::user_as_argument`] judges it. It takes no memory, and lives as long
+    /// as what lends the location.
+    ///
+    /// ```
+    /// fn is_refused(url: &UrlRef<'_>) -> bool {
+    ///     // `Dangerous("-Fconfig")` of `ssh://-Fconfig@host/repo`, `Absent` of `ssh://host/repo`
+    ///     matches!(url.user_as_argument(), ArgumentSafety::Dangerous(_))
+    /// }
+    /// ```
+    pub fn user_as_argument(&self) -> ArgumentSafety<'a>
+        ensures judged { judgement result ≡ judgement_of self.now.user }
+        ensures safe { IsNoOption (judgement result) }
+    {
+        judged(self.user)
+    }
+
+    /// The host as an argument of a command, as [`Url::host_as_argument`] judges it. It takes no memory, and lives as long
+    /// as what lends the location.
+    ///
+    /// ```
+    /// fn is_refused_host(url: &UrlRef<'_>) -> bool {
+    ///     // `Dangerous("-h")` of `ssh://-h/repo`, `Usable("::1")` of `ssh://[::1]/repo`
+    ///     matches!(url.host_as_argument(), ArgumentSafety::Dangerous(_))
+    /// }
+    /// ```
+    pub fn host_as_argument(&self) -> ArgumentSafety<'a>
+        ensures judged { judgement result ≡ judgement_of self.now.host }
+        ensures safe { IsNoOption (judgement result) }
+    {
+        judged(self.host)
+    }
+
+    /// The user, where there is one that doesn't begin with `-`. It takes no memory, and lives as long as what lends the
+    /// location.
+    ///
+    /// ```
+    /// fn user_or_git<'a>(url: &UrlRef<'a>) -> &'a str {
+    ///     url.user_argument_safe().unwrap_or("git")
+    /// }
+    /// ```
+    pub fn user_argument_safe(&self) -> Option<&'a str>
+        ensures handed { option_map (λ t. t.now) result ≡ usable_text (judgement_of self.now.user) }
+        ensures own { IfSome result (λ t. self.now.user ≡ Some t.now) }
+        ensures safe { IfSome result (λ t. is_option_like t.now ≡ false) }
+    {
+        usable(self.user_as_argument())
+    }
+
+    /// The host, where there is one that doesn't begin with `-`. It takes no memory, and lives as long as what lends the
+    /// location.
+    ///
+    /// ```
+    /// fn can_connect(url: &UrlRef<'_>) -> bool {
+    ///     url.host_argument_safe().is_some()
+    /// }
+    /// ```
+    pub fn host_argument_safe(&self) -> Option<&'a str>
+        ensures handed { option_map (λ t. t.now) result ≡ usable_text (judgement_of self.now.host) }
+        ensures own { IfSome result (λ t. self.now.host ≡ Some t.now) }
+        ensures safe { IfSome result (λ t. is_option_like t.now ≡ false) }
+    {
+        usable(self.host_as_argument())
+    }
+
+    /// The whole path, where it begins with `/` and the byte behind that isn't `-`. It takes no memory, and lives as long
+    /// as what lends the location.
+    ///
+    /// ```
+    /// fn served<'a>(url: &UrlRef<'a>) -> Option<BStr<'a>> {
+    ///     url.path_argument_safe() // `/repo` of `ssh://host/repo`, none of `ssh://host/-repo`
+    /// }
+    /// ```
+    pub fn path_argument_safe(&self) -> Option<BStr<'a>>
+        ensures handed { option_map bstr_bytes result ≡ path_argument self.now.path }
+        ensures own { IfSome result (λ p. bstr_bytes p ≡ self.now.path) }
+        ensures safe { IfSome result (λ p. is_option_like (bstr_bytes p) ≡ false) }
+    {
+        let behind = after(self.path, b'/')?;
+        if starts_with_byte(behind, b'-') {
+            return None;
+        }
+        Some(BStr::new(self.path))
+    }
+}
+
+/// What the part is to a command line.
+fn judged(part: Option<&str>) -> ArgumentSafety<'_>
+    ensures judged { judgement result ≡ judgement_of (option_map (λ t. t.now) part.entry) }
+    ensures safe { IsNoOption (judgement result) }
+{
+    match part {
+        None => ArgumentSafety::Absent,
+        Some(text) => judged_text(text),
+    }
+}
+
+/// What the text is to a command line.
+fn judged_text(text: &str) -> ArgumentSafety<'_>
+    ensures judged { judgement result ≡ judgement_of_text text.now }
+    ensures safe { IsNoOption (judgement result) }
+{
+    if starts_with_byte(text.as_bytes(), b'-') {
+        ArgumentSafety::Dangerous(text)
+    } else {
+        ArgumentSafety::Usable(text)
+    }
+}
+
+/// The text that was judged usable.
+fn usable(part: ArgumentSafety<'_>) -> Option<&str>
+    ensures { option_map (λ t. t.now) result ≡ usable_text (judgement part.entry) }
+{
+    match part {
+        ArgumentSafety::Usable(text) => Some(text),
+        ArgumentSafety::Absent | ArgumentSafety::Dangerous(_) => None,
+    }
+}
+
+/// No text that may be taken for an option is handed out as an argument.
+///
+/// - `usable`: what is judged usable is the part itself, and doesn't begin with `-`.
+/// - `path`: the path that is handed out is the location's own, and doesn't begin with `-`.
+///
+/// Users who choose a transport by [`ArgumentSafety`] know by this law that a command gets no option from a location.
+pub fn law_arguments()
+    ensures usable { UsableIsNoOption }
+    ensures path { PathIsNoOption }
+{}

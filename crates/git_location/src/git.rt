@@ -1,0 +1,171 @@
+//! Locations in whose texts Git reads the same place.
+//!
+//! It uses the settled test, the tests of bytes and the pieces of the writer, and takes no memory. Its contract: the
+//! answer is yes exactly for the class of the definitions, and in the text of each location of that class Git reads the
+//! location's own protocol, user, host, port and path (`law_git`).
+
+ghost use Rattle.std.specs.Prelude.{◌≡◌, ◌↔◌, IsTrue, IfSome, None, Some, false, option_map};
+ghost use Rattle.std.specs.List.{list_any};
+ghost use Rattle.git_location.specs.Arguments.{is_option_like};
+ghost use Rattle.git_location.specs.GitClass.{AgreesWithGit, HasNoOption, HasPlainText, IsRsync, SuitsTransport, is_contested, is_tilde_second};
+ghost use Rattle.git_location.specs.Pieces.{pieces_text};
+ghost use Rattle.git_location.specs.Sinks.{Notes, notes_joined, notes_nothing};
+
+use git_syntax::bytes::starts_with_byte;
+use git_syntax::scheme::SchemeRef;
+use crate::url_ref::UrlRef;
+use crate::writer::piece::Pieces;
+use crate::writer::sink::Sink;
+use itoa::Buffer;
+use std::convert::Infallible;
+
+impl UrlRef<'_> {
+    /// Whether Git reads this very place in the text of the location, as [`Url::agrees_with_git`] tells. It takes no
+    /// memory.
+    ///
+    /// ```
+    /// /// Writes the text for Git, if Git reads the same place in it.
+    /// fn write_for_git(out: &mut Vec<u8>, url: &UrlRef<'_>) -> Result<bool, WriteError> {
+    ///     if !url.agrees_with_git() {
+    ///         return Ok(false); // `ssh://u:p@h/p`, in which Git reads the user `u:p`
+    ///     }
+    ///     url.write_to(out)?;
+    ///     Ok(true)
+    /// }
+    /// ```
+    pub fn agrees_with_git(&self) -> bool
+        ensures { IsTrue result ↔ AgreesWithGit self.now }
+    {
+        self.is_settled()
+            && self.password.is_none()
+            && has_no_option(self)
+            && suits_transport(self)
+            && has_plain_text(self)
+    }
+}
+
+/// Whether neither user nor host nor path begins with `-`.
+fn has_no_option(url: &UrlRef<'_>) -> bool
+    ensures { IsTrue result ↔ HasNoOption url.now }
+{
+    is_no_option(url.user) && is_no_option(url.host) && !starts_with_byte(url.path, b'-')
+}
+
+/// Whether the text, where there is one, doesn't begin with `-`.
+fn is_no_option(part: Option<&str>) -> bool
+    ensures { IsTrue result
+        ↔ IfSome (option_map (λ t. t.now) part.entry) (λ t. is_option_like t ≡ false) }
+{
+    match part {
+        None => true,
+        Some(text) => !starts_with_byte(text.as_bytes(), b'-'),
+    }
+}
+
+/// Whether the location has what Git's transport of its scheme asks, where Git has one.
+fn suits_transport(url: &UrlRef<'_>) -> bool
+    ensures { IsTrue result ↔ SuitsTransport url.now.scheme url.now }
+{
+    match url.scheme {
+        SchemeRef::Ssh => !is_tilde_second(url.path) && !is_rsync(url) && !url.has_empty_user(),
+        SchemeRef::Git => url.user.is_none(),
+        SchemeRef::File => url.host.is_none() && !starts_with_byte(url.path, b'~'),
+        SchemeRef::Http
+        | SchemeRef::Https
+        | SchemeRef::Ext
+        | SchemeRef::Helper(_)
+        | SchemeRef::HelperUrl(_) => false,
+    }
+}
+
+/// Whether the second byte is `~`.
+fn is_tilde_second(text: &[u8]) -> bool
+    ensures { result ≡ is_tilde_second text.now }
+{
+    match text {
+        [_, second, ..] => *second == b'~',
+        _ => false,
+    }
+}
+
+/// Whether the location has the scp form and the host `rsync` alone. Of Secure Shell such a text begins with `rsync:`.
+fn is_rsync(url: &UrlRef<'_>) -> bool
+    ensures { IsTrue result ↔ IsRsync url.now }
+{
+    url.serialize_alternative_form && url.user.is_none() && has_host(url, b"rsync")
+}
+
+/// Whether the location has this host.
+fn has_host(url: &UrlRef<'_>, name: &[u8]) -> bool
+    ensures { IsTrue result ↔ (url.now.host ≡ Some name.now) }
+{
+    match url.host {
+        None => false,
+        Some(host) => host.as_bytes() == name,
+    }
+}
+
+/// Whether the location has a text, without a byte by which Git cuts it otherwise.
+fn has_plain_text(url: &UrlRef<'_>) -> bool
+    ensures { IsTrue result ↔ HasPlainText url.now }
+{
+    let mut digits = Buffer::new();
+    match url.own_pieces(&mut digits) {
+        Ok(pieces) => !are_contested(&pieces),
+        Err(_) => false,
+    }
+}
+
+/// Whether such a byte stands in the text of the pieces.
+fn are_contested(pieces: &Pieces<'_>) -> bool
+    ensures { result ≡ list_any is_contested (pieces_text pieces.now) }
+{
+    let mut found = false;
+    let Ok(()) = pieces.put::<bool, Search>(&mut found);
+    found
+}
+
+/// Whether the byte is one by which Git cuts a text otherwise.
+fn is_contested(byte: u8) -> bool
+    ensures { result ≡ is_contested byte }
+{
+    byte == 0 || byte == b'%' || byte == b'[' || byte == b']'
+}
+
+/// Whether such a byte stands in the text.
+fn holds_contested(text: &[u8]) -> bool
+    ensures { result ≡ list_any is_contested text.now }
+{
+    for byte in text {
+        if is_contested(*byte) {
+            return true;
+        }
+    }
+    false
+}
+
+/// A note that such a byte was seen.
+struct Search;
+
+impl Sink<bool> for Search {
+    type Fault = Infallible;
+
+    ghost takes = { Notes is_contested };
+
+    ghost ends = { Notes is_contested };
+
+    fn put(place: &mut bool, slice: &str) -> Result<(), Infallible> {
+        Search::put_end(place, slice.as_bytes())
+    }
+
+    fn put_end(place: &mut bool, end: &[u8]) -> Result<(), Infallible> {
+        *place = *place || holds_contested(end);
+        Ok(())
+    }
+
+    ghost takes_nothing = { notes_nothing is_contested };
+
+    ghost takes_joined = { notes_joined is_contested };
+
+    ghost ends_joined = { notes_joined is_contested };
+}

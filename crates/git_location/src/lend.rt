@@ -1,0 +1,185 @@
+//! Lending: the location that found slices mean, in slices of the text and of a room.
+//!
+//! It may use `found`, `room`, `peeled`, `home`, `host`, `rules`, `scheme`, `simple_url`, `text` and the type
+//! of borrowed locations. Its contract: the location is the one that the slices mean. It takes no memory: what has other
+//! bytes than the text is written into the room.
+
+ghost use Rattle.std.specs.Prelude.{◌≡◌, ◌≤◌, List, ℕ, IfSome, IsUtf8, false, length, option_map};
+ghost use Rattle.std.specs.Option.{option_copied};
+ghost use Rattle.git_syntax.specs.Authority.{unless_empty};
+ghost use Rattle.git_syntax.specs.FoundPieces.{AreScpTexts, IsReady, IsReadyUrl, host_for, meant, parts_length, room_for, scp_host_of, scp_slice, url_location};
+ghost use Rattle.percent_encoding.specs.Percent.{percent_decode};
+ghost use Rattle.git_syntax.specs.Escapes.{has_percent};
+ghost use Rattle.git_syntax.specs.Grammar.{helper_protocol, path_for, retained_spelling, scp_location};
+ghost use Rattle.git_syntax.specs.SchemeRules.{AreRulesOf, named_protocol};
+ghost use Rattle.git_syntax.specs.Schemes.{protocol_of};
+ghost use Rattle.git_syntax.specs.UrlPieces.{parts_of};
+ghost use Rattle.git_syntax.specs.Value.{path_alone};
+ghost use Rattle.git_syntax.specs.Value.Protocol.{file};
+ghost use Rattle.git_syntax.specs.Views.{lent_protocol};
+
+use git_syntax::found::{Found, ScpHost};
+use git_syntax::host::port_of;
+use git_syntax::peeled::peeled_text;
+use crate::room::{decoded_in, host_in, optional_in, scp_host_in};
+use git_syntax::rules::Rules;
+use git_syntax::simple_url::ParsedUrl;
+use git_syntax::home::{from_home, or_root};
+use git_syntax::scheme::{Protocol, SchemeRef};
+use git_syntax::text::as_text;
+use crate::url_ref::UrlRef;
+
+/// The location that found slices mean.
+pub fn lend<'a>(found: Found<'a>, room: &'a mut [u8]) -> UrlRef<'a>
+    requires ready { IsReady found }
+    requires room { room_for found ≤ length room.old }
+    ensures { result ≡ meant found.entry }
+{
+    match found {
+        Found::Helper { name, address } => path_alone(helper_scheme(name), true, address),
+        Found::Local { path } => path_alone(SchemeRef::File, true, path),
+        Found::File { host, path } => file_location(host, path),
+        Found::Ext { text } => path_alone(SchemeRef::Ext, true, text),
+        Found::Url { rules, url } => url_location(rules, url, room),
+        Found::Scp { user, host, path } => scp_location(user, host, path, room),
+    }
+}
+
+/// A path with this scheme and this flag, and nothing else.
+fn path_alone<'a>(scheme: SchemeRef<'a>, flag: bool, path: &'a [u8]) -> UrlRef<'a>
+    ensures { result ≡ path_alone (lent_protocol scheme.entry) flag path.now }
+{
+    UrlRef {
+        scheme,
+        user: None,
+        password: None,
+        host: None,
+        serialize_alternative_form: flag,
+        port: None,
+        path,
+        spelling: None,
+    }
+}
+
+/// The scheme of a helper with this name.
+fn helper_scheme(name: &[u8]) -> SchemeRef<'_>
+    requires { IsUtf8 name.now }
+    ensures { lent_protocol result ≡ helper_protocol name.now }
+{
+    if name == b"ext".as_slice() {
+        return SchemeRef::Ext;
+    }
+    SchemeRef::Helper(as_text(name))
+}
+
+/// The location of a file URL.
+fn file_location<'a>(host: &'a [u8], path: &'a [u8]) -> UrlRef<'a>
+    requires { IsUtf8 host.now }
+    ensures { result ≡ record (path_alone file false path.now) { host = unless_empty host.now } }
+{
+    let mut url = path_alone(SchemeRef::File, false, path);
+    if !host.is_empty() {
+        url.host = Some(as_text(host));
+    }
+    url
+}
+
+/// The location of a URL with these parts, of whose scheme these are the rules.
+fn url_location<'a>(rules: Rules, url: ParsedUrl<'a>, room: &'a mut [u8]) -> UrlRef<'a>
+    requires ready { IsReadyUrl rules url }
+    requires room { parts_length (parts_of url) ≤ length room.old }
+    ensures { result ≡ url_location (protocol_of url.entry.scheme.now) (parts_of url.entry) }
+{
+    let (user, room) = optional_in(url.user, room);
+    let (password, room) = optional_in(url.password, room);
+    let (host, room) = host_in(url.host, room);
+    let path = path_in(url, room);
+    UrlRef {
+        scheme: SchemeRef::of_protocol(rules.protocol, as_text(url.scheme)),
+        user: text_of(user),
+        password: text_of(password),
+        host: text_of(host_for(rules.protocol, host)),
+        serialize_alternative_form: false,
+        port: port_of(url.host),
+        path: path_for(rules, url.scheme, path),
+        spelling: retained(url),
+    }
+}
+
+/// The text of bytes that may be missing.
+fn text_of(bytes: Option<&[u8]>) -> Option<&str>
+    requires { IfSome (option_copied bytes) IsUtf8 }
+    ensures { option_map (λ t. t.now) result ≡ option_copied bytes.entry }
+{
+    match bytes {
+        None => None,
+        Some(bytes) => Some(as_text(bytes)),
+    }
+}
+
+/// The host of a location: Secure Shell takes it without marks, any other scheme as it is.
+fn host_for(protocol: Protocol, host: Option<&[u8]>) -> Option<&[u8]>
+    ensures { (scheme : List ℕ)
+        → option_copied result
+        ≡ host_for (named_protocol protocol scheme) (option_copied host.entry) }
+{
+    match (protocol, host) {
+        (Protocol::Ssh, Some(host)) => Some(peeled_text(host)),
+        _ => host,
+    }
+}
+
+/// The path of a location, of the decoded one of its URL.
+fn path_for<'a>(rules: Rules, scheme: &[u8], path: &'a [u8]) -> &'a [u8]
+    requires { AreRulesOf scheme.now rules }
+    ensures { result.now ≡ path_for (protocol_of scheme.now) path.now }
+{
+    let _ = scheme;
+    if rules.needs_path {
+        return from_home(path);
+    }
+    if rules.web {
+        return or_root(path);
+    }
+    path
+}
+
+/// The decoded path of a URL.
+fn path_in<'a>(url: ParsedUrl<'a>, room: &'a mut [u8]) -> &'a [u8]
+    requires escaped { url.escaped ≡ has_percent url.path.now }
+    requires room { length (percent_decode url.path.now) ≤ length room.old }
+    ensures { result.now ≡ percent_decode url.entry.path.now }
+{
+    if !url.escaped {
+        return url.path;
+    }
+    let (path, _) = decoded_in(url.path, room);
+    path
+}
+
+/// The spelling of the path of a URL, where it holds an escape.
+fn retained<'a>(url: ParsedUrl<'a>) -> Option<&'a [u8]>
+    requires { url.escaped ≡ has_percent url.path.now }
+    ensures { option_copied result ≡ retained_spelling url.entry.path.now }
+{
+    if url.escaped { Some(url.path) } else { None }
+}
+
+/// A location that Secure Shell reaches, with this user and this host.
+fn scp_location<'a>(
+    user: Option<&'a [u8]>,
+    host: ScpHost<'a>,
+    path: &'a [u8],
+    room: &'a mut [u8],
+) -> UrlRef<'a>
+    requires texts { AreScpTexts (option_copied user) (scp_host_of host) }
+    requires room { length (scp_slice host) ≤ length room.old }
+    ensures { result
+        ≡ scp_location (option_copied user.entry) (scp_host_of host.entry) path.now }
+{
+    let host = scp_host_in(host, room);
+    let mut url = path_alone(SchemeRef::Ssh, true, from_home(path));
+    url.user = text_of(user);
+    url.host = Some(as_text(host));
+    url
+}

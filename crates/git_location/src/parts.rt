@@ -1,0 +1,47 @@
+//! The parts of a location: looked at, exchanged, and the location that has none of them.
+//!
+//! It uses `location`, `scheme` and `url_ref` alone, and takes no memory. Its contracts: what is returned is
+//! the field, and of the spelling of the path whether it is retained; what is stored is there from then on,
+//! the old value comes back, and no other part changes.
+
+ghost use Rattle.std.specs.Prelude.{◌≡◌, ◌↔◌, IsTrue, [], ◌∷◌};
+ghost use Rattle.std.specs.Option.{option_or};
+ghost use Rattle.git_syntax.specs.Bytes.{slash};
+ghost use Rattle.git_syntax.specs.Schemes.{default_port_of};
+
+use crate::url_ref::UrlRef;
+
+impl UrlRef<'_> {
+    /// The port, or else the one that the scheme stands for, as [`Url::port_or_default`] has it. It takes no
+    /// memory.
+    ///
+    /// ```
+    /// fn is_same_service(one: &UrlRef<'_>, other: &UrlRef<'_>) -> bool {
+    ///     // `https://host/repo` and `https://host:443/repo` are
+    ///     one.host == other.host && one.port_or_default() == other.port_or_default()
+    /// }
+    /// ```
+    #[inline(always)]
+    pub fn port_or_default(&self) -> Option<u16>
+        ensures { result ≡ option_or self.now.port (default_port_of self.now.scheme) }
+    {
+        match self.port {
+            Some(port) => Some(port),
+            None => self.scheme.default_port(),
+        }
+    }
+
+    /// Whether the path is `/`, as [`Url::path_is_root`] tells. It takes no memory.
+    ///
+    /// ```
+    /// fn names_a_repository(url: &UrlRef<'_>) -> bool {
+    ///     !url.path_is_root()
+    /// }
+    /// ```
+    #[inline(always)]
+    pub fn path_is_root(&self) -> bool
+        ensures { IsTrue result ↔ (self.now.path ≡ slash ∷ []) }
+    {
+        self.path == b"/".as_slice()
+    }
+}

@@ -1,0 +1,152 @@
+//! Texts in a room: what stands for other bytes than those of the text, in memory that the caller lends.
+//!
+//! It may use `host`, `found`, `bytes` and `escape`. Its contract: each call answers the text that a slice stands for,
+//! which is the slice itself where that has its bytes, and else the front of the room; and it answers the room behind.
+//! It takes no memory.
+
+ghost use Rattle.std.specs.Prelude.{◌≡◌, ◌+◌, ◌≤◌, IfSome, length};
+ghost use Rattle.std.specs.Option.{option_copied};
+ghost use Rattle.percent_encoding.specs.Percent as percent;
+ghost use Rattle.git_syntax.specs.Bytes.{IsLowercase};
+ghost use Rattle.git_syntax.specs.FoundPieces.{optional_length, scp_host_of, scp_slice};
+ghost use Rattle.git_syntax.specs.HostPieces.{host_of, meant_host, named_text};
+ghost use Rattle.git_syntax.specs.UrlPieces.{decoded_option};
+
+use git_syntax::found::ScpHost;
+use git_syntax::host::build::{lowercase_address, normalize};
+use git_syntax::host::{HostPiece, NamedHost};
+use git_syntax::bytes::is_lowercase;
+use git_syntax::escape::{decode_into, has_percent};
+
+/// The decoding of a text.
+#[inline(always)]
+pub(crate) fn decoded_in<'a>(text: &'a [u8], room: &'a mut [u8]) -> (&'a [u8], &'a mut [u8])
+    requires { length (percent.percent_decode text.now) ≤ length room.old }
+    ensures text { result.0.now ≡ percent.percent_decode text.now }
+    ensures left { length room.old
+        ≤ length result.1.now + length (percent.percent_decode text.now) }
+{
+    if !has_percent(text) {
+        return (text, room);
+    }
+    let size = decode_into(room, text);
+    let (decoded, left) = room.split_at_mut(size);
+    (decoded, left)
+}
+
+/// The decoding of a text that may be missing.
+#[inline(always)]
+pub(crate) fn optional_in<'a>(
+    text: Option<&'a [u8]>,
+    room: &'a mut [u8],
+) -> (Option<&'a [u8]>, &'a mut [u8])
+    requires { optional_length (decoded_option text) ≤ length room.old }
+    ensures text { option_copied result.0 ≡ decoded_option text.entry }
+    ensures left { length room.old
+        ≤ length result.1.now + optional_length (decoded_option text.entry) }
+{
+    match text {
+        None => (None, room),
+        Some(text) => {
+            let (decoded, left) = decoded_in(text, room);
+            (Some(decoded), left)
+        }
+    }
+}
+
+/// The text of a host that may be missing.
+#[inline(always)]
+pub(crate) fn host_in<'a>(
+    host: Option<NamedHost<'a>>,
+    room: &'a mut [u8],
+) -> (Option<&'a [u8]>, &'a mut [u8])
+    requires { optional_length (host_of host) ≤ length room.old }
+    ensures text { option_copied result.0 ≡ host_of host.entry }
+    ensures left { length room.old ≤ length result.1.now + optional_length (host_of host.entry) }
+{
+    match host {
+        None => (None, room),
+        Some(host) => {
+            let (text, left) = named_in(host, room);
+            (Some(text), left)
+        }
+    }
+}
+
+/// The text of a host.
+#[inline(always)]
+fn named_in<'a>(host: NamedHost<'a>, room: &'a mut [u8]) -> (&'a [u8], &'a mut [u8])
+    requires { length (named_text host) ≤ length room.old }
+    ensures text { result.0.now ≡ named_text host.entry }
+    ensures left { length room.old ≤ length result.1.now + length (named_text host.entry) }
+{
+    if let Some(text) = own_slice(host) {
+        return (text, room);
+    }
+    let size = host.put_into(room);
+    let (text, left) = room.split_at_mut(size);
+    (text, left)
+}
+
+/// The slice of a host, where it is the host's text as it stands.
+#[inline(always)]
+fn own_slice(host: NamedHost<'_>) -> Option<&[u8]>
+    ensures { IfSome result (λ text. text.now ≡ named_text host.entry) }
+{
+    if host.keeps_colon {
+        return None;
+    }
+    if let HostPiece::Simple(text) = host.piece {
+        return Some(text);
+    }
+    let text = undecoded(host.piece)?;
+    if is_lowercase(text) { Some(text) } else { None }
+}
+
+/// The slice of a host without brackets that holds no escape, or whose escapes stay.
+fn undecoded(piece: HostPiece<'_>) -> Option<&[u8]>
+    ensures { IfSome result
+        (λ text. IsLowercase text.now → text.now ≡ meant_host piece.entry) }
+{
+    match piece {
+        HostPiece::Simple(text) | HostPiece::Address(text) | HostPiece::Kept(text) => Some(text),
+        HostPiece::Decoded(text) => { if has_percent(text) { None } else { Some(text) } }
+        HostPiece::Literal(_) | HostPiece::DecodedLiteral(_) | HostPiece::Bracketed(_) => None,
+    }
+}
+
+/// A copy of the text in the front of the room.
+fn copied_in<'a>(text: &[u8], room: &'a mut [u8]) -> &'a mut [u8]
+    requires { length text.now ≤ length room.old }
+    ensures { result.now ≡ text.now }
+{
+    let (front, _) = room.split_at_mut(text.len());
+    front.copy_from_slice(text);
+    front
+}
+
+/// The text of a host of the scp form.
+pub(crate) fn scp_host_in<'a>(host: ScpHost<'a>, room: &'a mut [u8]) -> &'a [u8]
+    requires { length (scp_slice host) ≤ length room.old }
+    ensures { result.now ≡ scp_host_of host.entry }
+{
+    match host {
+        ScpHost::Kept(text) => text,
+        ScpHost::Literal(text) => {
+            if is_lowercase(text) {
+                return text;
+            }
+            let text = copied_in(text, room);
+            lowercase_address(text);
+            text
+        }
+        ScpHost::Name(text) => {
+            if is_lowercase(text) {
+                return text;
+            }
+            let text = copied_in(text, room);
+            normalize(text);
+            text
+        }
+    }
+}

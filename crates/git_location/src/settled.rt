@@ -1,0 +1,70 @@
+//! The settled class, decided. What is in it comes back: its text reads as the same fields and is written the same again.
+//!
+//! It may use every test of bytes, of addresses, of lengths and of forms, and the pieces of the writer. Its
+//! contract: the answer is yes exactly for the settled class, and so is the answer for each kind of location; and the
+//! location is a value of which the laws speak. It takes no memory.
+
+ghost use Rattle.std.specs.Prelude.{◌↔◌, IsTrue};
+ghost use Rattle.git_syntax.specs.Value.Protocol.{helper};
+ghost use Rattle.git_location.specs.Pieces.{AreOwn};
+ghost use Rattle.git_location.specs.Settled.{IsSettled, IsSettledBy, IsValue};
+
+mod host;
+mod local;
+mod measure;
+mod parts;
+mod scp;
+mod url;
+
+use git_syntax::scheme::SchemeRef;
+use crate::url_ref::UrlRef;
+use crate::value::law_lent_value;
+use crate::writer::piece::Pieces;
+use local::{is_settled_file, is_settled_helper, is_settled_local};
+use scp::is_settled_scp;
+use url::{is_settled_git, is_settled_helper_url, is_settled_secure, is_settled_web};
+
+impl UrlRef<'_> {
+    /// Whether the location is of the settled class, as [`Url::is_settled`] tells. It takes no memory.
+    ///
+    /// ```
+    /// /// Writes the location if others read it as the same.
+    /// fn write_settled(out: &mut Vec<u8>, url: &UrlRef<'_>) -> Result<bool, WriteError> {
+    ///     if !url.is_settled() {
+    ///         return Ok(false);
+    ///     }
+    ///     url.write_to(out)?;
+    ///     Ok(true)
+    /// }
+    /// ```
+    pub fn is_settled(&self) -> bool
+        ensures decided { IsTrue result ↔ IsSettled self.now }
+        ensures value { IsValue self.now }
+    {
+        law_lent_value(self);
+        self.is_settled_as(None)
+    }
+
+    /// The same, where the pieces of the location's text may be at hand: they aren't laid out again then.
+    pub fn is_settled_as(&self, laid: Option<&Pieces<'_>>) -> bool
+        requires { AreOwn laid self.now }
+        ensures { IsTrue result ↔ IsSettled self.now }
+    {
+        match self.scheme {
+            SchemeRef::File => is_settled_local(self) || is_settled_file(self),
+            SchemeRef::Ssh => is_settled_scp(self) || is_settled_secure(self, laid),
+            SchemeRef::Git => is_settled_git(self, laid),
+            SchemeRef::Http | SchemeRef::Https => is_settled_web(self, laid),
+            SchemeRef::Ext => is_settled_helper(self, b"ext"),
+            SchemeRef::Helper(name) => is_settled_named(self, name.as_bytes()),
+            SchemeRef::HelperUrl(name) => is_settled_helper_url(self, laid, name.as_bytes()),
+        }
+    }
+}
+
+/// Whether the location is a settled remote helper of this name, which isn't that of `ext`.
+fn is_settled_named(url: &UrlRef<'_>, name: &[u8]) -> bool
+    ensures { IsTrue result ↔ IsSettledBy (helper name.now) url.now }
+{
+    is_settled_helper(url, name) && name != b"ext".as_slice()
+}

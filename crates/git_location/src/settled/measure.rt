@@ -1,0 +1,102 @@
+//! The length test of a text that stands nowhere as a whole: a walk past its pieces.
+//!
+//! It uses the walk of `length` and the pieces of the writer. Its contract: the answer is yes exactly where the text
+//! of the location is short enough. It takes no memory.
+
+ghost use Rattle.std.specs.Prelude.{◌≡◌, ◌↔◌, IsTrue, Ok};
+ghost use Rattle.git_syntax.specs.Bytes.{FreeOf, colon};
+ghost use Rattle.git_location.specs.Pieces.{AreOwn, pieces_text};
+ghost use Rattle.git_syntax.specs.Schemes.{protocol_text};
+ghost use Rattle.git_location.specs.Settled.{HasFittingText};
+ghost use Rattle.git_location.specs.Text.{canonical_text, text};
+ghost use Rattle.git_syntax.specs.Walks.{is_walk_short, text_walk_for, text_walk_past};
+ghost use Rattle.git_location.specs.SettledParts.{IsPiecesShort};
+ghost use Rattle.git_location.specs.Sinks.{WalksPast, walks_joined, walks_nothing};
+
+use git_syntax::length::{LIMIT, TextWalk};
+use crate::url_ref::UrlRef;
+use crate::writer::piece::Pieces;
+use crate::writer::sink::Sink;
+use itoa::Buffer;
+use std::convert::Infallible;
+
+/// Whether the text of the location, which is that of a URL, is short enough. It is laid out, unless its pieces are at
+/// hand.
+pub(crate) fn has_fitting_text(url: &UrlRef<'_>, laid: Option<&Pieces<'_>>) -> bool
+    requires no_colon { FreeOf colon (protocol_text url.now.scheme) }
+    requires canonical { text url.now ≡ Ok (canonical_text url.now) }
+    requires laid { AreOwn laid url.now }
+    ensures { IsTrue result ↔ HasFittingText url.now }
+{
+    match laid {
+        Some(pieces) => are_short(url.scheme.as_str().as_bytes(), pieces),
+        None => is_own_short(url),
+    }
+}
+
+/// Whether the text of the location, which is laid out now, is short enough.
+fn is_own_short(url: &UrlRef<'_>) -> bool
+    requires no_colon { FreeOf colon (protocol_text url.now.scheme) }
+    requires canonical { text url.now ≡ Ok (canonical_text url.now) }
+    ensures { IsTrue result ↔ HasFittingText url.now }
+{
+    let mut digits = Buffer::new();
+    match url.own_pieces(&mut digits) {
+        Ok(pieces) => are_short(url.scheme.as_str().as_bytes(), &pieces),
+        Err(_) => false,
+    }
+}
+
+/// Whether a scheme and the pieces of a text with that scheme are short enough.
+fn are_short(scheme: &[u8], pieces: &Pieces<'_>) -> bool
+    ensures { IsTrue result ↔ IsPiecesShort scheme.now (pieces_text pieces.now) }
+{
+    scheme.len() <= usize::from(LIMIT) && is_rest_short(scheme, pieces)
+}
+
+/// Whether what stands behind the scheme is short enough. Where it has no more bytes than the limit, none need be
+/// looked at.
+fn is_rest_short(scheme: &[u8], pieces: &Pieces<'_>) -> bool
+    ensures { result ≡ is_walk_short
+        (text_walk_past (text_walk_for scheme.now) (pieces_text pieces.now)).walk }
+{
+    if pieces.len() <= scheme.len() as u128 + 3 + u128::from(LIMIT) {
+        return true;
+    }
+    past_pieces(TextWalk::over(scheme), pieces).is_short()
+}
+
+/// The walk past the pieces.
+fn past_pieces(walk: TextWalk, pieces: &Pieces<'_>) -> TextWalk
+    ensures { result ≡ text_walk_past walk (pieces_text pieces.now) }
+{
+    let mut walk = walk;
+    let Ok(()) = pieces.put::<TextWalk, Measure>(&mut walk);
+    walk
+}
+
+/// The walk of the length test.
+struct Measure;
+
+impl Sink<TextWalk> for Measure {
+    type Fault = Infallible;
+
+    ghost takes = { WalksPast };
+
+    ghost ends = { WalksPast };
+
+    fn put(place: &mut TextWalk, slice: &str) -> Result<(), Infallible> {
+        Measure::put_end(place, slice.as_bytes())
+    }
+
+    fn put_end(place: &mut TextWalk, end: &[u8]) -> Result<(), Infallible> {
+        *place = place.past(end);
+        Ok(())
+    }
+
+    ghost takes_nothing = { walks_nothing };
+
+    ghost takes_joined = { walks_joined };
+
+    ghost ends_joined = { walks_joined };
+}

@@ -1,0 +1,84 @@
+//! Tests of one part of a location.
+//!
+//! It uses `bytes`, `escape`, `ipv6` and the bytes of hosts of `parse`. Its contract: each test decides the definition
+//! that it is named for. It takes no memory.
+
+ghost use Rattle.std.specs.Prelude.{◌≡◌, ◌↔◌, IsTrue, codes};
+ghost use Rattle.git_syntax.specs.Bytes.{Holds};
+ghost use Rattle.git_syntax.specs.Hosts.{normal_host};
+ghost use Rattle.git_location.specs.Settled.{HasAtMostHost, HasMatch, IsFlaggedPath, IsNormalAddress, IsNormalName, IsOpenName, begins_with_slashes};
+
+use git_syntax::bytes::{cut_at_mark, is_free_of, is_lowercase};
+use git_syntax::escape::decodes_to;
+use git_syntax::ipv6::is_address;
+use git_syntax::host::bytes::looks_like_domain;
+use crate::url_ref::UrlRef;
+
+/// Whether the location has neither user nor password nor port.
+pub(crate) fn has_at_most_host(url: &UrlRef<'_>) -> bool
+    ensures { IsTrue result ↔ HasAtMostHost url.now }
+{
+    url.user.is_none() && url.password.is_none() && url.port.is_none()
+}
+
+/// Whether the location has the flag and a path, and nothing else.
+pub(crate) fn is_flagged_path(url: &UrlRef<'_>) -> bool
+    ensures { IsTrue result ↔ IsFlaggedPath url.now }
+{
+    url.serialize_alternative_form && has_at_most_host(url) && url.host.is_none()
+}
+
+/// Whether the retained spelling of the path decodes to the path.
+pub(crate) fn has_match(url: &UrlRef<'_>) -> bool
+    ensures { IsTrue result ↔ HasMatch url.now }
+{
+    match url.spelling {
+        None => false,
+        Some(spelling) => decodes_to(spelling, url.path),
+    }
+}
+
+/// Whether the text begins with `//`.
+pub(crate) fn begins_with_slashes(text: &[u8]) -> bool
+    ensures { result ≡ begins_with_slashes text.now }
+{
+    match text {
+        [first, second, ..] => *first == b'/' && *second == b'/',
+        _ => false,
+    }
+}
+
+/// Whether `://` stands nowhere in the text.
+pub(crate) fn lacks_mark(text: &[u8]) -> bool
+    ensures { IsTrue result ↔ ¬ Holds (codes "://") text.now }
+{
+    cut_at_mark(text).is_none()
+}
+
+/// Whether the host is its own normal form.
+pub(crate) fn is_normal(host: &[u8]) -> bool
+    ensures { IsTrue result ↔ (normal_host host.now ≡ host.now) }
+{
+    !looks_like_domain(host) || is_lowercase(host)
+}
+
+/// Whether the text is not empty, and free of `:`, `[` and `]`.
+fn is_open_name(host: &[u8]) -> bool
+    ensures { IsTrue result ↔ IsOpenName host.now }
+{
+    !host.is_empty() && is_free_of(host, b':') && is_free_of(host, b'[') && is_free_of(host, b']')
+}
+
+/// Whether the text is a settled name of a host.
+pub(crate) fn is_normal_name(host: &[u8]) -> bool
+    ensures { IsTrue result ↔ IsNormalName host.now }
+{
+    is_open_name(host) && is_normal(host)
+}
+
+/// Whether the text is an IPv6 text in lower case.
+pub(crate) fn is_normal_address(host: &[u8]) -> bool
+    ensures { IsTrue result ↔ IsNormalAddress host.now }
+{
+    is_address(host) && is_lowercase(host)
+}

@@ -1,0 +1,244 @@
+//! The settled URLs, but for those of files.
+//!
+//! It uses `host`, `measure`, `parts`, `bytes`, `escape`, `home`, `scheme` and `text`. Its contract: the answer is yes exactly
+//! for those that the definitions settle. It takes no memory.
+
+ghost use Rattle.std.specs.Prelude.{◌≡◌, ◌↔◌, IsTrue, IsUtf8, true, IfSome};
+ghost use Rattle.git_syntax.specs.Value.Protocol.{git, helper_url, ssh};
+ghost use Rattle.git_syntax.specs.Bytes.{begins_by, is_path_start};
+ghost use Rattle.git_location.specs.Pieces.{AreOwn};
+ghost use Rattle.git_location.specs.Settled.{HasBareHost, HasBracketedHost, HasCredentials, HasFairSpelling, HasUrlPath, HasWebHost, IsBracketedHost, IsFairSpelling, IsHomeless, IsHosted, IsRaw, IsRawPath, IsRootedOrEmpty, IsSettledGit, IsSettledHelperUrl, IsSettledRaw, IsSettledSecure, IsSettledUrl, IsSettledWeb, IsTransportPath, IsWeb, first_byte};
+ghost use Rattle.git_location.specs.SettledParts.{IsWrittenAsUrl};
+
+use crate::settled::host::{is_bare_host, is_bracketed_host, is_web_host};
+use crate::settled::measure::has_fitting_text;
+use crate::settled::parts::has_match;
+use git_syntax::bytes::{is_scheme_text, starts_with_byte};
+use git_syntax::escape::{decodes_to, has_percent, is_sound, lacks_white_space};
+use git_syntax::home::begins_at_home;
+use git_syntax::scheme::{is_ftp, is_known_scheme};
+use git_syntax::text::is_text;
+use crate::url_ref::UrlRef;
+use crate::writer::piece::Pieces;
+
+/// Whether the location is a settled one of HTTP.
+pub(crate) fn is_settled_web(url: &UrlRef<'_>, laid: Option<&Pieces<'_>>) -> bool
+    requires scheme { IsWeb url.now }
+    requires laid { AreOwn laid url.now }
+    ensures { IsTrue result ↔ IsSettledWeb url.now }
+{
+    has_web_host(url)
+        && url.port != Some(0)
+        && begins_web_path(url.path)
+        && is_settled_url(url, laid)
+}
+
+/// Whether there is a host, settled for HTTP.
+fn has_web_host(url: &UrlRef<'_>) -> bool
+    ensures { IsTrue result ↔ HasWebHost url.now }
+{
+    match url.host {
+        None => false,
+        Some(host) => is_web_host(host.as_bytes(), url.port),
+    }
+}
+
+/// Whether the text begins as a path of HTTP may.
+fn begins_web_path(path: &[u8]) -> bool
+    ensures { result ≡ begins_by (is_path_start true) path.now }
+{
+    match path {
+        [] => false,
+        [first, ..] => *first == b'/' || *first == b'?' || *first == b'#',
+    }
+}
+
+/// Whether the location is a settled URL of Secure Shell.
+pub(crate) fn is_settled_secure(url: &UrlRef<'_>, laid: Option<&Pieces<'_>>) -> bool
+    requires scheme { url.now.scheme ≡ ssh }
+    requires laid { AreOwn laid url.now }
+    ensures { IsTrue result ↔ IsSettledSecure url.now }
+{
+    has_bare_host(url) && is_transport_path(url) && is_settled_raw(url, laid)
+}
+
+/// Whether there is a host, settled for Secure Shell.
+fn has_bare_host(url: &UrlRef<'_>) -> bool
+    ensures { IsTrue result ↔ HasBareHost url.now }
+{
+    match url.host {
+        None => false,
+        Some(host) => is_bare_host(host.as_bytes()),
+    }
+}
+
+/// Whether the location is a settled URL of Git's own protocol.
+pub(crate) fn is_settled_git(url: &UrlRef<'_>, laid: Option<&Pieces<'_>>) -> bool
+    requires scheme { url.now.scheme ≡ git }
+    requires laid { AreOwn laid url.now }
+    ensures { IsTrue result ↔ IsSettledGit url.now }
+{
+    has_bracketed_host(url) && is_transport_path(url) && is_settled_raw(url, laid)
+}
+
+/// Whether there is a host, settled with its addresses between brackets.
+fn has_bracketed_host(url: &UrlRef<'_>) -> bool
+    ensures { IsTrue result ↔ HasBracketedHost url.now }
+{
+    match url.host {
+        None => false,
+        Some(host) => is_bracketed_host(host.as_bytes()),
+    }
+}
+
+/// Whether the path is rooted, or below a home folder, and then no spelling matches it.
+fn is_transport_path(url: &UrlRef<'_>) -> bool
+    ensures { IsTrue result ↔ IsTransportPath url.now }
+{
+    is_homeless(url.path) || (starts_with_byte(url.path, b'~') && !has_match(url))
+}
+
+/// Whether the text begins with `/`, and not with `/~`.
+fn is_homeless(path: &[u8]) -> bool
+    ensures { IsTrue result ↔ IsHomeless path.now }
+{
+    starts_with_byte(path, b'/') && !begins_at_home(path)
+}
+
+/// Whether the location is a settled URL of another scheme, which has this name.
+pub(crate) fn is_settled_helper_url(
+    url: &UrlRef<'_>,
+    laid: Option<&Pieces<'_>>,
+    name: &[u8],
+) -> bool
+    requires scheme { url.now.scheme ≡ helper_url name.now }
+    requires laid { AreOwn laid url.now }
+    ensures { IsTrue result ↔ IsSettledHelperUrl name.now url.now }
+{
+    has_other_host(url)
+        && (url.host.is_some() || !is_ftp(name))
+        && is_rooted_or_empty(url.path)
+        && !is_known_scheme(name)
+        && is_scheme_text(name)
+        && is_settled_raw(url, laid)
+}
+
+/// Whether the host, where there is one, is settled.
+fn has_other_host(url: &UrlRef<'_>) -> bool
+    ensures { IsTrue result ↔ IfSome url.now.host IsBracketedHost }
+{
+    match url.host {
+        None => true,
+        Some(host) => is_bracketed_host(host.as_bytes()),
+    }
+}
+
+/// Whether the text is empty or begins with `/`.
+fn is_rooted_or_empty(path: &[u8]) -> bool
+    ensures { IsTrue result ↔ IsRootedOrEmpty path.now }
+{
+    path.is_empty() || starts_with_byte(path, b'/')
+}
+
+/// Whether the location is a settled URL, and its path is written raw where no spelling matches it.
+fn is_settled_raw(url: &UrlRef<'_>, laid: Option<&Pieces<'_>>) -> bool
+    requires form { IsWrittenAsUrl url.now }
+    requires laid { AreOwn laid url.now }
+    ensures { IsTrue result ↔ IsSettledRaw url.now }
+{
+    is_settled_url(url, laid) && is_raw_path(url)
+}
+
+/// Whether the path is written raw where no spelling matches it.
+fn is_raw_path(url: &UrlRef<'_>) -> bool
+    requires { IsUtf8 url.now.path }
+    ensures { IsTrue result ↔ IsRawPath url.now }
+{
+    has_match(url) || is_raw(url.path)
+}
+
+/// Whether the text holds neither `%` nor white space.
+fn is_raw(path: &[u8]) -> bool
+    requires { IsUtf8 path.now }
+    ensures { IsTrue result ↔ IsRaw path.now }
+{
+    match str::from_utf8(path) {
+        Ok(text) => !has_percent(path) && lacks_white_space(text),
+        Err(_) => false,
+    }
+}
+
+/// Whether the location has what the settled URLs have in common.
+fn is_settled_url(url: &UrlRef<'_>, laid: Option<&Pieces<'_>>) -> bool
+    requires form { IsWrittenAsUrl url.now }
+    requires laid { AreOwn laid url.now }
+    ensures { IsTrue result ↔ IsSettledUrl url.now }
+{
+    !url.serialize_alternative_form
+        && has_credentials(url)
+        && is_hosted(url)
+        && has_url_path(url)
+        && has_fitting_text(url, laid)
+}
+
+/// Whether a password comes with a user and isn't empty, and an empty user comes with a password.
+fn has_credentials(url: &UrlRef<'_>) -> bool
+    ensures { IsTrue result ↔ HasCredentials url.now }
+{
+    match url.password {
+        None => !url.has_empty_user(),
+        Some(password) => !password.is_empty() && url.user.is_some(),
+    }
+}
+
+/// Whether a user and a port come with a host.
+fn is_hosted(url: &UrlRef<'_>) -> bool
+    ensures { IsTrue result ↔ IsHosted url.now }
+{
+    url.host.is_some() || (url.user.is_none() && url.port.is_none())
+}
+
+/// Whether the path is text, and a spelling that matches it is fair.
+fn has_url_path(url: &UrlRef<'_>) -> bool
+    ensures { IsTrue result ↔ HasUrlPath url.now }
+{
+    is_text(url.path) && has_fair_spelling(url)
+}
+
+/// Whether the spelling of the path, where it matches, is fair.
+fn has_fair_spelling(url: &UrlRef<'_>) -> bool
+    ensures { IsTrue result ↔ HasFairSpelling url.now }
+{
+    match url.spelling {
+        None => true,
+        Some(spelling) => {
+            !decodes_to(spelling, url.path) || is_fair_spelling(spelling, url.path)
+        }
+    }
+}
+
+/// Whether the spelling is written and read again as itself.
+fn is_fair_spelling(spelling: &[u8], path: &[u8]) -> bool
+    ensures { IsTrue result ↔ IsFairSpelling spelling.now path.now }
+{
+    match str::from_utf8(spelling) {
+        Ok(text) => {
+            is_sound(spelling)
+                && has_percent(spelling)
+                && lacks_white_space(text)
+                && begin_alike(spelling, path)
+        }
+        Err(_) => false,
+    }
+}
+
+/// Whether the texts have the same first byte, or none.
+fn begin_alike(text: &[u8], other: &[u8]) -> bool
+    ensures { IsTrue result ↔ (first_byte text.now ≡ first_byte other.now) }
+{
+    match (text, other) {
+        ([], []) => true,
+        ([first, ..], [second, ..]) => *first == *second,
+        ([], [_, ..]) | ([_, ..], []) => false,
+    }
+}

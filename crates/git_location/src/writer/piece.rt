@@ -1,0 +1,356 @@
+//! The pieces of a text: what a text is made of, in its order, each slice with the way that it is written.
+//!
+//! It uses the crate `percent_encoding`, the sets of `escape`, and this module's siblings `ready` and `sink`. The
+//! pieces are lent from the location. They are the one description of a text: `len` adds them up, and `put` puts them
+//! into any sink. It takes no memory.
+
+ghost use Rattle.std.specs.Prelude.{◌≡◌, ◌≤◌, ◌*◌, ◌^◌, ◌==◌, ◌++◌, IsTrue, OnOk, length, [], count_by};
+ghost use Rattle.percent_encoding.specs.AsciiSet.{should_percent_encode};
+ghost use Rattle.percent_encoding.specs.Percent.{percent_encode};
+ghost use Rattle.git_syntax.specs.declared.escape.TheConstants.{PATH, PASSWORD, USER};
+ghost use Rattle.git_syntax.specs.Bytes.{percent_sign};
+ghost use Rattle.git_location.specs.Pieces.{host_text, path_end_text, piece_text, pieces_text, port_text, scheme_text, user_text};
+
+use git_syntax::escape::{PASSWORD, PATH, USER};
+use crate::writer::ready::{is_ready_path, is_ready_user};
+use crate::writer::sink::{Sink, put_escaped, put_percents};
+use percent_encoding::AsciiSet;
+
+/// A slice and the way that it is written. What is written is always UTF-8.
+#[derive(Clone, Copy)]
+pub(crate) enum Piece<'a> {
+    /// The slice as it is.
+    Raw(&'a str),
+    /// The slice with the escapes of a user.
+    User(&'a str),
+    /// The slice with the escapes of a password.
+    Password(&'a str),
+    /// The slice with each `%` as its escape.
+    Percents(&'a str),
+}
+
+/// A scheme or a helper's name, and the mark behind it.
+#[derive(Clone, Copy)]
+pub(crate) enum SchemePieces<'a> {
+    /// None.
+    None,
+    /// The name and its mark.
+    Marked(&'a str, &'a str),
+}
+
+/// A user, a password and the marks behind them.
+#[derive(Clone, Copy)]
+pub(crate) enum UserPieces<'a> {
+    /// None.
+    None,
+    /// A user and `@`.
+    User(Piece<'a>),
+    /// A user, `:`, a password and `@`.
+    Both(Piece<'a>, Piece<'a>),
+}
+
+/// A host, perhaps between brackets.
+#[derive(Clone, Copy)]
+pub enum HostPieces<'a> {
+    /// None.
+    None,
+    /// The host.
+    Open(Piece<'a>),
+    /// The host between `[` and `]`.
+    Bracketed(Piece<'a>),
+}
+
+/// The mark before a path, and the path: any bytes as they are, or with escapes.
+#[derive(Clone, Copy)]
+pub(crate) enum PathPieces<'a> {
+    /// The mark, and the path as it is.
+    Raw(&'a str, &'a [u8]),
+    /// The mark, and the path with the escapes of HTTP.
+    Escaped(&'a str, &'a [u8]),
+}
+
+/// A text, as its pieces in their order.
+#[derive(Clone, Copy)]
+pub struct Pieces<'a> {
+    /// The scheme.
+    pub scheme: SchemePieces<'a>,
+    /// The user information.
+    pub user: UserPieces<'a>,
+    /// The host.
+    pub host: HostPieces<'a>,
+    /// The digits of the port, which stand behind a colon.
+    pub port: Option<&'a str>,
+    /// The path.
+    pub path: PathPieces<'a>,
+}
+
+impl<'a> Piece<'a> {
+    /// The slice with the escapes of a user, if it has to have any.
+    pub fn user(text: &'a str) -> Piece<'a>
+        ensures { piece_text result ≡ percent_encode USER text.now }
+    {
+        if is_ready_user(text.as_bytes()) || is_kept(text.as_bytes(), USER) {
+            Piece::Raw(text)
+        } else {
+            Piece::User(text)
+        }
+    }
+
+    /// The slice with the escapes of a password, if it has to have any.
+    pub fn password(text: &'a str) -> Piece<'a>
+        ensures { piece_text result ≡ percent_encode PASSWORD text.now }
+    {
+        if is_ready_user(text.as_bytes()) || is_kept(text.as_bytes(), PASSWORD) {
+            Piece::Raw(text)
+        } else {
+            Piece::Password(text)
+        }
+    }
+
+    /// The length of the text of the piece.
+    #[inline(always)]
+    fn len(self) -> u128
+        ensures exact { result ≡ length (piece_text self.entry) }
+        ensures bound { result ≤ 3 * 2 ^ 64 }
+    {
+        match self {
+            Piece::Raw(text) => text.len() as u128,
+            Piece::User(text) => escaped_len(text.as_bytes(), USER),
+            Piece::Password(text) => escaped_len(text.as_bytes(), PASSWORD),
+            Piece::Percents(text) => text.len() as u128
+                + 2 * count_percents(text.as_bytes()) as u128,
+        }
+    }
+
+    /// Puts the text of the piece.
+    #[inline(always)]
+    fn put<T, S: Sink<T>>(self, place: &mut T) -> Result<(), S::Fault>
+        ensures { OnOk result (S.takes place.old (piece_text self.entry) place.new) }
+    {
+        match self {
+            Piece::Raw(text) => S::put(place, text),
+            Piece::User(text) => put_escaped::<T, S>(place, text.as_bytes(), USER),
+            Piece::Password(text) => put_escaped::<T, S>(place, text.as_bytes(), PASSWORD),
+            Piece::Percents(text) => put_percents::<T, S>(place, text),
+        }
+    }
+}
+
+impl<'a> SchemePieces<'a> {
+    /// The length of the text.
+    #[inline(always)]
+    fn len(self) -> u128
+        ensures exact { result ≡ length (scheme_text self.entry) }
+        ensures bound { result ≤ 2 * 2 ^ 64 }
+    {
+        match self {
+            SchemePieces::None => 0,
+            SchemePieces::Marked(name, mark) => name.len() as u128 + mark.len() as u128,
+        }
+    }
+
+    /// Puts the text.
+    #[inline(always)]
+    fn put<T, S: Sink<T>>(self, place: &mut T) -> Result<(), S::Fault>
+        ensures { OnOk result (S.takes place.old (scheme_text self.entry) place.new) }
+    {
+        match self {
+            SchemePieces::None => Ok(()),
+            SchemePieces::Marked(name, mark) => {
+                S::put(place, name)?;
+                S::put(place, mark)
+            }
+        }
+    }
+}
+
+impl<'a> UserPieces<'a> {
+    /// The length of the text.
+    #[inline(always)]
+    fn len(self) -> u128
+        ensures exact { result ≡ length (user_text self.entry) }
+        ensures bound { result ≤ 7 * 2 ^ 64 }
+    {
+        match self {
+            UserPieces::None => 0,
+            UserPieces::User(user) => user.len() + 1,
+            UserPieces::Both(user, password) => user.len() + password.len() + 2,
+        }
+    }
+
+    /// Puts the text.
+    #[inline(always)]
+    fn put<T, S: Sink<T>>(self, place: &mut T) -> Result<(), S::Fault>
+        ensures { OnOk result (S.takes place.old (user_text self.entry) place.new) }
+    {
+        match self {
+            UserPieces::None => Ok(()),
+            UserPieces::User(user) => {
+                user.put::<T, S>(place)?;
+                S::put(place, "@")
+            }
+            UserPieces::Both(user, password) => {
+                user.put::<T, S>(place)?;
+                S::put(place, ":")?;
+                password.put::<T, S>(place)?;
+                S::put(place, "@")
+            }
+        }
+    }
+}
+
+impl<'a> HostPieces<'a> {
+    /// The length of the text.
+    #[inline(always)]
+    fn len(self) -> u128
+        ensures exact { result ≡ length (host_text self.entry) }
+        ensures bound { result ≤ 4 * 2 ^ 64 }
+    {
+        match self {
+            HostPieces::None => 0,
+            HostPieces::Open(host) => host.len(),
+            HostPieces::Bracketed(host) => host.len() + 2,
+        }
+    }
+
+    /// Puts the text.
+    #[inline(always)]
+    fn put<T, S: Sink<T>>(self, place: &mut T) -> Result<(), S::Fault>
+        ensures { OnOk result (S.takes place.old (host_text self.entry) place.new) }
+    {
+        match self {
+            HostPieces::None => Ok(()),
+            HostPieces::Open(host) => host.put::<T, S>(place),
+            HostPieces::Bracketed(host) => {
+                S::put(place, "[")?;
+                host.put::<T, S>(place)?;
+                S::put(place, "]")
+            }
+        }
+    }
+}
+
+impl<'a> PathPieces<'a> {
+    /// The path behind a mark, with the escapes of HTTP, if it has to have any.
+    pub fn escaped(mark: &'a str, path: &'a [u8]) -> PathPieces<'a>
+        ensures { path_end_text result ≡ mark.now ++ percent_encode PATH path.now }
+    {
+        if is_ready_path(path) || is_kept(path, PATH) {
+            PathPieces::Raw(mark, path)
+        } else {
+            PathPieces::Escaped(mark, path)
+        }
+    }
+
+    /// The length of the text.
+    #[inline(always)]
+    fn len(self) -> u128
+        ensures exact { result ≡ length (path_end_text self.entry) }
+        ensures bound { result ≤ 4 * 2 ^ 64 }
+    {
+        match self {
+            PathPieces::Raw(mark, path) => mark.len() as u128 + path.len() as u128,
+            PathPieces::Escaped(mark, path) => mark.len() as u128 + escaped_len(path, PATH),
+        }
+    }
+
+    /// Puts the text, which is the end of its own.
+    #[inline(always)]
+    fn put<T, S: Sink<T>>(self, place: &mut T) -> Result<(), S::Fault>
+        ensures { OnOk result (S.ends place.old (path_end_text self.entry) place.new) }
+    {
+        match self {
+            PathPieces::Raw(mark, path) => {
+                S::put(place, mark)?;
+                S::put_end(place, path)
+            }
+            PathPieces::Escaped(mark, path) => {
+                S::put(place, mark)?;
+                put_escaped::<T, S>(place, path, PATH)?;
+                S::put_end(place, b"")
+            }
+        }
+    }
+}
+
+impl<'a> Pieces<'a> {
+    /// The length of the whole text.
+    #[inline(always)]
+    pub fn len(&self) -> u128
+        ensures { result ≡ length (pieces_text self.now) }
+    {
+        self.scheme.len()
+            + self.user.len()
+            + self.host.len()
+            + port_len(self.port)
+            + self.path.len()
+    }
+
+    /// Puts the whole text.
+    #[inline(always)]
+    pub fn put<T, S: Sink<T>>(&self, place: &mut T) -> Result<(), S::Fault>
+        ensures { OnOk result (S.ends place.old (pieces_text self.now) place.new) }
+    {
+        self.scheme.put::<T, S>(place)?;
+        self.user.put::<T, S>(place)?;
+        self.host.put::<T, S>(place)?;
+        put_port::<T, S>(place, self.port)?;
+        self.path.put::<T, S>(place)
+    }
+}
+
+/// The length of a port and its colon.
+fn port_len(digits: Option<&str>) -> u128
+    ensures exact { result ≡ length (port_text digits.entry) }
+    ensures bound { result ≤ 2 * 2 ^ 64 }
+{
+    match digits {
+        None => 0,
+        Some(digits) => digits.len() as u128 + 1,
+    }
+}
+
+/// Puts a port behind its colon.
+#[inline(always)]
+fn put_port<T, S: Sink<T>>(place: &mut T, digits: Option<&str>) -> Result<(), S::Fault>
+    ensures { OnOk result (S.takes place.old (port_text digits.entry) place.new) }
+{
+    match digits {
+        None => Ok(()),
+        Some(digits) => {
+            S::put(place, ":")?;
+            S::put(place, digits)
+        }
+    }
+}
+
+/// Whether no byte of the text is written as an escape.
+fn is_kept(text: &[u8], set: AsciiSet) -> bool
+    ensures { IsTrue result → percent_encode set text.now ≡ text.now }
+{
+    count_escaped(text, set) == 0
+}
+
+/// The length of the text with the bytes of the set, and those past ASCII, as escapes.
+fn escaped_len(text: &[u8], set: AsciiSet) -> u128
+    ensures exact { result ≡ length (percent_encode set text.now) }
+    ensures bound { result ≤ 3 * 2 ^ 64 }
+{
+    text.len() as u128 + 2 * count_escaped(text, set) as u128
+}
+
+/// How many bytes of the text are written as escapes.
+fn count_escaped(text: &[u8], set: AsciiSet) -> usize
+    ensures { result ≡ count_by (should_percent_encode set) text.now }
+{
+    text.iter()
+        .filter(|byte| set.should_percent_encode(**byte))
+        .count()
+}
+
+/// How many times `%` stands in the text.
+fn count_percents(text: &[u8]) -> usize
+    ensures { result ≡ count_by (λ b. b == percent_sign) text.now }
+{
+    text.iter().filter(|byte| **byte == b'%').count()
+}

@@ -1,0 +1,137 @@
+//! Sinks: the places that a text is put into, slice by slice.
+//!
+//! It uses the crate `percent_encoding` and nothing else of this crate. The contract of a [`Sink`]: a place that took
+//! two slices is one that took them joined, so what puts a text slice by slice puts the whole text. `Room` is memory
+//! that is there and `Output` a writer; `show` adds formatters, and `settled` the walk of its length test. It takes no
+//! memory.
+
+ghost use Rattle.std.specs.Prelude.{ℕ, List, [], ◌++◌, OnOk, vec_capacity, vec_items, vec_len};
+ghost use Rattle.std.specs.Io.KnownBytes.{Appends};
+ghost use Rattle.std.proofs.KnownBytes.{Appends-nil, Appends-trans};
+ghost use Rattle.percent_encoding.specs.Percent.{percent_encode};
+ghost use Rattle.git_syntax.specs.Bytes.{percent_sign};
+ghost use Rattle.git_syntax.specs.Cuts.{CutsAt};
+ghost use Rattle.git_syntax.specs.Escapes.{escaped_percents};
+ghost use Rattle.git_location.specs.Sinks.{AppendsWithin, appends_joined, appends_nothing};
+
+use percent_encoding::{AsciiSet, percent_encode};
+use std::convert::Infallible;
+use std::io::{self, Write};
+
+/// A way of putting a text into a place of type `T`: slices that are UTF-8, and an end that may be any bytes.
+pub(crate) trait Sink<T> {
+    /// Why a place doesn't take a slice.
+    type Fault: Drop;
+
+    // What a place is after it took a slice.
+    ghost takes: { T → List ℕ → T → Type 0 };
+
+    // What it is after it took the end.
+    ghost ends: { T → List ℕ → T → Type 0 };
+
+    /// Puts a slice.
+    fn put(place: &mut T, slice: &str) -> Result<(), Self::Fault>
+        ensures { OnOk result (takes place.old slice.now place.new) };
+
+    /// Puts the end.
+    fn put_end(place: &mut T, end: &[u8]) -> Result<(), Self::Fault>
+        ensures { OnOk result (ends place.old end.now place.new) };
+
+    ghost takes_nothing: { (a : T) → takes a [] a };
+
+    ghost takes_joined: { (a b c : T) (x y : List ℕ) → takes a x b → takes b y c
+        → takes a (x ++ y) c };
+
+    ghost ends_joined: { (a b c : T) (x y : List ℕ) → takes a x b → ends b y c
+        → ends a (x ++ y) c };
+}
+
+/// Puts the text with the bytes of the set, and those past ASCII, as escapes.
+#[inline(never)]
+pub(crate) fn put_escaped<T, S: Sink<T>>(
+    place: &mut T,
+    text: &[u8],
+    set: AsciiSet,
+) -> Result<(), S::Fault>
+    ensures { OnOk result (S.takes place.old (percent_encode set text.now) place.new) }
+{
+    for slice in percent_encode(text, set) {
+        S::put(place, slice)?;
+    }
+    Ok(())
+}
+
+/// Puts the text with each `%` as its escape.
+#[inline(never)]
+pub(crate) fn put_percents<T, S: Sink<T>>(place: &mut T, text: &str) -> Result<(), S::Fault>
+    ensures { OnOk result (S.takes place.old (escaped_percents text.now) place.new) }
+{
+    let mut rest = text;
+    while let Some((front, back)) = cut_at_percent(rest) {
+        S::put(place, front)?;
+        S::put(place, "%25")?;
+        rest = back;
+    }
+    S::put(place, rest)
+}
+
+/// What stands before and behind the first `%`.
+fn cut_at_percent(text: &str) -> Option<(&str, &str)>
+    ensures { CutsAt percent_sign text.now result }
+{
+    text.split_once('%')
+}
+
+/// Memory with room for the whole text: it can't be refused, and nothing is asked for.
+pub(crate) struct Room;
+
+impl Sink<Vec<u8>> for Room {
+    type Fault = Infallible;
+
+    ghost takes = { AppendsWithin vec_items vec_len vec_capacity };
+
+    ghost ends = { AppendsWithin vec_items vec_len vec_capacity };
+
+    fn put(place: &mut Vec<u8>, slice: &str) -> Result<(), Infallible> {
+        Room::put_end(place, slice.as_bytes())
+    }
+
+    fn put_end(place: &mut Vec<u8>, end: &[u8]) -> Result<(), Infallible> {
+        // Nothing is refused where there is room, and nothing is promised where there is none.
+        let _ = place.extend_from_slice(end);
+        Ok(())
+    }
+
+    ghost takes_nothing = { appends_nothing vec_items vec_len vec_capacity };
+
+    ghost takes_joined = { appends_joined vec_items vec_len vec_capacity };
+
+    ghost ends_joined = { appends_joined vec_items vec_len vec_capacity };
+}
+
+/// A writer.
+pub struct Output;
+
+impl<W: Write> Sink<W> for Output {
+    type Fault = io::Error;
+
+    ghost takes = { λ old text new. Appends (W.contents old) (W.contents new) text };
+
+    ghost ends = { λ old text new. Appends (W.contents old) (W.contents new) text };
+
+    fn put(place: &mut W, slice: &str) -> io::Result<()> {
+        place.write_all(slice.as_bytes())
+    }
+
+    fn put_end(place: &mut W, end: &[u8]) -> io::Result<()> {
+        place.write_all(end)
+    }
+
+    ghost takes_nothing = { λ a. Appends-nil (W.contents a) };
+
+    ghost takes_joined = { λ a b c x y. Appends-trans (W.contents a) (W.contents b)
+        (W.contents c) x y };
+
+    ghost ends_joined = { λ a b c x y. Appends-trans (W.contents a) (W.contents b)
+        (W.contents c) x y };
+}

@@ -1,0 +1,6 @@
+-- Lemmas by topic, lowest first.
+pub mod Texts
+pub mod Addresses
+pub mod Readings
+pub mod Unique
+pub mod Refused

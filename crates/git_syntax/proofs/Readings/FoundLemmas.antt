@@ -1,0 +1,142 @@
+-- What is found in a text: the host that Secure Shell takes, and the location that the parts of a URL mean.
+use Rattle.std.proofs.Common.{◌≡◌, ℕ, ◌<◌, ◌==◌, true, false, inl, inr, List, [], ◌∷◌, ◌++◌, length, Option, Some, None, refl, sym, ap, subst, ◌∙◌, append_assoc, eq-eqb}
+use Rattle.std.specs.Prelude.{IfSome, IsUtf8, MatchOption, option_map}
+use Rattle.std.specs.Option.{unwrap_or}
+use Rattle.std.specs.List.{list_any}
+use Rattle.std.proofs.lemmas.List.{same_from_push}
+use Rattle.std.proofs.lemmas.Bool.{both_ways, cases_Bool, eqb-true}
+use Rattle.git_syntax.specs.Value.{Protocol}
+use Rattle.git_syntax.specs.Value.Protocol.{file, git, ssh, http, https, ext, helper, helper_url}
+use Rattle.git_syntax.specs.Bytes.{colon, left_bracket, right_bracket, begins_with}
+use Rattle.git_syntax.specs.Schemes.{protocol_of, requires_path}
+use Rattle.git_syntax.specs.Grammar.{UrlParts, SpellsParts, SpellsUrl, Peels, HostFor, MeansByProtocol}
+use Rattle.git_syntax.specs.FoundPieces.{front_of, colon_dropped, peeled, host_for, url_location}
+use Rattle.git_syntax.proofs.Texts.CutLemmas.{heads, tails, different_bytes}
+use Rattle.git_syntax.proofs.Readings.UrlLocationLemmas.{peels_utf8, spelled_url}
+
+-- ---- fronts
+
+-- the text doesn't end in c
+abbrev pub EndsNot : ℕ → List ℕ → Type 0
+EndsNot c t = (front : List ℕ) → ¬ (t ≡ front ++ c ∷ [])
+
+-- what is told of a front before a last c
+abbrev pub TellsFront : ℕ → List ℕ → Option (List ℕ) → Type 0
+TellsFront c t found = MatchOption found (EndsNot c t) (λ front. t ≡ front ++ c ∷ [])
+
+-- a text of one byte
+front_of_one : (c b : ℕ) → TellsFront c (b ∷ []) (front_of c (b ∷ []))
+front_of_one c b = elim (cases_Bool (b == c)) [ inl same ↦ rw same (ap (λ t. t ∷ []) (eqb-true b c same)) | inr other ↦ rw other (ends_not other) ]
+  where
+    ends_not : (b == c) ≡ false → EndsNot c (b ∷ [])
+    ends_not other [] e = both_ways (b == c) other (eq-eqb b c (heads e))
+    ends_not other (d ∷ front) e = joined_some front (tails e)
+      where
+        joined_some : (front : List ℕ) → [] ≡ front ++ c ∷ [] → ⊥
+        joined_some [] e = absurd cc
+        joined_some (d ∷ front) e = absurd cc
+
+-- a text with one byte more
+front_of_more : (c b d : ℕ) (bs : List ℕ) (found : Option (List ℕ)) → TellsFront c (d ∷ bs) found → TellsFront c (b ∷ d ∷ bs) (option_map (λ front. b ∷ front) found)
+front_of_more c b d bs (Some front) e = ap (λ t. b ∷ t) e
+front_of_more c b d bs None none = ends_not
+  where
+    ends_not : EndsNot c (b ∷ d ∷ bs)
+    ends_not [] e = absurd cc
+    ends_not (x ∷ front) e = none front (tails e)
+
+-- the front before a last c is told as it is
+front_told : (c : ℕ) (t : List ℕ) → TellsFront c t (front_of c t)
+front_told c [] = ends_not
+  where
+    ends_not : EndsNot c []
+    ends_not [] e = absurd cc
+    ends_not (x ∷ front) e = absurd cc
+front_told c (b ∷ []) = front_of_one c b
+front_told c (b ∷ d ∷ bs) = front_of_more c b d bs (front_of c (d ∷ bs)) (front_told c (d ∷ bs))
+
+-- ---- the host that Secure Shell takes
+
+-- a host with a bracket in front that ends in no bracket, with or without a colon behind it
+kept_bracket : (behind : List ℕ) → EndsNot right_bracket behind → ((front : List ℕ) → ¬ (behind ≡ front ++ right_bracket ∷ (colon ∷ []))) → Peels (left_bracket ∷ behind) (left_bracket ∷ behind)
+kept_bracket behind closed marked =
+    Peels.same (λ (inner, e). closed inner (tails e)) (λ (inner, e). marked inner (tails e)) (λ (front, free, open_front, e). ends_open front open_front e) refl
+  where
+    ends_open : (front : List ℕ) → begins_with left_bracket front ≡ false → left_bracket ∷ behind ≡ front ++ colon ∷ [] → ⊥
+    ends_open [] open_front e = different_bytes left_bracket colon refl e
+    ends_open (c ∷ front) open_front e = both_ways _ open_front (eq-eqb c left_bracket (sym (heads e)))
+
+-- a host with a bracket in front
+peels_bracket : (behind : List ℕ) (whole inside : Option (List ℕ)) → TellsFront colon behind whole → TellsFront right_bracket (unwrap_or whole behind) inside → Peels (left_bracket ∷ behind) (unwrap_or inside (left_bracket ∷ behind))
+peels_bracket behind None (Some inside) other e = Peels.brackets (ap (λ t. left_bracket ∷ t) e)
+peels_bracket behind (Some whole) (Some inside) e k =
+    Peels.brackets_colon (ap (λ t. left_bracket ∷ t) (e ∙ ap (λ t. t ++ colon ∷ []) k ∙ append_assoc inside (right_bracket ∷ []) (colon ∷ [])))
+peels_bracket behind None None other closed =
+    kept_bracket behind closed (λ front e. other (front ++ right_bracket ∷ []) (e ∙ sym (append_assoc front (right_bracket ∷ []) (colon ∷ []))))
+peels_bracket behind (Some whole) None e closed =
+    kept_bracket behind (λ front k. both_ways (58 == 93) refl (eq-eqb 58 93 (same_from_push whole front colon right_bracket (sym e ∙ k)).1))
+    (λ front k. closed front (same_from_push whole (front ++ right_bracket ∷ []) colon colon (sym e ∙ k ∙ sym (append_assoc front (right_bracket ∷ []) (colon ∷ [])))).0)
+
+-- a host without a bracket in front is in no brackets
+unbracketed : (host behind : List ℕ) → begins_with left_bracket host ≡ false → ¬ (host ≡ left_bracket ∷ behind)
+unbracketed host behind open_front e = both_ways _ open_front (ap (begins_with left_bracket) e)
+
+-- such a host
+peels_open : (host : List ℕ) (front : Option (List ℕ)) → begins_with left_bracket host ≡ false → TellsFront colon host front → Peels host (colon_dropped host front)
+peels_open host None open_front other =
+    Peels.same (λ (inner, e). unbracketed host _ open_front e) (λ (inner, e). unbracketed host _ open_front e) (λ (front, free, begins, e). other front e) refl
+peels_open host (Some front) open_front e =
+    elim (cases_Bool (list_any (λ b. b == colon) front)) [
+      | inr free ↦ rw free (Peels.last_colon free (front_open front host open_front e) e)
+      | inl held ↦
+          rw held (Peels.same (λ (inner, k). unbracketed host _ open_front k) (λ (inner, k). unbracketed host _ open_front k)
+          (λ (other, free, begins, k). both_ways _ (subst (λ t. list_any (λ b. b == colon) t ≡ false) (same_from_push other front colon colon (sym k ∙ e)).0 free) held) refl)
+    ]
+  where
+    front_open : (front host : List ℕ) → begins_with left_bracket host ≡ false → host ≡ front ++ colon ∷ [] → begins_with left_bracket front ≡ false
+    front_open [] host open_front e = refl
+    front_open (c ∷ front) host open_front e = sym (ap (begins_with left_bracket) e) ∙ open_front
+
+-- Secure Shell takes this host out of each
+pub peels : (host : List ℕ) → Peels host (peeled host)
+peels [] = peels_open [] None refl (front_told colon [])
+peels (b ∷ bs) =
+    elim (cases_Bool (b == left_bracket)) [
+      | inr open_front ↦ rw open_front (peels_open (b ∷ bs) (front_of colon (b ∷ bs)) open_front (front_told colon (b ∷ bs)))
+      | inl bracket ↦
+          rw bracket (subst (λ c. Peels (c ∷ bs) (unwrap_or (front_of right_bracket (unwrap_or (front_of colon bs) bs)) (c ∷ bs))) (sym (eqb-true b left_bracket bracket)) (peels_bracket bs (front_of colon bs) (front_of right_bracket (unwrap_or (front_of colon bs) bs)) (front_told colon bs) (front_told right_bracket (unwrap_or (front_of colon bs) bs))))
+    ]
+
+-- a location has this host for the host that its URL names
+pub hosted : (protocol : Protocol) (named : Option (List ℕ)) → HostFor protocol named (host_for protocol named)
+hosted ssh None = refl
+hosted ssh (Some named) = (peeled named, peels named, refl)
+hosted file named = refl
+hosted git named = refl
+hosted http named = refl
+hosted https named = refl
+hosted ext named = refl
+hosted (helper name) named = refl
+hosted (helper_url name) named = refl
+
+-- which is text where that is
+pub host_utf8 : (protocol : Protocol) (named : Option (List ℕ)) → IfSome named IsUtf8 → IfSome (host_for protocol named) IsUtf8
+host_utf8 ssh None h = tt
+host_utf8 ssh (Some named) h = peels_utf8 (peels named) h
+host_utf8 file named h = h
+host_utf8 git named h = h
+host_utf8 http named h = h
+host_utf8 https named h = h
+host_utf8 ext named h = h
+host_utf8 (helper name) named h = h
+host_utf8 (helper_url name) named h = h
+
+-- ---- the location of a URL
+
+-- the parts of a URL mean this location by a protocol
+pub means_location : (protocol : Protocol) (parts : UrlParts) → (requires_path protocol ≡ true → 0 < length parts.path) → MeansByProtocol protocol parts (url_location protocol parts)
+means_location protocol parts pathed = record { host = host_for protocol parts.host; pathed = pathed; hosted = hosted protocol parts.host; value = refl }
+
+-- a URL spells it, but for one of the helper `ext`
+pub found_url : {b : List ℕ} {parts : UrlParts} → SpellsParts b parts → ¬ (protocol_of parts.scheme ≡ ext) → (requires_path (protocol_of parts.scheme) ≡ true → 0 < length parts.path) → SpellsUrl b (url_location (protocol_of parts.scheme) parts)
+found_url {b} {parts} h other pathed = spelled_url h refl other (means_location (protocol_of parts.scheme) parts pathed)

@@ -1,0 +1,692 @@
+-- Hosts and ports: what a piece of an authority looks like, that it names one host and one port at most, and none where a flaw stands.
+use Rattle.std.proofs.Common.{◌≡◌, ℕ, ◌<◌, true, false, ◌==◌, ◌⊎◌, inl, inr, List, [], ◌∷◌, ◌++◌, length, take, drop, Option, Some, None, Err, ◌^◌, rules, refl, sym, ap, subst, ◌∙◌, arith, append_assoc, length-append}
+use Rattle.std.specs.List.{list_all}
+use Rattle.std.specs.Char.{is_ascii_digit, to_ascii_lowercase}
+use Rattle.std.specs.Str.Parse.{IsNumeral, digits_value, without_leading_plus}
+use Rattle.std.specs.Fmt.{decimal}
+use Rattle.std.proofs.lemmas.Fmt.{decimal_is_IsNumeral, digits_decimal}
+use Rattle.std.proofs.lemmas.Str.Parse.{IsNumeralModel, numerals_by_value, parse_digits}
+use Rattle.std.proofs.lemmas.Bool.{and_parts, cond-false, cond_both, both_ways, false≢true, eqb-true}
+use Rattle.std.proofs.lemmas.Bool.Decides.{nat_tests}
+use Rattle.std.proofs.lemmas.Option.{same_Some}
+use Rattle.std.proofs.lemmas.List.{append-nil, map-append, take_all, drop_all}
+use Rattle.std.proofs.Math.Seq.{take-append_seam, drop-append_seam}
+use Rattle.std.proofs.lemmas.Str.{IsUtf8-append}
+use Rattle.percent_encoding.proofs.PercentLemmas.{percent_decode_escape}
+use Rattle.std.specs.Str.{IsUtf8}
+use Rattle.percent_encoding.specs.Percent.{percent_decode}
+use Rattle.git_syntax.specs.declared.refusal.UrlFault.{UrlFault}
+use Rattle.git_syntax.specs.declared.refusal.UrlFault.TheVariants as fault
+use Rattle.std.specs.Option.{MatchOption}
+use Rattle.git_syntax.specs.declared.host.NamedHost.{NamedHost}
+use Rattle.git_syntax.specs.Bytes.{colon, left_bracket, right_bracket, percent_sign, FreeOf, begins_with, lowercase}
+use Rattle.git_syntax.specs.Addresses.{IsIpv6Text, is_zone_byte, Literal}
+use Rattle.git_syntax.specs.Addresses.Literal.{address, zoned}
+use Rattle.git_syntax.specs.Hosts as spec
+use Rattle.git_syntax.specs.Hosts.{Mode, is_dns_byte, is_http_host_byte, HostText, IsLiteral, Bracketed, Inner, AllowsPort, IsDigits, Number, IsAddressPiece, ReadsAddress, HoldsTwoColons, IsManyColoned, IsPlainHost, Names, normal_host}
+use Rattle.git_syntax.specs.Hosts.Mode.{strict, bare, loose}
+use Rattle.git_syntax.specs.Flaws.{IsNoPort, HasBadPort, IsPortPlace, IsNoInner, BracketsAround, HasBadHost, NameFlaw}
+use Rattle.git_syntax.specs.HostPieces.{EndsHost, Follows, IsBadPort, named_text, IsEscapedZone, IsInner, IsSimpleHost, is_simple_byte, in_brackets, lowercase_address, shown_literal}
+use Rattle.git_syntax.proofs.Texts.CutLemmas.{heads, tails, class_cut_unique, cut_unique, free-append, free_begins, free_head_tail, free_of_all, free_or_cut, begins-append, not_free}
+use Rattle.git_syntax.proofs.Texts.EscapeLemmas.{decode_kept, decodes_in_parts, sound_free, utf8_byte, utf8_class}
+use Rattle.git_syntax.proofs.Addresses.AddressLemmas.{address_free, address_two_colons, address_utf8, address-lowercase, all_lowercase}
+
+-- ---- modes
+
+-- the modes are three
+pub loose_not_strict : ¬ (loose ≡ strict)
+loose_not_strict e = cc
+
+pub bare_not_strict : ¬ (bare ≡ strict)
+bare_not_strict e = cc
+
+pub loose_not_bare : ¬ (loose ≡ bare)
+loose_not_bare e = cc
+
+-- ---- ports
+
+-- decimal digits hold no colon
+digits_free : (text : List ℕ) → IsDigits text → FreeOf colon text
+digits_free text h = free_of_all is_ascii_digit colon text h.1 refl
+
+-- a text of decimal digits, as std tells them
+digits_model : IsNumeralModel (λ ds. list_all is_ascii_digit ds ≡ true) (digits_value 10)
+digits_model = numerals_by_value (λ ds. list_all is_ascii_digit ds ≡ true) (search rules)
+
+-- digits that std reads as no number of 16 bits spell no port
+pub not_parsed : (mode : Mode) (text : List ℕ) → list_all is_ascii_digit text ≡ true → ¬ (IsNumeral 10 (without_leading_plus text) × (digits_value 10 (without_leading_plus text) < 2 ^ 16)) → (port : ℕ) → ¬ Number mode text port
+not_parsed mode text digits fails port n = parse_digits digits_model {E = ℕ} 16 text (Err 0) fails digits (n.digits.0, omega (arith, n.value, n.within))
+
+-- digits spell one port
+pub number_unique : (mode : Mode) (text : List ℕ) (m n : ℕ) → Number mode text m → Number mode text n → m ≡ n
+number_unique mode text m n h k = h.value ∙ sym k.value
+
+-- a port is a number of a machine word
+machine_word : (port : ℕ) → port < 65536 → port < 2 ^ 64
+machine_word port h = omega (arith, h)
+
+-- a port is written in digits
+pub decimal_digits : (port : ℕ) → port < 65536 → IsDigits (decimal port)
+decimal_digits port h = ((decimal_is_IsNumeral port (machine_word port h)).0.0, digits_decimal digits_model port (machine_word port h))
+
+-- the digits that a port is written in spell it
+pub number_written : (mode : Mode) (port : ℕ) → port < 65536 → AllowsPort mode port → Number mode (decimal port) port
+number_written mode port h allowed = record {
+  digits = decimal_digits port h;
+  value = sym (decimal_is_IsNumeral port (machine_word port h)).1;
+  within = omega (arith, h);
+  allowed = allowed;
+}
+
+-- ---- literals and texts
+
+-- an address holds no `%`
+address_no_percent : (t : List ℕ) → IsIpv6Text t → FreeOf percent_sign t
+address_no_percent t h = address_free percent_sign t refl h
+
+-- an address in lower case, alone and with a `%` behind it
+lowercase_address_alone : (a : List ℕ) → FreeOf percent_sign a → lowercase_address a ≡ lowercase a
+lowercase_address_alone [] h = refl
+lowercase_address_alone (b ∷ a) h =
+    let (other, more) = free_head_tail percent_sign b a h in
+    cond-false (b == percent_sign) _ _ other ∙ ap (λ t. to_ascii_lowercase b ∷ t) (lowercase_address_alone a more)
+
+lowercase_address_before : (a z : List ℕ) → FreeOf percent_sign a → lowercase_address (a ++ percent_sign ∷ z) ≡ lowercase a ++ percent_sign ∷ z
+lowercase_address_before [] z h = refl
+lowercase_address_before (b ∷ a) z h =
+    let (other, more) = free_head_tail percent_sign b a h in
+    cond-false (b == percent_sign) _ _ other ∙ ap (λ t. to_ascii_lowercase b ∷ t) (lowercase_address_before a z more)
+
+-- the same by the length of what stands before the `%`
+pub lowercase_address_cut : (t a z : List ℕ) → FreeOf percent_sign a → t ≡ a ++ percent_sign ∷ z → lowercase_address t ≡ lowercase (take (length a) t) ++ drop (length a) t
+lowercase_address_cut t a z free e =
+    let front : take (length a) t ≡ a = ap (λ x. take (length a) x) e ∙ take-append_seam a (percent_sign ∷ z) in
+    let behind : drop (length a) t ≡ percent_sign ∷ z = ap (λ x. drop (length a) x) e ∙ drop-append_seam a (percent_sign ∷ z) in
+    ap lowercase_address e ∙ lowercase_address_before a z free
+    ∙ sym (ap (λ x. lowercase x ++ drop (length a) t) front ∙ ap (λ x. lowercase a ++ x) behind)
+
+pub lowercase_address_whole : (t : List ℕ) → FreeOf percent_sign t → lowercase_address t ≡ lowercase (take (length t) t) ++ drop (length t) t
+lowercase_address_whole t free =
+    lowercase_address_alone t free ∙ sym (append-nil (lowercase t))
+    ∙ sym (ap (λ x. lowercase x ++ drop (length t) t) (take_all (length t) t (omega arith)) ∙ ap (λ x. lowercase t ++ x) (drop_all (length t) t (omega arith)))
+
+-- the normal form of an IPv6 literal is in lower case up to its `%`
+pub literal_normal : (t n : List ℕ) → Literal t n → n ≡ lowercase_address t
+literal_normal t n (address h e) = e ∙ sym (lowercase_address_alone t (address_no_percent t h))
+literal_normal t n (zoned a z h zone is e) =
+    e ∙ sym (ap lowercase_address is ∙ lowercase_address_before a (50 ∷ (53 ∷ z)) (address_no_percent a h))
+
+-- so it is one
+pub literal_unique : (t m n : List ℕ) → Literal t m → Literal t n → m ≡ n
+literal_unique t m n h k = literal_normal t m h ∙ sym (literal_normal t n k)
+
+-- a text between brackets stands for one text, outside HTTP
+bracketed_unique : (t m n : List ℕ) → Bracketed t m → Bracketed t n → m ≡ n
+bracketed_unique t m n (spec.Bracketed.literal x h e u) (spec.Bracketed.literal y k f v) = e ∙ ap percent_decode (literal_unique t x y h k) ∙ sym f
+bracketed_unique t m n (spec.Bracketed.literal x h e u) (spec.Bracketed.other k f v) = absurd (k (x, h))
+bracketed_unique t m n (spec.Bracketed.other h e u) (spec.Bracketed.literal y k f v) = absurd (h (y, k))
+bracketed_unique t m n (spec.Bracketed.other h e u) (spec.Bracketed.other k f v) = e ∙ sym f
+
+-- and in every mode
+pub inner_unique : (mode : Mode) (t m n : List ℕ) → Inner mode t m → Inner mode t n → m ≡ n
+inner_unique strict = literal_unique
+inner_unique bare = bracketed_unique
+inner_unique loose = bracketed_unique
+
+-- a text outside brackets stands for one host
+pub host_text_unique : (mode : Mode) (t m n : List ℕ) → HostText mode t m → HostText mode t n → m ≡ n
+host_text_unique strict t m n h k = h.1 ∙ sym k.1
+host_text_unique bare t m n h k = h.1 ∙ sym k.1
+host_text_unique loose t m n h k = h.1 ∙ sym k.1
+
+-- ---- what follows a host
+
+-- a port's place follows
+follows_place : {mode : Mode} {base rest : List ℕ} {host : Option (List ℕ)} {port : Option ℕ} → Follows mode base rest host port → IsPortPlace rest
+follows_place (Follows.nothing e h p) = inl e
+follows_place (Follows.lone_colon e h p) = inr ([], refl, e)
+follows_place (Follows.number digits n k e h p) = inr (digits, digits_free digits k.digits, e)
+
+-- digits aren't empty
+no_digits : {A : Type 0} {mode : Mode} {digits : List ℕ} {n : ℕ} → Number mode digits n → digits ≡ [] → A
+no_digits h e = absurd (omega (arith, ap length e, h.digits.0))
+
+-- what follows a host tells what is added to it, and the port
+follows_unique : {mode : Mode} {rest : List ℕ} (base other : List ℕ) (host second : Option (List ℕ)) (port last : Option ℕ) → base ≡ other → Follows mode base rest host port → Follows mode other rest second last → (host ≡ second) × (port ≡ last)
+follows_unique base other host second port last same (Follows.nothing e h p) (Follows.nothing f k q) = (cc, cc)
+follows_unique base other host second port last same (Follows.nothing e h p) (Follows.lone_colon f k q) = let wrong = sym e ∙ f in cc
+follows_unique base other host second port last same (Follows.nothing e h p) (Follows.number d n l f k q) = let wrong = sym e ∙ f in cc
+follows_unique base other host second port last same (Follows.lone_colon e h p) (Follows.nothing f k q) = let wrong = sym e ∙ f in cc
+follows_unique base other host second port last same (Follows.lone_colon e h p) (Follows.lone_colon f k q) = (h ∙ ap (λ x. Some (x ++ colon ∷ [])) same ∙ sym k, cc)
+follows_unique base other host second port last same (Follows.lone_colon e h p) (Follows.number d n l f k q) = no_digits l (sym (tails (sym e ∙ f)))
+follows_unique base other host second port last same (Follows.number c m j e h p) (Follows.nothing f k q) = let wrong = sym e ∙ f in cc
+follows_unique base other host second port last same (Follows.number c m j e h p) (Follows.lone_colon f k q) = no_digits j (tails (sym e ∙ f))
+follows_unique {mode} base other host second port last same (Follows.number c m j e h p) (Follows.number d n l f k q) =
+    let digits : c ≡ d = tails (sym e ∙ f) in
+    let number : m ≡ n = number_unique mode d m n (subst (λ x. Number mode x m) digits j) l in
+    (h ∙ ap Some same ∙ sym k, p ∙ ap Some number ∙ sym q)
+
+-- ---- the looks of a piece
+
+-- a host and a port's place
+abbrev pub IsPlainPiece : List ℕ → Type 0
+IsPlainPiece piece = (text : List ℕ) × (rest : List ℕ) × IsPlainHost text × IsPortPlace rest × (piece ≡ text ++ rest)
+
+-- colons that mark no port, and no bracket in front
+abbrev pub IsManyPiece : List ℕ → Type 0
+IsManyPiece piece = (begins_with left_bracket piece ≡ false) × IsManyColoned piece
+
+-- a host and a port's place don't begin with a bracket
+plain_no_bracket : (piece : List ℕ) → IsPlainPiece piece → begins_with left_bracket piece ≡ false
+plain_no_bracket piece (text, rest, h, place, e) = ap (begins_with left_bracket) e ∙ begins-append left_bracket text rest h.nonempty ∙ h.no_bracket
+
+-- they aren't nothing
+plain_some : {A : Type 0} (piece : List ℕ) → IsPlainPiece piece → piece ≡ [] → A
+plain_some piece (text, rest, h, place, e) none = absurd (omega (arith, h.nonempty, length-append text rest, ap length (sym e ∙ none)))
+
+-- nor are colons
+many_some : {A : Type 0} (piece : List ℕ) → IsManyColoned piece → piece ≡ [] → A
+many_some piece (inl h) none = absurd (both_ways (begins_with colon piece) (ap (begins_with colon) none) h)
+many_some piece (inr (x, y, z, e)) none = absurd (omega (arith, length-append x (colon ∷ (y ++ colon ∷ z)), ap length (sym e ∙ none)))
+
+-- a bracket in front
+bracket_begins : (piece behind : List ℕ) → piece ≡ left_bracket ∷ behind → begins_with left_bracket piece ≡ true
+bracket_begins piece behind e = ap (begins_with left_bracket) e
+
+-- behind the only colon of a text stands none
+behind_colon_free : (text digits x y : List ℕ) → FreeOf colon text → FreeOf colon digits → text ++ colon ∷ digits ≡ x ++ colon ∷ y → FreeOf colon y
+behind_colon_free [] digits [] y f g e = subst (λ t. FreeOf colon t) (tails e) g
+behind_colon_free [] digits (c ∷ x) y f g e = absurd (not_free colon x y (subst (λ t. FreeOf colon t) (tails e) g))
+behind_colon_free (b ∷ text) digits [] y f g e =
+    let other = (free_head_tail colon b text f).0 in
+    absurd (both_ways (b == colon) other (ap (λ a. a == colon) (heads e)))
+behind_colon_free (b ∷ text) digits (c ∷ x) y f g e = behind_colon_free text digits x y (free_head_tail colon b text f).1 g (tails e)
+
+-- a host and a port's place have no two colons
+plain_one_colon : (text rest : List ℕ) → FreeOf colon text → IsPortPlace rest → HoldsTwoColons (text ++ rest) → ⊥
+plain_one_colon text rest f (inl e) (x, y, z, is) =
+    not_free colon x (y ++ colon ∷ z) (subst (λ t. FreeOf colon t) (sym (ap (λ t. text ++ t) e ∙ append-nil text) ∙ is) f)
+plain_one_colon text rest f (inr (digits, g, e)) (x, y, z, is) =
+    not_free colon y z (behind_colon_free text digits x (y ++ colon ∷ z) f g (sym (ap (λ t. text ++ t) e) ∙ is))
+
+-- their colon, if there is one, marks a port's place
+plain_not_many : {A : Type 0} (piece : List ℕ) → IsPlainPiece piece → IsManyColoned piece → A
+plain_not_many piece (text, rest, h, place, e) (inl begins) =
+    let none = free_begins colon text h.no_colon in
+    absurd (both_ways (begins_with colon text) none (sym (begins-append colon text rest h.nonempty) ∙ ap (begins_with colon) (sym e) ∙ begins))
+plain_not_many piece (text, rest, h, place, e) (inr two) = absurd (plain_one_colon text rest h.no_colon place (subst HoldsTwoColons e two))
+
+-- a port's place is empty or begins with a colon
+place_begins : (rest : List ℕ) → IsPortPlace rest → (rest ≡ []) ⊎ (begins_with colon rest ≡ true)
+place_begins rest (inl e) = inl e
+place_begins rest (inr (digits, g, e)) = inr (ap (begins_with colon) e)
+
+-- a piece is one host and one port's place
+plain_unique : (text other rest last : List ℕ) → IsPlainHost text → IsPlainHost other → IsPortPlace rest → IsPortPlace last → text ++ rest ≡ other ++ last → (text ≡ other) × (rest ≡ last)
+plain_unique text other rest last h k p q e =
+    class_cut_unique (λ b. b == colon) text other rest last h.no_colon k.no_colon (place_begins rest p) (place_begins last q) e
+
+-- ---- addresses without brackets
+
+-- an address without brackets holds colons that mark no port
+address_piece_many : (piece : List ℕ) → IsAddressPiece piece → IsManyPiece piece
+address_piece_many piece (inl h) = (free_begins left_bracket piece (address_free left_bracket piece refl h), inr (address_two_colons piece h))
+address_piece_many piece (inr (a, h, e)) =
+    let (x, y, z, is) = address_two_colons a h in
+    let free : FreeOf left_bracket (a ++ colon ∷ []) = free-append left_bracket a (colon ∷ []) (address_free left_bracket a refl h) refl in
+    let two : HoldsTwoColons (a ++ colon ∷ []) = (x, y, z ++ colon ∷ [], ap (λ t. t ++ colon ∷ []) is ∙ append_assoc x (colon ∷ (y ++ colon ∷ z)) (colon ∷ []) ∙ ap (λ t. x ++ colon ∷ t) (append_assoc y (colon ∷ z) (colon ∷ []))) in
+    (free_begins left_bracket piece (subst (λ t. FreeOf left_bracket t) (sym e) free), inr (subst HoldsTwoColons (sym e) two))
+
+-- ---- the shapes of a name
+
+-- the whole of a piece with such colons is the host
+data ManyNames (mode : Mode) (piece : List ℕ) (host : Option (List ℕ)) : Type 0 where
+  unbracketed : ReadsAddress mode piece → host ≡ Some (lowercase piece) → ManyNames mode piece host
+  other_host : (named : List ℕ) → ¬ (mode ≡ strict) → ¬ ReadsAddress mode piece → HostText mode piece named → host ≡ Some named → ManyNames mode piece host
+
+-- a name by the looks of its piece
+data Shape (mode : Mode) (piece : List ℕ) (host : Option (List ℕ)) (port : Option ℕ) : Type 0 where
+  nothing : piece ≡ [] → host ≡ None → port ≡ None → Shape mode piece host port
+  bracketed : (x inner rest : List ℕ) → FreeOf right_bracket x → Inner mode x inner → piece ≡ left_bracket ∷ (x ++ right_bracket ∷ rest)
+      → Follows mode (in_brackets inner) rest host port → Shape mode piece host port
+  plain : (text named rest : List ℕ) → IsPlainHost text → HostText mode text named → piece ≡ text ++ rest
+      → Follows mode named rest host port → Shape mode piece host port
+  many : IsManyPiece piece → ManyNames mode piece host → port ≡ None → Shape mode piece host port
+
+-- brackets with a colon behind them
+brackets_colon : (inner : List ℕ) → in_brackets inner ++ colon ∷ [] ≡ left_bracket ∷ (inner ++ right_bracket ∷ (colon ∷ []))
+brackets_colon inner = ap (λ t. left_bracket ∷ t) (append_assoc inner (right_bracket ∷ []) (colon ∷ []))
+
+-- every name has a shape
+name_shape : {mode : Mode} {piece : List ℕ} {host : Option (List ℕ)} {port : Option ℕ} → Names mode piece host port → Shape mode piece host port
+name_shape (Names.nothing e h p) = Shape.nothing e h p
+name_shape (Names.bracketed x inner f i e h p) = Shape.bracketed x inner [] f i e (Follows.nothing refl h p)
+name_shape (Names.bracketed_colon x inner f i e h p) = Shape.bracketed x inner (colon ∷ []) f i e (Follows.lone_colon refl (h ∙ ap Some (sym (brackets_colon inner))) p)
+name_shape (Names.bracketed_port x inner digits n f i k e h p) = Shape.bracketed x inner (colon ∷ digits) f i e (Follows.number digits n k refl h p)
+name_shape {mode} {piece} (Names.unbracketed r h p) = Shape.many (address_piece_many piece r.1) (ManyNames.unbracketed r h) p
+name_shape {mode} {piece} (Names.plain named h t is p) = Shape.plain piece named [] h t (sym (append-nil piece)) (Follows.nothing refl is p)
+name_shape (Names.plain_colon text named h t e is p) = Shape.plain text named (colon ∷ []) h t e (Follows.lone_colon refl is p)
+name_shape (Names.plain_port text named digits n h t k e is p) = Shape.plain text named (colon ∷ digits) h t e (Follows.number digits n k refl is p)
+name_shape (Names.colons named s r b m t is p) = Shape.many (b, m) (ManyNames.other_host named s r t is) p
+
+-- and every shape has a name
+
+-- the shape of a name tells the host and the port
+many_unique : (mode : Mode) (piece : List ℕ) (host second : Option (List ℕ)) → ManyNames mode piece host → ManyNames mode piece second → host ≡ second
+many_unique mode piece host second (ManyNames.unbracketed r h) (ManyNames.unbracketed s k) = h ∙ sym k
+many_unique mode piece host second (ManyNames.unbracketed r h) (ManyNames.other_host n s u t k) = absurd (u r)
+many_unique mode piece host second (ManyNames.other_host m s u t h) (ManyNames.unbracketed r k) = absurd (u r)
+many_unique mode piece host second (ManyNames.other_host m s u t h) (ManyNames.other_host n v w x k) = h ∙ ap Some (host_text_unique mode piece m n t x) ∙ sym k
+
+-- what is read between brackets: the cut and what follows
+bracket_cut : (x y rest last piece : List ℕ) → FreeOf right_bracket x → FreeOf right_bracket y → piece ≡ left_bracket ∷ (x ++ right_bracket ∷ rest) → piece ≡ left_bracket ∷ (y ++ right_bracket ∷ last) → (x ≡ y) × (rest ≡ last)
+bracket_cut x y rest last piece f g e k = cut_unique right_bracket x y rest last f g (tails (sym e ∙ k))
+
+-- no two shapes look alike
+shape_unique : (mode : Mode) (piece : List ℕ) (host second : Option (List ℕ)) (port last : Option ℕ) → Shape mode piece host port → Shape mode piece second last → (host ≡ second) × (port ≡ last)
+shape_unique mode piece host second port last (Shape.nothing e h p) (Shape.nothing f k q) = (h ∙ sym k, p ∙ sym q)
+shape_unique mode piece host second port last (Shape.nothing e h p) (Shape.bracketed x inner rest f i k g) = let wrong = sym e ∙ k in cc
+shape_unique mode piece host second port last (Shape.nothing e h p) (Shape.plain text named rest f i k g) = plain_some piece (text, rest, f, follows_place g, k) e
+shape_unique mode piece host second port last (Shape.nothing e h p) (Shape.many m n q) = many_some piece m.1 e
+shape_unique mode piece host second port last (Shape.bracketed x inner rest f i k g) (Shape.nothing e h p) = let wrong = sym e ∙ k in cc
+shape_unique mode piece host second port last (Shape.bracketed x inner rest f i k g) (Shape.bracketed y other end h j l m) =
+    let (same, ends) = bracket_cut x y rest end piece f h k l in
+    let inners = inner_unique mode y inner other (subst (λ t. Inner mode t inner) same i) j in
+    follows_unique (in_brackets inner) (in_brackets other) host second port last (ap in_brackets inners) (subst (λ t. Follows mode (in_brackets inner) t host port) ends g) m
+shape_unique mode piece host second port last (Shape.bracketed x inner rest f i k g) (Shape.plain text named end h j l m) =
+    absurd (both_ways _ (plain_no_bracket piece (text, end, h, follows_place m, l)) (bracket_begins piece _ k))
+shape_unique mode piece host second port last (Shape.bracketed x inner rest f i k g) (Shape.many m n q) =
+    absurd (both_ways _ m.0 (bracket_begins piece _ k))
+shape_unique mode piece host second port last (Shape.plain text named rest f i k g) (Shape.nothing e h p) = plain_some piece (text, rest, f, follows_place g, k) e
+shape_unique mode piece host second port last (Shape.plain text named end h j l m) (Shape.bracketed x inner rest f i k g) =
+    absurd (both_ways _ (plain_no_bracket piece (text, end, h, follows_place m, l)) (bracket_begins piece _ k))
+shape_unique mode piece host second port last (Shape.plain text named rest f i k g) (Shape.plain other called end h j l m) =
+    let (same, ends) = plain_unique text other rest end f h (follows_place g) (follows_place m) (sym k ∙ l) in
+    let hosts = host_text_unique mode other named called (subst (λ t. HostText mode t named) same i) j in
+    follows_unique named called host second port last hosts (subst (λ t. Follows mode named t host port) ends g) m
+shape_unique mode piece host second port last (Shape.plain text named rest f i k g) (Shape.many m n q) = plain_not_many piece (text, rest, f, follows_place g, k) m.1
+shape_unique mode piece host second port last (Shape.many m n q) (Shape.nothing e h p) = many_some piece m.1 e
+shape_unique mode piece host second port last (Shape.many m n q) (Shape.bracketed x inner rest f i k g) =
+    absurd (both_ways _ m.0 (bracket_begins piece _ k))
+shape_unique mode piece host second port last (Shape.many m n q) (Shape.plain text named rest f i k g) = plain_not_many piece (text, rest, f, follows_place g, k) m.1
+shape_unique mode piece host second port last (Shape.many m n p) (Shape.many k l q) = (many_unique mode piece host second n l, p ∙ sym q)
+
+-- a piece names one host and one port
+pub names_unique : (mode : Mode) (piece : List ℕ) (host second : Option (List ℕ)) (port last : Option ℕ) → Names mode piece host port → Names mode piece second last → (host ≡ second) × (port ≡ last)
+names_unique mode piece host second port last h k = shape_unique mode piece host second port last (name_shape h) (name_shape k)
+
+-- ---- flaws
+
+-- what stands in a port's place and is no port follows no host
+no_port_follows : {mode : Mode} {base digits rest : List ℕ} {host : Option (List ℕ)} {port : Option ℕ} → IsNoPort mode digits → rest ≡ colon ∷ digits → Follows mode base rest host port → ⊥
+no_port_follows h e (Follows.nothing f k p) = let wrong = sym e ∙ f in cc
+no_port_follows h e (Follows.lone_colon f k p) = omega (arith, h.0, ap length (tails (sym e ∙ f)))
+no_port_follows {mode} h e (Follows.number d n k f is p) = h.1 n (subst (λ t. Number mode t n) (tails (sym f ∙ e)) k)
+
+-- a name between brackets
+record InBrackets (mode : Mode) (piece : List ℕ) (host : Option (List ℕ)) (port : Option ℕ) : Type 0 where
+  x : List ℕ
+  inner : List ℕ
+  rest : List ℕ
+  around : BracketsAround piece x rest
+  stands : Inner mode x inner
+  follows : Follows mode (in_brackets inner) rest host port
+
+-- a name outside them
+record Outside (mode : Mode) (piece : List ℕ) (host : Option (List ℕ)) (port : Option ℕ) : Type 0 where
+  front : List ℕ
+  named : List ℕ
+  rest : List ℕ
+  is_plain : IsPlainHost front
+  stands : HostText mode front named
+  joined : piece ≡ front ++ rest
+  follows : Follows mode named rest host port
+
+-- a piece with a bracket in front is named between brackets
+named_in_brackets : (mode : Mode) (piece : List ℕ) (host : Option (List ℕ)) (port : Option ℕ) → begins_with left_bracket piece ≡ true → Shape mode piece host port → InBrackets mode piece host port
+named_in_brackets mode piece host port b (Shape.nothing e h p) = absurd (false≢true (sym (ap (begins_with left_bracket) e) ∙ b))
+named_in_brackets mode piece host port b (Shape.bracketed x inner rest f i e g) =
+    record { x = x; inner = inner; rest = rest; around = record { closed = f; joined = e; followed = place_begins rest (follows_place g) }; stands = i; follows = g }
+named_in_brackets mode piece host port b (Shape.plain front named rest h t e g) = absurd (both_ways _ (plain_no_bracket piece (front, rest, h, follows_place g, e)) b)
+named_in_brackets mode piece host port b (Shape.many m n p) = absurd (both_ways _ m.0 b)
+
+-- a host and a port's place are named outside of them
+named_outside : (mode : Mode) (piece : List ℕ) (host : Option (List ℕ)) (port : Option ℕ) → IsPlainPiece piece → Shape mode piece host port → Outside mode piece host port
+named_outside mode piece host port b (Shape.nothing e h p) = plain_some piece b e
+named_outside mode piece host port b (Shape.bracketed x inner rest f i e g) = absurd (both_ways _ (plain_no_bracket piece b) (bracket_begins piece _ e))
+named_outside mode piece host port b (Shape.plain front named rest h t e g) =
+    record { front = front; named = named; rest = rest; is_plain = h; stands = t; joined = e; follows = g }
+named_outside mode piece host port b (Shape.many m n p) = plain_not_many piece b m.1
+
+-- colons that mark no port are named as a whole
+named_whole : (mode : Mode) (piece : List ℕ) (host : Option (List ℕ)) (port : Option ℕ) → IsManyPiece piece → Shape mode piece host port → ManyNames mode piece host
+named_whole mode piece host port b (Shape.nothing e h p) = many_some piece b.1 e
+named_whole mode piece host port b (Shape.bracketed x inner rest f i e g) = absurd (both_ways _ b.0 (bracket_begins piece _ e))
+named_whole mode piece host port b (Shape.plain front named rest h t e g) = plain_not_many piece (front, rest, h, follows_place g, e) b.1
+named_whole mode piece host port b (Shape.many m n p) = n
+
+-- the mode of HTTP is not that of Git
+pub strict_not_bare : ¬ (strict ≡ bare)
+strict_not_bare e = cc
+
+-- where no port stands in its place, nothing is named
+bad_port_unnamed : (mode : Mode) (piece : List ℕ) (host : Option (List ℕ)) (port : Option ℕ) → HasBadPort mode piece → Shape mode piece host port → ⊥
+bad_port_unnamed mode piece host port (HasBadPort.plain front digits h free e none) s =
+    let place : IsPortPlace (colon ∷ digits) = inr (digits, free, refl) in
+    let n = named_outside mode piece host port (front, colon ∷ digits, h, place, e) s in
+    let parts = plain_unique n.front front n.rest (colon ∷ digits) n.is_plain h (follows_place n.follows) place (sym n.joined ∙ e) in
+    no_port_follows none parts.1 n.follows
+bad_port_unnamed mode piece host port (HasBadPort.bracketed x digits free e none) s =
+    let n = named_in_brackets mode piece host port (bracket_begins piece _ e) s in
+    let parts = bracket_cut n.x x n.rest (colon ∷ digits) piece n.around.closed free n.around.joined e in
+    no_port_follows none parts.1 n.follows
+
+-- nor where a byte is not allowed
+bad_host_unnamed : (mode : Mode) (piece : List ℕ) (host : Option (List ℕ)) (port : Option ℕ) → HasBadHost mode piece → Shape mode piece host port → ⊥
+bad_host_unnamed mode piece host port (HasBadHost.plain front rest h place e none) s =
+    let n = named_outside mode piece host port (front, rest, h, place, e) s in
+    let parts = plain_unique n.front front n.rest rest n.is_plain h (follows_place n.follows) place (sym n.joined ∙ e) in
+    none n.named (subst (λ t. HostText mode t n.named) parts.0 n.stands)
+bad_host_unnamed mode piece host port (HasBadHost.colons_on_the_web e b m) s =
+    elim (named_whole mode piece host port (b, m) s) [
+      | ManyNames.unbracketed r h ↦ strict_not_bare (sym e ∙ r.0)
+      | ManyNames.other_host n w r t h ↦ w e
+    ]
+bad_host_unnamed mode piece host port (HasBadHost.colons w r b m none) s =
+    elim (named_whole mode piece host port (b, m) s) [
+      | ManyNames.unbracketed q h ↦ r q
+      | ManyNames.other_host n v q t h ↦ none n t
+    ]
+bad_host_unnamed mode piece host port (HasBadHost.open_bracket b none) s =
+    let n = named_in_brackets mode piece host port b s in
+    none n.x n.rest n.around
+bad_host_unnamed mode piece host port (HasBadHost.brackets x rest a none) s =
+    let n = named_in_brackets mode piece host port (bracket_begins piece _ a.joined) s in
+    let parts = bracket_cut n.x x n.rest rest piece n.around.closed a.closed n.around.joined a.joined in
+    none n.inner (subst (λ t. Inner mode t n.inner) parts.0 n.stands)
+
+-- a piece with a flaw names nothing
+pub flawed_unnamed : (mode : Mode) (piece : List ℕ) (named : UrlFault) → NameFlaw mode piece named → (host : Option (List ℕ)) (port : Option ℕ) → ¬ Names mode piece host port
+flawed_unnamed mode piece fault.BadPort h host port n = bad_port_unnamed mode piece host port h (name_shape n)
+flawed_unnamed mode piece fault.BadCharacter h host port n = bad_host_unnamed mode piece host port h (name_shape n)
+flawed_unnamed mode piece fault.NoScheme h host port n = h
+flawed_unnamed mode piece fault.HostRequired h host port n = h
+
+-- ---- ASCII and UTF-8
+
+-- decimal digits are ASCII
+digit_ascii : (b : ℕ) → is_ascii_digit b ≡ true → b < 128
+digit_ascii b h = grind (arith, nat_tests)
+
+pub digits_utf8 : (bs : List ℕ) → list_all is_ascii_digit bs ≡ true → IsUtf8 bs
+digits_utf8 bs h = utf8_class is_ascii_digit digit_ascii bs h
+
+-- ---- decoding behind an address
+
+-- what holds no `%` stays, with another text behind it
+decoded_behind : (a rest : List ℕ) → FreeOf percent_sign a → percent_decode (a ++ rest) ≡ a ++ percent_decode rest
+decoded_behind a rest h = decodes_in_parts a rest (sound_free a h) ∙ ap (λ front. front ++ percent_decode rest) (decode_kept a h)
+
+-- and `%25` behind it is a `%`, with another text behind that
+zone_decoded : (a z : List ℕ) → FreeOf percent_sign a → percent_decode (a ++ percent_sign ∷ (50 ∷ (53 ∷ z))) ≡ a ++ percent_sign ∷ percent_decode z
+zone_decoded a z h =
+    decoded_behind a (percent_sign ∷ (50 ∷ (53 ∷ z))) h ∙ ap (λ t. a ++ t) (percent_decode_escape percent_sign 50 53 z refl (omega arith) (omega arith))
+
+-- a literal is decoded before or after it is lowercased
+literal_decoded : (t n : List ℕ) → Literal t n → percent_decode n ≡ lowercase_address (percent_decode t)
+literal_decoded t n (address h e) =
+    let free = address_no_percent t h in
+    ap percent_decode e ∙ decode_kept (lowercase t) (address_no_percent (lowercase t) (address-lowercase t h)) ∙ sym (ap lowercase_address (decode_kept t free) ∙ lowercase_address_alone t free)
+literal_decoded t n (zoned a z h zone is e) =
+    let free = address_no_percent a h in
+    ap percent_decode e ∙ zone_decoded (lowercase a) z (address_no_percent (lowercase a) (address-lowercase a h))
+    ∙ sym (ap (λ x. lowercase_address (percent_decode x)) is ∙ ap lowercase_address (zone_decoded a z free) ∙ lowercase_address_before a (percent_decode z) free)
+
+-- a decoded literal is text
+literal_utf8 : (t n : List ℕ) → Literal t n → IsUtf8 (percent_decode n)
+literal_utf8 t n (address h e) =
+    let shown = ap percent_decode e ∙ decode_kept (lowercase t) (address_no_percent (lowercase t) (address-lowercase t h)) in
+    subst IsUtf8 (sym shown) (address_utf8 (lowercase t) (address-lowercase t h))
+literal_utf8 t n (zoned a z h zone is e) =
+    let shown = ap percent_decode e ∙ zone_decoded (lowercase a) z (address_no_percent (lowercase a) (address-lowercase a h)) in
+    subst IsUtf8 (sym shown) (IsUtf8-append (lowercase a) (percent_sign ∷ percent_decode z) (address_utf8 (lowercase a) (address-lowercase a h)) (IsUtf8-append (percent_sign ∷ []) (percent_decode z) (utf8_byte percent_sign (omega arith)) zone.text))
+
+-- outside HTTP a literal between brackets stands for its decoding
+bracketed_literal : (t n : List ℕ) → Literal t n → Bracketed t (lowercase_address (percent_decode t))
+bracketed_literal t n h = spec.Bracketed.literal n h (sym (literal_decoded t n h)) (subst IsUtf8 (literal_decoded t n h) (literal_utf8 t n h))
+
+-- a literal between brackets stands for what is shown of it
+pub literal_inner : (mode : Mode) (t : List ℕ) → IsLiteral t → Inner mode t (shown_literal mode t)
+literal_inner strict t (n, h) = subst (λ x. Literal t x) (literal_normal t n h) h
+literal_inner bare t (n, h) = bracketed_literal t n h
+literal_inner loose t (n, h) = bracketed_literal t n h
+
+-- ---- literals as they are read
+
+-- an address alone
+pub literal_alone : (t : List ℕ) → IsIpv6Text t → IsLiteral t
+literal_alone t h = (lowercase t, address h refl)
+
+-- an address, `%25` and a zone
+pub literal_zoned : (t a e : List ℕ) → t ≡ a ++ percent_sign ∷ e → IsIpv6Text a → IsEscapedZone e → IsLiteral t
+literal_zoned t a e whole h (z, zone, is) =
+    (lowercase a ++ percent_sign ∷ (50 ∷ (53 ∷ z)), zoned a z h zone (whole ∙ ap (λ x. a ++ percent_sign ∷ x) is) refl)
+
+-- a text without `%` is a literal only as an address
+pub literal_address : (t : List ℕ) → FreeOf percent_sign t → IsLiteral t → IsIpv6Text t
+literal_address t f (n, address h e) = h
+literal_address t f (n, zoned a z h zone whole e) = absurd (not_free percent_sign a (50 ∷ 53 ∷ z) (subst (λ x. FreeOf percent_sign x) whole f))
+
+-- a text with a `%` is one only as an address and a zone
+pub literal_parts : (t a e : List ℕ) → FreeOf percent_sign a → t ≡ a ++ percent_sign ∷ e → IsLiteral t → IsIpv6Text a × IsEscapedZone e
+literal_parts t a e f whole (n, address h k) = absurd (not_free percent_sign a e (subst (λ x. FreeOf percent_sign x) whole (address_no_percent t h)))
+literal_parts t a e f whole (n, zoned b z h zone is k) =
+    let parts = cut_unique percent_sign b a (50 ∷ 53 ∷ z) e (address_no_percent b h) f (sym is ∙ whole) in
+    (subst IsIpv6Text parts.0 h, (z, zone, sym parts.1))
+
+-- ---- a host and a port as they are read
+
+-- a text whose length isn't tested to be 0
+pub some_tested : (t : List ℕ) → false ≡ (length t == 0) → 0 < length t
+some_tested [] e = absurd (false≢true e)
+some_tested (b ∷ t) e = omega arith
+
+-- nothing is in front of a first colon: no port is marked
+pub colon_first : (piece front rest : List ℕ) → true ≡ (length front == 0) → piece ≡ front ++ colon ∷ rest → IsManyColoned piece
+colon_first piece [] rest none e = inl (ap (begins_with colon) e)
+colon_first piece (b ∷ front) rest none e = absurd (omega (arith, eqb-true (length (b ∷ front)) 0 (sym none)))
+
+-- nor is one where another colon follows
+pub colon_again : (piece front rest : List ℕ) → ¬ FreeOf colon rest → piece ≡ front ++ colon ∷ rest → IsManyColoned piece
+colon_again piece front rest held e =
+    elim (free_or_cut colon rest) [
+      | inl h ↦ absurd (held h)
+      | inr (y, z, f, k) ↦ inr (front, y, z, e ∙ ap (λ t. front ++ colon ∷ t) k)
+    ]
+
+-- what stands before the first colon, if anything, is a host outside brackets
+pub plain_front : (piece front rest : List ℕ) → false ≡ (length front == 0) → FreeOf colon front → begins_with left_bracket piece ≡ false → piece ≡ front ++ rest → IsPlainHost front
+plain_front piece front rest some free none e =
+    record { nonempty = some_tested front some; no_colon = free; no_bracket = sym (begins-append left_bracket front rest (some_tested front some)) ∙ ap (begins_with left_bracket) (sym e) ∙ none }
+
+-- a byte that is no digit spells no port
+pub not_digits : (mode : Mode) (digits : List ℕ) → false ≡ list_all is_ascii_digit digits → IsNoPort mode digits
+not_digits mode [] e = absurd (false≢true e)
+not_digits mode (b ∷ digits) e = (omega arith, λ port n. both_ways _ (sym e) n.digits.1)
+
+-- a host in brackets, and what follows
+pub bracketed_name : (mode : Mode) (behind x rest shown : List ℕ) (host : Option (List ℕ)) (port : Option ℕ) → FreeOf right_bracket x → behind ≡ x ++ right_bracket ∷ rest → IsInner mode x shown → Follows mode shown rest host port → Names mode (left_bracket ∷ behind) host port
+bracketed_name mode behind x rest shown host port free e (inner, stands, is) (Follows.nothing f h p) =
+    Names.bracketed x inner free stands (ap (λ t. left_bracket ∷ t) (e ∙ ap (λ t. x ++ right_bracket ∷ t) f)) (h ∙ ap Some is) p
+bracketed_name mode behind x rest shown host port free e (inner, stands, is) (Follows.lone_colon f h p) =
+    Names.bracketed_colon x inner free stands (ap (λ t. left_bracket ∷ t) (e ∙ ap (λ t. x ++ right_bracket ∷ t) f)) (h ∙ ap (λ t. Some (t ++ colon ∷ [])) is ∙ ap Some (brackets_colon inner)) p
+bracketed_name mode behind x rest shown host port free e (inner, stands, is) (Follows.number d n k f h p) =
+    Names.bracketed_port x inner d n free stands k (ap (λ t. left_bracket ∷ t) (e ∙ ap (λ t. x ++ right_bracket ∷ t) f)) (h ∙ ap Some is) p
+
+-- a host outside them, and a colon and what follows
+pub plain_name : (mode : Mode) (piece front rest named : List ℕ) (host : Option (List ℕ)) (port : Option ℕ) → IsPlainHost front → piece ≡ front ++ colon ∷ rest → HostText mode front named → Follows mode named (colon ∷ rest) host port → Names mode piece host port
+plain_name mode piece front rest named host port h e t (Follows.nothing f is p) = cc
+plain_name mode piece front rest named host port h e t (Follows.lone_colon f is p) = Names.plain_colon front named h t (e ∙ ap (λ x. front ++ x) f) is p
+plain_name mode piece front rest named host port h e t (Follows.number d n k f is p) = Names.plain_port front named d n h t k (e ∙ ap (λ x. front ++ x) f) is p
+
+-- a closing bracket that another byte than a colon follows
+pub not_ended : (mode : Mode) (behind x rest : List ℕ) → FreeOf right_bracket x → behind ≡ x ++ right_bracket ∷ rest → ¬ EndsHost rest → HasBadHost mode (left_bracket ∷ behind)
+not_ended mode behind x rest free e open_end =
+    HasBadHost.open_bracket refl (λ y last a. open_end (subst EndsHost (cut_unique right_bracket y x last rest a.closed free (sym (tails a.joined) ∙ e)).1 a.followed))
+
+-- brackets around what stands for nothing
+pub not_inner : (mode : Mode) (behind x rest : List ℕ) → FreeOf right_bracket x → behind ≡ x ++ right_bracket ∷ rest → EndsHost rest → IsNoInner mode x → HasBadHost mode (left_bracket ∷ behind)
+not_inner mode behind x rest free e ended none =
+    HasBadHost.brackets x rest record { closed = free; joined = ap (λ t. left_bracket ∷ t) e; followed = ended } none
+
+-- brackets with a colon and no port behind them
+pub no_port_behind : (mode : Mode) (behind x rest digits : List ℕ) → FreeOf right_bracket x → behind ≡ x ++ right_bracket ∷ rest → rest ≡ colon ∷ digits → IsNoPort mode digits → HasBadPort mode (left_bracket ∷ behind)
+no_port_behind mode behind x rest digits free e f none =
+    HasBadPort.bracketed x digits free (ap (λ t. left_bracket ∷ t) (e ∙ ap (λ t. x ++ right_bracket ∷ t) f)) none
+
+-- nothing follows where no colon does
+pub nothing_follows : (rest : List ℕ) → EndsHost rest → begins_with colon rest ≡ false → rest ≡ []
+nothing_follows rest (inl e) none = e
+nothing_follows rest (inr h) none = absurd (both_ways _ none h)
+
+-- what follows a colon follows the host
+pub port_follows : (mode : Mode) (base rest digits : List ℕ) (named : Option NamedHost) → rest ≡ colon ∷ digits
+    → MatchOption named (IsNoPort mode digits) (λ n. Follows mode base (colon ∷ digits) (Some (named_text n)) n.port)
+    → MatchOption named (IsBadPort mode rest) (λ n. Follows mode base rest (Some (named_text n)) n.port)
+port_follows mode base rest digits None is h = (digits, h, is)
+port_follows mode base rest digits (Some n) is h = subst (λ t. Follows mode base t (Some (named_text n)) n.port) (sym is) h
+
+-- ---- hosts are text
+
+-- a byte of a domain name stays one in lower case
+dns_byte_lowercase : (b : ℕ) → is_dns_byte b ≡ true → is_dns_byte (to_ascii_lowercase b) ≡ true
+dns_byte_lowercase b h = grind (arith, nat_tests)
+
+-- so do those of a text
+pub dns_lowercase : (bs : List ℕ) → list_all is_dns_byte bs ≡ true → list_all is_dns_byte (lowercase bs) ≡ true
+dns_lowercase bs h = all_lowercase is_dns_byte dns_byte_lowercase bs h
+
+-- a byte that looks like a part of a domain name is ASCII
+dns_byte_ascii : (b : ℕ) → is_dns_byte b ≡ true → b < 128
+dns_byte_ascii b h = grind (arith, nat_tests)
+
+-- so is a byte of a host of HTTP
+http_byte_ascii : (b : ℕ) → is_http_host_byte b ≡ true → b < 128
+http_byte_ascii b h = grind (arith, nat_tests)
+
+-- and one of a zone
+pub zone_byte_ascii : (b : ℕ) → is_zone_byte b ≡ true → b < 128
+zone_byte_ascii b h = grind (arith, nat_tests)
+
+-- the normal form of a host that is text is text
+normal_utf8 : (host : List ℕ) → IsUtf8 host → IsUtf8 (normal_host host)
+normal_utf8 host u =
+    cond_both (list_all is_dns_byte host) (lowercase host) host IsUtf8
+    (λ h. utf8_class is_dns_byte dns_byte_ascii (lowercase host) (dns_lowercase host h))
+    (λ h. u)
+
+-- a host outside brackets is text
+host_text_utf8 : (mode : Mode) (t named : List ℕ) → HostText mode t named → IsUtf8 named
+host_text_utf8 strict t named h = subst IsUtf8 (sym h.1) (normal_utf8 t (utf8_class is_http_host_byte http_byte_ascii t h.0))
+host_text_utf8 bare t named h = subst IsUtf8 (sym h.1) (normal_utf8 (percent_decode t) h.0)
+host_text_utf8 loose t named h = subst IsUtf8 (sym h.1) (normal_utf8 (percent_decode t) h.0)
+
+-- a byte in front of or behind a text
+utf8_cons : (b : ℕ) (t : List ℕ) → b < 128 → IsUtf8 t → IsUtf8 (b ∷ t)
+utf8_cons b t h u = IsUtf8-append (b ∷ []) t (utf8_byte b h) u
+
+utf8_push : (b : ℕ) (t : List ℕ) → b < 128 → IsUtf8 t → IsUtf8 (t ++ b ∷ [])
+utf8_push b t h u = IsUtf8-append t (b ∷ []) u (utf8_byte b h)
+
+-- the normal form of a literal is text
+literal_normal_utf8 : (t n : List ℕ) → Literal t n → IsUtf8 n
+literal_normal_utf8 t n (address h e) = subst IsUtf8 (sym e) (address_utf8 (lowercase t) (address-lowercase t h))
+literal_normal_utf8 t n (zoned a z h zone is e) =
+    let text : IsUtf8 z = utf8_class is_zone_byte zone_byte_ascii z zone.bytes in
+    subst IsUtf8 (sym e) (IsUtf8-append (lowercase a) (percent_sign ∷ (50 ∷ (53 ∷ z))) (address_utf8 (lowercase a) (address-lowercase a h))
+    (utf8_cons percent_sign _ (omega arith) (utf8_cons 50 _ (omega arith) (utf8_cons 53 z (omega arith) text))))
+
+-- what stands between brackets is text
+inner_utf8 : (mode : Mode) (t n : List ℕ) → Inner mode t n → IsUtf8 n
+inner_utf8 strict t n h = literal_normal_utf8 t n h
+inner_utf8 bare t n (spec.Bracketed.literal x h e u) = u
+inner_utf8 bare t n (spec.Bracketed.other h e u) = u
+inner_utf8 loose t n (spec.Bracketed.literal x h e u) = u
+inner_utf8 loose t n (spec.Bracketed.other h e u) = u
+
+brackets_utf8 : (inner : List ℕ) → IsUtf8 inner → IsUtf8 (in_brackets inner)
+brackets_utf8 inner u = utf8_cons left_bracket (inner ++ right_bracket ∷ []) (omega arith) (utf8_push right_bracket inner (omega arith) u)
+
+-- a host that something follows is text
+follows_utf8 : {mode : Mode} {rest : List ℕ} {port : Option ℕ} (base host : List ℕ) → IsUtf8 base → Follows mode base rest (Some host) port → IsUtf8 host
+follows_utf8 base host u (Follows.nothing e h p) = subst IsUtf8 (sym (same_Some _ _ h)) u
+follows_utf8 base host u (Follows.lone_colon e h p) = subst IsUtf8 (sym (same_Some _ _ h)) (utf8_push colon base (omega arith) u)
+follows_utf8 base host u (Follows.number d n k e h p) = subst IsUtf8 (sym (same_Some _ _ h)) u
+
+-- a lowercased address, with or without a colon
+address_piece_utf8 : (piece : List ℕ) → IsAddressPiece piece → IsUtf8 (lowercase piece)
+address_piece_utf8 piece (inl h) = address_utf8 (lowercase piece) (address-lowercase piece h)
+address_piece_utf8 piece (inr (a, h, e)) =
+    subst IsUtf8 (sym (ap lowercase e ∙ map-append to_ascii_lowercase a (colon ∷ []))) (utf8_push colon (lowercase a) (omega arith) (address_utf8 (lowercase a) (address-lowercase a h)))
+
+shape_utf8 : (mode : Mode) (piece host : List ℕ) (port : Option ℕ) → Shape mode piece (Some host) port → IsUtf8 host
+shape_utf8 mode piece host port (Shape.nothing e h p) = cc
+shape_utf8 mode piece host port (Shape.bracketed x inner rest f i e g) = follows_utf8 (in_brackets inner) host (brackets_utf8 inner (inner_utf8 mode x inner i)) g
+shape_utf8 mode piece host port (Shape.plain front named rest h t e g) = follows_utf8 named host (host_text_utf8 mode front named t) g
+shape_utf8 mode piece host port (Shape.many m (ManyNames.unbracketed r h) p) = subst IsUtf8 (sym (same_Some _ _ h)) (address_piece_utf8 piece r.1)
+shape_utf8 mode piece host port (Shape.many m (ManyNames.other_host n s r t h) p) = subst IsUtf8 (sym (same_Some _ _ h)) (host_text_utf8 mode piece n t)
+
+-- a host that is named is text
+pub names_utf8 : (mode : Mode) (piece host : List ℕ) (port : Option ℕ) → Names mode piece (Some host) port → IsUtf8 host
+names_utf8 mode piece host port h = shape_utf8 mode piece host port (name_shape h)
+
+-- ---- simple hosts
+
+-- a byte of a simple host is the same in lower case
+simple_byte_lowercase : (b : ℕ) → is_simple_byte b ≡ true → to_ascii_lowercase b ≡ b
+simple_byte_lowercase b h = grind (arith, nat_tests)
+
+-- and one of a host of HTTP
+simple_byte_http : (b : ℕ) → is_simple_byte b ≡ true → is_http_host_byte b ≡ true
+simple_byte_http b h = grind (arith, nat_tests)
+
+-- so is a text of them
+simple_lowercase : (t : List ℕ) → list_all is_simple_byte t ≡ true → lowercase t ≡ t
+simple_lowercase [] h = refl
+simple_lowercase (b ∷ bs) h =
+    let (byte, more) = and_parts (is_simple_byte b) (list_all is_simple_byte bs) h in
+    ap (λ c. c ∷ lowercase bs) (simple_byte_lowercase b byte) ∙ ap (λ t. b ∷ t) (simple_lowercase bs more)
+
+simple_http : (t : List ℕ) → list_all is_simple_byte t ≡ true → list_all is_http_host_byte t ≡ true
+simple_http [] h = refl
+simple_http (b ∷ bs) h =
+    let (byte, more) = and_parts (is_simple_byte b) (list_all is_simple_byte bs) h in rw (simple_byte_http b byte) (simple_http bs more)
+
+-- a simple host is its own normal form
+simple_normal : (t : List ℕ) → list_all is_simple_byte t ≡ true → normal_host t ≡ t
+simple_normal t h = cond_both (list_all is_dns_byte t) (lowercase t) t (λ n. n ≡ t) (λ _. simple_lowercase t h) (λ _. refl)
+
+-- it decodes to itself
+simple_decoded : (t : List ℕ) → list_all is_simple_byte t ≡ true → percent_decode t ≡ t
+simple_decoded t h = decode_kept t (free_of_all is_simple_byte percent_sign t h refl)
+
+-- it is text
+simple_utf8 : (t : List ℕ) → list_all is_simple_byte t ≡ true → IsUtf8 t
+simple_utf8 t h = utf8_class is_http_host_byte http_byte_ascii t (simple_http t h)
+
+-- so it stands for itself in every mode
+simple_text : (mode : Mode) (t : List ℕ) → list_all is_simple_byte t ≡ true → HostText mode t t
+simple_text strict t h = (simple_http t h, sym (simple_normal t h))
+simple_text bare t h = (subst IsUtf8 (sym (simple_decoded t h)) (simple_utf8 t h), sym (ap normal_host (simple_decoded t h) ∙ simple_normal t h))
+simple_text loose t h = (subst IsUtf8 (sym (simple_decoded t h)) (simple_utf8 t h), sym (ap normal_host (simple_decoded t h) ∙ simple_normal t h))
+
+-- and names itself, with no port
+pub simple_named : (mode : Mode) (t : List ℕ) → IsSimpleHost t → Names mode t (Some t) None
+simple_named mode t h =
+    Names.plain t (record { nonempty = h.nonempty; no_colon = free_of_all is_simple_byte colon t h.bytes refl; no_bracket = free_begins left_bracket t (free_of_all is_simple_byte left_bracket t h.bytes refl) })
+    (simple_text mode t h.bytes) refl refl
+
+-- so does a host that was read of it
+pub simple_host_named : (mode : Mode) (t : List ℕ) (host : NamedHost) → IsSimpleHost t → named_text host ≡ t → host.port ≡ None → Names mode t (Some (named_text host)) host.port
+simple_host_named mode t host h e p =
+    subst (λ n. Names mode t (Some n) host.port) (sym e) (subst (λ n. Names mode t (Some t) n) (sym p) (simple_named mode t h))

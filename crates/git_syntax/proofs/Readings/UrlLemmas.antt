@@ -1,0 +1,247 @@
+-- URLs: what their text determines of their pieces, and what leaves no reading.
+use Rattle.std.proofs.Common.{◌≡◌, ℕ, ◌<◌, ◌⊎◌, Bool, true, false, List, [], ◌∷◌, ◌++◌, length, Option, Some, None, Result, Ok, Err, inl, inr, refl, sym, ap, subst, ◌∙◌, arith}
+use Rattle.std.specs.Prelude.{IfOk, IsSome, is_some, IsUtf8}
+use Rattle.std.proofs.lemmas.Bool.{both_ways, false≢true}
+use Rattle.std.proofs.lemmas.List.{nil_from_length}
+use Rattle.percent_encoding.specs.Percent.{percent_decode}
+use Rattle.git_syntax.specs.declared.refusal.UrlFault.TheVariants as fault
+use Rattle.git_syntax.specs.Bytes.{colon, at_sign, backslash, Lacks, FreeOf, Holds, LacksWhiteSpace, is_scheme_text, is_path_start, StartsPath}
+use Rattle.git_syntax.specs.Cuts.{url_mark}
+use Rattle.git_syntax.specs.Escapes.{is_sound}
+use Rattle.git_syntax.specs.Hosts.{Mode, Names}
+use Rattle.git_syntax.specs.Schemes.{is_web_scheme, mode_of, requires_host}
+use Rattle.git_syntax.specs.Authority.{unless_empty, Credentials, Authority, Fits}
+use Rattle.git_syntax.specs.Authority.Credentials.{user_alone, with_password}
+use Rattle.git_syntax.specs.Authority.Authority.{host_alone, with_user}
+use Rattle.git_syntax.specs.Grammar.{UrlParts, SpellsParts}
+use Rattle.git_syntax.specs.Flaws.{AuthorityFlaw, HasBadUser, OtherShape, UrlCut}
+use Rattle.git_syntax.specs.declared.host.NamedHost.{NamedHost}
+use Rattle.git_syntax.specs.HostPieces.{IsSimpleHost, host_of, is_simple_byte, named_text}
+use Rattle.git_syntax.specs.UrlPieces.{CutsRest, HasNoText, HoldsHosted, IsNoAuthority}
+use Rattle.git_syntax.proofs.Texts.CutLemmas.{free_of_all, not_free, cut_unique, last_cut_unique, path_cut_unique, mark_cut_unique, held_free, scheme_text_free}
+use Rattle.git_syntax.proofs.Readings.HostLemmas.{names_unique, simple_host_named}
+use Rattle.git_syntax.proofs.Texts.EscapeLemmas.{decode_empty}
+use Rattle.percent_encoding.proofs.PercentLemmas.{percent_decode-nil}
+
+-- ---- user information
+
+-- user information without a colon is a user, which decodes to text
+pub credentials_alone : (text : List ℕ) (user password : Option (List ℕ)) → FreeOf colon text → Credentials text user password → IsUtf8 (percent_decode text)
+credentials_alone text user password free (user_alone f h e k) = h
+credentials_alone text user password free (with_password u w f e h k p q) =
+    absurd (not_free colon u w (subst (λ x. FreeOf colon x) e free))
+
+-- what stands around the first colon of user information decodes to text
+pub credentials_cut : (text u w : List ℕ) (user password : Option (List ℕ)) → FreeOf colon u → text ≡ u ++ colon ∷ w → Credentials text user password → IsUtf8 (percent_decode u) × IsUtf8 (percent_decode w)
+credentials_cut text u w user password free joined (user_alone f h e k) =
+    absurd (not_free colon u w (subst (λ x. FreeOf colon x) joined f))
+credentials_cut text u w user password free joined (with_password x y f e h k p q) =
+    let pieces = cut_unique colon x u y w f free (sym e ∙ joined) in
+    (subst (λ z. IsUtf8 (percent_decode z)) pieces.0 h, subst (λ z. IsUtf8 (percent_decode z)) pieces.1 k)
+
+-- user information with a part that decodes to no text holds nothing
+pub no_text_refutes : (text : List ℕ) (user password : Option (List ℕ)) → HasNoText text → ¬ Credentials text user password
+no_text_refutes text user password (HasNoText.user free bad) h = bad (credentials_alone text user password free h)
+no_text_refutes text user password (HasNoText.user_before_password u w free joined bad) h =
+    bad (credentials_cut text u w user password free joined h).0
+no_text_refutes text user password (HasNoText.password u w free joined bad) h =
+    bad (credentials_cut text u w user password free joined h).1
+
+-- a text that is not empty is itself, unless it is empty
+pub some_kept : (text : List ℕ) → ¬ (text ≡ []) → unless_empty text ≡ Some text
+some_kept [] some = absurd (some refl)
+some_kept (b ∷ bs) some = refl
+
+-- an empty text stands for none
+pub nothing_meant : (text : List ℕ) → length text ≡ 0 → None ≡ unless_empty (percent_decode text)
+nothing_meant text e = sym (ap unless_empty (ap percent_decode (nil_from_length text e) ∙ percent_decode-nil))
+
+-- any other text stands for what it decodes to
+pub something_meant : (text : List ℕ) → 0 < length text → Some (percent_decode text) ≡ unless_empty (percent_decode text)
+something_meant text some = sym (some_kept (percent_decode text) (λ e. absurd (omega (arith, ap length (decode_empty text e)))))
+
+-- ---- names
+
+-- where no host is named, there is no text
+pub nothing_named : (mode : Mode) (piece : List ℕ) (host : Option (List ℕ)) (port : Option ℕ) → Names mode piece host port → host ≡ None → piece ≡ []
+nothing_named mode piece host port (Names.nothing e h p) none = e
+nothing_named mode piece host port (Names.bracketed x inner f i e h p) none = let wrong = sym h ∙ none in cc
+nothing_named mode piece host port (Names.bracketed_colon x inner f i e h p) none = let wrong = sym h ∙ none in cc
+nothing_named mode piece host port (Names.bracketed_port x inner digits n f i d e h p) none = let wrong = sym h ∙ none in cc
+nothing_named mode piece host port (Names.unbracketed a h p) none = let wrong = sym h ∙ none in cc
+nothing_named mode piece host port (Names.plain named a t h p) none = let wrong = sym h ∙ none in cc
+nothing_named mode piece host port (Names.plain_colon text named a t e h p) none = let wrong = sym h ∙ none in cc
+nothing_named mode piece host port (Names.plain_port text named digits n a t d e h p) none = let wrong = sym h ∙ none in cc
+nothing_named mode piece host port (Names.colons named s r b m t h p) none = let wrong = sym h ∙ none in cc
+
+-- an empty text names no host
+pub empty_names_nothing : (mode : Mode) (piece : List ℕ) (host : Option (List ℕ)) (port : Option ℕ) → piece ≡ [] → Names mode piece host port → host ≡ None
+empty_names_nothing mode piece host port e h = (names_unique mode piece host None port None h (Names.nothing e refl refl)).0
+
+-- nothing is not something
+pub none_not_some : {A B : Type 0} (host : Option A) → host ≡ None → IsSome host → B
+none_not_some None e h = absurd (false≢true h)
+none_not_some (Some x) e h = absurd (cc)
+
+-- a host that was read is one that is named
+pub some_host : (host : Option NamedHost) → is_some host ≡ true → IsSome (host_of host)
+some_host None e = absurd (false≢true e)
+some_host (Some named) e = refl
+
+-- and where none was read, none is named
+pub none_host : (host : Option NamedHost) → is_some host ≡ false → host_of host ≡ None
+none_host None e = refl
+none_host (Some named) e = absurd (both_ways true e refl)
+
+-- ---- authorities
+
+-- an authority without user information is a host and a port
+pub authority_alone : (mode : Mode) (text : List ℕ) (user password host : Option (List ℕ)) (port : Option ℕ) → FreeOf at_sign text → Authority mode text user password host port → Names mode text host port
+authority_alone mode text user password host port free (host_alone f h u p) = h
+authority_alone mode text user password host port free (with_user information piece f e i h s) =
+    absurd (not_free at_sign information piece (subst (λ x. FreeOf at_sign x) e free))
+
+-- what stands around the last `@` of an authority is user information, and a host and a port
+pub authority_cut : (mode : Mode) (text information piece : List ℕ) (user password host : Option (List ℕ)) (port : Option ℕ) → FreeOf at_sign piece → text ≡ information ++ at_sign ∷ piece → Authority mode text user password host port → Credentials information user password × Names mode piece host port × IsSome host
+authority_cut mode text information piece user password host port free joined (host_alone f h u p) =
+    absurd (not_free at_sign information piece (subst (λ x. FreeOf at_sign x) joined f))
+authority_cut mode text information piece user password host port free joined (with_user i p f e c h s) =
+    let pieces = last_cut_unique at_sign i information p piece f free (sym e ∙ joined) in
+    (subst (λ x. Credentials x user password) pieces.0 c, subst (λ x. Names mode x host port) pieces.1 h, s)
+
+-- no authority stands where its piece without user information names nothing
+pub no_name_alone : (mode : Mode) (needed : Bool) (text : List ℕ) → FreeOf at_sign text → ((host : Option (List ℕ)) (port : Option ℕ) → ¬ Names mode text host port) → IsNoAuthority mode needed text
+no_name_alone mode needed text free none user password host port h =
+    none host port (authority_alone mode text user password host port free h.named)
+
+-- no authority stands where the piece behind the user information names nothing
+pub no_name_behind : (mode : Mode) (needed : Bool) (text information piece : List ℕ) → FreeOf at_sign piece → text ≡ information ++ at_sign ∷ piece → ((host : Option (List ℕ)) (port : Option ℕ) → ¬ Names mode piece host port) → IsNoAuthority mode needed text
+no_name_behind mode needed text information piece free joined none user password host port h =
+    none host port (authority_cut mode text information piece user password host port free joined h.named).1
+
+-- no authority stands where the user information holds what is no text
+pub no_text_before : (mode : Mode) (needed : Bool) (text information piece : List ℕ) → FreeOf at_sign piece → text ≡ information ++ at_sign ∷ piece → HasNoText information → IsNoAuthority mode needed text
+no_text_before mode needed text information piece free joined bad user password host port h =
+    no_text_refutes information user password bad (authority_cut mode text information piece user password host port free joined h.named).0
+
+-- no authority stands where nothing follows the user information
+pub no_host_behind : (mode : Mode) (needed : Bool) (text information piece : List ℕ) → FreeOf at_sign piece → text ≡ information ++ at_sign ∷ piece → piece ≡ [] → IsNoAuthority mode needed text
+no_host_behind mode needed text information piece free joined empty user password host port h =
+    let pieces = authority_cut mode text information piece user password host port free joined h.named in
+    none_not_some host (empty_names_nothing mode piece host port empty pieces.1) pieces.2
+
+-- no authority stands where a host is needed and there is nothing
+pub no_host_alone : (mode : Mode) (needed : Bool) (text : List ℕ) → needed ≡ true → FreeOf at_sign text → text ≡ [] → IsNoAuthority mode needed text
+no_host_alone mode needed text need free empty user password host port h =
+    none_not_some host (empty_names_nothing mode text host port empty (authority_alone mode text user password host port free h.named)) (h.hosted need)
+
+-- user information that holds what is no text is a flaw of its authority
+pub bad_user_flaw : (mode : Mode) (needed : Bool) (text information piece : List ℕ) → FreeOf at_sign piece → text ≡ information ++ at_sign ∷ piece → HasNoText information → AuthorityFlaw mode needed text fault.BadCharacter
+bad_user_flaw mode needed text information piece free joined (HasNoText.user f bad) =
+    AuthorityFlaw.bad_user (HasBadUser.user information piece free f joined bad)
+bad_user_flaw mode needed text information piece free joined (HasNoText.user_before_password u w f e bad) =
+    AuthorityFlaw.bad_user (HasBadUser.user_before_password u w piece free f (joined ∙ ap (λ x. x ++ at_sign ∷ piece) e) bad)
+bad_user_flaw mode needed text information piece free joined (HasNoText.password u w f e bad) =
+    AuthorityFlaw.bad_user (HasBadUser.password u w piece free f (joined ∙ ap (λ x. x ++ at_sign ∷ piece) e) bad)
+
+-- ---- URLs
+
+-- a scheme holds no `://`
+pub scheme_no_mark : (s : List ℕ) → is_scheme_text s ≡ true → ¬ Holds url_mark s
+scheme_no_mark s h = held_free s (scheme_text_free s colon h refl)
+
+-- the scheme of a URL is what stands before its first `://`
+pub scheme_cut : (b front rest : List ℕ) (parts : UrlParts) → OtherShape b front rest → (h : SpellsParts b parts) → (parts.scheme ≡ front) × (h.authority ++ parts.path ≡ rest)
+scheme_cut b front rest parts shape h =
+    mark_cut_unique parts.scheme front (h.authority ++ parts.path) rest (scheme_no_mark parts.scheme h.scheme_text) shape.shape.first (sym h.joined ∙ shape.shape.joined)
+
+-- the scheme, the authority and the path of a URL are those of its cut
+pub parts_cut : (b scheme authority path : List ℕ) (parts : UrlParts) → UrlCut b scheme authority path → (h : SpellsParts b parts) → (parts.scheme ≡ scheme) × (h.authority ≡ authority) × (parts.path ≡ path)
+parts_cut b scheme authority path parts cut h =
+    let pieces = scheme_cut b scheme (authority ++ path) parts cut.shape h in
+    let before = subst (λ s. Lacks (is_path_start (is_web_scheme s)) h.authority) pieces.0 h.before_path in
+    let starts = subst (λ s. StartsPath (is_web_scheme s) parts.path) pieces.0 h.path_starts in
+    let rest = path_cut_unique (is_web_scheme scheme) h.authority authority parts.path path before cut.before_path starts cut.path_starts pieces.1 in
+    (pieces.0, rest.0, rest.1)
+
+-- what follows the `://` of a URL is cut before its path by the bytes that start one for its scheme
+pub rest_cut : {scheme rest authority path : List ℕ} {web : Bool} → web ≡ is_web_scheme scheme → rest ≡ authority ++ path → Lacks (is_path_start web) authority → StartsPath web path → CutsRest scheme rest authority path
+rest_cut {scheme} {rest} {authority} {path} {web} same joined before starts = record {
+  joined = joined;
+  before_path = subst (λ w. Lacks (is_path_start w) authority) same before;
+  path_starts = subst (λ w. StartsPath w path) same starts;
+}
+
+-- a scheme, and what follows its `://` cut into an authority and a path, cut the URL
+pub url_cut : {b scheme rest authority path : List ℕ} → OtherShape b scheme rest → true ≡ is_scheme_text scheme → CutsRest scheme rest authority path → UrlCut b scheme authority path
+url_cut {b} {scheme} shape named cut = record {
+  shape = subst (λ x. OtherShape b scheme x) cut.joined shape;
+  scheme_text = sym named;
+  before_path = cut.before_path;
+  path_starts = cut.path_starts;
+}
+
+-- a text that passes each check is a URL
+pub spelled : {b scheme authority path : List ℕ} {user password host : Option (List ℕ)} {port : Option ℕ} → UrlCut b scheme authority path → IsUtf8 b → LacksWhiteSpace b → true ≡ is_sound b → FreeOf backslash authority → Fits scheme (authority ++ path) → HoldsHosted (mode_of scheme) (requires_host scheme) authority user password host port → IsUtf8 (percent_decode path) → SpellsParts b (record { scheme = scheme; user = user; password = password; host = host; port = port; path = path })
+spelled {b} {scheme} {authority} {path} cut text no_white_space sound no_backslash fits held path_text = record {
+  authority = authority;
+  joined = cut.shape.shape.joined;
+  scheme_text = cut.scheme_text;
+  not_file = cut.shape.not_file;
+  no_backslash = no_backslash;
+  before_path = cut.before_path;
+  path_starts = cut.path_starts;
+  text = text;
+  sound = sym sound;
+  no_white_space = no_white_space;
+  fits = fits;
+  named = held.named;
+  hosted = held.hosted;
+  path_text = path_text;
+}
+
+-- no URL stands where what is before `://` is no scheme
+pub no_scheme_refutes : (b front rest : List ℕ) (parts : UrlParts) → OtherShape b front rest → is_scheme_text front ≡ false → ¬ SpellsParts b parts
+no_scheme_refutes b front rest parts shape bad h =
+    both_ways (is_scheme_text front) bad (ap is_scheme_text (sym (scheme_cut b front rest parts shape h).0) ∙ h.scheme_text)
+
+-- no URL stands where its path decodes to no text
+pub bad_path_refutes : (b scheme authority path : List ℕ) (parts : UrlParts) → UrlCut b scheme authority path → ¬ IsUtf8 (percent_decode path) → ¬ SpellsParts b parts
+bad_path_refutes b scheme authority path parts cut bad h =
+    bad (subst (λ p. IsUtf8 (percent_decode p)) (parts_cut b scheme authority path parts cut h).2 h.path_text)
+
+-- no URL stands where its authority holds a backslash
+pub backslash_refutes : (b scheme authority path : List ℕ) (parts : UrlParts) → UrlCut b scheme authority path → ¬ FreeOf backslash authority → ¬ SpellsParts b parts
+backslash_refutes b scheme authority path parts cut bad h =
+    bad (subst (λ a. FreeOf backslash a) (parts_cut b scheme authority path parts cut h).1 h.no_backslash)
+
+-- no URL stands where its authority is none
+pub no_authority_refutes : (b scheme authority path : List ℕ) (parts : UrlParts) → UrlCut b scheme authority path → IsNoAuthority (mode_of scheme) (requires_host scheme) authority → ¬ SpellsParts b parts
+no_authority_refutes b scheme authority path parts cut none h =
+    let pieces = parts_cut b scheme authority path parts cut h in
+    let own : HoldsHosted (mode_of parts.scheme) (requires_host parts.scheme) h.authority parts.user parts.password parts.host parts.port = record { named = h.named; hosted = h.hosted } in
+    let same : HoldsHosted (mode_of parts.scheme) (requires_host parts.scheme) authority parts.user parts.password parts.host parts.port = subst (λ a. HoldsHosted (mode_of parts.scheme) (requires_host parts.scheme) a parts.user parts.password parts.host parts.port) pieces.1 own in
+    none parts.user parts.password parts.host parts.port (subst (λ s. HoldsHosted (mode_of s) (requires_host s) authority parts.user parts.password parts.host parts.port) pieces.0 same)
+
+-- an authority with a backslash, or one that holds nothing, spells no parts
+pub authority_refutes : (b scheme authority path : List ℕ) (parts : UrlParts) → UrlCut b scheme authority path → (¬ FreeOf backslash authority) ⊎ IsNoAuthority (mode_of scheme) (requires_host scheme) authority → ¬ SpellsParts b parts
+authority_refutes b scheme authority path parts cut (inl held) = backslash_refutes b scheme authority path parts cut held
+authority_refutes b scheme authority path parts cut (inr none) = no_authority_refutes b scheme authority path parts cut none
+
+-- ---- simple hosts
+
+-- a simple host holds no backslash
+pub simple_clean : (t : List ℕ) → IsSimpleHost t → FreeOf backslash t
+simple_clean t h = free_of_all is_simple_byte backslash t h.bytes refl
+
+-- it is a whole authority
+pub simple_held : (mode : Mode) (needed : Bool) (t : List ℕ) (host : NamedHost) → IsSimpleHost t → named_text host ≡ t → host.port ≡ None → HoldsHosted mode needed t None None (Some (named_text host)) host.port
+simple_held mode needed t host h e p = record {
+  named = Authority.host_alone (free_of_all is_simple_byte at_sign t h.bytes refl) (simple_host_named mode t host h e p) refl refl;
+  hosted = λ need. refl;
+}
+
+-- what holds of the whole holds of each answer
+pub on_each_ok : {A B : Type 0} (r : Result A B) (P : Type 0) → P → IfOk r (λ _. P)
+on_each_ok (Ok x) P h = h
+on_each_ok (Err e) P h = tt

@@ -1,0 +1,194 @@
+-- Refusals: bytes in which a flaw stands spell no location.
+use Rattle.std.proofs.Common.{◌≡◌, ◌≢◌, ℕ, ◌==◌, Bool, true, false, ◌⊎◌, inl, inr, List, [], ◌∷◌, ◌++◌, length, Option, Some, None, refl, sym, ap, subst, ◌∙◌, arith, length-append, IsUtf8, codes, bytes_eq}
+use Rattle.std.proofs.lemmas.Bool.{both_ways, false≢true, cases_Bool, or_cases, eqb-true}
+use Rattle.std.specs.List.{list_any}
+use Rattle.std.proofs.lemmas.List.{append_cancel_left}
+use Rattle.std.proofs.lemmas.Slice.Eq.{bytes_eq-Decides}
+use Rattle.git_syntax.specs.declared.refusal.UrlKind.{UrlKind}
+use Rattle.git_syntax.specs.declared.refusal.UrlKind.TheVariants as kind
+use Rattle.git_syntax.specs.declared.refusal.UrlFault.{UrlFault}
+use Rattle.git_syntax.specs.declared.refusal.Refusal.{Refusal}
+use Rattle.git_syntax.specs.declared.refusal.Refusal.TheVariants as refusal
+use Rattle.git_syntax.specs.Value.{Location}
+use Rattle.git_syntax.specs.Bytes.{slash, colon, at_sign, backslash, right_bracket, FreeOf, StartsPath}
+use Rattle.git_syntax.specs.Escapes.{escaped_percents}
+use Rattle.git_syntax.specs.Hosts.{Mode, Names}
+use Rattle.git_syntax.specs.Hosts.Mode.{bare}
+use Rattle.git_syntax.specs.Schemes.{is_web_scheme, protocol_of, mode_of, requires_host, requires_path}
+use Rattle.git_syntax.specs.Grammar.{IsNeither, ScpShape, AddressedShape, IsScpShaped, ScpHost, SpellsUrl, Spells}
+use Rattle.git_syntax.specs.Flaws.{IsTooLong, MissesPath, HasShape, UrlShape, OtherShape, UrlCut, NameFlaw, PieceOf, HasBadUser, AuthorityFlaw, UrlFlaw, ScpHostFlaw, ScpFlaw, KindFlaw, NamesFlaw}
+use Rattle.git_syntax.specs.UrlPieces.{HasNoText, IsNoAuthority}
+use Rattle.git_syntax.specs.Refusals.{HasFlaw, Flawless}
+use Rattle.git_syntax.proofs.Texts.CutLemmas.{not_free}
+use Rattle.git_syntax.proofs.Readings.HostLemmas.{flawed_unnamed}
+use Rattle.git_syntax.proofs.Readings.FormLemmas.{address_cut, addressed_joined}
+use Rattle.git_syntax.proofs.Readings.ShapeLemmas.{empty_unspelled, url_shaped, no_file_path, no_file_text, no_url_text, unfit_url, spelled_as_file, spelled_as_url, spelled_as_scp, spelled_as_addressed, url_pieces}
+use Rattle.git_syntax.proofs.Readings.UrlLemmas.{empty_names_nothing, none_not_some, no_name_alone, no_name_behind, no_text_before, no_host_behind, no_host_alone, no_scheme_refutes, bad_path_refutes, parts_cut, no_authority_refutes}
+use Rattle.git_syntax.proofs.Readings.SchemeLemmas.{transport}
+use Rattle.git_syntax.proofs.Readings.UrlLocationLemmas.{no_path_refutes}
+use Rattle.git_syntax.proofs.Readings.ScpLemmas.{scp_no_path, scp_no_host, addressed_no_path}
+use Rattle.git_syntax.proofs.Readings.ScpFrontLemmas.{front_of_addressed}
+
+-- ---- authorities
+
+-- user information with a part that is no text holds nothing
+pub bad_user_refutes : (mode : Mode) (needed : Bool) (authority : List ℕ) → HasBadUser authority → IsNoAuthority mode needed authority
+bad_user_refutes mode needed authority (HasBadUser.user u piece f g e bad) =
+    no_text_before mode needed authority u piece f e (HasNoText.user g bad)
+bad_user_refutes mode needed authority (HasBadUser.user_before_password u w piece f g e bad) =
+    no_text_before mode needed authority (u ++ colon ∷ w) piece f e (HasNoText.user_before_password u w g refl bad)
+bad_user_refutes mode needed authority (HasBadUser.password u w piece f g e bad) =
+    no_text_before mode needed authority (u ++ colon ∷ w) piece f e (HasNoText.password u w g refl bad)
+
+-- an authority whose piece behind the user information is flawed holds nothing
+bad_name_refutes : (mode : Mode) (needed : Bool) (authority piece : List ℕ) (named : UrlFault) → PieceOf authority piece → NameFlaw mode piece named → IsNoAuthority mode needed authority
+bad_name_refutes mode needed authority piece named (PieceOf.whole free e) h =
+    no_name_alone mode needed authority free (subst (λ t. (host : Option (List ℕ)) (port : Option ℕ) → ¬ Names mode t host port) e (flawed_unnamed mode piece named h))
+bad_name_refutes mode needed authority piece named (PieceOf.behind information free e) h =
+    no_name_behind mode needed authority information piece free e (flawed_unnamed mode piece named h)
+
+-- a flawed authority without a backslash holds nothing, or not the host that is needed
+pub flawed_authority : (mode : Mode) (needed : Bool) (authority : List ℕ) (named : UrlFault) → FreeOf backslash authority → AuthorityFlaw mode needed authority named → IsNoAuthority mode needed authority
+flawed_authority mode needed authority named free (AuthorityFlaw.holds_backslash held) = absurd (held free)
+flawed_authority mode needed authority named free (AuthorityFlaw.bad_user bad) = bad_user_refutes mode needed authority bad
+flawed_authority mode needed authority named free (AuthorityFlaw.bad_name piece n at bad) = bad_name_refutes mode needed authority piece n at bad
+flawed_authority mode needed authority named free (AuthorityFlaw.no_host information e) = no_host_behind mode needed authority information [] refl e refl
+flawed_authority mode needed authority named free (AuthorityFlaw.host_required need e) =
+    no_host_alone mode needed authority need (ap (λ t. list_any (λ c. c == at_sign) t) e) e
+
+-- ---- URLs
+
+-- a flawed authority makes no URL
+authority_flaw_refutes : (b scheme authority path : List ℕ) (named : UrlFault) (v : Location) → UrlCut b scheme authority path → AuthorityFlaw (mode_of scheme) (requires_host scheme) authority named → ¬ SpellsUrl b v
+authority_flaw_refutes b scheme authority path named v cut bad h =
+    let free : FreeOf backslash authority = subst (λ a. FreeOf backslash a) (parts_cut b scheme authority path h.parts cut h.spelled).1 h.spelled.no_backslash in
+    no_authority_refutes b scheme authority path h.parts cut (flawed_authority (mode_of scheme) (requires_host scheme) authority named free bad) h.spelled
+
+-- a flawed URL is none
+url_flaw_refutes : (b : List ℕ) (named : UrlFault) (v : Location) → UrlFlaw b named → ¬ Spells b v
+url_flaw_refutes b named v (UrlFlaw.no_scheme front rest shape bad) k =
+    let h = spelled_as_url b front rest shape v k in no_scheme_refutes b front rest h.parts shape bad h.spelled
+url_flaw_refutes b named v (UrlFlaw.white_space front rest shape text held) k = held (spelled_as_url b front rest shape v k).spelled.no_white_space
+url_flaw_refutes b named v (UrlFlaw.unsound front rest shape bad) k = both_ways _ bad (spelled_as_url b front rest shape v k).spelled.sound
+url_flaw_refutes b named v (UrlFlaw.bad_path scheme authority path cut bad) k =
+    let h = spelled_as_url b scheme (authority ++ path) cut.shape v k in bad_path_refutes b scheme authority path h.parts cut bad h.spelled
+url_flaw_refutes b named v (UrlFlaw.bad_authority scheme authority path n cut bad) k =
+    authority_flaw_refutes b scheme authority path n v cut bad (spelled_as_url b scheme (authority ++ path) cut.shape v k)
+
+-- a URL that is too long is none
+too_long_refutes : (b shown : List ℕ) (total : ℕ) (v : Location) → IsTooLong b shown total → ¬ Spells b v
+too_long_refutes b shown total v h k = unfit_url b h.front h.rest h.shape h.unfit v (spelled_as_url b h.front h.rest h.shape v k)
+
+-- ---- the scp form
+
+-- a flawed host of the scp form stands for none
+pub scp_host_flaw_refutes : (host : List ℕ) (named : UrlFault) → ScpHostFlaw host named → (meant : List ℕ) → ¬ ScpHost host meant
+scp_host_flaw_refutes host named (ScpHostFlaw.empty e) meant h =
+    none_not_some (Some h.named) (empty_names_nothing bare (escaped_percents host) (Some h.named) None (ap escaped_percents e) h.names) refl
+scp_host_flaw_refutes host named (ScpHostFlaw.holds_backslash held) meant h = held h.no_backslash
+scp_host_flaw_refutes host named (ScpHostFlaw.white_space text held) meant h = held h.no_white_space
+scp_host_flaw_refutes host named (ScpHostFlaw.bad_name n bad) meant h = flawed_unnamed bare (escaped_percents host) n bad (Some h.named) None h.names
+
+-- a flawed scp form spells nothing
+scp_flaw_refutes : (b : List ℕ) (named : UrlFault) (v : Location) → ScpFlaw b named → ¬ Spells b v
+scp_flaw_refutes b named v h k =
+    elim (spelled_as_scp b h.shape.neither (inl (h.front, h.path, h.shape)) v k) [
+      | inl s ↦ scp_no_host b h.front h.path h.user h.host h.shape h.split h.no_at (scp_host_flaw_refutes h.host named h.flaw) v s
+      | inr s ↦ h.not_addressed (s.user, s.address, s.path, s.shape)
+    ]
+
+-- ---- paths
+
+-- a path that starts with nothing but a `/` is none, or a `/` and what follows
+slash_or_none : (path : List ℕ) → StartsPath false path → (path ≡ []) ⊎ ((rest : List ℕ) × (path ≡ slash ∷ rest))
+slash_or_none path (inl e) = inl e
+slash_or_none [] (inr e) = inl refl
+slash_or_none (b ∷ rest) (inr e) = elim (or_cases (b == slash) false e) [ inl same ↦ inr (rest, ap (λ c. c ∷ rest) (eqb-true b slash same)) | inr wrong ↦ absurd (false≢true wrong) ]
+
+-- no path behind the scheme and the host of a transport of Git's own
+url_misses_path : (b scheme authority : List ℕ) (v : Location) → requires_path (protocol_of scheme) ≡ true → FreeOf slash authority → b ≡ scheme ++ (codes "://" ++ authority) → ¬ Spells b v
+url_misses_path b scheme authority v need free e k =
+    let own = transport scheme need in
+    let shape : OtherShape b scheme authority = record { shape = url_shaped b scheme authority own.no_colon e; not_file = own.not_file } in
+    let h = spelled_as_url b scheme authority shape v k in
+    let (same, rest) = url_pieces b scheme authority v shape.shape h in
+    elim (slash_or_none h.parts.path (subst (λ w. StartsPath w h.parts.path) (ap is_web_scheme same ∙ own.not_web) h.spelled.path_starts)) [
+      | inl none ↦ no_path_refutes h.spelled (ap (λ s. requires_path (protocol_of s)) same ∙ need) none v h
+      | inr (tail, is) ↦ not_free slash h.spelled.authority tail (subst (λ t. FreeOf slash t) (sym rest ∙ ap (λ t. h.spelled.authority ++ t) is) free)
+    ]
+
+-- a colon with nothing behind it is not that of an address with a path behind it
+scp_path_behind : (b front user address path : List ℕ) → ScpShape b front [] → AddressedShape b user address path → path ≡ []
+scp_path_behind b front user address path shape k =
+    let (x, y, free, e) = address_cut address k.cut.addressed in
+    elim (front_of_addressed b user address path x y front [] k free e shape.joined shape.shape) [
+      | inl within ↦
+          let whole : front ++ colon ∷ [] ≡ front ++ colon ∷ (y ++ right_bracket ∷ (colon ∷ path)) =
+          sym shape.joined ∙ k.cut.joined ∙ addressed_joined user address path x y e ∙ ap (λ t. t ++ colon ∷ (y ++ right_bracket ∷ (colon ∷ path))) (sym within) in
+          absurd (omega (arith, ap length (append_cancel_left front (colon ∷ []) (colon ∷ (y ++ right_bracket ∷ (colon ∷ path))) whole), length-append y (right_bracket ∷ (colon ∷ path))))
+      | inr behind ↦ sym behind.1
+    ]
+
+-- no path behind the colon of the scp form
+scp_misses_path : (b front : List ℕ) (v : Location) → ScpShape b front [] → ¬ Spells b v
+scp_misses_path b front v shape k =
+    elim (spelled_as_scp b shape.neither (inl (front, [], shape)) v k) [
+      | inl s ↦ scp_no_path b front shape v s
+      | inr s ↦ absurd (omega (arith, ap length (scp_path_behind b front s.user s.address s.path shape s.shape), s.pathed))
+    ]
+
+-- bytes without a path that is needed spell nothing
+no_path_spelled : (b : List ℕ) (k : UrlKind) (v : Location) → MissesPath b k → ¬ Spells b v
+no_path_spelled b k v (MissesPath.in_file host free e) s =
+    let shape = url_shaped b (codes "file") host refl e in no_file_path b host shape free v (spelled_as_file b host shape v s)
+no_path_spelled b k v (MissesPath.in_url scheme authority need free e) s = url_misses_path b scheme authority v need free e s
+no_path_spelled b k v (MissesPath.in_scp front shape) s = scp_misses_path b front v shape s
+no_path_spelled b k v (MissesPath.behind_address user address shape) s =
+    addressed_no_path b user address shape v (spelled_as_addressed b user address [] shape v s)
+
+-- ---- all errors
+
+-- a shape of the scp form is no other form
+shaped_neither : (b : List ℕ) → IsScpShaped b → IsNeither b
+shaped_neither b (inl (front, path, shape)) = shape.neither
+shaped_neither b (inr (user, address, path, shape)) = shape.neither
+
+-- bytes that are no text are no URL, and not of the scp form
+no_text_spelled : (b : List ℕ) (k : UrlKind) (v : Location) → ¬ IsUtf8 b → HasShape b k → ¬ Spells b v
+no_text_spelled b kind.Url v bad (front, rest, shape) s =
+    elim (cases_Bool (bytes_eq front (codes "file"))) [
+      | inl same ↦ no_file_text b bad v (spelled_as_file b rest (subst (λ t. UrlShape b t rest) ((bytes_eq-Decides front (codes "file")).0 same) shape) v s)
+      | inr other ↦ no_url_text b bad v (spelled_as_url b front rest (record { shape = shape; not_file = other }) v s)
+    ]
+no_text_spelled b kind.Scp v bad shape s = elim (spelled_as_scp b (shaped_neither b shape) shape v s) [ inl h ↦ bad h.text | inr h ↦ bad h.text ]
+no_text_spelled b kind.Local v bad shape s = shape
+
+-- a flawed text of any kind spells nothing
+kind_flaw_refutes : (b : List ℕ) (k : UrlKind) (named : UrlFault) (v : Location) → KindFlaw b k named → ¬ Spells b v
+kind_flaw_refutes b kind.Url named v h = url_flaw_refutes b named v h
+kind_flaw_refutes b kind.Scp named v h = scp_flaw_refutes b named v h
+kind_flaw_refutes b kind.Local named v h = absurd h
+
+-- bytes in which a flaw stands spell no location
+pub flawed_unspelled : (b : List ℕ) (v : Location) → HasFlaw b → ¬ Spells b v
+flawed_unspelled b v (HasFlaw.empty e) = subst (λ t. ¬ Spells t v) (sym e) (empty_unspelled v)
+flawed_unspelled b v (HasFlaw.no_path k h) = no_path_spelled b k v h
+flawed_unspelled b v (HasFlaw.no_text k bad shape) = no_text_spelled b k v bad shape
+flawed_unspelled b v (HasFlaw.too_long shown total h) = too_long_refutes b shown total v h
+flawed_unspelled b v (HasFlaw.bad_url k named h) = kind_flaw_refutes b k named v h
+
+-- so bytes that spell one hold none
+pub flawless : Flawless
+flawless b v s h = flawed_unspelled b v h s
+
+-- each refusal names a flaw
+refusal_flaw : (b : List ℕ) (r : Refusal) → NamesFlaw b r → HasFlaw b
+refusal_flaw b refusal.EmptyLocal h = HasFlaw.empty h
+refusal_flaw b (refusal.MissingPath k) h = HasFlaw.no_path k h
+refusal_flaw b (refusal.NotUtf8 k) h = HasFlaw.no_text k h.0 h.1
+refusal_flaw b (refusal.TooLong shown total) h = HasFlaw.too_long shown.now total h
+refusal_flaw b (refusal.BadUrl k named) h = HasFlaw.bad_url k named h
+
+-- so bytes that are refused spell no location
+pub refused_unspelled : (b : List ℕ) (r : Refusal) → NamesFlaw b r → (v : Location) → ¬ Spells b v
+refused_unspelled b r h v = flawed_unspelled b v (refusal_flaw b r h)

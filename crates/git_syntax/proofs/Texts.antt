@@ -1,0 +1,6 @@
+-- Texts and their bytes: cuts, escapes, plain texts, texts that need no escape.
+pub mod CutLemmas
+pub mod EscapeLemmas
+pub mod EscapeSets
+pub mod PlainLemmas
+pub mod AsciiLemmas

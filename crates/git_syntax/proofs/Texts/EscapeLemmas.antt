@@ -1,0 +1,469 @@
+-- Escaped texts: where they are sound, how they decode in parts, and how they are UTF-8 in parts.
+use Rattle.std.proofs.Common.{◌≡◌, ◌∙◌, ◌↔◌, ◌<◌, ◌≤◌, ◌+◌, ℕ, zero, suc, Bool, true, false, not, ◌&&◌, ◌||◌, ◌==◌, List, [], ◌∷◌, ◌++◌, Option, Some, None, length, take, drop, ◌*◌, ◌/◌, ◌%◌, nat_lt, cond, All, IsAscii, get_or, arith, refl, sym, ap, subst, ⊎_elim, inl, inr}
+use Rattle.std.specs.Char.{is_digit, digit_value, is_whitespace, encode_utf8}
+use Rattle.std.specs.Option.{MatchOption, is_some}
+use Rattle.std.specs.Str.{IsUtf8, encode_utf8_all, chars}
+use Rattle.std.proofs.lemmas.Bool.{cond-false, cond_both, cases_Bool, and_parts, and_from, or_parts, or_from, false_from_ne_true, or_cases, or_left, or_right, not-true, both_ways, eqb-true, eqb-false, ltb-true, true≢false, false≢true}
+use Rattle.std.proofs.lemmas.Bool.Decides.{nat_tests}
+use Rattle.std.proofs.lemmas.List.{append_cancel_left, drop-drop, length-take, length-drop, length-append, nil_from_length, take_at, drop_at, get_or_at}
+use Rattle.std.proofs.lemmas.Str.{IsUtf8-append, IsUtf8-past_char, IsUtf8-encode, IsUtf8-take, IsUtf8-drop, IsUtf8-from_ascii, IsCharBoundary-from_take, IsCharBoundary-before_ascii, chars-append, chars-IsAscii}
+use lib.Utf8.{scalar, scalars, scalar_cases}
+use Rattle.bstr.specs.Utf8.{Decoded, decoded}
+use Rattle.bstr.proofs.lemmas.PieceLemmas.{decoded_by-cut, piece-bounds}
+use Rattle.bstr.proofs.lemmas.SoundLemmas.{SpellsChar-decoded}
+use Rattle.bstr.proofs.lemmas.EncodeLemmas.{decoded-encode}
+use Rattle.std.proofs.lemmas.Str.Ascii.{IsAscii-from_all}
+use Rattle.std.proofs.lemmas.List.Elements.{All-cons, All-nil, All-append, All-weaker}
+use Rattle.std.specs.List.{list_any, list_all}
+use Rattle.std.specs.Fmt.{digit_glyph}
+use Rattle.std.proofs.lemmas.List.Folds.{list_any_none, list_any-append}
+use Rattle.percent_encoding.specs.declared.ascii_set.AsciiSet.{AsciiSet}
+use Rattle.percent_encoding.specs.AsciiSet.{contains, should_percent_encode}
+use Rattle.percent_encoding.proofs.AsciiSetLemmas.{ascii_from_kept, outside_from_kept, kept_from_outside}
+use Rattle.percent_encoding.specs.Percent.{percent_decode, percent_encode, percent_encode_byte}
+use Rattle.percent_encoding.proofs.PercentLemmas.{IsEscapeByte, All-percent_encode, All-percent_encode_byte, percent_encode_nonempty, IsAscii-percent_encode, percent_encode-nil, percent_encode_escaped, percent_encode_kept, round_trip, percent_decode-nil, percent_decode_not_percent, percent_decode_escape, length-percent_decode, IsByte}
+use Rattle.git_syntax.specs.Bytes.{newline, percent_sign, Lacks, FreeOf, LacksWhiteSpace}
+use Rattle.git_syntax.specs.Escapes.{is_sound, begins_with_digits, escaped_percents}
+use Rattle.git_syntax.proofs.Texts.CutLemmas.{free_or_cut, heads}
+
+-- ---- walks over a decoding
+
+-- a call that gave the next byte left one less, and a call that gave none leaves none
+pub drop_next : (given : Option ℕ) (whole rest left : List ℕ) (n : ℕ) → rest ≡ drop n whole → MatchOption given ((rest ≡ []) × (left ≡ [])) (λ b. rest ≡ b ∷ left) → left ≡ drop (n + 1) whole
+drop_next None whole rest left n e h = h.1 ∙ sym (ap (drop 1) h.0) ∙ ap (drop 1) e ∙ drop-drop 1 n whole
+drop_next (Some b) whole rest left n e h = sym (ap (drop 1) h) ∙ ap (drop 1) e ∙ drop-drop 1 n whole
+
+-- lists that differ at one place behind an equal front are different
+pub differ_behind : (front xs ys : List ℕ) (x y : ℕ) → (y ≡ x → ⊥) → front ++ x ∷ xs ≡ front ++ y ∷ ys → ⊥
+differ_behind front xs ys x y other e = other (sym (heads (append_cancel_left front (x ∷ xs) (y ∷ ys) e)))
+
+-- four bytes are enough to read the first character
+pub decoded_window : (bs : List ℕ) → decoded (take 4 bs) ≡ decoded bs
+decoded_window [] = refl
+decoded_window (a ∷ []) = refl
+decoded_window (a ∷ b ∷ []) = refl
+decoded_window (a ∷ b ∷ c ∷ []) = refl
+decoded_window (a ∷ b ∷ c ∷ d ∷ bs) =
+    let all = a ∷ b ∷ c ∷ d ∷ bs in
+    let bounds = piece-bounds all (omega arith) in
+    decoded_by-cut 4 (length all) a b c d b c d bounds.1 (omega arith) (omega arith) (λ _. refl) (λ _. refl) (λ _. refl)
+
+-- a text is UTF-8 where its first character reads and the rest is UTF-8
+pub utf8_past_first : (bs : List ℕ) (c : ℕ) → (decoded bs).char ≡ Some c → IsUtf8 bs ↔ IsUtf8 (drop (decoded bs).size bs)
+utf8_past_first bs c read =
+    let first = SpellsChar-decoded bs c read in (
+      λ all. IsUtf8-past_char bs (drop (decoded bs).size bs) c all first.bytes,
+      λ rest. subst IsUtf8 (sym first.bytes) (IsUtf8-append _ _ (IsUtf8-encode c first.scalar) rest),
+    )
+
+not_utf8 : (cs window : List ℕ) (found : Option ℕ) (bs : List ℕ) → window ≡ take 4 bs → 0 < length window → found ≡ (decoded window).char → is_some found ≡ false → scalars cs ≡ true → encode_utf8_all cs ≡ bs → ⊥
+not_utf8 [] window found bs whole some char read scalar is =
+    omega (arith, ap length whole, ap length is, length-take 4 bs)
+not_utf8 (c ∷ cs) window found bs whole some char read scalar is =
+    let first = decoded-encode c (encode_utf8_all cs) (and_parts _ _ scalar).0 in
+    let same = ap decoded whole ∙ decoded_window bs ∙ ap decoded (sym is) ∙ first in
+    let reads = char ∙ ap (λ (d : Decoded). d.char) same in
+    true≢false (sym (ap is_some reads) ∙ read)
+
+-- the same read in a window of four bytes
+pub utf8_past_window : (bs window rest : List ℕ) (found : Option ℕ) (size : ℕ) → window ≡ take 4 bs → found ≡ (decoded window).char → size ≡ (decoded window).size → rest ≡ drop size bs → is_some found ≡ true → IsUtf8 bs ↔ IsUtf8 rest
+utf8_past_window bs window rest None size whole char width left read = absurd (cc)
+utf8_past_window bs window rest (Some c) size whole char width left read =
+    let same = ap decoded whole ∙ decoded_window bs in
+    let gone : rest ≡ drop (decoded bs).size bs = left ∙ ap (λ n. drop n bs) (width ∙ ap (λ (d : Decoded). d.size) same) in
+    let past = utf8_past_first bs c (sym (char ∙ ap (λ (d : Decoded). d.char) same)) in
+    (λ all. subst IsUtf8 (sym gone) (past.0 all), λ others. past.1 (subst IsUtf8 gone others))
+
+-- what is read from a window that is not empty leaves less
+pub shorter_past_window : (bs window rest : List ℕ) (size : ℕ) → window ≡ take 4 bs → 0 < length window → size ≡ (decoded window).size → rest ≡ drop size bs → length rest < length bs
+shorter_past_window bs window rest size whole some width left =
+    let bounds = piece-bounds window some in
+    omega (arith, ap length whole, ap length left, length-take 4 bs, length-drop size bs)
+
+-- a text whose first bytes read as no character is not UTF-8
+pub not_utf8_at_window : (bs window : List ℕ) (found : Option ℕ) → window ≡ take 4 bs → 0 < length window → found ≡ (decoded window).char → is_some found ≡ false → ¬ IsUtf8 bs
+not_utf8_at_window bs window found whole some char read all = not_utf8 all.0 window found bs whole some char read all.1.0 all.1.1
+
+-- ---- soundness
+
+-- a byte that is no `%` begins no escape
+pub sound_kept : (b : ℕ) (bs : List ℕ) → (b == 37) ≡ false → is_sound (b ∷ bs) ≡ is_sound bs
+sound_kept b [] other = grind (arith, nat_tests)
+sound_kept b (c ∷ []) other = grind (arith, nat_tests)
+sound_kept b (c ∷ d ∷ rest) other = cond-false _ _ _ other
+
+-- a hexadecimal digit is no `%`
+pub digit_not_percent : (b : ℕ) → is_digit b 16 ≡ true → (b == 37) ≡ false
+digit_not_percent b digit = grind (arith, nat_tests)
+
+-- two digits don't matter to what follows them
+pub sound_digits : (high low : ℕ) (rest : List ℕ) → is_digit high 16 ≡ true → is_digit low 16 ≡ true → is_sound (high ∷ low ∷ rest) ≡ is_sound rest
+sound_digits high low rest h l = sound_kept high (low ∷ rest) (digit_not_percent high h) ∙ sound_kept low rest (digit_not_percent low l)
+
+both_digits : (high low all rest : Bool) → (high ≡ true → low ≡ true → all ≡ rest) → (high && (low && rest)) ≡ ((high && low) && all)
+both_digits true true all rest same = sym (same refl refl)
+both_digits true false all rest same = refl
+both_digits false low all rest same = refl
+
+-- a text is sound where its first byte begins no broken escape and the rest is sound
+pub sound_step : (b : ℕ) (bs : List ℕ) → is_sound (b ∷ bs) ≡ ((not (b == 37) || begins_with_digits bs) && is_sound bs)
+sound_step b [] = grind (arith, nat_tests)
+sound_step b (c ∷ []) = grind (arith, nat_tests)
+sound_step b (c ∷ d ∷ rest) = ⊎_elim
+    (λ percent. rw percent (both_digits _ _ _ _ (sound_digits c d rest)))
+    (λ other. rw other refl)
+    (cases_Bool (b == 37))
+
+-- the first byte of a sound text begins no broken escape
+pub sound_head : (b : ℕ) (bs : List ℕ) → is_sound (b ∷ bs) ≡ true → (not (b == 37) || begins_with_digits bs) ≡ true
+sound_head b bs sound = (and_parts _ _ (sym (sound_step b bs) ∙ sound)).0
+
+-- what stands behind the first byte of a sound text is sound
+pub sound_tail : (b : ℕ) (bs : List ℕ) → is_sound (b ∷ bs) ≡ true → is_sound bs ≡ true
+sound_tail b bs sound = (and_parts _ _ (sym (sound_step b bs) ∙ sound)).1
+
+-- a sound text behind a byte that begins no broken escape
+pub sound_cons : (b : ℕ) (bs : List ℕ) → (not (b == 37) || begins_with_digits bs) ≡ true → is_sound bs ≡ true → is_sound (b ∷ bs) ≡ true
+sound_cons b bs head rest = sound_step b bs ∙ and_from _ _ head rest
+
+digits-append : (xs ys : List ℕ) → begins_with_digits xs ≡ true → begins_with_digits (xs ++ ys) ≡ true
+digits-append [] ys digits = absurd (false≢true digits)
+digits-append (x ∷ []) ys digits = absurd (false≢true digits)
+digits-append (x ∷ y ∷ xs) ys digits = digits
+
+-- two digits before a byte that is none are digits without it
+pub digits_before : (xs ys : List ℕ) (c : ℕ) → is_digit c 16 ≡ false → begins_with_digits (xs ++ c ∷ ys) ≡ true → begins_with_digits xs ≡ true
+digits_before [] [] c other digits = absurd (false≢true digits)
+digits_before [] (y ∷ ys) c other digits = absurd (both_ways _ other (and_parts _ _ digits).0)
+digits_before (x ∷ []) ys c other digits = absurd (both_ways _ other (and_parts _ _ digits).1)
+digits_before (x ∷ y ∷ xs) ys c other digits = digits
+
+-- sound texts joined are sound
+pub sound-append : (xs ys : List ℕ) → is_sound xs ≡ true → is_sound ys ≡ true → is_sound (xs ++ ys) ≡ true
+sound-append [] ys front rest = rest
+sound-append (x ∷ xs) ys front rest =
+    let head = ⊎_elim (λ h. or_left _ _ h) (λ h. or_right _ _ (digits-append xs ys h)) (or_cases _ _ (sound_head x xs front)) in
+    sound_cons x (xs ++ ys) head (sound-append xs ys (sound_tail x xs front) rest)
+
+-- a sound text cut before a byte that is no hexadecimal digit is sound on both sides
+pub sound_parts : (xs ys : List ℕ) (c : ℕ) → is_digit c 16 ≡ false → is_sound (xs ++ c ∷ ys) ≡ true → (is_sound xs ≡ true) × (is_sound (c ∷ ys) ≡ true)
+sound_parts [] ys c other sound = (refl, sound)
+sound_parts (x ∷ xs) ys c other sound =
+    let parts = sound_parts xs ys c other (sound_tail x (xs ++ c ∷ ys) sound) in
+    let head = ⊎_elim (λ h. or_left _ _ h) (λ h. or_right _ _ (digits_before xs ys c other h)) (or_cases _ _ (sound_head x (xs ++ c ∷ ys) sound)) in
+    (sound_cons x xs head parts.0, parts.1)
+
+-- the same around a byte that is no hexadecimal digit, left out of both sides
+pub sound_around : (xs ys : List ℕ) (c : ℕ) → is_digit c 16 ≡ false → is_sound (xs ++ c ∷ ys) ≡ true → (is_sound xs ≡ true) × (is_sound ys ≡ true)
+sound_around xs ys c other sound =
+    let parts = sound_parts xs ys c other sound in
+    (parts.0, sound_tail c ys parts.1)
+
+-- a text with no `%` is sound
+pub sound_free : (xs : List ℕ) → FreeOf percent_sign xs → is_sound xs ≡ true
+sound_free [] free = refl
+sound_free (x ∷ xs) free =
+    let parts = or_parts _ _ free in
+    sound_kept x xs parts.0 ∙ sound_free xs parts.1
+
+-- ---- decoding
+
+-- a byte that is no `%` stays
+pub decode_byte : (b : ℕ) (bs : List ℕ) → (b == 37) ≡ false → percent_decode (b ∷ bs) ≡ b ∷ percent_decode bs
+decode_byte b bs other = percent_decode_not_percent b bs (eqb-false b 37 other)
+
+-- a text with no `%` decodes to itself
+pub decode_kept : (xs : List ℕ) → FreeOf percent_sign xs → percent_decode xs ≡ xs
+decode_kept [] free = percent_decode-nil
+decode_kept (x ∷ xs) free =
+    let parts = or_parts _ _ free in
+    decode_byte x xs parts.0 ∙ ap (λ rest. x ∷ rest) (decode_kept xs parts.1)
+
+-- only the empty text decodes to nothing
+pub decode_empty : (xs : List ℕ) → percent_decode xs ≡ [] → xs ≡ []
+decode_empty xs none =
+    let bounds = length-percent_decode xs in
+    nil_from_length xs (omega (arith, ap length none, bounds.1))
+
+-- an escape is one byte
+pub decode_escape : (b high low : ℕ) (rest : List ℕ) → (b == 37) ≡ true → is_digit high 16 ≡ true → is_digit low 16 ≡ true → percent_decode (b ∷ high ∷ low ∷ rest) ≡ (16 * digit_value high + digit_value low) ∷ percent_decode rest
+decode_escape b high low rest percent h l = percent_decode_escape b high low rest (eqb-true b 37 percent) (ltb-true _ _ h) (ltb-true _ _ l)
+
+no_digits : (sign high low : Bool) → (high && low) ≡ false → (sign && high && low) ≡ false
+no_digits true high low broken = broken
+no_digits false high low broken = refl
+
+-- a byte with no two digits behind it stays, a `%` too
+pub decode_broken : (b : ℕ) (bs : List ℕ) → begins_with_digits bs ≡ false → percent_decode (b ∷ bs) ≡ b ∷ percent_decode bs
+unfolding percent_decode
+decode_broken b [] broken = refl
+decode_broken b (c ∷ []) broken = refl
+decode_broken b (c ∷ d ∷ rest) broken =
+    cond-false _ _ _ (no_digits (b == 37) (is_digit c 16) (is_digit d 16) broken)
+
+kept_in_parts : (b : ℕ) (bs ys : List ℕ) → percent_decode (b ∷ (bs ++ ys)) ≡ b ∷ percent_decode (bs ++ ys) → percent_decode (b ∷ bs) ≡ b ∷ percent_decode bs → percent_decode (bs ++ ys) ≡ percent_decode bs ++ percent_decode ys → percent_decode (b ∷ (bs ++ ys)) ≡ percent_decode (b ∷ bs) ++ percent_decode ys
+kept_in_parts b bs ys whole front rest = whole ∙ ap (λ t. b ∷ t) rest ∙ sym (ap (λ t. t ++ percent_decode ys) front)
+
+byte_in_parts : (b : ℕ) (bs ys : List ℕ) → (b == 37) ≡ false → percent_decode (bs ++ ys) ≡ percent_decode bs ++ percent_decode ys → percent_decode (b ∷ (bs ++ ys)) ≡ percent_decode (b ∷ bs) ++ percent_decode ys
+byte_in_parts b bs ys other = kept_in_parts b bs ys (decode_byte b (bs ++ ys) other) (decode_byte b bs other)
+
+escape_in_parts : (b high low : ℕ) (rest ys : List ℕ) → (b == 37) ≡ true → is_digit high 16 ≡ true → is_digit low 16 ≡ true → percent_decode (rest ++ ys) ≡ percent_decode rest ++ percent_decode ys → percent_decode (b ∷ high ∷ low ∷ (rest ++ ys)) ≡ percent_decode (b ∷ high ∷ low ∷ rest) ++ percent_decode ys
+escape_in_parts b high low rest ys percent h l parts =
+    let byte = 16 * digit_value high + digit_value low in
+    decode_escape b high low (rest ++ ys) percent h l ∙ ap (λ t. byte ∷ t) parts ∙ sym (ap (λ t. t ++ percent_decode ys) (decode_escape b high low rest percent h l))
+
+-- what follows a sound text is decoded apart from it
+pub decodes_in_parts : (xs ys : List ℕ) → is_sound xs ≡ true → percent_decode (xs ++ ys) ≡ percent_decode xs ++ percent_decode ys
+decodes_in_parts [] ys sound = sym (ap (λ front. front ++ percent_decode ys) percent_decode-nil)
+decodes_in_parts (b ∷ []) ys sound = byte_in_parts b [] ys (not-true _ sound) (decodes_in_parts [] ys refl)
+decodes_in_parts (b ∷ c ∷ []) ys sound =
+    let parts = and_parts _ _ sound in
+    byte_in_parts b (c ∷ []) ys (not-true _ parts.0) (decodes_in_parts (c ∷ []) ys parts.1)
+decodes_in_parts (b ∷ high ∷ low ∷ rest) ys sound =
+    let tail = sound_tail b (high ∷ low ∷ rest) sound in
+    let last = sound_tail low rest (sound_tail high (low ∷ rest) tail) in
+    ⊎_elim
+    (λ percent.
+    let digits = and_parts _ _ (rw percent at (sound_head b (high ∷ low ∷ rest) sound)) in
+    escape_in_parts b high low rest ys percent digits.0 digits.1 (decodes_in_parts rest ys last))
+    (λ other. byte_in_parts b (high ∷ low ∷ rest) ys other (decodes_in_parts (high ∷ low ∷ rest) ys tail))
+    (cases_Bool (b == 37))
+
+-- ---- encoding
+
+-- a byte of an escape: `%` or an upper-case hexadecimal digit
+abbrev pub is_escape_byte : ℕ → Bool
+is_escape_byte b = b == 37 || (nat_lt 47 b && nat_lt b 58) || (nat_lt 64 b && nat_lt b 71)
+
+-- a digit of an escape is a hexadecimal digit
+pub glyph_is_digit : (d : ℕ) → d < 16 → is_digit (digit_glyph true d) 16 ≡ true
+glyph_is_digit d small = grind (arith, nat_tests)
+
+escape_sound : (b : ℕ) (rest : List ℕ) → is_sound rest ≡ true → is_sound (percent_encode_byte b ++ rest) ≡ true
+unfolding percent_encode_byte
+escape_sound b rest sound = and_from _ _ (glyph_is_digit (b / 16 % 16) (omega arith)) (and_from _ _ (glyph_is_digit (b % 16) (omega arith)) sound)
+
+-- what is written by a set that has `%` is sound
+pub encode_sound : (set : AsciiSet) (t : List ℕ) → contains set 37 ≡ true → is_sound (percent_encode set t) ≡ true
+encode_sound set [] has = rw percent_encode-nil refl
+encode_sound set (b ∷ bs) has =
+    let rest = encode_sound set bs has in
+    ⊎_elim
+    (λ escaped. rw (percent_encode_escaped set b bs escaped) (escape_sound b (percent_encode set bs) rest))
+    (λ kept.
+    let other : (b == 37) ≡ false = false_from_ne_true _ (λ e. both_ways _ (outside_from_kept set b kept) (ap (contains set) (eqb-true b 37 e) ∙ has)) in
+    rw (percent_encode_kept set b bs kept) (sound_kept b (percent_encode set bs) other ∙ rest))
+    (cases_Bool (should_percent_encode set b))
+
+escape_byte_passes : (b : ℕ) → IsEscapeByte b → is_escape_byte b ≡ true
+escape_byte_passes b h = grind (arith, nat_tests)
+
+-- what is written lacks the bytes that fail the test both as kept bytes and as bytes of an escape
+pub encode_lacks : (test : ℕ → Bool) (set : AsciiSet) (t : List ℕ) → ((b : ℕ) → b < 128 → contains set b ≡ false → test b ≡ false) → ((b : ℕ) → is_escape_byte b ≡ true → test b ≡ false) → Lacks test (percent_encode set t)
+encode_lacks test set t kept escapes =
+    list_any_none test _ (All-percent_encode (λ b. test b ≡ false) set t (λ b keeps. kept b (ascii_from_kept set b keeps) (outside_from_kept set b keeps)) (λ b escape. escapes b (escape_byte_passes b escape)))
+
+-- only the empty text is written empty
+pub encode_empty : (set : AsciiSet) (t : List ℕ) → percent_encode set t ≡ [] → t ≡ []
+encode_empty set [] none = refl
+encode_empty set (b ∷ bs) none =
+    let some = percent_encode_nonempty set (b ∷ bs) (omega arith) in
+    absurd (omega (arith, ap length none, some))
+
+-- an ASCII byte that is not in the set stays
+pub encode_byte_kept : (set : AsciiSet) (b : ℕ) (bs : List ℕ) → b < 128 → contains set b ≡ false → percent_encode set (b ∷ bs) ≡ b ∷ percent_encode set bs
+encode_byte_kept set b bs ascii out = percent_encode_kept set b bs (kept_from_outside set b ascii out)
+
+-- what is written lacks what the text lacks, but for the bytes of an escape
+pub encode_lacks_kept : (test : ℕ → Bool) (set : AsciiSet) (t : List ℕ) → ((b : ℕ) → is_escape_byte b ≡ true → test b ≡ false) → Lacks test t → Lacks test (percent_encode set t)
+encode_lacks_kept test set [] escapes lacks = rw percent_encode-nil refl
+encode_lacks_kept test set (b ∷ bs) escapes lacks =
+    let parts = or_parts (test b) (list_any test bs) lacks in
+    let rest = encode_lacks_kept test set bs escapes parts.1 in
+    let escape : Lacks test (percent_encode_byte b) = list_any_none test _ (All-weaker IsEscapeByte (λ c. test c ≡ false) (λ c h. escapes c (escape_byte_passes c h)) (percent_encode_byte b) (All-percent_encode_byte b)) in
+    ⊎_elim
+    (λ escaped. rw (percent_encode_escaped set b bs escaped, list_any-append test (percent_encode_byte b) (percent_encode set bs)) (or_from _ _ escape rest))
+    (λ kept. rw (percent_encode_kept set b bs kept) (or_from _ _ parts.0 rest))
+    (cases_Bool (should_percent_encode set b))
+
+-- the text lacks what its writing lacks, where the test passes no byte that is escaped
+pub lacks_from_encode : (test : ℕ → Bool) (set : AsciiSet) (t : List ℕ) → ((b : ℕ) → should_percent_encode set b ≡ true → test b ≡ false) → Lacks test (percent_encode set t) → Lacks test t
+lacks_from_encode test set [] escaped lacks = refl
+lacks_from_encode test set (b ∷ bs) escaped lacks = ⊎_elim
+    (λ out.
+    let whole : (list_any test (percent_encode_byte b) || list_any test (percent_encode set bs)) ≡ false = sym (list_any-append test (percent_encode_byte b) (percent_encode set bs)) ∙ ap (list_any test) (sym (percent_encode_escaped set b bs out)) ∙ lacks in
+    or_from _ _ (escaped b out) (lacks_from_encode test set bs escaped (or_parts _ _ whole).1))
+    (λ kept.
+    let whole : (test b || list_any test (percent_encode set bs)) ≡ false = ap (list_any test) (sym (percent_encode_kept set b bs kept)) ∙ lacks in
+    let parts = or_parts _ _ whole in
+    or_from _ _ parts.0 (lacks_from_encode test set bs escaped parts.1))
+    (cases_Bool (should_percent_encode set b))
+
+-- what is written lacks a byte of the set that no escape has
+pub encode_free : (set : AsciiSet) (t : List ℕ) (c : ℕ) → contains set c ≡ true → is_escape_byte c ≡ false → FreeOf c (percent_encode set t)
+encode_free set t c has other =
+    encode_lacks (λ b. b == c) set t
+    (λ b _ kept. false_from_ne_true _ (λ e. both_ways _ kept (ap (contains set) (eqb-true b c e) ∙ has)))
+    (λ b escape. false_from_ne_true _ (λ e. both_ways _ other (sym (ap is_escape_byte (eqb-true b c e)) ∙ escape)))
+
+-- ---- a `%` as its own escape
+
+-- each text is what its `%` as escapes decode to
+pub decode_escaped_percents : (t : List ℕ) → percent_decode (escaped_percents t) ≡ t
+decode_escaped_percents [] = percent_decode-nil
+decode_escaped_percents (b ∷ bs) =
+    let rest = ap (λ t. b ∷ t) (decode_escaped_percents bs) in
+    ⊎_elim
+    (λ percent. rw percent (decode_escape 37 50 53 (escaped_percents bs) refl refl refl ∙ ap (λ c. c ∷ percent_decode (escaped_percents bs)) (sym (eqb-true b 37 percent)) ∙ rest))
+    (λ other. rw other (decode_byte b (escaped_percents bs) other ∙ rest))
+    (cases_Bool (b == 37))
+
+-- a text with its `%` as escapes lacks what the text lacks, but for `%`, `2` and `5`
+pub lacks_escaped_percents : (test : ℕ → Bool) (t : List ℕ) → test 37 ≡ false → test 50 ≡ false → test 53 ≡ false → Lacks test t → Lacks test (escaped_percents t)
+lacks_escaped_percents test [] sign two five lacks = refl
+lacks_escaped_percents test (b ∷ bs) sign two five lacks =
+    let parts = or_parts _ _ lacks in
+    let rest = lacks_escaped_percents test bs sign two five parts.1 in
+    ⊎_elim
+    (λ percent. rw percent (or_from _ _ sign (or_from _ _ two (or_from _ _ five rest))))
+    (λ other. rw other (or_from _ _ parts.0 rest))
+    (cases_Bool (b == 37))
+
+-- a text with no `%` is its own
+pub escaped_percents_kept : (t : List ℕ) → FreeOf percent_sign t → escaped_percents t ≡ t
+escaped_percents_kept [] free = refl
+escaped_percents_kept (b ∷ bs) free =
+    let parts : ((b == 37) ≡ false) × FreeOf percent_sign bs = or_parts _ _ free in
+    let other = parts.0 in
+    rw other (ap (λ rest. b ∷ rest) (escaped_percents_kept bs parts.1))
+
+-- texts joined are written joined
+pub escaped_percents-append : (xs ys : List ℕ) → escaped_percents (xs ++ ys) ≡ escaped_percents xs ++ escaped_percents ys
+escaped_percents-append [] ys = refl
+escaped_percents-append (x ∷ xs) ys =
+    let rest = escaped_percents-append xs ys in
+    ⊎_elim (λ percent. rw percent (ap (λ t. 37 ∷ 50 ∷ 53 ∷ t) rest)) (λ other. rw other (ap (λ t. x ∷ t) rest)) (cases_Bool (x == 37))
+
+-- ---- UTF-8 and white space in parts
+
+-- what follows a UTF-8 front of a UTF-8 text is UTF-8
+pub utf8_behind : (xs ys : List ℕ) → IsUtf8 (xs ++ ys) → IsUtf8 xs → IsUtf8 ys
+utf8_behind xs ys whole front =
+    let within : length xs ≤ length (xs ++ ys) = omega (arith, length-append xs ys) in
+    let at = IsCharBoundary-from_take (xs ++ ys) (length xs) whole within (subst IsUtf8 (sym (take_at xs ys (length xs) refl)) front) in
+    subst IsUtf8 (drop_at xs ys (length xs) refl) (IsUtf8-drop (xs ++ ys) (length xs) whole at)
+
+-- bytes of a class are ASCII where the class is
+pub ascii_class : (test : ℕ → Bool) → ((b : ℕ) → test b ≡ true → b < 128) → (bs : List ℕ) → list_all test bs ≡ true → IsAscii bs
+ascii_class test within [] h i = omega arith
+ascii_class test within (b ∷ bs) h zero = within b (and_parts (test b) (list_all test bs) h).0
+ascii_class test within (b ∷ bs) h (suc i) = ascii_class test within bs (and_parts (test b) (list_all test bs) h).1 i
+
+-- so they are UTF-8
+pub utf8_class : (test : ℕ → Bool) → ((b : ℕ) → test b ≡ true → b < 128) → (bs : List ℕ) → list_all test bs ≡ true → IsUtf8 bs
+utf8_class test within bs h = IsUtf8-from_ascii bs (ascii_class test within bs h)
+
+-- an ASCII byte as a text
+pub ascii_byte : (c : ℕ) → c < 128 → IsAscii (c ∷ [])
+ascii_byte c ascii = IsAscii-from_all (c ∷ []) (All-cons (λ b. b < 128) c [] ascii (All-nil (λ b. b < 128)))
+
+-- an ASCII byte is UTF-8
+pub utf8_byte : (c : ℕ) → c < 128 → IsUtf8 (c ∷ [])
+utf8_byte c ascii = IsUtf8-from_ascii (c ∷ []) (ascii_byte c ascii)
+
+-- a UTF-8 text cut before an ASCII byte is UTF-8 on both sides
+pub utf8_seam : (xs ys : List ℕ) (c : ℕ) → IsUtf8 (xs ++ c ∷ ys) → c < 128 → IsUtf8 xs × IsUtf8 (c ∷ ys)
+utf8_seam xs ys c whole ascii =
+    let all = xs ++ c ∷ ys in
+    let byte : get_or all (length xs) 0 ≡ c = get_or_at xs c ys 0 (length xs) refl in
+    let at = IsCharBoundary-before_ascii all (length xs) (omega (arith, length-append xs (c ∷ ys))) (omega arith) in (
+      subst IsUtf8 (take_at xs (c ∷ ys) (length xs) refl) (IsUtf8-take all (length xs) whole at),
+      subst IsUtf8 (drop_at xs (c ∷ ys) (length xs) refl) (IsUtf8-drop all (length xs) whole at),
+    )
+
+-- the same around the byte, left out of both sides
+pub utf8_parts : (xs ys : List ℕ) (c : ℕ) → IsUtf8 (xs ++ c ∷ ys) → c < 128 → IsUtf8 xs × IsUtf8 ys
+utf8_parts xs ys c whole ascii =
+    let parts = utf8_seam xs ys c whole ascii in
+    (parts.0, utf8_behind (c ∷ []) ys parts.1 (utf8_byte c ascii))
+
+-- UTF-8 texts joined by an ASCII byte are UTF-8
+pub utf8_joined : (xs ys : List ℕ) (c : ℕ) → IsUtf8 xs → c < 128 → IsUtf8 ys → IsUtf8 (xs ++ c ∷ ys)
+utf8_joined xs ys c front ascii rest = IsUtf8-append xs (c ∷ ys) front (IsUtf8-append (c ∷ []) ys (utf8_byte c ascii) rest)
+
+-- two parts lack white space where their whole does
+pub white_space_parts : (xs ys : List ℕ) → IsUtf8 xs → LacksWhiteSpace (xs ++ ys) → LacksWhiteSpace xs × LacksWhiteSpace ys
+white_space_parts xs ys front lacks =
+    or_parts _ _ (sym (list_any-append is_whitespace (chars xs) (chars ys)) ∙ sym (ap (list_any is_whitespace) (chars-append xs ys front)) ∙ lacks)
+
+-- texts joined lack white space where both do
+pub white_space-append : (xs ys : List ℕ) → IsUtf8 xs → LacksWhiteSpace xs → LacksWhiteSpace ys → LacksWhiteSpace (xs ++ ys)
+white_space-append xs ys front first second =
+    ap (list_any is_whitespace) (chars-append xs ys front) ∙ list_any-append is_whitespace (chars xs) (chars ys) ∙ or_from _ _ first second
+
+-- the characters of an ASCII text are its bytes
+pub white_space_ascii : (t : List ℕ) → IsAscii t → list_any is_whitespace t ≡ false → LacksWhiteSpace t
+white_space_ascii t ascii lacks = ap (list_any is_whitespace) (chars-IsAscii t ascii) ∙ lacks
+
+-- an ASCII byte that is no white space
+pub white_space_byte : (c : ℕ) → c < 128 → is_whitespace c ≡ false → LacksWhiteSpace (c ∷ [])
+white_space_byte c ascii other = white_space_ascii (c ∷ []) (ascii_byte c ascii) (or_from _ _ other refl)
+
+-- a text without white space holds no line's end
+pub no_line : (t : List ℕ) → IsUtf8 t → LacksWhiteSpace t → FreeOf newline t
+no_line t utf8 lacks =
+    elim (free_or_cut newline t) [
+      | inl free ↦ free
+      | inr (x, y, first, e) ↦
+          let parts = utf8_seam x y newline (subst IsUtf8 e utf8) (omega arith) in
+          let behind = (white_space_parts x (newline ∷ y) parts.0 (subst (λ s. LacksWhiteSpace s) e lacks)).1 in
+          let byte = (white_space_parts (newline ∷ []) y (utf8_byte newline (omega arith)) behind).0 in
+          absurd (false≢true (sym (ap (list_any is_whitespace) (sym (chars-IsAscii (newline ∷ []) (ascii_byte newline (omega arith)))) ∙ byte)))
+    ]
+
+-- ---- bytes and characters
+
+-- the bytes of a character fit a byte
+small_encode : (c : ℕ) → scalar c ≡ true → All IsByte (encode_utf8 c)
+unfolding encode_utf8
+small_encode c is =
+    let two = (192 + c / 64) ∷ (128 + c % 64) ∷ [] in
+    let three = (224 + c / 4096) ∷ (128 + (c / 64) % 64) ∷ (128 + c % 64) ∷ [] in
+    let four = (240 + c / 262144) ∷ (128 + (c / 4096) % 64) ∷ (128 + (c / 64) % 64) ∷ (128 + c % 64) ∷ [] in
+    let bound : c < 1114112 = ⊎_elim (λ low. omega arith) (λ high. high.1) (scalar_cases c is) in
+    let last = All-cons IsByte (128 + c % 64) [] (omega arith) (All-nil IsByte) in
+    let last_two = All-cons IsByte (128 + (c / 64) % 64) ((128 + c % 64) ∷ []) (omega arith) last in
+    let last_three = All-cons IsByte (128 + (c / 4096) % 64) ((128 + (c / 64) % 64) ∷ (128 + c % 64) ∷ []) (omega arith) last_two in
+    cond_both (nat_lt c 128) (c ∷ []) (cond (nat_lt c 2048) two (cond (nat_lt c 65536) three four)) (All IsByte)
+    (λ low. All-cons IsByte c [] (omega (arith, ltb-true c 128 low)) (All-nil IsByte))
+    (λ _. cond_both (nat_lt c 2048) two (cond (nat_lt c 65536) three four) (All IsByte)
+    (λ low. All-cons IsByte (192 + c / 64) ((128 + c % 64) ∷ []) (omega (arith, ltb-true c 2048 low)) last)
+    (λ _. cond_both (nat_lt c 65536) three four (All IsByte)
+    (λ low. All-cons IsByte (224 + c / 4096) ((128 + (c / 64) % 64) ∷ (128 + c % 64) ∷ []) (omega (arith, ltb-true c 65536 low)) last_two)
+    (λ _. All-cons IsByte (240 + c / 262144) ((128 + (c / 4096) % 64) ∷ (128 + (c / 64) % 64) ∷ (128 + c % 64) ∷ []) (omega arith) last_three)))
+
+small_encodes : (cs : List ℕ) → scalars cs ≡ true → All IsByte (encode_utf8_all cs)
+small_encodes [] all = All-nil IsByte
+small_encodes (c ∷ cs) all =
+    let parts = and_parts (scalar c) (scalars cs) all in
+    All-append IsByte (encode_utf8 c) (encode_utf8_all cs) (small_encode c parts.0) (small_encodes cs parts.1)
+
+-- a UTF-8 text is made of bytes
+pub bytes_from_utf8 : (t : List ℕ) → IsUtf8 t → All (λ b. b < 256) t
+bytes_from_utf8 t utf8 = subst (All IsByte) utf8.1.1 (small_encodes utf8.0 utf8.1.0)
+
+-- decoding undoes encoding of a UTF-8 text by a set that has `%`
+pub decode_encode_utf8 : (set : AsciiSet) (t : List ℕ) → contains set 37 ≡ true → IsUtf8 t → percent_decode (percent_encode set t) ≡ t
+decode_encode_utf8 set t has utf8 = round_trip set t has (bytes_from_utf8 t utf8)
+
+-- what is written is UTF-8
+pub utf8_encode : (set : AsciiSet) (t : List ℕ) → IsUtf8 (percent_encode set t)
+utf8_encode set t = IsUtf8-from_ascii (percent_encode set t) (IsAscii-percent_encode set t)
+
+space_kept : (set : AsciiSet) (b : ℕ) → ((c : ℕ) → c < 128 → is_whitespace c ≡ true → contains set c ≡ true) → b < 128 → contains set b ≡ false → is_whitespace b ≡ false
+space_kept set b spaces ascii kept = false_from_ne_true _ (λ space. both_ways _ kept (spaces b ascii space))
+
+-- what is written by a set that has the ASCII white space lacks white space
+pub white_space_encode : (set : AsciiSet) (t : List ℕ) → ((b : ℕ) → b < 128 → is_whitespace b ≡ true → contains set b ≡ true) → LacksWhiteSpace (percent_encode set t)
+white_space_encode set t spaces =
+    white_space_ascii (percent_encode set t) (IsAscii-percent_encode set t) (encode_lacks is_whitespace set t (λ b ascii kept. space_kept set b spaces ascii kept) (λ b escape. grind (arith, nat_tests)))

@@ -1,0 +1,65 @@
+-- What is found of the scp form, and what is refused.
+use Rattle.std.proofs.Common.{refl, sym, subst, ◌∙◌, arith}
+use Rattle.std.specs.Option.{option_copied}
+use Rattle.git_syntax.specs.FoundPieces.{scp_host_of}
+use Rattle.git_syntax.specs.Grammar.{ScpShape}
+use Rattle.git_syntax.specs.Flaws.MissesPath.{in_scp}
+use Rattle.git_syntax.proofs.Readings.HostLemmas.{some_tested}
+use Rattle.git_syntax.proofs.Readings.ShapeLemmas.{nil_tested}
+use Rattle.git_syntax.proofs.Readings.RoomLemmas.{scp_host_within}
+use Rattle.git_syntax.proofs.Readings.ScpLemmas.{scp_host_plain, scp_host_utf8, scp_user_utf8, scp_meant_utf8, colons_inside_front, colons_inside_host}
+use Rattle.git_syntax.proofs.scp.find_scp.Goals as goal
+
+pub returns-then-is_empty-clause-flaw : goal.returns-then-is_empty-clause-flaw
+returns-then-is_empty-clause-flaw c =
+    in_scp c.args.front.now (subst (λ p. ScpShape c.args.input.now c.args.front.now p) (nil_tested c.args.path.now c.if-is_empty.ensures) c.requires.shape)
+
+pub find_host-requires-clause-plain : goal.find_host-requires-clause-plain
+find_host-requires-clause-plain c = λ yes.
+    scp_host_plain c.args.input.now c.args.front.now c.args.path.now _ c.cut_front_user.result.1.now c.requires.shape (sym c.is_plain-plain.ensures ∙ yes) c.cut_front_user.ensures.split
+
+pub find_host-requires-clause-text : goal.find_host-requires-clause-text
+find_host-requires-clause-text c =
+    scp_host_utf8 c.args.input.now c.args.front.now c.args.path.now _ c.cut_front_user.result.1.now c.requires.shape (c.if-not-is_utf8.ensures.0 refl) c.cut_front_user.ensures.split
+
+pub find_host-requires-clause-colons : goal.find_host-requires-clause-colons
+find_host-requires-clause-colons c =
+    colons_inside_host c.args.front.now _ c.cut_front_user.result.1.now c.cut_front_user.ensures.split (colons_inside_front c.args.input.now c.args.front.now c.requires.shape.shape)
+
+pub returns-in-Ok-clause-found : goal.returns-in-Ok-clause-found
+returns-in-Ok-clause-found c = record {
+  front = c.args.front.now;
+  path = c.args.path.now;
+  user = option_copied c.cut_front_user.result.0;
+  host = c.cut_front_user.result.1.now;
+  meant = scp_host_of c.in-Ok.host;
+  shape = c.requires.shape;
+  text = c.if-not-is_utf8.ensures.0 refl;
+  pathed = some_tested c.args.path.now c.if-is_empty.ensures;
+  split = c.cut_front_user.ensures.split;
+  hosted = c.in-Ok.ensures.read;
+  value = refl;
+}
+
+pub returns-in-Ok-clause-ready : goal.returns-in-Ok-clause-ready
+returns-in-Ok-clause-ready c = record {
+  user_text =
+      scp_user_utf8 c.args.input.now c.args.front.now c.args.path.now (option_copied c.cut_front_user.result.0) c.cut_front_user.result.1.now c.requires.shape (c.if-not-is_utf8.ensures.0 refl) c.cut_front_user.ensures.split;
+  host_text = scp_meant_utf8 c.in-Ok.ensures.read;
+}
+
+pub returns-in-Err-clause-flaw : goal.returns-in-Err-clause-flaw
+returns-in-Err-clause-flaw c = record {
+  not_addressed = c.requires.not_addressed;
+  front = c.args.front.now;
+  path = c.args.path.now;
+  user = option_copied c.cut_front_user.result.0;
+  host = c.cut_front_user.result.1.now;
+  shape = c.requires.shape;
+  split = c.cut_front_user.ensures.split;
+  no_at = c.cut_front_user.ensures.no_at;
+  flaw = c.in-Err.ensures.read;
+}
+
+pub returns-in-Ok-clause-room : goal.returns-in-Ok-clause-room
+returns-in-Ok-clause-room c = omega (arith, c.in-Ok.ensures.within, scp_host_within c.args.path.now c.requires.shape.joined c.cut_front_user.ensures.split)

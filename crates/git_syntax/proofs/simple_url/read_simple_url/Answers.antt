@@ -1,0 +1,71 @@
+-- The URL is cut before its path, and each check that fails has its flaw.
+use Rattle.std.proofs.Common.{refl, sym, subst, ◌∙◌}
+use Rattle.std.proofs.lemmas.Bool.{false≢true}
+use Rattle.std.proofs.lemmas.Result.{err_from_is_err_and}
+use Rattle.git_syntax.specs.Authority.{Fits}
+use Rattle.git_syntax.specs.Flaws.{UrlFlaw}
+use Rattle.git_syntax.proofs.Texts.PlainLemmas.{plain_path}
+use Rattle.git_syntax.proofs.Readings.UrlLemmas.{rest_cut, url_cut, spelled, no_scheme_refutes, bad_path_refutes, authority_refutes}
+use Rattle.git_syntax.proofs.simple_url.read_simple_url.Goals as goal
+
+pub returns-then-not-has_no_white_space-clause-refused : goal.returns-then-not-has_no_white_space-clause-refused
+returns-then-not-has_no_white_space-clause-refused c =
+    λ parts h. false≢true (c.if-not-has_no_white_space.ensures.1 h.no_white_space)
+
+pub returns-then-not-has_no_white_space-clause-flaw : goal.returns-then-not-has_no_white_space-clause-flaw
+returns-then-not-has_no_white_space-clause-flaw c =
+    UrlFlaw.white_space c.args.scheme.now c.args.rest.now c.requires.shape c.utf8.text (λ h. false≢true (c.if-not-has_no_white_space.ensures.1 h))
+
+pub returns-then-not-has_sound_escapes-clause-refused : goal.returns-then-not-has_sound_escapes-clause-refused
+returns-then-not-has_sound_escapes-clause-refused c =
+    λ parts h. false≢true (c.if-not-has_sound_escapes.ensures ∙ h.sound)
+
+pub returns-then-not-has_sound_escapes-clause-flaw : goal.returns-then-not-has_sound_escapes-clause-flaw
+returns-then-not-has_sound_escapes-clause-flaw c =
+    UrlFlaw.unsound c.args.scheme.now c.args.rest.now c.requires.shape (sym (c.if-not-has_sound_escapes.ensures))
+
+pub returns-then-not-is_scheme_text-clause-refused : goal.returns-then-not-is_scheme_text-clause-refused
+returns-then-not-is_scheme_text-clause-refused c =
+    λ parts. no_scheme_refutes _ c.args.scheme.now c.args.rest.now parts c.requires.shape (sym c.if-not-is_scheme_text.ensures)
+
+pub returns-then-not-is_scheme_text-clause-flaw : goal.returns-then-not-is_scheme_text-clause-flaw
+returns-then-not-is_scheme_text-clause-flaw c =
+    UrlFlaw.no_scheme c.args.scheme.now c.args.rest.now c.requires.shape (sym c.if-not-is_scheme_text.ensures)
+
+pub means_text-requires : goal.means_text-requires
+means_text-requires c = λ plain.
+    plain_path c.args.text.now c.args.scheme.now c.args.rest.now c.cut_before_path.result.0.now c.cut_before_path.result.1.now c.requires.shape.shape.joined c.cut_before_path.ensures.joined (c.requires.plain plain)
+
+pub returns-then-not-means_text-clause-refused : goal.returns-then-not-means_text-clause-refused
+returns-then-not-means_text-clause-refused c =
+    let cut = url_cut c.requires.shape c.if-not-is_scheme_text.ensures (rest_cut c.requires.rules.web c.cut_before_path.ensures.joined c.cut_before_path.ensures.front c.cut_before_path.ensures.rest) in
+    λ parts. bad_path_refutes _ _ _ _ parts cut (λ h. false≢true (c.if-not-means_text.ensures.1 h))
+
+pub returns-then-not-means_text-clause-flaw : goal.returns-then-not-means_text-clause-flaw
+returns-then-not-means_text-clause-flaw c =
+    let cut = url_cut c.requires.shape c.if-not-is_scheme_text.ensures (rest_cut c.requires.rules.web c.cut_before_path.ensures.joined c.cut_before_path.ensures.front c.cut_before_path.ensures.rest) in
+    UrlFlaw.bad_path _ _ _ cut (λ h. false≢true (c.if-not-means_text.ensures.1 h))
+
+pub returns-in_err-parts-clause-refused : goal.returns-in_err-parts-clause-refused
+returns-in_err-parts-clause-refused c =
+    let p = err_from_is_err_and c.from_residual.result c.from_residual.ensures.1 in
+    let cut = url_cut c.requires.shape c.if-not-is_scheme_text.ensures (rest_cut c.requires.rules.web c.cut_before_path.ensures.joined c.cut_before_path.ensures.front c.cut_before_path.ensures.rest) in
+    rw (p.1) (λ parts. authority_refutes _ _ _ _ parts cut (rw (c.requires.rules.mode, c.requires.rules.host) at c.in_err-parts.ensures.refused))
+
+pub returns-in_err-parts-clause-flaw : goal.returns-in_err-parts-clause-flaw
+returns-in_err-parts-clause-flaw c =
+    let p = err_from_is_err_and c.from_residual.result c.from_residual.ensures.1 in
+    let cut = url_cut c.requires.shape c.if-not-is_scheme_text.ensures (rest_cut c.requires.rules.web c.cut_before_path.ensures.joined c.cut_before_path.ensures.front c.cut_before_path.ensures.rest) in
+    rw (p.1, p.2) (UrlFlaw.bad_authority _ _ _ _ cut (rw (c.requires.rules.mode, c.requires.rules.host) at c.in_err-parts.ensures.flaw))
+
+pub returns-clause-read : goal.returns-clause-read
+returns-clause-read c =
+    let cut = url_cut c.requires.shape c.if-not-is_scheme_text.ensures (rest_cut c.requires.rules.web c.cut_before_path.ensures.joined c.cut_before_path.ensures.front c.cut_before_path.ensures.rest) in
+    let sound = c.if-not-has_sound_escapes.ensures in
+    let fits = subst (λ rest. Fits c.args.scheme.now rest) c.cut_before_path.ensures.joined c.requires.fits in
+    let held = rw (c.requires.rules.mode, c.requires.rules.host) at c.in_ok-parts.ensures.read in
+    rw (c.parsed.ensures.scheme, c.parsed.ensures.user, c.parsed.ensures.password, c.parsed.ensures.host, c.parsed.ensures.path) (spelled cut c.utf8.text (c.if-not-has_no_white_space.ensures.0 refl) sound c.in_ok-parts.ensures.clean fits held (c.if-not-means_text.ensures.0 refl))
+
+pub holds_escape-requires : goal.holds_escape-requires
+holds_escape-requires c = λ plain.
+    plain_path c.args.text.now c.args.scheme.now c.args.rest.now c.cut_before_path.result.0.now c.cut_before_path.result.1.now c.requires.shape.shape.joined c.cut_before_path.ensures.joined (c.requires.plain plain)

@@ -1,0 +1,222 @@
+-- Flaws: what stands in a text that is refused. Each error names one, and the flaw that it names stands there.
+use Rattle.std.specs.Prelude.{◌≡◌, ℕ, ◌+◌, ◌<◌, Bool, true, false, ◌⊎◌, List, [], ◌∷◌, ◌++◌, length, take, codes, bytes_eq, Option, IsUtf8}
+use Rattle.percent_encoding.specs.Percent.{percent_decode}
+use Rattle.git_syntax.specs.declared.refusal.UrlKind.{UrlKind}
+use Rattle.git_syntax.specs.declared.refusal.UrlKind.TheVariants as kind
+use Rattle.git_syntax.specs.declared.refusal.UrlFault.{UrlFault}
+use Rattle.git_syntax.specs.declared.refusal.UrlFault.TheVariants as fault
+use Rattle.git_syntax.specs.declared.refusal.Refusal.{Refusal}
+use Rattle.git_syntax.specs.declared.refusal.Refusal.TheVariants as refusal
+use Rattle.git_syntax.specs.Bytes.{slash, colon, at_sign, left_bracket, backslash, right_bracket, Lacks, FreeOf, begins_with, Holds, LacksWhiteSpace, is_scheme_text, is_path_start, StartsPath}
+use Rattle.git_syntax.specs.Escapes.{is_sound, escaped_percents}
+use Rattle.git_syntax.specs.Hosts.{Mode, HostText, Inner, Number, ReadsAddress, IsManyColoned, IsPlainHost}
+use Rattle.git_syntax.specs.Hosts.Mode.{strict, bare}
+use Rattle.git_syntax.specs.Schemes.{is_web_scheme, protocol_of, mode_of, requires_host, requires_path}
+use Rattle.git_syntax.specs.Authority.{Fits}
+use Rattle.git_syntax.specs.Grammar.{HasHelperForm, ScpShape, AddressedShape, IsAddressed, IsScpShaped, ScpUser}
+
+-- ---- hosts and ports
+
+-- the text is not empty and spells no port
+abbrev pub IsNoPort : Mode → List ℕ → Type 0
+IsNoPort mode text = (0 < length text) × ((port : ℕ) → ¬ Number mode text port)
+
+-- something stands in a port's place that is no port
+pub data HasBadPort (mode : Mode) (piece : List ℕ) : Type 0 where
+  -- behind a host outside brackets
+  plain : (text digits : List ℕ) → IsPlainHost text → FreeOf colon digits
+      → piece ≡ text ++ colon ∷ digits → IsNoPort mode digits → HasBadPort mode piece
+  -- behind brackets
+  bracketed : (x digits : List ℕ) → FreeOf right_bracket x
+      → piece ≡ left_bracket ∷ (x ++ right_bracket ∷ (colon ∷ digits)) → IsNoPort mode digits
+      → HasBadPort mode piece
+
+-- nothing follows, or a colon and what is free of colons
+abbrev pub IsPortPlace : List ℕ → Type 0
+IsPortPlace rest = (rest ≡ []) ⊎ ((digits : List ℕ) × FreeOf colon digits × (rest ≡ colon ∷ digits))
+
+-- the text stands for no host
+abbrev pub IsNoHost : Mode → List ℕ → Type 0
+IsNoHost mode text = (host : List ℕ) → ¬ HostText mode text host
+
+-- the text between brackets stands for nothing
+abbrev pub IsNoInner : Mode → List ℕ → Type 0
+IsNoInner mode text = (inner : List ℕ) → ¬ Inner mode text inner
+
+-- the text is brackets around another that is free of `]`, and nothing behind them, or a colon and anything
+pub record BracketsAround (piece x rest : List ℕ) : Type 0 where
+  pub closed : FreeOf right_bracket x
+  pub joined : piece ≡ left_bracket ∷ (x ++ right_bracket ∷ rest)
+  pub followed : (rest ≡ []) ⊎ (begins_with colon rest ≡ true)
+
+-- a byte or an escape in the host's place is not allowed
+pub data HasBadHost (mode : Mode) (piece : List ℕ) : Type 0 where
+  -- the text before the port's place stands for no host
+  plain : (text rest : List ℕ) → IsPlainHost text → IsPortPlace rest → piece ≡ text ++ rest
+      → IsNoHost mode text → HasBadHost mode piece
+  -- colons that mark no port are refused by HTTP
+  colons_on_the_web : mode ≡ strict → begins_with left_bracket piece ≡ false → IsManyColoned piece
+      → HasBadHost mode piece
+  -- a piece with such colons stands for no host
+  colons : ¬ (mode ≡ strict) → ¬ ReadsAddress mode piece → begins_with left_bracket piece ≡ false
+      → IsManyColoned piece → IsNoHost mode piece → HasBadHost mode piece
+  -- a bracket is not closed, or followed by another byte than a colon
+  open_bracket : begins_with left_bracket piece ≡ true
+      → ((x rest : List ℕ) → ¬ BracketsAround piece x rest) → HasBadHost mode piece
+  -- the text between brackets stands for nothing
+  brackets : (x rest : List ℕ) → BracketsAround piece x rest → IsNoInner mode x
+      → HasBadHost mode piece
+
+-- what is wrong with the piece behind the user information
+abbrev pub NameFlaw : Mode → List ℕ → UrlFault → Type 0
+NameFlaw mode piece fault.BadPort = HasBadPort mode piece
+NameFlaw mode piece fault.BadCharacter = HasBadHost mode piece
+NameFlaw mode piece fault.NoScheme = ⊥
+NameFlaw mode piece fault.HostRequired = ⊥
+
+-- ---- authorities
+
+-- the piece of an authority behind the user information
+pub data PieceOf (authority piece : List ℕ) : Type 0 where
+  whole : FreeOf at_sign authority → piece ≡ authority → PieceOf authority piece
+  behind : (information : List ℕ) → FreeOf at_sign piece
+      → authority ≡ information ++ at_sign ∷ piece → PieceOf authority piece
+
+-- a part of user information that decodes to no text
+pub data HasBadUser (authority : List ℕ) : Type 0 where
+  -- user information without a colon is the user
+  user : (u piece : List ℕ) → FreeOf at_sign piece → FreeOf colon u
+      → authority ≡ u ++ at_sign ∷ piece → ¬ IsUtf8 (percent_decode u) → HasBadUser authority
+  -- what stands before its first colon is
+  user_before_password : (u w piece : List ℕ) → FreeOf at_sign piece → FreeOf colon u
+      → authority ≡ (u ++ colon ∷ w) ++ at_sign ∷ piece → ¬ IsUtf8 (percent_decode u)
+      → HasBadUser authority
+  -- what stands behind that colon is the password
+  password : (u w piece : List ℕ) → FreeOf at_sign piece → FreeOf colon u
+      → authority ≡ (u ++ colon ∷ w) ++ at_sign ∷ piece → ¬ IsUtf8 (percent_decode w)
+      → HasBadUser authority
+
+-- what is wrong with an authority, for a scheme that needs a host or doesn't
+pub data AuthorityFlaw (mode : Mode) (needed : Bool) (authority : List ℕ) : UrlFault → Type 0 where
+  -- a backslash
+  holds_backslash : ¬ FreeOf backslash authority
+      → AuthorityFlaw mode needed authority fault.BadCharacter
+  -- a user or a password that is no text
+  bad_user : HasBadUser authority → AuthorityFlaw mode needed authority fault.BadCharacter
+  -- the piece behind the user information
+  bad_name : (piece : List ℕ) (named : UrlFault) → PieceOf authority piece
+      → NameFlaw mode piece named → AuthorityFlaw mode needed authority named
+  -- user information without a host
+  no_host : (information : List ℕ) → authority ≡ information ++ at_sign ∷ []
+      → AuthorityFlaw mode needed authority fault.BadCharacter
+  -- nothing where a host is needed
+  host_required : needed ≡ true → authority ≡ []
+      → AuthorityFlaw mode needed authority fault.HostRequired
+
+-- ---- URLs
+
+-- the text has the shape of a URL: it is no remote helper, and this stands before and behind its first `://`
+pub record UrlShape (b front rest : List ℕ) : Type 0 where
+  pub no_helper : ¬ HasHelperForm b
+  pub first : ¬ Holds (codes "://") front
+  pub joined : b ≡ front ++ (codes "://" ++ rest)
+
+-- the shape of a URL that is no file URL
+pub record OtherShape (b front rest : List ℕ) : Type 0 where
+  pub shape : UrlShape b front rest
+  pub not_file : bytes_eq front (codes "file") ≡ false
+
+-- a URL's scheme, authority and path
+pub record UrlCut (b scheme authority path : List ℕ) : Type 0 where
+  pub shape : OtherShape b scheme (authority ++ path)
+  pub scheme_text : is_scheme_text scheme ≡ true
+  pub before_path : Lacks (is_path_start (is_web_scheme scheme)) authority
+  pub path_starts : StartsPath (is_web_scheme scheme) path
+
+-- what is wrong with a URL
+pub data UrlFlaw (b : List ℕ) : UrlFault → Type 0 where
+  -- what stands before `://` is no scheme
+  no_scheme : (front rest : List ℕ) → OtherShape b front rest → is_scheme_text front ≡ false
+      → UrlFlaw b fault.NoScheme
+  -- white space, or a `%` that begins no escape
+  white_space : (front rest : List ℕ) → OtherShape b front rest → IsUtf8 b → ¬ LacksWhiteSpace b
+      → UrlFlaw b fault.BadCharacter
+  unsound : (front rest : List ℕ) → OtherShape b front rest → is_sound b ≡ false
+      → UrlFlaw b fault.BadCharacter
+  -- the path decodes to no text
+  bad_path : (scheme authority path : List ℕ) → UrlCut b scheme authority path
+      → ¬ IsUtf8 (percent_decode path) → UrlFlaw b fault.BadCharacter
+  -- the authority
+  bad_authority : (scheme authority path : List ℕ) (named : UrlFault)
+      → UrlCut b scheme authority path
+      → AuthorityFlaw (mode_of scheme) (requires_host scheme) authority named → UrlFlaw b named
+
+-- ---- the scp form
+
+-- what is wrong with the host of the scp form
+pub data ScpHostFlaw (host : List ℕ) : UrlFault → Type 0 where
+  -- there is none
+  empty : host ≡ [] → ScpHostFlaw host fault.HostRequired
+  -- it holds a byte or a character that no host does
+  holds_backslash : ¬ FreeOf backslash host → ScpHostFlaw host fault.BadCharacter
+  white_space : IsUtf8 host → ¬ LacksWhiteSpace host → ScpHostFlaw host fault.BadCharacter
+  -- it names none where each `%` is read as its own escape
+  bad_name : (named : UrlFault) → NameFlaw bare (escaped_percents host) named
+      → ScpHostFlaw host named
+
+-- what is wrong with the scp form, where it isn't `user@[address]:path`
+pub record ScpFlaw (b : List ℕ) (named : UrlFault) : Type 0 where
+  pub not_addressed : ¬ IsAddressed b
+  pub front : List ℕ
+  pub path : List ℕ
+  pub user : Option (List ℕ)
+  pub host : List ℕ
+  pub shape : ScpShape b front path
+  pub split : ScpUser front user host
+  pub no_at : FreeOf at_sign host
+  pub flaw : ScpHostFlaw host named
+
+-- ---- all errors
+
+-- a path is missing
+pub data MissesPath (b : List ℕ) : UrlKind → Type 0 where
+  -- no `/` stands behind the mark of a file URL
+  in_file : (host : List ℕ) → FreeOf slash host → b ≡ codes "file://" ++ host
+      → MissesPath b kind.Url
+  -- nor behind that of a URL of Git's own transports
+  in_url : (scheme authority : List ℕ) → requires_path (protocol_of scheme) ≡ true
+      → FreeOf slash authority → b ≡ scheme ++ (codes "://" ++ authority) → MissesPath b kind.Url
+  -- nothing stands behind the colon of the scp form
+  in_scp : (front : List ℕ) → ScpShape b front [] → MissesPath b kind.Scp
+  -- nor behind an address between brackets
+  behind_address : (user address : List ℕ) → AddressedShape b user address []
+      → MissesPath b kind.Scp
+
+-- the bytes have the shape of this kind
+abbrev pub HasShape : List ℕ → UrlKind → Type 0
+HasShape b kind.Url = (front : List ℕ) × (rest : List ℕ) × UrlShape b front rest
+HasShape b kind.Scp = IsScpShaped b
+HasShape b kind.Local = ⊥
+
+-- a URL is too long; its front is shown
+pub record IsTooLong (b shown : List ℕ) (total : ℕ) : Type 0 where
+  pub front : List ℕ
+  pub rest : List ℕ
+  pub shape : OtherShape b front rest
+  pub unfit : ¬ Fits front rest
+  pub front_shown : shown ≡ take (length front + 1027) b
+  pub length_told : total ≡ length b
+
+-- what is wrong with a text of this kind
+abbrev pub KindFlaw : List ℕ → UrlKind → UrlFault → Type 0
+KindFlaw b kind.Url named = UrlFlaw b named
+KindFlaw b kind.Scp named = ScpFlaw b named
+KindFlaw b kind.Local named = ⊥
+
+-- the flaw that the refusal names stands in the bytes
+abbrev pub NamesFlaw : List ℕ → Refusal → Type 0
+NamesFlaw b refusal.EmptyLocal = b ≡ []
+NamesFlaw b (refusal.MissingPath kind) = MissesPath b kind
+NamesFlaw b (refusal.NotUtf8 kind) = ¬ IsUtf8 b × HasShape b kind
+NamesFlaw b (refusal.TooLong shown total) = IsTooLong b shown.now total
+NamesFlaw b (refusal.BadUrl kind fault) = KindFlaw b kind fault

@@ -1,0 +1,130 @@
+-- What is found in a text before anything is copied: the location that the slices mean, and the room that it takes.
+use Rattle.std.specs.Prelude.{◌≡◌, ℕ, ◌+◌, true, false, ◌==◌, List, [], ◌∷◌, length, Option, Some, None, option_map, IfSome, IsUtf8, if◌then◌else◌}
+use Rattle.std.specs.Option.{option_copied, unwrap_or}
+use Rattle.std.specs.List.{list_any}
+use Rattle.percent_encoding.specs.Percent.{percent_decode}
+use Rattle.git_syntax.specs.declared.found.Found.{Found}
+use Rattle.git_syntax.specs.declared.found.Found.TheVariants as found
+use Rattle.git_syntax.specs.declared.found.ScpHost.{ScpHost}
+use Rattle.git_syntax.specs.declared.found.ScpHost.TheVariants as host
+use Rattle.git_syntax.specs.declared.rules.Rules.{Rules}
+use Rattle.git_syntax.specs.declared.simple_url.ParsedUrl.{ParsedUrl}
+use Rattle.git_syntax.specs.Value.{Protocol, Location, path_alone}
+use Rattle.git_syntax.specs.Value.Protocol.{file, git, ssh, http, https, ext, helper, helper_url}
+use Rattle.git_syntax.specs.Bytes.{colon, left_bracket, right_bracket}
+use Rattle.git_syntax.specs.Escapes.{has_percent}
+use Rattle.git_syntax.specs.Schemes.{protocol_of}
+use Rattle.git_syntax.specs.SchemeRules.{AreRulesOf}
+use Rattle.git_syntax.specs.Hosts.{normal_host}
+use Rattle.git_syntax.specs.HostPieces.{lowercase_address}
+use Rattle.git_syntax.specs.UrlPieces.{AreTexts, parts_of}
+use Rattle.git_syntax.specs.Authority.{unless_empty}
+use Rattle.git_syntax.specs.Grammar.{UrlParts, helper_protocol, path_for, retained_spelling, scp_location}
+
+-- ---- the host that Secure Shell takes
+
+-- what stands before a last c, where the text ends in one
+abbrev pub front_of : ℕ → List ℕ → Option (List ℕ)
+front_of c [] = None
+front_of c (b ∷ []) = if b == c then Some [] else None
+front_of c (b ∷ d ∷ bs) = option_map (λ front. b ∷ front) (front_of c (d ∷ bs))
+
+-- the host for its front before a last colon: that front, if it holds no other
+abbrev pub colon_dropped : List ℕ → Option (List ℕ) → List ℕ
+colon_dropped host None = host
+colon_dropped host (Some front) = if list_any (λ b. b == colon) front then host else front
+
+-- the host without brackets around it, and without a colon behind it: the one that `Peels` allows
+abbrev pub peeled : List ℕ → List ℕ
+peeled [] = []
+peeled (b ∷ bs) =
+    if b == left_bracket
+    then unwrap_or (front_of right_bracket (unwrap_or (front_of colon bs) bs)) (b ∷ bs)
+    else colon_dropped (b ∷ bs) (front_of colon (b ∷ bs))
+
+-- the host of a location, by its protocol, for the host that its URL names: the one that `HostFor` allows
+abbrev pub host_for : Protocol → Option (List ℕ) → Option (List ℕ)
+host_for ssh named = option_map peeled named
+host_for file named = named
+host_for git named = named
+host_for http named = named
+host_for https named = named
+host_for ext named = named
+host_for (helper name) named = named
+host_for (helper_url name) named = named
+
+-- ---- what is found
+
+-- the location that the parts of a URL mean, by its protocol: the one that `MeansByProtocol` allows
+abbrev pub url_location : Protocol → UrlParts → Location
+url_location protocol parts = record {
+  scheme = protocol;
+  user = parts.user;
+  password = parts.password;
+  host = host_for protocol parts.host;
+  flag = false;
+  port = parts.port;
+  path = path_for protocol (percent_decode parts.path);
+  spelling = retained_spelling parts.path;
+}
+
+-- the slice of a host of the scp form
+abbrev pub scp_slice : ScpHost → List ℕ
+scp_slice (host.Literal text) = text.now
+scp_slice (host.Name text) = text.now
+scp_slice (host.Kept text) = text.now
+
+-- the host that it stands for
+abbrev pub scp_host_of : ScpHost → List ℕ
+scp_host_of (host.Literal text) = lowercase_address text.now
+scp_host_of (host.Name text) = normal_host text.now
+scp_host_of (host.Kept text) = text.now
+
+-- the location that the slices mean
+abbrev pub meant : Found → Location
+meant (found.Helper name address) = path_alone (helper_protocol name.now) true address.now
+meant (found.Local path) = path_alone file true path.now
+meant (found.File host path) = record (path_alone file false path.now) { host = unless_empty host.now }
+meant (found.Ext text) = path_alone ext true text.now
+meant (found.Url rules url) = url_location (protocol_of url.scheme.now) (parts_of url)
+meant (found.Scp user host path) = scp_location (option_copied user) (scp_host_of host) path.now
+
+-- the rules of a URL are those of its scheme, what becomes text is UTF-8, and it is known whether its path holds a `%`
+pub record IsReadyUrl (rules : Rules) (url : ParsedUrl) : Type 0 where
+  pub ruled : AreRulesOf url.scheme.now rules
+  pub scheme_text : IsUtf8 url.scheme.now
+  pub texts : AreTexts (parts_of url)
+  pub escaped : url.escaped ≡ has_percent url.path.now
+
+-- a user and a host are UTF-8
+pub record AreScpTexts (user : Option (List ℕ)) (host : List ℕ) : Type 0 where
+  pub user_text : IfSome user IsUtf8
+  pub host_text : IsUtf8 host
+
+-- of these slices a location can be made: what becomes text is UTF-8
+abbrev pub IsReady : Found → Type 0
+IsReady (found.Helper name address) = IsUtf8 name.now
+IsReady (found.Local path) = Unit {0}
+IsReady (found.File host path) = IsUtf8 host.now
+IsReady (found.Ext text) = Unit {0}
+IsReady (found.Url rules url) = IsReadyUrl rules url
+IsReady (found.Scp user host path) = AreScpTexts (option_copied user) (scp_host_of host)
+
+-- ---- the room that a location takes which borrows what was found
+
+-- the length of a text that may be missing
+abbrev pub optional_length : Option (List ℕ) → ℕ
+optional_length None = 0
+optional_length (Some text) = length text
+
+-- the length of the parts of a URL that are decoded
+abbrev pub parts_length : UrlParts → ℕ
+parts_length parts = optional_length parts.user + optional_length parts.password
+    + optional_length parts.host
+    + length (percent_decode parts.path)
+
+-- room for so many bytes is enough for what has other bytes than the text: parts of a URL, and the host of the scp form
+abbrev pub room_for : Found → ℕ
+room_for (found.Url rules url) = parts_length (parts_of url)
+room_for (found.Scp user host path) = length (scp_slice host)
+room_for _ = 0

@@ -1,0 +1,142 @@
+-- What the slices stand for that the reader of hosts answers, and what it tells of them.
+use Rattle.std.specs.Prelude.{◌≡◌, ◌<◌, ℕ, Bool, true, false, ◌||◌, ◌==◌, ◌⊎◌, List, [], ◌∷◌, ◌++◌, length, Option, Some, None, codes, option_map, Result, MatchResult, if◌then◌else◌}
+use Rattle.std.specs.List.{list_all}
+use Rattle.std.specs.Char.{is_ascii_digit, is_ascii_lowercase, to_ascii_lowercase}
+use Rattle.percent_encoding.specs.Percent.{percent_decode}
+use Rattle.git_syntax.specs.declared.refusal.UrlFault.{UrlFault}
+use Rattle.git_syntax.specs.declared.host.Mode as rust
+use Rattle.git_syntax.specs.declared.host.Mode.TheVariants as read
+use Rattle.git_syntax.specs.declared.host.HostPiece.{HostPiece}
+use Rattle.git_syntax.specs.declared.host.HostPiece.TheVariants.{Simple, Address, Kept, Decoded, Literal, DecodedLiteral, Bracketed}
+use Rattle.git_syntax.specs.declared.host.NamedHost.{NamedHost}
+use Rattle.git_syntax.specs.Bytes.{colon, dot, hyphen, percent_sign, left_bracket, right_bracket, begins_with, lowercase}
+use Rattle.git_syntax.specs.Addresses.{IsZone}
+use Rattle.git_syntax.specs.Hosts.{Mode, Inner, normal_host, Names, Number}
+use Rattle.git_syntax.specs.Hosts.Mode.{strict, bare, loose}
+use Rattle.git_syntax.specs.Flaws.{IsNoPort, NameFlaw}
+
+-- the mode that the code names
+abbrev pub strictness : rust.Mode → Mode
+strictness read.Strict = strict
+strictness read.Bare = bare
+strictness read.Loose = loose
+
+-- a lower-case letter, a digit, `-` or `.`
+abbrev pub is_simple_byte : ℕ → Bool
+is_simple_byte b = is_ascii_lowercase b || (is_ascii_digit b || (b == hyphen || b == dot))
+
+-- a host that every mode takes as it is
+pub record IsSimpleHost (text : List ℕ) : Type 0 where
+  pub nonempty : 0 < length text
+  pub bytes : list_all is_simple_byte text ≡ true
+
+-- the text between brackets, in them
+abbrev pub in_brackets : List ℕ → List ℕ
+in_brackets inner = left_bracket ∷ (inner ++ right_bracket ∷ [])
+
+-- in lower case up to the first `%`
+abbrev pub lowercase_address : List ℕ → List ℕ
+lowercase_address [] = []
+lowercase_address (b ∷ bs) = if b == percent_sign then b ∷ bs
+    else to_ascii_lowercase b ∷ lowercase_address bs
+
+-- the host that a piece stands for
+abbrev pub meant_host : HostPiece → List ℕ
+meant_host (Simple text) = text.now
+meant_host (Address text) = lowercase text.now
+meant_host (Kept text) = normal_host text.now
+meant_host (Decoded text) = normal_host (percent_decode text.now)
+meant_host (Literal text) = in_brackets (lowercase_address text.now)
+meant_host (DecodedLiteral text) = in_brackets (lowercase_address (percent_decode text.now))
+meant_host (Bracketed text) = in_brackets (percent_decode text.now)
+
+-- the slice that a piece holds
+abbrev pub slice_text : HostPiece → List ℕ
+slice_text (Simple text) = text.now
+slice_text (Address text) = text.now
+slice_text (Kept text) = text.now
+slice_text (Decoded text) = text.now
+slice_text (Literal text) = text.now
+slice_text (DecodedLiteral text) = text.now
+slice_text (Bracketed text) = text.now
+
+-- the same, decoded where it has to be
+abbrev pub unescaped_host : HostPiece → List ℕ
+unescaped_host (Simple text) = text.now
+unescaped_host (Address text) = text.now
+unescaped_host (Kept text) = text.now
+unescaped_host (Decoded text) = percent_decode text.now
+unescaped_host (Literal text) = text.now
+unescaped_host (DecodedLiteral text) = percent_decode text.now
+unescaped_host (Bracketed text) = percent_decode text.now
+
+-- the letters of a host in the case that they are shown in
+abbrev pub normal_case : HostPiece → List ℕ → List ℕ
+normal_case (Simple text) host = host
+normal_case (Address text) host = lowercase host
+normal_case (Kept text) host = normal_host host
+normal_case (Decoded text) host = normal_host host
+normal_case (Literal text) host = lowercase_address host
+normal_case (DecodedLiteral text) host = lowercase_address host
+normal_case (Bracketed text) host = host
+
+-- brackets stand around the host
+abbrev pub is_bracketed : HostPiece → Bool
+is_bracketed (Simple text) = false
+is_bracketed (Address text) = false
+is_bracketed (Kept text) = false
+is_bracketed (Decoded text) = false
+is_bracketed (Literal text) = true
+is_bracketed (DecodedLiteral text) = true
+is_bracketed (Bracketed text) = true
+
+-- the host that was named, with the colon that stays with it
+abbrev pub named_text : NamedHost → List ℕ
+named_text named = if named.keeps_colon then meant_host named.piece ++ colon ∷ []
+    else meant_host named.piece
+
+-- the host of what was read
+abbrev pub host_of : Option NamedHost → Option (List ℕ)
+host_of named = option_map named_text named
+
+-- the port of what was read
+abbrev pub port_of : Option NamedHost → Option ℕ
+port_of None = None
+port_of (Some named) = named.port
+
+-- a host may end before the text: it is empty or begins with a colon
+abbrev pub EndsHost : List ℕ → Type 0
+EndsHost rest = (rest ≡ []) ⊎ (begins_with colon rest ≡ true)
+
+-- `25` and a zone
+abbrev pub IsEscapedZone : List ℕ → Type 0
+IsEscapedZone text = (zone : List ℕ) × IsZone zone × (text ≡ codes "25" ++ zone)
+
+-- what the host of a literal holds, which is decoded but for HTTP
+abbrev pub shown_literal : Mode → List ℕ → List ℕ
+shown_literal strict text = lowercase_address text
+shown_literal bare text = lowercase_address (percent_decode text)
+shown_literal loose text = lowercase_address (percent_decode text)
+
+-- the text between brackets stands for another, and the host is that one in brackets
+abbrev pub IsInner : Mode → List ℕ → List ℕ → Type 0
+IsInner mode text host = (inner : List ℕ) × Inner mode text inner × (host ≡ in_brackets inner)
+
+-- nothing follows a host, or a colon that stays with it, or a colon and a port
+pub data Follows (mode : Mode) (base rest : List ℕ) (host : Option (List ℕ))
+    (port : Option ℕ) : Type 0 where
+  nothing : rest ≡ [] → host ≡ Some base → port ≡ None → Follows mode base rest host port
+  lone_colon : rest ≡ colon ∷ [] → host ≡ Some (base ++ colon ∷ []) → port ≡ None
+      → Follows mode base rest host port
+  number : (digits : List ℕ) (n : ℕ) → Number mode digits n → rest ≡ colon ∷ digits
+      → host ≡ Some base → port ≡ Some n → Follows mode base rest host port
+
+-- a colon and something that is no port
+abbrev pub IsBadPort : Mode → List ℕ → Type 0
+IsBadPort mode rest = (digits : List ℕ) × IsNoPort mode digits × (rest ≡ colon ∷ digits)
+
+-- what was read from a piece that isn't empty: the host and the port that it names, or a flaw of it
+abbrev pub ReadsName : Mode → List ℕ → Result NamedHost UrlFault → Type 0
+ReadsName mode piece result = MatchResult result
+    (λ named. Names mode piece (Some (named_text named)) named.port)
+    (λ fault. NameFlaw mode piece fault)

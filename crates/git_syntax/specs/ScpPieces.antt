@@ -1,0 +1,46 @@
+-- What the reader of the scp form answers: the pieces of its front, its host, and what that is refused for.
+use Rattle.std.specs.Prelude.{◌≡◌, ℕ, ◌⊎◌, List, ◌∷◌, ◌++◌, Option, Some, None, Result, MatchResult}
+use Rattle.std.specs.Option.{option_copied}
+use Rattle.std.specs.Borrow.{Bor}
+use Rattle.git_syntax.specs.declared.refusal.UrlFault.{UrlFault}
+use Rattle.git_syntax.specs.declared.found.ScpHost as rust
+use Rattle.git_syntax.specs.Bytes.{colon, at_sign, right_bracket, FreeOf}
+use Rattle.git_syntax.specs.Escapes.{escaped_percents}
+use Rattle.git_syntax.specs.Hosts.{Names}
+use Rattle.git_syntax.specs.Hosts.Mode.{bare}
+use Rattle.git_syntax.specs.Grammar.{ScpUser, ScpHost, Unbrackets}
+use Rattle.git_syntax.specs.Flaws.{NameFlaw, ScpHostFlaw}
+use Rattle.git_syntax.specs.FoundPieces.{scp_host_of}
+
+-- the front is cut at its last `@`
+pub record CutsUser (front : List ℕ) (user : Option (Bor (List ℕ))) (host : List ℕ) : Type 0 where
+  pub split : ScpUser front (option_copied user) host
+  pub no_at : FreeOf at_sign host
+
+-- each colon of the text stands before its first closing bracket
+abbrev pub ColonsInside : List ℕ → Type 0
+ColonsInside text = FreeOf colon text
+    ⊎ ((inside : List ℕ) × (rest : List ℕ) × FreeOf right_bracket inside × FreeOf colon rest
+    × (text ≡ inside ++ right_bracket ∷ rest))
+
+-- no port is read from the piece
+abbrev pub NamesNoPort : List ℕ → Type 0
+NamesNoPort piece = (host : Option (List ℕ)) (port : ℕ) → ¬ Names bare piece host (Some port)
+
+-- the piece names this host, which may have brackets around it
+pub record NamesHost (piece meant : List ℕ) : Type 0 where
+  pub named : List ℕ
+  pub names : Names bare piece (Some named) None
+  pub unbracketed : Unbrackets named meant
+
+-- what is found in a host that isn't empty: what it names where each `%` is read as its own escape, or a flaw of it
+abbrev pub ReadsScpPiece : List ℕ → Result rust.ScpHost UrlFault → Type 0
+ReadsScpPiece host result = MatchResult result
+    (λ found. NamesHost (escaped_percents host) (scp_host_of found))
+    (λ fault. NameFlaw bare (escaped_percents host) fault)
+
+-- what is found for the host of the scp form: the one that it stands for, or a flaw of it
+abbrev pub ReadsScpHost : List ℕ → Result rust.ScpHost UrlFault → Type 0
+ReadsScpHost host result = MatchResult result
+    (λ found. ScpHost host (scp_host_of found))
+    (λ fault. ScpHostFlaw host fault)

@@ -1,0 +1,86 @@
+-- What the slices stand for that the reader of URLs answers, and what it tells of them.
+use Rattle.std.specs.Prelude.{◌≡◌, ℕ, Bool, true, ◌⊎◌, List, [], ◌∷◌, ◌++◌, Option, option_map, IfSome, IsSome, IsUtf8}
+use Rattle.std.specs.Borrow.{Bor}
+use Rattle.percent_encoding.specs.Percent.{percent_decode}
+use Rattle.git_syntax.specs.declared.simple_url.ParsedUrl.{ParsedUrl}
+use Rattle.git_syntax.specs.declared.simple_url.AuthorityParts.{AuthorityParts}
+use Rattle.git_syntax.specs.declared.simple_url.CredentialParts.{CredentialParts}
+use Rattle.git_syntax.specs.Bytes.{colon, left_bracket, right_bracket, Lacks, FreeOf, is_path_start, StartsPath}
+use Rattle.git_syntax.specs.Hosts.{Mode}
+use Rattle.git_syntax.specs.Schemes.{is_web_scheme}
+use Rattle.git_syntax.specs.Authority.{Credentials, Authority}
+use Rattle.git_syntax.specs.Grammar.{UrlParts}
+use Rattle.git_syntax.specs.HostPieces.{host_of, port_of}
+
+-- the text that an escaped piece stands for
+abbrev pub decoded_piece : Bor (List ℕ) → List ℕ
+decoded_piece piece = percent_decode piece.now
+
+-- the text that an escaped piece stands for, if there is one
+abbrev pub decoded_option : Option (Bor (List ℕ)) → Option (List ℕ)
+decoded_option piece = option_map decoded_piece piece
+
+-- the parts of a URL that was read
+abbrev pub parts_of : ParsedUrl → UrlParts
+parts_of url = record {
+  scheme = url.scheme.now;
+  user = decoded_option url.user;
+  password = decoded_option url.password;
+  host = host_of url.host;
+  port = port_of url.host;
+  path = url.path.now;
+}
+
+-- what follows the `://` of a URL with this scheme is its authority and its path
+pub record CutsRest (scheme rest authority path : List ℕ) : Type 0 where
+  pub joined : rest ≡ authority ++ path
+  pub before_path : Lacks (is_path_start (is_web_scheme scheme)) authority
+  pub path_starts : StartsPath (is_web_scheme scheme) path
+
+-- user information holds the user and the password that were read of it
+abbrev pub HoldsCredentials : List ℕ → CredentialParts → Type 0
+HoldsCredentials information parts = Credentials information (decoded_option parts.user)
+    (decoded_option parts.password)
+
+-- a part of user information decodes to no text
+pub data HasNoText (information : List ℕ) : Type 0 where
+  user : FreeOf colon information → ¬ IsUtf8 (percent_decode information) → HasNoText information
+  user_before_password : (u w : List ℕ) → FreeOf colon u → information ≡ u ++ colon ∷ w
+      → ¬ IsUtf8 (percent_decode u) → HasNoText information
+  password : (u w : List ℕ) → FreeOf colon u → information ≡ u ++ colon ∷ w
+      → ¬ IsUtf8 (percent_decode w) → HasNoText information
+
+-- an authority holds these, and a host where one is needed
+pub record HoldsHosted (mode : Mode) (needed : Bool) (authority : List ℕ)
+    (user password host : Option (List ℕ)) (port : Option ℕ) : Type 0 where
+  pub named : Authority mode authority user password host port
+  pub hosted : needed ≡ true → IsSome host
+
+-- an authority holds the parts that were read of it
+abbrev pub HoldsParts : Mode → Bool → List ℕ → AuthorityParts → Type 0
+HoldsParts mode needed authority parts =
+    HoldsHosted mode needed authority (decoded_option parts.credentials.user)
+    (decoded_option parts.credentials.password) (host_of parts.host) (port_of parts.host)
+
+-- an authority holds nothing, or not the host that is needed
+abbrev pub IsNoAuthority : Mode → Bool → List ℕ → Type 0
+IsNoAuthority mode needed authority =
+    (user password host : Option (List ℕ)) (port : Option ℕ)
+    → ¬ HoldsHosted mode needed authority user password host port
+
+-- the user, the password and the host are UTF-8
+pub record AreTexts (parts : UrlParts) : Type 0 where
+  pub user : IfSome parts.user IsUtf8
+  pub password : IfSome parts.password IsUtf8
+  pub host : IfSome parts.host IsUtf8
+
+-- the text is brackets around another, with nothing or a colon behind them
+abbrev pub InBrackets : List ℕ → List ℕ → Type 0
+InBrackets text inside =
+    (text ≡ left_bracket ∷ (inside ++ right_bracket ∷ []))
+    ⊎ (text ≡ left_bracket ∷ (inside ++ right_bracket ∷ (colon ∷ [])))
+
+-- the text without a last c, where it ends in one, and else the text
+pub data DropsLast (c : ℕ) (text rest : List ℕ) : Type 0 where
+  dropped : text ≡ rest ++ c ∷ [] → DropsLast c text rest
+  kept : ((front : List ℕ) → ¬ (text ≡ front ++ c ∷ [])) → rest ≡ text → DropsLast c text rest

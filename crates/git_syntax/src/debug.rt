@@ -1,0 +1,52 @@
+//! What a log may hold of a location and of an error: `Debug`, without the field `password` and without refused texts.
+//!
+//! It uses `impls` for the word that stands in place of a password. A location shows every part but that field; an
+//! error shows the length of a text that was refused, and never its bytes. Otherwise the shape is the one that a
+//! derive gives. It takes no memory. The builders of std have no contract, so what they write is shown by tests.
+//!
+//! Nothing else is hidden. A secret may also stand where the grammar puts no password, and a log shows it there: as the
+//! user of `https://token@h/p`; in the host of `file://u:secret@h/p`, which is `u:secret@h`; in the path of
+//! `u:secret@h:p`, which is `secret@h:p` on the host `u`; in the path of `https://h/?token=secret`, and with escapes in
+//! the retained spelling too; in a local path and in the address of a remote helper.
+
+ghost use Rattle.std.specs.Prelude.{◌++◌, Some, codes, decimal};
+
+use crate::refusal::Refusal;
+use std::fmt;
+
+impl fmt::Debug for Refusal<'_> {
+    /// Shows the fields, with the length of a front in place of its bytes.
+    fn fmt<W: fmt::Write>(&self, f: &mut fmt::Formatter<W>) -> fmt::Result {
+        match self {
+            Refusal::EmptyLocal => f.write_str("EmptyLocal"),
+            Refusal::MissingPath { kind } => f
+                .debug_struct("MissingPath")
+                .field("kind", kind)
+                .finish(),
+            Refusal::NotUtf8 { kind } => f.debug_struct("NotUtf8").field("kind", kind).finish(),
+            Refusal::TooLong { shown, total } => f
+                .debug_struct("TooLong")
+                .field("shown", &Length(shown.len()))
+                .field("total", total)
+                .finish(),
+            Refusal::BadUrl { kind, fault } => f
+                .debug_struct("BadUrl")
+                .field("kind", kind)
+                .field("fault", fault)
+                .finish(),
+        }
+    }
+}
+
+/// What is shown in place of bytes: how many they are.
+#[derive(Clone, Copy)]
+struct Length(usize);
+
+impl fmt::Debug for Length {
+    ghost debug_output = { λ size. Some (decimal size.0 ++ codes " bytes") };
+
+    fn fmt<W: fmt::Write>(&self, f: &mut fmt::Formatter<W>) -> fmt::Result {
+        let Length(count) = self;
+        write!(f, "{count} bytes")
+    }
+}

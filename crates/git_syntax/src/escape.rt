@@ -1,0 +1,258 @@
+//! Percent-encoding: the sets of bytes that are escaped, tests of escaped texts, and decoding.
+//!
+//! It uses the crates `percent_encoding` and `bstr`, `bytes` and `text`. Each test is exactly the definition in
+//! `specs/Escapes.antt` or `specs/Bytes.antt` that it is named after, and asks for no memory. `decoded` and
+//! `decoded_text` ask once, and not at all where the text is empty. A text without `%` is copied as it is.
+
+ghost use Rattle.std.specs.Prelude.{◌≡◌, ℕ, List, ◌+◌, ◌≤◌, ◌↔◌, IsTrue, IfOk, IsUtf8, length, nat_le, take, true, drop, chars, string_bytes};
+ghost use Rattle.std.specs.Char.{is_digit, is_whitespace};
+ghost use Rattle.std.specs.List.{list_any};
+ghost use Rattle.percent_encoding.specs.Percent as percent;
+ghost use Rattle.percent_encoding.specs.Iter.{decoded_bytes};
+ghost use Rattle.git_syntax.specs.Escapes as spec;
+ghost use Rattle.git_syntax.specs.Safeguards.{PasswordSet, PathSet, UserSet};
+ghost use Rattle.git_syntax.specs.Bytes.{LacksWhiteSpace, begins_by};
+
+use crate::bytes::cut;
+use crate::text::{into_text, is_plain, is_printable};
+use bstr::{ByteSlice, decode_utf8};
+use percent_encoding::{AsciiSet, CONTROLS, PercentDecode, ascii_set, percent_decode};
+use std::alloc::{AllocError, Global};
+
+/// The bytes that the path of an HTTP location is not written with.
+pub const PATH: AsciiSet = ascii_set!(
+    CONTROLS
+        .add(b' ')
+        .add(b'"')
+        .add(b'%')
+        .add(b'<')
+        .add(b'>')
+        .add(b'`')
+        .add(b'{')
+        .add(b'}')
+);
+
+/// The bytes that a password is not written with: those of the path, and the delimiters of a URL but `:`.
+pub const PASSWORD: AsciiSet = ascii_set!(
+    PATH.add(b'#')
+        .add(b'/')
+        .add(b'?')
+        .add(b'@')
+        .add(b'[')
+        .add(b'\\')
+        .add(b']')
+        .add(b'^')
+        .add(b'|')
+);
+
+/// The bytes that a user is not written with: those of the password, and `:`.
+pub const USER: AsciiSet = ascii_set!(PASSWORD.add(b':'));
+
+/// Each set of escaped bytes is the documented set, of which the text of a location speaks, and holds exactly these bytes
+/// of ASCII; bytes past ASCII are always escaped.
+///
+/// - `path`: in a path of HTTP, the controls, the space, `"`, `%`, `<`, `>`, `` ` ``, `{` and `}`.
+/// - `password`: in a password, those and `#`, `/`, `?`, `@`, `[`, `\`, `]`, `^` and `|`.
+/// - `user`: in a user, those and `:`.
+///
+/// Users who compare written texts know by this law which bytes of a part stand in them as they are.
+pub fn law_sets()
+    ensures path { PathSet }
+    ensures password { PasswordSet }
+    ensures user { UserSet }
+{}
+
+/// Whether every `%` of the text has two hexadecimal digits behind it.
+pub fn is_sound(text: &[u8]) -> bool
+    ensures { result ≡ spec.is_sound text.now }
+{
+    let mut rest = text;
+    while let Some((_, behind)) = cut(rest, b'%') {
+        if !begins_with_digits(behind) {
+            return false;
+        }
+        rest = behind;
+    }
+    true
+}
+
+/// Whether the text begins with two hexadecimal digits.
+pub fn begins_with_digits(text: &[u8]) -> bool
+    ensures { result ≡ spec.begins_with_digits text.now }
+{
+    match text {
+        [high, low, ..] => is_hexadecimal(*high) && is_hexadecimal(*low),
+        _ => false,
+    }
+}
+
+/// Whether the byte is a hexadecimal digit of either case.
+fn is_hexadecimal(byte: u8) -> bool
+    ensures { result ≡ is_digit byte 16 }
+{
+    char::from(byte).is_digit(16)
+}
+
+/// Whether `%` stands somewhere in the text.
+pub fn has_percent(text: &[u8]) -> bool
+    ensures { result ≡ spec.has_percent text.now }
+{
+    text.contains(&b'%')
+}
+
+/// Whether the text decodes to UTF-8.
+pub(crate) fn decodes_to_utf8(text: &[u8]) -> bool
+    ensures { IsTrue result ↔ IsUtf8 (percent.percent_decode text.now) }
+{
+    if is_plain(text) {
+        return true;
+    }
+    if is_printable(text) && decodes_to_ascii(text) {
+        return true;
+    }
+    if has_percent(text) {
+        decoding_is_utf8(percent_decode(text))
+    } else {
+        text.is_utf8()
+    }
+}
+
+/// Whether a printable text decodes to ASCII, as far as it is seen without decoding: no escape in it begins with a digit
+/// from 8 on.
+fn decodes_to_ascii(text: &[u8]) -> bool
+    requires { spec.is_printable text.now ≡ true }
+    ensures { IsTrue result → IsUtf8 (percent.percent_decode text.now) }
+{
+    let mut rest = text;
+    while let Some((_, behind)) = cut(rest, b'%') {
+        if begins_high(behind) {
+            return false;
+        }
+        rest = behind;
+    }
+    true
+}
+
+/// Whether the text begins with `8` or a byte behind it.
+fn begins_high(text: &[u8]) -> bool
+    ensures { result ≡ begins_by (λ b. nat_le 56 b) text.now }
+{
+    match text {
+        [] => false,
+        [first, ..] => b'8' <= *first,
+    }
+}
+
+/// Whether what is left of a decoding is UTF-8.
+fn decoding_is_utf8(mut rest: PercentDecode<'_>) -> bool
+    ensures { IsTrue result ↔ IsUtf8 (decoded_bytes rest.entry) }
+{
+    loop {
+        let (window, count) = front(rest);
+        if count == 0 {
+            return true;
+        }
+        let (found, size) = decode_utf8(&window[..count]);
+        if found.is_none() {
+            return false;
+        }
+        rest = skip(rest, size);
+    }
+}
+
+/// The next four bytes of a decoding, or as many as there are, and their count.
+fn front(rest: PercentDecode<'_>) -> ([u8; 4], usize)
+    ensures small { result.1 ≤ 4 }
+    ensures full { length (take result.1 result.0) ≡ result.1 }
+    ensures bytes { take result.1 result.0 ≡ take 4 (decoded_bytes rest.entry) }
+{
+    let mut window = [0; 4];
+    let mut count = 0;
+    for byte in rest {
+        if count == 4 {
+            break;
+        }
+        window[count] = byte;
+        count += 1;
+    }
+    (window, count)
+}
+
+/// What is left of a decoding behind its next `count` bytes.
+fn skip(mut rest: PercentDecode<'_>, count: usize) -> PercentDecode<'_>
+    ensures { decoded_bytes result ≡ drop count (decoded_bytes rest.entry) }
+{
+    for _turn in 0..count {
+        let _ = rest.next();
+    }
+    rest
+}
+
+/// Whether the spelling decodes to the path.
+pub fn decodes_to(spelling: &[u8], path: &[u8]) -> bool
+    ensures { IsTrue result ↔ (percent.percent_decode spelling.now ≡ path.now) }
+{
+    let mut rest = path;
+    for byte in percent_decode(spelling) {
+        let Some((first, tail)) = rest.split_first() else {
+            return false;
+        };
+        if *first != byte {
+            return false;
+        }
+        rest = tail;
+    }
+    rest.is_empty()
+}
+
+/// Whether no character of the text is white space, as Unicode has it.
+pub fn lacks_white_space(text: &str) -> bool
+    ensures { IsTrue result ↔ LacksWhiteSpace text.now }
+{
+    is_printable(text.as_bytes()) || !has_white_space(text)
+}
+
+/// Whether some character of the text is white space.
+fn has_white_space(text: &str) -> bool
+    ensures { result ≡ list_any is_whitespace (chars text.now) }
+{
+    text.chars().any(|character| character.is_whitespace())
+}
+
+/// The bytes that the text decodes to.
+pub fn decoded(alloc: Global, text: &[u8]) -> Result<Vec<u8>, AllocError>
+    ensures { IfOk result (λ v. v.items ≡ percent.percent_decode text.now) }
+{
+    if !has_percent(text) {
+        return Vec::from_slice(alloc, text);
+    }
+    let mut bytes = Vec::with_capacity(alloc, text.len())?;
+    // The room is there, as a decoding is no longer than its text.
+    let appended = percent_decode(text).append_to(&mut bytes);
+    prove!(appended.is_ok());
+    let _ = appended;
+    Ok(bytes)
+}
+
+/// Writes what the text decodes to into the front of the room, and returns its length.
+pub fn decode_into(room: &mut [u8], text: &[u8]) -> usize
+    requires { length (percent.percent_decode text.now) ≤ length room.old }
+    ensures size { result ≡ length (percent.percent_decode text.now) }
+    ensures bytes { take result room.new ≡ percent.percent_decode text.now }
+{
+    let mut size = 0;
+    for byte in percent_decode(text) {
+        room[size] = byte;
+        size += 1;
+    }
+    size
+}
+
+/// The text that decodes to UTF-8, decoded.
+pub fn decoded_text(alloc: Global, text: &[u8]) -> Result<String, AllocError>
+    requires { IsUtf8 (percent.percent_decode text.now) }
+    ensures { IfOk result (λ s. string_bytes s ≡ percent.percent_decode text.now) }
+{
+    let bytes = decoded(alloc, text)?;
+    Ok(into_text(bytes))
+}

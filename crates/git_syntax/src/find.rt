@@ -1,0 +1,40 @@
+//! Finding: which form a text has, and the slices of it that its location is made of.
+//!
+//! It may use `classify`, `url`, `scp` and `found`. Its contract: what is found means the one location that the
+//! definitions spell with the bytes, a refusal comes only where they spell none, and the flaw that it names stands in
+//! them. It takes no memory and copies nothing.
+
+ghost use Rattle.std.specs.Prelude.{◌≡◌, ◌≤◌, [], Err, IfErr, IfOk, length};
+ghost use Rattle.git_syntax.specs.Flaws.{NamesFlaw};
+ghost use Rattle.git_syntax.specs.FoundPieces.{IsReady, meant, room_for};
+ghost use Rattle.git_syntax.specs.Grammar.{Spells};
+ghost use Rattle.git_syntax.specs.Value.{Location};
+
+use crate::classify::{Shape, classify};
+use crate::found::Found;
+use crate::scp::{find_addressed, find_scp};
+use crate::url::find_url;
+use crate::refusal::Refusal;
+
+/// The slices of the one location that the bytes spell.
+pub fn find(bytes: &[u8]) -> Result<Found<'_>, Refusal<'_>>
+    ensures found { IfOk result (λ found. Spells bytes.now (meant found)) }
+    ensures ready { IfOk result (λ found. IsReady found) }
+    ensures room { IfOk result (λ found. room_for found ≤ length bytes.now) }
+    ensures refused { IfErr result (λ refusal. (v : Location) → ¬ Spells bytes.now v) }
+    ensures flaw { IfErr result (λ refusal. NamesFlaw bytes.now refusal) }
+    ensures empty { bytes.now ≡ [] → result ≡ Err Refusal.EmptyLocal }
+{
+    match classify(bytes) {
+        Shape::Empty => Err(Refusal::EmptyLocal),
+        Shape::Helper { name, address } => Ok(Found::Helper { name, address }),
+        Shape::Url { scheme, rest } => find_url(bytes, scheme, rest),
+        Shape::Addressed {
+            user,
+            address,
+            path,
+        } => find_addressed(bytes, user, address, path),
+        Shape::Scp { front, path } => find_scp(bytes, front, path),
+        Shape::Local => Ok(Found::Local { path: bytes }),
+    }
+}

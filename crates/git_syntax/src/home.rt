@@ -1,0 +1,36 @@
+//! The front of a path: the `/` before a home folder, and the root in place of an empty path.
+//!
+//! It uses `bytes`, and asks for no memory. Its contract: each answer is that of the definition that it is named after.
+
+ghost use Rattle.std.specs.Prelude.{◌≡◌, false, true};
+ghost use Rattle.git_syntax.specs.Grammar as grammar;
+ghost use Rattle.git_location.specs.Settled as settled;
+
+use crate::bytes::starts_with_byte;
+
+/// Whether the path begins with `/~`.
+pub fn begins_at_home(path: &[u8]) -> bool
+    ensures { result ≡ settled.begins_at_home path.now }
+{
+    match path {
+        [first, second, ..] => *first == b'/' && *second == b'~',
+        _ => false,
+    }
+}
+
+/// The path without the `/` before a `~` at its front.
+pub fn from_home(path: &[u8]) -> &[u8]
+    ensures { result.now ≡ grammar.from_home path.now }
+{
+    match path {
+        [b'/', rest @ ..] if starts_with_byte(rest, b'~') => rest,
+        _ => path,
+    }
+}
+
+/// The path, or `/` where it is empty.
+pub fn or_root(path: &[u8]) -> &[u8]
+    ensures { result.now ≡ grammar.or_root path.now }
+{
+    if path.is_empty() { b"/" } else { path }
+}

@@ -1,0 +1,311 @@
+//! The piece of an authority behind the user information: a host and a port.
+//!
+//! It may use `bytes`, `escape` and `ipv6`. Inside: `port` reads what follows a host, `bytes` tests the bytes of
+//! hosts and zones, `build` makes the text of a host. Its contract: a host and a port are read exactly where the
+//! definitions name them, as slices of the piece, and each refusal has its flaw. It takes no memory but for the text
+//! of a host, when that is built.
+
+ghost use Rattle.std.specs.Prelude.{◌≡◌, ℕ, IsUtf8, ◌<◌, ◌↔◌, ◌++◌, ◌∷◌, List, Option, None, IsTrue, IfOk, IfErr, IfSome, MatchOption, false, length};
+ghost use Rattle.git_syntax.specs.Bytes.{FreeOf, begins_with, left_bracket, right_bracket};
+ghost use Rattle.git_syntax.specs.Flaws.{IsNoHost, IsNoInner, NameFlaw};
+ghost use Rattle.git_syntax.specs.Hosts as spec;
+ghost use Rattle.git_syntax.specs.Hosts.{HostText, IsAddressPiece, IsLiteral, IsManyColoned, Names, ReadsAddress};
+ghost use Rattle.git_syntax.specs.HostPieces.{IsInner, IsSimpleHost, ReadsName, host_of, in_brackets, meant_host, named_text, port_of, shown_literal, strictness};
+
+pub mod build;
+pub mod bytes;
+mod port;
+
+use crate::bytes::{after, before, cut, is_free_of};
+use crate::refusal::UrlFault;
+use crate::escape::decodes_to_utf8;
+use crate::ipv6::is_address;
+use bytes::{are_http_host_bytes, are_simple_bytes, is_literal};
+use port::{are_digits, ends_host, with_port, with_rest};
+
+/// How strictly a host is read.
+#[derive(Clone, Copy, PartialEq, Eq)]
+pub(crate) enum Mode {
+    /// As HTTP has it: escapes stay, and brackets hold an IPv6 literal.
+    Strict,
+    /// As Git's own transports have it: an IPv6 text needs no brackets.
+    Bare,
+    /// As any other scheme has it.
+    Loose,
+}
+
+/// The text of a host as it stands in the input, with what has to be done to it.
+#[derive(Clone, Copy)]
+pub enum HostPiece<'a> {
+    /// A host of lower-case letters, digits, `-` and `.`: it stands for itself in every mode.
+    Simple(&'a [u8]),
+    /// An IPv6 text without brackets, perhaps with a colon behind it: it is lowercased.
+    Address(&'a [u8]),
+    /// A host of HTTP: its escapes stay.
+    Kept(&'a [u8]),
+    /// Any other host outside brackets: it is decoded.
+    Decoded(&'a [u8]),
+    /// An IPv6 literal between brackets, in HTTP: the address is lowercased, the zone with its `%25` stays.
+    Literal(&'a [u8]),
+    /// The same elsewhere: it is decoded, and the address lowercased.
+    DecodedLiteral(&'a [u8]),
+    /// Any other text between brackets: it is decoded.
+    Bracketed(&'a [u8]),
+}
+
+/// A host, and what follows it.
+#[derive(Clone, Copy)]
+pub struct NamedHost<'a> {
+    /// The host.
+    pub piece: HostPiece<'a>,
+    /// Whether a colon follows it that stays with it.
+    pub keeps_colon: bool,
+    /// The port.
+    pub port: Option<u16>,
+}
+
+/// Reads a host and a port: none where the piece is empty.
+pub(crate) fn read_host(mode: Mode, piece: &[u8]) -> Result<Option<NamedHost<'_>>, UrlFault>
+    ensures named { IfOk result
+        (λ named. Names (strictness mode) piece.now (host_of named) (port_of named)) }
+    ensures text { IfOk result (λ named. IfSome named (λ host. IsUtf8 (named_text host))) }
+    ensures unnamed { IfErr result
+        (λ fault. (host : Option (List ℕ)) (port : Option ℕ)
+        → ¬ Names (strictness mode) piece.now host port) }
+    ensures flaw { IfErr result (λ fault. NameFlaw (strictness mode) piece.now fault) }
+{
+    if piece.is_empty() {
+        return Ok(None);
+    }
+    if let Some(named) = simple_host(piece) {
+        return Ok(Some(named));
+    }
+    let named = read_some(mode, piece)?;
+    Ok(Some(named))
+}
+
+/// The port of a host that may be missing.
+pub fn port_of(host: Option<NamedHost<'_>>) -> Option<u16>
+    ensures { result ≡ port_of host.entry }
+{
+    match host {
+        None => None,
+        Some(host) => host.port,
+    }
+}
+
+/// The host, where the piece is a simple one: most are.
+pub(crate) fn simple_host(piece: &[u8]) -> Option<NamedHost<'_>>
+    ensures simple { IfSome result (λ host. IsSimpleHost piece.now) }
+    ensures host { IfSome result (λ host. named_text host ≡ piece.now) }
+    ensures port { IfSome result (λ host. host.port ≡ None) }
+{
+    if is_simple_host(piece) {
+        Some(alone(HostPiece::Simple(piece)))
+    } else {
+        None
+    }
+}
+
+/// Whether the text is a simple host.
+pub(crate) fn is_simple_host(text: &[u8]) -> bool
+    ensures { IsTrue result → IsSimpleHost text.now }
+{
+    !text.is_empty() && are_simple_bytes(text)
+}
+
+/// Reads a host and a port, where there is something to read.
+fn read_some(mode: Mode, piece: &[u8]) -> Result<NamedHost<'_>, UrlFault>
+    requires { 0 < length piece.now }
+    ensures { ReadsName (strictness mode) piece.now result }
+{
+    match after(piece, b'[') {
+        Some(behind) => read_bracketed(mode, behind),
+        None => read_unbracketed(mode, piece),
+    }
+}
+
+/// Reads what stands behind an opening bracket.
+fn read_bracketed(mode: Mode, behind: &[u8]) -> Result<NamedHost<'_>, UrlFault>
+    ensures { ReadsName (strictness mode) (left_bracket ∷ behind.now) result }
+{
+    match cut(behind, b']') {
+        Some((inner, rest)) => read_brackets(mode, inner, rest),
+        None => Err(UrlFault::BadCharacter),
+    }
+}
+
+/// Reads what stands between brackets, and behind them.
+fn read_brackets<'a>(mode: Mode, inner: &'a [u8], rest: &'a [u8]) -> Result<NamedHost<'a>, UrlFault>
+    requires { FreeOf right_bracket inner.now }
+    ensures { ReadsName (strictness mode)
+        (left_bracket ∷ (inner.now ++ right_bracket ∷ rest.now)) result }
+{
+    if !ends_host(rest) {
+        return Err(UrlFault::BadCharacter);
+    }
+    let Some(host) = read_inner(mode, inner) else {
+        return Err(UrlFault::BadCharacter);
+    };
+    match with_rest(mode, host, rest) {
+        Some(named) => Ok(named),
+        None => Err(UrlFault::BadPort),
+    }
+}
+
+/// Reads a piece without an opening bracket.
+fn read_unbracketed(mode: Mode, piece: &[u8]) -> Result<NamedHost<'_>, UrlFault>
+    requires some { 0 < length piece.now }
+    requires no_bracket { begins_with left_bracket piece.now ≡ false }
+    ensures { ReadsName (strictness mode) piece.now result }
+{
+    let Some((text, digits)) = cut(piece, b':') else {
+        return read_plain(mode, piece);
+    };
+    if text.is_empty() || !is_free_of(digits, b':') {
+        return read_colons(mode, piece);
+    }
+    if !are_digits(digits) {
+        return Err(UrlFault::BadPort);
+    }
+    let Some(host) = read_text(mode, text) else {
+        return Err(UrlFault::BadCharacter);
+    };
+    match with_port(mode, host, digits) {
+        Some(named) => Ok(named),
+        None => Err(UrlFault::BadPort),
+    }
+}
+
+/// Reads a piece without a colon.
+fn read_plain(mode: Mode, piece: &[u8]) -> Result<NamedHost<'_>, UrlFault>
+    requires { spec.IsPlainHost piece.now }
+    ensures { ReadsName (strictness mode) piece.now result }
+{
+    match read_text(mode, piece) {
+        Some(host) => Ok(alone(host)),
+        None => Err(UrlFault::BadCharacter),
+    }
+}
+
+/// Reads a piece whose colons mark no port.
+fn read_colons(mode: Mode, piece: &[u8]) -> Result<NamedHost<'_>, UrlFault>
+    requires no_bracket { begins_with left_bracket piece.now ≡ false }
+    requires colons { IsManyColoned piece.now }
+    ensures { ReadsName (strictness mode) piece.now result }
+{
+    if is_strict(mode) {
+        return Err(UrlFault::BadCharacter);
+    }
+    if reads_address(mode, piece) {
+        return Ok(alone(HostPiece::Address(piece)));
+    }
+    match read_text(mode, piece) {
+        Some(host) => Ok(alone(host)),
+        None => Err(UrlFault::BadCharacter),
+    }
+}
+
+/// A host with nothing behind it.
+fn alone(piece: HostPiece<'_>) -> NamedHost<'_>
+    ensures host { named_text result ≡ meant_host piece.entry }
+    ensures port { result.port ≡ None }
+{
+    NamedHost {
+        piece,
+        keeps_colon: false,
+        port: None,
+    }
+}
+
+/// Whether the mode is that of HTTP.
+fn is_strict(mode: Mode) -> bool
+    ensures { IsTrue result ↔ (strictness mode ≡ spec.Mode.strict) }
+{
+    matches!(mode, Mode::Strict)
+}
+
+/// Whether the piece is an address that needs no brackets.
+fn reads_address(mode: Mode, piece: &[u8]) -> bool
+    ensures { IsTrue result ↔ ReadsAddress (strictness mode) piece.now }
+{
+    match mode {
+        Mode::Bare => is_address_piece(piece),
+        Mode::Strict | Mode::Loose => false,
+    }
+}
+
+/// Whether the piece is an IPv6 text, perhaps with a colon behind it.
+fn is_address_piece(piece: &[u8]) -> bool
+    ensures { IsTrue result ↔ IsAddressPiece piece.now }
+{
+    if is_address(piece) {
+        return true;
+    }
+    match before(piece, b':') {
+        Some(address) => is_address(address),
+        None => false,
+    }
+}
+
+/// The host that a text outside brackets stands for.
+fn read_text(mode: Mode, text: &[u8]) -> Option<HostPiece<'_>>
+    ensures { MatchOption result (IsNoHost (strictness mode) text.now)
+        (λ piece. HostText (strictness mode) text.now (meant_host piece)) }
+{
+    match mode {
+        Mode::Strict => {
+            if are_http_host_bytes(text) {
+                Some(HostPiece::Kept(text))
+            } else {
+                None
+            }
+        }
+        Mode::Bare | Mode::Loose => {
+            if decodes_to_utf8(text) {
+                Some(HostPiece::Decoded(text))
+            } else {
+                None
+            }
+        }
+    }
+}
+
+/// The host that a text between brackets stands for.
+fn read_inner(mode: Mode, text: &[u8]) -> Option<HostPiece<'_>>
+    ensures { MatchOption result (IsNoInner (strictness mode) text.now)
+        (λ piece. IsInner (strictness mode) text.now (meant_host piece)) }
+{
+    if is_literal(text) {
+        return Some(literal(mode, text));
+    }
+    read_no_literal(mode, text)
+}
+
+/// The piece of a literal, which is decoded but for HTTP.
+fn literal(mode: Mode, text: &[u8]) -> HostPiece<'_>
+    ensures { meant_host result ≡ in_brackets (shown_literal (strictness mode) text.now) }
+{
+    match mode {
+        Mode::Strict => HostPiece::Literal(text),
+        Mode::Bare | Mode::Loose => HostPiece::DecodedLiteral(text),
+    }
+}
+
+/// The host that a text between brackets stands for that is no literal.
+fn read_no_literal(mode: Mode, text: &[u8]) -> Option<HostPiece<'_>>
+    requires { ¬ IsLiteral text.now }
+    ensures { MatchOption result (IsNoInner (strictness mode) text.now)
+        (λ piece. IsInner (strictness mode) text.now (meant_host piece)) }
+{
+    match mode {
+        Mode::Strict => None,
+        Mode::Bare | Mode::Loose => {
+            if decodes_to_utf8(text) {
+                Some(HostPiece::Bracketed(text))
+            } else {
+                None
+            }
+        }
+    }
+}

@@ -1,0 +1,153 @@
+//! The text of a host, made of the slices that were read of it.
+//!
+//! It may use `bytes`, `escape` and `text`. Its contract: the text is the host that the slices stand for. It is written
+//! into a room that the caller has, or into memory of its own, which is asked for once.
+
+ghost use Rattle.std.specs.Prelude.{◌≡◌, ◌+◌, ◌≤◌, ◌++◌, IfOk, IsUtf8, drop, length, string_bytes, take};
+ghost use Rattle.git_syntax.specs.Bytes.{lowercase};
+ghost use Rattle.git_syntax.specs.Hosts as spec;
+ghost use Rattle.git_syntax.specs.HostPieces.{is_bracketed, lowercase_address, meant_host, named_text, normal_case, slice_text, unescaped_host};
+
+use crate::host::bytes::looks_like_domain;
+use crate::host::{HostPiece, NamedHost};
+use crate::bytes::{copy_into, cut};
+use crate::escape::decode_into;
+use crate::text::into_text;
+use std::alloc::{AllocError, Global};
+
+impl NamedHost<'_> {
+    /// The text of the host.
+    pub fn build(self, alloc: Global) -> Result<String, AllocError>
+        requires { IsUtf8 (named_text self) }
+        ensures { IfOk result (λ s. string_bytes s ≡ named_text self.entry) }
+    {
+        let mut text = vec![in alloc; 0; piece_bytes(self.piece).len() + 3]?;
+        let size = self.put_into(&mut text);
+        text.truncate(size);
+        Ok(into_text(text))
+    }
+
+    /// Writes the text of the host into the front of the room, and returns its length.
+    pub fn put_into(self, room: &mut [u8]) -> usize
+        requires { length (named_text self) ≤ length room.old }
+        ensures size { result ≡ length (named_text self.entry) }
+        ensures bytes { take result room.new ≡ named_text self.entry }
+    {
+        let size = write_piece(room, self.piece);
+        if !self.keeps_colon {
+            return size;
+        }
+        room[size] = b':';
+        size + 1
+    }
+}
+
+/// The slice that a piece holds.
+fn piece_bytes(piece: HostPiece<'_>) -> &[u8]
+    ensures { result.now ≡ slice_text piece.entry }
+{
+    match piece {
+        HostPiece::Simple(text)
+        | HostPiece::Address(text)
+        | HostPiece::Kept(text)
+        | HostPiece::Decoded(text)
+        | HostPiece::Literal(text)
+        | HostPiece::DecodedLiteral(text)
+        | HostPiece::Bracketed(text) => text,
+    }
+}
+
+/// Writes the host that a piece stands for into the front of the room, and returns its length.
+fn write_piece(room: &mut [u8], piece: HostPiece<'_>) -> usize
+    requires { length (meant_host piece) ≤ length room.old }
+    ensures size { result ≡ length (meant_host piece.entry) }
+    ensures bytes { take result room.new ≡ meant_host piece.entry }
+{
+    if !is_bracketed(piece) {
+        return write_shown(room, piece);
+    }
+    let (front, behind) = room.split_at_mut(1);
+    front[0] = b'[';
+    let size = write_shown(behind, piece);
+    behind[size] = b']';
+    size + 2
+}
+
+/// Whether brackets stand around the host.
+fn is_bracketed(piece: HostPiece<'_>) -> bool
+    ensures { result ≡ is_bracketed piece.entry }
+{
+    match piece {
+        HostPiece::Simple(_) | HostPiece::Address(_) | HostPiece::Kept(_) | HostPiece::Decoded(_) =>
+            false,
+        HostPiece::Literal(_) | HostPiece::DecodedLiteral(_) | HostPiece::Bracketed(_) => true,
+    }
+}
+
+/// Writes what a piece shows, without its brackets, into the front of the room, and returns its length.
+fn write_shown(room: &mut [u8], piece: HostPiece<'_>) -> usize
+    requires { length (unescaped_host piece) ≤ length room.old }
+    ensures size { result ≡ length (unescaped_host piece.entry) }
+    ensures bytes { take result room.new ≡ normal_case piece.entry (unescaped_host piece.entry) }
+{
+    let size = write_unescaped(room, piece);
+    settle(&mut room[..size], piece);
+    size
+}
+
+/// Writes the text of a piece, decoded where it has to be, into the front of the room, and returns its length.
+fn write_unescaped(room: &mut [u8], piece: HostPiece<'_>) -> usize
+    requires { length (unescaped_host piece) ≤ length room.old }
+    ensures size { result ≡ length (unescaped_host piece.entry) }
+    ensures bytes { take result room.new ≡ unescaped_host piece.entry }
+{
+    match piece {
+        HostPiece::Simple(text)
+        | HostPiece::Address(text)
+        | HostPiece::Kept(text)
+        | HostPiece::Literal(text) => copy_into(room, text),
+        HostPiece::Decoded(text) | HostPiece::DecodedLiteral(text) | HostPiece::Bracketed(text) =>
+            decode_into(room, text),
+    }
+}
+
+/// Brings the letters of a host to the case that they are shown in.
+fn settle(host: &mut [u8], piece: HostPiece<'_>)
+    ensures { host.new ≡ normal_case piece.entry host.old }
+{
+    match piece {
+        HostPiece::Address(_) => host.make_ascii_lowercase(),
+        HostPiece::Kept(_) | HostPiece::Decoded(_) => normalize(host),
+        HostPiece::Literal(_) | HostPiece::DecodedLiteral(_) => lowercase_address(host),
+        HostPiece::Simple(_) | HostPiece::Bracketed(_) => {}
+    }
+}
+
+/// Lowercases a host that looks like a domain name.
+pub fn normalize(host: &mut [u8])
+    ensures { host.new ≡ spec.normal_host host.old }
+{
+    if looks_like_domain(host) {
+        host.make_ascii_lowercase();
+    }
+}
+
+/// Lowercases what stands before the first `%`, or all where there is none.
+pub fn lowercase_address(literal: &mut [u8])
+    ensures { literal.new ≡ lowercase_address literal.old }
+{
+    let end = address_len(literal);
+    literal[..end].make_ascii_lowercase();
+}
+
+/// How many bytes stand before the first `%`.
+fn address_len(literal: &[u8]) -> usize
+    ensures within { result ≤ length literal.now }
+    ensures cut { lowercase_address literal.now ≡ lowercase (take result literal.now)
+        ++ drop result literal.now }
+{
+    match cut(literal, b'%') {
+        Some((address, _)) => address.len(),
+        None => literal.len(),
+    }
+}

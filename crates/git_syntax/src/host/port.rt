@@ -1,0 +1,97 @@
+//! What follows a host: nothing, a colon that stays with it, or a colon and a port.
+//!
+//! It may use `bytes` and `text`, and asks for no memory. Its contract: a port is read exactly where the definitions
+//! have one, and a host is told together with what follows it.
+
+ghost use Rattle.std.specs.Prelude.{◌≡◌, ◌↔◌, ◌∷◌, ℕ, IsTrue, MatchOption, Some};
+ghost use Rattle.std.specs.Char.{is_ascii_digit};
+ghost use Rattle.std.specs.List.{list_all};
+ghost use Rattle.git_syntax.specs.Bytes.{colon};
+ghost use Rattle.git_syntax.specs.Flaws.{IsNoPort};
+ghost use Rattle.git_syntax.specs.Hosts as spec;
+ghost use Rattle.git_syntax.specs.Hosts.{Number};
+ghost use Rattle.git_syntax.specs.HostPieces.{EndsHost, Follows, IsBadPort, meant_host, named_text, strictness};
+
+use crate::host::{HostPiece, Mode, NamedHost, alone};
+use crate::bytes::{after, starts_with_byte};
+use crate::text::as_text;
+
+/// A host with what follows it: nothing, or a colon and perhaps a port.
+pub(super) fn with_rest<'a>(mode: Mode, piece: HostPiece<'a>, rest: &[u8]) -> Option<NamedHost<'a>>
+    requires { EndsHost rest.now }
+    ensures { MatchOption result (IsBadPort (strictness mode) rest.now)
+        (λ named. Follows (strictness mode) (meant_host piece.entry) rest.now
+        (Some (named_text named)) named.port) }
+{
+    match after(rest, b':') {
+        Some(digits) => with_port(mode, piece, digits),
+        None => Some(alone(piece)),
+    }
+}
+
+/// Whether a host may end before the text: it is empty or begins with a colon.
+pub(super) fn ends_host(rest: &[u8]) -> bool
+    ensures { IsTrue result ↔ EndsHost rest.now }
+{
+    rest.is_empty() || starts_with_byte(rest, b':')
+}
+
+/// A host with a colon and this text behind it: the colon stays where the text is empty, else the text is the port.
+pub(super) fn with_port<'a>(
+    mode: Mode,
+    piece: HostPiece<'a>,
+    digits: &[u8],
+) -> Option<NamedHost<'a>>
+    ensures { MatchOption result (IsNoPort (strictness mode) digits.now)
+        (λ named. Follows (strictness mode) (meant_host piece.entry) (colon ∷ digits.now)
+        (Some (named_text named)) named.port) }
+{
+    if digits.is_empty() {
+        return Some(NamedHost {
+            piece,
+            keeps_colon: true,
+            port: None,
+        });
+    }
+    let port = read_port(mode, digits)?;
+    Some(NamedHost {
+        piece,
+        keeps_colon: false,
+        port: Some(port),
+    })
+}
+
+/// The port that the digits spell.
+fn read_port(mode: Mode, digits: &[u8]) -> Option<u16>
+    ensures { MatchOption result ((port : ℕ) → ¬ Number (strictness mode) digits.now port)
+        (λ port. Number (strictness mode) digits.now port) }
+{
+    if !are_digits(digits) {
+        return None;
+    }
+    let Ok(port) = as_text(digits).parse::<u16>() else {
+        return None;
+    };
+    if allows_port(mode, port) {
+        Some(port)
+    } else {
+        None
+    }
+}
+
+/// Whether each byte is a decimal digit.
+pub(super) fn are_digits(text: &[u8]) -> bool
+    ensures { result ≡ list_all is_ascii_digit text.now }
+{
+    text.iter().all(|byte| byte.is_ascii_digit())
+}
+
+/// Whether the port is allowed.
+fn allows_port(mode: Mode, port: u16) -> bool
+    ensures { IsTrue result ↔ spec.AllowsPort (strictness mode) port }
+{
+    match mode {
+        Mode::Strict => port > 0,
+        Mode::Bare | Mode::Loose => true,
+    }
+}

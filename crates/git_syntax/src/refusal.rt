@@ -1,0 +1,105 @@
+//! The errors of reading without memory: why a text is refused, told of the text itself.
+//!
+//! It uses the forms and the faults of `error`. What these errors tell of a text are numbers, names and a slice of it, so
+//! making one takes no memory. `Display` says them in the words of [`Error`](crate::Error).
+
+use crate::refusal::{UrlFault, UrlKind};
+use thiserror::Error;
+
+/// The form that a text was taken for. `Display` names it, as in `the URL has no path`.
+///
+/// ```
+/// fn is_scp(error: &Error) -> bool {
+///     matches!(
+///         error,
+///         Error::MissingPath {
+///             kind: UrlKind::Scp,
+///             ..
+///         }
+///     )
+/// }
+/// ```
+#[derive(Clone, Copy, Debug, PartialEq, Eq)]
+pub enum UrlKind {
+    /// A URL: `://` stands in it.
+    Url,
+    /// The form `user@host:path` of `scp`.
+    Scp,
+    /// A path of the local file system. The Rust crate's type has it too; no error of this library does.
+    Local,
+}
+
+/// What is wrong with a URL, or with the host of the scp form. `Display` says it in words.
+///
+/// ```
+/// fn has_bad_port(error: &Error) -> bool {
+///     matches!(
+///         error,
+///         Error::BadUrl {
+///             fault: UrlFault::BadPort,
+///             ..
+///         }
+///     )
+/// }
+/// ```
+#[derive(Clone, Copy, Debug, PartialEq, Eq)]
+pub enum UrlFault {
+    /// What stands before `://` is no scheme.
+    NoScheme,
+    /// What stands in a port's place is no port.
+    BadPort,
+    /// A byte or a character stands where it is not allowed, or an escape is broken or stands for no text.
+    BadCharacter,
+    /// The scheme, or the scp form, needs a host.
+    HostRequired,
+}
+
+/// Why a text spells no location. It borrows from the text, which isn't told with it but for a front.
+///
+/// `Display` says it in words, which show no byte of the text; `Debug` shows the length of a front in place of its bytes.
+///
+/// ```
+/// fn has_bad_port(refusal: &Refusal<'_>) -> bool {
+///     matches!(
+///         refusal,
+///         Refusal::BadUrl {
+///             fault: UrlFault::BadPort,
+///             ..
+///         }
+///     )
+/// }
+/// ```
+#[derive(Clone, Copy, Error)]
+pub enum Refusal<'a> {
+    /// The text is empty.
+    #[error("the location is empty")]
+    EmptyLocal,
+    /// A path is wanted and there is none.
+    #[error("the {kind} has no path")]
+    MissingPath {
+        /// The form that the text was taken for.
+        kind: UrlKind,
+    },
+    /// The text is not UTF-8.
+    #[error("the {kind} is not UTF-8")]
+    NotUtf8 {
+        /// The form that the text was taken for.
+        kind: UrlKind,
+    },
+    /// The scheme or the authority is too long.
+    #[error("the scheme or the authority of the URL is longer than 1024 bytes, in a text of {total} bytes")]
+    TooLong {
+        /// The front of the text: the scheme, `://` and the 1,024 bytes behind it, or the whole where it is shorter.
+        shown: &'a [u8],
+        /// The length of the text, in bytes.
+        total: usize,
+    },
+    /// The text is no URL, or the host of the scp form is none.
+    #[error("the {kind} has {fault}")]
+    BadUrl {
+        /// The form that the text was taken for.
+        kind: UrlKind,
+        /// What is wrong.
+        fault: UrlFault,
+    },
+}

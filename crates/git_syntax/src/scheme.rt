@@ -1,0 +1,183 @@
+//! Schemes: the protocols that have a name of their own, and the others by name.
+//!
+//! It uses nothing of this crate but its errors. Its contract: names and default ports are those of the definitions, and a
+//! scheme's text stands for its protocol to the letter.
+
+ghost use Rattle.std.specs.Prelude.{◌≡◌, bytes_eq};
+ghost use Rattle.git_syntax.specs.SchemeRules.{named_protocol};
+ghost use Rattle.git_syntax.specs.Schemes.{protocol_of, protocol_text, default_port_of, is_known_scheme, is_ssh_scheme, is_web_scheme};
+ghost use Rattle.git_syntax.specs.Schemes.{is_ftp};
+ghost use Rattle.git_syntax.specs.Views.{lent_protocol};
+
+
+/// What a borrowed location is reached by: a [`Scheme`] whose name is a slice. Copies take no memory.
+///
+/// ```
+/// fn is_encrypted(scheme: SchemeRef<'_>) -> bool {
+///     matches!(scheme, SchemeRef::Ssh | SchemeRef::Https)
+/// }
+/// ```
+#[derive(Clone, Copy)]
+pub enum SchemeRef<'a> {
+    /// A path of the local file system, or a `file` URL.
+    File,
+    /// Git's own protocol.
+    Git,
+    /// Secure Shell.
+    Ssh,
+    /// HTTP.
+    Http,
+    /// HTTP, encrypted.
+    Https,
+    /// The remote helper `ext`, which runs a command.
+    Ext,
+    /// Another remote helper, by its name, as in `name::address`.
+    Helper(&'a str),
+    /// The scheme of any other URL, which Git hands to the remote helper of that name.
+    HelperUrl(&'a str),
+}
+
+impl<'a> SchemeRef<'a> {
+    /// The scheme with this text, which names this protocol.
+    pub fn of_protocol(named: Protocol, text: &'a str) -> SchemeRef<'a>
+        ensures { lent_protocol result ≡ named_protocol named text.now }
+    {
+        match named {
+            Protocol::File => SchemeRef::File,
+            Protocol::Git => SchemeRef::Git,
+            Protocol::Ssh => SchemeRef::Ssh,
+            Protocol::Http => SchemeRef::Http,
+            Protocol::Https => SchemeRef::Https,
+            Protocol::Ext => SchemeRef::Ext,
+            Protocol::Other => SchemeRef::HelperUrl(text),
+        }
+    }
+
+    /// The text that the scheme is written with, as [`Scheme::as_str`] has it. It takes no memory.
+    ///
+    /// ```
+    /// /// The protocol of a location, for as long as what lends it.
+    /// fn protocol_of<'a>(url: &UrlRef<'a>) -> &'a str {
+    ///     url.scheme.as_str() // `ssh` of `git@host:repo`
+    /// }
+    /// ```
+    pub fn as_str(self) -> &'a str
+        ensures { result.now ≡ protocol_text (lent_protocol self.entry) }
+    {
+        match self {
+            SchemeRef::File => "file",
+            SchemeRef::Git => "git",
+            SchemeRef::Ssh => "ssh",
+            SchemeRef::Http => "http",
+            SchemeRef::Https => "https",
+            SchemeRef::Ext => "ext",
+            SchemeRef::Helper(name) => name,
+            SchemeRef::HelperUrl(name) => name,
+        }
+    }
+
+    /// The port that the scheme stands for where a location names none, as [`Scheme::default_port`] has it.
+    /// It takes no memory.
+    ///
+    /// ```
+    /// fn port_of(scheme: SchemeRef<'_>) -> u16 {
+    ///     scheme.default_port().unwrap_or(0) // 9418 of `SchemeRef::Git`, 0 of `SchemeRef::File`
+    /// }
+    /// ```
+    #[inline(always)]
+    pub fn default_port(self) -> Option<u16>
+        ensures { result ≡ default_port_of (lent_protocol self.entry) }
+    {
+        match self {
+            SchemeRef::Http => Some(80),
+            SchemeRef::Https => Some(443),
+            SchemeRef::Ssh => Some(22),
+            SchemeRef::Git => Some(9418),
+            SchemeRef::File | SchemeRef::Ext | SchemeRef::Helper(_) | SchemeRef::HelperUrl(_) =>
+                None,
+        }
+    }
+}
+
+/// The protocol that the text of a scheme names, to the letter.
+#[derive(Clone, Copy)]
+pub enum Protocol {
+    /// The local file system.
+    File,
+    /// Git's own protocol.
+    Git,
+    /// Secure Shell.
+    Ssh,
+    /// HTTP.
+    Http,
+    /// HTTP, encrypted.
+    Https,
+    /// The remote helper `ext`.
+    Ext,
+    /// Any other, which has no name but the text.
+    Other,
+}
+
+/// The protocol that the text of a scheme names.
+pub fn protocol_of(text: &[u8]) -> Protocol
+    ensures { named_protocol result text.now ≡ protocol_of text.now }
+{
+    if is_ssh_scheme(text) {
+        return Protocol::Ssh;
+    }
+    if is_named(text, "file") {
+        return Protocol::File;
+    }
+    if is_named(text, "git") {
+        return Protocol::Git;
+    }
+    if is_named(text, "http") {
+        return Protocol::Http;
+    }
+    if is_named(text, "https") {
+        return Protocol::Https;
+    }
+    if is_named(text, "ext") {
+        return Protocol::Ext;
+    }
+    Protocol::Other
+}
+
+/// Whether the text is a scheme that has a name of its own.
+pub fn is_known_scheme(text: &[u8]) -> bool
+    ensures { result ≡ is_known_scheme text.now }
+{
+    is_ssh_scheme(text)
+        || is_web_scheme(text)
+        || is_named(text, "file")
+        || is_named(text, "git")
+        || is_named(text, "ext")
+}
+
+/// Whether the text is one of Secure Shell's names.
+fn is_ssh_scheme(text: &[u8]) -> bool
+    ensures { result ≡ is_ssh_scheme text.now }
+{
+    is_named(text, "ssh") || is_named(text, "ssh+git") || is_named(text, "git+ssh")
+}
+
+/// Whether the text is HTTP's name, with or without encryption.
+pub(crate) fn is_web_scheme(text: &[u8]) -> bool
+    ensures { result ≡ is_web_scheme text.now }
+{
+    is_named(text, "http") || is_named(text, "https")
+}
+
+/// Whether the text is one of FTP's names, whose URLs need a host.
+pub fn is_ftp(text: &[u8]) -> bool
+    ensures { result ≡ is_ftp text.now }
+{
+    is_named(text, "ftp") || is_named(text, "ftps")
+}
+
+/// Whether the text is the name, to the letter.
+pub(crate) fn is_named(text: &[u8], name: &str) -> bool
+    ensures { result ≡ bytes_eq text.now name.now }
+{
+    text == name.as_bytes()
+}

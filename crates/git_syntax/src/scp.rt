@@ -1,0 +1,191 @@
+//! The scp form, from the pieces that the classifier cut.
+//!
+//! It may use `bytes`, `text`, `escape`, `ipv6`, `host`, `found` and the errors. Its contract: the slices of a location
+//! are found exactly where the definitions spell one, and each refusal has its flaw. It takes no memory. An escape in
+//! the host is no escape: a `%` in it stands for itself.
+
+ghost use Rattle.std.specs.Prelude.{◌≡◌, ◌↔◌, ◌∷◌, IfErr, IfOk, IsTrue, IsUtf8, false, length, ◌+◌, ◌<◌, ◌≤◌, true};
+ghost use Rattle.git_syntax.specs.Addresses.{IsZone};
+ghost use Rattle.git_syntax.specs.Bytes.{FreeOf, LacksWhiteSpace, at_sign, begins_with, left_bracket};
+ghost use Rattle.git_syntax.specs.Escapes as spec;
+ghost use Rattle.git_syntax.specs.Flaws.{NamesFlaw};
+ghost use Rattle.git_syntax.specs.FoundPieces.{IsReady, meant, room_for, scp_slice};
+ghost use Rattle.git_syntax.specs.Grammar.{AddressedShape, SpellsScpAddressed, SpellsScpBefore};
+ghost use Rattle.git_syntax.specs.Hosts.{IsLiteral};
+ghost use Rattle.git_syntax.specs.Shapes.{PlainScp};
+ghost use Rattle.git_syntax.specs.ScpPieces.{ColonsInside, CutsUser, ReadsScpHost, ReadsScpPiece};
+
+use crate::found::{Found, ScpHost};
+use crate::host::bytes::are_zone_bytes;
+use crate::host::is_simple_host;
+use crate::bytes::{after, cut, is_free_of, last_cut};
+use crate::refusal::{UrlFault, UrlKind};
+use crate::escape::lacks_white_space;
+use crate::ipv6::is_address;
+use crate::refusal::Refusal;
+use crate::text::{as_text, is_plain, is_text};
+
+/// Finds the slices of the scp form: a host, perhaps behind a user, a colon and a path.
+pub(crate) fn find_scp<'a>(
+    input: &'a [u8],
+    front: &'a [u8],
+    path: &'a [u8],
+) -> Result<Found<'a>, Refusal<'a>>
+    requires { PlainScp input.now front.now path.now }
+    ensures found { IfOk result (λ found. SpellsScpBefore input.now (meant found)) }
+    ensures ready { IfOk result (λ found. IsReady found) }
+    ensures room { IfOk result (λ found. room_for found ≤ length input.now) }
+    ensures flaw { IfErr result (λ refusal. NamesFlaw input.now refusal) }
+{
+    let plain = is_plain(input);
+    if !is_utf8(plain, input) {
+        return Err(Refusal::NotUtf8 { kind: UrlKind::Scp });
+    }
+    if path.is_empty() {
+        return Err(Refusal::MissingPath { kind: UrlKind::Scp });
+    }
+    let (user, host) = cut_front_user(front);
+    match find_host(plain, host) {
+        Ok(host) => Ok(Found::Scp { user, host, path }),
+        Err(fault) => Err(Refusal::BadUrl {
+            kind: UrlKind::Scp,
+            fault,
+        }),
+    }
+}
+
+/// Whether the text is UTF-8, as a plain one is.
+fn is_utf8(plain: bool, text: &[u8]) -> bool
+    requires { plain ≡ true → spec.is_plain text.now ≡ true }
+    ensures { IsTrue result ↔ IsUtf8 text.now }
+{
+    plain || str::from_utf8(text).is_ok()
+}
+
+/// Finds the slices of the scp form with an IPv6 text between brackets behind the user.
+pub(crate) fn find_addressed<'a>(
+    input: &'a [u8],
+    user: &'a [u8],
+    address: &'a [u8],
+    path: &'a [u8],
+) -> Result<Found<'a>, Refusal<'a>>
+    requires { AddressedShape input.now user.now address.now path.now }
+    ensures found { IfOk result (λ found. SpellsScpAddressed input.now (meant found)) }
+    ensures ready { IfOk result (λ found. IsReady found) }
+    ensures room { IfOk result (λ found. room_for found ≤ length input.now) }
+    ensures flaw { IfErr result (λ refusal. NamesFlaw input.now refusal) }
+{
+    if !is_text(input) {
+        return Err(Refusal::NotUtf8 { kind: UrlKind::Scp });
+    }
+    if path.is_empty() {
+        return Err(Refusal::MissingPath { kind: UrlKind::Scp });
+    }
+    Ok(Found::Scp {
+        user: Some(user),
+        host: ScpHost::Literal(address),
+        path,
+    })
+}
+
+/// The user and the host of a front: the user ends at the last `@`.
+fn cut_front_user(front: &[u8]) -> (Option<&[u8]>, &[u8])
+    ensures { CutsUser front.now result.0 result.1.now }
+{
+    match last_cut(front, b'@') {
+        Some((user, host)) => (Some(user), host),
+        None => (None, front),
+    }
+}
+
+/// Finds the host of the scp form. What is known to be plain isn't looked at again for white space.
+fn find_host(plain: bool, host: &[u8]) -> Result<ScpHost<'_>, UrlFault>
+    requires plain { plain ≡ true → spec.is_plain host.now ≡ true }
+    requires text { IsUtf8 host.now }
+    requires no_at { FreeOf at_sign host.now }
+    requires colons { ColonsInside host.now }
+    ensures read { ReadsScpHost host.now result }
+    ensures within { IfOk result (λ found. length (scp_slice found) ≤ length host.now) }
+{
+    if is_simple_host(host) {
+        return Ok(ScpHost::Kept(host));
+    }
+    if !has_no_white_space(plain, host) {
+        return Err(UrlFault::BadCharacter);
+    }
+    if !is_free_of(host, b'\\') {
+        return Err(UrlFault::BadCharacter);
+    }
+    if host.is_empty() {
+        return Err(UrlFault::HostRequired);
+    }
+    match after(host, b'[') {
+        Some(behind) => find_in_brackets(behind),
+        None => find_name(host),
+    }
+}
+
+/// Whether the text holds no white space, as a plain one doesn't.
+fn has_no_white_space(plain: bool, text: &[u8]) -> bool
+    requires plain { plain ≡ true → spec.is_plain text.now ≡ true }
+    requires text { IsUtf8 text.now }
+    ensures { IsTrue result ↔ LacksWhiteSpace text.now }
+{
+    plain || lacks_white_space(as_text(text))
+}
+
+/// Finds a host that has no bracket in front. Where it holds a colon, a bracket stands behind that, so that no port
+/// follows.
+fn find_name(host: &[u8]) -> Result<ScpHost<'_>, UrlFault>
+    requires some { 0 < length host.now }
+    requires open_front { begins_with left_bracket host.now ≡ false }
+    requires text { IsUtf8 host.now }
+    requires colons { ColonsInside host.now }
+    ensures read { ReadsScpPiece host.now result }
+    ensures within { IfOk result (λ found. length (scp_slice found) ≤ length host.now) }
+{
+    let Some((front, behind)) = cut(host, b':') else {
+        return Ok(ScpHost::Name(host));
+    };
+    if front.is_empty() || !is_free_of(behind, b':') {
+        return Ok(ScpHost::Name(host));
+    }
+    Err(UrlFault::BadPort)
+}
+
+/// Finds the host that has this behind a bracket in front: the bracket that closes it is the last byte.
+fn find_in_brackets(behind: &[u8]) -> Result<ScpHost<'_>, UrlFault>
+    requires text { IsUtf8 (left_bracket ∷ behind.now) }
+    requires colons { ColonsInside (left_bracket ∷ behind.now) }
+    ensures read { ReadsScpPiece (left_bracket ∷ behind.now) result }
+    ensures within { IfOk result (λ found. length (scp_slice found) ≤ length behind.now) }
+{
+    let Some((inner, rest)) = cut(behind, b']') else {
+        return Err(UrlFault::BadCharacter);
+    };
+    if !rest.is_empty() {
+        return Err(UrlFault::BadCharacter);
+    }
+    if is_literal(inner) {
+        Ok(ScpHost::Literal(inner))
+    } else {
+        Ok(ScpHost::Kept(inner))
+    }
+}
+
+/// Whether the text is an IPv6 literal with its `%` unescaped: an address, or one with a `%` and a zone behind it.
+fn is_literal(text: &[u8]) -> bool
+    ensures { IsTrue result ↔ IsLiteral (spec.escaped_percents text.now) }
+{
+    match cut(text, b'%') {
+        Some((address, zone)) => is_address(address) && is_zone(zone),
+        None => is_address(text),
+    }
+}
+
+/// Whether the text is the zone of an address with its `%` unescaped.
+fn is_zone(text: &[u8]) -> bool
+    ensures { IsTrue result ↔ IsZone (spec.escaped_percents text.now) }
+{
+    !text.is_empty() && are_zone_bytes(text)
+}

@@ -1,0 +1,282 @@
+//! The reader of URLs: scheme, user information, host, port and path, as slices of the text.
+//!
+//! It may use `bytes`, `escape`, `host` and `rules`. Its contract: the parts are read exactly where the definitions
+//! spell a URL with them, and each refusal has its flaw. It takes no memory and copies nothing.
+
+ghost use Rattle.std.specs.Prelude.{◌≡◌, ◌↔◌, ◌⊎◌, IfErr, IfOk, IsTrue, IsUtf8, MatchOption, true};
+ghost use Rattle.percent_encoding.specs.Percent.{percent_decode};
+ghost use Rattle.git_syntax.specs.Authority as authority;
+ghost use Rattle.git_syntax.specs.Authority.{Fits};
+ghost use Rattle.git_syntax.specs.Escapes as escape;
+ghost use Rattle.git_syntax.specs.Escapes.{is_plain};
+ghost use Rattle.git_syntax.specs.Flaws.{AuthorityFlaw, OtherShape, UrlFlaw};
+ghost use Rattle.git_syntax.specs.Grammar.{SpellsParts, UrlParts};
+ghost use Rattle.git_syntax.specs.HostPieces.{strictness};
+ghost use Rattle.git_syntax.specs.SchemeRules.{AreRulesOf};
+ghost use Rattle.git_syntax.specs.Bytes.{FreeOf, LacksWhiteSpace, at_sign, backslash, colon};
+ghost use Rattle.git_syntax.specs.UrlPieces.{HasNoText, HoldsCredentials, HoldsParts, IsNoAuthority, decoded_option, parts_of};
+
+use crate::host::{Mode, NamedHost, read_host, simple_host};
+use crate::rules::Rules;
+use crate::bytes::{cut, cut_before_path, is_free_of, is_scheme_text, last_cut};
+use crate::refusal::UrlFault;
+use crate::escape::{decodes_to_utf8, has_percent, is_sound, lacks_white_space};
+
+/// The parts of a URL, as slices of its text: nothing is decoded, nothing is copied.
+#[derive(Clone, Copy)]
+pub struct ParsedUrl<'a> {
+    /// The scheme.
+    pub scheme: &'a [u8],
+    /// The user, if there is one, with its escapes.
+    pub user: Option<&'a [u8]>,
+    /// The password, if there is one, with its escapes. It isn't empty.
+    pub password: Option<&'a [u8]>,
+    /// The host and the port.
+    pub host: Option<NamedHost<'a>>,
+    /// The path with its escapes, and with what HTTP has behind it.
+    pub path: &'a [u8],
+    /// Whether the path holds a `%`.
+    pub escaped: bool,
+}
+
+/// What an authority holds, as slices of it.
+#[derive(Clone, Copy)]
+struct AuthorityParts<'a> {
+    /// The user and the password.
+    credentials: CredentialParts<'a>,
+    /// The host and the port.
+    host: Option<NamedHost<'a>>,
+}
+
+/// What user information holds, as slices of it.
+#[derive(Clone, Copy)]
+struct CredentialParts<'a> {
+    /// The user, if there is one, with its escapes.
+    user: Option<&'a [u8]>,
+    /// The password, if there is one, with its escapes. It isn't empty.
+    password: Option<&'a [u8]>,
+}
+
+/// Reads the URL with this scheme, of which these are the rules, and this rest behind `://`. It is no file URL, and
+/// no remote helper. What is known to be plain isn't looked at again for white space.
+pub(crate) fn read_simple_url<'a>(
+    text: &'a str,
+    plain: bool,
+    rules: Rules,
+    scheme: &'a [u8],
+    rest: &'a [u8],
+) -> Result<ParsedUrl<'a>, UrlFault>
+    requires plain { plain ≡ true → is_plain text.now ≡ true }
+    requires shape { OtherShape text.now scheme.now rest.now }
+    requires rules { AreRulesOf scheme.now rules }
+    requires fits { Fits scheme.now rest.now }
+    ensures read { IfOk result (λ url. SpellsParts text.now (parts_of url)) }
+    ensures same_scheme { IfOk result (λ url. url.scheme.now ≡ scheme.now) }
+    ensures escaped { IfOk result (λ url. url.escaped ≡ escape.has_percent url.path.now) }
+    ensures refused { IfErr result (λ fault. (parts : UrlParts) → ¬ SpellsParts text.now parts) }
+    ensures flaw { IfErr result (λ fault. UrlFlaw text.now fault) }
+{
+    if !has_no_white_space(plain, text) {
+        return Err(UrlFault::BadCharacter);
+    }
+    if !has_sound_escapes(plain, text) {
+        return Err(UrlFault::BadCharacter);
+    }
+    if !is_scheme_text(scheme) {
+        return Err(UrlFault::NoScheme);
+    }
+    let (authority, path) = cut_before_path(rest, rules.web);
+    if !means_text(plain, path) {
+        return Err(UrlFault::BadCharacter);
+    }
+    let parts = read_authority(rules.mode, rules.needs_host, authority)?;
+    Ok(parsed(scheme, parts, path, holds_escape(plain, path)))
+}
+
+/// The parts of a URL, from those of its authority.
+fn parsed<'a>(
+    scheme: &'a [u8],
+    parts: AuthorityParts<'a>,
+    path: &'a [u8],
+    escaped: bool,
+) -> ParsedUrl<'a>
+    ensures scheme { result.scheme.now ≡ scheme.now }
+    ensures user { result.user ≡ parts.entry.credentials.user }
+    ensures password { result.password ≡ parts.entry.credentials.password }
+    ensures host { result.host ≡ parts.entry.host }
+    ensures path { result.path.now ≡ path.now }
+    ensures escaped { result.escaped ≡ escaped }
+{
+    ParsedUrl {
+        scheme,
+        user: parts.credentials.user,
+        password: parts.credentials.password,
+        host: parts.host,
+        path,
+        escaped,
+    }
+}
+
+/// Whether no character of the text is white space, as in a plain one.
+fn has_no_white_space(plain: bool, text: &str) -> bool
+    requires { plain ≡ true → is_plain text.now ≡ true }
+    ensures { IsTrue result ↔ LacksWhiteSpace text.now }
+{
+    plain || lacks_white_space(text)
+}
+
+/// Whether every `%` of the text has two hexadecimal digits behind it, as a plain one has none.
+fn has_sound_escapes(plain: bool, text: &str) -> bool
+    requires { plain ≡ true → is_plain text.now ≡ true }
+    ensures { result ≡ escape.is_sound text.now }
+{
+    plain || is_sound(text.as_bytes())
+}
+
+/// Whether the piece decodes to UTF-8, as a plain one does.
+fn means_text(plain: bool, piece: &[u8]) -> bool
+    requires { plain ≡ true → is_plain piece.now ≡ true }
+    ensures { IsTrue result ↔ IsUtf8 (percent_decode piece.now) }
+{
+    plain || decodes_to_utf8(piece)
+}
+
+/// Whether the piece holds a `%`, as a plain one doesn't.
+fn holds_escape(plain: bool, piece: &[u8]) -> bool
+    requires { plain ≡ true → is_plain piece.now ≡ true }
+    ensures { result ≡ escape.has_percent piece.now }
+{
+    if plain {
+        return false;
+    }
+    has_percent(piece)
+}
+
+/// Reads an authority, in which a host may be needed. Mostly it is a simple host.
+fn read_authority(
+    mode: Mode,
+    needed: bool,
+    authority: &[u8],
+) -> Result<AuthorityParts<'_>, UrlFault>
+    ensures read { IfOk result (λ parts. HoldsParts (strictness mode) needed authority.now parts) }
+    ensures clean { IfOk result (λ parts. FreeOf backslash authority.now) }
+    ensures refused { IfErr result (λ fault. (¬ FreeOf backslash authority.now)
+        ⊎ IsNoAuthority (strictness mode) needed authority.now) }
+    ensures flaw { IfErr result
+        (λ fault. AuthorityFlaw (strictness mode) needed authority.now fault) }
+{
+    if let Some(host) = simple_host(authority) {
+        return Ok(AuthorityParts {
+            credentials: CredentialParts {
+                user: None,
+                password: None,
+            },
+            host: Some(host),
+        });
+    }
+    if !is_free_of(authority, b'\\') {
+        return Err(UrlFault::BadCharacter);
+    }
+    read_marked(mode, needed, authority)
+}
+
+/// Reads an authority in which marks may stand.
+fn read_marked(mode: Mode, needed: bool, authority: &[u8]) -> Result<AuthorityParts<'_>, UrlFault>
+    ensures read { IfOk result (λ parts. HoldsParts (strictness mode) needed authority.now parts) }
+    ensures refused { IfErr result (λ fault. IsNoAuthority (strictness mode) needed authority.now) }
+    ensures flaw { IfErr result
+        (λ fault. AuthorityFlaw (strictness mode) needed authority.now fault) }
+{
+    let Some((information, piece)) = last_cut(authority, b'@') else {
+        return read_host_alone(mode, needed, authority);
+    };
+    let Some(credentials) = read_credentials(information) else {
+        return Err(UrlFault::BadCharacter);
+    };
+    match read_host(mode, piece)? {
+        Some(host) => Ok(AuthorityParts {
+            credentials,
+            host: Some(host),
+        }),
+        None => Err(UrlFault::BadCharacter),
+    }
+}
+
+/// Reads an authority without user information.
+fn read_host_alone(
+    mode: Mode,
+    needed: bool,
+    authority: &[u8],
+) -> Result<AuthorityParts<'_>, UrlFault>
+    requires { FreeOf at_sign authority.now }
+    ensures read { IfOk result (λ parts. HoldsParts (strictness mode) needed authority.now parts) }
+    ensures refused { IfErr result (λ fault. IsNoAuthority (strictness mode) needed authority.now) }
+    ensures flaw { IfErr result
+        (λ fault. AuthorityFlaw (strictness mode) needed authority.now fault) }
+{
+    let host = read_host(mode, authority)?;
+    if needed && host.is_none() {
+        return Err(UrlFault::HostRequired);
+    }
+    Ok(AuthorityParts {
+        credentials: CredentialParts {
+            user: None,
+            password: None,
+        },
+        host,
+    })
+}
+
+/// Reads user information: a user, or a user and a password, which decode to text.
+fn read_credentials(information: &[u8]) -> Option<CredentialParts<'_>>
+    ensures { MatchOption result (HasNoText information.now)
+        (λ parts. HoldsCredentials information.now parts) }
+{
+    let Some((user, password)) = cut(information, b':') else {
+        return read_user(information);
+    };
+    if !decodes_to_utf8(password) {
+        return None;
+    }
+    if !decodes_to_utf8(user) {
+        return None;
+    }
+    let password = unless_empty(password);
+    Some(CredentialParts {
+        user: user_beside(password, user),
+        password,
+    })
+}
+
+/// Reads user information without a password.
+fn read_user(information: &[u8]) -> Option<CredentialParts<'_>>
+    requires { FreeOf colon information.now }
+    ensures { MatchOption result (HasNoText information.now)
+        (λ parts. HoldsCredentials information.now parts) }
+{
+    if !decodes_to_utf8(information) {
+        return None;
+    }
+    Some(CredentialParts {
+        user: unless_empty(information),
+        password: None,
+    })
+}
+
+/// The text, unless it is empty.
+fn unless_empty(text: &[u8]) -> Option<&[u8]>
+    ensures { decoded_option result ≡ authority.unless_empty (percent_decode text.now) }
+{
+    if text.is_empty() { None } else { Some(text) }
+}
+
+/// The user beside a password, or beside none: an empty user counts only beside a password.
+fn user_beside<'a>(password: Option<&'a [u8]>, user: &'a [u8]) -> Option<&'a [u8]>
+    ensures { decoded_option result
+        ≡ authority.user_beside (decoded_option password.entry) (percent_decode user.now) }
+{
+    match password {
+        Some(_) => Some(user),
+        None => unless_empty(user),
+    }
+}

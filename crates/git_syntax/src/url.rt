@@ -1,0 +1,164 @@
+//! URLs, from the pieces that the classifier cut: file URLs, and those whose scheme gives them a meaning.
+//!
+//! It may use `bytes`, `rules`, `length`, `text`, `simple_url`, `found` and the errors. Its contract: the slices of a
+//! location are found exactly where the definitions spell one, and each refusal has its flaw. It takes no memory. The
+//! scheme is looked at once, here, and what it says of the rest is handed on.
+
+ghost use Rattle.std.specs.Prelude.{◌≡◌, ◌+◌, ◌<◌, ◌≤◌, ◌↔◌, IfErr, IfOk, IsTrue, codes, length, take, true};
+ghost use Rattle.git_syntax.specs.Authority.{Fits};
+ghost use Rattle.git_syntax.specs.Escapes.{has_percent, is_plain};
+ghost use Rattle.git_syntax.specs.Flaws.{NamesFlaw, OtherShape, UrlShape};
+ghost use Rattle.git_syntax.specs.FoundPieces.{IsReady, meant, room_for};
+ghost use Rattle.git_syntax.specs.Grammar.{Spells, SpellsFile, SpellsParts, SpellsUrl};
+ghost use Rattle.git_syntax.specs.SchemeRules.{AreRulesOf};
+ghost use Rattle.git_syntax.specs.UrlPieces.{parts_of};
+
+use crate::found::Found;
+use crate::length::fits;
+use crate::rules::{Rules, rules_of};
+use crate::simple_url::{ParsedUrl, read_simple_url};
+use crate::bytes::cut;
+use crate::refusal::UrlKind;
+use crate::refusal::Refusal;
+use crate::scheme::Protocol;
+use crate::text::{as_text, is_plain, is_text};
+
+/// Finds what a URL is made of.
+pub(crate) fn find_url<'a>(
+    input: &'a [u8],
+    scheme: &'a [u8],
+    rest: &'a [u8],
+) -> Result<Found<'a>, Refusal<'a>>
+    requires { UrlShape input.now scheme.now rest.now }
+    ensures found { IfOk result (λ found. Spells input.now (meant found)) }
+    ensures ready { IfOk result (λ found. IsReady found) }
+    ensures room { IfOk result (λ found. room_for found ≤ length input.now) }
+    ensures flaw { IfErr result (λ refusal. NamesFlaw input.now refusal) }
+{
+    let rules = rules_of(scheme);
+    if is_file(rules.protocol) {
+        find_file(input, rest)
+    } else {
+        find_other(input, rules, scheme, rest)
+    }
+}
+
+/// Whether the protocol is that of file URLs.
+fn is_file(protocol: Protocol) -> bool
+    ensures { IsTrue result ↔ (protocol ≡ Protocol.File) }
+{
+    matches!(protocol, Protocol::File)
+}
+
+/// Whether the protocol is that of the helper `ext`.
+fn is_ext(protocol: Protocol) -> bool
+    ensures { IsTrue result ↔ (protocol ≡ Protocol.Ext) }
+{
+    matches!(protocol, Protocol::Ext)
+}
+
+/// Finds what a file URL is made of: the host ends at the first `/`, where the path begins.
+fn find_file<'a>(input: &'a [u8], rest: &'a [u8]) -> Result<Found<'a>, Refusal<'a>>
+    requires { UrlShape input.now (codes "file") rest.now }
+    ensures found { IfOk result (λ found. SpellsFile input.now (meant found)) }
+    ensures ready { IfOk result (λ found. IsReady found) }
+    ensures room { IfOk result (λ found. room_for found ≤ length input.now) }
+    ensures flaw { IfErr result (λ refusal. NamesFlaw input.now refusal) }
+{
+    if !is_text(input) {
+        return Err(Refusal::NotUtf8 { kind: UrlKind::Url });
+    }
+    match cut(rest, b'/') {
+        None => Err(Refusal::MissingPath { kind: UrlKind::Url }),
+        Some((host, _)) => Ok(Found::File {
+            host,
+            path: rest.split_at(host.len()).1,
+        }),
+    }
+}
+
+/// Finds what a URL is made of that is no file URL, of whose scheme these are the rules.
+fn find_other<'a>(
+    input: &'a [u8],
+    rules: Rules,
+    scheme: &'a [u8],
+    rest: &'a [u8],
+) -> Result<Found<'a>, Refusal<'a>>
+    requires shape { OtherShape input.now scheme.now rest.now }
+    requires rules { AreRulesOf scheme.now rules }
+    ensures found { IfOk result (λ found. SpellsUrl input.now (meant found)) }
+    ensures ready { IfOk result (λ found. IsReady found) }
+    ensures room { IfOk result (λ found. room_for found ≤ length input.now) }
+    ensures flaw { IfErr result (λ refusal. NamesFlaw input.now refusal) }
+{
+    if !fits(rules.web, scheme, rest) {
+        return Err(Refusal::TooLong {
+            shown: shown_front(input, scheme),
+            total: input.len(),
+        });
+    }
+    if is_plain(input) {
+        return find_parts(as_text(input), true, rules, scheme, rest);
+    }
+    match str::from_utf8(input) {
+        Ok(text) => find_parts(text, false, rules, scheme, rest),
+        Err(_) => Err(Refusal::NotUtf8 { kind: UrlKind::Url }),
+    }
+}
+
+/// The front of the text that is as long as the scheme, `://` and 1,024 bytes, or the whole.
+fn shown_front<'a>(input: &'a [u8], scheme: &[u8]) -> &'a [u8]
+    requires { length scheme.now < length input.now }
+    ensures { result.now ≡ take (length scheme.now + 1027) input.now }
+{
+    let behind = input.split_at(scheme.len()).1;
+    if behind.len() <= 1027 {
+        return input;
+    }
+    input.split_at(scheme.len() + 1027).0
+}
+
+/// Finds the parts of a URL that is text and no file URL. What is known to be plain isn't looked at again for white space.
+fn find_parts<'a>(
+    text: &'a str,
+    plain: bool,
+    rules: Rules,
+    scheme: &'a [u8],
+    rest: &'a [u8],
+) -> Result<Found<'a>, Refusal<'a>>
+    requires plain { plain ≡ true → is_plain text.now ≡ true }
+    requires shape { OtherShape text.now scheme.now rest.now }
+    requires rules { AreRulesOf scheme.now rules }
+    requires fits { Fits scheme.now rest.now }
+    ensures found { IfOk result (λ found. SpellsUrl text.now (meant found)) }
+    ensures ready { IfOk result (λ found. IsReady found) }
+    ensures room { IfOk result (λ found. room_for found ≤ length text.now) }
+    ensures flaw { IfErr result (λ refusal. NamesFlaw text.now refusal) }
+{
+    match read_simple_url(text, plain, rules, scheme, rest) {
+        Ok(url) => located(text.as_bytes(), rules, url),
+        Err(fault) => Err(Refusal::BadUrl {
+            kind: UrlKind::Url,
+            fault,
+        }),
+    }
+}
+
+/// What a URL is made of whose parts were read. That of the helper `ext` has the whole text for its path.
+fn located<'a>(input: &'a [u8], rules: Rules, url: ParsedUrl<'a>) -> Result<Found<'a>, Refusal<'a>>
+    requires spelled { SpellsParts input.now (parts_of url) }
+    requires rules { AreRulesOf url.scheme.now rules }
+    requires escaped { url.escaped ≡ has_percent url.path.now }
+    ensures found { IfOk result (λ found. SpellsUrl input.now (meant found)) }
+    ensures ready { IfOk result (λ found. IsReady found) }
+    ensures room { IfOk result (λ found. room_for found ≤ length input.now) }
+    ensures flaw { IfErr result (λ refusal. NamesFlaw input.now refusal) }
+{
+    if is_ext(rules.protocol) {
+        return Ok(Found::Ext { text: input });
+    }
+    if rules.needs_path && url.path.is_empty() {
+        return Err(Refusal::MissingPath { kind: UrlKind::Url });
+    }
+    Ok(Found::Url { rules, url })
+}

@@ -1,7 +1,0 @@
--- Texts and their bytes: cuts, escapes, plain texts, texts that need no escape.
-pub mod CutLemmas
-pub mod EscapeLemmas
-pub mod EscapeSets
-pub mod PlainLemmas
-pub mod AsciiLemmas
-pub mod ReadyLemmas

@@ -1,0 +1,67 @@
+-- What a reader answers that finds what the bytes spell, and refuses where they spell nothing, with memory or with a room;
+-- and that both answer alike.
+use Rattle.std.proofs.Common.{◌≡◌, ◌⊎◌, inl, inr, ℕ, List, [], Result, Ok, Err, ap, subst}
+use Rattle.std.specs.Prelude.{IfOk, IfErr}
+use Rattle.gix_url.specs.declared.error.Error.{Error}
+use Rattle.gix_url.specs.declared.error.Error.TheVariants as error
+use Rattle.git_location.specs.declared.parse_error.ParseError.TheVariants as unread
+use Rattle.git_syntax.specs.Value.{Location}
+use Rattle.git_syntax.specs.Grammar.{Spells}
+use Rattle.gix_url.specs.Flaws.{Flaw}
+use Rattle.gix_url.specs.Readings.{Refuses, Reads}
+use Rattle.gix_url.specs.Laws.{ReadersAgree, SameWithRoom}
+use Rattle.git_syntax.proofs.Unique.UniqueLemmas.{spells_unique}
+use Rattle.std.proofs.Common.{◌≢◌, ℕ, List, refl}
+use Rattle.bstr.specs.Owned.{bstring_bytes}
+use Rattle.git_syntax.specs.Refusals.{HasFlaw}
+use Rattle.gix_url.specs.Refusals.{Exclusive}
+
+-- the location that the bytes spell is the answer, unless memory ran out
+one_answer : (b : List ℕ) (r : Result Location Error) → IfOk r (Spells b) → IfErr r (Refuses b) → (v : Location) → Spells b v → (r ≡ Ok v) ⊎ (r ≡ Err error.Memory)
+one_answer b (Ok w) found refused v spelled = inl (ap Ok (spells_unique b w v found spelled))
+one_answer b (Err e) found (inl memory) v spelled = inr (ap Err memory)
+one_answer b (Err e) found (inr none) v spelled = absurd (none v spelled)
+
+-- so such an answer is that of reading
+pub reads_by : (b t : List ℕ) (r : Result Location Error) → b ≡ t → IfOk r (Spells b) → IfErr r (Refuses b) → IfErr r (Flaw b) → (b ≡ [] → r ≡ Err error.EmptyLocal) → Reads t r
+reads_by b t r same found refused flaw empty = subst (λ s. Reads s r) same record { found = found; refused = refused; flaw = flaw; empty = empty; answered = one_answer b r found refused }
+
+-- an error of the one says that memory ran out, where the bytes spell a location
+memory_alone : (b : List ℕ) (e : Error) (v : Location) → Refuses b e → Spells b v → e ≡ error.Memory
+memory_alone b e v (inl memory) spelled = memory
+memory_alone b e v (inr none) spelled = absurd (none v spelled)
+
+-- they answer alike
+pub readers_agree : ReadersAgree
+readers_agree b room (Ok v) (Ok w) owned lent = spells_unique b v w owned.found lent.found
+readers_agree b room (Ok v) (Err unread.NoRoom) owned lent = lent.refused.1
+readers_agree b room (Ok v) (Err (unread.Refused refusal)) owned lent = lent.refused.0 v owned.found
+readers_agree b room (Err e) (Ok w) owned lent = memory_alone b e w owned.refused lent.found
+readers_agree b room (Err e) (Err unread.NoRoom) owned lent =
+    let (some, short) = lent.refused in (memory_alone b e some.0 owned.refused some.1, short)
+readers_agree b room (Err e) (Err (unread.Refused refusal)) owned lent = tt
+
+-- what the one answers, unless memory ran out, is what is spelled
+answer_owned : (b : List ℕ) (r : Result Location Error) → Reads b r → ¬ (r ≡ Err error.Memory) → (v : Location) → Spells b v → r ≡ Ok v
+answer_owned b r reads ample v spelled = elim (reads.answered v spelled) [ inl is ↦ is | inr memory ↦ absurd (ample memory) ]
+
+-- and with room for as many bytes they answer the same locations
+pub same_with_room : SameWithRoom
+same_with_room b room owned lent enough reads reads_in ample v = (
+  λ is. (reads_in.exact enough v).1 (answer_spelled b owned reads.found v is),
+  λ is. answer_owned b owned reads ample v ((reads_in.exact enough v).0 is),
+)
+
+-- each error but want of memory names a flaw
+named_flaw : (b : List ℕ) (e : Error) → e ≢ error.Memory → Flaw b e → HasFlaw b
+named_flaw b error.Memory other h = absurd (other refl)
+named_flaw b error.EmptyLocal other h = HasFlaw.empty h
+named_flaw b (error.MissingPath k input) other h = HasFlaw.no_path k h.0
+named_flaw b (error.NotUtf8 k input) other h = HasFlaw.no_text k h.0 h.1
+named_flaw b (error.TooLong shown total) other h = HasFlaw.too_long (bstring_bytes shown) total h
+named_flaw b (error.BadUrl k named input) other h = HasFlaw.bad_url k named h.0
+named_flaw b _ other h = absurd h
+
+-- and bytes in which it stands spell no location
+pub exclusive : Exclusive
+exclusive b e v other h = flawed_unspelled b v (named_flaw b e other h)

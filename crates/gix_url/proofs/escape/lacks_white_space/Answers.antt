@@ -1,8 +1,0 @@
--- A printable text holds no white space.
-use Rattle.std.proofs.Common.{sym, subst}
-use Rattle.gix_url.specs.Bytes.{LacksWhiteSpace}
-use Rattle.gix_url.proofs.Texts.AsciiLemmas.{printable_white_space}
-use Rattle.gix_url.proofs.escape.lacks_white_space.Goals as goal
-
-pub returns-then-is_printable : goal.returns-then-is_printable
-returns-then-is_printable c = (λ _. subst LacksWhiteSpace c.as_bytes.ensures.value (printable_white_space c.as_bytes.result.now (sym c.if-is_printable.ensures)), λ _. c.if-is_printable.true)

@@ -1,7 +1,0 @@
--- Each law is a lemma.
-use Rattle.gix_url.proofs.Written.StrippedLemmas.{without_password}
-use Rattle.gix_url.proofs.Written.UnspelledLemmas.{web_without_spelling, without_spelling}
-use Rattle.gix_url.proofs.laws.law_stripped.Goals as goal
-
-pub returns : goal.returns
-returns c = record { password = without_password; web_spelling = web_without_spelling; spelling = without_spelling }

@@ -1,8 +1,0 @@
-use Rattle.std.proofs.Common.{◌≡◌, ◌&&◌, drop}
-use Rattle.std.specs.List.{list_all}
-use Rattle.gix_url.specs.Hosts.{is_http_host_byte}
-use Rattle.gix_url.proofs.parse.host.bytes.are_http_host_bytes.Given as goal
-
--- the answer for all bytes is that so far and that for the bytes that are left
-abbrev pub invariant-loop-byte : goal.invariant-loop-byte
-invariant-loop-byte l = (l.all && list_all is_http_host_byte (drop l.byte-index l.text)) ≡ list_all is_http_host_byte l.text

@@ -1,7 +1,0 @@
--- A port follows the host.
-use Rattle.std.proofs.Common.{refl}
-use Rattle.gix_url.specs.HostPieces.Follows.{number}
-use Rattle.gix_url.proofs.parse.host.port.with_port.Goals as goal
-
-pub returns : goal.returns
-returns c = number c.args.digits.now c.in_ok-port.port c.in_ok-port.ensures refl refl refl

@@ -1,7 +1,0 @@
--- A plain text holds no `%`.
-use Rattle.std.proofs.Common.{◌∙◌, sym}
-use Rattle.gix_url.proofs.Texts.PlainLemmas.{plain_sound}
-use Rattle.gix_url.proofs.parse.simple_url.has_sound_escapes.Goals as goal
-
-pub returns-then-plain : goal.returns-then-plain
-returns-then-plain c = c.if-plain.true ∙ sym (plain_sound c.args.text.now (c.requires c.if-plain.true))

@@ -1,6 +1,0 @@
--- The text is that of a URL.
-use Rattle.gix_url.proofs.Written.WrittenAsUrlLemmas.{written_git}
-use Rattle.gix_url.proofs.settled.url.is_settled_git.Goals as goal
-
-pub is_settled_raw-requires-clause-form : goal.is_settled_raw-requires-clause-form
-is_settled_raw-requires-clause-form c = written_git c.args.url.now c.requires.scheme

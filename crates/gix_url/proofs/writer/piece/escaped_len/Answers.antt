@@ -1,7 +1,0 @@
--- Each escape makes a text longer by two.
-use Rattle.std.proofs.Common.{arith}
-use Rattle.gix_url.proofs.Written.PieceLemmas.{length_escapes}
-use Rattle.gix_url.proofs.writer.piece.escaped_len.Goals as goal
-
-pub returns-clause-exact : goal.returns-clause-exact
-returns-clause-exact c = let long = length_escapes c.args.set c.args.text.now in omega (arith, long, c.count_escaped.ensures)

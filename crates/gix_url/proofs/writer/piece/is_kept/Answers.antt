@@ -1,7 +1,0 @@
--- Where no byte has to be escaped the text stays.
-use Rattle.std.proofs.Common.{sym, ◌∙◌, eqb-true}
-use Rattle.gix_url.proofs.Written.PieceLemmas.{kept_text}
-use Rattle.gix_url.proofs.writer.piece.is_kept.Goals as goal
-
-pub returns : goal.returns
-returns c = λ none. kept_text c.args.set c.args.text.now (sym c.count_escaped.ensures ∙ eqb-true c.count_escaped.result 0 none)

@@ -1,9 +1,0 @@
--- Pieces that were put to their end were shown.
-use Rattle.gix_url.specs.Pieces.{pieces_text}
-use Rattle.gix_url.proofs.Written.DisplayLemmas.{shown_plain, shown_whole}
-use Rattle.gix_url.proofs.writer.show.show_pieces.Goals as goal
-
-pub returns : goal.returns
-returns g c =
-    let whole = shown_whole g.W.Write.write_str_gives c.args.f.now c.put.new.place c.put.result (pieces_text c.args.pieces.now) c.put.ensures in
-    record { writes = shown_plain _ _ _ _ _ whole; styled = whole }

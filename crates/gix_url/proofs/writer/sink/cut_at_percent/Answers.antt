@@ -1,7 +1,0 @@
--- The parts around the first `%`.
-use Rattle.std.proofs.Common.{arith}
-use Rattle.gix_url.proofs.Written.PieceLemmas.{split_cuts}
-use Rattle.gix_url.proofs.writer.sink.cut_at_percent.Goals as goal
-
-pub returns : goal.returns
-returns c = split_cuts 37 c.args.text.now c.split_once.result c.split_once.ensures.cases (omega arith)
