@@ -8,9 +8,9 @@ use Rattle.git_syntax.specs.Bytes.{slash, colon, at_sign, left_bracket, backslas
 use Rattle.git_syntax.specs.Escapes.{is_sound, DecodesTo, has_percent}
 use Rattle.git_syntax.specs.Addresses.{IsIpv6Text, Literal}
 use Rattle.git_syntax.specs.Hosts.{normal_host, is_http_host_byte}
-use Rattle.git_syntax.specs.Schemes.{is_known_scheme}
+use Rattle.git_syntax.specs.Schemes.{is_ftp, is_known_scheme}
 use Rattle.git_syntax.specs.Authority.{FitsText}
-use Rattle.git_syntax.specs.Grammar.{LocalShape}
+use Rattle.git_syntax.specs.Grammar.{begins_at_home, LocalShape}
 use Rattle.git_location.specs.Text.{text}
 
 -- what holds of every value of the code: its texts are UTF-8, its bytes are bytes and its port is one

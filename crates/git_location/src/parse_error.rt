@@ -1,8 +1,8 @@
-//! The errors of reading without memory: why a text is refused, told of the text itself.
+//! The error of reading into a room. It borrows from the text that was refused.
 //!
-//! It uses the forms and the faults of `error`. What these errors tell of a text are numbers, names and a slice of it, so
-//! making one takes no memory. `Display` says them in the words of [`Error`](crate::Error).
+//! It uses the refusals of `git_syntax`, and says them in their words.
 
+use git_syntax::refusal::Refusal;
 use thiserror::Error;
 
 /// Why a text was not read into a room.

@@ -1,8 +1,6 @@
-//! The parts of a location: looked at, exchanged, and the location that has none of them.
+//! The parts of a borrowed location that its scheme or its path tell: the port, and whether the path is the root.
 //!
-//! It uses `location`, `scheme` and `url_ref` alone, and takes no memory. Its contracts: what is returned is
-//! the field, and of the spelling of the path whether it is retained; what is stored is there from then on,
-//! the old value comes back, and no other part changes.
+//! It uses `url_ref` alone, and takes no memory. Its contract: the answers are those of the fields.
 
 ghost use Rattle.std.specs.Prelude.{◌≡◌, ◌↔◌, IsTrue, [], ◌∷◌};
 ghost use Rattle.std.specs.Option.{option_or};

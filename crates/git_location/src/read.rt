@@ -1,16 +1,16 @@
-//! Reading: which form a text has, and the location that it spells.
+//! Reading into a room that the caller lends: the location that a text spells, without memory.
 //!
-//! It may use every room that reads. Its contract: the answer is the one location that the definitions spell with
-//! the bytes, a refusal comes only where they spell none, and what a refusal names stands in the bytes.
+//! It uses `git_syntax::find`, which finds slices of the text, and `lend`, which makes the location of them. Its contract:
+//! the answer is the one location that the definitions spell with the bytes, a refusal comes only where they spell none,
+//! and what a refusal names stands in the bytes.
 
-ghost use Rattle.std.specs.Prelude.{[], Err, length};
+ghost use Rattle.std.specs.Prelude.{length};
 ghost use Rattle.git_location.specs.Readings.{ReadsIn};
 
-
+use crate::lend::lend;
 use crate::parse_error::ParseError;
 use crate::url_ref::UrlRef;
-use find::find;
-use lend::lend;
+use git_syntax::find::find;
 
 impl<'a> UrlRef<'a> {
     /// The one location that the bytes spell, read as [`parse`] reads it, but without memory: its parts are slices of the

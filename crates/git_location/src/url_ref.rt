@@ -1,7 +1,7 @@
 //! A location that is borrowed: a [`UrlRef`], whose parts are slices of whoever lends them.
 //!
-//! It uses `location` and `scheme`. Its contract: to all others a borrowed location is the same value of eight parts as
-//! the [`Url`] that lends it. What only looks at a location is defined on it, and takes no memory.
+//! It uses the schemes of `git_syntax`. Its contract: to all others a borrowed location is one value of eight parts, as
+//! the [`Url`] is that lends it. What only looks at a location is defined on it, and takes no memory.
 
 ghost use Rattle.std.specs.Prelude.{◌≡◌, ◌↔◌, [], IsTrue, Some};
 

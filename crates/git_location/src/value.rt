@@ -1,6 +1,6 @@
 //! Every location is a value of which the laws speak.
 //!
-//! It uses `location` and `url_ref`. The functions look at fields and change nothing, and their contracts are what the types of those
+//! It uses `url_ref`. The functions look at fields and change nothing, and their contracts are what the types of those
 //! fields say: a text is UTF-8, a byte is below 256, and a port is one of 65,536 numbers.
 
 ghost use Rattle.std.specs.Prelude.{◌<◌, All, IfSome, IsUtf8, option_map};
@@ -8,7 +8,7 @@ ghost use Rattle.git_location.specs.Settled.{IsValue};
 
 use crate::url_ref::UrlRef;
 
-/// So is every borrowed location.
+/// Every borrowed location is such a value.
 pub fn law_lent_value(url: &UrlRef<'_>)
     ensures value { IsValue url.now }
 {

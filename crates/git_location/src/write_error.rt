@@ -1,8 +1,6 @@
-//! The errors of the library: what a text or a value is refused for.
+//! The errors of writing: why a location has no text, and why it was not written to a writer.
 //!
-//! No call answers an error whose contract doesn't name it. The words of an error hold no byte of the text that was
-//! refused, in which a password may stand; those of `TooLong` tell its length.
-
+//! It uses nothing. `words` says the faults to people.
 
 use std::io;
 use thiserror::Error;

@@ -7,34 +7,33 @@
 
 ghost use Rattle.std.specs.Prelude.{◌≡◌, [], Ok, Err, IsOk, IfOk, IfErr, length};
 ghost use Rattle.bstr.specs.BStr.{bstr_bytes};
-ghost use Rattle.bstr.specs.Owned.{bstring_bytes};
 ghost use Rattle.git_location.specs.declared.write_error.WriteFault.{WriteFault};
 ghost use Rattle.git_location.specs.Fills.{Placed};
 ghost use Rattle.git_location.specs.Text.{canonical_text, in_form, original_path, text, text_in};
 ghost use Rattle.git_location.specs.Pieces.{form_chosen, form_of, pieces_text, text_length, text_of_pieces};
 ghost use Rattle.git_location.specs.Readings.{Written};
+<<<<<<< ours
 ghost use Rattle.gix_url.specs.Readings.{IsUnwritten, WritesAgain};
 ghost use Rattle.git_location.specs.Settled.{IsSettled};
+=======
+>>>>>>> theirs
 
 mod fill;
-mod form;
+pub mod form;
 mod layout;
 pub mod piece;
 mod ready;
 pub mod show;
 pub mod sink;
 
-use gix_url::error::Error;
 use crate::write_error::{WriteError, WriteFault};
 use crate::url_ref::UrlRef;
-use crate::value::law_lent_value;
 use crate::writer::fill::fill;
 use crate::writer::form::Form;
 use crate::writer::piece::Pieces;
-use crate::writer::sink::{Output, Room};
-use bstr::{BStr, BString};
+use crate::writer::sink::Output;
+use bstr::BStr;
 use itoa::Buffer;
-use std::alloc::Global;
 use std::io::Write;
 
 impl<'a> UrlRef<'a> {
@@ -108,37 +107,6 @@ impl<'a> UrlRef<'a> {
         }
     }
 
-    /// The text of the location, as [`Url::to_bstring`] has it. Memory is asked for once, for the whole text, and not at
-    /// all where there is none.
-    ///
-    /// ```
-    /// /// The text of a location without its password, which stays as it is.
-    /// fn without_password(alloc: Global, url: &Url) -> Result<BString, Error> {
-    ///     let mut bare = url.as_ref();
-    ///     bare.password = None;
-    ///     bare.to_bstring(alloc) // `https://u@h/p` of `https://u:p@h/p`
-    /// }
-    /// ```
-    ///
-    /// # Errors
-    ///
-    /// [`Error::Unwritable`] exactly where the location has no text. [`Error::Memory`] where memory is refused, or
-    /// where the text is longer than any memory; for a settled location no other.
-    pub fn to_bstring(&self, alloc: Global) -> Result<BString, Error>
-        ensures text { IfOk result (λ s. text self.now ≡ Ok (bstring_bytes s)) }
-        ensures fault { (f : WriteFault) → text self.now ≡ Err f → result
-            ≡ Err (Error.Unwritable f) }
-        ensures refused { IfErr result (λ e. IsUnwritten (text self.now) e) }
-        ensures empty { text self.now ≡ Ok [] → IsOk result }
-        ensures settled { IsSettled self.now → WritesAgain self.now result }
-    {
-        law_lent_value(self);
-        match self.own_form() {
-            Ok(form) => self.collect_in(alloc, form),
-            Err(fault) => Err(Error::Unwritable(fault)),
-        }
-    }
-
     /// The path as it was spelled, with its escapes: the spelling where it stands for the path, and else the path itself.
     /// It takes no memory, and lives as long as what lends the location.
     ///
@@ -157,35 +125,10 @@ impl<'a> UrlRef<'a> {
     }
 
     /// The form of the text, or why there is none.
-    fn own_form(&self) -> Result<Form, WriteFault>
+    pub fn own_form(&self) -> Result<Form, WriteFault>
         ensures { in_form (form_chosen result) self.now ≡ text self.now }
     {
         self.form(self.password)
-    }
-
-    /// The text in this form. Each form is collected by itself, so that the compiler knows which pieces it lacks.
-    fn collect_in(&self, alloc: Global, form: Form) -> Result<BString, Error>
-        ensures text { IfOk result (λ s. bstring_bytes s ≡ text_in (form_of form) self.now) }
-        ensures memory { IfErr result (λ e. e ≡ Error.Memory) }
-        ensures empty { text_in (form_of form) self.now ≡ [] → IsOk result }
-    {
-        match form {
-            Form::Helper => collect(alloc, &self.helper_pieces()),
-            Form::Path => collect(alloc, &self.path_pieces()),
-            Form::Scp => collect(alloc, &self.scp_pieces()),
-            Form::Canonical => self.collect_canonical(alloc),
-        }
-    }
-
-    /// The text as a URL.
-    #[inline(never)]
-    fn collect_canonical(&self, alloc: Global) -> Result<BString, Error>
-        ensures text { IfOk result (λ s. bstring_bytes s ≡ canonical_text self.now) }
-        ensures memory { IfErr result (λ e. e ≡ Error.Memory) }
-        ensures empty { canonical_text self.now ≡ [] → IsOk result }
-    {
-        let mut digits = Buffer::new();
-        collect(alloc, &self.canonical_pieces(self.password, &mut digits))
     }
 
     /// Puts the text in this form into the room, if it fits, and answers its length. Each form is put by
@@ -218,21 +161,6 @@ impl<'a> UrlRef<'a> {
     {
         self.pieces(self.password, digits)
     }
-}
-
-/// The text of the pieces. Memory is asked for once, and a length that no memory has counts as refused.
-#[inline(always)]
-fn collect(alloc: Global, pieces: &Pieces<'_>) -> Result<BString, Error>
-    ensures text { IfOk result (λ s. bstring_bytes s ≡ pieces_text pieces.now) }
-    ensures memory { IfErr result (λ e. e ≡ Error.Memory) }
-    ensures empty { pieces_text pieces.now ≡ [] → IsOk result }
-{
-    let Ok(len) = usize::try_from(pieces.len()) else {
-        return Err(Error::Memory);
-    };
-    let mut text = Vec::with_capacity(alloc, len)?;
-    let Ok(()) = pieces.put::<Vec<u8>, Room>(&mut text);
-    Ok(BString::new(text))
 }
 
 /// Puts the text of the pieces at the front of the room, if it fits, and answers its length.

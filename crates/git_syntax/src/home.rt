@@ -4,13 +4,12 @@
 
 ghost use Rattle.std.specs.Prelude.{◌≡◌, false, true};
 ghost use Rattle.git_syntax.specs.Grammar as grammar;
-ghost use Rattle.git_location.specs.Settled as settled;
 
 use crate::bytes::starts_with_byte;
 
 /// Whether the path begins with `/~`.
 pub fn begins_at_home(path: &[u8]) -> bool
-    ensures { result ≡ settled.begins_at_home path.now }
+    ensures { result ≡ grammar.begins_at_home path.now }
 {
     match path {
         [first, second, ..] => *first == b'/' && *second == b'~',

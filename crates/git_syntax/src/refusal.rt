@@ -1,9 +1,8 @@
-//! The errors of reading without memory: why a text is refused, told of the text itself.
+//! Refusals: why a text spells no location, the form that it was taken for, and what is wrong with it.
 //!
-//! It uses the forms and the faults of `error`. What these errors tell of a text are numbers, names and a slice of it, so
-//! making one takes no memory. `Display` says them in the words of [`Error`](crate::Error).
+//! What these tell of a text are numbers, names and a slice of it, so making one takes no memory. `words` says them to
+//! people, and `debug` to logs.
 
-use crate::refusal::{UrlFault, UrlKind};
 use thiserror::Error;
 
 /// The form that a text was taken for. `Display` names it, as in `the URL has no path`.

@@ -15,7 +15,7 @@ use crate::url_ref::UrlRef;
 
 /// The forms of a text.
 #[derive(Clone, Copy, PartialEq, Eq)]
-pub(crate) enum Form {
+pub enum Form {
     /// The name of a remote helper, `::` and the path.
     Helper,
     /// User, host and path, all of them raw.

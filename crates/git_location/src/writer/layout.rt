@@ -15,7 +15,7 @@ use git_syntax::scheme::SchemeRef;
 use crate::url_ref::UrlRef;
 use crate::writer::form::Form;
 use crate::writer::piece::{HostPieces, PathPieces, Piece, Pieces, SchemePieces, UserPieces};
-use crate::{bytes, escape, ipv6};
+use git_syntax::{bytes, escape, ipv6};
 use itoa::Buffer;
 
 impl<'a> UrlRef<'a> {
@@ -37,7 +37,7 @@ impl<'a> UrlRef<'a> {
     }
 
     /// The pieces of the helper form.
-    pub(crate) fn helper_pieces(&self) -> Pieces<'_>
+    pub fn helper_pieces(&self) -> Pieces<'_>
         ensures { pieces_text result ≡ helper_text self.now }
     {
         Pieces {
@@ -50,7 +50,7 @@ impl<'a> UrlRef<'a> {
     }
 
     /// The pieces of the path form.
-    pub(crate) fn path_pieces(&self) -> Pieces<'_>
+    pub fn path_pieces(&self) -> Pieces<'_>
         ensures { pieces_text result ≡ path_form_text self.now }
     {
         Pieces {
@@ -63,7 +63,7 @@ impl<'a> UrlRef<'a> {
     }
 
     /// The pieces of the scp form.
-    pub(crate) fn scp_pieces(&self) -> Pieces<'_>
+    pub fn scp_pieces(&self) -> Pieces<'_>
         ensures { pieces_text result ≡ scp_text self.now }
     {
         Pieces {
@@ -77,7 +77,7 @@ impl<'a> UrlRef<'a> {
 
     /// The pieces of a URL.
     #[inline(always)]
-    pub(crate) fn canonical_pieces<'b>(
+    pub fn canonical_pieces<'b>(
         &'b self,
         password: Option<&'b str>,
         digits: &'b mut Buffer,

@@ -18,7 +18,7 @@ use percent_encoding::AsciiSet;
 
 /// A slice and the way that it is written. What is written is always UTF-8.
 #[derive(Clone, Copy)]
-pub(crate) enum Piece<'a> {
+pub enum Piece<'a> {
     /// The slice as it is.
     Raw(&'a str),
     /// The slice with the escapes of a user.
@@ -31,7 +31,7 @@ pub(crate) enum Piece<'a> {
 
 /// A scheme or a helper's name, and the mark behind it.
 #[derive(Clone, Copy)]
-pub(crate) enum SchemePieces<'a> {
+pub enum SchemePieces<'a> {
     /// None.
     None,
     /// The name and its mark.
@@ -40,7 +40,7 @@ pub(crate) enum SchemePieces<'a> {
 
 /// A user, a password and the marks behind them.
 #[derive(Clone, Copy)]
-pub(crate) enum UserPieces<'a> {
+pub enum UserPieces<'a> {
     /// None.
     None,
     /// A user and `@`.
@@ -62,7 +62,7 @@ pub enum HostPieces<'a> {
 
 /// The mark before a path, and the path: any bytes as they are, or with escapes.
 #[derive(Clone, Copy)]
-pub(crate) enum PathPieces<'a> {
+pub enum PathPieces<'a> {
     /// The mark, and the path as it is.
     Raw(&'a str, &'a [u8]),
     /// The mark, and the path with the escapes of HTTP.

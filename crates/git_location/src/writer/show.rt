@@ -14,7 +14,7 @@ use bstr::ByteSlice;
 use std::fmt;
 
 /// Shows the pieces.
-pub(crate) fn show_pieces<W: fmt::Write>(
+pub fn show_pieces<W: fmt::Write>(
     f: &mut fmt::Formatter<W>,
     pieces: &Pieces<'_>,
 ) -> fmt::Result

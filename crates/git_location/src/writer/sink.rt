@@ -19,7 +19,7 @@ use std::convert::Infallible;
 use std::io::{self, Write};
 
 /// A way of putting a text into a place of type `T`: slices that are UTF-8, and an end that may be any bytes.
-pub(crate) trait Sink<T> {
+pub trait Sink<T> {
     /// Why a place doesn't take a slice.
     type Fault: Drop;
 
@@ -48,7 +48,7 @@ pub(crate) trait Sink<T> {
 
 /// Puts the text with the bytes of the set, and those past ASCII, as escapes.
 #[inline(never)]
-pub(crate) fn put_escaped<T, S: Sink<T>>(
+pub fn put_escaped<T, S: Sink<T>>(
     place: &mut T,
     text: &[u8],
     set: AsciiSet,
@@ -63,7 +63,7 @@ pub(crate) fn put_escaped<T, S: Sink<T>>(
 
 /// Puts the text with each `%` as its escape.
 #[inline(never)]
-pub(crate) fn put_percents<T, S: Sink<T>>(place: &mut T, text: &str) -> Result<(), S::Fault>
+pub fn put_percents<T, S: Sink<T>>(place: &mut T, text: &str) -> Result<(), S::Fault>
     ensures { OnOk result (S.takes place.old (escaped_percents text.now) place.new) }
 {
     let mut rest = text;
@@ -83,7 +83,7 @@ fn cut_at_percent(text: &str) -> Option<(&str, &str)>
 }
 
 /// Memory with room for the whole text: it can't be refused, and nothing is asked for.
-pub(crate) struct Room;
+pub struct Room;
 
 impl Sink<Vec<u8>> for Room {
     type Fault = Infallible;

@@ -1,0 +1,27 @@
+//! The syntax of Git locations: which form a text has, and the slices of it that a location is made of.
+//!
+//! [`find::find`] finds what a text spells, or names a flaw that stands in it. It takes no memory, and what it finds are
+//! slices of the text. What stands below it tells texts, bytes, escapes, IPv6 addresses, schemes and hosts apart. Nothing
+//! here knows the type of a location: its value is that of the definitions ([`specs/Value`]).
+#![tactic(auto)]
+
+pub mod address_law;
+pub mod bytes;
+pub mod classify;
+mod debug;
+pub mod escape;
+pub mod find;
+pub mod found;
+pub mod home;
+pub mod host;
+pub mod ipv6;
+pub mod length;
+pub mod peeled;
+pub mod refusal;
+pub mod rules;
+pub mod scheme;
+pub mod scp;
+pub mod simple_url;
+pub mod text;
+pub mod url;
+mod words;
