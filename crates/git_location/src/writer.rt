@@ -12,11 +12,6 @@ ghost use Rattle.git_location.specs.Fills.{Placed};
 ghost use Rattle.git_location.specs.Text.{canonical_text, in_form, original_path, text, text_in};
 ghost use Rattle.git_location.specs.Pieces.{form_chosen, form_of, pieces_text, text_length, text_of_pieces};
 ghost use Rattle.git_location.specs.Readings.{Written};
-<<<<<<< ours
-ghost use Rattle.gix_url.specs.Readings.{IsUnwritten, WritesAgain};
-ghost use Rattle.git_location.specs.Settled.{IsSettled};
-=======
->>>>>>> theirs
 
 mod fill;
 pub mod form;
