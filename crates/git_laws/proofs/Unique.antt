@@ -1,2 +1,2 @@
--- Bytes spell one location at most.
+-- What bytes spelled before another shape came in, they spell still.
 pub mod BeforeLemmas

@@ -5,6 +5,8 @@ use Rattle.git_syntax.specs.Value.Protocol.{git, ssh, helper_url}
 use Rattle.git_syntax.specs.Bytes.{LacksWhiteSpace}
 use Rattle.git_syntax.specs.Escapes.{has_percent}
 use Rattle.git_location.specs.Settled.{IsValue, HasFittingText, IsSettled, IsWeb}
+pub use Rattle.git_location.specs.Safeguards.{HidesPassword, UsableIsNoOption, PathIsNoOption}
+pub use Rattle.git_syntax.specs.Safeguards.{PathSet, PasswordSet, UserSet, DecidesAddresses}
 
 -- ---- settled locations without a part
 

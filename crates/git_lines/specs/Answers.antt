@@ -5,6 +5,7 @@ use Rattle.git_syntax.specs.declared.refusal.Refusal.{Refusal}
 use Rattle.git_lines.specs.declared.lines.RunError.{RunError}
 use Rattle.git_lines.specs.declared.lines.RunError.TheVariants as run
 use Rattle.git_syntax.specs.Value.{Location}
+pub use Rattle.git_location.specs.Answers.{ended_lines, last_line, SplitsLines, HasLinesWithin, fault_name, refusal_name, told_line, IsTold, IsAnswer, AnswersEach, Answers}
 
 -- what a run left: on `Ok` all of the input is answered; where memory or the reader failed nothing is written
 abbrev pub Ran : {W : Type 0} → (W → Option (List ℕ)) → Option (List ℕ) → W → W

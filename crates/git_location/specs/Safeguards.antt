@@ -4,6 +4,7 @@ use Rattle.git_syntax.specs.Value.{Location}
 use Rattle.git_location.specs.Arguments.{judgement_of, path_argument, is_option_like}
 use Rattle.git_location.specs.Arguments.Judgement.{usable}
 use Rattle.git_location.specs.Display.{display}
+pub use Rattle.git_syntax.specs.Safeguards.{PathSet, PasswordSet, UserSet, DecidesAddresses}
 
 -- locations that differ in nothing but what their passwords are look alike
 abbrev pub HidesPassword : Type 0

@@ -2,6 +2,7 @@
 use Rattle.std.specs.Prelude.{ℕ, List, codes}
 use Rattle.git_location.specs.declared.write_error.WriteFault.{WriteFault}
 use Rattle.git_location.specs.declared.write_error.WriteFault.TheVariants as write
+pub use Rattle.git_syntax.specs.Words.{kind_words, url_fault_words}
 
 -- why a location has no text
 abbrev pub write_fault_words : WriteFault → List ℕ

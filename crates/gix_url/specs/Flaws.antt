@@ -3,6 +3,7 @@ use Rattle.std.specs.Prelude.{◌≡◌, ℕ, List, [], IsUtf8}
 use Rattle.bstr.specs.Owned.{bstring_bytes}
 use Rattle.gix_url.specs.declared.error.Error.{Error}
 use Rattle.gix_url.specs.declared.error.Error.TheVariants as error
+pub use Rattle.git_syntax.specs.Flaws.{IsNoPort, HasBadPort, IsPortPlace, IsNoHost, IsNoInner, BracketsAround, HasBadHost, NameFlaw, PieceOf, HasBadUser, AuthorityFlaw, UrlShape, OtherShape, UrlCut, UrlFlaw, ScpHostFlaw, ScpFlaw, MissesPath, HasShape, IsTooLong, KindFlaw, NamesFlaw}
 
 -- the flaw that the error names stands in the bytes, and the error holds what it tells of them
 abbrev pub Flaw : List ℕ → Error → Type 0

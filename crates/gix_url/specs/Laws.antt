@@ -7,6 +7,7 @@ use Rattle.git_location.specs.declared.parse_error.ParseError.TheVariants as unr
 use Rattle.git_syntax.specs.Value.{Location}
 use Rattle.gix_url.specs.Readings.{Reads}
 use Rattle.git_location.specs.Readings.{ReadsIn}
+pub use Rattle.git_laws.specs.Laws.{Unique, ComesBack, SettledAgain, ReadAgain, TextDecides, SameComponents, is_closed, IsCorner, Closed, Apart, Exact, keeps_bytes, KeepsBytes, ExactByFields, Unchanged, Writable, SpellsLocalBefore, SpellsBefore, KeepsEarlier, EqualIsSame, TiedIsEqual, FedAlike, LocationsFedApart, ProtocolsFedApart, SpellingLast}
 
 -- what two readers answer to the same bytes, one with memory and one into a room: the same location, or a refusal each;
 -- else memory was refused to the one, or the room of the other is shorter than the bytes

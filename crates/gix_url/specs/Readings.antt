@@ -8,6 +8,7 @@ use Rattle.git_location.specs.declared.write_error.WriteFault.{WriteFault}
 use Rattle.git_syntax.specs.Value.{Location}
 use Rattle.git_syntax.specs.Grammar.{Spells}
 use Rattle.gix_url.specs.Flaws.{Flaw}
+pub use Rattle.git_location.specs.Readings.{RefusesIn, ReadsIn, IsAgain, SpellsAgain, Written}
 
 -- memory ran out, or no value fits
 abbrev pub NoneBut : (Location → Type 0) → Error → Type 0

@@ -4,6 +4,8 @@ use Rattle.gix_url.specs.declared.scheme.Scheme.{Scheme}
 use Rattle.gix_url.specs.declared.scheme.Scheme.TheVariants.{File, Git, Ssh, Http, Https, Ext, Helper, HelperUrl}
 use Rattle.git_syntax.specs.Value.{Protocol}
 use Rattle.git_syntax.specs.Value.Protocol.{file, git, ssh, http, https, ext, helper, helper_url}
+pub use Rattle.git_location.specs.Views.{judgement}
+pub use Rattle.git_syntax.specs.Views.{lent_protocol}
 
 -- the protocol of a scheme
 abbrev pub protocol : Scheme → Protocol
