@@ -13,9 +13,7 @@ use std::marker::Model;
 /// Contracts see the same value in it as in a `Url`: eight parts, the retained spelling of its path among
 /// them. The fields are those of `Url`, and may be put together by hand; [`UrlRef::is_settled`] tells whether
 /// the location comes back from its own text. It owns nothing: making one, writing it and asking it takes no
-/// memory, but for the text that [`UrlRef::to_bstring`] answers and the list of
-/// [`UrlRef::path_query_fragment`]. `Display` shows `redacted` in place of the field `password`, as that of
-/// `Url` does; it has no `Debug`.
+/// memory. `Display` shows `redacted` in place of the field `password`, as that of `Url` does; it has no `Debug`.
 ///
 /// ```
 /// /// Writes the location of a repository on a host, without a copy of either.

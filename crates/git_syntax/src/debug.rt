@@ -40,7 +40,7 @@ impl fmt::Debug for Refusal<'_> {
 
 /// What is shown in place of bytes: how many they are.
 #[derive(Clone, Copy)]
-struct Length(usize);
+pub struct Length(pub usize);
 
 impl fmt::Debug for Length {
     ghost debug_output = { λ size. Some (decimal size.0 ++ codes " bytes") };

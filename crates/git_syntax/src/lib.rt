@@ -8,7 +8,7 @@
 pub mod address_law;
 pub mod bytes;
 pub mod classify;
-mod debug;
+pub mod debug;
 pub mod escape;
 pub mod find;
 pub mod found;

@@ -1,9 +1,6 @@
-//! Which parts of a location may be handed to a command as arguments.
+//! Which parts of a location may be handed to a command as arguments: the judgement of the borrowed location.
 //!
-//! A user, a host or a path that begins with `-` is taken for an option by the command that gets it, and options can
-//! run programs: `ssh://-oProxyCommand=..@host/repo` is such an attempt. It uses `bytes`, looks at fields and takes no
-//! memory. Its contract: each answer is the judgement of the definitions, and no text that begins with `-` is ever
-//! handed out as usable.
+//! It uses `location`, and takes no memory.
 
 ghost use Rattle.std.specs.Prelude.{◌≡◌, Some, IfSome, false, option_map};
 ghost use Rattle.bstr.specs.BStr.{bstr_bytes};
@@ -11,6 +8,7 @@ ghost use Rattle.git_location.specs.Arguments.{IsNoOption, is_option_like, judge
 ghost use Rattle.git_location.specs.Views.{judgement};
 
 use crate::location::Url;
+use git_location::argument::ArgumentSafety;
 use bstr::BStr;
 
 impl Url {

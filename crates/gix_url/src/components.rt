@@ -110,13 +110,13 @@ impl Url {
         ensures memory { IfErr result (λ e. e ≡ Error.Memory) }
         ensures no_query { (c : Components) → PartsOf self.now c → c.query ≡ None → IsOk result }
     {
-        self.as_ref().path_query_fragment(alloc)
+        PathComponents::of(alloc, &self.as_ref())
     }
 }
 
-impl<'a> UrlRef<'a> {
-    /// The path, the query and the fragment, as [`Url::path_query_fragment`] has them. They are lent from
-    /// what lends the location, and live as long.
+impl<'a> PathComponents<'a> {
+    /// The path, the query and the fragment of a location that is borrowed, as [`Url::path_query_fragment`] has them.
+    /// They are lent from what lends the location, and live as long.
     ///
     /// # Errors
     ///
@@ -124,42 +124,42 @@ impl<'a> UrlRef<'a> {
     ///
     /// ```
     /// fn fragment_of<'a>(alloc: Global, url: &UrlRef<'a>) -> Result<Option<BStr<'a>>, Error> {
-    ///     Ok(url.path_query_fragment(alloc)?.fragment)
+    ///     Ok(PathComponents::of(alloc, url)?.fragment)
     /// }
     /// ```
-    pub fn path_query_fragment(&self, alloc: Global) -> Result<PathComponents<'a>, Error>
-        ensures parts { IfOk result (λ c. PartsOf self.now (components c)) }
+    pub fn of(alloc: Global, url: &UrlRef<'a>) -> Result<PathComponents<'a>, Error>
+        ensures parts { IfOk result (λ c. PartsOf url.now (components c)) }
         ensures path { IfOk result
-            (λ c. Holds (bstr_bytes c.path) self.now.path ⊎ (bstr_bytes c.path ≡ slash ∷ [])) }
-        ensures query { IfOk result (λ c. LentQuery self.now (option_map (λ q. q.items) c.query)) }
+            (λ c. Holds (bstr_bytes c.path) url.now.path ⊎ (bstr_bytes c.path ≡ slash ∷ [])) }
+        ensures query { IfOk result (λ c. LentQuery url.now (option_map (λ q. q.items) c.query)) }
         ensures fragment { IfOk result
-            (λ c. IfSome c.fragment (λ f. Holds (bstr_bytes f) self.now.path)) }
+            (λ c. IfSome c.fragment (λ f. Holds (bstr_bytes f) url.now.path)) }
         ensures memory { IfErr result (λ e. e ≡ Error.Memory) }
-        ensures no_query { (c : Components) → PartsOf self.now c → c.query ≡ None → IsOk result }
+        ensures no_query { (c : Components) → PartsOf url.now c → c.query ≡ None → IsOk result }
     {
-        match self.scheme {
-            SchemeRef::Http | SchemeRef::Https => web_components(alloc, self.spelled_path()),
+        match url.scheme {
+            SchemeRef::Http | SchemeRef::Https => web_components(alloc, spelled_path(url)),
             SchemeRef::File
             | SchemeRef::Git
             | SchemeRef::Ssh
             | SchemeRef::Ext
             | SchemeRef::Helper(_)
             | SchemeRef::HelperUrl(_) => Ok(PathComponents {
-                path: BStr::new(self.path),
+                path: BStr::new(url.path),
                 query: None,
                 fragment: None,
             }),
         }
     }
+}
 
-    /// The path as it is spelled, together with what it stands for.
-    fn spelled_path(&self) -> Spelled<'a>
-        ensures { SpellsPath self.now result }
-    {
-        match self.matching_spelling() {
-            Some(spelling) => Spelled::spelling(spelling, self.path),
-            None => Spelled::raw(self.path),
-        }
+/// The path as it is spelled, together with what it stands for.
+fn spelled_path<'a>(url: &UrlRef<'a>) -> Spelled<'a>
+    ensures { SpellsPath url.now result }
+{
+    match url.matching_spelling() {
+        Some(spelling) => Spelled::spelling(spelling, url.path),
+        None => Spelled::raw(url.path),
     }
 }
 

@@ -1,11 +1,6 @@
-//! Showing a location to people: its text, with the field `password` hidden.
+//! Showing a location to people: as the borrowed location is shown.
 //!
-//! It uses `writer`. Its contract: where showing succeeds, what was shown is the text with another password in place of
-//! the location's own, whatever width, precision and flags are asked for, so that two locations that differ in nothing
-//! but their passwords look alike; where there is no text it fails, and nothing is shown. It takes no memory.
-//!
-//! What a formatter was handed before it failed is in no contract: `fmt::Write` says what a call of a writer did only
-//! where it returned `Ok`, so no clause can speak of the others. Tests show that it is a front of the right text.
+//! It uses `location`. It takes no memory.
 
 ghost use Rattle.std.specs.Prelude.{◌≡◌, None, IsErr};
 ghost use Rattle.std.specs.Fmt.{DisplaysOnOk, DisplaysStyledOnOk};

@@ -1,8 +1,6 @@
-//! Locations in whose texts Git reads the same place.
+//! Locations in whose texts Git reads the same place: the answer of the borrowed location.
 //!
-//! It uses the settled test, the tests of bytes and the pieces of the writer, and takes no memory. Its contract: the
-//! answer is yes exactly for the class of the definitions, and in the text of each location of that class Git reads the
-//! location's own protocol, user, host, port and path (`law_git`).
+//! It uses `location`, and takes no memory.
 
 ghost use Rattle.std.specs.Prelude.{◌↔◌, IsTrue};
 ghost use Rattle.git_location.specs.GitClass.{AgreesWithGit};

@@ -1,14 +1,17 @@
 //! Laws of the library, over the definitions of its contracts alone.
 //!
 //! The functions have no code and answer nothing: the contract of each is its laws. (`law_value` looks at the fields of
-//! a location, and changes nothing.) Those that are named here from other modules stand beside what they are laws of.
-//! Users rely on them together with the contracts of `parse`, of the writer, of the settled test and of `lines`, which
-//! name the same definitions.
+//! a location, and changes nothing.) Most stand in `git_laws`, and some beside what they are laws of; here are those that
+//! speak of errors that own a text. Users rely on them together with the contracts of `parse`, of the writer, of the
+//! settled test and of `lines`, which name the same definitions.
 
 ghost use Rattle.gix_url.specs.Laws.{ReadersAgree, SameWithRoom};
 ghost use Rattle.git_syntax.specs.Refusals.{Decided, Flawless, RefusalExclusive};
 ghost use Rattle.gix_url.specs.Refusals.{Exclusive};
 
+pub use git_laws::laws::{
+    law_closed, law_components, law_git, law_lines, law_order, law_scheme_order, law_separation, law_stored, law_stripped,
+};
 pub use git_syntax::address_law::law_address_test;
 pub use git_location::argument::law_arguments;
 pub use git_syntax::escape::law_sets;

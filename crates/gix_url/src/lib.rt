@@ -4,6 +4,9 @@
 //! location, and one that [`Url::is_settled`] accepts comes back with the same public fields and the same text.
 //! [`Url::user_as_argument`] and its like tell which parts a command may get.
 //!
+//! What owns bytes stands here. What only looks at a location is defined on [`UrlRef`], in the crate `git_location`, and
+//! what finds the parts of a text in `git_syntax`; this crate passes on all that users name.
+//!
 //! ```
 //! /// The host that a text names, if the location can be written and read again.
 //! fn host_of(alloc: Global, text: &str) -> Result<Option<String>, Error> {
@@ -16,28 +19,21 @@
 //! ```
 #![tactic(auto)]
 
-mod address_law;
 mod argument;
-mod bytes;
 mod canonical;
 mod components;
 mod copy;
+mod debug;
+mod display;
 mod error;
-mod escape;
 pub mod expand_path;
 mod from_parts;
 mod git;
-mod home;
 mod home_law;
-mod impls;
-pub mod ipv6;
 pub mod laws;
-pub mod lines;
 mod location;
-mod logs;
 mod order;
 pub mod parse;
-mod parse_error;
 mod parts;
 mod reread;
 mod rows;
@@ -45,16 +41,17 @@ mod scheme;
 mod settled;
 pub mod stored;
 pub mod testing;
-mod text;
-mod url_ref;
-mod value_law;
-mod words;
 mod writer;
 
-pub use argument::ArgumentSafety;
 pub use components::{PathComponents, QueryText};
-pub use error::{Error, UrlFault, WriteError, WriteFault};
+pub use error::Error;
+pub use git_lines::lines;
+pub use git_location::argument::ArgumentSafety;
+pub use git_location::parse_error::ParseError;
+pub use git_location::url_ref::UrlRef;
+pub use git_location::write_error::{WriteError, WriteFault};
+pub use git_syntax::ipv6;
+pub use git_syntax::refusal::{Refusal, UrlFault};
+pub use git_syntax::scheme::SchemeRef;
 pub use location::Url;
-pub use parse_error::{ParseError, Refusal};
-pub use scheme::{Scheme, SchemeRef};
-pub use url_ref::UrlRef;
+pub use scheme::Scheme;

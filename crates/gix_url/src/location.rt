@@ -1,9 +1,15 @@
-//! The location itself: a [`Url`] and its parts.
+//! The location itself: a [`Url`] and its parts, and the same location borrowed.
 //!
-//! It uses `scheme`. Its contract: to all others a location is one value of eight parts.
+//! It uses `scheme`, and the borrowed location of `git_location`. Its contract: to all others a location is one value of
+//! eight parts, and so it is borrowed.
+
+ghost use Rattle.std.specs.Prelude.{◌≡◌};
+ghost use Rattle.git_location.specs.Settled.{IsValue};
 
 use crate::scheme::Scheme;
 use bstr::BString;
+use git_location::url_ref::UrlRef;
+use git_location::value::law_lent_value;
 use std::marker::Model;
 
 /// A Git location: a URL, a location in the scp form, a local path or the address of a remote helper.

@@ -1,7 +1,8 @@
-//! Reading: which form a text has, and the location that it spells.
+//! Reading: the location that bytes spell, with bytes of its own.
 //!
-//! It may use every room that reads. Its contract: the answer is the one location that the definitions spell with
-//! the bytes, a refusal comes only where they spell none, and what a refusal names stands in the bytes.
+//! It uses `git_syntax::find`, which finds the slices of a text, and here `build`, which copies them, and `refusal`, which
+//! makes an error of a refusal. Its contract: the answer is the one location that the definitions spell with the bytes, a
+//! refusal comes only where they spell none, and what a refusal names stands in the bytes.
 
 ghost use Rattle.std.specs.Prelude.{◌≡◌, [], Err, IfErr, IfOk};
 ghost use Rattle.bstr.specs.BStr.{bstr_bytes};
@@ -20,7 +21,7 @@ pub use git_syntax::refusal::UrlKind;
 use crate::location::Url;
 use bstr::BStr;
 use build::build;
-use find::find;
+use git_syntax::find::find;
 use refusal::error_of;
 use std::alloc::Global;
 

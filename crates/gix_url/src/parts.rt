@@ -1,8 +1,8 @@
 //! The parts of a location: looked at, exchanged, and the location that has none of them.
 //!
-//! It uses `location`, `scheme` and `url_ref` alone, and takes no memory. Its contracts: what is returned is
-//! the field, and of the spelling of the path whether it is retained; what is stored is there from then on,
-//! the old value comes back, and no other part changes.
+//! It uses `location` and `scheme`, and takes no memory. Its contracts: what is returned is the field, and of the
+//! spelling of the path whether it is retained; what is stored is there from then on, the old value comes back, and no
+//! other part changes.
 
 ghost use Rattle.std.specs.Prelude.{◌≡◌, ◌↔◌, IsSome, IsTrue, [], ◌∷◌, false, option_map, string_bytes};
 ghost use Rattle.std.specs.Option.{option_or};

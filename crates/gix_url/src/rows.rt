@@ -1,6 +1,6 @@
-//! Rows: that the definitions say of written-out texts and values what they should.
+//! Rows: what runs and errors hold on to where something failed, and slips in definitions.
 //!
-//! It has no code and uses nothing: the contract of each function is a group of rows.
+//! It has no code and uses nothing: the contract of the function is a group of rows.
 
 ghost use Rattle.gix_url.specs.OtherRows.{CornerRows, KeptRows, NoCornerRows, ReadRow, SlipRows, UnwrittenRow};
 

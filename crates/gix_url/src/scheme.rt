@@ -1,7 +1,7 @@
-//! Schemes: the protocols that have a name of their own, and the others by name.
+//! Schemes that own their name.
 //!
-//! It uses nothing of this crate but its errors. Its contract: names and default ports are those of the definitions, and a
-//! scheme's text stands for its protocol to the letter.
+//! It uses the borrowed schemes of `git_syntax`, and the errors. Its contract: names and default ports are those of the
+//! definitions, and a scheme's text stands for its protocol to the letter.
 
 ghost use Rattle.std.specs.Prelude.{◌≡◌, IfErr, IfOk, IsOk, true};
 ghost use Rattle.git_syntax.specs.SchemeRules.{named_protocol};
@@ -10,6 +10,7 @@ ghost use Rattle.git_syntax.specs.Views.{lent_protocol};
 ghost use Rattle.gix_url.specs.Views.{protocol};
 
 use crate::error::Error;
+use git_syntax::scheme::{Protocol, SchemeRef, protocol_of};
 use serde::{Deserialize, Serialize};
 use std::alloc::{AllocError, Global};
 use std::fmt;

@@ -1,25 +1,28 @@
-//! Writing: the text of a location, its length, and the spelling of its path.
+//! Writing: the text of a location in memory, and what the borrowed location writes.
 //!
-//! The text is laid out once, as pieces: slices of the location with the way that each is written. `form`
-//! chooses the form, `layout` the pieces, `piece` adds up their lengths and puts them into a sink, `ready`
-//! tells texts that need no escape, and `sink`, `fill` and `show` are the sinks. The contract of each public
-//! call is the text of the definitions.
+//! It uses `location`, `error` and the writer of `git_location`, which lays a text out as pieces: here they are collected,
+//! with one request for memory. The contract of each public call is the text of the definitions.
 
 ghost use Rattle.std.specs.Prelude.{◌≡◌, [], Ok, Err, IsOk, IfOk, IfErr};
 ghost use Rattle.bstr.specs.BStr.{bstr_bytes};
 ghost use Rattle.bstr.specs.Owned.{bstring_bytes};
 ghost use Rattle.git_location.specs.declared.write_error.WriteFault.{WriteFault};
-ghost use Rattle.git_location.specs.Text.{original_path, text};
-ghost use Rattle.git_location.specs.Pieces.{text_length};
+ghost use Rattle.git_location.specs.Text.{canonical_text, original_path, text, text_in};
+ghost use Rattle.git_location.specs.Pieces.{form_of, pieces_text, text_length};
 ghost use Rattle.git_location.specs.Readings.{Written};
 ghost use Rattle.gix_url.specs.Readings.{IsUnwritten, WritesAgain};
 ghost use Rattle.git_location.specs.Settled.{IsSettled};
 
-
 use crate::error::Error;
-use git_location::write_error::{WriteError, WriteFault};
 use crate::location::Url;
 use bstr::{BStr, BString};
+use git_location::url_ref::UrlRef;
+use git_location::value::law_lent_value;
+use git_location::write_error::{WriteError, WriteFault};
+use git_location::writer::form::Form;
+use git_location::writer::piece::Pieces;
+use git_location::writer::sink::Room;
+use itoa::Buffer;
 use std::alloc::Global;
 use std::io::Write;
 
@@ -84,7 +87,7 @@ impl Url {
         ensures empty { text self.now ≡ Ok [] → IsOk result }
         ensures settled { IsSettled self.now → WritesAgain self.now result }
     {
-        self.as_ref().to_bstring(alloc)
+        Url::text_of(alloc, &self.as_ref())
     }
 
     /// The path as it was spelled, with its escapes: the retained spelling where it still stands for the path, and
@@ -100,4 +103,75 @@ impl Url {
     {
         self.as_ref().original_path()
     }
+
+    /// The text of a location that is borrowed, as [`Url::to_bstring`] has it. Memory is asked for once, for the whole
+    /// text, and not at all where there is none.
+    ///
+    /// ```
+    /// /// The text of a location without its password, which stays as it is.
+    /// fn without_password(alloc: Global, url: &Url) -> Result<BString, Error> {
+    ///     let mut bare = url.as_ref();
+    ///     bare.password = None;
+    ///     Url::text_of(alloc, &bare) // `https://u@h/p` of `https://u:p@h/p`
+    /// }
+    /// ```
+    ///
+    /// # Errors
+    ///
+    /// [`Error::Unwritable`] exactly where the location has no text. [`Error::Memory`] where memory is refused, or
+    /// where the text is longer than any memory; for a settled location no other.
+    pub fn text_of(alloc: Global, url: &UrlRef<'_>) -> Result<BString, Error>
+        ensures text { IfOk result (λ s. text url.now ≡ Ok (bstring_bytes s)) }
+        ensures fault { (f : WriteFault) → text url.now ≡ Err f → result
+            ≡ Err (Error.Unwritable f) }
+        ensures refused { IfErr result (λ e. IsUnwritten (text url.now) e) }
+        ensures empty { text url.now ≡ Ok [] → IsOk result }
+        ensures settled { IsSettled url.now → WritesAgain url.now result }
+    {
+        law_lent_value(url);
+        match url.own_form() {
+            Ok(form) => collect_in(alloc, url, form),
+            Err(fault) => Err(Error::Unwritable(fault)),
+        }
+    }
+}
+
+/// The text in this form. Each form is collected by itself, so that the compiler knows which pieces it lacks.
+fn collect_in(alloc: Global, url: &UrlRef<'_>, form: Form) -> Result<BString, Error>
+    ensures text { IfOk result (λ s. bstring_bytes s ≡ text_in (form_of form) url.now) }
+    ensures memory { IfErr result (λ e. e ≡ Error.Memory) }
+    ensures empty { text_in (form_of form) url.now ≡ [] → IsOk result }
+{
+    match form {
+        Form::Helper => collect(alloc, &url.helper_pieces()),
+        Form::Path => collect(alloc, &url.path_pieces()),
+        Form::Scp => collect(alloc, &url.scp_pieces()),
+        Form::Canonical => collect_canonical(alloc, url),
+    }
+}
+
+/// The text as a URL.
+#[inline(never)]
+fn collect_canonical(alloc: Global, url: &UrlRef<'_>) -> Result<BString, Error>
+    ensures text { IfOk result (λ s. bstring_bytes s ≡ canonical_text url.now) }
+    ensures memory { IfErr result (λ e. e ≡ Error.Memory) }
+    ensures empty { canonical_text url.now ≡ [] → IsOk result }
+{
+    let mut digits = Buffer::new();
+    collect(alloc, &url.canonical_pieces(url.password, &mut digits))
+}
+
+/// The text of the pieces. Memory is asked for once, and a length that no memory has counts as refused.
+#[inline(always)]
+fn collect(alloc: Global, pieces: &Pieces<'_>) -> Result<BString, Error>
+    ensures text { IfOk result (λ s. bstring_bytes s ≡ pieces_text pieces.now) }
+    ensures memory { IfErr result (λ e. e ≡ Error.Memory) }
+    ensures empty { pieces_text pieces.now ≡ [] → IsOk result }
+{
+    let Ok(len) = usize::try_from(pieces.len()) else {
+        return Err(Error::Memory);
+    };
+    let mut text = Vec::with_capacity(alloc, len)?;
+    let Ok(()) = pieces.put::<Vec<u8>, Room>(&mut text);
+    Ok(BString::new(text))
 }

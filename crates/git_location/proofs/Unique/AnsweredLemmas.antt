@@ -12,7 +12,7 @@ use Rattle.git_syntax.proofs.Unique.UniqueLemmas.{spells_unique}
 -- ---- reading into a room
 
 -- what is answered is spelled
-answer_spelled : {E : Type 0} (b : List ℕ) (r : Result Location E) → IfOk r (Spells b) → (v : Location) → r ≡ Ok v → Spells b v
+pub answer_spelled : {E : Type 0} (b : List ℕ) (r : Result Location E) → IfOk r (Spells b) → (v : Location) → r ≡ Ok v → Spells b v
 answer_spelled {E} b r found v e = let Found : Result Location E → Type 0 = λ answer. IfOk answer (Spells b) in subst Found e found
 
 -- what is spelled is answered where there is room for as many bytes

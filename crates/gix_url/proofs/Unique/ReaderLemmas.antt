@@ -11,6 +11,8 @@ use Rattle.gix_url.specs.Flaws.{Flaw}
 use Rattle.gix_url.specs.Readings.{Refuses, Reads}
 use Rattle.gix_url.specs.Laws.{ReadersAgree, SameWithRoom}
 use Rattle.git_syntax.proofs.Unique.UniqueLemmas.{spells_unique}
+use Rattle.git_syntax.proofs.Refused.RefusalLemmas.{flawed_unspelled}
+use Rattle.git_location.proofs.Unique.AnsweredLemmas.{answer_spelled}
 use Rattle.std.proofs.Common.{◌≢◌, ℕ, List, refl}
 use Rattle.bstr.specs.Owned.{bstring_bytes}
 use Rattle.git_syntax.specs.Refusals.{HasFlaw}

@@ -10,6 +10,7 @@ use Rattle.git_location.specs.Text.{text}
 use Rattle.git_location.specs.Settled.{IsValue, IsSettled}
 use Rattle.gix_url.specs.Readings.{Reads, WritesAgain, ReadsAgain}
 use Rattle.git_location.specs.Readings.{SpellsAgain}
+use Rattle.git_laws.proofs.Written.RereadLemmas.{text_again}
 
 -- what writing a settled location into memory answers: its text, or want of memory
 pub written_again : (v : Location) (t : List ℕ) (r : Result BString Error) → IsValue v → Ok t ≡ text v → IfOk r (λ s. bstring_bytes s ≡ t) → IfErr r (λ e. e ≡ error.Memory)

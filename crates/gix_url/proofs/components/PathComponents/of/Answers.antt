@@ -12,39 +12,39 @@ use Rattle.gix_url.proofs.components.PathComponents.of.Goals as goal
 
 pub returns-in-File-clause-path : goal.returns-in-File-clause-path
 returns-in-File-clause-path c =
-    inl (path_alone_held _ c.args.self.now.path (c.new.ensures ∙ ap (λ (v : Location). v.path) c.self.view_is))
+    inl (path_alone_held _ c.args.url.now.path (c.new.ensures ∙ ap (λ (v : Location). v.path) c.url.view_is))
 
 -- the location is one of HTTP
-is_web : (c : goal.After-web_components) → IsWeb c.args.self.now
+is_web : (c : goal.After-web_components) → IsWeb c.args.url.now
 is_web c =
-    let seen = sym (ap (λ (v : Location). v.scheme) c.self.view_is) in
+    let seen = sym (ap (λ (v : Location). v.scheme) c.url.view_is) in
     ⊎_elim (λ e. inl (seen ∙ ap lent_protocol e)) (λ e. inr (seen ∙ ap lent_protocol e)) c.in-Http.is
 
 pub returns-in-Http-clause-parts : goal.returns-in-Http-clause-parts
 returns-in-Http-clause-parts c =
-    let v = c.args.self.now in
+    let v = c.args.url.now in
     IfOk-weaker c.web_components.result _ _ (λ parts h. (web_parts v (components parts) (is_web c)).1 (parts_meant v parts (lends_whole v c.spelled_path.result parts c.spelled_path.ensures h))) c.web_components.ensures.lent
 
 pub returns-in-Http-clause-path : goal.returns-in-Http-clause-path
 returns-in-Http-clause-path c =
-    let v = c.args.self.now in
+    let v = c.args.url.now in
     let whole = whole_meant v c.spelled_path.result c.spelled_path.ensures in
     IfOk-weaker c.web_components.result _ _ (λ parts h. path_lent v parts (lends_whole v c.spelled_path.result parts c.spelled_path.ensures h) whole) c.web_components.ensures.lent
 
 pub returns-in-Http-clause-query : goal.returns-in-Http-clause-query
 returns-in-Http-clause-query c =
-    let v = c.args.self.now in
+    let v = c.args.url.now in
     let whole = whole_meant v c.spelled_path.result c.spelled_path.ensures in
     IfOk-weaker c.web_components.result _ _ (λ parts h. query_lent v parts (lends_whole v c.spelled_path.result parts c.spelled_path.ensures h) whole) c.web_components.ensures.lent
 
 pub returns-in-Http-clause-fragment : goal.returns-in-Http-clause-fragment
 returns-in-Http-clause-fragment c =
-    let v = c.args.self.now in
+    let v = c.args.url.now in
     let whole = whole_meant v c.spelled_path.result c.spelled_path.ensures in
     IfOk-weaker c.web_components.result _ _ (λ parts h. fragment_lent v parts (lends_whole v c.spelled_path.result parts c.spelled_path.ensures h) whole) c.web_components.ensures.lent
 
 pub returns-in-Http-clause-no_query : goal.returns-in-Http-clause-no_query
 returns-in-Http-clause-no_query c given_parts parts none =
-    let v = c.args.self.now in
+    let v = c.args.url.now in
     given c.web_components.result
     (λ refused. query_there v (subst HasQuery c.spelled_path.ensures.0 (c.web_components.ensures.query refused)) given_parts ((web_parts v given_parts (is_web c)).0 parts) none)
