@@ -149,7 +149,7 @@ CALLS = {
     "Url::from_bytes": over_text(read),
     "UrlRef::parse_in": read_in,
     "Url::to_bstring": over_url(written),
-    "UrlRef::to_bstring": over_url(written),
+    "Url::text_of": over_url(written),
     "Url::write_to": over_url(write_to),
     "UrlRef::write_to": over_url(write_to),
     "Url::text_len": over_url(lambda url: written(url, len)),

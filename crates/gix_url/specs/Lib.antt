@@ -28,6 +28,14 @@ pub use Rattle.git_syntax.specs.Schemes
 pub use Rattle.git_syntax.specs.Authority
 pub use Rattle.git_syntax.specs.Grammar
 pub use Rattle.git_syntax.specs.AddressTest
+pub use Rattle.git_syntax.specs.Cuts
+pub use Rattle.git_syntax.specs.Walks
+pub use Rattle.git_syntax.specs.HostPieces
+pub use Rattle.git_syntax.specs.UrlPieces
+pub use Rattle.git_syntax.specs.SchemeRules
+pub use Rattle.git_syntax.specs.FoundPieces
+pub use Rattle.git_syntax.specs.ScpPieces
+pub use Rattle.git_syntax.specs.Shapes
 pub use Rattle.git_location.specs.Text
 pub use Rattle.git_location.specs.Settled
 pub use Rattle.git_location.specs.Display
@@ -39,6 +47,11 @@ pub use Rattle.git_location.specs.Components
 pub use Rattle.git_location.specs.Records
 pub use Rattle.git_location.specs.Order
 pub use Rattle.git_location.specs.UrlRef
+pub use Rattle.git_location.specs.KeptBytes
+pub use Rattle.git_location.specs.Pieces
+pub use Rattle.git_location.specs.Sinks
+pub use Rattle.git_location.specs.Fills
+pub use Rattle.git_location.specs.SettledParts
 pub use Rattle.git_lines.specs.Answers
 pub use Rattle.git_laws.specs.ComponentEquality
 pub use Rattle.git_laws.specs.AnswerLaws

@@ -1,6 +1,6 @@
 -- A location is shown where it has a text, and only there: that a password is hidden changes no form.
 use Rattle.std.proofs.Common.{◌≡◌, ℕ, List, Option, Some, None, is_some, is_none, IfSome, Result, Ok, Err, refl, ap, sym, subst}
-use Rattle.gix_url.specs.declared.error.WriteFault.{WriteFault}
+use Rattle.git_location.specs.declared.write_error.WriteFault.{WriteFault}
 use Rattle.gix_url.specs.Value.{Protocol, Location}
 use Rattle.gix_url.specs.Value.Protocol.{file, git, ssh, http, https, ext, helper, helper_url}
 use Rattle.gix_url.specs.Text.{Form, choice, choice_by, in_form, text}

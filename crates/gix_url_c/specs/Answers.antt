@@ -1,7 +1,7 @@
 -- What the calls answer: which answer of the library was told, and how.
 use Rattle.std.specs.Prelude.{◌≡◌, ℕ, ◌-◌, ◌^◌, min, Bool, IsTrue, ◌↔◌, List, length, Option, Some, None, Result, Ok, Err}
 use Rattle.gix_url.specs.declared.error.Error.{Error}
-use Rattle.gix_url.specs.declared.error.WriteFault.{WriteFault}
+use Rattle.git_location.specs.declared.write_error.WriteFault.{WriteFault}
 use Rattle.gix_url.specs.Value.{Location}
 use Rattle.gix_url.specs.Readings.{Reads}
 use Rattle.gix_url.specs.FromParts.{MadeOf}

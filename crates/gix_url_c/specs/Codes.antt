@@ -1,12 +1,12 @@
 -- The numbers by which C is told what a call answers.
 use Rattle.std.specs.Prelude.{◌≡◌, ℕ, ◌⊎◌, Bool, not, nat_lt, ◌&&◌, length}
 use Rattle.bstr.specs.Owned.{bstring_bytes}
-use Rattle.gix_url.specs.declared.error.UrlKind.{UrlKind}
-use Rattle.gix_url.specs.declared.error.UrlKind.TheVariants as kind
-use Rattle.gix_url.specs.declared.error.UrlFault.{UrlFault}
-use Rattle.gix_url.specs.declared.error.UrlFault.TheVariants as fault
-use Rattle.gix_url.specs.declared.error.WriteFault.{WriteFault}
-use Rattle.gix_url.specs.declared.error.WriteFault.TheVariants as unwritten
+use Rattle.git_syntax.specs.declared.refusal.UrlKind.{UrlKind}
+use Rattle.git_syntax.specs.declared.refusal.UrlKind.TheVariants as kind
+use Rattle.git_syntax.specs.declared.refusal.UrlFault.{UrlFault}
+use Rattle.git_syntax.specs.declared.refusal.UrlFault.TheVariants as fault
+use Rattle.git_location.specs.declared.write_error.WriteFault.{WriteFault}
+use Rattle.git_location.specs.declared.write_error.WriteFault.TheVariants as unwritten
 use Rattle.gix_url.specs.declared.error.Error.{Error}
 use Rattle.gix_url.specs.declared.error.Error.TheVariants as error
 use Rattle.gix_url_c.specs.declared.codes.Problem.{Problem}

@@ -74,7 +74,7 @@ fn part(
     ensures lengths { LeavesRoom result lengths.old lengths.new }
     ensures numbers { LeavesLengths result told.old told.new }
 {
-    let Ok(parts) = url.path_query_fragment(alloc) else {
+    let Ok(parts) = PathComponents::of(alloc, url) else {
         return MEMORY;
     };
     let Ok(bytes) = joined(alloc, &parts) else {

@@ -2,7 +2,7 @@
 
 use clap::error::ErrorKind;
 use clap::{Arg, ArgAction, ArgMatches, Command};
-use gix_url::lines::{self, RunError};
+use git_lines::lines::{self, RunError};
 use std::alloc::{AllocError, Global};
 use std::env::{self, FillError};
 use std::io;

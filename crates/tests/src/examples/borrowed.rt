@@ -1,7 +1,7 @@
 //! Examples of locations that are borrowed.
 
 use bstr::{BStr, BString};
-use gix_url::{ArgumentSafety, Error, Scheme, SchemeRef, Url, UrlRef, WriteError, WriteFault};
+use gix_url::{ArgumentSafety, Error, PathComponents, Scheme, SchemeRef, Url, UrlRef, WriteError, WriteFault};
 use std::alloc::{AllocError, Global};
 use std::test::Fail;
 
@@ -64,7 +64,7 @@ fn names_a_repository(url: &UrlRef<'_>) -> bool {
 }
 
 fn fragment_of<'a>(alloc: Global, url: &UrlRef<'a>) -> Result<Option<BStr<'a>>, Error> {
-    Ok(url.path_query_fragment(alloc)?.fragment)
+    Ok(PathComponents::of(alloc, url)?.fragment)
 }
 
 fn log_line(alloc: Global, url: &UrlRef<'_>) -> Result<String, AllocError> {
@@ -94,7 +94,7 @@ fn fits(url: &UrlRef<'_>, room: u128) -> bool {
 fn without_password(alloc: Global, url: &Url) -> Result<BString, Error> {
     let mut bare = url.as_ref();
     bare.password = None;
-    bare.to_bstring(alloc) // `https://u@h/p` of `https://u:p@h/p`
+    Url::text_of(alloc, &bare) // `https://u@h/p` of `https://u:p@h/p`
 }
 
 fn spelled<'a>(url: &UrlRef<'a>) -> BStr<'a> {

@@ -1,7 +1,7 @@
 -- The location that is told beside is the one that the own text spells.
 use Rattle.std.proofs.Common.{◌≡◌, refl, ℕ, List, Option, Some, None, Result, Ok, Err, IfSome}
 use Rattle.gix_url.specs.declared.error.Error.TheVariants as error
-use Rattle.gix_url.specs.declared.error.WriteFault.{WriteFault}
+use Rattle.git_location.specs.declared.write_error.WriteFault.{WriteFault}
 use Rattle.gix_url.specs.Value.{Location}
 use Rattle.gix_url.specs.Text.{text}
 use Rattle.gix_url.specs.Readings.{Reads}
