@@ -21,19 +21,21 @@ impl Tell for Error {
 /// Tells the name of an error of reading, with the form and the fault, and the text that it keeps.
 fn tell_fields(out: &mut Out, error: &Error) -> io::Result<()> {
     match error {
-        Error::MissingPath { kind, input } => {
+        Error::MissingPath { kind, input, .. } => {
             write!(out, "MissingPath {kind:?}\"")?;
             tell_kept(out, input)
         }
-        Error::NotUtf8 { kind, input } => {
+        Error::NotUtf8 { kind, input, .. } => {
             write!(out, "NotUtf8 {kind:?}\"")?;
             tell_kept(out, input)
         }
-        Error::BadUrl { kind, fault, input } => {
+        Error::BadUrl {
+            kind, fault, input, ..
+        } => {
             write!(out, "BadUrl {fault:?} {kind:?}\"")?;
             tell_kept(out, input)
         }
-        Error::TooLong { shown, total } => {
+        Error::TooLong { shown, total, .. } => {
             out.write_all(b"TooLong\"")?;
             tell_kept(out, shown)?;
             write!(out, ",\"total\":{total}")
@@ -173,14 +175,18 @@ fn error_of(alloc: Global, told: Order<'_>) -> Result<Error, Halt> {
         "MissingPath" => Ok(Error::MissingPath {
             kind: kind(rest)?,
             input: kept,
+            at: 0,
         }),
         "NotUtf8" => Ok(Error::NotUtf8 {
             kind: kind(rest)?,
             input: kept,
+            at: 0,
         }),
         "TooLong" => Ok(Error::TooLong {
             shown: kept,
             total: 2016,
+            at: 0,
+            len: 0,
         }),
         "HelperName" => Ok(Error::HelperName { name: kept }),
         "BadUrl" => bad_url(rest, kept),
@@ -198,6 +204,8 @@ fn bad_url(names: &str, input: BString) -> Result<Error, Halt> {
         kind: kind(kind_name)?,
         fault: fault(fault_name)?,
         input,
+        at: 0,
+        len: 0,
     })
 }
 

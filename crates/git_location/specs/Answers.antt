@@ -46,10 +46,10 @@ fault_name fault.HostRequired = codes "HostRequired"
 -- the name of what a text is refused for
 abbrev pub refusal_name : Refusal → List ℕ
 refusal_name refusal.EmptyLocal = codes "EmptyLocal"
-refusal_name (refusal.MissingPath kind) = codes "MissingPath"
-refusal_name (refusal.NotUtf8 kind) = codes "NotUtf8"
-refusal_name (refusal.TooLong shown total) = codes "TooLong"
-refusal_name (refusal.BadUrl kind named) = codes "BadUrl " ++ fault_name named
+refusal_name (refusal.MissingPath kind at) = codes "MissingPath"
+refusal_name (refusal.NotUtf8 kind at) = codes "NotUtf8"
+refusal_name (refusal.TooLong shown total at len) = codes "TooLong"
+refusal_name (refusal.BadUrl kind named at len) = codes "BadUrl " ++ fault_name named
 
 -- a word and what it is said of, on a line
 abbrev pub told_line : List ℕ → List ℕ → List ℕ

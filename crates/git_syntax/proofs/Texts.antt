@@ -4,3 +4,4 @@ pub mod EscapeLemmas
 pub mod EscapeSets
 pub mod PlainLemmas
 pub mod AsciiLemmas
+pub mod PlaceLemmas

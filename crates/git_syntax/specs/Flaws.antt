@@ -1,5 +1,7 @@
--- Flaws: what stands in a text that is refused. Each error names one, and the flaw that it names stands there.
-use Rattle.std.specs.Prelude.{◌≡◌, ℕ, ◌+◌, ◌<◌, Bool, true, false, ◌⊎◌, List, [], ◌∷◌, ◌++◌, length, take, codes, bytes_eq, Option, IsUtf8}
+-- Flaws: what stands in a text that is refused. Each error names one, and the flaw that it names stands there. A flaw has
+-- its place: it is the `len` bytes behind the first `at`.
+use Rattle.std.specs.Prelude.{◌≡◌, ℕ, ◌+◌, ◌<◌, ◌≤◌, Bool, true, false, ◌⊎◌, List, [], ◌∷◌, ◌++◌, length, take, codes, bytes_eq, Option, IsUtf8}
+use Rattle.std.specs.Str.{IsValidUpTo}
 use Rattle.percent_encoding.specs.Percent.{percent_decode}
 use Rattle.git_syntax.specs.declared.refusal.UrlKind.{UrlKind}
 use Rattle.git_syntax.specs.declared.refusal.UrlKind.TheVariants as kind
@@ -9,6 +11,7 @@ use Rattle.git_syntax.specs.declared.refusal.Refusal.{Refusal}
 use Rattle.git_syntax.specs.declared.refusal.Refusal.TheVariants as refusal
 use Rattle.git_syntax.specs.Bytes.{slash, colon, at_sign, left_bracket, backslash, right_bracket, Lacks, FreeOf, begins_with, Holds, LacksWhiteSpace, is_scheme_text, is_path_start, StartsPath}
 use Rattle.git_syntax.specs.Escapes.{is_sound, escaped_percents}
+use Rattle.git_syntax.specs.Places.{StandsFirst, StandsBroken, StandsWhite}
 use Rattle.git_syntax.specs.Hosts.{Mode, HostText, Inner, Number, ReadsAddress, IsManyColoned, IsPlainHost}
 use Rattle.git_syntax.specs.Hosts.Mode.{strict, bare}
 use Rattle.git_syntax.specs.Schemes.{is_web_scheme, protocol_of, mode_of, requires_host, requires_path}
@@ -21,15 +24,16 @@ use Rattle.git_syntax.specs.Grammar.{HasHelperForm, ScpShape, AddressedShape, Is
 abbrev pub IsNoPort : Mode → List ℕ → Type 0
 IsNoPort mode text = (0 < length text) × ((port : ℕ) → ¬ Number mode text port)
 
--- something stands in a port's place that is no port
-pub data HasBadPort (mode : Mode) (piece : List ℕ) : Type 0 where
+-- something stands in a port's place that is no port: all that follows the colon
+pub data HasBadPort (mode : Mode) (piece : List ℕ) (at len : ℕ) : Type 0 where
   -- behind a host outside brackets
   plain : (text digits : List ℕ) → IsPlainHost text → FreeOf colon digits
-      → piece ≡ text ++ colon ∷ digits → IsNoPort mode digits → HasBadPort mode piece
+      → piece ≡ text ++ colon ∷ digits → IsNoPort mode digits
+      → at ≡ length text + 1 → len ≡ length digits → HasBadPort mode piece at len
   -- behind brackets
   bracketed : (x digits : List ℕ) → FreeOf right_bracket x
       → piece ≡ left_bracket ∷ (x ++ right_bracket ∷ (colon ∷ digits)) → IsNoPort mode digits
-      → HasBadPort mode piece
+      → at ≡ length x + 3 → len ≡ length digits → HasBadPort mode piece at len
 
 -- nothing follows, or a colon and what is free of colons
 abbrev pub IsPortPlace : List ℕ → Type 0
@@ -50,68 +54,80 @@ pub record BracketsAround (piece x rest : List ℕ) : Type 0 where
   pub followed : (rest ≡ []) ⊎ (begins_with colon rest ≡ true)
 
 -- a byte or an escape in the host's place is not allowed
-pub data HasBadHost (mode : Mode) (piece : List ℕ) : Type 0 where
+pub data HasBadHost (mode : Mode) (piece : List ℕ) (at len : ℕ) : Type 0 where
   -- the text before the port's place stands for no host
   plain : (text rest : List ℕ) → IsPlainHost text → IsPortPlace rest → piece ≡ text ++ rest
-      → IsNoHost mode text → HasBadHost mode piece
+      → IsNoHost mode text → at ≡ 0 → len ≡ length text → HasBadHost mode piece at len
   -- colons that mark no port are refused by HTTP
   colons_on_the_web : mode ≡ strict → begins_with left_bracket piece ≡ false → IsManyColoned piece
-      → HasBadHost mode piece
+      → at ≡ 0 → len ≡ length piece → HasBadHost mode piece at len
   -- a piece with such colons stands for no host
   colons : ¬ (mode ≡ strict) → ¬ ReadsAddress mode piece → begins_with left_bracket piece ≡ false
-      → IsManyColoned piece → IsNoHost mode piece → HasBadHost mode piece
-  -- a bracket is not closed, or followed by another byte than a colon
-  open_bracket : begins_with left_bracket piece ≡ true
-      → ((x rest : List ℕ) → ¬ BracketsAround piece x rest) → HasBadHost mode piece
+      → IsManyColoned piece → IsNoHost mode piece
+      → at ≡ 0 → len ≡ length piece → HasBadHost mode piece at len
+  -- a bracket is not closed
+  open_bracket : (behind : List ℕ) → FreeOf right_bracket behind
+      → piece ≡ left_bracket ∷ behind → at ≡ 0 → len ≡ 1 → HasBadHost mode piece at len
+  -- what follows a closed bracket begins with another byte than a colon
+  behind_bracket : (x rest : List ℕ) → FreeOf right_bracket x
+      → piece ≡ left_bracket ∷ (x ++ right_bracket ∷ rest) → 0 < length rest
+      → begins_with colon rest ≡ false
+      → at ≡ length x + 2 → len ≡ length rest → HasBadHost mode piece at len
   -- the text between brackets stands for nothing
   brackets : (x rest : List ℕ) → BracketsAround piece x rest → IsNoInner mode x
-      → HasBadHost mode piece
+      → at ≡ 1 → len ≡ length x → HasBadHost mode piece at len
 
--- what is wrong with the piece behind the user information
-abbrev pub NameFlaw : Mode → List ℕ → UrlFault → Type 0
-NameFlaw mode piece fault.BadPort = HasBadPort mode piece
-NameFlaw mode piece fault.BadCharacter = HasBadHost mode piece
-NameFlaw mode piece fault.NoScheme = ⊥
-NameFlaw mode piece fault.HostRequired = ⊥
+-- what is wrong with the piece behind the user information, and where
+abbrev pub NameFlaw : Mode → List ℕ → UrlFault → ℕ → ℕ → Type 0
+NameFlaw mode piece fault.BadPort at len = HasBadPort mode piece at len
+NameFlaw mode piece fault.BadCharacter at len = HasBadHost mode piece at len
+NameFlaw mode piece fault.NoScheme at len = ⊥
+NameFlaw mode piece fault.HostRequired at len = ⊥
 
 -- ---- authorities
 
--- the piece of an authority behind the user information
-pub data PieceOf (authority piece : List ℕ) : Type 0 where
-  whole : FreeOf at_sign authority → piece ≡ authority → PieceOf authority piece
+-- the piece of an authority behind the user information, of which so many bytes stand before it
+pub data PieceOf (authority piece : List ℕ) (start : ℕ) : Type 0 where
+  whole : FreeOf at_sign authority → piece ≡ authority → start ≡ 0 → PieceOf authority piece start
   behind : (information : List ℕ) → FreeOf at_sign piece
-      → authority ≡ information ++ at_sign ∷ piece → PieceOf authority piece
+      → authority ≡ information ++ at_sign ∷ piece → start ≡ length information + 1
+      → PieceOf authority piece start
 
 -- a part of user information that decodes to no text
-pub data HasBadUser (authority : List ℕ) : Type 0 where
+pub data HasBadUser (authority : List ℕ) (at len : ℕ) : Type 0 where
   -- user information without a colon is the user
   user : (u piece : List ℕ) → FreeOf at_sign piece → FreeOf colon u
-      → authority ≡ u ++ at_sign ∷ piece → ¬ IsUtf8 (percent_decode u) → HasBadUser authority
+      → authority ≡ u ++ at_sign ∷ piece → ¬ IsUtf8 (percent_decode u)
+      → at ≡ 0 → len ≡ length u → HasBadUser authority at len
   -- what stands before its first colon is
   user_before_password : (u w piece : List ℕ) → FreeOf at_sign piece → FreeOf colon u
       → authority ≡ (u ++ colon ∷ w) ++ at_sign ∷ piece → ¬ IsUtf8 (percent_decode u)
-      → HasBadUser authority
+      → at ≡ 0 → len ≡ length u → HasBadUser authority at len
   -- what stands behind that colon is the password
   password : (u w piece : List ℕ) → FreeOf at_sign piece → FreeOf colon u
       → authority ≡ (u ++ colon ∷ w) ++ at_sign ∷ piece → ¬ IsUtf8 (percent_decode w)
-      → HasBadUser authority
+      → at ≡ length u + 1 → len ≡ length w → HasBadUser authority at len
 
--- what is wrong with an authority, for a scheme that needs a host or doesn't
-pub data AuthorityFlaw (mode : Mode) (needed : Bool) (authority : List ℕ) : UrlFault → Type 0 where
-  -- a backslash
-  holds_backslash : ¬ FreeOf backslash authority
-      → AuthorityFlaw mode needed authority fault.BadCharacter
+-- what is wrong with an authority, and where, for a scheme that needs a host or doesn't
+pub data AuthorityFlaw (mode : Mode) (needed : Bool) (authority : List ℕ) (at len : ℕ)
+    : UrlFault → Type 0 where
+  -- the first backslash
+  holds_backslash : StandsFirst backslash authority at → len ≡ 1
+      → AuthorityFlaw mode needed authority at len fault.BadCharacter
   -- a user or a password that is no text
-  bad_user : HasBadUser authority → AuthorityFlaw mode needed authority fault.BadCharacter
+  bad_user : HasBadUser authority at len
+      → AuthorityFlaw mode needed authority at len fault.BadCharacter
   -- the piece behind the user information
-  bad_name : (piece : List ℕ) (named : UrlFault) → PieceOf authority piece
-      → NameFlaw mode piece named → AuthorityFlaw mode needed authority named
-  -- user information without a host
+  bad_name : (piece : List ℕ) (named : UrlFault) (start place : ℕ)
+      → PieceOf authority piece start → NameFlaw mode piece named place len
+      → at ≡ start + place → AuthorityFlaw mode needed authority at len named
+  -- user information without a host, which would stand at the end
   no_host : (information : List ℕ) → authority ≡ information ++ at_sign ∷ []
-      → AuthorityFlaw mode needed authority fault.BadCharacter
+      → at ≡ length authority → len ≡ 0
+      → AuthorityFlaw mode needed authority at len fault.BadCharacter
   -- nothing where a host is needed
-  host_required : needed ≡ true → authority ≡ []
-      → AuthorityFlaw mode needed authority fault.HostRequired
+  host_required : needed ≡ true → authority ≡ [] → at ≡ 0 → len ≡ 0
+      → AuthorityFlaw mode needed authority at len fault.HostRequired
 
 -- ---- URLs
 
@@ -133,39 +149,54 @@ pub record UrlCut (b scheme authority path : List ℕ) : Type 0 where
   pub before_path : Lacks (is_path_start (is_web_scheme scheme)) authority
   pub path_starts : StartsPath (is_web_scheme scheme) path
 
--- what is wrong with a URL
-pub data UrlFlaw (b : List ℕ) : UrlFault → Type 0 where
+-- what is wrong with a URL, and where
+pub data UrlFlaw (b : List ℕ) (at len : ℕ) : UrlFault → Type 0 where
   -- what stands before `://` is no scheme
   no_scheme : (front rest : List ℕ) → OtherShape b front rest → is_scheme_text front ≡ false
-      → UrlFlaw b fault.NoScheme
+      → at ≡ 0 → len ≡ length front → UrlFlaw b at len fault.NoScheme
   -- white space, or a `%` that begins no escape
   white_space : (front rest : List ℕ) → OtherShape b front rest → IsUtf8 b → ¬ LacksWhiteSpace b
-      → UrlFlaw b fault.BadCharacter
+      → StandsWhite b at len → UrlFlaw b at len fault.BadCharacter
   unsound : (front rest : List ℕ) → OtherShape b front rest → is_sound b ≡ false
-      → UrlFlaw b fault.BadCharacter
-  -- the path decodes to no text
+      → StandsBroken b at → len ≡ 1 → UrlFlaw b at len fault.BadCharacter
+  -- the path, which is the end of the text, decodes to no text
   bad_path : (scheme authority path : List ℕ) → UrlCut b scheme authority path
-      → ¬ IsUtf8 (percent_decode path) → UrlFlaw b fault.BadCharacter
-  -- the authority
-  bad_authority : (scheme authority path : List ℕ) (named : UrlFault)
+      → ¬ IsUtf8 (percent_decode path)
+      → at + len ≡ length b → len ≡ length path → UrlFlaw b at len fault.BadCharacter
+  -- the authority, behind `://`
+  bad_authority : (scheme authority path : List ℕ) (named : UrlFault) (place : ℕ)
       → UrlCut b scheme authority path
-      → AuthorityFlaw (mode_of scheme) (requires_host scheme) authority named → UrlFlaw b named
+      → AuthorityFlaw (mode_of scheme) (requires_host scheme) authority place len named
+      → at ≡ length scheme + 3 + place → UrlFlaw b at len named
 
 -- ---- the scp form
 
--- what is wrong with the host of the scp form
-pub data ScpHostFlaw (host : List ℕ) : UrlFault → Type 0 where
-  -- there is none
-  empty : host ≡ [] → ScpHostFlaw host fault.HostRequired
-  -- it holds a byte or a character that no host does
-  holds_backslash : ¬ FreeOf backslash host → ScpHostFlaw host fault.BadCharacter
-  white_space : IsUtf8 host → ¬ LacksWhiteSpace host → ScpHostFlaw host fault.BadCharacter
-  -- it names none where each `%` is read as its own escape
-  bad_name : (named : UrlFault) → NameFlaw bare (escaped_percents host) named
-      → ScpHostFlaw host named
+-- a host of the scp form names none where each `%` is read as its own escape: the place of the flaw in the host is the one
+-- whose text, so read, has the flaw
+pub record ScpNameFlaw (host : List ℕ) (at len : ℕ) (named : UrlFault) : Type 0 where
+  pub before : List ℕ
+  pub here : List ℕ
+  pub behind : List ℕ
+  pub joined : host ≡ before ++ (here ++ behind)
+  pub flaw : NameFlaw bare (escaped_percents host) named (length (escaped_percents before))
+      (length (escaped_percents here))
+  pub offset : at ≡ length before
+  pub size : len ≡ length here
 
--- what is wrong with the scp form, where it isn't `user@[address]:path`
-pub record ScpFlaw (b : List ℕ) (named : UrlFault) : Type 0 where
+-- what is wrong with the host of the scp form, and where
+pub data ScpHostFlaw (host : List ℕ) (at len : ℕ) : UrlFault → Type 0 where
+  -- there is none
+  empty : host ≡ [] → at ≡ 0 → len ≡ 0 → ScpHostFlaw host at len fault.HostRequired
+  -- it holds a byte or a character that no host does
+  holds_backslash : StandsFirst backslash host at → len ≡ 1
+      → ScpHostFlaw host at len fault.BadCharacter
+  white_space : IsUtf8 host → ¬ LacksWhiteSpace host → StandsWhite host at len
+      → ScpHostFlaw host at len fault.BadCharacter
+  -- it names none
+  bad_name : (named : UrlFault) → ScpNameFlaw host at len named → ScpHostFlaw host at len named
+
+-- what is wrong with the scp form, and where, if it isn't `user@[address]:path`
+pub record ScpFlaw (b : List ℕ) (named : UrlFault) (at len : ℕ) : Type 0 where
   pub not_addressed : ¬ IsAddressed b
   pub front : List ℕ
   pub path : List ℕ
@@ -174,7 +205,10 @@ pub record ScpFlaw (b : List ℕ) (named : UrlFault) : Type 0 where
   pub shape : ScpShape b front path
   pub split : ScpUser front user host
   pub no_at : FreeOf at_sign host
-  pub flaw : ScpHostFlaw host named
+  pub place : ℕ
+  pub flaw : ScpHostFlaw host place len named
+  -- the host is the end of the front
+  pub offset : at + length host ≡ length front + place
 
 -- ---- all errors
 
@@ -198,25 +232,33 @@ HasShape b kind.Url = (front : List ℕ) × (rest : List ℕ) × UrlShape b fron
 HasShape b kind.Scp = IsScpShaped b
 HasShape b kind.Local = ⊥
 
+-- what is too long of a URL: the scheme, or what is shown behind `://`
+pub data TooLongAt (scheme shown : List ℕ) (at len : ℕ) : Type 0 where
+  scheme : 1024 < length scheme → at ≡ 0 → len ≡ length scheme → TooLongAt scheme shown at len
+  behind_mark : length scheme ≤ 1024 → at ≡ length scheme + 3 → at + len ≡ length shown
+      → TooLongAt scheme shown at len
+
 -- a URL is too long; its front is shown
-pub record IsTooLong (b shown : List ℕ) (total : ℕ) : Type 0 where
+pub record IsTooLong (b shown : List ℕ) (total at len : ℕ) : Type 0 where
   pub front : List ℕ
   pub rest : List ℕ
   pub shape : OtherShape b front rest
   pub unfit : ¬ Fits front rest
   pub front_shown : shown ≡ take (length front + 1027) b
   pub length_told : total ≡ length b
+  pub place : TooLongAt front shown at len
 
--- what is wrong with a text of this kind
-abbrev pub KindFlaw : List ℕ → UrlKind → UrlFault → Type 0
-KindFlaw b kind.Url named = UrlFlaw b named
-KindFlaw b kind.Scp named = ScpFlaw b named
-KindFlaw b kind.Local named = ⊥
+-- what is wrong with a text of this kind, and where
+abbrev pub KindFlaw : List ℕ → UrlKind → UrlFault → ℕ → ℕ → Type 0
+KindFlaw b kind.Url named at len = UrlFlaw b at len named
+KindFlaw b kind.Scp named at len = ScpFlaw b named at len
+KindFlaw b kind.Local named at len = ⊥
 
--- the flaw that the refusal names stands in the bytes
+-- the flaw that the refusal names stands in the bytes, at the place that it tells: a missing path would stand at the end,
+-- and what is no UTF-8 is told by its first byte
 abbrev pub NamesFlaw : List ℕ → Refusal → Type 0
 NamesFlaw b refusal.EmptyLocal = b ≡ []
-NamesFlaw b (refusal.MissingPath kind) = MissesPath b kind
-NamesFlaw b (refusal.NotUtf8 kind) = ¬ IsUtf8 b × HasShape b kind
-NamesFlaw b (refusal.TooLong shown total) = IsTooLong b shown.now total
-NamesFlaw b (refusal.BadUrl kind fault) = KindFlaw b kind fault
+NamesFlaw b (refusal.MissingPath kind at) = MissesPath b kind × (at ≡ length b)
+NamesFlaw b (refusal.NotUtf8 kind at) = ¬ IsUtf8 b × HasShape b kind × IsValidUpTo b at
+NamesFlaw b (refusal.TooLong shown total at len) = IsTooLong b shown.now total at len
+NamesFlaw b (refusal.BadUrl kind fault at len) = KindFlaw b kind fault at len

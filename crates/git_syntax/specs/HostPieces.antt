@@ -3,7 +3,7 @@ use Rattle.std.specs.Prelude.{◌≡◌, ◌<◌, ℕ, Bool, true, false, ◌||�
 use Rattle.std.specs.List.{list_all}
 use Rattle.std.specs.Char.{is_ascii_digit, is_ascii_lowercase, to_ascii_lowercase}
 use Rattle.percent_encoding.specs.Percent.{percent_decode}
-use Rattle.git_syntax.specs.declared.refusal.UrlFault.{UrlFault}
+use Rattle.git_syntax.specs.declared.refusal.Fault.{Fault}
 use Rattle.git_syntax.specs.declared.host.Mode as rust
 use Rattle.git_syntax.specs.declared.host.Mode.TheVariants as read
 use Rattle.git_syntax.specs.declared.host.HostPiece.{HostPiece}
@@ -136,7 +136,8 @@ abbrev pub IsBadPort : Mode → List ℕ → Type 0
 IsBadPort mode rest = (digits : List ℕ) × IsNoPort mode digits × (rest ≡ colon ∷ digits)
 
 -- what was read from a piece that isn't empty: the host and the port that it names, or a flaw of it
-abbrev pub ReadsName : Mode → List ℕ → Result NamedHost UrlFault → Type 0
+-- where it stands
+abbrev pub ReadsName : Mode → List ℕ → Result NamedHost Fault → Type 0
 ReadsName mode piece result = MatchResult result
     (λ named. Names mode piece (Some (named_text named)) named.port)
-    (λ fault. NameFlaw mode piece fault)
+    (λ fault. NameFlaw mode piece fault.kind fault.at fault.len)

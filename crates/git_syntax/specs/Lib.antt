@@ -8,6 +8,7 @@ pub mod Schemes
 pub mod Authority
 pub mod Grammar
 pub mod AddressTest
+pub mod Places
 pub mod Flaws
 pub mod Words
 pub mod Refusals

@@ -11,13 +11,14 @@ use Rattle.git_syntax.specs.Flaws.{MissesPath, HasShape, IsTooLong, KindFlaw, Na
 abbrev pub RefusalExclusive : Type 0
 RefusalExclusive = (b : List ℕ) (r : Refusal) (v : Location) → NamesFlaw b r → ¬ Spells b v
 
--- a flaw stands in the bytes: one of those that errors name, without the copy that an error holds
+-- a flaw stands in the bytes, at some place: one of those that errors name, without the copy that an error holds
 pub data HasFlaw (b : List ℕ) : Type 0 where
   empty : b ≡ [] → HasFlaw b
   no_path : (taken_for : UrlKind) → MissesPath b taken_for → HasFlaw b
   no_text : (taken_for : UrlKind) → ¬ IsUtf8 b → HasShape b taken_for → HasFlaw b
-  too_long : (shown : List ℕ) (total : ℕ) → IsTooLong b shown total → HasFlaw b
-  bad_url : (taken_for : UrlKind) (named : UrlFault) → KindFlaw b taken_for named → HasFlaw b
+  too_long : (shown : List ℕ) (total at len : ℕ) → IsTooLong b shown total at len → HasFlaw b
+  bad_url : (taken_for : UrlKind) (named : UrlFault) (at len : ℕ)
+      → KindFlaw b taken_for named at len → HasFlaw b
 
 -- no flaw stands in bytes that spell a location
 abbrev pub Flawless : Type 0

@@ -2,14 +2,14 @@
 use Rattle.std.specs.Prelude.{◌≡◌, ℕ, ◌⊎◌, List, ◌∷◌, ◌++◌, Option, Some, None, Result, MatchResult}
 use Rattle.std.specs.Option.{option_copied}
 use Rattle.std.specs.Borrow.{Bor}
-use Rattle.git_syntax.specs.declared.refusal.UrlFault.{UrlFault}
+use Rattle.git_syntax.specs.declared.refusal.Fault.{Fault}
 use Rattle.git_syntax.specs.declared.found.ScpHost as rust
 use Rattle.git_syntax.specs.Bytes.{colon, at_sign, right_bracket, FreeOf}
 use Rattle.git_syntax.specs.Escapes.{escaped_percents}
 use Rattle.git_syntax.specs.Hosts.{Names}
 use Rattle.git_syntax.specs.Hosts.Mode.{bare}
 use Rattle.git_syntax.specs.Grammar.{ScpUser, ScpHost, Unbrackets}
-use Rattle.git_syntax.specs.Flaws.{NameFlaw, ScpHostFlaw}
+use Rattle.git_syntax.specs.Flaws.{ScpNameFlaw, ScpHostFlaw}
 use Rattle.git_syntax.specs.FoundPieces.{scp_host_of}
 
 -- the front is cut at its last `@`
@@ -33,14 +33,15 @@ pub record NamesHost (piece meant : List ℕ) : Type 0 where
   pub names : Names bare piece (Some named) None
   pub unbracketed : Unbrackets named meant
 
--- what is found in a host that isn't empty: what it names where each `%` is read as its own escape, or a flaw of it
-abbrev pub ReadsScpPiece : List ℕ → Result rust.ScpHost UrlFault → Type 0
+-- what is found in a host that isn't empty: what it names where each `%` is read as its own escape, or a flaw of it where it
+-- stands
+abbrev pub ReadsScpPiece : List ℕ → Result rust.ScpHost Fault → Type 0
 ReadsScpPiece host result = MatchResult result
     (λ found. NamesHost (escaped_percents host) (scp_host_of found))
-    (λ fault. NameFlaw bare (escaped_percents host) fault)
+    (λ fault. ScpNameFlaw host fault.at fault.len fault.kind)
 
--- what is found for the host of the scp form: the one that it stands for, or a flaw of it
-abbrev pub ReadsScpHost : List ℕ → Result rust.ScpHost UrlFault → Type 0
+-- what is found for the host of the scp form: the one that it stands for, or a flaw of it where it stands
+abbrev pub ReadsScpHost : List ℕ → Result rust.ScpHost Fault → Type 0
 ReadsScpHost host result = MatchResult result
     (λ found. ScpHost host (scp_host_of found))
-    (λ fault. ScpHostFlaw host fault)
+    (λ fault. ScpHostFlaw host fault.at fault.len fault.kind)

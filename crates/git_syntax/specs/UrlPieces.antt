@@ -1,7 +1,9 @@
 -- What the slices stand for that the reader of URLs answers, and what it tells of them.
-use Rattle.std.specs.Prelude.{◌≡◌, ℕ, Bool, true, ◌⊎◌, List, [], ◌∷◌, ◌++◌, Option, option_map, IfSome, IsSome, IsUtf8}
+use Rattle.std.specs.Prelude.{◌≡◌, ℕ, ◌+◌, Bool, true, ◌⊎◌, List, [], ◌∷◌, ◌++◌, length, Option, option_map, IfSome, IsSome, IsUtf8, Result, MatchResult}
 use Rattle.std.specs.Borrow.{Bor}
 use Rattle.percent_encoding.specs.Percent.{percent_decode}
+use Rattle.git_syntax.specs.declared.refusal.Fault.{Fault}
+use Rattle.git_syntax.specs.declared.refusal.UrlFault.TheVariants as kind
 use Rattle.git_syntax.specs.declared.simple_url.ParsedUrl.{ParsedUrl}
 use Rattle.git_syntax.specs.declared.simple_url.AuthorityParts.{AuthorityParts}
 use Rattle.git_syntax.specs.declared.simple_url.CredentialParts.{CredentialParts}
@@ -42,13 +44,21 @@ abbrev pub HoldsCredentials : List ℕ → CredentialParts → Type 0
 HoldsCredentials information parts = Credentials information (decoded_option parts.user)
     (decoded_option parts.password)
 
--- a part of user information decodes to no text
-pub data HasNoText (information : List ℕ) : Type 0 where
-  user : FreeOf colon information → ¬ IsUtf8 (percent_decode information) → HasNoText information
+-- a part of user information decodes to no text: the `len` bytes behind the first `at`
+pub data HasNoText (information : List ℕ) (at len : ℕ) : Type 0 where
+  user : FreeOf colon information → ¬ IsUtf8 (percent_decode information)
+      → at ≡ 0 → len ≡ length information → HasNoText information at len
   user_before_password : (u w : List ℕ) → FreeOf colon u → information ≡ u ++ colon ∷ w
-      → ¬ IsUtf8 (percent_decode u) → HasNoText information
+      → ¬ IsUtf8 (percent_decode u) → at ≡ 0 → len ≡ length u → HasNoText information at len
   password : (u w : List ℕ) → FreeOf colon u → information ≡ u ++ colon ∷ w
-      → ¬ IsUtf8 (percent_decode w) → HasNoText information
+      → ¬ IsUtf8 (percent_decode w) → at ≡ length u + 1 → len ≡ length w
+      → HasNoText information at len
+
+-- what is read of user information: the user and the password that it holds, or a part of it that decodes to no text
+abbrev pub ReadsCredentials : List ℕ → Result CredentialParts Fault → Type 0
+ReadsCredentials information result = MatchResult result
+    (λ parts. HoldsCredentials information parts)
+    (λ fault. (fault.kind ≡ kind.BadCharacter) × HasNoText information fault.at fault.len)
 
 -- an authority holds these, and a host where one is needed
 pub record HoldsHosted (mode : Mode) (needed : Bool) (authority : List ℕ)

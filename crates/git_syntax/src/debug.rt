@@ -19,20 +19,39 @@ impl fmt::Debug for Refusal<'_> {
     fn fmt<W: fmt::Write>(&self, f: &mut fmt::Formatter<W>) -> fmt::Result {
         match self {
             Refusal::EmptyLocal => f.write_str("EmptyLocal"),
-            Refusal::MissingPath { kind } => f
+            Refusal::MissingPath { kind, at } => f
                 .debug_struct("MissingPath")
                 .field("kind", kind)
+                .field("at", at)
                 .finish(),
-            Refusal::NotUtf8 { kind } => f.debug_struct("NotUtf8").field("kind", kind).finish(),
-            Refusal::TooLong { shown, total } => f
+            Refusal::NotUtf8 { kind, at } => f
+                .debug_struct("NotUtf8")
+                .field("kind", kind)
+                .field("at", at)
+                .finish(),
+            Refusal::TooLong {
+                shown,
+                total,
+                at,
+                len,
+            } => f
                 .debug_struct("TooLong")
                 .field("shown", &Length(shown.len()))
                 .field("total", total)
+                .field("at", at)
+                .field("len", len)
                 .finish(),
-            Refusal::BadUrl { kind, fault } => f
+            Refusal::BadUrl {
+                kind,
+                fault,
+                at,
+                len,
+            } => f
                 .debug_struct("BadUrl")
                 .field("kind", kind)
                 .field("fault", fault)
+                .field("at", at)
+                .field("len", len)
                 .finish(),
         }
     }

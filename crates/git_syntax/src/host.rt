@@ -17,7 +17,7 @@ pub mod bytes;
 mod port;
 
 use crate::bytes::{after, before, cut, is_free_of};
-use crate::refusal::UrlFault;
+use crate::refusal::{Fault, UrlFault};
 use crate::escape::decodes_to_utf8;
 use crate::ipv6::is_address;
 use bytes::{are_http_host_bytes, are_simple_bytes, is_literal};
@@ -65,14 +65,15 @@ pub struct NamedHost<'a> {
 }
 
 /// Reads a host and a port: none where the piece is empty.
-pub(crate) fn read_host(mode: Mode, piece: &[u8]) -> Result<Option<NamedHost<'_>>, UrlFault>
+pub(crate) fn read_host(mode: Mode, piece: &[u8]) -> Result<Option<NamedHost<'_>>, Fault>
     ensures named { IfOk result
         (λ named. Names (strictness mode) piece.now (host_of named) (port_of named)) }
     ensures text { IfOk result (λ named. IfSome named (λ host. IsUtf8 (named_text host))) }
     ensures unnamed { IfErr result
         (λ fault. (host : Option (List ℕ)) (port : Option ℕ)
         → ¬ Names (strictness mode) piece.now host port) }
-    ensures flaw { IfErr result (λ fault. NameFlaw (strictness mode) piece.now fault) }
+    ensures flaw { IfErr result
+        (λ fault. NameFlaw (strictness mode) piece.now fault.kind fault.at fault.len) }
 {
     if piece.is_empty() {
         return Ok(None);
@@ -115,7 +116,7 @@ pub(crate) fn is_simple_host(text: &[u8]) -> bool
 }
 
 /// Reads a host and a port, where there is something to read.
-fn read_some(mode: Mode, piece: &[u8]) -> Result<NamedHost<'_>, UrlFault>
+fn read_some(mode: Mode, piece: &[u8]) -> Result<NamedHost<'_>, Fault>
     requires { 0 < length piece.now }
     ensures { ReadsName (strictness mode) piece.now result }
 {
@@ -126,35 +127,51 @@ fn read_some(mode: Mode, piece: &[u8]) -> Result<NamedHost<'_>, UrlFault>
 }
 
 /// Reads what stands behind an opening bracket.
-fn read_bracketed(mode: Mode, behind: &[u8]) -> Result<NamedHost<'_>, UrlFault>
+fn read_bracketed(mode: Mode, behind: &[u8]) -> Result<NamedHost<'_>, Fault>
     ensures { ReadsName (strictness mode) (left_bracket ∷ behind.now) result }
 {
     match cut(behind, b']') {
         Some((inner, rest)) => read_brackets(mode, inner, rest),
-        None => Err(UrlFault::BadCharacter),
+        None => Err(Fault {
+            kind: UrlFault::BadCharacter,
+            at: 0,
+            len: 1,
+        }),
     }
 }
 
 /// Reads what stands between brackets, and behind them.
-fn read_brackets<'a>(mode: Mode, inner: &'a [u8], rest: &'a [u8]) -> Result<NamedHost<'a>, UrlFault>
+fn read_brackets<'a>(mode: Mode, inner: &'a [u8], rest: &'a [u8]) -> Result<NamedHost<'a>, Fault>
     requires { FreeOf right_bracket inner.now }
     ensures { ReadsName (strictness mode)
         (left_bracket ∷ (inner.now ++ right_bracket ∷ rest.now)) result }
 {
     if !ends_host(rest) {
-        return Err(UrlFault::BadCharacter);
+        return Err(Fault {
+            kind: UrlFault::BadCharacter,
+            at: inner.len() + 2,
+            len: rest.len(),
+        });
     }
     let Some(host) = read_inner(mode, inner) else {
-        return Err(UrlFault::BadCharacter);
+        return Err(Fault {
+            kind: UrlFault::BadCharacter,
+            at: 1,
+            len: inner.len(),
+        });
     };
     match with_rest(mode, host, rest) {
         Some(named) => Ok(named),
-        None => Err(UrlFault::BadPort),
+        None => Err(Fault {
+            kind: UrlFault::BadPort,
+            at: inner.len() + 3,
+            len: rest.len() - 1,
+        }),
     }
 }
 
 /// Reads a piece without an opening bracket.
-fn read_unbracketed(mode: Mode, piece: &[u8]) -> Result<NamedHost<'_>, UrlFault>
+fn read_unbracketed(mode: Mode, piece: &[u8]) -> Result<NamedHost<'_>, Fault>
     requires some { 0 < length piece.now }
     requires no_bracket { begins_with left_bracket piece.now ≡ false }
     ensures { ReadsName (strictness mode) piece.now result }
@@ -166,43 +183,67 @@ fn read_unbracketed(mode: Mode, piece: &[u8]) -> Result<NamedHost<'_>, UrlFault>
         return read_colons(mode, piece);
     }
     if !are_digits(digits) {
-        return Err(UrlFault::BadPort);
+        return Err(Fault {
+            kind: UrlFault::BadPort,
+            at: text.len() + 1,
+            len: digits.len(),
+        });
     }
     let Some(host) = read_text(mode, text) else {
-        return Err(UrlFault::BadCharacter);
+        return Err(Fault {
+            kind: UrlFault::BadCharacter,
+            at: 0,
+            len: text.len(),
+        });
     };
     match with_port(mode, host, digits) {
         Some(named) => Ok(named),
-        None => Err(UrlFault::BadPort),
+        None => Err(Fault {
+            kind: UrlFault::BadPort,
+            at: text.len() + 1,
+            len: digits.len(),
+        }),
     }
 }
 
 /// Reads a piece without a colon.
-fn read_plain(mode: Mode, piece: &[u8]) -> Result<NamedHost<'_>, UrlFault>
+fn read_plain(mode: Mode, piece: &[u8]) -> Result<NamedHost<'_>, Fault>
     requires { spec.IsPlainHost piece.now }
     ensures { ReadsName (strictness mode) piece.now result }
 {
     match read_text(mode, piece) {
         Some(host) => Ok(alone(host)),
-        None => Err(UrlFault::BadCharacter),
+        None => Err(Fault {
+            kind: UrlFault::BadCharacter,
+            at: 0,
+            len: piece.len(),
+        }),
     }
 }
 
 /// Reads a piece whose colons mark no port.
-fn read_colons(mode: Mode, piece: &[u8]) -> Result<NamedHost<'_>, UrlFault>
+fn read_colons(mode: Mode, piece: &[u8]) -> Result<NamedHost<'_>, Fault>
     requires no_bracket { begins_with left_bracket piece.now ≡ false }
     requires colons { IsManyColoned piece.now }
     ensures { ReadsName (strictness mode) piece.now result }
 {
     if is_strict(mode) {
-        return Err(UrlFault::BadCharacter);
+        return Err(Fault {
+            kind: UrlFault::BadCharacter,
+            at: 0,
+            len: piece.len(),
+        });
     }
     if reads_address(mode, piece) {
         return Ok(alone(HostPiece::Address(piece)));
     }
     match read_text(mode, piece) {
         Some(host) => Ok(alone(host)),
-        None => Err(UrlFault::BadCharacter),
+        None => Err(Fault {
+            kind: UrlFault::BadCharacter,
+            at: 0,
+            len: piece.len(),
+        }),
     }
 }
 

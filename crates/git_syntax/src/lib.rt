@@ -17,6 +17,7 @@ pub mod host;
 pub mod ipv6;
 pub mod length;
 pub mod peeled;
+pub mod places;
 pub mod refusal;
 pub mod rules;
 pub mod scheme;

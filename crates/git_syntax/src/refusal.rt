@@ -53,7 +53,24 @@ pub enum UrlFault {
     HostRequired,
 }
 
-/// Why a text spells no location. It borrows from the text, which isn't told with it but for a front.
+/// What is wrong with a text, and where: `len` bytes of it, behind the first `at`.
+#[derive(Clone, Copy)]
+pub struct Fault {
+    /// What is wrong.
+    pub kind: UrlFault,
+    /// How many bytes stand before what is wrong.
+    pub at: usize,
+    /// The length of what is wrong, in bytes.
+    pub len: usize,
+}
+
+/// Why a text spells no location, and where: `len` bytes of the text are wrong, behind its first `at`. It borrows from the
+/// text, which isn't told with it but for a front.
+///
+/// The place is what stands there and should not: the character that is white space, the `%` of a broken escape, the first
+/// backslash of an authority, the user, the password, the host or the path that decodes to no text, all that stands in a
+/// port's place, a bracket that is not closed or what follows a closed one, and what should be a scheme. Where something is
+/// missing, it is where that would stand, and no byte long.
 ///
 /// `Display` says it in words, which show no byte of the text; `Debug` shows the length of a front in place of its bytes.
 ///
@@ -78,12 +95,16 @@ pub enum Refusal<'a> {
     MissingPath {
         /// The form that the text was taken for.
         kind: UrlKind,
+        /// Where the path would stand: the length of the text.
+        at: usize,
     },
     /// The text is not UTF-8.
     #[error("the {kind} is not UTF-8")]
     NotUtf8 {
         /// The form that the text was taken for.
         kind: UrlKind,
+        /// How many bytes stand before the first that is not UTF-8.
+        at: usize,
     },
     /// The scheme or the authority is too long.
     #[error("the scheme or the authority of the URL is longer than 1024 bytes, in a text of {total} bytes")]
@@ -92,6 +113,10 @@ pub enum Refusal<'a> {
         shown: &'a [u8],
         /// The length of the text, in bytes.
         total: usize,
+        /// How many bytes stand before what is too long: none before a scheme, else the scheme and `://`.
+        at: usize,
+        /// The length of what is too long, in bytes: of the scheme, else of what is shown behind `://`.
+        len: usize,
     },
     /// The text is no URL, or the host of the scp form is none.
     #[error("the {kind} has {fault}")]
@@ -100,5 +125,9 @@ pub enum Refusal<'a> {
         kind: UrlKind,
         /// What is wrong.
         fault: UrlFault,
+        /// How many bytes stand before what is wrong.
+        at: usize,
+        /// The length of what is wrong, in bytes. It is 0 where something is missing.
+        len: usize,
     },
 }

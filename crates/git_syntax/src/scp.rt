@@ -8,9 +8,9 @@ ghost use Rattle.std.specs.Prelude.{◌≡◌, ◌↔◌, ◌∷◌, IfErr, IfOk
 ghost use Rattle.git_syntax.specs.Addresses.{IsZone};
 ghost use Rattle.git_syntax.specs.Bytes.{FreeOf, LacksWhiteSpace, at_sign, begins_with, left_bracket};
 ghost use Rattle.git_syntax.specs.Escapes as spec;
-ghost use Rattle.git_syntax.specs.Flaws.{NamesFlaw};
+ghost use Rattle.git_syntax.specs.Flaws.{MissesPath, NamesFlaw};
 ghost use Rattle.git_syntax.specs.FoundPieces.{IsReady, meant, room_for, scp_slice};
-ghost use Rattle.git_syntax.specs.Grammar.{AddressedShape, SpellsScpAddressed, SpellsScpBefore};
+ghost use Rattle.git_syntax.specs.Grammar.{AddressedShape, IsScpShaped, SpellsScpAddressed, SpellsScpBefore};
 ghost use Rattle.git_syntax.specs.Hosts.{IsLiteral};
 ghost use Rattle.git_syntax.specs.Shapes.{PlainScp};
 ghost use Rattle.git_syntax.specs.ScpPieces.{ColonsInside, CutsUser, ReadsScpHost, ReadsScpPiece};
@@ -19,10 +19,11 @@ use crate::found::{Found, ScpHost};
 use crate::host::bytes::are_zone_bytes;
 use crate::host::is_simple_host;
 use crate::bytes::{after, cut, is_free_of, last_cut};
-use crate::refusal::{UrlFault, UrlKind};
+use crate::refusal::{Fault, UrlFault, UrlKind};
 use crate::escape::lacks_white_space;
 use crate::ipv6::is_address;
 use crate::refusal::Refusal;
+use crate::places::{first_byte, not_utf8, white_space};
 use crate::text::{as_text, is_plain, is_text};
 
 /// Finds the slices of the scp form: a host, perhaps behind a user, a colon and a path.
@@ -39,18 +40,43 @@ pub(crate) fn find_scp<'a>(
 {
     let plain = is_plain(input);
     if !is_utf8(plain, input) {
-        return Err(Refusal::NotUtf8 { kind: UrlKind::Scp });
+        return Err(no_text(input));
     }
     if path.is_empty() {
-        return Err(Refusal::MissingPath { kind: UrlKind::Scp });
+        return Err(no_path(input));
     }
     let (user, host) = cut_front_user(front);
     match find_host(plain, host) {
         Ok(host) => Ok(Found::Scp { user, host, path }),
         Err(fault) => Err(Refusal::BadUrl {
             kind: UrlKind::Scp,
-            fault,
+            fault: fault.kind,
+            at: front.len() - host.len() + fault.at,
+            len: fault.len,
         }),
+    }
+}
+
+/// The refusal of a text in the scp form that is not UTF-8.
+fn no_text(input: &[u8]) -> Refusal<'_>
+    requires text { ¬ IsUtf8 input.now }
+    requires shape { IsScpShaped input.now }
+    ensures { NamesFlaw input.now result }
+{
+    Refusal::NotUtf8 {
+        kind: UrlKind::Scp,
+        at: not_utf8(input),
+    }
+}
+
+/// The refusal of a text in the scp form that misses its path.
+fn no_path(input: &[u8]) -> Refusal<'_>
+    requires { MissesPath input.now UrlKind.Scp }
+    ensures { NamesFlaw input.now result }
+{
+    Refusal::MissingPath {
+        kind: UrlKind::Scp,
+        at: input.len(),
     }
 }
 
@@ -76,10 +102,10 @@ pub(crate) fn find_addressed<'a>(
     ensures flaw { IfErr result (λ refusal. NamesFlaw input.now refusal) }
 {
     if !is_text(input) {
-        return Err(Refusal::NotUtf8 { kind: UrlKind::Scp });
+        return Err(no_text(input));
     }
     if path.is_empty() {
-        return Err(Refusal::MissingPath { kind: UrlKind::Scp });
+        return Err(no_path(input));
     }
     Ok(Found::Scp {
         user: Some(user),
@@ -99,7 +125,7 @@ fn cut_front_user(front: &[u8]) -> (Option<&[u8]>, &[u8])
 }
 
 /// Finds the host of the scp form. What is known to be plain isn't looked at again for white space.
-fn find_host(plain: bool, host: &[u8]) -> Result<ScpHost<'_>, UrlFault>
+fn find_host(plain: bool, host: &[u8]) -> Result<ScpHost<'_>, Fault>
     requires plain { plain ≡ true → spec.is_plain host.now ≡ true }
     requires text { IsUtf8 host.now }
     requires no_at { FreeOf at_sign host.now }
@@ -111,13 +137,21 @@ fn find_host(plain: bool, host: &[u8]) -> Result<ScpHost<'_>, UrlFault>
         return Ok(ScpHost::Kept(host));
     }
     if !has_no_white_space(plain, host) {
-        return Err(UrlFault::BadCharacter);
+        return Err(white_space(as_text(host)));
     }
     if !is_free_of(host, b'\\') {
-        return Err(UrlFault::BadCharacter);
+        return Err(Fault {
+            kind: UrlFault::BadCharacter,
+            at: first_byte(host, b'\\'),
+            len: 1,
+        });
     }
     if host.is_empty() {
-        return Err(UrlFault::HostRequired);
+        return Err(Fault {
+            kind: UrlFault::HostRequired,
+            at: 0,
+            len: 0,
+        });
     }
     match after(host, b'[') {
         Some(behind) => find_in_brackets(behind),
@@ -136,7 +170,7 @@ fn has_no_white_space(plain: bool, text: &[u8]) -> bool
 
 /// Finds a host that has no bracket in front. Where it holds a colon, a bracket stands behind that, so that no port
 /// follows.
-fn find_name(host: &[u8]) -> Result<ScpHost<'_>, UrlFault>
+fn find_name(host: &[u8]) -> Result<ScpHost<'_>, Fault>
     requires some { 0 < length host.now }
     requires open_front { begins_with left_bracket host.now ≡ false }
     requires text { IsUtf8 host.now }
@@ -150,21 +184,33 @@ fn find_name(host: &[u8]) -> Result<ScpHost<'_>, UrlFault>
     if front.is_empty() || !is_free_of(behind, b':') {
         return Ok(ScpHost::Name(host));
     }
-    Err(UrlFault::BadPort)
+    Err(Fault {
+        kind: UrlFault::BadPort,
+        at: front.len() + 1,
+        len: behind.len(),
+    })
 }
 
 /// Finds the host that has this behind a bracket in front: the bracket that closes it is the last byte.
-fn find_in_brackets(behind: &[u8]) -> Result<ScpHost<'_>, UrlFault>
+fn find_in_brackets(behind: &[u8]) -> Result<ScpHost<'_>, Fault>
     requires text { IsUtf8 (left_bracket ∷ behind.now) }
     requires colons { ColonsInside (left_bracket ∷ behind.now) }
     ensures read { ReadsScpPiece (left_bracket ∷ behind.now) result }
     ensures within { IfOk result (λ found. length (scp_slice found) ≤ length behind.now) }
 {
     let Some((inner, rest)) = cut(behind, b']') else {
-        return Err(UrlFault::BadCharacter);
+        return Err(Fault {
+            kind: UrlFault::BadCharacter,
+            at: 0,
+            len: 1,
+        });
     };
     if !rest.is_empty() {
-        return Err(UrlFault::BadCharacter);
+        return Err(Fault {
+            kind: UrlFault::BadCharacter,
+            at: inner.len() + 2,
+            len: rest.len(),
+        });
     }
     if is_literal(inner) {
         Ok(ScpHost::Literal(inner))

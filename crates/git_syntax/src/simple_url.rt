@@ -3,7 +3,7 @@
 //! It may use `bytes`, `escape`, `host` and `rules`. Its contract: the parts are read exactly where the definitions
 //! spell a URL with them, and each refusal has its flaw. It takes no memory and copies nothing.
 
-ghost use Rattle.std.specs.Prelude.{◌≡◌, ◌↔◌, ◌⊎◌, IfErr, IfOk, IsTrue, IsUtf8, MatchOption, true};
+ghost use Rattle.std.specs.Prelude.{◌≡◌, ◌↔◌, ◌⊎◌, IfErr, IfOk, IsTrue, IsUtf8, true};
 ghost use Rattle.percent_encoding.specs.Percent.{percent_decode};
 ghost use Rattle.git_syntax.specs.Authority as authority;
 ghost use Rattle.git_syntax.specs.Authority.{Fits};
@@ -14,13 +14,14 @@ ghost use Rattle.git_syntax.specs.Grammar.{SpellsParts, UrlParts};
 ghost use Rattle.git_syntax.specs.HostPieces.{strictness};
 ghost use Rattle.git_syntax.specs.SchemeRules.{AreRulesOf};
 ghost use Rattle.git_syntax.specs.Bytes.{FreeOf, LacksWhiteSpace, at_sign, backslash, colon};
-ghost use Rattle.git_syntax.specs.UrlPieces.{HasNoText, HoldsCredentials, HoldsParts, IsNoAuthority, decoded_option, parts_of};
+ghost use Rattle.git_syntax.specs.UrlPieces.{HoldsParts, IsNoAuthority, ReadsCredentials, decoded_option, parts_of};
 
 use crate::host::{Mode, NamedHost, read_host, simple_host};
 use crate::rules::Rules;
 use crate::bytes::{cut, cut_before_path, is_free_of, is_scheme_text, last_cut};
-use crate::refusal::UrlFault;
+use crate::refusal::{Fault, UrlFault};
 use crate::escape::{decodes_to_utf8, has_percent, is_sound, lacks_white_space};
+use crate::places::{broken_escape, first_byte, white_space};
 
 /// The parts of a URL, as slices of its text: nothing is decoded, nothing is copied.
 #[derive(Clone, Copy)]
@@ -65,7 +66,7 @@ pub(crate) fn read_simple_url<'a>(
     rules: Rules,
     scheme: &'a [u8],
     rest: &'a [u8],
-) -> Result<ParsedUrl<'a>, UrlFault>
+) -> Result<ParsedUrl<'a>, Fault>
     requires plain { plain ≡ true → is_plain text.now ≡ true }
     requires shape { OtherShape text.now scheme.now rest.now }
     requires rules { AreRulesOf scheme.now rules }
@@ -74,23 +75,41 @@ pub(crate) fn read_simple_url<'a>(
     ensures same_scheme { IfOk result (λ url. url.scheme.now ≡ scheme.now) }
     ensures escaped { IfOk result (λ url. url.escaped ≡ escape.has_percent url.path.now) }
     ensures refused { IfErr result (λ fault. (parts : UrlParts) → ¬ SpellsParts text.now parts) }
-    ensures flaw { IfErr result (λ fault. UrlFlaw text.now fault) }
+    ensures flaw { IfErr result (λ fault. UrlFlaw text.now fault.at fault.len fault.kind) }
 {
     if !has_no_white_space(plain, text) {
-        return Err(UrlFault::BadCharacter);
+        return Err(white_space(text));
     }
     if !has_sound_escapes(plain, text) {
-        return Err(UrlFault::BadCharacter);
+        return Err(Fault {
+            kind: UrlFault::BadCharacter,
+            at: broken_escape(text.as_bytes()),
+            len: 1,
+        });
     }
     if !is_scheme_text(scheme) {
-        return Err(UrlFault::NoScheme);
+        return Err(Fault {
+            kind: UrlFault::NoScheme,
+            at: 0,
+            len: scheme.len(),
+        });
     }
     let (authority, path) = cut_before_path(rest, rules.web);
     if !means_text(plain, path) {
-        return Err(UrlFault::BadCharacter);
+        return Err(Fault {
+            kind: UrlFault::BadCharacter,
+            at: text.len() - path.len(),
+            len: path.len(),
+        });
     }
-    let parts = read_authority(rules.mode, rules.needs_host, authority)?;
-    Ok(parsed(scheme, parts, path, holds_escape(plain, path)))
+    match read_authority(rules.mode, rules.needs_host, authority) {
+        Ok(parts) => Ok(parsed(scheme, parts, path, holds_escape(plain, path))),
+        Err(fault) => Err(Fault {
+            kind: fault.kind,
+            at: scheme.len() + 3 + fault.at,
+            len: fault.len,
+        }),
+    }
 }
 
 /// The parts of a URL, from those of its authority.
@@ -153,17 +172,13 @@ fn holds_escape(plain: bool, piece: &[u8]) -> bool
 }
 
 /// Reads an authority, in which a host may be needed. Mostly it is a simple host.
-fn read_authority(
-    mode: Mode,
-    needed: bool,
-    authority: &[u8],
-) -> Result<AuthorityParts<'_>, UrlFault>
+fn read_authority(mode: Mode, needed: bool, authority: &[u8]) -> Result<AuthorityParts<'_>, Fault>
     ensures read { IfOk result (λ parts. HoldsParts (strictness mode) needed authority.now parts) }
     ensures clean { IfOk result (λ parts. FreeOf backslash authority.now) }
     ensures refused { IfErr result (λ fault. (¬ FreeOf backslash authority.now)
         ⊎ IsNoAuthority (strictness mode) needed authority.now) }
     ensures flaw { IfErr result
-        (λ fault. AuthorityFlaw (strictness mode) needed authority.now fault) }
+        (λ fault. AuthorityFlaw (strictness mode) needed authority.now fault.at fault.len fault.kind) }
 {
     if let Some(host) = simple_host(authority) {
         return Ok(AuthorityParts {
@@ -175,48 +190,59 @@ fn read_authority(
         });
     }
     if !is_free_of(authority, b'\\') {
-        return Err(UrlFault::BadCharacter);
+        return Err(Fault {
+            kind: UrlFault::BadCharacter,
+            at: first_byte(authority, b'\\'),
+            len: 1,
+        });
     }
     read_marked(mode, needed, authority)
 }
 
 /// Reads an authority in which marks may stand.
-fn read_marked(mode: Mode, needed: bool, authority: &[u8]) -> Result<AuthorityParts<'_>, UrlFault>
+fn read_marked(mode: Mode, needed: bool, authority: &[u8]) -> Result<AuthorityParts<'_>, Fault>
     ensures read { IfOk result (λ parts. HoldsParts (strictness mode) needed authority.now parts) }
     ensures refused { IfErr result (λ fault. IsNoAuthority (strictness mode) needed authority.now) }
     ensures flaw { IfErr result
-        (λ fault. AuthorityFlaw (strictness mode) needed authority.now fault) }
+        (λ fault. AuthorityFlaw (strictness mode) needed authority.now fault.at fault.len fault.kind) }
 {
     let Some((information, piece)) = last_cut(authority, b'@') else {
         return read_host_alone(mode, needed, authority);
     };
-    let Some(credentials) = read_credentials(information) else {
-        return Err(UrlFault::BadCharacter);
-    };
-    match read_host(mode, piece)? {
-        Some(host) => Ok(AuthorityParts {
+    let credentials = read_credentials(information)?;
+    match read_host(mode, piece) {
+        Ok(Some(host)) => Ok(AuthorityParts {
             credentials,
             host: Some(host),
         }),
-        None => Err(UrlFault::BadCharacter),
+        Ok(None) => Err(Fault {
+            kind: UrlFault::BadCharacter,
+            at: authority.len(),
+            len: 0,
+        }),
+        Err(fault) => Err(Fault {
+            kind: fault.kind,
+            at: information.len() + 1 + fault.at,
+            len: fault.len,
+        }),
     }
 }
 
 /// Reads an authority without user information.
-fn read_host_alone(
-    mode: Mode,
-    needed: bool,
-    authority: &[u8],
-) -> Result<AuthorityParts<'_>, UrlFault>
+fn read_host_alone(mode: Mode, needed: bool, authority: &[u8]) -> Result<AuthorityParts<'_>, Fault>
     requires { FreeOf at_sign authority.now }
     ensures read { IfOk result (λ parts. HoldsParts (strictness mode) needed authority.now parts) }
     ensures refused { IfErr result (λ fault. IsNoAuthority (strictness mode) needed authority.now) }
     ensures flaw { IfErr result
-        (λ fault. AuthorityFlaw (strictness mode) needed authority.now fault) }
+        (λ fault. AuthorityFlaw (strictness mode) needed authority.now fault.at fault.len fault.kind) }
 {
     let host = read_host(mode, authority)?;
     if needed && host.is_none() {
-        return Err(UrlFault::HostRequired);
+        return Err(Fault {
+            kind: UrlFault::HostRequired,
+            at: 0,
+            len: 0,
+        });
     }
     Ok(AuthorityParts {
         credentials: CredentialParts {
@@ -228,36 +254,46 @@ fn read_host_alone(
 }
 
 /// Reads user information: a user, or a user and a password, which decode to text.
-fn read_credentials(information: &[u8]) -> Option<CredentialParts<'_>>
-    ensures { MatchOption result (HasNoText information.now)
-        (λ parts. HoldsCredentials information.now parts) }
+fn read_credentials(information: &[u8]) -> Result<CredentialParts<'_>, Fault>
+    ensures { ReadsCredentials information.now result }
 {
     let Some((user, password)) = cut(information, b':') else {
         return read_user(information);
     };
     if !decodes_to_utf8(password) {
-        return None;
+        return Err(Fault {
+            kind: UrlFault::BadCharacter,
+            at: user.len() + 1,
+            len: password.len(),
+        });
     }
     if !decodes_to_utf8(user) {
-        return None;
+        return Err(Fault {
+            kind: UrlFault::BadCharacter,
+            at: 0,
+            len: user.len(),
+        });
     }
     let password = unless_empty(password);
-    Some(CredentialParts {
+    Ok(CredentialParts {
         user: user_beside(password, user),
         password,
     })
 }
 
 /// Reads user information without a password.
-fn read_user(information: &[u8]) -> Option<CredentialParts<'_>>
+fn read_user(information: &[u8]) -> Result<CredentialParts<'_>, Fault>
     requires { FreeOf colon information.now }
-    ensures { MatchOption result (HasNoText information.now)
-        (λ parts. HoldsCredentials information.now parts) }
+    ensures { ReadsCredentials information.now result }
 {
     if !decodes_to_utf8(information) {
-        return None;
+        return Err(Fault {
+            kind: UrlFault::BadCharacter,
+            at: 0,
+            len: information.len(),
+        });
     }
-    Some(CredentialParts {
+    Ok(CredentialParts {
         user: unless_empty(information),
         password: None,
     })

@@ -20,6 +20,7 @@ use crate::simple_url::{ParsedUrl, read_simple_url};
 use crate::bytes::cut;
 use crate::refusal::UrlKind;
 use crate::refusal::Refusal;
+use crate::places::not_utf8;
 use crate::scheme::Protocol;
 use crate::text::{as_text, is_plain, is_text};
 
@@ -66,10 +67,16 @@ fn find_file<'a>(input: &'a [u8], rest: &'a [u8]) -> Result<Found<'a>, Refusal<'
     ensures flaw { IfErr result (λ refusal. NamesFlaw input.now refusal) }
 {
     if !is_text(input) {
-        return Err(Refusal::NotUtf8 { kind: UrlKind::Url });
+        return Err(Refusal::NotUtf8 {
+            kind: UrlKind::Url,
+            at: not_utf8(input),
+        });
     }
     match cut(rest, b'/') {
-        None => Err(Refusal::MissingPath { kind: UrlKind::Url }),
+        None => Err(Refusal::MissingPath {
+            kind: UrlKind::Url,
+            at: input.len(),
+        }),
         Some((host, _)) => Ok(Found::File {
             host,
             path: rest.split_at(host.len()).1,
@@ -92,17 +99,40 @@ fn find_other<'a>(
     ensures flaw { IfErr result (λ refusal. NamesFlaw input.now refusal) }
 {
     if !fits(rules.web, scheme, rest) {
-        return Err(Refusal::TooLong {
-            shown: shown_front(input, scheme),
-            total: input.len(),
-        });
+        return Err(too_long(input, scheme, rest));
     }
     if is_plain(input) {
         return find_parts(as_text(input), true, rules, scheme, rest);
     }
     match str::from_utf8(input) {
         Ok(text) => find_parts(text, false, rules, scheme, rest),
-        Err(_) => Err(Refusal::NotUtf8 { kind: UrlKind::Url }),
+        Err(error) => Err(Refusal::NotUtf8 {
+            kind: UrlKind::Url,
+            at: error.valid_up_to(),
+        }),
+    }
+}
+
+/// The refusal of a URL of which the scheme is too long, or what follows its `://`.
+fn too_long<'a>(input: &'a [u8], scheme: &[u8], rest: &[u8]) -> Refusal<'a>
+    requires shape { OtherShape input.now scheme.now rest.now }
+    requires unfit { ¬ Fits scheme.now rest.now }
+    ensures { NamesFlaw input.now result }
+{
+    let shown = shown_front(input, scheme);
+    if scheme.len() > 1024 {
+        return Refusal::TooLong {
+            shown,
+            total: input.len(),
+            at: 0,
+            len: scheme.len(),
+        };
+    }
+    Refusal::TooLong {
+        shown,
+        total: input.len(),
+        at: scheme.len() + 3,
+        len: shown.len() - (scheme.len() + 3),
     }
 }
 
@@ -139,7 +169,9 @@ fn find_parts<'a>(
         Ok(url) => located(text.as_bytes(), rules, url),
         Err(fault) => Err(Refusal::BadUrl {
             kind: UrlKind::Url,
-            fault,
+            fault: fault.kind,
+            at: fault.at,
+            len: fault.len,
         }),
     }
 }
@@ -158,7 +190,10 @@ fn located<'a>(input: &'a [u8], rules: Rules, url: ParsedUrl<'a>) -> Result<Foun
         return Ok(Found::Ext { text: input });
     }
     if rules.needs_path && url.path.is_empty() {
-        return Err(Refusal::MissingPath { kind: UrlKind::Url });
+        return Err(Refusal::MissingPath {
+            kind: UrlKind::Url,
+            at: input.len(),
+        });
     }
     Ok(Found::Url { rules, url })
 }

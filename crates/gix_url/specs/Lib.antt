@@ -28,6 +28,7 @@ pub use Rattle.git_syntax.specs.Schemes
 pub use Rattle.git_syntax.specs.Authority
 pub use Rattle.git_syntax.specs.Grammar
 pub use Rattle.git_syntax.specs.AddressTest
+pub use Rattle.git_syntax.specs.Places
 pub use Rattle.git_syntax.specs.Cuts
 pub use Rattle.git_syntax.specs.Walks
 pub use Rattle.git_syntax.specs.HostPieces

@@ -44,26 +44,43 @@ impl fmt::Debug for Error {
         match self {
             Error::Memory => f.write_str("Memory"),
             Error::EmptyLocal => f.write_str("EmptyLocal"),
-            Error::MissingPath { kind, input } => f
+            Error::MissingPath { kind, input, at } => f
                 .debug_struct("MissingPath")
                 .field("kind", kind)
                 .field("input", &length_of(input))
+                .field("at", at)
                 .finish(),
-            Error::NotUtf8 { kind, input } => f
+            Error::NotUtf8 { kind, input, at } => f
                 .debug_struct("NotUtf8")
                 .field("kind", kind)
                 .field("input", &length_of(input))
+                .field("at", at)
                 .finish(),
-            Error::TooLong { shown, total } => f
+            Error::TooLong {
+                shown,
+                total,
+                at,
+                len,
+            } => f
                 .debug_struct("TooLong")
                 .field("shown", &length_of(shown))
                 .field("total", total)
+                .field("at", at)
+                .field("len", len)
                 .finish(),
-            Error::BadUrl { kind, fault, input } => f
+            Error::BadUrl {
+                kind,
+                fault,
+                input,
+                at,
+                len,
+            } => f
                 .debug_struct("BadUrl")
                 .field("kind", kind)
                 .field("fault", fault)
                 .field("input", &length_of(input))
+                .field("at", at)
+                .field("len", len)
                 .finish(),
             Error::HelperName { name } => f
                 .debug_struct("HelperName")

@@ -17,6 +17,9 @@ use thiserror::Error;
 /// `Display` says it in words, `Debug` by its fields. Neither shows bytes of a text that was refused, which may hold a
 /// password: `Debug` shows their length, and the user of `NoHome` as it is. Who wants the bytes finds them in the fields.
 ///
+/// The errors of reading tell where the text is wrong, as a [`Refusal`](crate::Refusal) does: `len` bytes of it, behind its
+/// first `at`.
+///
 /// ```
 /// /// Whether the same text can be read at another time: nothing is wrong with it.
 /// fn is_passing(error: &Error) -> bool {
@@ -38,6 +41,8 @@ pub enum Error {
         kind: UrlKind,
         /// The text.
         input: BString,
+        /// Where the path would stand: the length of the text.
+        at: usize,
     },
     /// The text is not UTF-8.
     #[error("the {kind} is not UTF-8")]
@@ -46,6 +51,8 @@ pub enum Error {
         kind: UrlKind,
         /// The text.
         input: BString,
+        /// How many bytes of it stand before the first that is not UTF-8.
+        at: usize,
     },
     /// The scheme or the authority is too long.
     #[error("the scheme or the authority of the URL is longer than 1024 bytes, in a text of {total} bytes")]
@@ -54,6 +61,10 @@ pub enum Error {
         shown: BString,
         /// The length of the text, in bytes.
         total: usize,
+        /// How many bytes stand before what is too long: none before a scheme, else the scheme and `://`.
+        at: usize,
+        /// The length of what is too long, in bytes: of the scheme, else of what is shown behind `://`.
+        len: usize,
     },
     /// The text is no URL, or the host of the scp form is none.
     #[error("the {kind} has {fault}")]
@@ -64,6 +75,10 @@ pub enum Error {
         fault: UrlFault,
         /// The text.
         input: BString,
+        /// How many bytes of it stand before what is wrong.
+        at: usize,
+        /// The length of what is wrong, in bytes. It is 0 where something is missing.
+        len: usize,
     },
     /// The name of a remote helper is no such name.
     #[error("the remote helper has no valid name")]

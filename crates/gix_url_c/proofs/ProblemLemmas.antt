@@ -7,10 +7,10 @@ use Rattle.gix_url_c.specs.Codes.{error_code, has_problem, no_problem, problem_o
 pub untold : (e : Error) → has_problem (error_code e) ≡ false → problem_of e ≡ no_problem
 untold error.Memory h = refl
 untold error.EmptyLocal h = refl
-untold (error.MissingPath kind input) h = absurd (cc)
-untold (error.NotUtf8 kind input) h = absurd (cc)
-untold (error.TooLong shown total) h = absurd (cc)
-untold (error.BadUrl kind fault input) h = absurd (cc)
+untold (error.MissingPath kind input at) h = absurd (cc)
+untold (error.NotUtf8 kind input at) h = absurd (cc)
+untold (error.TooLong shown total at len) h = absurd (cc)
+untold (error.BadUrl kind fault input at len) h = absurd (cc)
 untold (error.HelperName name) h = refl
 untold (error.Unwritable fault) h = absurd (cc)
 untold (error.NoHome user) h = refl

@@ -60,7 +60,7 @@ pub(crate) fn told_of(error: &Error) -> Problem
         Error::MissingPath { kind, .. } | Error::NotUtf8 { kind, .. } => {
             numbered(kind_number(*kind), 0, 0, 0)
         }
-        Error::TooLong { shown, total } => numbered(0, 0, shown.len(), *total),
+        Error::TooLong { shown, total, .. } => numbered(0, 0, shown.len(), *total),
         Error::BadUrl { kind, fault, .. } => {
             numbered(kind_number(*kind), fault_number(*fault), 0, 0)
         }

@@ -1,25 +1,23 @@
 -- Decisions on whole texts: each spells a location, or a flaw stands in it.
-use Rattle.std.proofs.Common.{◌≡◌, ℕ, true, ◌⊎◌, inl, inr, List, ◌∷◌, ◌++◌, ◌+◌, length, drop, Option, Some, None, refl, sym, ap, subst, ◌∙◌, IsUtf8}
-use Rattle.std.proofs.lemmas.Bool.{both_ways, cases_Bool}
+use Rattle.std.proofs.Common.{◌≡◌, ℕ, ◌<◌, ◌-◌, ◌==◌, true, false, ◌⊎◌, inl, inr, List, ◌∷◌, ◌++◌, ◌+◌, length, drop, Option, Some, None, refl, sym, ap, subst, ◌∙◌, arith, IsUtf8}
+use Rattle.std.proofs.lemmas.Bool.{cases_Bool}
 use Rattle.git_syntax.specs.declared.refusal.UrlKind.TheVariants as kind
 use Rattle.git_syntax.specs.declared.refusal.UrlFault.{UrlFault}
 use Rattle.git_syntax.specs.declared.refusal.UrlFault.TheVariants as fault
 use Rattle.git_syntax.specs.Value.{path_alone}
 use Rattle.git_syntax.specs.Value.Protocol.{file}
-use Rattle.git_syntax.specs.Bytes.{slash, colon, at_sign, left_bracket, backslash, right_bracket, FreeOf, LacksWhiteSpace, begins_with, lowercase, is_helper_name}
+use Rattle.git_syntax.specs.Bytes.{slash, colon, at_sign, left_bracket, backslash, right_bracket, FreeOf, begins_with, lowercase, is_helper_name}
 use Rattle.git_syntax.specs.Escapes.{escaped_percents}
-use Rattle.git_syntax.specs.Hosts.{Names}
-use Rattle.git_syntax.specs.Hosts.Mode.{bare}
-use Rattle.git_syntax.specs.Grammar.{HasHelperForm, helper_protocol, IsBracketed, IsNeither, ScpFront, ScpShape, AddressedShape, ScpUser, Unbrackets, ScpHost, scp_location, Spells}
-use Rattle.git_syntax.specs.Flaws.{ScpHostFlaw, MissesPath}
+use Rattle.git_syntax.specs.Grammar.{HasHelperForm, helper_protocol, IsNeither, ScpFront, ScpShape, AddressedShape, ScpUser, ScpHost, scp_location, Spells}
+use Rattle.git_syntax.specs.Flaws.{ScpNameFlaw, ScpHostFlaw, MissesPath}
 use Rattle.git_syntax.specs.Shapes.{ColonCut, HasFrontCut, LacksBrackets, HasScpCut, HasAddressedCut, AddressedFront, PlainScp}
-use Rattle.git_syntax.specs.ScpPieces.{ColonsInside}
+use Rattle.git_syntax.specs.ScpPieces.{ColonsInside, NamesHost}
 use Rattle.git_syntax.specs.Refusals.{HasFlaw, Decided}
-use Rattle.git_syntax.proofs.Texts.CutLemmas.{tails, free-cons, begins_cut, free_or_cut, not_free, ends_or_not}
+use Rattle.git_syntax.proofs.Texts.CutLemmas.{free-cons, begins_cut, free_or_cut, not_free}
+use Rattle.git_syntax.proofs.Texts.PlaceLemmas.{held_stands, white_stands}
 use Rattle.git_syntax.proofs.Readings.ShapeLemmas.{no_helper_free, no_helper_alone, no_helper_unnamed, front_unbracketed, front_taken, no_scp_cut, no_scp_uncut, addressed_free, addressed_at, addressed_unbracketed, addressed_bracketed, addressed_no_path, addressed_other, plain_scp, local_shape, unbracketed_front}
-use Rattle.git_syntax.proofs.Readings.ScpLemmas.{colons_inside_front, colons_inside_host, colons_inside_escaped, no_port_inside, no_port_named, nothing_named, nothing_escaped, scp_host_found, scp_host_utf8}
-use Rattle.git_laws.proofs.Refused.TextDecisions.{Decides, nil_or_some, free_or_not, white_or_not, utf8_or_not, address_or_not, free_or_last_cut, mark_or_cut}
-use Rattle.git_laws.proofs.Refused.HostDecisions.{named_or_flawed}
+use Rattle.git_syntax.proofs.Readings.ScpLemmas.{colons_found, colons_inside_front, colons_inside_host, inner_kept, literal_found, name_found, no_port_found, open_found, rest_found, scp_host_ends, scp_host_found, scp_host_utf8}
+use Rattle.git_laws.proofs.Refused.TextDecisions.{Decides, nil_or_some, free_or_not, white_or_not, utf8_or_not, address_or_not, literal_or_not, free_or_last_cut, mark_or_cut}
 use Rattle.git_laws.proofs.Refused.UrlDecisions.{SpelledOrFlawed, url_decided}
 
 -- ---- remote helpers
@@ -44,48 +42,76 @@ helper_or_not b =
 
 -- ---- the host of the scp form
 
--- brackets stand around a text, or not
-bracketed_or_not : (t : List ℕ) → Decides (IsBracketed t)
-bracketed_or_not t =
-    elim (cases_Bool (begins_with left_bracket t)) [
-      | inr other ↦ inr (λ (inner, e). both_ways _ other (ap (begins_with left_bracket) e))
-      | inl begins ↦
-          let (behind, e) = begins_cut left_bracket t begins in
-          elim (ends_or_not right_bracket behind) [
-            | inl (inner, k) ↦ inl (inner, e ∙ ap (λ x. left_bracket ∷ x) k)
-            | inr other ↦ inr (λ (inner, k). other inner (tails (sym e ∙ k)))
+-- a host of the scp form stands for one, or is flawed
+abbrev HostOrFlawed : List ℕ → Type 0
+HostOrFlawed host = ((meant : List ℕ) × ScpHost host meant) ⊎ ((named : UrlFault) × (at : ℕ) × (len : ℕ) × ScpHostFlaw host at len named)
+
+-- a host is read where each `%` is its own escape, or is flawed
+abbrev PieceOrFlawed : List ℕ → Type 0
+PieceOrFlawed host = ((meant : List ℕ) × NamesHost (escaped_percents host) meant) ⊎ ((named : UrlFault) × (at : ℕ) × (len : ℕ) × ScpNameFlaw host at len named)
+
+-- a text between brackets
+inner_decided : (behind inner rest : List ℕ) → IsUtf8 (left_bracket ∷ behind) → FreeOf right_bracket inner → behind ≡ inner ++ right_bracket ∷ rest → true ≡ (length rest == 0) → PieceOrFlawed (left_bracket ∷ behind)
+inner_decided behind inner rest text closed e none =
+    elim (literal_or_not (escaped_percents inner)) [
+      | inl h ↦ inl (_, literal_found behind inner rest closed e none h)
+      | inr other ↦ inl (_, inner_kept behind inner rest text closed e none other)
+    ]
+
+-- a bracket in front
+brackets_decided : (behind : List ℕ) → IsUtf8 (left_bracket ∷ behind) → ColonsInside (left_bracket ∷ behind) → PieceOrFlawed (left_bracket ∷ behind)
+brackets_decided behind text inside =
+    elim (free_or_cut right_bracket behind) [
+      | inl free ↦ inr (fault.BadCharacter, 0, 1, open_found behind free)
+      | inr (inner, rest, closed, e) ↦
+          elim (cases_Bool (length rest == 0)) [
+            | inl none ↦ inner_decided behind inner rest text closed e (sym none)
+            | inr some ↦ inr (fault.BadCharacter, _, _, rest_found behind inner rest inside closed e (sym some))
           ]
     ]
 
--- a host comes without brackets around it
-unbracket : (host : List ℕ) → (inner : List ℕ) × Unbrackets host inner
-unbracket host = elim (bracketed_or_not host) [ inl (inner, e) ↦ (inner, Unbrackets.brackets e) | inr none ↦ (host, Unbrackets.same none refl) ]
+-- no bracket in front
+open_decided : (host : List ℕ) → 0 < length host → begins_with left_bracket host ≡ false → IsUtf8 host → ColonsInside host → PieceOrFlawed host
+open_decided host some open_front text inside =
+    elim (free_or_cut colon host) [
+      | inl free ↦ inl (_, name_found host some open_front text free)
+      | inr (front, behind, free, e) ↦
+          elim (cases_Bool (length front == 0)) [
+            | inl none ↦ inl (_, colons_found host front behind open_front text inside e (inl (sym none)))
+            | inr some ↦
+                elim (free_or_not colon behind) [
+                  | inr held ↦ inl (_, colons_found host front behind open_front text inside e (inr held))
+                  | inl last ↦ inr (fault.BadPort, _, _, no_port_found host front behind open_front inside free e (sym some) last)
+                ]
+          ]
+    ]
 
--- a host of the scp form stands for one, or is flawed
-abbrev HostOrFlawed : List ℕ → Type 0
-HostOrFlawed host = ((meant : List ℕ) × ScpHost host meant) ⊎ ((named : UrlFault) × ScpHostFlaw host named)
-
--- by what the piece that it is read as names
-piece_decided : (host : List ℕ) (named : Option (List ℕ)) (port : Option ℕ) → FreeOf at_sign host → FreeOf backslash host → LacksWhiteSpace host → ColonsInside host → Names bare (escaped_percents host) named port → HostOrFlawed host
-piece_decided host None port lone free white inside n =
-    inr (fault.HostRequired, ScpHostFlaw.empty (nothing_escaped host (nothing_named (escaped_percents host) port n)))
-piece_decided host (Some named) port lone free white inside n =
-    let (meant, off) = unbracket named in
-    let none = no_port_named (escaped_percents host) (Some named) port (no_port_inside (escaped_percents host) (colons_inside_escaped host inside)) n in
-    inl (meant, scp_host_found host (escaped_percents host) meant lone free white refl (record { named = named; names = subst (λ p. Names bare (escaped_percents host) (Some named) p) none n; unbracketed = off }))
+-- what isn't empty, with a bracket in front or without
+piece_decided : (host : List ℕ) → 0 < length host → IsUtf8 host → ColonsInside host → PieceOrFlawed host
+piece_decided host some text inside =
+    elim (cases_Bool (begins_with left_bracket host)) [
+      | inr open_front ↦ open_decided host some open_front text inside
+      | inl front ↦
+          let (behind, e) = begins_cut left_bracket host front in
+          subst PieceOrFlawed (sym e) (brackets_decided behind (subst IsUtf8 e text) (subst ColonsInside e inside))
+    ]
 
 -- by its bytes
 host_decided : (host : List ℕ) → IsUtf8 host → FreeOf at_sign host → ColonsInside host → HostOrFlawed host
 host_decided host text lone inside =
     elim (white_or_not host) [
-      | inr held ↦ inr (fault.BadCharacter, ScpHostFlaw.white_space text held)
+      | inr held ↦ let (at, len, first) = white_stands host text held in inr (fault.BadCharacter, at, len, ScpHostFlaw.white_space text held first)
       | inl white ↦
           elim (free_or_not backslash host) [
-            | inr held ↦ inr (fault.BadCharacter, ScpHostFlaw.holds_backslash held)
+            | inr held ↦ let (at, first) = held_stands backslash host held in inr (fault.BadCharacter, at, 1, ScpHostFlaw.holds_backslash first refl)
             | inl free ↦
-                elim (named_or_flawed bare (escaped_percents host)) [
-                  | inl (named, port, n) ↦ piece_decided host named port lone free white inside n
-                  | inr (named, flaw) ↦ inr (named, ScpHostFlaw.bad_name named flaw)
+                elim (nil_or_some host) [
+                  | inl none ↦ inr (fault.HostRequired, 0, 0, ScpHostFlaw.empty none refl refl)
+                  | inr some ↦
+                      elim (piece_decided host some text inside) [
+                        | inl (meant, n) ↦ inl (meant, scp_host_found host (escaped_percents host) meant lone free white refl n)
+                        | inr (named, at, len, flaw) ↦ inr (named, at, len, ScpHostFlaw.bad_name named flaw)
+                      ]
                 ]
           ]
     ]
@@ -114,8 +140,8 @@ plain_decided b front path h =
                 elim (host_decided host (scp_host_utf8 b front path user host h.shape text split) lone inside) [
                   | inl (meant, hosted) ↦
                       inl (scp_location user meant path, Spells.scp_form (inl (record { front = front; path = path; user = user; host = host; meant = meant; shape = h.shape; text = text; pathed = some; split = split; hosted = hosted; value = refl })))
-                  | inr (named, flaw) ↦
-                      inr (HasFlaw.bad_url kind.Scp named (record { not_addressed = h.not_addressed; front = front; path = path; user = user; host = host; shape = h.shape; split = split; no_at = lone; flaw = flaw }))
+                  | inr (named, at, len, flaw) ↦
+                      inr (HasFlaw.bad_url kind.Scp named (length front - length host + at) len (record { not_addressed = h.not_addressed; front = front; path = path; user = user; host = host; shape = h.shape; split = split; no_at = lone; place = at; flaw = flaw; offset = omega (arith, scp_host_ends split) }))
                 ]
           ]
     ]

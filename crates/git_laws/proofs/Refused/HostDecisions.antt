@@ -14,7 +14,7 @@ use Rattle.git_syntax.specs.Hosts.{Mode, is_http_host_byte, normal_host, HostTex
 use Rattle.git_syntax.specs.Hosts.Mode.{strict, bare, loose}
 use Rattle.git_syntax.specs.Flaws.{IsNoHost, IsNoInner, HasBadPort, HasBadHost, NameFlaw}
 use Rattle.git_syntax.specs.HostPieces.{EndsHost, shown_literal}
-use Rattle.git_syntax.proofs.Texts.CutLemmas.{tails, begins_cut, free_or_cut, not_free, ends_or_not}
+use Rattle.git_syntax.proofs.Texts.CutLemmas.{begins_cut, free_or_cut, ends_or_not}
 use Rattle.git_syntax.proofs.Readings.HostLemmas.{loose_not_strict, bare_not_strict, loose_not_bare, literal_inner, not_ended, not_inner}
 use Rattle.git_laws.proofs.Refused.TextDecisions.{Decides, utf8_or_not, address_or_not, literal_or_not}
 
@@ -97,7 +97,7 @@ address_piece_or_not piece =
 
 -- a piece names a host and a port, or is flawed
 abbrev pub NamesOrFlawed : Mode → List ℕ → Type 0
-NamesOrFlawed mode piece = ((host : Option (List ℕ)) × (port : Option ℕ) × Names mode piece host port) ⊎ ((named : UrlFault) × NameFlaw mode piece named)
+NamesOrFlawed mode piece = ((host : Option (List ℕ)) × (port : Option ℕ) × Names mode piece host port) ⊎ ((named : UrlFault) × (at : ℕ) × (len : ℕ) × NameFlaw mode piece named at len)
 
 -- what follows brackets and a colon
 behind_colon : (mode : Mode) (x digits inner : List ℕ) → FreeOf right_bracket x → Inner mode x inner → NamesOrFlawed mode (left_bracket ∷ (x ++ right_bracket ∷ (colon ∷ digits)))
@@ -105,7 +105,7 @@ behind_colon mode x [] inner free h = inl (_, _, Names.bracketed_colon x inner f
 behind_colon mode x (d ∷ digits) inner free h =
     elim (number_or_not mode (d ∷ digits)) [
       | inl (port, n) ↦ inl (_, _, Names.bracketed_port x inner (d ∷ digits) port free h n refl refl refl)
-      | inr none ↦ inr (fault.BadPort, HasBadPort.bracketed x (d ∷ digits) free refl (omega arith, none))
+      | inr none ↦ inr (fault.BadPort, _, _, HasBadPort.bracketed x (d ∷ digits) free refl (omega arith, none) refl refl)
     ]
 
 -- what follows brackets
@@ -126,10 +126,10 @@ ends_host_or_not (b ∷ rest) =
 closed_named : (mode : Mode) (x rest : List ℕ) → FreeOf right_bracket x → NamesOrFlawed mode (left_bracket ∷ (x ++ right_bracket ∷ rest))
 closed_named mode x rest free =
     elim (ends_host_or_not rest) [
-      | inr other ↦ inr (fault.BadCharacter, not_ended mode (x ++ right_bracket ∷ rest) x rest free refl other)
+      | inr other ↦ inr (fault.BadCharacter, _, _, not_ended mode (x ++ right_bracket ∷ rest) x rest free refl other)
       | inl ended ↦
           elim (inner_or_not mode x) [
-            | inr none ↦ inr (fault.BadCharacter, not_inner mode (x ++ right_bracket ∷ rest) x rest free refl ended none)
+            | inr none ↦ inr (fault.BadCharacter, _, _, not_inner mode (x ++ right_bracket ∷ rest) x rest free refl ended none)
             | inl (inner, h) ↦ behind_brackets mode x rest inner free h ended
           ]
     ]
@@ -138,7 +138,7 @@ closed_named mode x rest free =
 bracket_named : (mode : Mode) (behind : List ℕ) → NamesOrFlawed mode (left_bracket ∷ behind)
 bracket_named mode behind =
     elim (free_or_cut right_bracket behind) [
-      | inl free ↦ inr (fault.BadCharacter, HasBadHost.open_bracket refl (λ x rest a. not_free right_bracket x rest (subst (λ t. FreeOf right_bracket t) (tails a.joined) free)))
+      | inl free ↦ inr (fault.BadCharacter, _, _, HasBadHost.open_bracket behind free refl refl refl)
       | inr (x, rest, free, e) ↦ subst (λ t. NamesOrFlawed mode (left_bracket ∷ t)) (sym e) (closed_named mode x rest free)
     ]
 
@@ -147,7 +147,7 @@ plain_named : (mode : Mode) (piece : List ℕ) → IsPlainHost piece → NamesOr
 plain_named mode piece h =
     elim (text_or_not mode piece) [
       | inl (named, t) ↦ inl (_, _, Names.plain named h t refl refl)
-      | inr none ↦ inr (fault.BadCharacter, HasBadHost.plain piece [] h (inl refl) (sym (append-nil piece)) none)
+      | inr none ↦ inr (fault.BadCharacter, _, _, HasBadHost.plain piece [] h (inl refl) (sym (append-nil piece)) none refl refl)
     ]
 
 -- what follows it and a colon
@@ -156,7 +156,7 @@ port_named mode front named [] h t free = inl (_, _, Names.plain_colon front nam
 port_named mode front named (d ∷ digits) h t free =
     elim (number_or_not mode (d ∷ digits)) [
       | inl (port, n) ↦ inl (_, _, Names.plain_port front named (d ∷ digits) port h t n refl refl refl)
-      | inr none ↦ inr (fault.BadPort, HasBadPort.plain front (d ∷ digits) h free refl (omega arith, none))
+      | inr none ↦ inr (fault.BadPort, _, _, HasBadPort.plain front (d ∷ digits) h free refl (omega arith, none) refl refl)
     ]
 
 -- a host outside brackets and its only colon
@@ -164,7 +164,7 @@ colon_named : (mode : Mode) (front digits : List ℕ) → IsPlainHost front → 
 colon_named mode front digits h free =
     elim (text_or_not mode front) [
       | inl (named, t) ↦ port_named mode front named digits h t free
-      | inr none ↦ inr (fault.BadCharacter, HasBadHost.plain front (colon ∷ digits) h (inr (digits, free, refl)) refl none)
+      | inr none ↦ inr (fault.BadCharacter, _, _, HasBadHost.plain front (colon ∷ digits) h (inr (digits, free, refl)) refl none refl refl)
     ]
 
 -- colons that mark no port, where no address is read
@@ -172,12 +172,12 @@ other_named : (mode : Mode) (piece : List ℕ) → ¬ (mode ≡ strict) → ¬ R
 other_named mode piece lax unread open_front many =
     elim (text_or_not mode piece) [
       | inl (named, t) ↦ inl (_, _, Names.colons named lax unread open_front many t refl refl)
-      | inr none ↦ inr (fault.BadCharacter, HasBadHost.colons lax unread open_front many none)
+      | inr none ↦ inr (fault.BadCharacter, _, _, HasBadHost.colons lax unread open_front many none refl refl)
     ]
 
 -- colons that mark no port
 many_named : (mode : Mode) (piece : List ℕ) → begins_with left_bracket piece ≡ false → IsManyColoned piece → NamesOrFlawed mode piece
-many_named strict piece open_front many = inr (fault.BadCharacter, HasBadHost.colons_on_the_web refl open_front many)
+many_named strict piece open_front many = inr (fault.BadCharacter, _, _, HasBadHost.colons_on_the_web refl open_front many refl refl)
 many_named bare piece open_front many =
     elim (address_piece_or_not piece) [
       | inl h ↦ inl (_, _, Names.unbracketed (refl, h) refl refl)

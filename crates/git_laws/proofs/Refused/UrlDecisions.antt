@@ -20,8 +20,9 @@ use Rattle.git_syntax.specs.UrlPieces.{CutsRest, HasNoText, HoldsHosted}
 use Rattle.git_syntax.specs.FoundPieces.{url_location}
 use Rattle.git_syntax.specs.Refusals.{HasFlaw}
 use Rattle.git_syntax.proofs.Texts.CutLemmas.{cut_at_first, free_or_cut}
+use Rattle.git_syntax.proofs.Texts.PlaceLemmas.{held_stands, unsound_stands, white_stands}
 use Rattle.git_syntax.proofs.Readings.ShapeLemmas.{file_found, file_misses_path}
-use Rattle.git_syntax.proofs.Readings.UrlLemmas.{nothing_named, bad_user_flaw, url_cut, spelled}
+use Rattle.git_syntax.proofs.Readings.UrlLemmas.{nothing_named, bad_user_flaw, path_end, too_long_placed, url_cut, spelled}
 use Rattle.git_syntax.proofs.Readings.UrlLocationLemmas.{path_missed}
 use Rattle.git_syntax.proofs.Readings.FoundLemmas.{means_location}
 use Rattle.git_laws.proofs.Refused.TextDecisions.{nil_or_some, free_or_not, white_or_not, utf8_or_not, fits_or_not, free_or_last_cut}
@@ -30,18 +31,18 @@ use Rattle.git_laws.proofs.Refused.HostDecisions.{named_or_flawed}
 -- ---- authorities
 
 -- user information holds a user and a password, or what is no text
-credentials_or_not : (text : List ℕ) → ((user : Option (List ℕ)) × (password : Option (List ℕ)) × Credentials text user password) ⊎ HasNoText text
+credentials_or_not : (text : List ℕ) → ((user : Option (List ℕ)) × (password : Option (List ℕ)) × Credentials text user password) ⊎ ((at : ℕ) × (len : ℕ) × HasNoText text at len)
 credentials_or_not text =
     elim (free_or_cut colon text) [
       | inl free ↦
-          elim (utf8_or_not (percent_decode text)) [ inl u ↦ inl (_, _, Credentials.user_alone free u refl refl) | inr bad ↦ inr (HasNoText.user free bad) ]
+          elim (utf8_or_not (percent_decode text)) [ inl u ↦ inl (_, _, Credentials.user_alone free u refl refl) | inr bad ↦ inr (_, _, HasNoText.user free bad refl refl) ]
       | inr (u, w, free, e) ↦
           elim (utf8_or_not (percent_decode u)) [
-            | inr bad ↦ inr (HasNoText.user_before_password u w free e bad)
+            | inr bad ↦ inr (_, _, HasNoText.user_before_password u w free e bad refl refl)
             | inl first ↦
                 elim (utf8_or_not (percent_decode w)) [
                   | inl second ↦ inl (_, _, Credentials.with_password u w free e first second refl refl)
-                  | inr bad ↦ inr (HasNoText.password u w free e bad)
+                  | inr bad ↦ inr (_, _, HasNoText.password u w free e bad refl refl)
                 ]
           ]
     ]
@@ -50,22 +51,22 @@ credentials_or_not text =
 abbrev pub HeldOrFlawed : Mode → Bool → List ℕ → Type 0
 HeldOrFlawed mode needed authority =
     ((user : Option (List ℕ)) × (password : Option (List ℕ)) × (host : Option (List ℕ)) × (port : Option ℕ) × HoldsHosted mode needed authority user password host port)
-    ⊎ ((named : UrlFault) × AuthorityFlaw mode needed authority named)
+    ⊎ ((named : UrlFault) × (at : ℕ) × (len : ℕ) × AuthorityFlaw mode needed authority at len named)
 
 -- an authority without user information
 alone_held : (mode : Mode) (needed : Bool) (authority : List ℕ) (host : Option (List ℕ)) (port : Option ℕ) → FreeOf at_sign authority → Names mode authority host port → HeldOrFlawed mode needed authority
 alone_held mode needed authority (Some host) port free n = inl (_, _, _, _, record { named = Authority.host_alone free n refl refl; hosted = λ e. refl })
-alone_held mode true authority None port free n = inr (fault.HostRequired, AuthorityFlaw.host_required refl (nothing_named mode authority None port n refl))
+alone_held mode true authority None port free n = inr (fault.HostRequired, _, _, AuthorityFlaw.host_required refl (nothing_named mode authority None port n refl) refl refl)
 alone_held mode false authority None port free n =
     inl (_, _, _, _, record { named = Authority.host_alone free n refl refl; hosted = λ e. absurd (false≢true e) })
 
 -- an authority with user information
 behind_held : (mode : Mode) (needed : Bool) (authority information piece : List ℕ) (host : Option (List ℕ)) (port : Option ℕ) → FreeOf at_sign piece → authority ≡ information ++ at_sign ∷ piece → Names mode piece host port → HeldOrFlawed mode needed authority
 behind_held mode needed authority information piece None port free e n =
-    inr (fault.BadCharacter, AuthorityFlaw.no_host information (e ∙ ap (λ p. information ++ at_sign ∷ p) (nothing_named mode piece None port n refl)))
+    inr (fault.BadCharacter, _, _, AuthorityFlaw.no_host information (e ∙ ap (λ p. information ++ at_sign ∷ p) (nothing_named mode piece None port n refl)) refl refl)
 behind_held mode needed authority information piece (Some host) port free e n =
     elim (credentials_or_not information) [
-      | inr bad ↦ inr (fault.BadCharacter, bad_user_flaw mode needed authority information piece free e bad)
+      | inr (at, len, bad) ↦ inr (fault.BadCharacter, at, len, bad_user_flaw mode needed authority information piece at len free e bad)
       | inl (user, password, c) ↦ inl (_, _, _, _, record { named = Authority.with_user information piece free e c n refl; hosted = λ e. refl })
     ]
 
@@ -76,12 +77,12 @@ held_or_flawed mode needed authority =
       | inl free ↦
           elim (named_or_flawed mode authority) [
             | inl (host, port, n) ↦ alone_held mode needed authority host port free n
-            | inr (named, flaw) ↦ inr (named, AuthorityFlaw.bad_name authority named (PieceOf.whole free refl) flaw)
+            | inr (named, at, len, flaw) ↦ inr (named, _, len, AuthorityFlaw.bad_name authority named 0 at (PieceOf.whole free refl refl) flaw refl)
           ]
       | inr (information, piece, free, e) ↦
           elim (named_or_flawed mode piece) [
             | inl (host, port, n) ↦ behind_held mode needed authority information piece host port free e n
-            | inr (named, flaw) ↦ inr (named, AuthorityFlaw.bad_name piece named (PieceOf.behind information free e) flaw)
+            | inr (named, at, len, flaw) ↦ inr (named, _, len, AuthorityFlaw.bad_name piece named _ at (PieceOf.behind information free e refl) flaw refl)
           ]
     ]
 
@@ -89,19 +90,21 @@ held_or_flawed mode needed authority =
 
 -- the text has the parts of a URL, or a flaw
 abbrev pub PartsOrFlawed : List ℕ → Type 0
-PartsOrFlawed b = ((parts : UrlParts) × SpellsParts b parts) ⊎ ((named : UrlFault) × UrlFlaw b named)
+PartsOrFlawed b = ((parts : UrlParts) × SpellsParts b parts) ⊎ ((named : UrlFault) × (at : ℕ) × (len : ℕ) × UrlFlaw b at len named)
 
 -- a URL that was cut
 cut_or_flawed : (b scheme authority path : List ℕ) → UrlCut b scheme authority path → Fits scheme (authority ++ path) → IsUtf8 b → LacksWhiteSpace b → is_sound b ≡ true → PartsOrFlawed b
 cut_or_flawed b scheme authority path cut fits text white sound =
     elim (free_or_not backslash authority) [
-      | inr held ↦ inr (fault.BadCharacter, UrlFlaw.bad_authority scheme authority path fault.BadCharacter cut (AuthorityFlaw.holds_backslash held))
+      | inr held ↦
+          let (at, first) = held_stands backslash authority held in
+          inr (fault.BadCharacter, _, 1, UrlFlaw.bad_authority scheme authority path fault.BadCharacter at cut (AuthorityFlaw.holds_backslash first refl) refl)
       | inl free ↦
           elim (held_or_flawed (mode_of scheme) (requires_host scheme) authority) [
-            | inr (named, flaw) ↦ inr (named, UrlFlaw.bad_authority scheme authority path named cut flaw)
+            | inr (named, at, len, flaw) ↦ inr (named, _, len, UrlFlaw.bad_authority scheme authority path named at cut flaw refl)
             | inl (user, password, host, port, held) ↦
                 elim (utf8_or_not (percent_decode path)) [
-                  | inr bad ↦ inr (fault.BadCharacter, UrlFlaw.bad_path scheme authority path cut bad)
+                  | inr bad ↦ inr (fault.BadCharacter, length (scheme ++ (codes "://" ++ authority)), _, UrlFlaw.bad_path scheme authority path cut bad (path_end b scheme authority path cut.shape.shape.joined) refl)
                   | inl good ↦ inl (_, spelled cut text white (sym sound) free fits held good)
                 ]
           ]
@@ -111,13 +114,13 @@ cut_or_flawed b scheme authority path cut fits text white sound =
 parts_or_flawed : (b front rest : List ℕ) → OtherShape b front rest → Fits front rest → IsUtf8 b → PartsOrFlawed b
 parts_or_flawed b front rest shape fits text =
     elim (white_or_not b) [
-      | inr held ↦ inr (fault.BadCharacter, UrlFlaw.white_space front rest shape text held)
+      | inr held ↦ let (at, len, first) = white_stands b text held in inr (fault.BadCharacter, at, len, UrlFlaw.white_space front rest shape text held first)
       | inl white ↦
           elim (cases_Bool (is_sound b)) [
-            | inr broken ↦ inr (fault.BadCharacter, UrlFlaw.unsound front rest shape broken)
+            | inr broken ↦ let (at, first) = unsound_stands b broken in inr (fault.BadCharacter, at, 1, UrlFlaw.unsound front rest shape broken first refl)
             | inl sound ↦
                 elim (cases_Bool (is_scheme_text front)) [
-                  | inr none ↦ inr (fault.NoScheme, UrlFlaw.no_scheme front rest shape none)
+                  | inr none ↦ inr (fault.NoScheme, _, _, UrlFlaw.no_scheme front rest shape none refl refl)
                   | inl named ↦
                       let (joined, before, starts) = cut_at_first (is_path_start (is_web_scheme front)) rest in
                       let place = position_or_len (is_path_start (is_web_scheme front)) rest in
@@ -164,18 +167,24 @@ parts_spelled b parts h =
           ]
     ]
 
+-- a URL that is too long
+too_long_decided : (b front rest : List ℕ) → OtherShape b front rest → ¬ Fits front rest → HasFlaw b
+too_long_decided b front rest shape unfit =
+    let (at, len, place) = too_long_placed b front rest shape.shape.joined in
+    HasFlaw.too_long _ _ at len (record { front = front; rest = rest; shape = shape; unfit = unfit; front_shown = refl; length_told = refl; place = place })
+
 -- a URL that is no file URL
 other_decided : (b front rest : List ℕ) → OtherShape b front rest → SpelledOrFlawed b
 other_decided b front rest shape =
     elim (fits_or_not front rest) [
-      | inr unfit ↦ inr (HasFlaw.too_long _ _ (record { front = front; rest = rest; shape = shape; unfit = unfit; front_shown = refl; length_told = refl }))
+      | inr unfit ↦ inr (too_long_decided b front rest shape unfit)
       | inl fits ↦
           elim (utf8_or_not b) [
             | inr bad ↦ inr (HasFlaw.no_text kind.Url bad (front, rest, shape.shape))
             | inl text ↦
                 elim (parts_or_flawed b front rest shape fits text) [
                   | inl (parts, h) ↦ parts_spelled b parts h
-                  | inr (named, flaw) ↦ inr (HasFlaw.bad_url kind.Url named flaw)
+                  | inr (named, at, len, flaw) ↦ inr (HasFlaw.bad_url kind.Url named at len flaw)
                 ]
           ]
     ]

@@ -333,10 +333,10 @@ fault_line fault.HostRequired = refl
 
 refusal_line : (r : Refusal) → FreeOf newline (refusal_name r)
 refusal_line refusal.EmptyLocal = refl
-refusal_line (refusal.MissingPath kind) = refl
-refusal_line (refusal.NotUtf8 kind) = refl
-refusal_line (refusal.TooLong shown total) = refl
-refusal_line (refusal.BadUrl kind f) = fault_line f
+refusal_line (refusal.MissingPath kind at) = refl
+refusal_line (refusal.NotUtf8 kind at) = refl
+refusal_line (refusal.TooLong shown total at len) = refl
+refusal_line (refusal.BadUrl kind f at len) = fault_line f
 
 -- ---- answers
 

@@ -1,12 +1,12 @@
 -- Hosts and ports: what a piece of an authority looks like, that it names one host and one port at most, and none where a flaw stands.
-use Rattle.std.proofs.Common.{◌≡◌, ℕ, ◌<◌, true, false, ◌==◌, ◌⊎◌, inl, inr, List, [], ◌∷◌, ◌++◌, length, take, drop, Option, Some, None, Err, ◌^◌, rules, refl, sym, ap, subst, ◌∙◌, arith, append_assoc, length-append}
+use Rattle.std.proofs.Common.{◌≡◌, ℕ, ◌+◌, ◌<◌, ◌≤◌, true, false, ◌==◌, ◌⊎◌, inl, inr, List, [], ◌∷◌, ◌++◌, length, take, drop, Option, Some, None, Err, ◌^◌, rules, refl, sym, ap, subst, ◌∙◌, arith, append_assoc, length-append}
 use Rattle.std.specs.List.{list_all}
 use Rattle.std.specs.Char.{is_ascii_digit, to_ascii_lowercase}
 use Rattle.std.specs.Str.Parse.{IsNumeral, digits_value, without_leading_plus}
 use Rattle.std.specs.Fmt.{decimal}
 use Rattle.std.proofs.lemmas.Fmt.{decimal_is_IsNumeral, digits_decimal}
 use Rattle.std.proofs.lemmas.Str.Parse.{IsNumeralModel, numerals_by_value, parse_digits}
-use Rattle.std.proofs.lemmas.Bool.{and_parts, cond-false, cond_both, both_ways, false≢true, eqb-true}
+use Rattle.std.proofs.lemmas.Bool.{and_parts, cases_Bool, cond-false, cond_both, both_ways, false≢true, eqb-true}
 use Rattle.std.proofs.lemmas.Bool.Decides.{nat_tests}
 use Rattle.std.proofs.lemmas.Option.{same_Some}
 use Rattle.std.proofs.lemmas.List.{append-nil, map-append, take_all, drop_all}
@@ -370,47 +370,77 @@ pub strict_not_bare : ¬ (strict ≡ bare)
 strict_not_bare e = cc
 
 -- where no port stands in its place, nothing is named
-bad_port_unnamed : (mode : Mode) (piece : List ℕ) (host : Option (List ℕ)) (port : Option ℕ) → HasBadPort mode piece → Shape mode piece host port → ⊥
-bad_port_unnamed mode piece host port (HasBadPort.plain front digits h free e none) s =
+bad_port_unnamed : (mode : Mode) (piece : List ℕ) (host : Option (List ℕ)) (port : Option ℕ) → (at len : ℕ) → HasBadPort mode piece at len → Shape mode piece host port → ⊥
+bad_port_unnamed mode piece host port at len (HasBadPort.plain front digits h free e none _ _) s =
     let place : IsPortPlace (colon ∷ digits) = inr (digits, free, refl) in
     let n = named_outside mode piece host port (front, colon ∷ digits, h, place, e) s in
     let parts = plain_unique n.front front n.rest (colon ∷ digits) n.is_plain h (follows_place n.follows) place (sym n.joined ∙ e) in
     no_port_follows none parts.1 n.follows
-bad_port_unnamed mode piece host port (HasBadPort.bracketed x digits free e none) s =
+bad_port_unnamed mode piece host port at len (HasBadPort.bracketed x digits free e none _ _) s =
     let n = named_in_brackets mode piece host port (bracket_begins piece _ e) s in
     let parts = bracket_cut n.x x n.rest (colon ∷ digits) piece n.around.closed free n.around.joined e in
     no_port_follows none parts.1 n.follows
 
 -- nor where a byte is not allowed
-bad_host_unnamed : (mode : Mode) (piece : List ℕ) (host : Option (List ℕ)) (port : Option ℕ) → HasBadHost mode piece → Shape mode piece host port → ⊥
-bad_host_unnamed mode piece host port (HasBadHost.plain front rest h place e none) s =
+bad_host_unnamed : (mode : Mode) (piece : List ℕ) (host : Option (List ℕ)) (port : Option ℕ) → (at len : ℕ) → HasBadHost mode piece at len → Shape mode piece host port → ⊥
+bad_host_unnamed mode piece host port at len (HasBadHost.plain front rest h place e none _ _) s =
     let n = named_outside mode piece host port (front, rest, h, place, e) s in
     let parts = plain_unique n.front front n.rest rest n.is_plain h (follows_place n.follows) place (sym n.joined ∙ e) in
     none n.named (subst (λ t. HostText mode t n.named) parts.0 n.stands)
-bad_host_unnamed mode piece host port (HasBadHost.colons_on_the_web e b m) s =
+bad_host_unnamed mode piece host port at len (HasBadHost.colons_on_the_web e b m _ _) s =
     elim (named_whole mode piece host port (b, m) s) [
       | ManyNames.unbracketed r h ↦ strict_not_bare (sym e ∙ r.0)
       | ManyNames.other_host n w r t h ↦ w e
     ]
-bad_host_unnamed mode piece host port (HasBadHost.colons w r b m none) s =
+bad_host_unnamed mode piece host port at len (HasBadHost.colons w r b m none _ _) s =
     elim (named_whole mode piece host port (b, m) s) [
       | ManyNames.unbracketed q h ↦ r q
       | ManyNames.other_host n v q t h ↦ none n t
     ]
-bad_host_unnamed mode piece host port (HasBadHost.open_bracket b none) s =
-    let n = named_in_brackets mode piece host port b s in
-    none n.x n.rest n.around
-bad_host_unnamed mode piece host port (HasBadHost.brackets x rest a none) s =
+bad_host_unnamed mode piece host port at len (HasBadHost.open_bracket behind free e _ _) s =
+    let n = named_in_brackets mode piece host port (bracket_begins piece behind e) s in
+    not_free right_bracket n.x n.rest (subst (λ t. FreeOf right_bracket t) (tails (sym e ∙ n.around.joined)) free)
+bad_host_unnamed mode piece host port at len (HasBadHost.behind_bracket x rest free e some other _ _) s =
+    let n = named_in_brackets mode piece host port (bracket_begins piece _ e) s in
+    let ends = (bracket_cut n.x x n.rest rest piece n.around.closed free n.around.joined e).1 in
+    elim n.around.followed [
+      | inl none ↦ omega (arith, some, ap length (sym ends ∙ none))
+      | inr begins ↦ both_ways _ other (ap (begins_with colon) (sym ends) ∙ begins)
+    ]
+bad_host_unnamed mode piece host port at len (HasBadHost.brackets x rest a none _ _) s =
     let n = named_in_brackets mode piece host port (bracket_begins piece _ a.joined) s in
     let parts = bracket_cut n.x x n.rest rest piece n.around.closed a.closed n.around.joined a.joined in
     none n.inner (subst (λ t. Inner mode t n.inner) parts.0 n.stands)
 
 -- a piece with a flaw names nothing
-pub flawed_unnamed : (mode : Mode) (piece : List ℕ) (named : UrlFault) → NameFlaw mode piece named → (host : Option (List ℕ)) (port : Option ℕ) → ¬ Names mode piece host port
-flawed_unnamed mode piece fault.BadPort h host port n = bad_port_unnamed mode piece host port h (name_shape n)
-flawed_unnamed mode piece fault.BadCharacter h host port n = bad_host_unnamed mode piece host port h (name_shape n)
-flawed_unnamed mode piece fault.NoScheme h host port n = h
-flawed_unnamed mode piece fault.HostRequired h host port n = h
+pub flawed_unnamed : (mode : Mode) (piece : List ℕ) (named : UrlFault) (at len : ℕ) → NameFlaw mode piece named at len → (host : Option (List ℕ)) (port : Option ℕ) → ¬ Names mode piece host port
+flawed_unnamed mode piece fault.BadPort at len h host port n = bad_port_unnamed mode piece host port at len h (name_shape n)
+flawed_unnamed mode piece fault.BadCharacter at len h host port n = bad_host_unnamed mode piece host port at len h (name_shape n)
+flawed_unnamed mode piece fault.NoScheme at len h host port n = h
+flawed_unnamed mode piece fault.HostRequired at len h host port n = h
+
+-- ---- the places of flaws
+
+-- a bad port stands within its piece
+bad_port_within : (mode : Mode) (piece : List ℕ) (at len : ℕ) → HasBadPort mode piece at len → at + len ≤ length piece
+bad_port_within mode piece at len (HasBadPort.plain front digits h free e none a l) = omega (arith, a, l, ap length e, length-append front (colon ∷ digits))
+bad_port_within mode piece at len (HasBadPort.bracketed x digits free e none a l) = omega (arith, a, l, ap length e, length-append x (right_bracket ∷ (colon ∷ digits)))
+
+-- so does a bad host
+bad_host_within : (mode : Mode) (piece : List ℕ) (at len : ℕ) → HasBadHost mode piece at len → at + len ≤ length piece
+bad_host_within mode piece at len (HasBadHost.plain front rest h place e none a l) = omega (arith, a, l, ap length e, length-append front rest)
+bad_host_within mode piece at len (HasBadHost.colons_on_the_web e b m a l) = omega (arith, a, l)
+bad_host_within mode piece at len (HasBadHost.colons w r b m none a l) = omega (arith, a, l)
+bad_host_within mode piece at len (HasBadHost.open_bracket behind free e a l) = omega (arith, a, l, ap length e)
+bad_host_within mode piece at len (HasBadHost.behind_bracket x rest free e some other a l) = omega (arith, a, l, ap length e, length-append x (right_bracket ∷ rest))
+bad_host_within mode piece at len (HasBadHost.brackets x rest around none a l) = omega (arith, a, l, ap length around.joined, length-append x (right_bracket ∷ rest))
+
+-- the flaw of a piece stands within it
+pub name_flaw_within : (mode : Mode) (piece : List ℕ) (named : UrlFault) (at len : ℕ) → NameFlaw mode piece named at len → at + len ≤ length piece
+name_flaw_within mode piece fault.BadPort at len h = bad_port_within mode piece at len h
+name_flaw_within mode piece fault.BadCharacter at len h = bad_host_within mode piece at len h
+name_flaw_within mode piece fault.NoScheme at len h = absurd h
+name_flaw_within mode piece fault.HostRequired at len h = absurd h
 
 -- ---- ASCII and UTF-8
 
@@ -529,20 +559,26 @@ plain_name mode piece front rest named host port h e t (Follows.nothing f is p) 
 plain_name mode piece front rest named host port h e t (Follows.lone_colon f is p) = Names.plain_colon front named h t (e ∙ ap (λ x. front ++ x) f) is p
 plain_name mode piece front rest named host port h e t (Follows.number d n k f is p) = Names.plain_port front named d n h t k (e ∙ ap (λ x. front ++ x) f) is p
 
+-- what is no end of a host isn't empty, and begins with another byte than a colon
+no_end_begins : (rest : List ℕ) → ¬ EndsHost rest → (0 < length rest) × (begins_with colon rest ≡ false)
+no_end_begins [] h = absurd (h (inl refl))
+no_end_begins (b ∷ rest) h = (omega arith, elim (cases_Bool (begins_with colon (b ∷ rest))) [ inl begins ↦ absurd (h (inr begins)) | inr other ↦ other ])
+
 -- a closing bracket that another byte than a colon follows
-pub not_ended : (mode : Mode) (behind x rest : List ℕ) → FreeOf right_bracket x → behind ≡ x ++ right_bracket ∷ rest → ¬ EndsHost rest → HasBadHost mode (left_bracket ∷ behind)
+pub not_ended : (mode : Mode) (behind x rest : List ℕ) → FreeOf right_bracket x → behind ≡ x ++ right_bracket ∷ rest → ¬ EndsHost rest → HasBadHost mode (left_bracket ∷ behind) (length x + 2) (length rest)
 not_ended mode behind x rest free e open_end =
-    HasBadHost.open_bracket refl (λ y last a. open_end (subst EndsHost (cut_unique right_bracket y x last rest a.closed free (sym (tails a.joined) ∙ e)).1 a.followed))
+    let ends = no_end_begins rest open_end in
+    HasBadHost.behind_bracket x rest free (ap (λ t. left_bracket ∷ t) e) ends.0 ends.1 refl refl
 
 -- brackets around what stands for nothing
-pub not_inner : (mode : Mode) (behind x rest : List ℕ) → FreeOf right_bracket x → behind ≡ x ++ right_bracket ∷ rest → EndsHost rest → IsNoInner mode x → HasBadHost mode (left_bracket ∷ behind)
+pub not_inner : (mode : Mode) (behind x rest : List ℕ) → FreeOf right_bracket x → behind ≡ x ++ right_bracket ∷ rest → EndsHost rest → IsNoInner mode x → HasBadHost mode (left_bracket ∷ behind) 1 (length x)
 not_inner mode behind x rest free e ended none =
-    HasBadHost.brackets x rest record { closed = free; joined = ap (λ t. left_bracket ∷ t) e; followed = ended } none
+    HasBadHost.brackets x rest record { closed = free; joined = ap (λ t. left_bracket ∷ t) e; followed = ended } none refl refl
 
 -- brackets with a colon and no port behind them
-pub no_port_behind : (mode : Mode) (behind x rest digits : List ℕ) → FreeOf right_bracket x → behind ≡ x ++ right_bracket ∷ rest → rest ≡ colon ∷ digits → IsNoPort mode digits → HasBadPort mode (left_bracket ∷ behind)
-no_port_behind mode behind x rest digits free e f none =
-    HasBadPort.bracketed x digits free (ap (λ t. left_bracket ∷ t) (e ∙ ap (λ t. x ++ right_bracket ∷ t) f)) none
+pub no_port_behind : (mode : Mode) (behind x rest digits : List ℕ) (len : ℕ) → FreeOf right_bracket x → behind ≡ x ++ right_bracket ∷ rest → rest ≡ colon ∷ digits → IsNoPort mode digits → len + 1 ≡ length rest → HasBadPort mode (left_bracket ∷ behind) (length x + 3) len
+no_port_behind mode behind x rest digits len free e f none size =
+    HasBadPort.bracketed x digits free (ap (λ t. left_bracket ∷ t) (e ∙ ap (λ t. x ++ right_bracket ∷ t) f)) none refl (omega (arith, size, ap length f))
 
 -- nothing follows where no colon does
 pub nothing_follows : (rest : List ℕ) → EndsHost rest → begins_with colon rest ≡ false → rest ≡ []

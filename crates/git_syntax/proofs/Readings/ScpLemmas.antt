@@ -1,10 +1,13 @@
 -- The scp form: its colons, the piece that its host is read from, and what is refused.
-use Rattle.std.proofs.Common.{◌≡◌, ℕ, ◌<◌, Bool, false, ◌==◌, ◌&&◌, ◌⊎◌, inl, inr, List, [], ◌∷◌, ◌++◌, length, Option, Some, None, Result, Ok, Err, true, refl, sym, ap, subst, ◌∙◌, arith, append_assoc, eq-eqb, lit<, IsUtf8, IfSome}
+use Rattle.std.proofs.Common.{◌≡◌, ℕ, ◌+◌, ◌<◌, ◌≤◌, Bool, false, ◌==◌, ◌&&◌, ◌⊎◌, inl, inr, List, [], ◌∷◌, ◌++◌, length, Option, Some, None, Result, Ok, Err, true, refl, sym, ap, subst, ◌∙◌, arith, append_assoc, length-append, eq-eqb, lit<, IsUtf8, IfSome}
+use Rattle.std.proofs.lemmas.List.{append-nil}
 use Rattle.std.proofs.lemmas.Bool.{both_ways, cases_Bool, false≢true, eqb-true}
 use Rattle.std.proofs.lemmas.Bool.Decides.{nat_tests}
 use Rattle.std.specs.List.{list_all}
 use Rattle.std.specs.Char.{is_ascii_digit, is_whitespace, to_ascii_lowercase}
+use Rattle.git_syntax.specs.declared.refusal.Fault.{Fault}
 use Rattle.git_syntax.specs.declared.refusal.UrlFault.{UrlFault}
+use Rattle.git_syntax.specs.declared.refusal.UrlFault.TheVariants as fault
 use Rattle.git_syntax.specs.declared.found.ScpHost as rust
 use Rattle.git_syntax.specs.Value.{Location}
 use Rattle.git_syntax.specs.Bytes.{percent_sign, colon, at_sign, left_bracket, backslash, right_bracket, FreeOf, LacksWhiteSpace, begins_with, lowercase}
@@ -16,12 +19,13 @@ use Rattle.git_syntax.specs.Hosts.Mode.{bare}
 use Rattle.git_syntax.specs.Grammar.{IsBracketed, ScpFront, ScpShape, AddressedShape, ScpUser, ScpHost, Unbrackets, SpellsScpBefore, SpellsScp}
 use Rattle.git_syntax.specs.Grammar.ScpFront.{plain, bracketed}
 use Rattle.git_syntax.specs.Grammar.ScpUser.{host_alone, with_user}
-use Rattle.git_syntax.specs.Flaws.{HasBadHost, HasBadPort, ScpHostFlaw}
+use Rattle.git_syntax.specs.Flaws.{HasBadHost, HasBadPort, NameFlaw, ScpNameFlaw, ScpHostFlaw}
 use Rattle.git_syntax.specs.FoundPieces.{scp_host_of}
 use Rattle.git_syntax.specs.ScpPieces.{ColonsInside, NamesNoPort, NamesHost, ReadsScpPiece, ReadsScpHost}
 use Rattle.git_syntax.proofs.Texts.CutLemmas.{heads, tails, not_free, free-append, free_parts, free_head_tail, free_of_all, free_begins, free_or_cut, lacks_of_all, cut_unique}
 use Rattle.git_syntax.proofs.Texts.EscapeLemmas.{ascii_class, decode_escaped_percents, lacks_escaped_percents, escaped_percents-append, escaped_percents_kept, sound_kept, utf8_class, utf8_parts, white_space_ascii}
 use Rattle.git_syntax.proofs.Texts.PlainLemmas.{plain_parts}
+use Rattle.git_syntax.proofs.Texts.PlaceLemmas.{stands_within, white_within}
 use Rattle.git_syntax.proofs.Addresses.AddressLemmas.{address_free}
 use Rattle.git_syntax.proofs.Readings.HostLemmas.{bare_not_strict, colon_first, literal_inner, literal_parts, names_utf8, not_digits, not_ended, simple_named, some_tested, zone_byte_ascii}
 use Rattle.git_syntax.proofs.Readings.ShapeLemmas.{nil_tested, same_front}
@@ -283,11 +287,26 @@ colons_found host front behind open_front text colons e many = record {
               inr (escaped_percents front, escaped_percents y, escaped_percents z, escaped ∙ ap (λ t. escaped_percents front ++ colon ∷ t) (ap escaped_percents k ∙ escaped_percents-append y (colon ∷ z)))
         ]
 
+-- a flaw of a host where each `%` is read as its own escape, told of the host as it stands
+escaped_flaw : (host before here behind : List ℕ) (named : UrlFault) (at len start size : ℕ) → host ≡ before ++ (here ++ behind) → NameFlaw bare (escaped_percents host) named start size → start ≡ length (escaped_percents before) → size ≡ length (escaped_percents here) → at ≡ length before → len ≡ length here → ScpNameFlaw host at len named
+escaped_flaw host before here behind named at len start size e h first second offset told = record {
+  before = before;
+  here = here;
+  behind = behind;
+  joined = e;
+  flaw = subst (λ n. NameFlaw bare (escaped_percents host) named n (length (escaped_percents here))) first (subst (λ n. NameFlaw bare (escaped_percents host) named start n) second h);
+  offset = offset;
+  size = told;
+}
+
 -- what stands in a port's place behind one colon is no port
-pub no_port_found : (host front behind : List ℕ) → begins_with left_bracket host ≡ false → ColonsInside host → FreeOf colon front → host ≡ front ++ colon ∷ behind → false ≡ (length front == 0) → FreeOf colon behind → HasBadPort bare (escaped_percents host)
+pub no_port_found : (host front behind : List ℕ) → begins_with left_bracket host ≡ false → ColonsInside host → FreeOf colon front → host ≡ front ++ colon ∷ behind → false ≡ (length front == 0) → FreeOf colon behind → ScpNameFlaw host (length front + 1) (length behind) fault.BadPort
 no_port_found host front behind open_front colons first e some last =
-    HasBadPort.plain (escaped_percents front) (escaped_percents behind) (record { nonempty = escaped_some front (some_tested front some); no_colon = lacks_escaped_percents (λ b. b == colon) front refl refl refl first; no_bracket = escaped_front left_bracket front refl (front_open front e some) }) (lacks_escaped_percents (λ b. b == colon) behind refl refl refl last)
-    (ap escaped_percents e ∙ escaped_percents-append front (colon ∷ behind)) (not_digits bare (escaped_percents behind) (no_digits (list_all is_ascii_digit (escaped_percents behind)) refl))
+    escaped_flaw host (front ++ colon ∷ []) behind [] fault.BadPort (length front + 1) (length behind) (length (escaped_percents front) + 1) (length (escaped_percents behind))
+    (e ∙ ap (λ t. front ++ colon ∷ t) (sym (append-nil behind)) ∙ sym (append_assoc front (colon ∷ []) (behind ++ [])))
+    (HasBadPort.plain (escaped_percents front) (escaped_percents behind) (record { nonempty = escaped_some front (some_tested front some); no_colon = lacks_escaped_percents (λ b. b == colon) front refl refl refl first; no_bracket = escaped_front left_bracket front refl (front_open front e some) }) (lacks_escaped_percents (λ b. b == colon) behind refl refl refl last)
+    (ap escaped_percents e ∙ escaped_percents-append front (colon ∷ behind)) (not_digits bare (escaped_percents behind) (no_digits (list_all is_ascii_digit (escaped_percents behind)) refl)) refl refl)
+    (omega (arith, ap length (escaped_percents-append front (colon ∷ [])), length-append (escaped_percents front) (colon ∷ []))) refl (omega (arith, length-append front (colon ∷ []))) refl
   where
     front_open : (t : List ℕ) → host ≡ t ++ colon ∷ behind → false ≡ (length t == 0) → begins_with left_bracket t ≡ false
     front_open [] k none = absurd (false≢true none)
@@ -302,9 +321,10 @@ no_port_found host front behind open_front colons first e some last =
 -- ---- brackets
 
 -- no bracket closes
-pub open_found : (behind : List ℕ) → FreeOf right_bracket behind → HasBadHost bare (escaped_percents (left_bracket ∷ behind))
+pub open_found : (behind : List ℕ) → FreeOf right_bracket behind → ScpNameFlaw (left_bracket ∷ behind) 0 1 fault.BadCharacter
 open_found behind free =
-    HasBadHost.open_bracket refl (λ x rest around. not_free right_bracket x rest (subst (λ t. FreeOf right_bracket t) (tails around.joined) (lacks_escaped_percents (λ b. b == right_bracket) behind refl refl refl free)))
+    escaped_flaw (left_bracket ∷ behind) [] (left_bracket ∷ []) behind fault.BadCharacter 0 1 0 1 refl
+    (HasBadHost.open_bracket (escaped_percents behind) (lacks_escaped_percents (λ b. b == right_bracket) behind refl refl refl free) refl refl refl) refl refl refl refl
 
 -- the text between brackets and what follows them, where each `%` is escaped
 brackets_escaped : (behind inner rest : List ℕ) → behind ≡ inner ++ right_bracket ∷ rest → escaped_percents behind ≡ escaped_percents inner ++ right_bracket ∷ escaped_percents rest
@@ -320,14 +340,17 @@ no_colon_behind behind inner rest (inr (inside, last, first, free, k)) closed e 
     subst (λ t. FreeOf colon t) (sym pieces.1) free
 
 -- so anything that follows is refused
-pub rest_found : (behind inner rest : List ℕ) → ColonsInside (left_bracket ∷ behind) → FreeOf right_bracket inner → behind ≡ inner ++ right_bracket ∷ rest → false ≡ (length rest == 0) → HasBadHost bare (escaped_percents (left_bracket ∷ behind))
+pub rest_found : (behind inner rest : List ℕ) → ColonsInside (left_bracket ∷ behind) → FreeOf right_bracket inner → behind ≡ inner ++ right_bracket ∷ rest → false ≡ (length rest == 0) → ScpNameFlaw (left_bracket ∷ behind) (length inner + 2) (length rest) fault.BadCharacter
 rest_found behind inner rest colons closed e some =
-    not_ended bare (escaped_percents behind) (escaped_percents inner) (escaped_percents rest) (lacks_escaped_percents (λ b. b == right_bracket) inner refl refl refl closed) (brackets_escaped behind inner rest e)
+    escaped_flaw (left_bracket ∷ behind) (left_bracket ∷ (inner ++ right_bracket ∷ [])) rest [] fault.BadCharacter (length inner + 2) (length rest) (length (escaped_percents inner) + 2) (length (escaped_percents rest))
+    (ap (λ t. left_bracket ∷ t) (e ∙ ap (λ t. inner ++ right_bracket ∷ t) (sym (append-nil rest)) ∙ sym (append_assoc inner (right_bracket ∷ []) (rest ++ []))))
+    (not_ended bare (escaped_percents behind) (escaped_percents inner) (escaped_percents rest) (lacks_escaped_percents (λ b. b == right_bracket) inner refl refl refl closed) (brackets_escaped behind inner rest e)
     (λ ends. elim ends [
       | inl none ↦ absurd (omega (arith, ap length none, escaped_some rest (some_tested rest some)))
       | inr begins ↦
           both_ways _ (free_begins colon (escaped_percents rest) (lacks_escaped_percents (λ b. b == colon) rest refl refl refl (no_colon_behind behind inner rest colons closed e))) begins
-    ])
+    ]))
+    (omega (arith, ap length (escaped_percents-append inner (right_bracket ∷ [])), length-append (escaped_percents inner) (right_bracket ∷ []))) refl (omega (arith, length-append inner (right_bracket ∷ []))) refl
 
 -- a host between brackets
 inner_found : (behind inner rest shown : List ℕ) → FreeOf right_bracket inner → behind ≡ inner ++ right_bracket ∷ rest → true ≡ (length rest == 0) → Inner bare (escaped_percents inner) shown → NamesHost (escaped_percents (left_bracket ∷ behind)) shown
@@ -402,9 +425,22 @@ zone_parts t a z free e h =
 -- ---- the location
 
 -- what is found in a host that isn't empty is found for the host
-pub scp_host_read : (host : List ℕ) (r : Result rust.ScpHost UrlFault) → FreeOf at_sign host → FreeOf backslash host → LacksWhiteSpace host → ReadsScpPiece host r → ReadsScpHost host r
+pub scp_host_read : (host : List ℕ) (r : Result rust.ScpHost Fault) → FreeOf at_sign host → FreeOf backslash host → LacksWhiteSpace host → ReadsScpPiece host r → ReadsScpHost host r
 scp_host_read host (Ok found) at back white h = scp_host_found host (escaped_percents host) (scp_host_of found) at back white refl h
-scp_host_read host (Err fault) at back white h = ScpHostFlaw.bad_name fault h
+scp_host_read host (Err fault) at back white h = ScpHostFlaw.bad_name fault.kind h
+
+-- the flaw of a host stands within it
+pub scp_host_flaw_within : (host : List ℕ) (at len : ℕ) (named : UrlFault) → ScpHostFlaw host at len named → at + len ≤ length host
+scp_host_flaw_within host at len named (ScpHostFlaw.empty e a l) = omega (arith, a, l)
+scp_host_flaw_within host at len named (ScpHostFlaw.holds_backslash h l) = omega (arith, l, stands_within backslash host at h)
+scp_host_flaw_within host at len named (ScpHostFlaw.white_space text held h) = white_within host at len h
+scp_host_flaw_within host at len named (ScpHostFlaw.bad_name n h) =
+    omega (arith, h.offset, h.size, ap length h.joined, length-append h.before (h.here ++ h.behind), length-append h.here h.behind)
+
+-- the host is the end of the front
+pub scp_host_ends : {front host : List ℕ} {user : Option (List ℕ)} → ScpUser front user host → length host ≤ length front
+scp_host_ends (host_alone e none) = omega (arith, ap length e)
+scp_host_ends {host = host} (with_user u e some) = omega (arith, ap length e, length-append u (at_sign ∷ host))
 
 -- the host without brackets around it is text
 unbracketed_utf8 : (host inner : List ℕ) → Unbrackets host inner → IsUtf8 host → IsUtf8 inner

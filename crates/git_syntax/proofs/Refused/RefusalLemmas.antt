@@ -20,6 +20,7 @@ use Rattle.git_syntax.specs.Flaws.{IsTooLong, MissesPath, HasShape, UrlShape, Ot
 use Rattle.git_syntax.specs.UrlPieces.{HasNoText, IsNoAuthority}
 use Rattle.git_syntax.specs.Refusals.{HasFlaw, Flawless}
 use Rattle.git_syntax.proofs.Texts.CutLemmas.{not_free}
+use Rattle.git_syntax.proofs.Texts.PlaceLemmas.{stands_not_free}
 use Rattle.git_syntax.proofs.Readings.HostLemmas.{flawed_unnamed}
 use Rattle.git_syntax.proofs.Readings.FormLemmas.{address_cut, addressed_joined}
 use Rattle.git_syntax.proofs.Readings.ShapeLemmas.{empty_unspelled, url_shaped, no_file_path, no_file_text, no_url_text, unfit_url, spelled_as_file, spelled_as_url, spelled_as_scp, spelled_as_addressed, url_pieces}
@@ -32,68 +33,68 @@ use Rattle.git_syntax.proofs.Readings.ScpFrontLemmas.{front_of_addressed}
 -- ---- authorities
 
 -- user information with a part that is no text holds nothing
-pub bad_user_refutes : (mode : Mode) (needed : Bool) (authority : List ℕ) → HasBadUser authority → IsNoAuthority mode needed authority
-bad_user_refutes mode needed authority (HasBadUser.user u piece f g e bad) =
-    no_text_before mode needed authority u piece f e (HasNoText.user g bad)
-bad_user_refutes mode needed authority (HasBadUser.user_before_password u w piece f g e bad) =
-    no_text_before mode needed authority (u ++ colon ∷ w) piece f e (HasNoText.user_before_password u w g refl bad)
-bad_user_refutes mode needed authority (HasBadUser.password u w piece f g e bad) =
-    no_text_before mode needed authority (u ++ colon ∷ w) piece f e (HasNoText.password u w g refl bad)
+pub bad_user_refutes : (mode : Mode) (needed : Bool) (authority : List ℕ) (at len : ℕ) → HasBadUser authority at len → IsNoAuthority mode needed authority
+bad_user_refutes mode needed authority at len (HasBadUser.user u piece f g e bad a l) =
+    no_text_before mode needed authority u piece at len f e (HasNoText.user g bad a l)
+bad_user_refutes mode needed authority at len (HasBadUser.user_before_password u w piece f g e bad a l) =
+    no_text_before mode needed authority (u ++ colon ∷ w) piece at len f e (HasNoText.user_before_password u w g refl bad a l)
+bad_user_refutes mode needed authority at len (HasBadUser.password u w piece f g e bad a l) =
+    no_text_before mode needed authority (u ++ colon ∷ w) piece at len f e (HasNoText.password u w g refl bad a l)
 
 -- an authority whose piece behind the user information is flawed holds nothing
-bad_name_refutes : (mode : Mode) (needed : Bool) (authority piece : List ℕ) (named : UrlFault) → PieceOf authority piece → NameFlaw mode piece named → IsNoAuthority mode needed authority
-bad_name_refutes mode needed authority piece named (PieceOf.whole free e) h =
-    no_name_alone mode needed authority free (subst (λ t. (host : Option (List ℕ)) (port : Option ℕ) → ¬ Names mode t host port) e (flawed_unnamed mode piece named h))
-bad_name_refutes mode needed authority piece named (PieceOf.behind information free e) h =
-    no_name_behind mode needed authority information piece free e (flawed_unnamed mode piece named h)
+bad_name_refutes : (mode : Mode) (needed : Bool) (authority piece : List ℕ) (named : UrlFault) (start at len : ℕ) → PieceOf authority piece start → NameFlaw mode piece named at len → IsNoAuthority mode needed authority
+bad_name_refutes mode needed authority piece named start at len (PieceOf.whole free e _) h =
+    no_name_alone mode needed authority free (subst (λ t. (host : Option (List ℕ)) (port : Option ℕ) → ¬ Names mode t host port) e (flawed_unnamed mode piece named at len h))
+bad_name_refutes mode needed authority piece named start at len (PieceOf.behind information free e _) h =
+    no_name_behind mode needed authority information piece free e (flawed_unnamed mode piece named at len h)
 
 -- a flawed authority without a backslash holds nothing, or not the host that is needed
-pub flawed_authority : (mode : Mode) (needed : Bool) (authority : List ℕ) (named : UrlFault) → FreeOf backslash authority → AuthorityFlaw mode needed authority named → IsNoAuthority mode needed authority
-flawed_authority mode needed authority named free (AuthorityFlaw.holds_backslash held) = absurd (held free)
-flawed_authority mode needed authority named free (AuthorityFlaw.bad_user bad) = bad_user_refutes mode needed authority bad
-flawed_authority mode needed authority named free (AuthorityFlaw.bad_name piece n at bad) = bad_name_refutes mode needed authority piece n at bad
-flawed_authority mode needed authority named free (AuthorityFlaw.no_host information e) = no_host_behind mode needed authority information [] refl e refl
-flawed_authority mode needed authority named free (AuthorityFlaw.host_required need e) =
+pub flawed_authority : (mode : Mode) (needed : Bool) (authority : List ℕ) (at len : ℕ) (named : UrlFault) → FreeOf backslash authority → AuthorityFlaw mode needed authority at len named → IsNoAuthority mode needed authority
+flawed_authority mode needed authority at len named free (AuthorityFlaw.holds_backslash h _) = absurd (stands_not_free backslash authority at h free)
+flawed_authority mode needed authority at len named free (AuthorityFlaw.bad_user bad) = bad_user_refutes mode needed authority at len bad
+flawed_authority mode needed authority at len named free (AuthorityFlaw.bad_name piece n start place of bad _) = bad_name_refutes mode needed authority piece n start place len of bad
+flawed_authority mode needed authority at len named free (AuthorityFlaw.no_host information e _ _) = no_host_behind mode needed authority information [] refl e refl
+flawed_authority mode needed authority at len named free (AuthorityFlaw.host_required need e _ _) =
     no_host_alone mode needed authority need (ap (λ t. list_any (λ c. c == at_sign) t) e) e
 
 -- ---- URLs
 
 -- a flawed authority makes no URL
-authority_flaw_refutes : (b scheme authority path : List ℕ) (named : UrlFault) (v : Location) → UrlCut b scheme authority path → AuthorityFlaw (mode_of scheme) (requires_host scheme) authority named → ¬ SpellsUrl b v
-authority_flaw_refutes b scheme authority path named v cut bad h =
+authority_flaw_refutes : (b scheme authority path : List ℕ) (at len : ℕ) (named : UrlFault) (v : Location) → UrlCut b scheme authority path → AuthorityFlaw (mode_of scheme) (requires_host scheme) authority at len named → ¬ SpellsUrl b v
+authority_flaw_refutes b scheme authority path at len named v cut bad h =
     let free : FreeOf backslash authority = subst (λ a. FreeOf backslash a) (parts_cut b scheme authority path h.parts cut h.spelled).1 h.spelled.no_backslash in
-    no_authority_refutes b scheme authority path h.parts cut (flawed_authority (mode_of scheme) (requires_host scheme) authority named free bad) h.spelled
+    no_authority_refutes b scheme authority path h.parts cut (flawed_authority (mode_of scheme) (requires_host scheme) authority at len named free bad) h.spelled
 
 -- a flawed URL is none
-url_flaw_refutes : (b : List ℕ) (named : UrlFault) (v : Location) → UrlFlaw b named → ¬ Spells b v
-url_flaw_refutes b named v (UrlFlaw.no_scheme front rest shape bad) k =
+url_flaw_refutes : (b : List ℕ) (at len : ℕ) (named : UrlFault) (v : Location) → UrlFlaw b at len named → ¬ Spells b v
+url_flaw_refutes b at len named v (UrlFlaw.no_scheme front rest shape bad _ _) k =
     let h = spelled_as_url b front rest shape v k in no_scheme_refutes b front rest h.parts shape bad h.spelled
-url_flaw_refutes b named v (UrlFlaw.white_space front rest shape text held) k = held (spelled_as_url b front rest shape v k).spelled.no_white_space
-url_flaw_refutes b named v (UrlFlaw.unsound front rest shape bad) k = both_ways _ bad (spelled_as_url b front rest shape v k).spelled.sound
-url_flaw_refutes b named v (UrlFlaw.bad_path scheme authority path cut bad) k =
+url_flaw_refutes b at len named v (UrlFlaw.white_space front rest shape text held _) k = held (spelled_as_url b front rest shape v k).spelled.no_white_space
+url_flaw_refutes b at len named v (UrlFlaw.unsound front rest shape bad _ _) k = both_ways _ bad (spelled_as_url b front rest shape v k).spelled.sound
+url_flaw_refutes b at len named v (UrlFlaw.bad_path scheme authority path cut bad _ _) k =
     let h = spelled_as_url b scheme (authority ++ path) cut.shape v k in bad_path_refutes b scheme authority path h.parts cut bad h.spelled
-url_flaw_refutes b named v (UrlFlaw.bad_authority scheme authority path n cut bad) k =
-    authority_flaw_refutes b scheme authority path n v cut bad (spelled_as_url b scheme (authority ++ path) cut.shape v k)
+url_flaw_refutes b at len named v (UrlFlaw.bad_authority scheme authority path n place cut bad _) k =
+    authority_flaw_refutes b scheme authority path place len n v cut bad (spelled_as_url b scheme (authority ++ path) cut.shape v k)
 
 -- a URL that is too long is none
-too_long_refutes : (b shown : List ℕ) (total : ℕ) (v : Location) → IsTooLong b shown total → ¬ Spells b v
-too_long_refutes b shown total v h k = unfit_url b h.front h.rest h.shape h.unfit v (spelled_as_url b h.front h.rest h.shape v k)
+too_long_refutes : (b shown : List ℕ) (total at len : ℕ) (v : Location) → IsTooLong b shown total at len → ¬ Spells b v
+too_long_refutes b shown total at len v h k = unfit_url b h.front h.rest h.shape h.unfit v (spelled_as_url b h.front h.rest h.shape v k)
 
 -- ---- the scp form
 
 -- a flawed host of the scp form stands for none
-pub scp_host_flaw_refutes : (host : List ℕ) (named : UrlFault) → ScpHostFlaw host named → (meant : List ℕ) → ¬ ScpHost host meant
-scp_host_flaw_refutes host named (ScpHostFlaw.empty e) meant h =
+pub scp_host_flaw_refutes : (host : List ℕ) (at len : ℕ) (named : UrlFault) → ScpHostFlaw host at len named → (meant : List ℕ) → ¬ ScpHost host meant
+scp_host_flaw_refutes host at len named (ScpHostFlaw.empty e _ _) meant h =
     none_not_some (Some h.named) (empty_names_nothing bare (escaped_percents host) (Some h.named) None (ap escaped_percents e) h.names) refl
-scp_host_flaw_refutes host named (ScpHostFlaw.holds_backslash held) meant h = held h.no_backslash
-scp_host_flaw_refutes host named (ScpHostFlaw.white_space text held) meant h = held h.no_white_space
-scp_host_flaw_refutes host named (ScpHostFlaw.bad_name n bad) meant h = flawed_unnamed bare (escaped_percents host) n bad (Some h.named) None h.names
+scp_host_flaw_refutes host at len named (ScpHostFlaw.holds_backslash first _) meant h = stands_not_free backslash host at first h.no_backslash
+scp_host_flaw_refutes host at len named (ScpHostFlaw.white_space text held _) meant h = held h.no_white_space
+scp_host_flaw_refutes host at len named (ScpHostFlaw.bad_name n bad) meant h = flawed_unnamed bare (escaped_percents host) n _ _ bad.flaw (Some h.named) None h.names
 
 -- a flawed scp form spells nothing
-scp_flaw_refutes : (b : List ℕ) (named : UrlFault) (v : Location) → ScpFlaw b named → ¬ Spells b v
-scp_flaw_refutes b named v h k =
+scp_flaw_refutes : (b : List ℕ) (named : UrlFault) (at len : ℕ) (v : Location) → ScpFlaw b named at len → ¬ Spells b v
+scp_flaw_refutes b named at len v h k =
     elim (spelled_as_scp b h.shape.neither (inl (h.front, h.path, h.shape)) v k) [
-      | inl s ↦ scp_no_host b h.front h.path h.user h.host h.shape h.split h.no_at (scp_host_flaw_refutes h.host named h.flaw) v s
+      | inl s ↦ scp_no_host b h.front h.path h.user h.host h.shape h.split h.no_at (scp_host_flaw_refutes h.host h.place len named h.flaw) v s
       | inr s ↦ h.not_addressed (s.user, s.address, s.path, s.shape)
     ]
 
@@ -164,18 +165,18 @@ no_text_spelled b kind.Scp v bad shape s = elim (spelled_as_scp b (shaped_neithe
 no_text_spelled b kind.Local v bad shape s = shape
 
 -- a flawed text of any kind spells nothing
-kind_flaw_refutes : (b : List ℕ) (k : UrlKind) (named : UrlFault) (v : Location) → KindFlaw b k named → ¬ Spells b v
-kind_flaw_refutes b kind.Url named v h = url_flaw_refutes b named v h
-kind_flaw_refutes b kind.Scp named v h = scp_flaw_refutes b named v h
-kind_flaw_refutes b kind.Local named v h = absurd h
+kind_flaw_refutes : (b : List ℕ) (k : UrlKind) (named : UrlFault) (at len : ℕ) (v : Location) → KindFlaw b k named at len → ¬ Spells b v
+kind_flaw_refutes b kind.Url named at len v h = url_flaw_refutes b at len named v h
+kind_flaw_refutes b kind.Scp named at len v h = scp_flaw_refutes b named at len v h
+kind_flaw_refutes b kind.Local named at len v h = absurd h
 
 -- bytes in which a flaw stands spell no location
 pub flawed_unspelled : (b : List ℕ) (v : Location) → HasFlaw b → ¬ Spells b v
 flawed_unspelled b v (HasFlaw.empty e) = subst (λ t. ¬ Spells t v) (sym e) (empty_unspelled v)
 flawed_unspelled b v (HasFlaw.no_path k h) = no_path_spelled b k v h
 flawed_unspelled b v (HasFlaw.no_text k bad shape) = no_text_spelled b k v bad shape
-flawed_unspelled b v (HasFlaw.too_long shown total h) = too_long_refutes b shown total v h
-flawed_unspelled b v (HasFlaw.bad_url k named h) = kind_flaw_refutes b k named v h
+flawed_unspelled b v (HasFlaw.too_long shown total at len h) = too_long_refutes b shown total at len v h
+flawed_unspelled b v (HasFlaw.bad_url k named at len h) = kind_flaw_refutes b k named at len v h
 
 -- so bytes that spell one hold none
 pub flawless : Flawless
@@ -184,10 +185,10 @@ flawless b v s h = flawed_unspelled b v h s
 -- each refusal names a flaw
 refusal_flaw : (b : List ℕ) (r : Refusal) → NamesFlaw b r → HasFlaw b
 refusal_flaw b refusal.EmptyLocal h = HasFlaw.empty h
-refusal_flaw b (refusal.MissingPath k) h = HasFlaw.no_path k h
-refusal_flaw b (refusal.NotUtf8 k) h = HasFlaw.no_text k h.0 h.1
-refusal_flaw b (refusal.TooLong shown total) h = HasFlaw.too_long shown.now total h
-refusal_flaw b (refusal.BadUrl k named) h = HasFlaw.bad_url k named h
+refusal_flaw b (refusal.MissingPath k at) h = HasFlaw.no_path k h.0
+refusal_flaw b (refusal.NotUtf8 k at) h = HasFlaw.no_text k h.0 h.1
+refusal_flaw b (refusal.TooLong shown total at len) h = HasFlaw.too_long shown.now total at len h
+refusal_flaw b (refusal.BadUrl k named at len) h = HasFlaw.bad_url k named at len h
 
 -- so bytes that are refused spell no location
 pub refused_unspelled : (b : List ℕ) (r : Refusal) → NamesFlaw b r → (v : Location) → ¬ Spells b v

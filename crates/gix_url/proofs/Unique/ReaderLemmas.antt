@@ -58,10 +58,10 @@ same_with_room b room owned lent enough reads reads_in ample v = (
 named_flaw : (b : List ℕ) (e : Error) → e ≢ error.Memory → Flaw b e → HasFlaw b
 named_flaw b error.Memory other h = absurd (other refl)
 named_flaw b error.EmptyLocal other h = HasFlaw.empty h
-named_flaw b (error.MissingPath k input) other h = HasFlaw.no_path k h.0
-named_flaw b (error.NotUtf8 k input) other h = HasFlaw.no_text k h.0 h.1
-named_flaw b (error.TooLong shown total) other h = HasFlaw.too_long (bstring_bytes shown) total h
-named_flaw b (error.BadUrl k named input) other h = HasFlaw.bad_url k named h.0
+named_flaw b (error.MissingPath k input at) other h = HasFlaw.no_path k h.0
+named_flaw b (error.NotUtf8 k input at) other h = HasFlaw.no_text k h.0 h.1
+named_flaw b (error.TooLong shown total at len) other h = HasFlaw.too_long (bstring_bytes shown) total at len h
+named_flaw b (error.BadUrl k named input at len) other h = HasFlaw.bad_url k named at len h.0
 named_flaw b _ other h = absurd h
 
 -- and bytes in which it stands spell no location

@@ -32,22 +32,38 @@ fn told(alloc: Global, input: &[u8], refusal: Refusal<'_>) -> Result<Error, Allo
 {
     Ok(match refusal {
         Refusal::EmptyLocal => Error::EmptyLocal,
-        Refusal::MissingPath { kind } => Error::MissingPath {
+        Refusal::MissingPath { kind, at } => Error::MissingPath {
             kind,
             input: copied(alloc, input)?,
+            at,
         },
-        Refusal::NotUtf8 { kind } => Error::NotUtf8 {
+        Refusal::NotUtf8 { kind, at } => Error::NotUtf8 {
             kind,
             input: copied(alloc, input)?,
+            at,
         },
-        Refusal::TooLong { shown, total } => Error::TooLong {
+        Refusal::TooLong {
+            shown,
+            total,
+            at,
+            len,
+        } => Error::TooLong {
             shown: copied(alloc, shown)?,
             total,
+            at,
+            len,
         },
-        Refusal::BadUrl { kind, fault } => Error::BadUrl {
+        Refusal::BadUrl {
+            kind,
+            fault,
+            at,
+            len,
+        } => Error::BadUrl {
             kind,
             fault,
             input: copied(alloc, input)?,
+            at,
+            len,
         },
     })
 }

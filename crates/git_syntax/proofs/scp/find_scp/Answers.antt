@@ -1,17 +1,24 @@
 -- What is found of the scp form, and what is refused.
-use Rattle.std.proofs.Common.{refl, sym, subst, ◌∙◌, arith}
+use Rattle.std.proofs.Common.{refl, inl, sym, subst, ◌∙◌, arith}
 use Rattle.std.specs.Option.{option_copied}
+use Rattle.std.proofs.lemmas.Bool.{false≢true}
 use Rattle.git_syntax.specs.FoundPieces.{scp_host_of}
 use Rattle.git_syntax.specs.Grammar.{ScpShape}
 use Rattle.git_syntax.specs.Flaws.MissesPath.{in_scp}
 use Rattle.git_syntax.proofs.Readings.HostLemmas.{some_tested}
 use Rattle.git_syntax.proofs.Readings.ShapeLemmas.{nil_tested}
 use Rattle.git_syntax.proofs.Readings.RoomLemmas.{scp_host_within}
-use Rattle.git_syntax.proofs.Readings.ScpLemmas.{scp_host_plain, scp_host_utf8, scp_user_utf8, scp_meant_utf8, colons_inside_front, colons_inside_host}
+use Rattle.git_syntax.proofs.Readings.ScpLemmas.{scp_host_ends, scp_host_flaw_within, scp_host_plain, scp_host_utf8, scp_user_utf8, scp_meant_utf8, colons_inside_front, colons_inside_host}
 use Rattle.git_syntax.proofs.scp.find_scp.Goals as goal
 
-pub returns-then-is_empty-clause-flaw : goal.returns-then-is_empty-clause-flaw
-returns-then-is_empty-clause-flaw c =
+pub no_text-requires-clause-text : goal.no_text-requires-clause-text
+no_text-requires-clause-text c = λ h. false≢true (c.if-not-is_utf8.ensures.1 h)
+
+pub no_text-requires-clause-shape : goal.no_text-requires-clause-shape
+no_text-requires-clause-shape c = inl (c.args.front.now, c.args.path.now, c.requires.shape)
+
+pub no_path-requires : goal.no_path-requires
+no_path-requires c =
     in_scp c.args.front.now (subst (λ p. ScpShape c.args.input.now c.args.front.now p) (nil_tested c.args.path.now c.if-is_empty.ensures) c.requires.shape)
 
 pub find_host-requires-clause-plain : goal.find_host-requires-clause-plain
@@ -58,8 +65,17 @@ returns-in-Err-clause-flaw c = record {
   shape = c.requires.shape;
   split = c.cut_front_user.ensures.split;
   no_at = c.cut_front_user.ensures.no_at;
+  place = c.in-Err.fault.at;
   flaw = c.in-Err.ensures.read;
+  offset = omega (arith, scp_host_ends c.cut_front_user.ensures.split);
 }
+
+pub overflow_sub-result : goal.overflow_sub-result
+overflow_sub-result c = omega (arith, scp_host_ends c.cut_front_user.ensures.split)
+
+pub overflow_add-result : goal.overflow_add-result
+overflow_add-result c =
+    omega (arith, scp_host_ends c.cut_front_user.ensures.split, scp_host_flaw_within c.cut_front_user.result.1.now c.in-Err.fault.at c.in-Err.fault.len c.in-Err.fault.kind c.in-Err.ensures.read)
 
 pub returns-in-Ok-clause-room : goal.returns-in-Ok-clause-room
 returns-in-Ok-clause-room c = omega (arith, c.in-Ok.ensures.within, scp_host_within c.args.path.now c.requires.shape.joined c.cut_front_user.ensures.split)

@@ -19,7 +19,10 @@ pub returns-then-not-is_free_of-clause-refused : goal.returns-then-not-is_free_o
 returns-then-not-is_free_of-clause-refused c = inl (λ h. false≢true (c.if-not-is_free_of.ensures.1 h))
 
 pub returns-then-not-is_free_of-clause-flaw : goal.returns-then-not-is_free_of-clause-flaw
-returns-then-not-is_free_of-clause-flaw c = AuthorityFlaw.holds_backslash (λ h. false≢true (c.if-not-is_free_of.ensures.1 h))
+returns-then-not-is_free_of-clause-flaw c = AuthorityFlaw.holds_backslash c.first_byte.ensures refl
+
+pub first_byte-requires : goal.first_byte-requires
+first_byte-requires c = λ h. false≢true (c.if-not-is_free_of.ensures.1 h)
 
 pub returns-clause-clean : goal.returns-clause-clean
 returns-clause-clean c = on_each_ok c.read_marked.result (FreeOf backslash c.args.authority.now) (c.if-not-is_free_of.ensures.0 refl)

@@ -1,11 +1,13 @@
 -- The URL is cut before its path, and each check that fails has its flaw.
-use Rattle.std.proofs.Common.{refl, sym, subst, ◌∙◌}
+use Rattle.std.proofs.Common.{◌++◌, refl, sym, ap, subst, ◌∙◌, arith, codes, length, length-append}
 use Rattle.std.proofs.lemmas.Bool.{false≢true}
-use Rattle.std.proofs.lemmas.Result.{err_from_is_err_and}
 use Rattle.git_syntax.specs.Authority.{Fits}
 use Rattle.git_syntax.specs.Flaws.{UrlFlaw}
+use Rattle.git_syntax.specs.Escapes.{is_sound}
+use Rattle.git_syntax.specs.Places.{StandsBroken}
+use Rattle.git_syntax.specs.HostPieces.{strictness}
 use Rattle.git_syntax.proofs.Texts.PlainLemmas.{plain_path}
-use Rattle.git_syntax.proofs.Readings.UrlLemmas.{rest_cut, url_cut, spelled, no_scheme_refutes, bad_path_refutes, authority_refutes}
+use Rattle.git_syntax.proofs.Readings.UrlLemmas.{authority_flaw_within, path_end, rest_cut, url_cut, spelled, no_scheme_refutes, bad_path_refutes, authority_refutes}
 use Rattle.git_syntax.proofs.simple_url.read_simple_url.Goals as goal
 
 pub returns-then-not-has_no_white_space-clause-refused : goal.returns-then-not-has_no_white_space-clause-refused
@@ -14,7 +16,13 @@ returns-then-not-has_no_white_space-clause-refused c =
 
 pub returns-then-not-has_no_white_space-clause-flaw : goal.returns-then-not-has_no_white_space-clause-flaw
 returns-then-not-has_no_white_space-clause-flaw c =
-    UrlFlaw.white_space c.args.scheme.now c.args.rest.now c.requires.shape c.utf8.text (λ h. false≢true (c.if-not-has_no_white_space.ensures.1 h))
+    rw c.white_space.ensures.kind (UrlFlaw.white_space c.args.scheme.now c.args.rest.now c.requires.shape c.utf8.text (λ h. false≢true (c.if-not-has_no_white_space.ensures.1 h)) c.white_space.ensures.place)
+
+pub white_space-requires : goal.white_space-requires
+white_space-requires c = λ h. false≢true (c.if-not-has_no_white_space.ensures.1 h)
+
+pub broken_escape-requires : goal.broken_escape-requires
+broken_escape-requires c = ap is_sound c.as_bytes.ensures.value ∙ sym c.if-not-has_sound_escapes.ensures
 
 pub returns-then-not-has_sound_escapes-clause-refused : goal.returns-then-not-has_sound_escapes-clause-refused
 returns-then-not-has_sound_escapes-clause-refused c =
@@ -22,7 +30,7 @@ returns-then-not-has_sound_escapes-clause-refused c =
 
 pub returns-then-not-has_sound_escapes-clause-flaw : goal.returns-then-not-has_sound_escapes-clause-flaw
 returns-then-not-has_sound_escapes-clause-flaw c =
-    UrlFlaw.unsound c.args.scheme.now c.args.rest.now c.requires.shape (sym (c.if-not-has_sound_escapes.ensures))
+    UrlFlaw.unsound c.args.scheme.now c.args.rest.now c.requires.shape (sym c.if-not-has_sound_escapes.ensures) (subst (λ t. StandsBroken t c.broken_escape.result) c.as_bytes.ensures.value c.broken_escape.ensures) refl
 
 pub returns-then-not-is_scheme_text-clause-refused : goal.returns-then-not-is_scheme_text-clause-refused
 returns-then-not-is_scheme_text-clause-refused c =
@@ -30,7 +38,7 @@ returns-then-not-is_scheme_text-clause-refused c =
 
 pub returns-then-not-is_scheme_text-clause-flaw : goal.returns-then-not-is_scheme_text-clause-flaw
 returns-then-not-is_scheme_text-clause-flaw c =
-    UrlFlaw.no_scheme c.args.scheme.now c.args.rest.now c.requires.shape (sym c.if-not-is_scheme_text.ensures)
+    UrlFlaw.no_scheme c.args.scheme.now c.args.rest.now c.requires.shape (sym c.if-not-is_scheme_text.ensures) refl refl
 
 pub means_text-requires : goal.means_text-requires
 means_text-requires c = λ plain.
@@ -44,27 +52,35 @@ returns-then-not-means_text-clause-refused c =
 pub returns-then-not-means_text-clause-flaw : goal.returns-then-not-means_text-clause-flaw
 returns-then-not-means_text-clause-flaw c =
     let cut = url_cut c.requires.shape c.if-not-is_scheme_text.ensures (rest_cut c.requires.rules.web c.cut_before_path.ensures.joined c.cut_before_path.ensures.front c.cut_before_path.ensures.rest) in
-    UrlFlaw.bad_path _ _ _ cut (λ h. false≢true (c.if-not-means_text.ensures.1 h))
+    let whole = path_end c.args.text.now c.args.scheme.now c.cut_before_path.result.0.now c.cut_before_path.result.1.now cut.shape.shape.joined in
+    UrlFlaw.bad_path _ _ _ cut (λ h. false≢true (c.if-not-means_text.ensures.1 h)) (omega (arith, whole)) refl
 
-pub returns-in_err-parts-clause-refused : goal.returns-in_err-parts-clause-refused
-returns-in_err-parts-clause-refused c =
-    let p = err_from_is_err_and c.from_residual.result c.from_residual.ensures.1 in
+pub overflow_sub-result : goal.overflow_sub-result
+overflow_sub-result c =
+    omega (arith, ap length c.requires.shape.shape.joined, length-append c.args.scheme.now (codes "://" ++ c.args.rest.now), ap length c.cut_before_path.ensures.joined, length-append c.cut_before_path.result.0.now c.cut_before_path.result.1.now)
+
+pub overflow_add-result-in-Err : goal.overflow_add-result-in-Err
+overflow_add-result-in-Err c =
+    let within = authority_flaw_within (strictness c.args.rules.mode) c.args.rules.needs_host c.cut_before_path.result.0.now c.in-Err.fault.at c.in-Err.fault.len c.in-Err.fault.kind c.in-Err.ensures.flaw in
+    omega (arith, within, ap length c.requires.shape.shape.joined, length-append c.args.scheme.now (codes "://" ++ c.args.rest.now), ap length c.cut_before_path.ensures.joined, length-append c.cut_before_path.result.0.now c.cut_before_path.result.1.now)
+
+pub returns-in-Err-clause-refused : goal.returns-in-Err-clause-refused
+returns-in-Err-clause-refused c =
     let cut = url_cut c.requires.shape c.if-not-is_scheme_text.ensures (rest_cut c.requires.rules.web c.cut_before_path.ensures.joined c.cut_before_path.ensures.front c.cut_before_path.ensures.rest) in
-    rw (p.1) (λ parts. authority_refutes _ _ _ _ parts cut (rw (c.requires.rules.mode, c.requires.rules.host) at c.in_err-parts.ensures.refused))
+    λ parts. authority_refutes _ _ _ _ parts cut (rw (c.requires.rules.mode, c.requires.rules.host) at c.in-Err.ensures.refused)
 
-pub returns-in_err-parts-clause-flaw : goal.returns-in_err-parts-clause-flaw
-returns-in_err-parts-clause-flaw c =
-    let p = err_from_is_err_and c.from_residual.result c.from_residual.ensures.1 in
+pub returns-in-Err-clause-flaw : goal.returns-in-Err-clause-flaw
+returns-in-Err-clause-flaw c =
     let cut = url_cut c.requires.shape c.if-not-is_scheme_text.ensures (rest_cut c.requires.rules.web c.cut_before_path.ensures.joined c.cut_before_path.ensures.front c.cut_before_path.ensures.rest) in
-    rw (p.1, p.2) (UrlFlaw.bad_authority _ _ _ _ cut (rw (c.requires.rules.mode, c.requires.rules.host) at c.in_err-parts.ensures.flaw))
+    UrlFlaw.bad_authority _ _ _ _ c.in-Err.fault.at cut (rw (c.requires.rules.mode, c.requires.rules.host) at c.in-Err.ensures.flaw) refl
 
-pub returns-clause-read : goal.returns-clause-read
-returns-clause-read c =
+pub returns-in-Ok-clause-read : goal.returns-in-Ok-clause-read
+returns-in-Ok-clause-read c =
     let cut = url_cut c.requires.shape c.if-not-is_scheme_text.ensures (rest_cut c.requires.rules.web c.cut_before_path.ensures.joined c.cut_before_path.ensures.front c.cut_before_path.ensures.rest) in
     let sound = c.if-not-has_sound_escapes.ensures in
     let fits = subst (λ rest. Fits c.args.scheme.now rest) c.cut_before_path.ensures.joined c.requires.fits in
-    let held = rw (c.requires.rules.mode, c.requires.rules.host) at c.in_ok-parts.ensures.read in
-    rw (c.parsed.ensures.scheme, c.parsed.ensures.user, c.parsed.ensures.password, c.parsed.ensures.host, c.parsed.ensures.path) (spelled cut c.utf8.text (c.if-not-has_no_white_space.ensures.0 refl) sound c.in_ok-parts.ensures.clean fits held (c.if-not-means_text.ensures.0 refl))
+    let held = rw (c.requires.rules.mode, c.requires.rules.host) at c.in-Ok.ensures.read in
+    rw (c.parsed.ensures.scheme, c.parsed.ensures.user, c.parsed.ensures.password, c.parsed.ensures.host, c.parsed.ensures.path) (spelled cut c.utf8.text (c.if-not-has_no_white_space.ensures.0 refl) sound c.in-Ok.ensures.clean fits held (c.if-not-means_text.ensures.0 refl))
 
 pub holds_escape-requires : goal.holds_escape-requires
 holds_escape-requires c = λ plain.

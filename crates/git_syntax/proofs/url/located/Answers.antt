@@ -1,5 +1,5 @@
 -- The scheme decides: `ext` keeps the text, a missing path is told, and any other URL means what its parts do.
-use Rattle.std.proofs.Common.{sym, ◌∙◌}
+use Rattle.std.proofs.Common.{refl, sym, ◌∙◌}
 use Rattle.std.proofs.lemmas.Bool.{both_ways, false≢true}
 use Rattle.git_syntax.proofs.Readings.HostLemmas.{some_tested}
 use Rattle.git_syntax.proofs.Readings.ShapeLemmas.{nil_tested}
@@ -12,7 +12,7 @@ use Rattle.git_syntax.proofs.url.located.Goals.{else-rules-via-then-rules+else-i
 
 pub returns-then-is_empty-clause-flaw : goal.returns-then-is_empty-clause-flaw
 returns-then-is_empty-clause-flaw c =
-    path_missed c.requires.spelled (sym c.requires.rules.path ∙ c.if-rules.true) (nil_tested c.args.url.path.now c.if-is_empty.ensures)
+    (path_missed c.requires.spelled (sym c.requires.rules.path ∙ c.if-rules.true) (nil_tested c.args.url.path.now c.if-is_empty.ensures), refl)
 
 pub returns-clause-found : goal.returns-clause-found
 returns-clause-found c =

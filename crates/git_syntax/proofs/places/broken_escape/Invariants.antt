@@ -1,0 +1,15 @@
+-- What is left is unsound, and where its first broken escape stands the text has it, further on.
+use Rattle.std.proofs.Common.{◌≡◌, ◌≤◌, ◌+◌, ℕ, false, length}
+use Rattle.git_syntax.specs.Escapes.{is_sound}
+use Rattle.git_syntax.specs.Places.{StandsBroken}
+use Rattle.git_syntax.proofs.places.broken_escape.Given as goal
+
+abbrev pub invariant-loop-behind : goal.invariant-loop-behind
+invariant-loop-behind l = record {
+  unsound : is_sound l.rest ≡ false;
+  further : (at place : ℕ) → StandsBroken l.rest at → place + length l.rest ≡ at + length l.bytes → StandsBroken l.bytes place;
+  within : length l.rest ≤ length l.bytes;
+}
+
+abbrev pub decreases-loop-behind : goal.decreases-loop-behind
+decreases-loop-behind l = length l.rest
