@@ -1,39 +1,18 @@
 """What docs/CALLING.md says of calls and their clauses, beside the contracts: `called.faults()`."""
 import glob
-import itertools
-import os
 import re
 
-from covered import LIBRARY
-from kit import ROOT
+from covered import contracts
+from kit import LAYERS, ROOT
 
 CALLING = "docs/CALLING.md"
 CLAUSE = re.compile(r"(?m)^ *ensures(?: (\w+))? \{")
 
 
-def contracts():
-    """The contract of each public function, by its name; all laws are named as of the module `laws`."""
-    found = {}
-    for file in sorted(glob.glob(f"{LIBRARY}/**/*.rt", recursive=True)):
-        owner = module = os.path.basename(file).removesuffix(".rt")
-        with open(file, encoding="utf-8") as it:
-            lines = iter(it.read().split("\n"))
-        for line in lines:
-            around = re.match(r"impl(?:<[^>]*>)? (?:.* for )?(\w+)|(})", line)
-            if around:
-                owner = around[1] or module
-            call = re.match(r"( *)pub fn (\w+)", line)
-            if call:
-                body = {f"{call[1]}{{", f"{call[1]}{{}}"}
-                name = f"{'laws' if call[2].startswith('law_') else owner}::{call[2]}"
-                found[name] = "\n".join([line, *itertools.takewhile(lambda it: it not in body, lines)])
-    return found
-
-
 def records():
     """The fields of each record of the definitions, by its name."""
     found = {}
-    for file in glob.glob(f"{ROOT}/crates/gix_url/specs/*.antt"):
+    for file in (it for layer in LAYERS for it in sorted(glob.glob(f"{ROOT}/crates/{layer}/specs/*.antt"))):
         with open(file, encoding="utf-8") as it:
             for record in re.finditer(r"(?m)^pub record (\w+).*\n((?:(?:  .*)?\n)*)", it.read()):
                 found[record[1]] = {*re.findall(r"(?m)^  pub (\w+) :", record[2])}

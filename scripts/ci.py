@@ -36,17 +36,25 @@ def compiled(kit, crate, flags):
 
 
 def in_turn(kit, slots):
-    """The proof of a crate: by most of the processors where all others wait for it, and else by one."""
-    judges, processors = kit.Crate.ci, kit.processors()
+    """The proof of a crate: by most of the processors where others wait for it, which those that are proved beside it
+    share, and else by one."""
+    judges, most = kit.Crate.ci, max(1, 3 * kit.processors() // 4)
 
     def proves(crate, flags, tests):
         return compiled(kit, crate, flags) if crate.is_static and not tests else judges(crate, flags, tests)
 
     waits = slots.around(proves)
-    below = {it.name for crate in kit.rtlib.crates_below(os.getcwd()) for it in crate.below()}
+    stands_on = {crate.name: {it.name for it in crate.below()} for crate in kit.rtlib.crates_below(os.getcwd())}
+    below = set().union(*stands_on.values())
+
+    def jobs_of(crate):
+        if crate.name not in below:
+            return 1
+        beside = [it for it in below if it not in stands_on[crate.name] and crate.name not in stands_on[it]]
+        return max(1, most // len(beside))
 
     def ci(crate, flags, tests):
-        jobs = 1 if crate.below() else max(1, min(int(flags[1]), 3 * processors // 4))
+        jobs = min(int(flags[1]), jobs_of(crate))
         return (proves if crate.name in below else waits)(crate, ["--jobs", str(jobs)], tests)
 
     return ci

@@ -1,28 +1,66 @@
 """The calls that have no row: public functions of the library, and calls that the program `answers` makes."""
 import glob
+import itertools
 import os
 import re
 
-from kit import ROOT
+from kit import LAYERS, LIBRARY, ROOT
+from rooms import paths_of
 
-LIBRARY = f"{ROOT}/crates/gix_url/src"
 CALLS = f"{ROOT}/crates/answers/src/calls.rt"
+# What layers below pass to those above: public by a type or a module that the library passes on, and for no user.
+OF_LAYERS = {
+    "SchemeRef::of_protocol", "UrlRef::canonical_pieces", "UrlRef::form", "UrlRef::helper_pieces", "UrlRef::is_settled_as",
+    "UrlRef::matching_spelling", "UrlRef::own_form", "UrlRef::own_pieces", "UrlRef::path_pieces", "UrlRef::pieces", "UrlRef::scp_pieces",
+    "ipv6::is_address",
+}
 
 
-def public_calls():
-    """The names of the public functions of the library; all laws are named as of the room `laws`."""
-    names = set()
-    for file in sorted(glob.glob(f"{LIBRARY}/**/*.rt", recursive=True)):
+def files_of(crate):
+    return sorted(glob.glob(f"{ROOT}/crates/{crate}/src/**/*.rt", recursive=True))
+
+
+def contracts_of(crate):
+    """The contract of each public function of a crate, by its name; all laws are named as of the room `laws`."""
+    found = {}
+    for file in files_of(crate):
         owner = module = os.path.basename(file).removesuffix(".rt")
         with open(file, encoding="utf-8") as it:
-            for line in it:
-                found = re.match(r"impl(?:<[^>]*>)? (?:.* for )?(\w+)", line) or re.match(r"(})", line)
-                if found:
-                    owner = module if found[1] == "}" else found[1]
-                found = re.match(r" *pub fn (\w+)", line)
-                if found:
-                    names.add(f"{'laws' if found[1].startswith('law_') else owner}::{found[1]}")
-    return names
+            lines = it.read().split("\n")
+        for at, line in enumerate(lines):
+            around = re.match(r"impl(?:<[^>]*>)? (?:.* for )?(\w+)|(})", line)
+            if around:
+                owner = around[1] or module
+            call = re.match(r"( *)pub fn (\w+)", line)
+            if call:
+                # The body opens on a line of its own, or behind a signature that has no clauses.
+                opens = re.compile(rf"{call[1]}(\{{(\}}| \}})?|\).* \{{|pub fn .* \{{)$")
+                name = f"{'laws' if call[2].startswith('law_') else owner}::{call[2]}"
+                found[name] = "\n".join(itertools.takewhile(lambda it: not opens.match(it), lines[at:])) or line
+    return found
+
+
+def passed_on():
+    """What the library passes on of the layers below it: modules, types and laws, by their last names."""
+    found = set()
+    for file in files_of(LIBRARY):
+        with open(file, encoding="utf-8") as it:
+            paths = [path for words in re.findall(r"(?m)^pub use ([^;]+);", it.read()) for path in paths_of(words)]
+        found |= {path[-1] for path in paths if path[0] in LAYERS}
+    return found
+
+
+def passed_calls():
+    """The contracts of the calls that come with what the library passes on."""
+    passed, below = passed_on(), {}
+    for layer in LAYERS[:-1]:
+        below.update(contracts_of(layer))
+    return {it: below[it] for it in below if it.partition("::")[2 if it.startswith("laws::") else 0] in passed}
+
+
+def contracts():
+    """The contract of each public call of the library, by its name: of its own, and of those that it passes on."""
+    return {**{name: it for name, it in passed_calls().items() if name not in OF_LAYERS}, **contracts_of(LIBRARY)}
 
 
 def program_calls():
@@ -34,5 +72,6 @@ def program_calls():
 def missing_calls(table):
     """The calls that have no row, and the calls that rows name and the program doesn't."""
     named, made = {it.members.get("call") for it in table}, program_calls()
-    faults = [f"{it} has no row" for it in sorted((public_calls() | made) - named)]
+    faults = [f"{it} has no row" for it in sorted((contracts().keys() | made) - named)]
+    faults += [f"{it} is no call that the library passes on" for it in sorted(OF_LAYERS - passed_calls().keys())]
     return faults + [f"{it} is no call of the program" for it in sorted(map(str, named - made))]

@@ -4,6 +4,7 @@ import hashlib
 import importlib.machinery
 import importlib.util
 import os
+import re
 import shutil
 import subprocess
 import sys
@@ -11,6 +12,26 @@ import sys
 ROOT = os.path.dirname(os.path.dirname(os.path.realpath(__file__)))
 # What the gate built of the sources whose number stands beside it.
 BUILT = f"{ROOT}/out/built"
+
+
+@functools.cache
+def lines_of_crates():
+    """What crates.txt says of each crate: its line, and what it stands on."""
+    with open(f"{ROOT}/crates.txt", encoding="utf-8") as it:
+        lines = [line for line in it if line.strip() and not line.startswith("#")]
+    return {re.match(r"\w+", line)[0]: (line, line.partition(":")[2].split()) for line in lines}
+
+
+@functools.cache
+def stands_on(name):
+    """The crates that a crate of crates.txt stands on, lowest first, and the crate itself."""
+    found = [it for below in lines_of_crates()[name][1] if below in lines_of_crates() for it in stands_on(below)]
+    return [*dict.fromkeys([*found, name])]
+
+
+# The library, and its layers: the crates that it stands on, lowest first, and itself.
+LIBRARY = "gix_url"
+LAYERS = stands_on(LIBRARY)
 
 
 class Slots:

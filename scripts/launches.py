@@ -24,21 +24,27 @@ mkdir -p out
 [ "$1" = run ] || exit 0
 printf '#!/bin/sh\\necho "$0" "$@"\\n' >"out/$(basename "$PWD")" && chmod +x "out/$(basename "$PWD")"
 """
-# How often a first call has the command check, write or build.
-STEPS = 4
-PHASES = ["the library is proved", "the library is written", "the library is loaded", "the program is proved", "the program is built"]
+# How often a first call of `locations` has the command check, write or build.
+STEPS = 6
+PHASES = [
+    "git_syntax is proved", "git_syntax is written", "git_lines is proved", "git_lines is written",
+    "the libraries are loaded", "the program is proved", "the program is built",
+]
+# The crates of the tree: `locations` stands on two of them, and not on the library.
+CRATES = ("git_syntax", "git_lines", "gix_url", "locations", "explain")
+LINES = "git_syntax: bstr\ngit_lines: git_syntax\ngix_url: bstr git_syntax\nlocations: git_lines\nexplain: gix_url\n"
 Tree = namedtuple("Tree", "root calls environment")
 
 
 def planted(room):
-    """A tree with the launchers, two crates of a file each, and the command."""
+    """A tree with the launchers, crates of a file each, and the command."""
     root = f"{room}/tree"
     of_crates = [f"crates/{it}/{file}" for it in ("locations", "explain") for file in ("help", "version")]
-    for file in ("locations", "explain", "scripts/proved", "scripts/build", *of_crates):
+    for file in ("locations", "explain", "scripts/proved", "scripts/build", "scripts/kit.py", *of_crates):
         os.makedirs(os.path.dirname(f"{root}/{file}"), exist_ok=True)
         shutil.copy2(f"{ROOT}/{file}", f"{root}/{file}")
-    texts = {"crates.txt": "gix_url: bstr\nlocations: gix_url\nexplain: gix_url\n", "bin/rt": RT}
-    texts.update({f"crates/{it}/src/lib.rt": "" for it in ("gix_url", "locations", "explain")})
+    texts = {"crates.txt": LINES, "bin/rt": RT}
+    texts.update({f"crates/{it}/src/lib.rt": "" for it in CRATES})
     for file, text in texts.items():
         os.makedirs(os.path.dirname(f"{root}/{file}"), exist_ok=True)
         with open(f"{root}/{file}", "w", encoding="utf-8") as it:
@@ -71,18 +77,24 @@ def by_a_link(tree):
     return (status, said.endswith("locations a\n"), proofs(tree)), (0, True, STEPS)
 
 
+def changed(tree, crate):
+    """Makes the source of a crate another one, which is younger than all that is built."""
+    with open(f"{tree.root}/crates/{crate}/src/lib.rt", "a", encoding="utf-8") as it:
+        it.write("// another\n")
+    os.utime(it.name, (time.time() + 5,) * 2)
+
+
 def other_line_of_crates(tree):
-    """Neither an edit of another crate's line nor a touched file has the program proved again."""
+    """Neither another crate's line or source nor a touched file has the program proved again."""
     with open(f"{tree.root}/crates.txt", "a", encoding="utf-8") as it:
         it.write("other: bstr\n")
-    os.utime(f"{tree.root}/crates/gix_url/src/lib.rt", (time.time() + 5,) * 2)
+    changed(tree, "gix_url")
+    os.utime(f"{tree.root}/crates/git_syntax/src/lib.rt", (time.time() + 5,) * 2)
     return (run(tree, f"{tree.root}/locations")[0], proofs(tree)), (0, STEPS)
 
 
 def changed_source(tree):
-    with open(f"{tree.root}/crates/gix_url/src/lib.rt", "a", encoding="utf-8") as it:
-        it.write("// another\n")
-    os.utime(it.name, (time.time() + 5,) * 2)
+    changed(tree, "git_syntax")
     return (run(tree, f"{tree.root}/locations")[0], proofs(tree)), (0, 2 * STEPS)
 
 
@@ -143,7 +155,7 @@ def read_only(tree):
     with open(made.calls, "w", encoding="utf-8"):
         os.chmod(made.calls, 0o666)
     if os.geteuid():
-        for name in ("gix_url", "locations", "explain"):
+        for name in CRATES:
             os.chmod(f"{made.root}/crates/{name}", 0o555)
     how = ["setpriv", "--reuid=65534", "--regid=65534", "--clear-groups"] if not os.geteuid() else []
     return [*refusing(made, "can't be written to", *how)], ONE_SENTENCE
@@ -151,7 +163,7 @@ def read_only(tree):
 
 def little_disk(tree):
     """With too little disk there is one sentence and no proof."""
-    return [*refusing(fresh(tree, "little-disk", ("LIBRARY: 2_600_000_000", "LIBRARY: 1 << 62")), "GB are free")], ONE_SENTENCE
+    return [*refusing(fresh(tree, "little-disk", ('"git_syntax": 700_000_000', '"git_syntax": 1 << 62')), "GB are free")], ONE_SENTENCE
 
 
 def broken_command(tree):
@@ -175,10 +187,10 @@ def judged(text):
     before, and whether each line of progress tells a share and minutes."""
     first, *lines = re.split(r"[\r\n]+", text.replace("\x1b[K", "").strip())
     lines = [it for it in lines if it and "out/locations" not in it]
-    told = [re.fullmatch(r"locations: (\d+) %, about \d+ minutes? left: ([a-z ]+)(, \d of 3)?, after \d+:\d+", it) for it in lines]
+    told = [re.fullmatch(r"locations: (\d+) %, about \d+ minutes? left: ([a-z_ ]+)(, \d of 3)?, after \d+:\d+", it) for it in lines]
     shares = [int(it[1]) for it in told if it]
     phases = list(dict.fromkeys(it[2] for it in told if it))
-    has_minutes = bool(re.search(r"\d+ processor minutes, or \d+ where the library is proved already", first))
+    has_minutes = bool(re.search(r"\d+ processor minutes, or \d+ where the libraries are proved already", first))
     return has_minutes, phases, shares == sorted(shares) and len({*shares}) > len(PHASES), all(told)
 
 

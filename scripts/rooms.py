@@ -1,17 +1,20 @@
-"""Which room of the library uses which, and which lemmas are cited out of their topic: read from the files, and held
-against what `docs/ARCHITECTURE.md` says of it.
+"""Which room of a layer of the library uses which, and which lemmas are cited out of their topic: read from the files, and
+held against what `docs/ARCHITECTURE.md` says of it.
+
+usage: scripts/rooms.py      prints what each table should say of who uses what
 
 A room is a module with all that stands below it. It uses another where one of its files names it in a `use`, or calls a
-method that the other gives a location. What it uses of `std` isn't told. A room at the root is said to use rooms at the
-root, one inside another its neighbours too.
+method that the other gives a location. What it uses of `std` isn't told, and of another crate no more than its name. A
+room at the root is said to use rooms at the root, one inside another its neighbours too.
 """
 import glob
 import os
 import re
+import sys
 
-ROOT = os.path.dirname(os.path.dirname(os.path.realpath(__file__)))
-CRATE = f"{ROOT}/crates/gix_url"
-SOURCES, PROOFS = f"{CRATE}/src", f"{CRATE}/proofs"
+sys.dont_write_bytecode = True
+from kit import LAYERS, ROOT, stands_on
+
 USE = re.compile(r"(?ms)^ *(?:pub(?:\(\w+\))? )?use ([^;]+);")
 METHOD = re.compile(r"(?m)^    pub(?:\(crate\))? fn (\w+)")
 # What every crate stands on.
@@ -25,8 +28,12 @@ def read(file):
     return " ".join(re.findall(r"(?m)^//! ?(.*)$", text)), re.sub(r"(?m)^ *(//|ghost ).*$", "", text)
 
 
-def modules(sources=SOURCES):
-    """The files of a crate, if not of the library, by the paths of their modules."""
+def sources_of(layer):
+    return f"{ROOT}/crates/{layer}/src"
+
+
+def modules(sources):
+    """The files of a crate by the paths of their modules."""
     files = sorted(glob.glob(f"{sources}/**/*.rt", recursive=True))
     paths = {tuple(os.path.relpath(it, sources).removesuffix(".rt").split("/")): it for it in files}
     return {path: file for path, file in paths.items() if path != ("lib",)}
@@ -42,14 +49,14 @@ def paths_of(words):
 
 
 def target(path, here, known):
-    """The module that a path names in the module `here`, or the crate of the kit, as a path of one name."""
+    """The module that a path names in the module `here`, a path into another layer, or a crate of the kit, a path of one name."""
     if path[0] in ("crate", "super"):
         base = () if path[0] == "crate" else here[:-1]
         rest = path[1:]
     elif (*here, path[0]) in known:
         base, rest = here, path
     else:
-        return (path[0],)
+        return tuple(path) if path[0] in LAYERS else (path[0],)
     while rest and (*base, rest[0]) in known:
         base, rest = (*base, rest[0]), rest[1:]
     return base
@@ -65,7 +72,7 @@ def methods(known):
 
 
 def targets(path, known, of_urls):
-    """The modules and the crates of the kit that a file uses."""
+    """The modules and the other crates that a file uses."""
     code = read(known[path])[1]
     direct = {target(it, path, known) for words in USE.findall(code) for it in paths_of(words)}
     # What a file defines itself, as the method of another type, is its own.
@@ -73,10 +80,16 @@ def targets(path, known, of_urls):
     return direct | {of_urls[it] for it in called if it in of_urls}
 
 
-def uses():
-    """What each room uses: rooms at the root, crates of the kit, and of one inside another its neighbours."""
-    known, found = modules(), {}
-    of_urls = methods(known)
+def methods_of(layer):
+    """The module of each method that a location has in a layer, and of those in the layers below, behind the layer's name."""
+    below = {name: (it, *path) for it in stands_on(layer)[:-1] for name, path in methods(modules(sources_of(it))).items()}
+    return {**below, **methods(modules(sources_of(layer)))}
+
+
+def uses(layer):
+    """What each room of a layer uses: rooms at the root, other crates, and of one inside another its neighbours."""
+    known, found = modules(sources_of(layer)), {}
+    of_urls = methods_of(layer)
     for room in known:
         inside = [it for it in known if it[: len(room)] == room]
         outside = {it for file in inside for it in targets(file, known, of_urls) if it[: len(room)] != room}
@@ -86,10 +99,9 @@ def uses():
     return found
 
 
-def untrue_heads():
+def untrue_heads(layer):
     """Where the head of a file says that it uses what it doesn't."""
-    known = modules()
-    of_urls = methods(known)
+    known, of_urls = modules(sources_of(layer)), methods_of(layer)
     for path, file in known.items():
         said = re.search(r"It (?:may )?uses? (.*?)\. ", f"{read(file)[0]} ")
         used = {word for it in targets(path, known, of_urls) for word in it} | {it[-1] for it in known if it[:-1] == path}
@@ -99,15 +111,15 @@ def untrue_heads():
 
 
 def cited():
-    """The files of lemmas of each topic that are cited outside of it."""
-    found = {os.path.basename(it.rstrip("/")): set() for it in glob.glob(f"{PROOFS}/[A-Z]*/")}
-    files = glob.glob(f"{CRATE}/**/*.antt", recursive=True) + glob.glob(f"{CRATE}/**/*.rt", recursive=True)
-    # What a build leaves there are copies.
-    for file in (it for it in files if not it.startswith(f"{CRATE}/out/")):
-        with open(file, encoding="utf-8") as it:
-            for topic, name in re.findall(r"(?:Rattle\.gix_url\.|crate::)proofs(?:\.|::)([A-Z]\w*)(?:\.|::)(\w+)", it.read()):
-                if not file.startswith(f"{PROOFS}/{topic}/"):
-                    found.setdefault(topic, set()).add(name)
+    """The files of lemmas of each topic that are cited outside of it, in whatever layers it has files."""
+    found = {os.path.basename(it.rstrip("/")): set() for layer in LAYERS for it in glob.glob(f"{ROOT}/crates/{layer}/proofs/[A-Z]*/")}
+    cites = re.compile(rf"(?:Rattle\.({'|'.join(LAYERS)})\.|crate::)proofs(?:\.|::)([A-Z]\w*)(?:\.|::)(\w+)")
+    for layer in LAYERS:
+        for file in (it for part in ("src", "specs", "proofs") for it in glob.glob(f"{ROOT}/crates/{layer}/{part}/**/*.*t", recursive=True)):
+            with open(file, encoding="utf-8") as it:
+                for crate, topic, name in cites.findall(it.read()):
+                    if not file.startswith(f"{ROOT}/crates/{crate or layer}/proofs/{topic}/"):
+                        found.setdefault(topic, set()).add(name)
     return found
 
 
@@ -137,6 +149,19 @@ def table_faults(title, found):
 
 def faults():
     """Where the tables of modules and of lemmas, and the heads of modules, say otherwise than the files."""
-    yield from untrue_heads()
-    yield from table_faults("Modules of `gix_url`", uses())
+    for layer in LAYERS:
+        yield from untrue_heads(layer)
+        yield from table_faults(f"Modules of `{layer}`", uses(layer))
     yield from table_faults("Proofs (`proofs/`)", cited())
+
+
+def main():
+    for title, found in [*((f"Modules of `{it}`", uses(it)) for it in LAYERS), ("Proofs (`proofs/`)", cited())]:
+        print(f"## {title}\n")
+        for name, used in found.items():
+            print(f"| `{name}` | {', '.join(f'`{it}`' for it in sorted(used))} |")
+        print()
+
+
+if __name__ == "__main__":
+    main()

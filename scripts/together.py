@@ -6,20 +6,22 @@ says of each function by itself what is not proved. An edit counts as refused he
 the very function that it changes, or an answer to one of its goals that no longer answers it. The second says less: the
 goal may have another answer, so `refused_by` tells the two apart.
 
-An edit of anything else, definitions or a constant, is tried by a check of the laws alone, and of those that hold the
-rows of definitions: they have no code, and stand on definitions, constants and lemmas. It counts as refused here only
-where the check says of a law that it is not proved, and of no lemma that it names what the edit took away.
+An edit of anything else, definitions or a constant, is tried by a check of the crate's laws alone, those that hold the
+rows of definitions among them: they have no code, and stand on definitions, constants and lemmas. It counts as refused
+here only where the check says of a law that it is not proved, and of no lemma that it names what the edit took away.
 
 What these checks have nothing to say of is left to be tried alone, as is what doesn't read.
 """
+import glob
+import os
 import re
 
 # The head of an impl: its parameters, the trait, if it is one of a trait, and the type.
 IMPL = re.compile(r"impl(?:<([^>]*)>)? (?:(.*) for )?(.*?)(?: \{)?$")
 FUNCTION = re.compile(r"( *)(?:pub(?:\([a-z]+\))? )?(?:const )?(?:extern \"C\" )?fn \w")
 PAIR = re.compile(r"(?m)^file: (?P<file>\S+)|^old: (?P<old>.*)\nnew: ?(?P<new>.*)")
-LAWS = ["--only", "laws", "--only", "rows"]
-OPEN_LAW = re.compile(r"fn \w+::(laws|rows)::\w+: not proved")
+LAW = re.compile(r"(?m)^(pub )?fn (law_\w+)")
+OPEN_LAW = re.compile(r"fn \S+::law_\w+: not proved")
 # A lemma that names what an edit took away, which says little of the law.
 GONE = re.compile(r"(?:\./)?proofs/.*(has no field|is not in scope|has no `)")
 OPEN_GOAL = re.compile(r"note: (?:\./)?(src/\S+):(\d+):\d+: it is not proved")
@@ -208,12 +210,26 @@ def bad_answer(crate, places, place, lines):
     return None
 
 
+def laws_of(crate):
+    """The laws of a crate, by the ends of their paths: those that users have, and the others."""
+    theirs, own = [], []
+    for file in sorted(glob.glob(f"{crate.folder}/src/**/*.rt", recursive=True)):
+        module = os.path.relpath(file, f"{crate.folder}/src").removesuffix(".rt").replace("/", "::")
+        with open(file, encoding="utf-8") as it:
+            for is_public, name in LAW.findall(it.read()):
+                (theirs if is_public else own).append(f"{module}::{name}")
+    return theirs, own
+
+
 def refusals_by_laws(kit, crate, edit, flags, kept):
-    """What the check of the laws says against an edit: the law that is not proved with it, if one isn't."""
+    """What the check of the laws says against an edit: the law that is not proved with it, if there is one."""
     texts, why = kit.read_edit(edit, crate.folder)
-    if why:
+    theirs, own = laws_of(crate)
+    if why or not theirs + own:
         return {}
-    lines = told_by(kit, crate, texts, [*flags, *LAWS], kept, "only=")
+    only = [word for it in theirs + own for word in ("--only", it)]
+    lines = told_by(kit, crate, texts, [*flags, *only], kept, "only=")
     is_fair = not any(map(GONE.match, lines))
     # The last one counts: a law that users have, if one is open.
-    return {edit: it for it in sorted(lines, key=lambda it: "::laws::" in it) if is_fair and OPEN_LAW.match(it)}
+    found = [it for it in lines if is_fair and OPEN_LAW.match(it)]
+    return {edit: it for it in sorted(found, key=lambda it: any(f"::{law}: " in it for law in theirs))}
