@@ -1,7 +1,7 @@
 -- Laws on the answers to lines, over the definitions alone: a line for each line, and lines in one way.
 use Rattle.std.specs.Prelude.{◌≡◌, ℕ, Bool, List, [], ◌∷◌, ◌++◌}
 use Rattle.git_syntax.specs.Bytes.{newline, FreeOf}
-use Rattle.git_location.specs.Answers.{SplitsLines, IsAnswer, Answers}
+use Rattle.git_lines.specs.Answers.{SplitsLines, IsAnswer, Answers}
 
 -- the bytes are one line and its end
 abbrev pub IsOneLine : List ℕ → Type 0

@@ -8,7 +8,7 @@ use Rattle.std.specs.Option.{option_eq}
 use Rattle.std.specs.Cmp.{IsEquivalence, decided}
 use Rattle.std.specs.Cmp.Lexicographic.{pointwise, bytes_decides}
 use Rattle.git_laws.specs.OrderLaws.{options_decide}
-use Rattle.git_location.specs.Components.{Components}
+use Rattle.git_laws.specs.Components.{Components}
 
 -- pairs of a name and a value are equal where both have the same bytes
 abbrev pub pair_eq : List ℕ × List ℕ → List ℕ × List ℕ → Bool

@@ -1,7 +1,7 @@
 -- The laws of components, over the definitions alone: one definition for each.
 use Rattle.std.specs.Prelude.{◌≡◌, true, ◌↔◌}
 use Rattle.git_syntax.specs.Value.{Location}
-use Rattle.git_location.specs.Components.{Components, PartsOf}
+use Rattle.git_laws.specs.Components.{Components, PartsOf}
 use Rattle.git_laws.specs.ComponentEquality.{components_eq}
 
 -- every location has components, and no two

@@ -5,7 +5,7 @@
 use Rattle.std.specs.Prelude.{ℕ, List, ◌∷◌, ◌++◌, codes, Option, Some, None}
 use Rattle.git_syntax.specs.Value.Protocol.{git, ssh}
 use Rattle.git_syntax.specs.Bytes.{tab}
-use Rattle.git_location.specs.Git.{GitReading, GitReads, on_this_machine}
+use Rattle.git_laws.specs.Git.{GitReading, GitReads, on_this_machine}
 
 -- a place that Secure Shell reaches
 abbrev pub by_ssh : Option (List ℕ) → Option (List ℕ) → Option ℕ → List ℕ → GitReading

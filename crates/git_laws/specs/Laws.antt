@@ -12,9 +12,9 @@ use Rattle.git_syntax.specs.Grammar.{IsNeither, ScpShape, IsAddressed, SpellsHel
 use Rattle.git_location.specs.Text.{has_colon, text}
 use Rattle.git_location.specs.Settled.{IsValue, HasFittingText, IsSettled, IsWeb}
 use Rattle.git_location.specs.Readings.{IsAgain}
-use Rattle.git_location.specs.Components.{Components, PartsOf}
-use Rattle.git_location.specs.Records.{migrated}
-use Rattle.git_location.specs.Order.{text_cmp, location_cmp, fed_protocol, fed_location}
+use Rattle.git_laws.specs.Components.{Components, PartsOf}
+use Rattle.git_laws.specs.Records.{migrated}
+use Rattle.git_laws.specs.Order.{text_cmp, location_cmp, fed_protocol, fed_location}
 
 -- ---- separation
 

@@ -1,5 +1,10 @@
 -- What a user reads.
+pub mod Git
+pub mod GitClass
+pub mod Components
 pub mod ComponentEquality
+pub mod Records
+pub mod Order
 pub mod Laws
 pub mod AnswerLaws
 pub mod ComponentLaws

@@ -11,7 +11,7 @@ use Rattle.std.specs.Cmp.{IsTotalOrder, IsEquivalence, IsPartialOrder, po, decid
 use Rattle.std.specs.Cmp.Lexicographic.{nat_list_cmp_total, options_total, texts_ties, bytes_decides}
 use Rattle.git_syntax.specs.Value.{Protocol, Location}
 use Rattle.git_syntax.specs.Value.Protocol.{file, git, ssh, http, https, ext, helper, helper_url}
-use Rattle.git_location.specs.Order.{rank, held_name, text_eq, protocol_eq, location_eq, bytes_cmp, text_cmp, protocol_cmp, location_cmp, fed_protocol, fed_location}
+use Rattle.git_laws.specs.Order.{rank, held_name, text_eq, protocol_eq, location_eq, bytes_cmp, text_cmp, protocol_cmp, location_cmp, fed_protocol, fed_location}
 
 -- ---- what is equal is one value
 

@@ -8,11 +8,11 @@
 ghost use Rattle.std.specs.Cmp.{IsTotalOrder};
 ghost use Rattle.git_laws.specs.AnswerLaws.{LineForLine, OneLine, OneSplit};
 ghost use Rattle.git_laws.specs.ComponentLaws.{EqualComponents, OneComponents};
-ghost use Rattle.git_location.specs.Git.{OneGitReading};
-ghost use Rattle.git_location.specs.GitClass.{ReadAlike};
+ghost use Rattle.git_laws.specs.Git.{OneGitReading};
+ghost use Rattle.git_laws.specs.GitClass.{ReadAlike};
 ghost use Rattle.git_laws.specs.Laws.{Apart, Closed, EqualIsSame, Exact, ExactByFields, FedAlike, KeepsEarlier, LocationsFedApart, ProtocolsFedApart, ReadAgain, SameComponents, SettledAgain, SpellingLast, TextDecides, TiedIsEqual, Unchanged, Unique, Writable};
-ghost use Rattle.git_location.specs.Order.{fed_location, fed_protocol, location_cmp, location_eq, protocol_cmp, protocol_eq};
-ghost use Rattle.git_location.specs.Records.{KeepsMeaning, MigratedOnce, Migrates, RespelledOnce};
+ghost use Rattle.git_laws.specs.Order.{fed_location, fed_protocol, location_cmp, location_eq, protocol_cmp, protocol_eq};
+ghost use Rattle.git_laws.specs.Records.{KeepsMeaning, MigratedOnce, Migrates, RespelledOnce};
 ghost use Rattle.git_laws.specs.Safeguards.{SettledWithoutPassword, SettledWithoutSpelling, WebSettledWithoutSpelling};
 
 /// Texts tell locations apart.

@@ -4,9 +4,8 @@ use Rattle.git_syntax.specs.Value.{Protocol, Location}
 use Rattle.git_syntax.specs.Value.Protocol.{file, git, ssh}
 use Rattle.git_syntax.specs.Bytes.{percent_sign, left_bracket, right_bracket, tilde, Lacks, begins_with}
 use Rattle.git_location.specs.Text.{text}
-use Rattle.git_location.specs.Settled.{IsValue, IsSettled}
+use Rattle.git_location.specs.Settled.{IsSettled}
 use Rattle.git_location.specs.Arguments.{is_option_like}
-use Rattle.git_location.specs.Git.{GitReading, GitReads}
 
 -- a byte by which Git cuts a text otherwise: byte 0, `%`, `[` or `]`
 abbrev pub is_contested : ℕ → Bool
@@ -50,25 +49,3 @@ pub record AgreesWithGit (v : Location) : Type 0 where
   pub no_option : HasNoOption v
   pub suits : SuitsTransport v.scheme v
   pub plain : HasPlainText v
-
--- ---- the law
-
--- the location's own protocol, user, host, port and path
-abbrev pub own_reading : Location → GitReading
-own_reading v = record {
-  protocol = v.scheme;
-  user = v.user;
-  host = v.host;
-  port = v.port;
-  path = v.path;
-}
-
--- the location has a text, and Git reads whatever its text is as the location's own parts
-pub record IsReadAlike (v : Location) : Type 0 where
-  pub written : List ℕ
-  pub has_text : text v ≡ Ok written
-  pub read : (t : List ℕ) → text v ≡ Ok t → GitReads t (own_reading v)
-
--- so it is with each location of the class
-abbrev pub ReadAlike : Type 0
-ReadAlike = (v : Location) → IsValue v → AgreesWithGit v → IsReadAlike v

@@ -5,12 +5,7 @@ pub mod Readings
 pub mod Display
 pub mod Words
 pub mod Arguments
-pub mod Answers
-pub mod Git
 pub mod GitClass
-pub mod Components
-pub mod Records
-pub mod Order
 pub mod Safeguards
 pub mod Views
 pub mod UrlRef

@@ -10,7 +10,7 @@ use Rattle.gix_url.specs.declared.components.cuts.Spelled.{Spelled}
 use Rattle.git_syntax.specs.Bytes.{plus_sign, FreeOf, ampersand}
 use Rattle.git_syntax.specs.Value.{Location}
 use Rattle.git_syntax.specs.Grammar.{or_root}
-use Rattle.git_location.specs.Components.{CutsPath, CutsFields, SplitsField, with_spaces}
+use Rattle.git_laws.specs.Components.{CutsPath, CutsFields, SplitsField, with_spaces}
 use Rattle.git_syntax.specs.Escapes.{matches}
 use Rattle.git_location.specs.Text.{original_path}
 use Rattle.gix_url.specs.Meanings.{meant_by}

@@ -8,7 +8,7 @@ use Rattle.std.specs.Cmp.{IsEquivalence, IsPartialOrder, IsTotalOrder, decided, 
 use Rattle.std.specs.Hash.{HashWrites}
 use Rattle.gix_url.specs.Homes.{HomeUser}
 use Rattle.gix_url.specs.Homes.HomeUser.{current, named}
-use Rattle.git_location.specs.Order.{text_eq, text_cmp, fed_text}
+use Rattle.git_laws.specs.Order.{text_eq, text_cmp, fed_text}
 use Rattle.git_laws.specs.OrderLaws.{text_decides, text_total, text_ties}
 
 -- the name that a user brings with it

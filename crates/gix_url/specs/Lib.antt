@@ -42,11 +42,6 @@ pub use Rattle.git_location.specs.Settled
 pub use Rattle.git_location.specs.Display
 pub use Rattle.git_location.specs.Words
 pub use Rattle.git_location.specs.Arguments
-pub use Rattle.git_location.specs.Git
-pub use Rattle.git_location.specs.GitClass
-pub use Rattle.git_location.specs.Components
-pub use Rattle.git_location.specs.Records
-pub use Rattle.git_location.specs.Order
 pub use Rattle.git_location.specs.UrlRef
 pub use Rattle.git_location.specs.KeptBytes
 pub use Rattle.git_location.specs.Pieces
@@ -54,7 +49,12 @@ pub use Rattle.git_location.specs.Sinks
 pub use Rattle.git_location.specs.Fills
 pub use Rattle.git_location.specs.SettledParts
 pub use Rattle.git_lines.specs.Answers
+pub use Rattle.git_laws.specs.Git
+pub use Rattle.git_laws.specs.GitClass
+pub use Rattle.git_laws.specs.Components
 pub use Rattle.git_laws.specs.ComponentEquality
+pub use Rattle.git_laws.specs.Records
+pub use Rattle.git_laws.specs.Order
 pub use Rattle.git_laws.specs.AnswerLaws
 pub use Rattle.git_laws.specs.ComponentLaws
 pub use Rattle.git_laws.specs.OrderLaws

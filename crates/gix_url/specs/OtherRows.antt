@@ -9,8 +9,8 @@ use Rattle.gix_url.specs.declared.error.Error.TheVariants as error
 use Rattle.git_lines.specs.declared.lines.RunError.TheVariants as run
 use Rattle.git_syntax.specs.Value.Protocol.{file, git, http, https}
 use Rattle.git_syntax.specs.Schemes.{requires_host}
-use Rattle.git_location.specs.Components.{PartsOf}
-use Rattle.git_location.specs.Records.{migrated}
+use Rattle.git_laws.specs.Components.{PartsOf}
+use Rattle.git_laws.specs.Records.{migrated}
 use Rattle.git_lines.specs.Answers.{Ran, RanToEnd}
 use Rattle.gix_url.specs.Flaws.{Flaw}
 use Rattle.git_laws.specs.Laws.{IsCorner}

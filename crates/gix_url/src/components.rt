@@ -12,7 +12,7 @@ ghost use Rattle.bstr.specs.BStr.{bstr_bytes};
 ghost use Rattle.git_syntax.specs.Bytes.{Holds, slash};
 ghost use Rattle.gix_url.specs.ComponentPieces.{HasQuery, LendsParts, SpellsPath};
 ghost use Rattle.gix_url.specs.ComponentViews.{LentQuery, components};
-ghost use Rattle.git_location.specs.Components.{Components, PartsOf};
+ghost use Rattle.git_laws.specs.Components.{Components, PartsOf};
 
 mod cuts;
 mod fields;

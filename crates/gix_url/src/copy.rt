@@ -5,7 +5,7 @@
 
 ghost use Rattle.std.specs.Prelude.{◌≡◌, None, IfErr, IfOk, IsOk, option_map, string_bytes};
 ghost use Rattle.bstr.specs.Owned.{bstring_bytes};
-ghost use Rattle.git_location.specs.Order.{held_name};
+ghost use Rattle.git_laws.specs.Order.{held_name};
 ghost use Rattle.gix_url.specs.Views.{protocol};
 
 use crate::error::Error;

@@ -5,7 +5,7 @@
 
 ghost use Rattle.std.specs.Prelude.{◌≡◌, Some, fold, option_map, refl, string_bytes};
 ghost use Rattle.std.specs.Cmp.{on_equiv, on_per, on_po, on_total, partial_equiv_from_equiv};
-ghost use Rattle.git_location.specs.Order.{fed_bytes, fed_location, fed_protocol, fed_text, held_name, location_cmp, location_eq, protocol_cmp, protocol_eq, rank, text_cmp, text_eq};
+ghost use Rattle.git_laws.specs.Order.{fed_bytes, fed_location, fed_protocol, fed_text, held_name, location_cmp, location_eq, protocol_cmp, protocol_eq, rank, text_cmp, text_eq};
 ghost use Rattle.gix_url.specs.Views.{protocol};
 ghost use Rattle.git_laws.specs.OrderLaws.{location_equiv, location_po, location_ties, location_total, locations_alike, protocol_equiv, protocol_po, protocol_ties, protocol_total, protocols_alike};
 

@@ -5,7 +5,7 @@
 //! say, which migrate the older form of records. Whoever stores what was read gets it back.
 
 ghost use Rattle.std.specs.Prelude.{◌≡◌, ◌↔◌, [], IfErr, IfOk, IsOk, IsTrue, MatchOption, length};
-ghost use Rattle.git_location.specs.Records.{IsLegacy, SpellsFront, begins_escape, from_legacy, migrated, new_spelling};
+ghost use Rattle.git_laws.specs.Records.{IsLegacy, SpellsFront, begins_escape, from_legacy, migrated, new_spelling};
 ghost use Rattle.gix_url.specs.Stored.{recorded_location};
 
 use git_syntax::bytes::append_within;

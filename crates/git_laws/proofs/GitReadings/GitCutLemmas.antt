@@ -9,7 +9,7 @@ use Rattle.git_syntax.specs.Bytes.{percent_sign, colon, left_bracket, plus_sign,
 use Rattle.git_syntax.specs.Hosts.{HoldsTwoColons}
 use Rattle.git_syntax.specs.Hosts.Mode.{bare}
 use Rattle.git_location.specs.Text.{port_part}
-use Rattle.git_location.specs.Git.{is_git_escape, git_decode, host_mark, LacksHostBrackets, HostEnd, CutsPlace, is_c_space, digits_port, negative_port, signed_port, git_port, BeforePort, HostAndPort, SecurePort}
+use Rattle.git_laws.specs.Git.{is_git_escape, git_decode, host_mark, LacksHostBrackets, HostEnd, CutsPlace, is_c_space, digits_port, negative_port, signed_port, git_port, BeforePort, HostAndPort, SecurePort}
 use Rattle.git_syntax.proofs.Texts.CutLemmas.{heads, tails, not_free, free_parts, free_head_tail, free_begins, free_or_cut, free-append}
 use Rattle.git_syntax.proofs.Readings.HostLemmas.{number_written}
 

@@ -8,8 +8,9 @@ use Rattle.git_location.specs.Arguments.{is_option_like}
 use Rattle.git_location.specs.Text.{raw_user, raw_host, text}
 use Rattle.git_location.specs.Settled.{IsValue, IsNormalAddress, IsScpName, IsSettledLocal, IsSettledFile, IsSettledScp, IsSettledBy, LooksLikeHelper}
 use Rattle.std.proofs.lemmas.Option.{IfSome_then}
-use Rattle.git_location.specs.Git.{HostAndPort, on_this_machine, IsNoUrl, IsLocal, ReachesSecure, ReadsGiven}
-use Rattle.git_location.specs.GitClass.{is_tilde_second, IsRsync, SuitsTransport, AgreesWithGit, own_reading, IsReadAlike, ReadAlike}
+use Rattle.git_laws.specs.Git.{HostAndPort, on_this_machine, IsNoUrl, IsLocal, ReachesSecure, ReadsGiven}
+use Rattle.git_location.specs.GitClass.{is_tilde_second, IsRsync, SuitsTransport, AgreesWithGit}
+use Rattle.git_laws.specs.GitClass.{own_reading, IsReadAlike, ReadAlike}
 use Rattle.git_syntax.proofs.Texts.CutLemmas.{begins_cut, cut_unique, free-append, free_or_cut, free_parts, not_free}
 use Rattle.git_syntax.proofs.Addresses.AddressLemmas.{address_two_colons}
 use Rattle.git_laws.proofs.Written.FileLemmas.{hostless_text}

@@ -17,7 +17,7 @@ use Rattle.git_syntax.specs.Schemes.{requires_path}
 use Rattle.git_location.specs.Text.{has_colon, wants_brackets, raw_user, raw_host, keeps_host, open_host, needs_brackets, canonical_host, user_information, port_part, root_part, plain_path, matching_or, canonical_path}
 use Rattle.git_location.specs.Settled.{HasMatch, IsTransportPath, HasFairSpelling}
 use Rattle.git_syntax.specs.Grammar.{begins_at_home}
-use Rattle.git_location.specs.Git.{from_tilde}
+use Rattle.git_laws.specs.Git.{from_tilde}
 use Rattle.git_location.specs.GitClass.{is_tilde_second}
 use Rattle.git_syntax.proofs.Texts.CutLemmas.{free_parts, free_head_tail, free-append, free-cons, free_of_all, free_begins, begins_cut}
 use Rattle.git_syntax.proofs.Texts.EscapeLemmas.{encode_free}

@@ -10,8 +10,9 @@ use Rattle.git_syntax.specs.Authority.{unless_empty}
 use Rattle.git_location.specs.Arguments.{is_option_like}
 use Rattle.git_location.specs.Text.{raw_user, keeps_host, canonical_host, user_information, host_part, port_part, canonical_path, canonical_text, text, needs_brackets}
 use Rattle.git_location.specs.Settled.{IsValue, IsNormalName, IsBareHost, IsBracketedHost, IsTransportPath, IsSettledUrl, IsSettledSecure, IsSettledGit, IsRawPath, HasMatch}
-use Rattle.git_location.specs.Git.{GitReading, HostAndPort, SecurePort, UserCut, ReachesSecure, ReachesGit, CutsPlace, OwnUrl, ReadsGiven, GitReads}
-use Rattle.git_location.specs.GitClass.{is_contested, HasNoOption, AgreesWithGit, own_reading, IsReadAlike}
+use Rattle.git_laws.specs.Git.{GitReading, HostAndPort, SecurePort, UserCut, ReachesSecure, ReachesGit, CutsPlace, OwnUrl, ReadsGiven, GitReads}
+use Rattle.git_location.specs.GitClass.{is_contested, HasNoOption, AgreesWithGit}
+use Rattle.git_laws.specs.GitClass.{own_reading, IsReadAlike}
 use Rattle.git_syntax.proofs.Texts.CutLemmas.{free-append, free_of_lacked, free_parts, not_free}
 use Rattle.git_syntax.proofs.Texts.EscapeLemmas.{no_line}
 use Rattle.git_syntax.proofs.Addresses.AddressLemmas.{address_two_colons}

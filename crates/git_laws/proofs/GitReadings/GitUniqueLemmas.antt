@@ -8,7 +8,7 @@ use Rattle.git_syntax.specs.Value.Protocol.{file, git, ssh}
 use Rattle.git_syntax.specs.Bytes.{slash, colon, at_sign, left_bracket, right_bracket, FreeOf, Holds, begins_with}
 use Rattle.git_syntax.specs.Schemes.{protocol_of, requires_path}
 use Rattle.git_syntax.specs.Authority.{unless_empty}
-use Rattle.git_location.specs.Git.{GitReading, OneGitReading, on_this_machine, from_tilde, git_decode, host_mark, OpensHost, InBrackets, LacksHostBrackets, HostEnd, CutsPlace, git_port, BeforePort, HostAndPort, SecurePort, UserCut, ReachesSecure, ReachesGit, OwnUrl, IsNoUrl, IsRemote, IsLocal, ReadsGiven}
+use Rattle.git_laws.specs.Git.{GitReading, OneGitReading, on_this_machine, from_tilde, git_decode, host_mark, OpensHost, InBrackets, LacksHostBrackets, HostEnd, CutsPlace, git_port, BeforePort, HostAndPort, SecurePort, UserCut, ReachesSecure, ReachesGit, OwnUrl, IsNoUrl, IsRemote, IsLocal, ReadsGiven}
 use Rattle.git_syntax.proofs.Readings.SchemeLemmas.{protocol_cases, transport}
 use Rattle.git_syntax.proofs.Texts.CutLemmas.{heads, tails, different_bytes, cut_unique, free_head_tail, last_cut_unique, not_free, held_cut_unique}
 

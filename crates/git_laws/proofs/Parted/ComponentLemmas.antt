@@ -17,7 +17,7 @@ use Rattle.git_syntax.specs.Escapes.{has_percent, is_path_escaped, matches}
 use Rattle.git_syntax.specs.Value.{Location}
 use Rattle.git_syntax.specs.Schemes.{requires_path}
 use Rattle.git_syntax.specs.Grammar.{or_root, retained_spelling, Spells}
-use Rattle.git_location.specs.Components.{Components, stands_for, CutsText, CutsPath, CutsFields, SplitsField, with_spaces, term_of, PairsOf, QueryOf, WebParts, PartsBy, PartsOf}
+use Rattle.git_laws.specs.Components.{Components, stands_for, CutsText, CutsPath, CutsFields, SplitsField, with_spaces, term_of, PairsOf, QueryOf, WebParts, PartsBy, PartsOf}
 use Rattle.git_location.specs.Text.{plain_path, matching_or, canonical_path, canonical_text, text, original_path}
 use Rattle.git_location.specs.Settled.{IsSettledUrl, IsWeb, HasFairSpelling}
 use Rattle.git_laws.proofs.Written.WrittenPieces.{as_read}

@@ -7,7 +7,7 @@ use Rattle.git_syntax.specs.Bytes.{number_sign, question_mark, FreeOf, ampersand
 use Rattle.git_syntax.specs.Value.{Protocol, Location}
 use Rattle.git_syntax.specs.Value.Protocol.{http, https}
 use Rattle.git_syntax.specs.Grammar.{or_root}
-use Rattle.git_location.specs.Components.{Components, stands_for, term_of, CutsText, CutsPath, CutsFields, SplitsField, PairsOf, QueryOf, WebParts, PartsBy, whole_path}
+use Rattle.git_laws.specs.Components.{Components, stands_for, term_of, CutsText, CutsPath, CutsFields, SplitsField, PairsOf, QueryOf, WebParts, PartsBy, whole_path}
 use Rattle.git_location.specs.Text.{original_path}
 use Rattle.git_laws.specs.ComponentLaws.{OneComponents}
 use Rattle.git_syntax.proofs.Texts.CutLemmas.{cut_unique, free_or_cut, not_free, free-cons}

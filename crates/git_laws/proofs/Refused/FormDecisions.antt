@@ -16,7 +16,8 @@ use Rattle.git_syntax.specs.Refusals.{HasFlaw, Decided}
 use Rattle.git_syntax.proofs.Texts.CutLemmas.{free-cons, begins_cut, free_or_cut, not_free}
 use Rattle.git_syntax.proofs.Texts.PlaceLemmas.{held_stands, white_stands}
 use Rattle.git_syntax.proofs.Readings.ShapeLemmas.{no_helper_free, no_helper_alone, no_helper_unnamed, front_unbracketed, front_taken, no_scp_cut, no_scp_uncut, addressed_free, addressed_at, addressed_unbracketed, addressed_bracketed, addressed_no_path, addressed_other, plain_scp, local_shape, unbracketed_front}
-use Rattle.git_syntax.proofs.Readings.ScpLemmas.{colons_found, colons_inside_front, colons_inside_host, inner_kept, literal_found, name_found, no_port_found, open_found, rest_found, scp_host_ends, scp_host_found, scp_host_utf8}
+use Rattle.git_syntax.proofs.Readings.RoomLemmas.{scp_user_length}
+use Rattle.git_syntax.proofs.Readings.ScpLemmas.{colons_found, colons_inside_front, colons_inside_host, inner_kept, literal_found, name_found, no_port_found, open_found, rest_found, scp_host_found, scp_host_utf8}
 use Rattle.git_laws.proofs.Refused.TextDecisions.{Decides, nil_or_some, free_or_not, white_or_not, utf8_or_not, address_or_not, literal_or_not, free_or_last_cut, mark_or_cut}
 use Rattle.git_laws.proofs.Refused.UrlDecisions.{SpelledOrFlawed, url_decided}
 
@@ -141,7 +142,7 @@ plain_decided b front path h =
                   | inl (meant, hosted) ↦
                       inl (scp_location user meant path, Spells.scp_form (inl (record { front = front; path = path; user = user; host = host; meant = meant; shape = h.shape; text = text; pathed = some; split = split; hosted = hosted; value = refl })))
                   | inr (named, at, len, flaw) ↦
-                      inr (HasFlaw.bad_url kind.Scp named (length front - length host + at) len (record { not_addressed = h.not_addressed; front = front; path = path; user = user; host = host; shape = h.shape; split = split; no_at = lone; place = at; flaw = flaw; offset = omega (arith, scp_host_ends split) }))
+                      inr (HasFlaw.bad_url kind.Scp named (length front - length host + at) len (record { not_addressed = h.not_addressed; front = front; path = path; user = user; host = host; shape = h.shape; split = split; no_at = lone; place = at; flaw = flaw; offset = omega (arith, scp_user_length split) }))
                 ]
           ]
     ]

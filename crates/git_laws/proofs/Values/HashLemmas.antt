@@ -6,7 +6,7 @@ use Rattle.std.specs.Hash as fed
 use Rattle.std.specs.Hash.{HashWrites, le_bytes}
 use Rattle.git_syntax.specs.Value.{Protocol, Location}
 use Rattle.git_location.specs.Settled.{IsValue}
-use Rattle.git_location.specs.Order.{rank, held_name, fed_bytes, fed_text, fed_protocol, fed_location}
+use Rattle.git_laws.specs.Order.{rank, held_name, fed_bytes, fed_text, fed_protocol, fed_location}
 use Rattle.git_laws.specs.OrderLaws.{kind_and_name}
 
 -- a part and what is fed behind it

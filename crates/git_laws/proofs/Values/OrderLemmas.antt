@@ -4,7 +4,7 @@ use Rattle.std.specs.Cmp.{Equal-is}
 use Rattle.std.specs.Option.{option_cmp}
 use Rattle.std.specs.Ordering.{MatchOrdering, bool_cmp, eq_by_cmp, ordering_then}
 use Rattle.git_laws.specs.Laws.{TiedIsEqual, SpellingLast}
-use Rattle.git_location.specs.Order.{bytes_cmp, text_cmp, protocol_cmp}
+use Rattle.git_laws.specs.Order.{bytes_cmp, text_cmp, protocol_cmp}
 
 -- the order is the first one, or the second where the first doesn't decide
 pub record IsThen (first second order : Ordering) : Type 0 where

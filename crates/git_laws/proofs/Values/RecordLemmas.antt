@@ -14,8 +14,8 @@ use Rattle.git_syntax.specs.Value.{Location}
 use Rattle.git_syntax.specs.Bytes.{percent_sign}
 use Rattle.git_syntax.specs.Escapes.{begins_with_digits, is_path_escaped}
 use Rattle.git_syntax.specs.declared.escape.TheConstants.{PATH}
-use Rattle.git_location.specs.Records.{written_in_path, begins_escape, Respells, new_spelling, SpellsFront, from_legacy, migrated_by, migrated, RespelledOnce, KeepsMeaning, Migrates, MigratedOnce}
-use Rattle.git_location.specs.Records.Respells.{nothing, escape, other}
+use Rattle.git_laws.specs.Records.{written_in_path, begins_escape, Respells, new_spelling, SpellsFront, from_legacy, migrated_by, migrated, RespelledOnce, KeepsMeaning, Migrates, MigratedOnce}
+use Rattle.git_laws.specs.Records.Respells.{nothing, escape, other}
 use Rattle.git_syntax.proofs.Texts.EscapeSets.{path_holds}
 use Rattle.git_syntax.proofs.Texts.EscapeLemmas.{decode_byte, decode_escape, decode_broken, decodes_in_parts, encode_sound, glyph_is_digit}
 

@@ -2,7 +2,7 @@
 use Rattle.std.proofs.Common.{◌≡◌, ℕ, List, [], ◌∷◌, ◌++◌, append_assoc, All, refl, sym, subst, ◌∙◌}
 use Rattle.std.proofs.lemmas.List.Elements.{All-head, All-tail}
 use Rattle.git_syntax.specs.Bytes.{newline, FreeOf}
-use Rattle.git_location.specs.Answers.{ended_lines, last_line}
+use Rattle.git_lines.specs.Answers.{ended_lines, last_line}
 use Rattle.git_laws.specs.AnswerLaws.{OneSplit}
 use Rattle.git_syntax.proofs.Texts.CutLemmas.{cut_unique, not_free}
 

@@ -8,9 +8,9 @@ use Rattle.git_syntax.specs.declared.refusal.Refusal.{Refusal}
 use Rattle.git_lines.specs.declared.lines.RunError.{RunError}
 use Rattle.git_syntax.specs.Grammar.{Spells}
 use Rattle.git_syntax.specs.Flaws.{NamesFlaw}
-use Rattle.git_location.specs.Answers.{ended_lines, IsAnswer, AnswersEach, Answers, HasLinesWithin}
+use Rattle.git_lines.specs.Answers.{ended_lines, IsAnswer, AnswersEach, Answers, HasLinesWithin}
 use Rattle.git_lines.specs.Answers.{AppendsAnswer, Tells, TellsRefusal}
-use Rattle.git_location.specs.Answers.IsAnswer.{told, refused}
+use Rattle.git_lines.specs.Answers.IsAnswer.{told, refused}
 use Rattle.std.proofs.Math.Bool.{and_comm}
 use Rattle.git_syntax.proofs.Texts.CutLemmas.{tails, different_bytes, free_head_tail}
 

@@ -13,7 +13,7 @@ use Rattle.git_syntax.specs.Value.{Location}
 use Rattle.git_syntax.specs.Bytes.{percent_sign, colon, at_sign, left_bracket, backslash, right_bracket, FreeOf, LacksWhiteSpace, begins_with, lowercase}
 use Rattle.git_syntax.specs.Escapes.{escaped_percents, is_plain, is_sound}
 use Rattle.git_syntax.specs.Addresses.{IsIpv6Text, IsZone, is_zone_byte}
-use Rattle.git_syntax.specs.Hosts.{Bracketed, HostText, Inner, IsAddressPiece, IsDigits, IsLiteral, IsManyColoned, Names, ReadsAddress, is_dns_byte, normal_host}
+use Rattle.git_syntax.specs.Hosts.{Bracketed, HostText, Inner, IsAddressPiece, IsLiteral, IsManyColoned, Names, ReadsAddress, is_dns_byte, normal_host}
 use Rattle.git_syntax.specs.HostPieces.{IsSimpleHost, is_simple_byte, lowercase_address}
 use Rattle.git_syntax.specs.Hosts.Mode.{bare}
 use Rattle.git_syntax.specs.Grammar.{IsBracketed, ScpFront, ScpShape, AddressedShape, ScpUser, ScpHost, Unbrackets, SpellsScpBefore, SpellsScp}
@@ -21,7 +21,7 @@ use Rattle.git_syntax.specs.Grammar.ScpFront.{plain, bracketed}
 use Rattle.git_syntax.specs.Grammar.ScpUser.{host_alone, with_user}
 use Rattle.git_syntax.specs.Flaws.{HasBadHost, HasBadPort, NameFlaw, ScpNameFlaw, ScpHostFlaw}
 use Rattle.git_syntax.specs.FoundPieces.{scp_host_of}
-use Rattle.git_syntax.specs.ScpPieces.{ColonsInside, NamesNoPort, NamesHost, ReadsScpPiece, ReadsScpHost}
+use Rattle.git_syntax.specs.ScpPieces.{ColonsInside, NamesHost, ReadsScpPiece, ReadsScpHost}
 use Rattle.git_syntax.proofs.Texts.CutLemmas.{heads, tails, not_free, free-append, free_parts, free_head_tail, free_of_all, free_begins, free_or_cut, lacks_of_all, cut_unique}
 use Rattle.git_syntax.proofs.Texts.EscapeLemmas.{ascii_class, decode_escaped_percents, lacks_escaped_percents, escaped_percents-append, escaped_percents_kept, sound_kept, utf8_class, utf8_parts, white_space_ascii}
 use Rattle.git_syntax.proofs.Texts.PlainLemmas.{plain_parts}
@@ -64,52 +64,7 @@ pub colons_inside_host : (front : List ℕ) (user : Option (List ℕ)) (host : L
 colons_inside_host front user host (host_alone e _) h = subst ColonsInside e h
 colons_inside_host front user host (with_user u e _) h = colons_inside_behind u host (subst ColonsInside e h)
 
--- and those of the host with its `%` as escapes
-pub colons_inside_escaped : (host : List ℕ) → ColonsInside host → ColonsInside (escaped_percents host)
-colons_inside_escaped host (inl free) = inl (lacks_escaped_percents (λ b. b == colon) host refl refl refl free)
-colons_inside_escaped host (inr (inside, rest, closed, free, e)) =
-    inr (escaped_percents inside, escaped_percents rest, lacks_escaped_percents (λ b. b == right_bracket) inside refl refl refl closed, lacks_escaped_percents (λ b. b == colon) rest refl refl refl free, ap escaped_percents e ∙ escaped_percents-append inside (right_bracket ∷ rest))
-
--- no digits follow such a colon to the end
-no_digits_behind : (front digits : List ℕ) → IsDigits digits → ¬ ColonsInside (front ++ colon ∷ digits)
-no_digits_behind front digits h (inl free) = not_free colon front digits free
-no_digits_behind front digits h (inr (inside, rest, closed, free, e)) =
-    elim (either_behind colon right_bracket front digits inside rest refl e) [
-      | inl (z, is, _) ↦ not_free right_bracket z rest (subst (λ t. FreeOf right_bracket t) is (free_of_all is_ascii_digit right_bracket digits h.1 refl))
-      | inr (z, is) ↦ not_free colon z digits (subst (λ t. FreeOf colon t) is free)
-    ]
-
--- so no port is read
-pub no_port_inside : (piece : List ℕ) → ColonsInside piece → NamesNoPort piece
-no_port_inside piece h host port (Names.nothing _ _ p) = cc
-no_port_inside piece h host port (Names.bracketed _ _ _ _ _ _ p) = cc
-no_port_inside piece h host port (Names.bracketed_colon _ _ _ _ _ _ p) = cc
-no_port_inside piece h host port (Names.bracketed_port x inner digits n _ _ number e _ _) =
-    no_digits_behind (left_bracket ∷ (x ++ right_bracket ∷ [])) digits number.digits (subst ColonsInside (e ∙ ap (λ t. left_bracket ∷ t) (sym (append_assoc x (right_bracket ∷ []) (colon ∷ digits)))) h)
-no_port_inside piece h host port (Names.unbracketed _ _ p) = cc
-no_port_inside piece h host port (Names.plain _ _ _ _ p) = cc
-no_port_inside piece h host port (Names.plain_colon _ _ _ _ _ _ p) = cc
-no_port_inside piece h host port (Names.plain_port text named digits n _ _ number e _ _) = no_digits_behind text digits number.digits (subst ColonsInside e h)
-no_port_inside piece h host port (Names.colons _ _ _ _ _ _ _ p) = cc
-
--- what is named has none
-pub no_port_named : (piece : List ℕ) (host : Option (List ℕ)) (port : Option ℕ) → NamesNoPort piece → Names bare piece host port → port ≡ None
-no_port_named piece host None none h = refl
-no_port_named piece host (Some port) none h = absurd (none host port h)
-
 -- ---- the piece that a host is read from
-
--- nothing is read from an empty piece alone
-pub nothing_named : (piece : List ℕ) (port : Option ℕ) → Names bare piece None port → piece ≡ []
-nothing_named piece port (Names.nothing e _ _) = e
-nothing_named piece port (Names.bracketed _ _ _ _ _ h _) = cc
-nothing_named piece port (Names.bracketed_colon _ _ _ _ _ h _) = cc
-nothing_named piece port (Names.bracketed_port _ _ _ _ _ _ _ _ h _) = cc
-nothing_named piece port (Names.unbracketed _ h _) = cc
-nothing_named piece port (Names.plain _ _ _ h _) = cc
-nothing_named piece port (Names.plain_colon _ _ _ _ _ h _) = cc
-nothing_named piece port (Names.plain_port _ _ _ _ _ _ _ _ h _) = cc
-nothing_named piece port (Names.colons _ _ _ _ _ _ h _) = cc
 
 -- ---- the host
 
@@ -123,15 +78,6 @@ scp_host_found host piece meant at back white e h = record {
   names = subst (λ p. Names bare p (Some h.named) None) e h.names;
   unbracketed = h.unbracketed;
 }
-
--- nothing is written as nothing alone
-pub nothing_escaped : (host : List ℕ) → escaped_percents host ≡ [] → host ≡ []
-nothing_escaped [] e = refl
-nothing_escaped (b ∷ host) e =
-    elim (cases_Bool (b == percent_sign)) [
-      | inl same ↦ let wrong : 37 ∷ 50 ∷ 53 ∷ escaped_percents host ≡ [] = rw same at e in cc
-      | inr other ↦ let wrong : b ∷ escaped_percents host ≡ [] = rw other at e in cc
-    ]
 
 -- ---- the whole
 
@@ -436,11 +382,6 @@ scp_host_flaw_within host at len named (ScpHostFlaw.holds_backslash h l) = omega
 scp_host_flaw_within host at len named (ScpHostFlaw.white_space text held h) = white_within host at len h
 scp_host_flaw_within host at len named (ScpHostFlaw.bad_name n h) =
     omega (arith, h.offset, h.size, ap length h.joined, length-append h.before (h.here ++ h.behind), length-append h.here h.behind)
-
--- the host is the end of the front
-pub scp_host_ends : {front host : List ℕ} {user : Option (List ℕ)} → ScpUser front user host → length host ≤ length front
-scp_host_ends (host_alone e none) = omega (arith, ap length e)
-scp_host_ends {host = host} (with_user u e some) = omega (arith, ap length e, length-append u (at_sign ∷ host))
 
 -- the host without brackets around it is text
 unbracketed_utf8 : (host inner : List ℕ) → Unbrackets host inner → IsUtf8 host → IsUtf8 inner

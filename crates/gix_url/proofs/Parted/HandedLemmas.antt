@@ -16,7 +16,7 @@ use Rattle.std.proofs.lemmas.Option.{IfSome_then}
 use Rattle.git_syntax.specs.Value.{Location}
 use Rattle.git_syntax.specs.Grammar.{or_root}
 use Rattle.git_location.specs.Text.{matching_or, original_path}
-use Rattle.git_location.specs.Components.{Components, term_of, CutsText, CutsPath, SplitsField, PairsOf, QueryOf, WebParts}
+use Rattle.git_laws.specs.Components.{Components, term_of, CutsText, CutsPath, SplitsField, PairsOf, QueryOf, WebParts}
 use Rattle.git_syntax.specs.Escapes.{matches}
 use Rattle.gix_url.specs.Meanings.{meant_by}
 use Rattle.gix_url.specs.ComponentViews.{text_bytes, pair_bytes, components, LentTerm, LentPairs, LentQuery}

@@ -7,7 +7,7 @@ use Rattle.std.proofs.lemmas.List.Splits.{slice_split_none, slice_split_at}
 use Rattle.gix_url.specs.declared.components.QueryText.{QueryText}
 use Rattle.gix_url.specs.declared.components.cuts.Spelled.{Spelled}
 use Rattle.git_syntax.specs.Bytes.{number_sign, plus_sign, question_mark, FreeOf, space, ampersand}
-use Rattle.git_location.specs.Components.{CutsText, CutsPath, with_spaces}
+use Rattle.git_laws.specs.Components.{CutsText, CutsPath, with_spaces}
 use Rattle.gix_url.specs.Meanings.{meant_by}
 use Rattle.gix_url.specs.ComponentPieces.{CutsAround, CutsOff, LendsFields, AddsPair, HasQuery, LendsQuery, is_field, one_field, field_count}
 use Rattle.git_syntax.proofs.Texts.CutLemmas.{free_head_tail}

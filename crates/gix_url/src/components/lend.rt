@@ -6,7 +6,7 @@
 ghost use Rattle.std.specs.Prelude.{◌≡◌, IfOk};
 ghost use Rattle.git_syntax.specs.Bytes.{FreeOf, plus_sign};
 ghost use Rattle.gix_url.specs.ComponentPieces.{LendsPair, LendsTerm};
-ghost use Rattle.git_location.specs.Components.{with_spaces};
+ghost use Rattle.git_laws.specs.Components.{with_spaces};
 ghost use Rattle.gix_url.specs.Meanings.{meant_by};
 
 use super::QueryText;

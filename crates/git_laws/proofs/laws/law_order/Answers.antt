@@ -1,5 +1,5 @@
 -- Each law is a lemma.
-use Rattle.git_location.specs.Order.{location_cmp, location_eq}
+use Rattle.git_laws.specs.Order.{location_cmp, location_eq}
 use Rattle.git_laws.specs.OrderLaws.{location_decides, location_ties, location_total, locations_alike}
 use Rattle.git_laws.proofs.Values.HashLemmas.{locations_apart}
 use Rattle.git_laws.proofs.Values.OrderLemmas.{spelling_last, tied_is_equal}

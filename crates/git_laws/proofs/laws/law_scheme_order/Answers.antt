@@ -1,5 +1,5 @@
 -- Each law is a lemma.
-use Rattle.git_location.specs.Order.{protocol_cmp, protocol_eq}
+use Rattle.git_laws.specs.Order.{protocol_cmp, protocol_eq}
 use Rattle.git_laws.specs.OrderLaws.{protocol_decides, protocol_ties, protocol_total, protocols_alike}
 use Rattle.git_laws.proofs.Values.HashLemmas.{protocols_apart}
 use Rattle.git_laws.proofs.Values.OrderLemmas.{tied_is_equal}

@@ -1,5 +1,5 @@
 use Rattle.std.proofs.Common.{length}
-use Rattle.git_location.specs.Answers.{HasLinesWithin}
+use Rattle.git_lines.specs.Answers.{HasLinesWithin}
 use Rattle.git_lines.proofs.Values.LineLemmas.{Done}
 use Rattle.git_lines.proofs.lines.answers_in.Given as goal
 

@@ -1,5 +1,5 @@
 use Rattle.std.proofs.Common.{sym, refl}
-use Rattle.git_location.specs.Answers.IsTold.{unwritable}
+use Rattle.git_lines.specs.Answers.IsTold.{unwritable}
 use Rattle.git_lines.proofs.lines.tell.Goals as goal
 
 pub tell_written-requires : goal.tell_written-requires

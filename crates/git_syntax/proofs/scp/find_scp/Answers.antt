@@ -7,8 +7,8 @@ use Rattle.git_syntax.specs.Grammar.{ScpShape}
 use Rattle.git_syntax.specs.Flaws.MissesPath.{in_scp}
 use Rattle.git_syntax.proofs.Readings.HostLemmas.{some_tested}
 use Rattle.git_syntax.proofs.Readings.ShapeLemmas.{nil_tested}
-use Rattle.git_syntax.proofs.Readings.RoomLemmas.{scp_host_within}
-use Rattle.git_syntax.proofs.Readings.ScpLemmas.{scp_host_ends, scp_host_flaw_within, scp_host_plain, scp_host_utf8, scp_user_utf8, scp_meant_utf8, colons_inside_front, colons_inside_host}
+use Rattle.git_syntax.proofs.Readings.RoomLemmas.{scp_user_length, scp_host_within}
+use Rattle.git_syntax.proofs.Readings.ScpLemmas.{scp_host_flaw_within, scp_host_plain, scp_host_utf8, scp_user_utf8, scp_meant_utf8, colons_inside_front, colons_inside_host}
 use Rattle.git_syntax.proofs.scp.find_scp.Goals as goal
 
 pub no_text-requires-clause-text : goal.no_text-requires-clause-text
@@ -67,15 +67,15 @@ returns-in-Err-clause-flaw c = record {
   no_at = c.cut_front_user.ensures.no_at;
   place = c.in-Err.fault.at;
   flaw = c.in-Err.ensures.read;
-  offset = omega (arith, scp_host_ends c.cut_front_user.ensures.split);
+  offset = omega (arith, scp_user_length c.cut_front_user.ensures.split);
 }
 
 pub overflow_sub-result : goal.overflow_sub-result
-overflow_sub-result c = omega (arith, scp_host_ends c.cut_front_user.ensures.split)
+overflow_sub-result c = omega (arith, scp_user_length c.cut_front_user.ensures.split)
 
 pub overflow_add-result : goal.overflow_add-result
 overflow_add-result c =
-    omega (arith, scp_host_ends c.cut_front_user.ensures.split, scp_host_flaw_within c.cut_front_user.result.1.now c.in-Err.fault.at c.in-Err.fault.len c.in-Err.fault.kind c.in-Err.ensures.read)
+    omega (arith, scp_user_length c.cut_front_user.ensures.split, scp_host_flaw_within c.cut_front_user.result.1.now c.in-Err.fault.at c.in-Err.fault.len c.in-Err.fault.kind c.in-Err.ensures.read)
 
 pub returns-in-Ok-clause-room : goal.returns-in-Ok-clause-room
 returns-in-Ok-clause-room c = omega (arith, c.in-Ok.ensures.within, scp_host_within c.args.path.now c.requires.shape.joined c.cut_front_user.ensures.split)

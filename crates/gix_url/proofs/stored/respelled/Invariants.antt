@@ -1,6 +1,6 @@
 -- What was appended and what the rest spells are the whole, and there is room for the rest.
 use Rattle.std.proofs.Common.{◌≡◌, ◌+◌, ◌≤◌, ◌++◌, length, vec_len, vec_capacity}
-use Rattle.git_location.specs.Records.{new_spelling}
+use Rattle.git_laws.specs.Records.{new_spelling}
 use Rattle.gix_url.proofs.stored.respelled.Given as goal
 
 abbrev pub invariant-loop-front : goal.invariant-loop-front

@@ -1,6 +1,6 @@
 -- The length so far, with that of what the rest spells, is the whole, and no sum wraps.
 use Rattle.std.proofs.Common.{◌≡◌, ◌+◌, ◌*◌, ◌≤◌, length}
-use Rattle.git_location.specs.Records.{new_spelling}
+use Rattle.git_laws.specs.Records.{new_spelling}
 use Rattle.gix_url.proofs.stored.respelled_len.Given as goal
 
 abbrev pub invariant-loop-front : goal.invariant-loop-front

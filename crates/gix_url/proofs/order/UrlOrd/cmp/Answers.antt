@@ -2,7 +2,7 @@
 use Rattle.std.proofs.Common.{rules, ◌≡◌, nat_cmp}
 use Rattle.std.specs.Option.{option_cmp}
 use Rattle.std.specs.Ordering.{bool_cmp}
-use Rattle.git_location.specs.Order.{bytes_cmp, protocol_cmp, text_cmp}
+use Rattle.git_laws.specs.Order.{bytes_cmp, protocol_cmp, text_cmp}
 use Rattle.git_laws.proofs.Values.OrderLemmas.{before, found, known}
 use Rattle.gix_url.proofs.order.UrlOrd.cmp.Goals as goal
 

@@ -1,0 +1,27 @@
+-- The law on the locations that a careful user hands to Git: in the text of each Git reads what this library reads.
+use Rattle.std.specs.Prelude.{◌≡◌, ℕ, List, Ok}
+use Rattle.git_syntax.specs.Value.{Location}
+use Rattle.git_location.specs.Text.{text}
+use Rattle.git_location.specs.Settled.{IsValue}
+use Rattle.git_laws.specs.Git.{GitReading, GitReads}
+pub use Rattle.git_location.specs.GitClass.{is_contested, HasPlainText, HasNoOption, is_tilde_second, IsRsync, SuitsTransport, AgreesWithGit}
+
+-- the location's own protocol, user, host, port and path
+abbrev pub own_reading : Location → GitReading
+own_reading v = record {
+  protocol = v.scheme;
+  user = v.user;
+  host = v.host;
+  port = v.port;
+  path = v.path;
+}
+
+-- the location has a text, and Git reads whatever its text is as the location's own parts
+pub record IsReadAlike (v : Location) : Type 0 where
+  pub written : List ℕ
+  pub has_text : text v ≡ Ok written
+  pub read : (t : List ℕ) → text v ≡ Ok t → GitReads t (own_reading v)
+
+-- so it is with each location of the class
+abbrev pub ReadAlike : Type 0
+ReadAlike = (v : Location) → IsValue v → AgreesWithGit v → IsReadAlike v
