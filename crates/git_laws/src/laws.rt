@@ -165,7 +165,7 @@ pub fn law_components()
 ///   written only before a password, so `http://:secret@host/` isn't settled without it. Who hides passwords from
 ///   logs and from other programs keeps a location that comes back.
 /// - `web_spelling`: a settled location of HTTP is settled without its spelling. Who keeps the public fields alone, and
-///   makes a location of them by [`Url::from_parts`](crate::Url::from_parts), loses no settled one.
+///   makes a location of them by [`Url::from_parts`](gix_url::Url::from_parts), loses no settled one.
 /// - `spelling`: so it is with each kind but the URLs of Secure Shell, of Git and of other schemes. One of these is
 ///   settled without its spelling exactly where its path has neither `%` nor white space, and, if it has no host, the
 ///   text of its public fields is short enough.
@@ -177,7 +177,7 @@ pub fn law_stripped()
 
 /// Git reads the same place.
 ///
-/// - `alike`: a location that [`Url::agrees_with_git`](crate::Url::agrees_with_git) accepts has a text, and Git reads in
+/// - `alike`: a location that [`Url::agrees_with_git`](gix_url::Url::agrees_with_git) accepts has a text, and Git reads in
 ///   it the location's own protocol, user, host, port and path. So where credentials are picked by the host that is
 ///   read here, and the text is then handed to Git, Git reads that host.
 /// - `one`: Git reads one thing in a text, whatever the text is. So it reads nothing else in that one.

@@ -1,8 +1,9 @@
 -- What a call answers: words for results that name the errors of the code.
-use Rattle.std.specs.Prelude.{◌≡◌, ◌<◌, ◌≤◌, ◌↔◌, ℕ, length, List, Option, Result, Ok, Err, IfOk, IfErr}
+use Rattle.std.specs.Prelude.{◌≡◌, ◌<◌, ◌≤◌, ◌↔◌, ℕ, length, List, [], Option, Result, Ok, Err, IfOk, IfErr}
 use Rattle.std.specs.Io.KnownBytes.{Appends}
 use Rattle.git_location.specs.declared.parse_error.ParseError.{ParseError}
 use Rattle.git_location.specs.declared.parse_error.ParseError.TheVariants as unread
+use Rattle.git_syntax.specs.declared.refusal.Refusal.TheVariants as refusal
 use Rattle.git_location.specs.declared.write_error.WriteFault.{WriteFault}
 use Rattle.git_location.specs.declared.write_error.WriteError.{WriteError}
 use Rattle.git_location.specs.declared.write_error.WriteError.TheVariants.{Fault, Io}
@@ -16,7 +17,7 @@ use Rattle.git_syntax.specs.Flaws.{NamesFlaw}
 -- names stands in them
 abbrev pub RefusesIn : List ℕ → ℕ → ParseError → Type 0
 RefusesIn b room unread.NoRoom = ((v : Location) × Spells b v) × (room < length b)
-RefusesIn b room (unread.Refused refusal) = ((v : Location) → ¬ Spells b v) × NamesFlaw b refusal
+RefusesIn b room (unread.Refused why) = ((v : Location) → ¬ Spells b v) × NamesFlaw b why
 
 -- what reading the bytes answers where there is room for so many: no premise speaks of memory
 pub record ReadsIn (b : List ℕ) (room : ℕ) (result : Result Location ParseError) : Type 0 where
@@ -24,6 +25,8 @@ pub record ReadsIn (b : List ℕ) (room : ℕ) (result : Result Location ParseEr
   pub found : IfOk result (Spells b)
   -- or an error, and then they spell none, or the room is shorter than they are
   pub refused : IfErr result (RefusesIn b room)
+  -- the empty text is refused as such
+  pub empty : b ≡ [] → result ≡ Err (unread.Refused refusal.EmptyLocal)
   -- where there is room for as many bytes, it is answered exactly where they spell it
   pub exact : length b ≤ room → (v : Location) → (result ≡ Ok v) ↔ Spells b v
 

@@ -1,6 +1,6 @@
 //! What a log may hold of a location and of an error: `Debug`, without the field `password` and without refused texts.
 //!
-//! It uses `git_location::display` for the word that stands in place of a password. A location shows every part but that field; an
+//! It uses the word of Display for what stands in place of a password. A location shows every part but that field; an
 //! error shows the length of a text that was refused, and never its bytes. Otherwise the shape is the one that a
 //! derive gives. It takes no memory. The builders of std have no contract, so what they write is shown by tests.
 //!

@@ -1,6 +1,6 @@
 //! Stored locations: a record of every part of a location for `serde`, in the format of the Rust crate `gix-url`.
 //!
-//! It uses `location`, `scheme`, `escape`, `bytes` and `copy`, and hides the password as `impls` does. Its contract: a
+//! It uses `location`, `scheme` and `copy`, and hides the password as Display does. Its contract: a
 //! record has every part of the location that it was made of, and a location is made of a record as the definitions
 //! say, which migrate the older form of records. Whoever stores what was read gets it back.
 

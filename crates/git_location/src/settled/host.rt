@@ -1,6 +1,6 @@
 //! The settled hosts of URLs.
 //!
-//! It uses `parts`, `bytes`, `escape` and the bytes of hosts of `parse`. Its contract: the answer is yes exactly for
+//! It uses `parts`, and bytes, escapes and the bytes of hosts of `git_syntax`. Its contract: the answer is yes exactly for
 //! the hosts that the definitions settle. It takes no memory.
 
 ghost use Rattle.std.specs.Prelude.{◌≡◌, ◌↔◌, IsTrue, Option};

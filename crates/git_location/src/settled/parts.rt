@@ -1,6 +1,6 @@
 //! Tests of one part of a location.
 //!
-//! It uses `bytes`, `escape`, `ipv6` and the bytes of hosts of `parse`. Its contract: each test decides the definition
+//! It uses bytes, escapes, addresses and the bytes of hosts of `git_syntax`. Its contract: each test decides the definition
 //! that it is named for. It takes no memory.
 
 ghost use Rattle.std.specs.Prelude.{◌≡◌, ◌↔◌, IsTrue, codes};
