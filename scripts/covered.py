@@ -12,7 +12,6 @@ CALLS = f"{ROOT}/crates/answers/src/calls.rt"
 OF_LAYERS = {
     "SchemeRef::of_protocol", "UrlRef::canonical_pieces", "UrlRef::form", "UrlRef::helper_pieces", "UrlRef::is_settled_as",
     "UrlRef::matching_spelling", "UrlRef::own_form", "UrlRef::own_pieces", "UrlRef::path_pieces", "UrlRef::pieces", "UrlRef::scp_pieces",
-    "ipv6::is_address",
 }
 
 
@@ -41,7 +40,7 @@ def contracts_of(crate):
 
 
 def passed_on():
-    """What the library passes on of the layers below it: modules, types and laws, by their last names."""
+    """What the library passes on of the layers below it: modules, types, functions and laws, by their last names."""
     found = set()
     for file in files_of(LIBRARY):
         with open(file, encoding="utf-8") as it:
@@ -55,7 +54,7 @@ def passed_calls():
     passed, below = passed_on(), {}
     for layer in LAYERS[:-1]:
         below.update(contracts_of(layer))
-    return {it: below[it] for it in below if it.partition("::")[2 if it.startswith("laws::") else 0] in passed}
+    return {it: below[it] for it in below if passed & {*it.split("::")}}
 
 
 def contracts():

@@ -13,13 +13,12 @@ ghost use Rattle.git_location.specs.Pieces.{pieces_text};
 ghost use Rattle.git_syntax.specs.Schemes.{protocol_text};
 ghost use Rattle.git_location.specs.Text.{text};
 
-use git_syntax::bytes;
-use git_syntax::refusal::UrlFault;
 use git_location::parse_error::ParseError;
-use git_syntax::refusal::Refusal;
 use git_location::url_ref::UrlRef;
 use git_location::writer::piece::Pieces;
 use git_location::writer::sink::Output;
+use git_syntax::bytes;
+use git_syntax::refusal::{Refusal, UrlFault};
 use itoa::Buffer;
 use std::alloc::{AllocError, Global};
 use std::io::{self, ErrorKind, Read, Write};

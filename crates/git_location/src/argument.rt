@@ -11,9 +11,9 @@ ghost use Rattle.git_location.specs.Arguments.{IsNoOption, is_option_like, judge
 ghost use Rattle.git_location.specs.Views.{judgement};
 ghost use Rattle.git_location.specs.Safeguards.{PathIsNoOption, UsableIsNoOption};
 
-use git_syntax::bytes::{after, starts_with_byte};
 use crate::url_ref::UrlRef;
 use bstr::BStr;
+use git_syntax::bytes::{after, starts_with_byte};
 
 /// What a part of a location is to a command line.
 ///

@@ -11,11 +11,11 @@ ghost use Rattle.git_location.specs.GitClass.{AgreesWithGit, HasNoOption, HasPla
 ghost use Rattle.git_location.specs.Pieces.{pieces_text};
 ghost use Rattle.git_location.specs.Sinks.{Notes, notes_joined, notes_nothing};
 
-use git_syntax::bytes::starts_with_byte;
-use git_syntax::scheme::SchemeRef;
 use crate::url_ref::UrlRef;
 use crate::writer::piece::Pieces;
 use crate::writer::sink::Sink;
+use git_syntax::bytes::starts_with_byte;
+use git_syntax::scheme::SchemeRef;
 use itoa::Buffer;
 use std::convert::Infallible;
 

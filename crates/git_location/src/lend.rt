@@ -18,16 +18,16 @@ ghost use Rattle.git_syntax.specs.Value.{path_alone};
 ghost use Rattle.git_syntax.specs.Value.Protocol.{file};
 ghost use Rattle.git_syntax.specs.Views.{lent_protocol};
 
+use crate::room::{decoded_in, host_in, optional_in, scp_host_in};
+use crate::url_ref::UrlRef;
 use git_syntax::found::{Found, ScpHost};
+use git_syntax::home::{from_home, or_root};
 use git_syntax::host::port_of;
 use git_syntax::peeled::peeled_text;
-use crate::room::{decoded_in, host_in, optional_in, scp_host_in};
 use git_syntax::rules::Rules;
-use git_syntax::simple_url::ParsedUrl;
-use git_syntax::home::{from_home, or_root};
 use git_syntax::scheme::{Protocol, SchemeRef};
+use git_syntax::simple_url::ParsedUrl;
 use git_syntax::text::as_text;
-use crate::url_ref::UrlRef;
 
 /// The location that found slices mean.
 pub fn lend<'a>(found: Found<'a>, room: &'a mut [u8]) -> UrlRef<'a>

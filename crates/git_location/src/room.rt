@@ -12,11 +12,11 @@ ghost use Rattle.git_syntax.specs.FoundPieces.{optional_length, scp_host_of, scp
 ghost use Rattle.git_syntax.specs.HostPieces.{host_of, meant_host, named_text};
 ghost use Rattle.git_syntax.specs.UrlPieces.{decoded_option};
 
+use git_syntax::bytes::is_lowercase;
+use git_syntax::escape::{decode_into, has_percent};
 use git_syntax::found::ScpHost;
 use git_syntax::host::build::{lowercase_address, normalize};
 use git_syntax::host::{HostPiece, NamedHost};
-use git_syntax::bytes::is_lowercase;
-use git_syntax::escape::{decode_into, has_percent};
 
 /// The decoding of a text.
 #[inline(always)]

@@ -16,10 +16,10 @@ mod parts;
 mod scp;
 mod url;
 
-use git_syntax::scheme::SchemeRef;
 use crate::url_ref::UrlRef;
 use crate::value::law_lent_value;
 use crate::writer::piece::Pieces;
+use git_syntax::scheme::SchemeRef;
 use local::{is_settled_file, is_settled_helper, is_settled_local};
 use scp::is_settled_scp;
 use url::{is_settled_git, is_settled_helper_url, is_settled_secure, is_settled_web};

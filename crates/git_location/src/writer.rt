@@ -21,8 +21,8 @@ mod ready;
 pub mod show;
 pub mod sink;
 
-use crate::write_error::{WriteError, WriteFault};
 use crate::url_ref::UrlRef;
+use crate::write_error::{WriteError, WriteFault};
 use crate::writer::fill::fill;
 use crate::writer::form::Form;
 use crate::writer::piece::Pieces;

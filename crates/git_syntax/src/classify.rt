@@ -9,7 +9,9 @@ ghost use Rattle.git_syntax.specs.Cuts.{CutsAtMark};
 ghost use Rattle.git_syntax.specs.Grammar.{AddressedCut, HasHelperForm, HelperCut, IsNeither};
 ghost use Rattle.git_syntax.specs.Shapes.{AddressedFront, Classifies, ColonCut, FrontCut, HasAddressedCut, HasFrontCut, HasScpCut, IsColonFront, LacksBrackets, ScpCut, addressed_text};
 
-use crate::bytes::{after, cut, cut_at_mark, is_free_of, is_helper_name, last_cut, starts_with_byte};
+use crate::bytes::{
+    after, cut, cut_at_mark, is_free_of, is_helper_name, last_cut, starts_with_byte,
+};
 use crate::ipv6::is_address;
 
 /// The form of a text, with its pieces.

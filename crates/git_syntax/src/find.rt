@@ -12,9 +12,9 @@ ghost use Rattle.git_syntax.specs.Value.{Location};
 
 use crate::classify::{Shape, classify};
 use crate::found::Found;
+use crate::refusal::Refusal;
 use crate::scp::{find_addressed, find_scp};
 use crate::url::find_url;
-use crate::refusal::Refusal;
 
 /// The slices of the one location that the bytes spell.
 pub fn find(bytes: &[u8]) -> Result<Found<'_>, Refusal<'_>>

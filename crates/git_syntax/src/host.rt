@@ -17,9 +17,9 @@ pub mod bytes;
 mod port;
 
 use crate::bytes::{after, before, cut, is_free_of};
-use crate::refusal::{Fault, UrlFault};
 use crate::escape::decodes_to_utf8;
 use crate::ipv6::is_address;
+use crate::refusal::{Fault, UrlFault};
 use bytes::{are_http_host_bytes, are_simple_bytes, is_literal};
 use port::{are_digits, ends_host, with_port, with_rest};
 

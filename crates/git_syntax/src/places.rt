@@ -10,8 +10,8 @@ ghost use Rattle.git_syntax.specs.Escapes as spec;
 ghost use Rattle.git_syntax.specs.Places.{StandsBroken, StandsFirst, StandsWhite};
 
 use crate::bytes::cut;
-use crate::refusal::{Fault, UrlFault};
 use crate::escape::begins_with_digits;
+use crate::refusal::{Fault, UrlFault};
 
 /// How many bytes stand before the first `c`.
 pub fn first_byte(bytes: &[u8], c: u8) -> usize

@@ -9,7 +9,6 @@ ghost use Rattle.git_syntax.specs.Schemes.{protocol_of, protocol_text, default_p
 ghost use Rattle.git_syntax.specs.Schemes.{is_ftp};
 ghost use Rattle.git_syntax.specs.Views.{lent_protocol};
 
-
 /// What a borrowed location is reached by: a [`Scheme`] whose name is a slice. Copies take no memory.
 ///
 /// ```

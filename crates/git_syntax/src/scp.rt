@@ -15,15 +15,14 @@ ghost use Rattle.git_syntax.specs.Hosts.{IsLiteral};
 ghost use Rattle.git_syntax.specs.Shapes.{PlainScp};
 ghost use Rattle.git_syntax.specs.ScpPieces.{ColonsInside, CutsUser, ReadsScpHost, ReadsScpPiece};
 
+use crate::bytes::{after, cut, is_free_of, last_cut};
+use crate::escape::lacks_white_space;
 use crate::found::{Found, ScpHost};
 use crate::host::bytes::are_zone_bytes;
 use crate::host::is_simple_host;
-use crate::bytes::{after, cut, is_free_of, last_cut};
-use crate::refusal::{Fault, UrlFault, UrlKind};
-use crate::escape::lacks_white_space;
 use crate::ipv6::is_address;
-use crate::refusal::Refusal;
 use crate::places::{first_byte, not_utf8, white_space};
+use crate::refusal::{Fault, Refusal, UrlFault, UrlKind};
 use crate::text::{as_text, is_plain, is_text};
 
 /// Finds the slices of the scp form: a host, perhaps behind a user, a colon and a path.

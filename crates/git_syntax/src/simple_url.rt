@@ -16,12 +16,12 @@ ghost use Rattle.git_syntax.specs.SchemeRules.{AreRulesOf};
 ghost use Rattle.git_syntax.specs.Bytes.{FreeOf, LacksWhiteSpace, at_sign, backslash, colon};
 ghost use Rattle.git_syntax.specs.UrlPieces.{HoldsParts, IsNoAuthority, ReadsCredentials, decoded_option, parts_of};
 
-use crate::host::{Mode, NamedHost, read_host, simple_host};
-use crate::rules::Rules;
 use crate::bytes::{cut, cut_before_path, is_free_of, is_scheme_text, last_cut};
-use crate::refusal::{Fault, UrlFault};
 use crate::escape::{decodes_to_utf8, has_percent, is_sound, lacks_white_space};
+use crate::host::{Mode, NamedHost, read_host, simple_host};
 use crate::places::{broken_escape, first_byte, white_space};
+use crate::refusal::{Fault, UrlFault};
+use crate::rules::Rules;
 
 /// The parts of a URL, as slices of its text: nothing is decoded, nothing is copied.
 #[derive(Clone, Copy)]

@@ -13,15 +13,14 @@ ghost use Rattle.git_syntax.specs.Grammar.{Spells, SpellsFile, SpellsParts, Spel
 ghost use Rattle.git_syntax.specs.SchemeRules.{AreRulesOf};
 ghost use Rattle.git_syntax.specs.UrlPieces.{parts_of};
 
+use crate::bytes::cut;
 use crate::found::Found;
 use crate::length::fits;
-use crate::rules::{Rules, rules_of};
-use crate::simple_url::{ParsedUrl, read_simple_url};
-use crate::bytes::cut;
-use crate::refusal::UrlKind;
-use crate::refusal::Refusal;
 use crate::places::not_utf8;
+use crate::refusal::{Refusal, UrlKind};
+use crate::rules::{Rules, rules_of};
 use crate::scheme::Protocol;
+use crate::simple_url::{ParsedUrl, read_simple_url};
 use crate::text::{as_text, is_plain, is_text};
 
 /// Finds what a URL is made of.

@@ -8,11 +8,11 @@ ghost use Rattle.git_syntax.specs.Grammar.{LocalShape};
 ghost use Rattle.git_location.specs.Settled.{IsFileHost, IsSettledFile, IsSettledHelper, IsSettledLocal};
 
 use crate::settled::parts::{has_at_most_host, has_match, is_flagged_path};
-use git_syntax::bytes::{is_free_of, is_helper_name, starts_with_byte};
-use git_syntax::escape::has_percent;
-use git_syntax::classify::{Shape, classify};
-use git_syntax::text::is_text;
 use crate::url_ref::UrlRef;
+use git_syntax::bytes::{is_free_of, is_helper_name, starts_with_byte};
+use git_syntax::classify::{Shape, classify};
+use git_syntax::escape::has_percent;
+use git_syntax::text::is_text;
 
 /// Whether the location is a settled remote helper of this name.
 pub(crate) fn is_settled_helper(url: &UrlRef<'_>, name: &[u8]) -> bool

@@ -13,10 +13,10 @@ ghost use Rattle.git_syntax.specs.Walks.{is_walk_short, text_walk_for, text_walk
 ghost use Rattle.git_location.specs.SettledParts.{IsPiecesShort};
 ghost use Rattle.git_location.specs.Sinks.{WalksPast, walks_joined, walks_nothing};
 
-use git_syntax::length::{LIMIT, TextWalk};
 use crate::url_ref::UrlRef;
 use crate::writer::piece::Pieces;
 use crate::writer::sink::Sink;
+use git_syntax::length::{LIMIT, TextWalk};
 use itoa::Buffer;
 use std::convert::Infallible;
 

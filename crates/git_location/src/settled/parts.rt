@@ -8,11 +8,11 @@ ghost use Rattle.git_syntax.specs.Bytes.{Holds};
 ghost use Rattle.git_syntax.specs.Hosts.{normal_host};
 ghost use Rattle.git_location.specs.Settled.{HasAtMostHost, HasMatch, IsFlaggedPath, IsNormalAddress, IsNormalName, IsOpenName, begins_with_slashes};
 
+use crate::url_ref::UrlRef;
 use git_syntax::bytes::{cut_at_mark, is_free_of, is_lowercase};
 use git_syntax::escape::decodes_to;
-use git_syntax::ipv6::is_address;
 use git_syntax::host::bytes::looks_like_domain;
-use crate::url_ref::UrlRef;
+use git_syntax::ipv6::is_address;
 
 /// Whether the location has neither user nor password nor port.
 pub(crate) fn has_at_most_host(url: &UrlRef<'_>) -> bool

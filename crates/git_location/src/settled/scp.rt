@@ -7,11 +7,11 @@ ghost use Rattle.std.specs.Prelude.{◌↔◌, IsTrue, IfSome};
 ghost use Rattle.git_location.specs.Settled.{HasScpHost, IsScpHost, IsScpName, IsScpPath, IsScpUser, IsSettledScp, LooksLikeHelper};
 
 use crate::settled::parts::{begins_with_slashes, is_normal_address, is_normal_name, lacks_mark};
+use crate::url_ref::UrlRef;
 use git_syntax::bytes::{is_free_of, is_helper_name, starts_with_byte};
 use git_syntax::escape::lacks_white_space;
 use git_syntax::home::begins_at_home;
 use git_syntax::text::is_text;
-use crate::url_ref::UrlRef;
 
 /// Whether the location is settled in the scp form.
 pub(crate) fn is_settled_scp(url: &UrlRef<'_>) -> bool

@@ -13,13 +13,13 @@ ghost use Rattle.git_location.specs.SettledParts.{IsWrittenAsUrl};
 use crate::settled::host::{is_bare_host, is_bracketed_host, is_web_host};
 use crate::settled::measure::has_fitting_text;
 use crate::settled::parts::has_match;
+use crate::url_ref::UrlRef;
+use crate::writer::piece::Pieces;
 use git_syntax::bytes::{is_scheme_text, starts_with_byte};
 use git_syntax::escape::{decodes_to, has_percent, is_sound, lacks_white_space};
 use git_syntax::home::begins_at_home;
 use git_syntax::scheme::{is_ftp, is_known_scheme};
 use git_syntax::text::is_text;
-use crate::url_ref::UrlRef;
-use crate::writer::piece::Pieces;
 
 /// Whether the location is a settled one of HTTP.
 pub(crate) fn is_settled_web(url: &UrlRef<'_>, laid: Option<&Pieces<'_>>) -> bool

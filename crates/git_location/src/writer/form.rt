@@ -8,10 +8,10 @@ ghost use Rattle.git_syntax.specs.Bytes.{is_helper_name};
 ghost use Rattle.git_location.specs.Text.{choice, helper_choice, ssh_choice, with_host, has_authority, is_alternative, is_relative};
 ghost use Rattle.git_location.specs.Pieces.{form_chosen, form_of, with_password};
 
-use git_syntax::bytes;
-use crate::write_error::WriteFault;
-use git_syntax::scheme::SchemeRef;
 use crate::url_ref::UrlRef;
+use crate::write_error::WriteFault;
+use git_syntax::bytes;
+use git_syntax::scheme::SchemeRef;
 
 /// The forms of a text.
 #[derive(Clone, Copy, PartialEq, Eq)]

@@ -10,11 +10,11 @@ ghost use Rattle.git_location.specs.Text as spec;
 ghost use Rattle.git_location.specs.Text.{text, helper_text, path_form_text, scp_text, canonical_text};
 ghost use Rattle.git_location.specs.Pieces.{host_text, path_end_text, piece_text, pieces_text, port_text, text_of_pieces, user_text, with_password};
 
-use crate::write_error::WriteFault;
-use git_syntax::scheme::SchemeRef;
 use crate::url_ref::UrlRef;
+use crate::write_error::WriteFault;
 use crate::writer::form::Form;
 use crate::writer::piece::{HostPieces, PathPieces, Piece, Pieces, SchemePieces, UserPieces};
+use git_syntax::scheme::SchemeRef;
 use git_syntax::{bytes, escape, ipv6};
 use itoa::Buffer;
 

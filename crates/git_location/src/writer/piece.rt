@@ -11,9 +11,9 @@ ghost use Rattle.git_syntax.specs.declared.escape.TheConstants.{PATH, PASSWORD, 
 ghost use Rattle.git_syntax.specs.Bytes.{percent_sign};
 ghost use Rattle.git_location.specs.Pieces.{host_text, path_end_text, piece_text, pieces_text, port_text, scheme_text, user_text};
 
-use git_syntax::escape::{PASSWORD, PATH, USER};
 use crate::writer::ready::{is_ready_path, is_ready_user};
 use crate::writer::sink::{Sink, put_escaped, put_percents};
+use git_syntax::escape::{PASSWORD, PATH, USER};
 use percent_encoding::AsciiSet;
 
 /// A slice and the way that it is written. What is written is always UTF-8.

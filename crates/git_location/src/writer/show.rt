@@ -14,10 +14,7 @@ use bstr::ByteSlice;
 use std::fmt;
 
 /// Shows the pieces.
-pub fn show_pieces<W: fmt::Write>(
-    f: &mut fmt::Formatter<W>,
-    pieces: &Pieces<'_>,
-) -> fmt::Result
+pub fn show_pieces<W: fmt::Write>(f: &mut fmt::Formatter<W>, pieces: &Pieces<'_>) -> fmt::Result
     ensures writes { WritesOnOk W.write_str_gives f.old result
         (lossy_text (pieces_text pieces.now)) f.new }
     ensures styled { WritesStyledOnOk W.write_str_gives f.old result

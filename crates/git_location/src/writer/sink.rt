@@ -48,11 +48,7 @@ pub trait Sink<T> {
 
 /// Puts the text with the bytes of the set, and those past ASCII, as escapes.
 #[inline(never)]
-pub fn put_escaped<T, S: Sink<T>>(
-    place: &mut T,
-    text: &[u8],
-    set: AsciiSet,
-) -> Result<(), S::Fault>
+pub fn put_escaped<T, S: Sink<T>>(place: &mut T, text: &[u8], set: AsciiSet) -> Result<(), S::Fault>
     ensures { OnOk result (S.takes place.old (percent_encode set text.now) place.new) }
 {
     for slice in percent_encode(text, set) {

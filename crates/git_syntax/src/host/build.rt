@@ -8,10 +8,10 @@ ghost use Rattle.git_syntax.specs.Bytes.{lowercase};
 ghost use Rattle.git_syntax.specs.Hosts as spec;
 ghost use Rattle.git_syntax.specs.HostPieces.{is_bracketed, lowercase_address, meant_host, named_text, normal_case, slice_text, unescaped_host};
 
-use crate::host::bytes::looks_like_domain;
-use crate::host::{HostPiece, NamedHost};
 use crate::bytes::{copy_into, cut};
 use crate::escape::decode_into;
+use crate::host::bytes::looks_like_domain;
+use crate::host::{HostPiece, NamedHost};
 use crate::text::into_text;
 use std::alloc::{AllocError, Global};
 

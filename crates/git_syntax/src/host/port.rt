@@ -12,8 +12,8 @@ ghost use Rattle.git_syntax.specs.Hosts as spec;
 ghost use Rattle.git_syntax.specs.Hosts.{Number};
 ghost use Rattle.git_syntax.specs.HostPieces.{EndsHost, Follows, IsBadPort, meant_host, named_text, strictness};
 
-use crate::host::{HostPiece, Mode, NamedHost, alone};
 use crate::bytes::{after, starts_with_byte};
+use crate::host::{HostPiece, Mode, NamedHost, alone};
 use crate::text::as_text;
 
 /// A host with what follows it: nothing, or a colon and perhaps a port.
