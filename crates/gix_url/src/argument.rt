@@ -8,8 +8,8 @@ ghost use Rattle.git_location.specs.Arguments.{IsNoOption, is_option_like, judge
 ghost use Rattle.git_location.specs.Views.{judgement};
 
 use crate::location::Url;
-use git_location::argument::ArgumentSafety;
 use bstr::BStr;
+use git_location::argument::ArgumentSafety;
 
 impl Url {
     /// The user as an argument of a command. It takes no memory.

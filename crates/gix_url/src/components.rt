@@ -21,13 +21,13 @@ mod measure;
 mod same;
 
 use crate::error::Error;
-use git_syntax::home::or_root;
 use crate::location::Url;
-use git_syntax::scheme::SchemeRef;
-use git_location::url_ref::UrlRef;
 use bstr::{BStr, BString};
 use cuts::Spelled;
 use fields::lend_query;
+use git_location::url_ref::UrlRef;
+use git_syntax::home::or_root;
+use git_syntax::scheme::SchemeRef;
 use std::alloc::{AllocError, Global};
 
 /// The path of a location with the query and the fragment that stand in it, as they are meant: escapes stand for

@@ -13,10 +13,10 @@ ghost use Rattle.std.specs.Prelude.{◌≡◌, length};
 ghost use Rattle.bstr.specs.Owned.{bstring_bytes};
 
 use crate::error::Error;
-use git_location::display::hidden_password;
-use git_syntax::debug::Length;
 use crate::location::Url;
 use bstr::BString;
+use git_location::display::hidden_password;
+use git_syntax::debug::Length;
 use std::fmt;
 
 impl fmt::Debug for Url {

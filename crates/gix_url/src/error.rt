@@ -6,9 +6,9 @@
 ghost use Rattle.std.specs.Prelude.{◌≡◌, ◌↔◌, IsTrue};
 
 use crate::expand_path::ForUser;
+use bstr::BString;
 use git_location::write_error::WriteFault;
 use git_syntax::refusal::{UrlFault, UrlKind};
-use bstr::BString;
 use std::alloc::AllocError;
 use thiserror::Error;
 

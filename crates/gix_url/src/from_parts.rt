@@ -9,12 +9,11 @@ ghost use Rattle.bstr.specs.Owned.{bstring_bytes};
 ghost use Rattle.gix_url.specs.FromParts.{MadeOf, TellsName, invalid_name, keeping, of_parts, with_given};
 ghost use Rattle.gix_url.specs.Views.{protocol};
 
-use git_syntax::bytes::is_helper_name;
 use crate::error::Error;
-use crate::location::Url;
+use crate::location::{Url, law_value};
 use crate::scheme::Scheme;
-use crate::location::law_value;
 use bstr::BString;
+use git_syntax::bytes::is_helper_name;
 use std::alloc::Global;
 
 impl Url {

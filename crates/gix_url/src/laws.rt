@@ -9,15 +9,16 @@ ghost use Rattle.gix_url.specs.Laws.{ReadersAgree, SameWithRoom};
 ghost use Rattle.git_syntax.specs.Refusals.{Decided, Flawless, RefusalExclusive};
 ghost use Rattle.gix_url.specs.Refusals.{Exclusive};
 
-pub use git_laws::laws::{
-    law_closed, law_components, law_git, law_lines, law_order, law_scheme_order, law_separation, law_stored, law_stripped,
-};
-pub use git_syntax::address_law::law_address_test;
-pub use git_location::argument::law_arguments;
-pub use git_syntax::escape::law_sets;
 pub use crate::home_law::{law_homes, law_user_order};
-pub use git_location::display::law_hidden_password;
 pub use crate::location::law_value;
+pub use git_laws::laws::{
+    law_closed, law_components, law_git, law_lines, law_order, law_scheme_order, law_separation,
+    law_stored, law_stripped,
+};
+pub use git_location::argument::law_arguments;
+pub use git_location::display::law_hidden_password;
+pub use git_syntax::address_law::law_address_test;
+pub use git_syntax::escape::law_sets;
 
 /// Reading with memory and reading without it are one.
 ///

@@ -17,11 +17,11 @@ mod meaning;
 mod refusal;
 
 use crate::error::Error;
-pub use git_syntax::refusal::UrlKind;
 use crate::location::Url;
 use bstr::BStr;
 use build::build;
 use git_syntax::find::find;
+pub use git_syntax::refusal::UrlKind;
 use refusal::error_of;
 use std::alloc::Global;
 

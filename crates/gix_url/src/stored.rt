@@ -8,13 +8,13 @@ ghost use Rattle.std.specs.Prelude.{◌≡◌, ◌↔◌, [], IfErr, IfOk, IsOk,
 ghost use Rattle.git_laws.specs.Records.{IsLegacy, SpellsFront, begins_escape, from_legacy, migrated, new_spelling};
 ghost use Rattle.gix_url.specs.Stored.{recorded_location};
 
-use git_syntax::bytes::append_within;
 use crate::error::Error;
-use git_syntax::escape::{PATH, begins_with_digits, decoded};
-use git_location::display::hidden_password;
 use crate::location::Url;
 use crate::scheme::Scheme;
 use bstr::BString;
+use git_location::display::hidden_password;
+use git_syntax::bytes::append_within;
+use git_syntax::escape::{PATH, begins_with_digits, decoded};
 use percent_encoding::percent_encode_byte;
 use serde::{Deserialize, Serialize};
 use std::alloc::{AllocError, Global};

@@ -11,8 +11,8 @@ ghost use Rattle.gix_url.specs.Meanings.{meant_by};
 
 use super::QueryText;
 use crate::components::cuts::Spelled;
-use git_syntax::bytes::{append_within, is_free_of};
 use bstr::{BStr, BString};
+use git_syntax::bytes::{append_within, is_free_of};
 use std::alloc::{AllocError, Global};
 
 /// The name and the value of a field: what stands before and behind its first `=`.

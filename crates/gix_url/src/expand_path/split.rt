@@ -9,8 +9,8 @@ ghost use Rattle.gix_url.specs.HomeReadings.{CutsHome, user_of};
 ghost use Rattle.gix_url.specs.Homes.{home_user};
 
 use super::ForUser;
-use git_syntax::bytes::{after, cut};
 use bstr::{BString, ByteSlice};
+use git_syntax::bytes::{after, cut};
 use std::alloc::{AllocError, Global};
 
 /// The name of the user in whose home folder the path begins, which is empty for the current one, and what lies below.

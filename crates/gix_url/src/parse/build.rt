@@ -10,15 +10,15 @@ ghost use Rattle.git_syntax.specs.Grammar.{helper_protocol, scp_location};
 ghost use Rattle.git_syntax.specs.Value.{path_alone};
 ghost use Rattle.gix_url.specs.Views.{protocol};
 
+use crate::location::Url;
 use crate::parse::copies::{copied, copied_text, copied_unless_empty};
-use git_syntax::found::{Found, ScpHost};
-use git_syntax::host::build::{lowercase_address, normalize};
 use crate::parse::made::{path_alone, plain_location};
 use crate::parse::meaning::url_location;
-use git_syntax::bytes::append_within;
-use git_syntax::home::from_home;
-use crate::location::Url;
 use crate::scheme::Scheme;
+use git_syntax::bytes::append_within;
+use git_syntax::found::{Found, ScpHost};
+use git_syntax::home::from_home;
+use git_syntax::host::build::{lowercase_address, normalize};
 use git_syntax::text::into_text;
 use std::alloc::{AllocError, Global};
 

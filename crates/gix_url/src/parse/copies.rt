@@ -6,8 +6,8 @@ ghost use Rattle.std.specs.Prelude.{◌≡◌, IfOk, IsUtf8, option_map, string_
 ghost use Rattle.bstr.specs.Owned.{bstring_bytes};
 ghost use Rattle.git_syntax.specs.Authority.{unless_empty};
 
-use git_syntax::text::as_text;
 use bstr::BString;
+use git_syntax::text::as_text;
 use std::alloc::{AllocError, Global};
 
 /// The piece as bytes of its own.

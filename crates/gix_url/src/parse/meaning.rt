@@ -16,19 +16,19 @@ ghost use Rattle.git_syntax.specs.SchemeRules.{AreRulesOf, named_protocol};
 ghost use Rattle.git_syntax.specs.Schemes.{protocol_of};
 ghost use Rattle.git_syntax.specs.UrlPieces.{decoded_option, parts_of};
 
+use crate::location::Url;
 use crate::parse::copies::copied;
-use git_syntax::host::{NamedHost, port_of};
 use crate::parse::made::full_location;
-use git_syntax::peeled::peeled;
-use git_syntax::rules::Rules;
-use git_syntax::simple_url::ParsedUrl;
+use crate::scheme::Scheme;
+use bstr::BString;
 use git_syntax::escape::{decoded, decoded_text};
 use git_syntax::home::begins_at_home;
-use crate::location::Url;
+use git_syntax::host::{NamedHost, port_of};
+use git_syntax::peeled::peeled;
+use git_syntax::rules::Rules;
 use git_syntax::scheme::Protocol;
-use crate::scheme::Scheme;
+use git_syntax::simple_url::ParsedUrl;
 use git_syntax::text::as_text;
-use bstr::BString;
 use std::alloc::{AllocError, Global};
 
 /// The location of a URL with these parts, of whose scheme these are the rules.

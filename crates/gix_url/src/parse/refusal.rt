@@ -7,8 +7,8 @@ ghost use Rattle.std.specs.Prelude.{◌≡◌, IfOk, Ok};
 ghost use Rattle.gix_url.specs.Flaws.{Flaw};
 ghost use Rattle.git_syntax.specs.Flaws.{NamesFlaw};
 
-use crate::parse::copies::copied;
 use crate::error::Error;
+use crate::parse::copies::copied;
 use git_syntax::refusal::Refusal;
 use std::alloc::{AllocError, Global};
 
