@@ -4,3 +4,4 @@ pub mod HostDecisions
 pub mod UrlDecisions
 pub mod FormDecisions
 pub mod CornerLemmas
+pub mod WithinLemmas

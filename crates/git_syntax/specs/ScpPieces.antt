@@ -23,10 +23,6 @@ ColonsInside text = FreeOf colon text
     ⊎ ((inside : List ℕ) × (rest : List ℕ) × FreeOf right_bracket inside × FreeOf colon rest
     × (text ≡ inside ++ right_bracket ∷ rest))
 
--- no port is read from the piece
-abbrev pub NamesNoPort : List ℕ → Type 0
-NamesNoPort piece = (host : Option (List ℕ)) (port : ℕ) → ¬ Names bare piece host (Some port)
-
 -- the piece names this host, which may have brackets around it
 pub record NamesHost (piece meant : List ℕ) : Type 0 where
   pub named : List ℕ

@@ -6,7 +6,7 @@
 //! settled test and of `lines`, which name the same definitions.
 
 ghost use Rattle.gix_url.specs.Laws.{ReadersAgree, SameWithRoom};
-ghost use Rattle.git_syntax.specs.Refusals.{Decided, Flawless, RefusalExclusive};
+ghost use Rattle.git_syntax.specs.Refusals.{Decided, Flawless, RefusalExclusive, RefusalWithin};
 ghost use Rattle.gix_url.specs.Refusals.{Exclusive};
 
 pub use crate::home_law::{law_homes, law_user_order};
@@ -38,6 +38,7 @@ pub fn law_readers()
 ///   So no reader that keeps to these definitions takes what [`parse`](crate::parse::parse) refuses.
 /// - `refusal`: so it is with the flaw of a [`Refusal`](crate::Refusal), which reading into a room names, and the answer to
 ///   a line.
+/// - `within`: the place that a refusal tells stands in its text, so the text can be cut there.
 /// - `flawless`: no flaw stands in bytes that spell a location, whether or not there is an error that holds a copy of
 ///   them.
 /// - `decided`: bytes spell a location, or one of these flaws stands in them. There is no third case, and by `flawless`
@@ -45,6 +46,7 @@ pub fn law_readers()
 pub fn law_refusals()
     ensures exclusive { Exclusive }
     ensures refusal { RefusalExclusive }
+    ensures within { RefusalWithin }
     ensures flawless { Flawless }
     ensures decided { Decided }
 {}

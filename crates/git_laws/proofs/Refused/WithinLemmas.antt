@@ -1,0 +1,50 @@
+-- Places: what a refusal tells to be wrong stands in the text that is refused.
+use Rattle.std.proofs.Common.{◌≡◌, ℕ, ◌+◌, ◌≤◌, List, ◌∷◌, ◌++◌, length, take, ap, arith, codes, length-append, length-take}
+use Rattle.git_syntax.specs.declared.refusal.UrlKind.{UrlKind}
+use Rattle.git_syntax.specs.declared.refusal.UrlKind.TheVariants as kind
+use Rattle.git_syntax.specs.declared.refusal.UrlFault.{UrlFault}
+use Rattle.git_syntax.specs.declared.refusal.Refusal.TheVariants as refusal
+use Rattle.git_syntax.specs.Bytes.{colon, percent_sign}
+use Rattle.git_syntax.specs.Schemes.{mode_of, requires_host}
+use Rattle.git_syntax.specs.Flaws.{KindFlaw, ScpFlaw, TooLongAt, UrlFlaw}
+use Rattle.git_syntax.specs.Refusals.{RefusalWithin}
+use Rattle.git_syntax.proofs.Texts.PlaceLemmas.{white_within}
+use Rattle.git_syntax.proofs.Readings.UrlLemmas.{authority_flaw_within}
+use Rattle.git_syntax.proofs.Readings.ScpLemmas.{scp_host_flaw_within}
+
+-- what stands before `://` and behind it is shorter than the text
+joined_length : (b front rest : List ℕ) → b ≡ front ++ (codes "://" ++ rest) → length front + 3 + length rest ≡ length b
+joined_length b front rest e = omega (arith, ap length e, length-append front (codes "://" ++ rest))
+
+-- the flaw of a URL stands within it
+url_flaw_within : (b : List ℕ) (at len : ℕ) (named : UrlFault) → UrlFlaw b at len named → at + len ≤ length b
+url_flaw_within b at len named (UrlFlaw.no_scheme front rest shape bad a l) = omega (arith, a, l, joined_length b front rest shape.shape.joined)
+url_flaw_within b at len named (UrlFlaw.white_space front rest shape text held h) = white_within b at len h
+url_flaw_within b at len named (UrlFlaw.unsound front rest shape bad h l) = omega (arith, l, h.offset, ap length h.joined, length-append h.before (percent_sign ∷ h.behind))
+url_flaw_within b at len named (UrlFlaw.bad_path scheme authority path cut bad e l) = omega (arith, e)
+url_flaw_within b at len named (UrlFlaw.bad_authority scheme authority path n place cut bad a) =
+    omega (arith, a, authority_flaw_within (mode_of scheme) (requires_host scheme) authority place len n bad, joined_length b scheme (authority ++ path) cut.shape.shape.joined, length-append authority path)
+
+-- the flaw of the scp form stands within it
+scp_flaw_within : (b : List ℕ) (named : UrlFault) (at len : ℕ) → ScpFlaw b named at len → at + len ≤ length b
+scp_flaw_within b named at len h =
+    omega (arith, h.offset, scp_host_flaw_within h.host h.place len named h.flaw, ap length h.shape.joined, length-append h.front (colon ∷ h.path))
+
+-- what is too long stands within what is shown, which is a front of the text
+too_long_within : (b front rest shown : List ℕ) (at len : ℕ) → b ≡ front ++ (codes "://" ++ rest) → shown ≡ take (length front + 1027) b → TooLongAt front shown at len → at + len ≤ length b
+too_long_within b front rest shown at len e s (TooLongAt.scheme long a l) = omega (arith, a, l, joined_length b front rest e)
+too_long_within b front rest shown at len e s (TooLongAt.behind_mark short a l) = omega (arith, l, ap length s, length-take (length front + 1027) b)
+
+-- the flaw of a text of a kind stands within it
+kind_flaw_within : (b : List ℕ) (k : UrlKind) (named : UrlFault) (at len : ℕ) → KindFlaw b k named at len → at + len ≤ length b
+kind_flaw_within b kind.Url named at len h = url_flaw_within b at len named h
+kind_flaw_within b kind.Scp named at len h = scp_flaw_within b named at len h
+kind_flaw_within b kind.Local named at len h = absurd h
+
+-- the place that a refusal tells stands in the text
+pub refusal_within : RefusalWithin
+refusal_within b refusal.EmptyLocal h = omega arith
+refusal_within b (refusal.MissingPath k at) h = omega (arith, h.1)
+refusal_within b (refusal.NotUtf8 k at) h = omega (arith, h.2.short)
+refusal_within b (refusal.TooLong shown total at len) h = too_long_within b h.front h.rest shown.now at len h.shape.shape.joined h.front_shown h.place
+refusal_within b (refusal.BadUrl k named at len) h = kind_flaw_within b k named at len h
