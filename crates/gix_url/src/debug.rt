@@ -44,44 +44,10 @@ impl fmt::Debug for Error {
         match self {
             Error::Memory => f.write_str("Memory"),
             Error::EmptyLocal => f.write_str("EmptyLocal"),
-            Error::MissingPath { kind, input, at } => f
-                .debug_struct("MissingPath")
-                .field("kind", kind)
-                .field("input", &length_of(input))
-                .field("at", at)
-                .finish(),
-            Error::NotUtf8 { kind, input, at } => f
-                .debug_struct("NotUtf8")
-                .field("kind", kind)
-                .field("input", &length_of(input))
-                .field("at", at)
-                .finish(),
-            Error::TooLong {
-                shown,
-                total,
-                at,
-                len,
-            } => f
-                .debug_struct("TooLong")
-                .field("shown", &length_of(shown))
-                .field("total", total)
-                .field("at", at)
-                .field("len", len)
-                .finish(),
-            Error::BadUrl {
-                kind,
-                fault,
-                input,
-                at,
-                len,
-            } => f
-                .debug_struct("BadUrl")
-                .field("kind", kind)
-                .field("fault", fault)
-                .field("input", &length_of(input))
-                .field("at", at)
-                .field("len", len)
-                .finish(),
+            Error::MissingPath { .. }
+            | Error::NotUtf8 { .. }
+            | Error::TooLong { .. }
+            | Error::BadUrl { .. } => show_refused(self, f),
             Error::HelperName { name } => f
                 .debug_struct("HelperName")
                 .field("name", &length_of(name))
@@ -91,6 +57,51 @@ impl fmt::Debug for Error {
             Error::PathNotUtf8 => f.write_str("PathNotUtf8"),
             Error::Unresolved => f.write_str("Unresolved"),
         }
+    }
+}
+
+/// Shows the fields of an error that tells where a text is wrong; of any other error nothing.
+fn show_refused<W: fmt::Write>(error: &Error, f: &mut fmt::Formatter<W>) -> fmt::Result {
+    match error {
+        Error::MissingPath { kind, input, at } => f
+            .debug_struct("MissingPath")
+            .field("kind", kind)
+            .field("input", &length_of(input))
+            .field("at", at)
+            .finish(),
+        Error::NotUtf8 { kind, input, at } => f
+            .debug_struct("NotUtf8")
+            .field("kind", kind)
+            .field("input", &length_of(input))
+            .field("at", at)
+            .finish(),
+        Error::TooLong {
+            shown,
+            total,
+            at,
+            len,
+        } => f
+            .debug_struct("TooLong")
+            .field("shown", &length_of(shown))
+            .field("total", total)
+            .field("at", at)
+            .field("len", len)
+            .finish(),
+        Error::BadUrl {
+            kind,
+            fault,
+            input,
+            at,
+            len,
+        } => f
+            .debug_struct("BadUrl")
+            .field("kind", kind)
+            .field("fault", fault)
+            .field("input", &length_of(input))
+            .field("at", at)
+            .field("len", len)
+            .finish(),
+        _ => Ok(()),
     }
 }
 
