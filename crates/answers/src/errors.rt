@@ -30,7 +30,10 @@ fn tell_fields(out: &mut Out, error: &Error) -> io::Result<()> {
             tell_kept(out, input)
         }
         Error::BadUrl {
-            kind, fault, input, ..
+            kind,
+            fault,
+            input,
+            ..
         } => {
             write!(out, "BadUrl {fault:?} {kind:?}\"")?;
             tell_kept(out, input)

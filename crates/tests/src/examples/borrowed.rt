@@ -1,7 +1,9 @@
 //! Examples of locations that are borrowed.
 
 use bstr::{BStr, BString};
-use gix_url::{ArgumentSafety, Error, PathComponents, Scheme, SchemeRef, Url, UrlRef, WriteError, WriteFault};
+use gix_url::{
+    ArgumentSafety, Error, PathComponents, Scheme, SchemeRef, Url, UrlRef, WriteError, WriteFault,
+};
 use std::alloc::{AllocError, Global};
 use std::test::Fail;
 
