@@ -3,3 +3,4 @@ pub mod RowByteLemmas
 pub mod RowFormLemmas
 pub mod RowClassLemmas
 pub mod RowGitLemmas
+pub mod RowOtherLemmas

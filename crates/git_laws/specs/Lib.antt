@@ -14,3 +14,4 @@ pub mod Safeguards
 pub mod ByteRows
 pub mod ClassRows
 pub mod GitRows
+pub mod OtherRows

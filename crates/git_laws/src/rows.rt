@@ -4,6 +4,7 @@
 
 ghost use Rattle.git_laws.specs.ByteRows.{EscapeSetRows, EscapedByteRows, GitByteRows, HostByteRows, NameByteRows, QuickByteRows, WhiteSpaceRows};
 ghost use Rattle.git_laws.specs.ClassRows.{SettledRows, UnsettledOtherRows, UnsettledUrlRows, UnsettledWebRows, WebHostRows};
+ghost use Rattle.git_laws.specs.OtherRows.{CornerRows, NoCornerRows, SlipRows};
 ghost use Rattle.git_laws.specs.GitRows.{GitTextRows, GitUrlRows, NoGitRows};
 
 /// Classes of bytes, with all their members.
@@ -31,4 +32,11 @@ fn law_git()
     ensures urls { GitUrlRows }
     ensures others { GitTextRows }
     ensures none { NoGitRows }
+{}
+
+/// Corners of what is read, and slips in definitions.
+fn law_others()
+    ensures slips { SlipRows }
+    ensures inside { CornerRows }
+    ensures outside { NoCornerRows }
 {}

@@ -1,2 +1,3 @@
 -- Lemmas by topic, lowest first.
 pub mod Values
+pub mod Examples

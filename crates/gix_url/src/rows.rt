@@ -1,15 +1,10 @@
-//! Rows: what runs and errors hold on to where something failed, and slips in definitions.
+//! Rows: what errors hold on to.
 //!
 //! It has no code and uses nothing: the contract of the function is a group of rows.
 
-ghost use Rattle.gix_url.specs.OtherRows.{CornerRows, KeptRows, NoCornerRows, ReadRow, SlipRows, UnwrittenRow};
+ghost use Rattle.gix_url.specs.OtherRows.{KeptRows};
 
-/// Corners of what is read, what runs and errors hold on to where something failed, and slips in definitions.
+/// What errors hold on to.
 fn law_others()
-    ensures slips { SlipRows }
-    ensures inside { CornerRows }
-    ensures outside { NoCornerRows }
-    ensures unwritten { UnwrittenRow }
-    ensures read { ReadRow }
     ensures kept { KeptRows }
 {}

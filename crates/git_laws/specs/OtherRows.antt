@@ -1,0 +1,33 @@
+-- Rows of corners, and one for each slip in a definition that the laws would let pass.
+use Rattle.std.specs.Prelude.{◌≡◌, true, codes, Some, None}
+use Rattle.git_syntax.specs.Value.Protocol.{file, git, http, https}
+use Rattle.git_syntax.specs.Schemes.{requires_host}
+use Rattle.git_laws.specs.Components.{PartsOf}
+use Rattle.git_laws.specs.Records.{migrated}
+use Rattle.git_laws.specs.Laws.{IsCorner}
+use Rattle.git_laws.specs.ClassRows.{at_host}
+
+-- FTP needs a host; in a path without a spelling an escape stands for itself; in a record of the older form a `%`
+-- without digits is no escape
+abbrev pub SlipRows : Type 0
+SlipRows =
+    (requires_host (codes "ftps") ≡ true)
+    × PartsOf (at_host https (codes "h") (codes "/a%20b"))
+    (record { path = codes "/a%20b"; query = None; fragment = None })
+    × (migrated (record (at_host https (codes "h") (codes "/%%41")) { spelling = Some (codes "/%%41") })
+    ≡ record (at_host https (codes "h") (codes "/%A")) { spelling = Some (codes "/%25%41") })
+
+-- ---- corners
+
+-- locations that stand in a corner
+abbrev pub CornerRows : Type 0
+CornerRows = IsCorner (at_host file (codes "a:%") (codes "/p"))
+    × IsCorner (at_host http (codes "h%41:") (codes "/p"))
+
+-- unsettled locations that stand in none
+abbrev pub NoCornerRows : Type 0
+NoCornerRows =
+    ¬ IsCorner (at_host file (codes "a:b/c") (codes "/p"))
+    × ¬ IsCorner (at_host file (codes "a%b/c") (codes "/p"))
+    × ¬ IsCorner (at_host git (codes "h%41:") (codes "p"))
+    × ¬ IsCorner (at_host https (codes "H") (codes "/p"))

@@ -1,0 +1,2 @@
+-- The examples of the definitions, by giving the parts.
+pub mod RowRunLemmas
