@@ -8,6 +8,8 @@ told as U+EF00 with the byte added; so outcomes are compared by the bytes that t
 
 Neither binding tells whether a name or a value of a query is owned: `{"owned": text}` is compared as the text. An error
 of C keeps no bytes, so `kept` is left out, but for a text that is too long, of which it tells how much is to be shown.
+No binding tells where in a text the fault stands: `at` and `len` of an error are left out, and so they are of what
+`Debug` shows of it (`PLACES`).
 """
 import os
 import re
@@ -34,6 +36,9 @@ ONLY_RUST = {
 MEMBERS = {
     "call", "text", "url", "other", "record", "scheme", "user", "password", "alternative", "style", "kind", "fault",
     "error"}
+# Members of an error that no binding tells, and how `Debug` shows them.
+PLACES = {"at", "len"}
+SHOWN_PLACES = re.compile(r", (?:at|len): \d+|\n    (?:at|len): \d+,")
 # Errors of calls that no binding has.
 FOREIGN = {"NoHome", "PathNotUtf8", "Unresolved"}
 # The bytes past ASCII, by the characters that they are told as, and as Python has them.
@@ -109,11 +114,13 @@ class Binding(Answers):
             return outcome
         if set(outcome) == {"owned"}:
             return self.seen(outcome["owned"])
+        if isinstance(outcome.get("shown"), str):
+            outcome = {**outcome, "shown": SHOWN_PLACES.sub("", outcome["shown"])}
         return {name: self.seen(it) for name, it in outcome.items() if self.tells(name, outcome)}
 
-    def tells(self, _name, _outcome):
+    def tells(self, name, _outcome):
         """Whether the binding tells a member of an outcome."""
-        return True
+        return name not in PLACES
 
     def built(self):
         """The program, which is built over the library of `scripts/doors`."""
@@ -132,7 +139,7 @@ class C(Binding):
         return super().makes(row) and row.members.get("style") is None and not is_older
 
     def tells(self, name, outcome):
-        return name != "kept" or "total" in outcome
+        return super().tells(name, outcome) and (name != "kept" or "total" in outcome)
 
     def build(self):
         file = f"{FOLDER}/vectors"
