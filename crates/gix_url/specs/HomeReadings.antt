@@ -3,8 +3,8 @@ use Rattle.std.specs.Prelude.{◌≡◌, ℕ, false, ◌⊎◌, List, [], ◌∷
 use Rattle.std.specs.Global.{Global}
 use Rattle.std.specs.Borrow.{Bor}
 use Rattle.bstr.specs.Owned.{bstring_bytes}
-use Rattle.gix_url.specs.declared.expand_path.ForUser.{ForUser}
-use Rattle.gix_url.specs.declared.expand_path.ForUser.TheVariants.{Current, Name}
+use Rattle.gix_url.specs.declared.home_user.ForUser.{ForUser}
+use Rattle.gix_url.specs.declared.home_user.ForUser.TheVariants.{Current, Name}
 use Rattle.gix_url.specs.declared.error.Error.{Error}
 use Rattle.gix_url.specs.declared.error.Error.TheVariants as error
 use Rattle.git_syntax.specs.Value.{Location}

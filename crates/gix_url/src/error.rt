@@ -5,7 +5,7 @@
 
 ghost use Rattle.std.specs.Prelude.{◌≡◌, ◌↔◌, IsTrue};
 
-use crate::expand_path::ForUser;
+use crate::home_user::ForUser;
 use bstr::BString;
 use git_location::write_error::WriteFault;
 use git_syntax::refusal::{UrlFault, UrlKind};

@@ -19,27 +19,11 @@ mod paths;
 mod split;
 
 use crate::error::Error;
+pub use crate::home_user::ForUser;
 use bstr::{BStr, BString, ByteSlice};
 use paths::{parent, push_below, push_path};
 use split::{cut_home, path_below, user_named};
 use std::alloc::{AllocError, Global};
-
-/// The user in whose home folder a path begins.
-///
-/// The current user comes before all others in order, and others by the bytes of their names.
-///
-/// ```
-/// fn is_current(user: &ForUser) -> bool {
-///     matches!(user, ForUser::Current)
-/// }
-/// ```
-#[derive(Debug, Drop)]
-pub enum ForUser {
-    /// The current user.
-    Current,
-    /// The user of this name.
-    Name(BString),
-}
 
 impl ForUser {
     /// An equal user. It asks for memory once for a name that isn't empty, and not at all for the current user.

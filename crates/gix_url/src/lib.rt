@@ -30,6 +30,7 @@ pub mod expand_path;
 mod from_parts;
 mod git;
 mod home_law;
+mod home_user;
 pub mod ipv6;
 pub mod laws;
 mod location;
