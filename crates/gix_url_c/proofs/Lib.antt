@@ -1,4 +1,5 @@
 -- The lemmas that the proofs of functions cite.
 pub mod PartedLemmas
 pub mod ProblemLemmas
+pub mod RoomLemmas
 pub mod ShownLemmas

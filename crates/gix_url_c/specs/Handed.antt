@@ -4,7 +4,7 @@ use Rattle.gix_url.specs.Value.{Protocol, Location}
 use Rattle.gix_url.specs.Value.Protocol.{file, git, ssh, http, https, ext, helper, helper_url}
 use Rattle.gix_url_c.specs.declared.given.Front.{Front}
 use Rattle.gix_url_c.specs.declared.handed.Made.{Made}
-use Rattle.gix_url_c.specs.Codes.{ok, no_room, UnlessMemory}
+use Rattle.gix_url_c.specs.Codes.{ok, no_room}
 
 -- the number of a protocol
 abbrev pub protocol_number : Protocol → ℕ
@@ -79,6 +79,6 @@ Puts bytes old new code =
     ((code ≡ no_room) × (new ≡ old))
     ((code ≡ ok) × (new ≡ bytes ++ drop (length bytes) old))
 
--- the location was handed out, unless memory was refused
+-- the location is handed out
 abbrev pub HandsOut : Location → Made → List ℕ → List ℕ → ℕ → Type 0
-HandsOut v made old new code = UnlessMemory code ((made ≡ made_of v) × Puts (bytes_of v) old new code)
+HandsOut v made old new code = (made ≡ made_of v) × Puts (bytes_of v) old new code

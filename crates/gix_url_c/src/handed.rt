@@ -1,21 +1,19 @@
 //! The location that C gets: numbers, and the bytes of all parts one behind the other in the caller's room.
 //!
-//! It uses stored locations, which have all parts. Its contract: all parts are handed out, or none, and then their
-//! lengths are told all the same.
+//! It uses the library's borrowed locations, `codes` and `room`. Its contract: all parts are handed out, or none, and then
+//! their lengths are told all the same. It takes no memory.
 
-ghost use Rattle.std.specs.Prelude.{◌≡◌, IfOk, option_map, string_bytes};
-ghost use Rattle.std.specs.Vec.{vec_items};
-ghost use Rattle.gix_url.specs.Stored.{recorded_location};
-ghost use Rattle.gix_url.specs.Views.{protocol};
+ghost use Rattle.std.specs.Prelude.{◌≡◌, ◌≤◌, ◌⊎◌, ◌++◌, drop, length, option_map};
+ghost use Rattle.std.specs.Option.{option_copied};
+ghost use Rattle.gix_url.specs.Views.{lent_protocol};
+ghost use Rattle.gix_url_c.specs.Codes.{no_room, ok};
 ghost use Rattle.gix_url_c.specs.Handed.{HandsOut, bytes_of, front_of, is_there, made_of, or_nothing, or_zero, protocol_name, protocol_number};
 ghost use Rattle.gix_url_c.specs.Left.{LeavesLengths, LeavesRoom};
 
-use crate::codes::MEMORY;
+use crate::codes::{NO_ROOM, OK};
 use crate::given::Front;
-use crate::room::put;
-use gix_url::stored::StoredUrl;
-use gix_url::{Scheme, Url};
-use std::alloc::{AllocError, Global};
+use crate::room::put_at;
+use gix_url::{SchemeRef, UrlRef};
 
 /// A location: its numbers, and the lengths of its parts, whose bytes stand in this order in the caller's room.
 #[repr(C)]
@@ -38,148 +36,118 @@ pub struct Made {
 }
 
 /// Hands the location out, if its parts fit into the room.
-pub(crate) fn hand_out(alloc: Global, url: &Url, made: &mut Made, room: &mut [u8]) -> u32
+pub(crate) fn hand_out(url: &UrlRef<'_>, made: &mut Made, room: &mut [u8]) -> u32
     ensures told { HandsOut url.now made.new room.old room.new result }
     ensures room { LeavesRoom result room.old room.new }
-    ensures lengths { LeavesLengths result made.old made.new }
+    ensures code { (result ≡ ok) ⊎ (result ≡ no_room) }
 {
-    let Ok(stored) = url.to_stored(alloc) else {
-        return MEMORY;
-    };
-    let Ok(bytes) = joined(alloc, &stored) else {
-        return MEMORY;
-    };
-    *made = measured(&stored);
-    put(bytes.as_slice(), room)
+    *made = measured(url);
+    if (room.len() as u128) < size(url) {
+        return NO_ROOM;
+    }
+    put_parts(url, room);
+    OK
 }
 
-/// The bytes of all parts, one behind the other.
-fn joined(alloc: Global, stored: &StoredUrl) -> Result<Vec<u8>, AllocError>
-    ensures { IfOk result (λ bytes. bytes.items ≡ bytes_of (recorded_location stored.now)) }
+/// How many bytes all parts have.
+fn size(url: &UrlRef<'_>) -> u128
+    ensures { result ≡ length (bytes_of url.now) }
 {
-    let mut bytes = Vec::from_slice(alloc, name(&stored.scheme))?;
-    bytes.extend_from_slice(text(&stored.user))?;
-    bytes.extend_from_slice(text(&stored.password))?;
-    bytes.extend_from_slice(text(&stored.host))?;
-    bytes.extend_from_slice(stored.path.as_slice())?;
-    bytes.extend_from_slice(items(&stored.path_with_percent_escapes))?;
-    Ok(bytes)
+    name(url.scheme).len() as u128
+        + text(url.user).len() as u128
+        + text(url.password).len() as u128
+        + text(url.host).len() as u128
+        + url.path.len() as u128
+        + part(url.spelling).len() as u128
+}
+
+/// Puts the bytes of all parts, one behind the other, at the front of the room, which has room for them.
+fn put_parts(url: &UrlRef<'_>, room: &mut [u8])
+    requires { length (bytes_of url.now) ≤ length room.old }
+    ensures { room.new ≡ bytes_of url.now ++ drop (length (bytes_of url.now)) room.old }
+{
+    let at = put_at(room, 0, name(url.scheme));
+    let at = put_at(room, at, text(url.user));
+    let at = put_at(room, at, text(url.password));
+    let at = put_at(room, at, text(url.host));
+    let at = put_at(room, at, url.path);
+    let _ = put_at(room, at, part(url.spelling));
 }
 
 /// The numbers, and the lengths of the parts.
-fn measured(stored: &StoredUrl) -> Made
-    ensures { result ≡ made_of (recorded_location stored.now) }
+fn measured(url: &UrlRef<'_>) -> Made
+    ensures { result ≡ made_of url.now }
 {
     Made {
-        front: numbers(stored),
-        name: name(&stored.scheme).len(),
-        user: text(&stored.user).len(),
-        password: text(&stored.password).len(),
-        host: text(&stored.host).len(),
-        path: stored.path.len(),
-        spelling: items(&stored.path_with_percent_escapes).len(),
+        front: numbers(url),
+        name: name(url.scheme).len(),
+        user: text(url.user).len(),
+        password: text(url.password).len(),
+        host: text(url.host).len(),
+        path: url.path.len(),
+        spelling: part(url.spelling).len(),
     }
 }
 
 /// The numbers.
-fn numbers(stored: &StoredUrl) -> Front
-    ensures { result ≡ front_of (recorded_location stored.now) }
+fn numbers(url: &UrlRef<'_>) -> Front
+    ensures { result ≡ front_of url.now }
 {
     Front {
-        scheme: number(&stored.scheme),
-        alternative: stored.serialize_alternative_form,
-        has_user: has_text(&stored.user),
-        has_password: has_text(&stored.password),
-        has_host: has_text(&stored.host),
-        has_port: has_port(&stored.port),
-        has_spelling: has_items(&stored.path_with_percent_escapes),
-        port: port(&stored.port),
+        scheme: number(url.scheme),
+        alternative: url.serialize_alternative_form,
+        has_user: url.user.is_some(),
+        has_password: url.password.is_some(),
+        has_host: url.host.is_some(),
+        has_port: url.port.is_some(),
+        has_spelling: url.spelling.is_some(),
+        port: url.port.unwrap_or(0),
     }
 }
 
 /// The number of a scheme.
-fn number(scheme: &Scheme) -> u8
-    ensures { result ≡ protocol_number (protocol scheme.now) }
+fn number(scheme: SchemeRef<'_>) -> u8
+    ensures { result ≡ protocol_number (lent_protocol scheme.entry) }
 {
     match scheme {
-        Scheme::File => 0,
-        Scheme::Git => 1,
-        Scheme::Ssh => 2,
-        Scheme::Http => 3,
-        Scheme::Https => 4,
-        Scheme::Ext => 5,
-        Scheme::Helper(_) => 6,
-        Scheme::HelperUrl(_) => 7,
+        SchemeRef::File => 0,
+        SchemeRef::Git => 1,
+        SchemeRef::Ssh => 2,
+        SchemeRef::Http => 3,
+        SchemeRef::Https => 4,
+        SchemeRef::Ext => 5,
+        SchemeRef::Helper(_) => 6,
+        SchemeRef::HelperUrl(_) => 7,
     }
 }
 
 /// The name that a scheme holds, or nothing.
-fn name(scheme: &Scheme) -> &[u8]
-    ensures { result.now ≡ protocol_name (protocol scheme.now) }
+fn name(scheme: SchemeRef<'_>) -> &[u8]
+    ensures { result.now ≡ protocol_name (lent_protocol scheme.entry) }
 {
     match scheme {
-        Scheme::File | Scheme::Git | Scheme::Ssh | Scheme::Http | Scheme::Https | Scheme::Ext =>
-            b"",
-        Scheme::Helper(name) | Scheme::HelperUrl(name) => name.as_bytes(),
+        SchemeRef::Helper(name) | SchemeRef::HelperUrl(name) => name.as_bytes(),
+        SchemeRef::File | SchemeRef::Git | SchemeRef::Ssh => b"",
+        SchemeRef::Http | SchemeRef::Https | SchemeRef::Ext => b"",
     }
 }
 
 /// The bytes of a text, or nothing.
-fn text(part: &Option<String>) -> &[u8]
-    ensures { result.now ≡ or_nothing (option_map string_bytes part.now) }
+fn text(text: Option<&str>) -> &[u8]
+    ensures { result.now ≡ or_nothing (option_map (λ t. t.now) text.entry) }
 {
-    match part {
+    match text {
         None => b"",
         Some(text) => text.as_bytes(),
     }
 }
 
-/// Whether there is a text.
-fn has_text(part: &Option<String>) -> bool
-    ensures { result ≡ is_there (option_map string_bytes part.now) }
-{
-    match part {
-        None => false,
-        Some(_) => true,
-    }
-}
-
 /// Bytes, or nothing.
-fn items(part: &Option<Vec<u8>>) -> &[u8]
-    ensures { result.now ≡ or_nothing (option_map vec_items part.now) }
+fn part(bytes: Option<&[u8]>) -> &[u8]
+    ensures { result.now ≡ or_nothing (option_copied bytes.entry) }
 {
-    match part {
+    match bytes {
         None => b"",
-        Some(items) => items.as_slice(),
-    }
-}
-
-/// Whether there are bytes.
-fn has_items(part: &Option<Vec<u8>>) -> bool
-    ensures { result ≡ is_there (option_map vec_items part.now) }
-{
-    match part {
-        None => false,
-        Some(_) => true,
-    }
-}
-
-/// The port, or 0.
-fn port(port: &Option<u16>) -> u16
-    ensures { result ≡ or_zero port.now }
-{
-    match port {
-        None => 0,
-        Some(port) => *port,
-    }
-}
-
-/// Whether there is a port.
-fn has_port(port: &Option<u16>) -> bool
-    ensures { result ≡ is_there port.now }
-{
-    match port {
-        None => false,
-        Some(_) => true,
+        Some(bytes) => bytes,
     }
 }

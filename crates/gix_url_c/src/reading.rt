@@ -37,7 +37,7 @@ pub extern "C" fn gix_url_c_read(
     ensures lengths { LeavesLengths result made.old made.new }
     ensures problem { LeavesProblem result no_problem told.new }
 {
-    tell(alloc, parse(alloc, BStr::new(input)), made, room, told)
+    tell(parse(alloc, BStr::new(input)), made, room, told)
 }
 
 /// Makes the location that the text of these parts means, and hands it out: [`gix_url::Url::from_parts`]. The
@@ -61,7 +61,7 @@ pub extern "C" fn gix_url_c_from_parts(
     ensures problem { LeavesProblem result no_problem told.new }
 {
     match located(given) {
-        Some(parts) => tell(alloc, of_parts(alloc, &parts), made, room, told),
+        Some(parts) => tell(of_parts(alloc, &parts), made, room, told),
         None => {
             *told = no_problem();
             NO_LOCATION
@@ -112,13 +112,7 @@ fn text(alloc: Global, part: Option<&str>) -> Result<Option<String>, AllocError>
 }
 
 /// Tells an answer: hands a location out, or tells an error by its numbers.
-fn tell(
-    alloc: Global,
-    answer: Result<Url, Error>,
-    made: &mut Made,
-    room: &mut [u8],
-    told: &mut Problem,
-) -> u32
+fn tell(answer: Result<Url, Error>, made: &mut Made, room: &mut [u8], told: &mut Problem) -> u32
     ensures told { Tells answer made.new room.old room.new told.new result }
     ensures room { LeavesRoom result room.old room.new }
     ensures lengths { LeavesLengths result made.old made.new }
@@ -127,7 +121,7 @@ fn tell(
     match answer {
         Ok(url) => {
             *told = no_problem();
-            hand_out(alloc, &url, made, room)
+            hand_out(&url.as_ref(), made, room)
         }
         Err(error) => {
             *told = told_of(&error);

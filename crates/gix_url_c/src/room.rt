@@ -1,8 +1,9 @@
 //! The caller's room for bytes.
 //!
-//! It uses `codes`. Its contract: bytes go to the front of the room, all of them, or the room is as it was.
+//! It uses `codes`. Its contract: bytes go to the front of the room, all of them, or the room is as it was; and bytes go
+//! behind what stands at the front, where there is room for them.
 
-ghost use Rattle.std.specs.Prelude.{◌≡◌, ◌⊎◌};
+ghost use Rattle.std.specs.Prelude.{◌≡◌, ◌≤◌, ◌+◌, ◌++◌, ◌⊎◌, drop, length, take};
 ghost use Rattle.gix_url_c.specs.Answers.{PutsText};
 ghost use Rattle.gix_url_c.specs.Codes.{no_room, ok};
 ghost use Rattle.gix_url_c.specs.Handed.{Puts};
@@ -32,4 +33,17 @@ pub(crate) fn put_text(bytes: &[u8], room: &mut [u8], len: &mut usize) -> u32
 {
     *len = bytes.len();
     put(bytes, room)
+}
+
+/// Copies the bytes to this place of the room, and returns the place behind them.
+pub(crate) fn put_at(room: &mut [u8], at: usize, bytes: &[u8]) -> usize
+    requires { at + length bytes.now ≤ length room.old }
+    ensures put { room.new ≡ take at room.old ++ (bytes.now ++ drop (length bytes.now) (drop at room.old)) }
+    ensures size { length room.new ≡ length room.old }
+    ensures end { result ≡ at + length bytes.now }
+{
+    let (_, rest) = room.split_at_mut(at);
+    let (place, _) = rest.split_at_mut(bytes.len());
+    place.copy_from_slice(bytes);
+    at + bytes.len()
 }
