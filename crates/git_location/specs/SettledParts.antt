@@ -1,5 +1,5 @@
 -- What the tests of the settled class tell of hosts and of texts on the way.
-use Rattle.std.specs.Prelude.{◌≡◌, ℕ, ◌≤◌, true, false, ◌⊎◌, List, [], ◌∷◌, ◌++◌, length, Option, MatchOption, Ok}
+use Rattle.std.specs.Prelude.{◌≡◌, ℕ, ◌≤◌, true, false, ◌⊎◌, List, [], ◌∷◌, ◌++◌, length, Option, Some, None, MatchOption, Ok}
 use Rattle.std.specs.Borrow.{Bor}
 use Rattle.git_syntax.specs.Value.{Location}
 use Rattle.git_syntax.specs.Bytes.{colon, left_bracket, right_bracket, FreeOf}
@@ -8,7 +8,7 @@ use Rattle.git_syntax.specs.Addresses.{Literal}
 use Rattle.git_syntax.specs.Schemes.{protocol_text}
 use Rattle.git_location.specs.Text.{text, canonical_text}
 use Rattle.git_syntax.specs.Walks.{is_walk_short, text_walk_past, text_walk_for}
-use Rattle.git_location.specs.Settled.{IsHosted, IsWebName}
+use Rattle.git_location.specs.Settled.{HasCredentials, HasFittingText, HasUrlPath, IsHosted, IsRawPath, IsWebName}
 
 -- a literal that stays as it is
 abbrev pub IsNormalLiteral : List ℕ → Type 0
@@ -29,6 +29,17 @@ StripsBrackets host r = MatchOption r
 abbrev pub IsClosedHost : List ℕ → Type 0
 IsClosedHost host = IsBracketedLiteral host ⊎ (IsWebName host × (has_percent host ≡ false))
 
+-- a path of a settled URL, which is raw where no spelling matches it
+abbrev pub HasRawPath : Location → Type 0
+HasRawPath v = HasUrlPath v × IsRawPath v
+
+-- what the settled URLs have in common beside their paths
+pub record IsSettledBesidePath (v : Location) : Type 0 where
+  pub unflagged : v.flag ≡ false
+  pub credentials : HasCredentials v
+  pub hosted : IsHosted v
+  pub fits : HasFittingText v
+
 -- the scheme is free of `:`, and the text is the canonical one, where the location has the parts of a URL
 pub record IsWrittenAsUrl (v : Location) : Type 0 where
   pub no_colon : FreeOf colon (protocol_text v.scheme)
@@ -38,3 +49,8 @@ pub record IsWrittenAsUrl (v : Location) : Type 0 where
 abbrev pub IsPiecesShort : List ℕ → List ℕ → Type 0
 IsPiecesShort scheme whole = (length scheme ≤ 1024)
     × (is_walk_short (text_walk_past (text_walk_for scheme) whole).walk ≡ true)
+
+-- the length of a part, where there is one
+abbrev pub optional_length : Option (List ℕ) → ℕ
+optional_length None = 0
+optional_length (Some t) = length t

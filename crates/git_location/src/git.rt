@@ -36,10 +36,11 @@ impl UrlRef<'_> {
     pub fn agrees_with_git(&self) -> bool
         ensures { IsTrue result ↔ AgreesWithGit self.now }
     {
-        self.is_settled()
+        // The scheme comes first: for some of them it is the whole answer.
+        suits_transport(self)
             && self.password.is_none()
             && has_no_option(self)
-            && suits_transport(self)
+            && self.is_settled()
             && has_plain_text(self)
     }
 }

@@ -109,7 +109,7 @@ pub(crate) fn simple_host(piece: &[u8]) -> Option<NamedHost<'_>>
 }
 
 /// Whether the text is a simple host.
-pub(crate) fn is_simple_host(text: &[u8]) -> bool
+pub fn is_simple_host(text: &[u8]) -> bool
     ensures { IsTrue result → IsSimpleHost text.now }
 {
     !text.is_empty() && are_simple_bytes(text)

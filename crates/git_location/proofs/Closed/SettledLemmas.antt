@@ -1,26 +1,30 @@
 -- The settled class by its tests: what the small tests tell, joined.
-use Rattle.std.proofs.Common.{⊎_elim, ◌≡◌, ◌↔◌, ℕ, Bool, true, false, not, ◌⊎◌, inl, inr, List, [], ◌∷◌, ◌++◌, refl, sym, ap, subst, ◌∙◌, append_assoc, Option, Some, None, Ok, IsTrue}
+use Rattle.std.proofs.Common.{⊎_elim, ◌≡◌, ◌↔◌, ℕ, Bool, true, false, not, ◌≤◌, ◌⊎◌, inl, inr, List, [], ◌∷◌, ◌++◌, refl, sym, ap, subst, ◌∙◌, append_assoc, arith, codes, length, length-append, Option, Some, None, Ok, IsTrue}
 use Rattle.std.specs.List.{list_all}
 use Rattle.std.specs.Option.{is_some}
 use Rattle.std.proofs.lemmas.List.{append_cancel_right, same_from_push}
 use Rattle.std.proofs.lemmas.List.Folds.{list_all-append}
 use Rattle.std.proofs.lemmas.Bool.{both_ways, false≢true, true≢false, not-false, and_parts}
 use Rattle.git_syntax.specs.Value.{Location}
-use Rattle.git_syntax.specs.Bytes.{colon, left_bracket, right_bracket, percent_sign, FreeOf, lowercase}
-use Rattle.git_syntax.specs.Escapes.{has_percent}
+use Rattle.git_syntax.specs.Bytes.{slash, colon, left_bracket, right_bracket, percent_sign, FreeOf, lowercase}
+use Rattle.git_syntax.specs.Escapes.{has_percent, is_plain}
 use Rattle.git_syntax.specs.Addresses.{Literal, IsIpv6Text}
 use Rattle.git_syntax.specs.Addresses.Literal.{address, zoned}
 use Rattle.git_syntax.specs.Hosts.{is_http_host_byte}
-use Rattle.git_syntax.specs.HostPieces.{IsEscapedZone}
-use Rattle.git_location.specs.Settled.{HasFittingText, IsNormalAddress, IsWebName, IsWebHost}
+use Rattle.git_syntax.specs.HostPieces.{IsEscapedZone, IsSimpleHost, is_simple_byte}
+use Rattle.git_location.specs.Settled.{HasFittingText, HasUrlPath, IsNormalAddress, IsNormalName, IsScpName, IsSettledRaw, IsSettledUrl, IsWebName, IsWebHost}
 use Rattle.git_location.specs.Settled.IsWebHost.{literal, literal_colon, named, named_colon}
-use Rattle.git_location.specs.SettledParts.{IsNormalLiteral, IsBracketedLiteral, IsClosedHost, IsPiecesShort}
+use Rattle.git_location.specs.SettledParts.{IsNormalLiteral, IsBracketedLiteral, IsClosedHost, HasRawPath, IsSettledBesidePath, IsPiecesShort}
 use Rattle.git_syntax.specs.Schemes.{protocol_text}
 use Rattle.git_location.specs.Text.{text, canonical_text, user_information, host_part, port_part, canonical_path}
 use Rattle.git_syntax.specs.Authority.{FitsText}
-use Rattle.git_syntax.proofs.Readings.LengthLemmas.{fits_text}
+use Rattle.git_syntax.proofs.Readings.LengthLemmas.{fits_text, short_walk}
 use Rattle.git_syntax.proofs.Addresses.AddressLemmas.{address_free}
-use Rattle.git_syntax.proofs.Texts.CutLemmas.{cut_unique, different_bytes, not_free, tails}
+use Rattle.git_syntax.proofs.Readings.HostLemmas.{simple_http, simple_normal}
+use Rattle.git_syntax.proofs.Readings.ScpLemmas.{simple_scp_host}
+use Rattle.git_syntax.proofs.Texts.CutLemmas.{cut_unique, different_bytes, free_of_all, not_free, tails}
+use Rattle.git_syntax.proofs.Texts.EscapeLemmas.{sound_free}
+use Rattle.git_syntax.proofs.Texts.PlainLemmas.{plain_free, plain_utf8, plain_white_space}
 use Rattle.git_location.proofs.Written.WrittenAsUrlLemmas.{one_text}
 
 -- ---- tests in a row
@@ -145,6 +149,37 @@ bare_host_to port host ends (named_colon n name plain none e) = absurd (ends n e
 pub web_host_bare : (port : Option ℕ) (host : List ℕ) → ((front : List ℕ) → ¬ (host ≡ front ++ colon ∷ [])) → (IsBracketedLiteral host ⊎ IsWebName host) ↔ IsWebHost port host
 web_host_bare port host ends = (λ either. bare_host_from port host either, λ settled. bare_host_to port host ends settled)
 
+-- ---- simple hosts
+
+-- a simple host is a settled host of HTTP
+pub simple_web_host : (port : Option ℕ) (host : List ℕ) → IsSimpleHost host → IsWebHost port host
+simple_web_host port host h =
+    named (record { nonempty = h.nonempty; bytes = simple_http host h.bytes; sound = sound_free host (free_of_all is_simple_byte percent_sign host h.bytes refl); normal = simple_normal host h.bytes })
+
+-- and a settled name
+pub simple_normal_name : (host : List ℕ) → IsSimpleHost host → IsNormalName host
+simple_normal_name host h = record {
+  unbracketed = record {
+    nonempty = h.nonempty;
+    no_colon = free_of_all is_simple_byte colon host h.bytes refl;
+    no_left_bracket = free_of_all is_simple_byte left_bracket host h.bytes refl;
+    no_right_bracket = free_of_all is_simple_byte right_bracket host h.bytes refl;
+  };
+  normal = simple_normal host h.bytes;
+}
+
+-- and one in the scp form
+pub simple_scp_name : (host : List ℕ) → IsSimpleHost host → IsScpName host
+simple_scp_name host h =
+    let scp = simple_scp_host host h in
+    record {
+      normal = simple_normal_name host h;
+      no_at = scp.no_at;
+      no_slash = free_of_all is_simple_byte slash host h.bytes refl;
+      no_backslash = scp.no_backslash;
+      no_white_space = scp.no_white_space;
+    }
+
 -- ---- hosts that are there
 
 -- there is a host that passes where the one that is there does
@@ -152,6 +187,29 @@ pub host_tested : (P : List ℕ → Type 0) (host : Option (List ℕ)) (h : List
 host_tested P host h b is test = (
   λ yes. (h, is, test.0 yes),
   λ (x, e, passes). let same : Some x ≡ Some h = sym e ∙ is in let equal : x ≡ h = cc in test.1 (subst P equal passes),
+)
+
+-- ---- paths, and what there is beside them
+
+-- a plain path without a spelling is one of a settled URL, and raw
+pub plain_raw_path : (v : Location) → v.spelling ≡ None → is_plain v.path ≡ true → HasRawPath v
+plain_raw_path v none plain = (
+  record { path_text = plain_utf8 v.path plain; spelling = λ s some decodes. let wrong : None ≡ Some s = sym none ∙ some in cc },
+  λ unmatched. (plain_free v.path plain, plain_white_space v.path plain),
+)
+
+-- a settled URL has a path and what there is beside it
+pub url_by_parts : (v : Location) → (HasUrlPath v × IsSettledBesidePath v) ↔ IsSettledUrl v
+url_by_parts v = (
+  λ parts. record { unflagged = parts.1.unflagged; credentials = parts.1.credentials; hosted = parts.1.hosted; path = parts.0; fits = parts.1.fits },
+  λ url. (url.path, record { unflagged = url.unflagged; credentials = url.credentials; hosted = url.hosted; fits = url.fits }),
+)
+
+-- so does one with a raw path
+pub raw_by_parts : (v : Location) → (HasRawPath v × IsSettledBesidePath v) ↔ IsSettledRaw v
+raw_by_parts v = (
+  λ parts. record { common = (url_by_parts v).0 (parts.0.0, parts.1); raw = parts.0.1 },
+  λ url. let parts = (url_by_parts v).1 url.common in ((parts.0, url.raw), parts.1),
 )
 
 -- ---- the texts of settled URLs
@@ -167,7 +225,14 @@ fitting_text v t free canonical is =
       λ (x, e, fits). test.1 (subst FitsText (one_text e (sym is)) fits),
     )
 
--- so a test of its scheme and of what it is made of tells it
+-- so it is where it has no more bytes than the limit
+pub short_text : (v : Location) → FreeOf colon (protocol_text v.scheme) → text v ≡ Ok (canonical_text v) → length (canonical_text v) ≤ 1024 → HasFittingText v
+short_text v free canonical short =
+    let rest = codes "://" ++ (user_information v.user v.password ++ (host_part v v.host ++ (port_part v.port ++ canonical_path v))) in
+    let whole = length-append (protocol_text v.scheme) rest in
+    (fitting_text v (canonical_text v) free canonical (sym canonical)).0 (omega (arith, whole, short), short_walk (protocol_text v.scheme) (canonical_text v) (omega (arith, short)))
+
+-- and a test of its scheme and of what it is made of tells it
 pub text_tested : (v : Location) (s t : List ℕ) (b : Bool) → s ≡ protocol_text v.scheme → FreeOf colon (protocol_text v.scheme) → text v ≡ Ok (canonical_text v) → Ok t ≡ text v
     → (IsTrue b ↔ IsPiecesShort s t) → IsTrue b ↔ HasFittingText v
 text_tested v s t b same_scheme free canonical is test =

@@ -1,6 +1,6 @@
 //! The settled hosts of URLs.
 //!
-//! It uses `parts`, and bytes, escapes and the bytes of hosts of `git_syntax`. Its contract: the answer is yes exactly for
+//! It uses `parts`, and bytes, escapes and the hosts of `git_syntax`. Its contract: the answer is yes exactly for
 //! the hosts that the definitions settle. It takes no memory.
 
 ghost use Rattle.std.specs.Prelude.{◌≡◌, ◌↔◌, IsTrue, Option};
@@ -11,9 +11,17 @@ use crate::settled::parts::{is_normal, is_normal_address, is_normal_name};
 use git_syntax::bytes::{after, before, cut};
 use git_syntax::escape::{has_percent, is_sound};
 use git_syntax::host::bytes::{are_http_host_bytes, is_escaped_zone};
+use git_syntax::host::is_simple_host;
 
-/// Whether the text is a settled host of HTTP, beside this port.
+/// Whether the text is a settled host of HTTP, beside this port. Most are simple hosts, which one look finds.
 pub(crate) fn is_web_host(host: &[u8], port: Option<u16>) -> bool
+    ensures { IsTrue result ↔ IsWebHost port host.now }
+{
+    is_simple_host(host) || is_any_web_host(host, port)
+}
+
+/// The same by a look at each of its parts.
+fn is_any_web_host(host: &[u8], port: Option<u16>) -> bool
     ensures { IsTrue result ↔ IsWebHost port host.now }
 {
     match before(host, b':') {

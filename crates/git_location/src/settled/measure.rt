@@ -1,27 +1,28 @@
 //! The length test of a text that stands nowhere as a whole: a walk past its pieces.
 //!
-//! It uses the walk of `length` and the pieces of the writer. Its contract: the answer is yes exactly where the text
-//! of the location is short enough. It takes no memory.
+//! It uses the walk of `length`, the pieces of the writer and `value`. Its contract: the answer is yes exactly where
+//! the text of the location is short enough. The lengths of the parts decide for nearly all. It takes no memory.
 
-ghost use Rattle.std.specs.Prelude.{◌≡◌, ◌↔◌, IsTrue, Ok};
+ghost use Rattle.std.specs.Prelude.{◌≡◌, ◌≤◌, ◌^◌, ◌↔◌, IsTrue, Ok, length, option_map};
 ghost use Rattle.git_syntax.specs.Bytes.{FreeOf, colon};
 ghost use Rattle.git_location.specs.Pieces.{AreOwn, pieces_text};
 ghost use Rattle.git_syntax.specs.Schemes.{protocol_text};
 ghost use Rattle.git_location.specs.Settled.{HasFittingText};
 ghost use Rattle.git_location.specs.Text.{canonical_text, text};
 ghost use Rattle.git_syntax.specs.Walks.{is_walk_short, text_walk_for, text_walk_past};
-ghost use Rattle.git_location.specs.SettledParts.{IsPiecesShort};
+ghost use Rattle.git_location.specs.SettledParts.{IsPiecesShort, optional_length};
 ghost use Rattle.git_location.specs.Sinks.{WalksPast, walks_joined, walks_nothing};
 
 use crate::url_ref::UrlRef;
+use crate::value::law_lent_value;
 use crate::writer::piece::Pieces;
 use crate::writer::sink::Sink;
 use git_syntax::length::{LIMIT, TextWalk};
 use itoa::Buffer;
 use std::convert::Infallible;
 
-/// Whether the text of the location, which is that of a URL, is short enough. It is laid out, unless its pieces are at
-/// hand.
+/// Whether the text of the location, which is that of a URL, is short enough. It is laid out where neither its pieces
+/// are at hand nor its parts are short.
 pub(crate) fn has_fitting_text(url: &UrlRef<'_>, laid: Option<&Pieces<'_>>) -> bool
     requires no_colon { FreeOf colon (protocol_text url.now.scheme) }
     requires canonical { text url.now ≡ Ok (canonical_text url.now) }
@@ -30,11 +31,58 @@ pub(crate) fn has_fitting_text(url: &UrlRef<'_>, laid: Option<&Pieces<'_>>) -> b
 {
     match laid {
         Some(pieces) => are_short(url.scheme.as_str().as_bytes(), pieces),
-        None => is_own_short(url),
+        None => has_short_parts(url) || is_own_short(url),
     }
 }
 
-/// Whether the text of the location, which is laid out now, is short enough.
+/// Whether the parts of the location are so short that its text is, whatever of them is written as escapes.
+fn has_short_parts(url: &UrlRef<'_>) -> bool
+    requires no_colon { FreeOf colon (protocol_text url.now.scheme) }
+    requires canonical { text url.now ≡ Ok (canonical_text url.now) }
+    ensures { IsTrue result → HasFittingText url.now }
+{
+    longest_len(url) <= u128::from(LIMIT)
+}
+
+/// A length that the location's text as a URL is not longer than: an escape has three bytes, and the marks and the port
+/// have at most 14.
+fn longest_len(url: &UrlRef<'_>) -> u128
+    ensures { length (canonical_text url.now) ≤ result }
+{
+    law_lent_value(url);
+    let kept = url.scheme.as_str().len() as u128 + spelling_len(url.spelling);
+    let escaped = part_len(url.user)
+        + part_len(url.password)
+        + part_len(url.host)
+        + url.path.len() as u128;
+    kept + 3 * escaped + 14
+}
+
+/// The length of the part, where there is one.
+fn part_len(part: Option<&str>) -> u128
+    ensures exact { result ≡ optional_length (option_map (λ t. t.now) part.entry) }
+    ensures bound { result ≤ 2 ^ 64 }
+{
+    match part {
+        None => 0,
+        Some(text) => text.len() as u128,
+    }
+}
+
+/// The length of the spelling, where there is one.
+fn spelling_len(spelling: Option<&[u8]>) -> u128
+    ensures exact { result ≡ optional_length (option_map (λ t. t.now) spelling.entry) }
+    ensures bound { result ≤ 2 ^ 64 }
+{
+    match spelling {
+        None => 0,
+        Some(bytes) => bytes.len() as u128,
+    }
+}
+
+/// Whether the text of the location, which is laid out now, is short enough. Few come here, and the code that all go
+/// through doesn't grow by it.
+#[inline(never)]
 fn is_own_short(url: &UrlRef<'_>) -> bool
     requires no_colon { FreeOf colon (protocol_text url.now.scheme) }
     requires canonical { text url.now ≡ Ok (canonical_text url.now) }

@@ -1,6 +1,6 @@
 //! Tests of one part of a location.
 //!
-//! It uses bytes, escapes, addresses and the bytes of hosts of `git_syntax`. Its contract: each test decides the definition
+//! It uses bytes, escapes, addresses and the hosts of `git_syntax`. Its contract: each test decides the definition
 //! that it is named for. It takes no memory.
 
 ghost use Rattle.std.specs.Prelude.{◌≡◌, ◌↔◌, IsTrue, codes};
@@ -12,6 +12,7 @@ use crate::url_ref::UrlRef;
 use git_syntax::bytes::{cut_at_mark, is_free_of, is_lowercase};
 use git_syntax::escape::decodes_to;
 use git_syntax::host::bytes::looks_like_domain;
+use git_syntax::host::is_simple_host;
 use git_syntax::ipv6::is_address;
 
 /// Whether the location has neither user nor password nor port.
@@ -48,11 +49,11 @@ pub(crate) fn begins_with_slashes(text: &[u8]) -> bool
     }
 }
 
-/// Whether `://` stands nowhere in the text.
+/// Whether `://` stands nowhere in the text. Few texts hold a colon.
 pub(crate) fn lacks_mark(text: &[u8]) -> bool
     ensures { IsTrue result ↔ ¬ Holds (codes "://") text.now }
 {
-    cut_at_mark(text).is_none()
+    is_free_of(text, b':') || cut_at_mark(text).is_none()
 }
 
 /// Whether the host is its own normal form.
@@ -69,11 +70,11 @@ fn is_open_name(host: &[u8]) -> bool
     !host.is_empty() && is_free_of(host, b':') && is_free_of(host, b'[') && is_free_of(host, b']')
 }
 
-/// Whether the text is a settled name of a host.
+/// Whether the text is a settled name of a host. Most are simple hosts, which one look finds.
 pub(crate) fn is_normal_name(host: &[u8]) -> bool
     ensures { IsTrue result ↔ IsNormalName host.now }
 {
-    is_open_name(host) && is_normal(host)
+    is_simple_host(host) || (is_open_name(host) && is_normal(host))
 }
 
 /// Whether the text is an IPv6 text in lower case.

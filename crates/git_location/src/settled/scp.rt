@@ -1,6 +1,6 @@
 //! The settled locations in the scp form.
 //!
-//! It uses `parts`, `bytes`, `escape`, `home` and `text`. Its contract: the answer is yes exactly for those that the
+//! It uses `parts`, `bytes`, `escape`, `home`, `host` and `text`. Its contract: the answer is yes exactly for those that the
 //! definitions settle. It takes no memory.
 
 ghost use Rattle.std.specs.Prelude.{◌↔◌, IsTrue, IfSome};
@@ -11,6 +11,7 @@ use crate::url_ref::UrlRef;
 use git_syntax::bytes::{is_free_of, is_helper_name, starts_with_byte};
 use git_syntax::escape::lacks_white_space;
 use git_syntax::home::begins_at_home;
+use git_syntax::host::is_simple_host;
 use git_syntax::text::is_text;
 
 /// Whether the location is settled in the scp form.
@@ -70,8 +71,15 @@ fn is_scp_host(host: &str) -> bool
     is_scp_name(host) || is_normal_address(host.as_bytes())
 }
 
-/// Whether the text is a settled name of a host in the scp form.
+/// Whether the text is a settled name of a host in the scp form. Most are simple hosts, which one look finds.
 fn is_scp_name(host: &str) -> bool
+    ensures { IsTrue result ↔ IsScpName host.now }
+{
+    is_simple_host(host.as_bytes()) || is_any_scp_name(host)
+}
+
+/// The same by a look for each byte that such a name lacks.
+fn is_any_scp_name(host: &str) -> bool
     ensures { IsTrue result ↔ IsScpName host.now }
 {
     let bytes = host.as_bytes();

@@ -8,7 +8,7 @@ ghost use Rattle.git_syntax.specs.Value.Protocol.{git, helper_url, ssh};
 ghost use Rattle.git_syntax.specs.Bytes.{begins_by, is_path_start};
 ghost use Rattle.git_location.specs.Pieces.{AreOwn};
 ghost use Rattle.git_location.specs.Settled.{HasBareHost, HasBracketedHost, HasCredentials, HasFairSpelling, HasUrlPath, HasWebHost, IsBracketedHost, IsFairSpelling, IsHomeless, IsHosted, IsRaw, IsRawPath, IsRootedOrEmpty, IsSettledGit, IsSettledHelperUrl, IsSettledRaw, IsSettledSecure, IsSettledUrl, IsSettledWeb, IsTransportPath, IsWeb, first_byte};
-ghost use Rattle.git_location.specs.SettledParts.{IsWrittenAsUrl};
+ghost use Rattle.git_location.specs.SettledParts.{HasRawPath, IsSettledBesidePath, IsWrittenAsUrl};
 
 use crate::settled::host::{is_bare_host, is_bracketed_host, is_web_host};
 use crate::settled::measure::has_fitting_text;
@@ -19,7 +19,7 @@ use git_syntax::bytes::{is_scheme_text, starts_with_byte};
 use git_syntax::escape::{decodes_to, has_percent, is_sound, lacks_white_space};
 use git_syntax::home::begins_at_home;
 use git_syntax::scheme::{is_ftp, is_known_scheme};
-use git_syntax::text::is_text;
+use git_syntax::text::{is_plain, is_text};
 
 /// Whether the location is a settled one of HTTP.
 pub(crate) fn is_settled_web(url: &UrlRef<'_>, laid: Option<&Pieces<'_>>) -> bool
@@ -146,7 +146,24 @@ fn is_settled_raw(url: &UrlRef<'_>, laid: Option<&Pieces<'_>>) -> bool
     requires laid { AreOwn laid url.now }
     ensures { IsTrue result ↔ IsSettledRaw url.now }
 {
-    is_settled_url(url, laid) && is_raw_path(url)
+    has_raw_path(url) && is_settled_beside_path(url, laid)
+}
+
+/// Whether the path is one of a settled URL, and raw where no spelling matches it.
+fn has_raw_path(url: &UrlRef<'_>) -> bool
+    ensures { IsTrue result ↔ HasRawPath url.now }
+{
+    is_plain_path(url) || (has_url_path(url) && is_raw_path(url))
+}
+
+/// Whether the path is plain and has no spelling, as most have none. One look at it is enough then.
+fn is_plain_path(url: &UrlRef<'_>) -> bool
+    ensures { IsTrue result → HasRawPath url.now }
+{
+    match url.spelling {
+        None => is_plain(url.path),
+        Some(_) => false,
+    }
 }
 
 /// Whether the path is written raw where no spelling matches it.
@@ -174,10 +191,18 @@ fn is_settled_url(url: &UrlRef<'_>, laid: Option<&Pieces<'_>>) -> bool
     requires laid { AreOwn laid url.now }
     ensures { IsTrue result ↔ IsSettledUrl url.now }
 {
+    has_url_path(url) && is_settled_beside_path(url, laid)
+}
+
+/// Whether the location has what the settled URLs have in common beside their paths.
+fn is_settled_beside_path(url: &UrlRef<'_>, laid: Option<&Pieces<'_>>) -> bool
+    requires form { IsWrittenAsUrl url.now }
+    requires laid { AreOwn laid url.now }
+    ensures { IsTrue result ↔ IsSettledBesidePath url.now }
+{
     !url.serialize_alternative_form
         && has_credentials(url)
         && is_hosted(url)
-        && has_url_path(url)
         && has_fitting_text(url, laid)
 }
 

@@ -693,13 +693,13 @@ simple_lowercase (b ∷ bs) h =
     let (byte, more) = and_parts (is_simple_byte b) (list_all is_simple_byte bs) h in
     ap (λ c. c ∷ lowercase bs) (simple_byte_lowercase b byte) ∙ ap (λ t. b ∷ t) (simple_lowercase bs more)
 
-simple_http : (t : List ℕ) → list_all is_simple_byte t ≡ true → list_all is_http_host_byte t ≡ true
+pub simple_http : (t : List ℕ) → list_all is_simple_byte t ≡ true → list_all is_http_host_byte t ≡ true
 simple_http [] h = refl
 simple_http (b ∷ bs) h =
     let (byte, more) = and_parts (is_simple_byte b) (list_all is_simple_byte bs) h in rw (simple_byte_http b byte) (simple_http bs more)
 
 -- a simple host is its own normal form
-simple_normal : (t : List ℕ) → list_all is_simple_byte t ≡ true → normal_host t ≡ t
+pub simple_normal : (t : List ℕ) → list_all is_simple_byte t ≡ true → normal_host t ≡ t
 simple_normal t h = cond_both (list_all is_dns_byte t) (lowercase t) t (λ n. n ≡ t) (λ _. simple_lowercase t h) (λ _. refl)
 
 -- it decodes to itself
