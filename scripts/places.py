@@ -4,6 +4,8 @@
 What it is for: the members `at`, `len` and `reason` that `explain` reports are computed here, and not by the program.
 Each flaw of a text is listed with the error that names it and with its place. Of the flaws with the error that the text
 is refused for (`oracle.refusal`) the first in the text counts, and of those at one place the first in the order of checks.
+The library's own errors name all of a part that is wrong, and of several flaws the one that the first check finds:
+`library_place` has that place, for the rows of `vectors/`.
 
     places.py lines     standard input as lines of bytes: for each that is refused, `at`, `len` and the reason
     places.py refused   the same, with the error, its form and the hexadecimal digits of the line in front
@@ -265,6 +267,74 @@ def place(b):
     if named is None:
         return None
     return min((it for error, it in faults(b) if error == named), key=lambda it: (it.at, ORDER.index(it.reason)))
+
+
+# ---------------------------------------------------------------------------------------------------------------
+# The places of the library's errors: bad characters in the order of the checks
+
+def all_of(part, at, found):
+    """The flaws of a part, each with all of the part as its place."""
+    return [Place(at, len(part), it.reason) for it in found]
+
+
+def all_undecodable(part, at):
+    return all_of(part, at, undecodable(part, at))
+
+
+def library_host(mode, piece, at):
+    """What is wrong with the characters of the piece that names host and port."""
+    wrong, _ = host_faults(mode, piece, at)
+    if not piece.startswith(b"["):
+        return all_of(piece if oracle.has_odd_colons(piece) else piece.partition(b":")[0], at, wrong)
+    x, _, behind = piece[1:].partition(b"]")
+    reasons = {it.reason for it in wrong}
+    if "BehindBracket" in reasons:
+        return [Place(at + len(x) + 2, len(behind), "BehindBracket")]
+    return wrong if "UnclosedBracket" in reasons else all_of(x, at + 1, wrong)
+
+
+def library_authority(s, a, at):
+    """What is wrong with the characters of an authority."""
+    information, sign, piece = a.rpartition(b"@")
+    user, colon, password = information.partition(b":")
+    begins = at + len(information + sign)
+    missing = [Place(begins, 0, "HostBehindUser")] if sign and piece == b"" else []
+    return [
+        *marks(a, b"\\", at, "Backslash"), *all_undecodable(password, at + len(user + colon)), *all_undecodable(user, at),
+        *library_host(oracle.mode_of(s), piece, begins), *missing]
+
+
+def library_url(b, s, rest):
+    """What is wrong with the characters of a URL with a scheme."""
+    (a, p), = oracle.path_cuts(s, rest)
+    begins = len(s) + 3
+    return [
+        *white_space(b, 0, "WhiteSpace"), *escape_faults(b), *all_undecodable(p, begins + len(a)),
+        *library_authority(s, a, begins)]
+
+
+def too_long(b, s):
+    """The scheme, or what is shown behind `://`."""
+    if len(s) > 1024:
+        return Place(0, len(s), "SchemeTooLong")
+    return Place(len(s) + 3, len(oracle.shown(b)) - len(s) - 3, "AuthorityTooLong")
+
+
+def library_place(b):
+    """The place that the library's error names; None where the text is read. `MissingPath` and `NotUtf8` have no `len`."""
+    named = oracle.refusal(b)
+    if named is None:
+        return None
+    s, _, rest = b.partition(b"://")
+    if named == oracle.refused("TooLong"):
+        return too_long(b, s)
+    if named == bad("Url", "NoScheme"):
+        return all_of(s, 0, scheme_faults(s))[0]
+    if named == bad("Url", "BadCharacter"):
+        return library_url(b, s, rest)[0]
+    # Of each other error a text has one flaw, but for bad characters of the scp form, which are listed in the order of the
+    # checks and have no part that is decoded.
+    return next(it for error, it in faults(b) if error == named)
 
 
 # ---------------------------------------------------------------------------------------------------------------

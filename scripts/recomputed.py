@@ -1,4 +1,5 @@
-"""What the second reading of `scripts/oracle.py` gives for rows of the tables in `vectors/`.
+"""What the second reading of `scripts/oracle.py`, and of `scripts/places.py` for places, gives for rows of the tables in
+`vectors/`.
 
 A row whose expectation is from `oracle` is worked out again here, so that no such expectation stands by its word alone.
 The table of calls names those that the second reading knows, each with the function that gives the outcome of a row.
@@ -6,7 +7,9 @@ The table of calls names those that the second reading knows, each with the func
 import json
 
 import oracle
+import places
 from row_text import bytes_of, text_of
+
 
 def scheme(told):
     """The scheme that a row tells, as in `Http` or `Helper a`."""
@@ -43,13 +46,22 @@ def told_parts(of, spelling):
     return {name: text_of(it) if isinstance(it, bytes) else it for name, it in parts.items() if it is not None}
 
 
+def place_of(given):
+    """The place of the fault in bytes that are refused: `at`, and `len` where the error has it."""
+    name, place = oracle.refusal(given)[0], places.library_place(given)
+    if name == "EmptyLocal":
+        return {}
+    return {"at": place.at} if name in ("MissingPath", "NotUtf8") else {"at": place.at, "len": place.len}
+
+
 def refused(given):
-    """The error that bytes are refused with, and what it keeps of them."""
+    """The error that bytes are refused with, what it keeps of them, and where they are wrong."""
     name, kind, fault = oracle.refusal(given)
+    place = place_of(given)
     if name == "TooLong":
-        return {"error": name, "kept": text_of(oracle.shown(given)), "total": len(given)}
+        return {"error": name, "kept": text_of(oracle.shown(given)), "total": len(given), **place}
     error = {"error": " ".join(it for it in (name, fault, kind) if it)}
-    return error if kind is None else {**error, "kept": text_of(given)}
+    return error if kind is None else {**error, "kept": text_of(given), **place}
 
 
 def read(given):
@@ -63,7 +75,7 @@ def read_in(row):
     found = oracle.spells(given)
     if found is None:
         error = refused(given)
-        return error if error["error"] == "TooLong" else {"error": error["error"]}
+        return {name: it for name, it in error.items() if name != "kept" or error["error"] == "TooLong"}
     return {"error": "NoRoom"} if row.get("room", len(given)) < len(given) else record(found)
 
 

@@ -14,6 +14,7 @@ impl Tell for Error {
     fn tell(&self, out: &mut Out) -> io::Result<()> {
         out.write_all(b"{\"error\":\"")?;
         tell_fields(out, self)?;
+        tell_error_place(out, self)?;
         out.write_all(b"}")
     }
 }
@@ -47,6 +48,28 @@ fn tell_fields(out: &mut Out, error: &Error) -> io::Result<()> {
     }
 }
 
+/// Prints the place of what is wrong with the text, which errors of reading have.
+fn tell_error_place(out: &mut Out, error: &Error) -> io::Result<()> {
+    match error {
+        Error::MissingPath { at, .. } | Error::NotUtf8 { at, .. } => tell_at(out, *at),
+        Error::TooLong { at, len, .. } | Error::BadUrl { at, len, .. } => {
+            tell_at(out, *at)?;
+            tell_len(out, *len)
+        }
+        _ => Ok(()),
+    }
+}
+
+/// Prints how many bytes are before what is wrong.
+fn tell_at(out: &mut Out, at: usize) -> io::Result<()> {
+    write!(out, ",\"at\":{at}")
+}
+
+/// Prints the length of what is wrong.
+fn tell_len(out: &mut Out, len: usize) -> io::Result<()> {
+    write!(out, ",\"len\":{len}")
+}
+
 /// Tells the bytes that an error keeps.
 fn tell_kept(out: &mut Out, bytes: &BString) -> io::Result<()> {
     tell_member(out, "kept", &Some(bytes.as_bstr()))
@@ -74,7 +97,10 @@ impl Tell for ParseError<'_> {
         out.write_all(b"{\"error\":\"")?;
         match self {
             ParseError::NoRoom => out.write_all(b"NoRoom\"")?,
-            ParseError::Refused(refusal) => tell_refusal(out, refusal)?,
+            ParseError::Refused(refusal) => {
+                tell_refusal(out, refusal)?;
+                tell_refusal_place(out, refusal)?;
+            }
         }
         out.write_all(b"}")
     }
@@ -91,6 +117,18 @@ fn tell_refusal(out: &mut Out, refusal: &Refusal<'_>) -> io::Result<()> {
             out.write_all(b"TooLong\"")?;
             tell_member(out, "kept", &Some(BStr::new(shown)))?;
             write!(out, ",\"total\":{total}")
+        }
+    }
+}
+
+/// Prints the place of what is wrong with the text that is refused.
+fn tell_refusal_place(out: &mut Out, refusal: &Refusal<'_>) -> io::Result<()> {
+    match refusal {
+        Refusal::EmptyLocal => Ok(()),
+        Refusal::MissingPath { at, .. } | Refusal::NotUtf8 { at, .. } => tell_at(out, *at),
+        Refusal::TooLong { at, len, .. } | Refusal::BadUrl { at, len, .. } => {
+            tell_at(out, *at)?;
+            tell_len(out, *len)
         }
     }
 }
@@ -178,28 +216,28 @@ fn error_of(alloc: Global, told: Order<'_>) -> Result<Error, Halt> {
         "MissingPath" => Ok(Error::MissingPath {
             kind: kind(rest)?,
             input: kept,
-            at: 0,
+            at: number(told, "at"),
         }),
         "NotUtf8" => Ok(Error::NotUtf8 {
             kind: kind(rest)?,
             input: kept,
-            at: 0,
+            at: number(told, "at"),
         }),
         "TooLong" => Ok(Error::TooLong {
             shown: kept,
             total: 2016,
-            at: 0,
-            len: 0,
+            at: number(told, "at"),
+            len: number(told, "len"),
         }),
         "HelperName" => Ok(Error::HelperName { name: kept }),
-        "BadUrl" => bad_url(rest, kept),
+        "BadUrl" => bad_url(told, rest, kept),
         "NoHome" => no_home(alloc, told),
         _ => bare_error(name, rest),
     }
 }
 
 /// The error of a form with a fault.
-fn bad_url(names: &str, input: BString) -> Result<Error, Halt> {
+fn bad_url(told: Order<'_>, names: &str, input: BString) -> Result<Error, Halt> {
     let Some((fault_name, kind_name)) = names.split_once(' ') else {
         return Err(Halt::Unprepared);
     };
@@ -207,9 +245,14 @@ fn bad_url(names: &str, input: BString) -> Result<Error, Halt> {
         kind: kind(kind_name)?,
         fault: fault(fault_name)?,
         input,
-        at: 0,
-        len: 0,
+        at: number(told, "at"),
+        len: number(told, "len"),
     })
+}
+
+/// The number in this member of an error's object, or 0 if there is none.
+fn number(told: Order<'_>, name: &str) -> usize {
+    usize::try_from(told.number(name).unwrap_or(0)).unwrap_or(0)
 }
 
 /// The error that no home is known for a user.
