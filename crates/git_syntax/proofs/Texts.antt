@@ -4,4 +4,5 @@ pub mod EscapeLemmas
 pub mod EscapeSets
 pub mod PlainLemmas
 pub mod AsciiLemmas
+pub mod LookLemmas
 pub mod PlaceLemmas

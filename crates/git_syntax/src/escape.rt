@@ -4,14 +4,15 @@
 //! `specs/Escapes.antt` or `specs/Bytes.antt` that it is named after, and asks for no memory. `decoded` and
 //! `decoded_text` ask once, and not at all where the text is empty. A text without `%` is copied as it is.
 
-ghost use Rattle.std.specs.Prelude.{◌≡◌, ℕ, List, ◌+◌, ◌≤◌, ◌↔◌, IsTrue, IfOk, IsUtf8, length, nat_le, take, true, drop, chars, string_bytes};
+ghost use Rattle.std.specs.Prelude.{◌≡◌, ℕ, List, ◌+◌, ◌≤◌, ◌↔◌, IsTrue, IfOk, IsUtf8, length, take, true, drop, chars, string_bytes};
 ghost use Rattle.std.specs.Char.{is_digit, is_whitespace};
 ghost use Rattle.std.specs.List.{list_any};
 ghost use Rattle.percent_encoding.specs.Percent as percent;
 ghost use Rattle.percent_encoding.specs.Iter.{decoded_bytes};
 ghost use Rattle.git_syntax.specs.Escapes as spec;
 ghost use Rattle.git_syntax.specs.Safeguards.{PasswordSet, PathSet, UserSet};
-ghost use Rattle.git_syntax.specs.Bytes.{LacksWhiteSpace, begins_by};
+ghost use Rattle.git_syntax.specs.Bytes.{LacksWhiteSpace};
+ghost use Rattle.git_syntax.specs.Looks.{begins_high};
 
 use crate::bytes::cut;
 use crate::text::{into_text, is_plain, is_printable};
@@ -134,8 +135,8 @@ fn decodes_to_ascii(text: &[u8]) -> bool
 }
 
 /// Whether the text begins with `8` or a byte behind it.
-fn begins_high(text: &[u8]) -> bool
-    ensures { result ≡ begins_by (λ b. nat_le 56 b) text.now }
+pub(crate) fn begins_high(text: &[u8]) -> bool
+    ensures { result ≡ begins_high text.now }
 {
     match text {
         [] => false,
@@ -144,7 +145,7 @@ fn begins_high(text: &[u8]) -> bool
 }
 
 /// Whether what is left of a decoding is UTF-8.
-fn decoding_is_utf8(mut rest: PercentDecode<'_>) -> bool
+pub(crate) fn decoding_is_utf8(mut rest: PercentDecode<'_>) -> bool
     ensures { IsTrue result ↔ IsUtf8 (decoded_bytes rest.entry) }
 {
     loop {

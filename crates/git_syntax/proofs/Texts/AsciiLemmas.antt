@@ -11,17 +11,21 @@ use Rattle.percent_encoding.specs.Percent.{percent_decode}
 use Rattle.git_syntax.specs.Bytes.{percent_sign, FreeOf, LacksWhiteSpace, begins_by}
 use Rattle.git_syntax.specs.Escapes.{begins_with_digits, is_printable, is_printable_byte, is_sound}
 use Rattle.git_syntax.proofs.Texts.CutLemmas.{free_head_tail, lacks_of_all}
-use Rattle.git_syntax.proofs.Texts.EscapeLemmas.{ascii_class, decode_broken, decode_byte, decode_escape, decode_kept, decodes_in_parts, digit_not_percent, sound_free, sound_kept, sound_step, white_space_ascii}
+use Rattle.git_syntax.proofs.Texts.EscapeLemmas.{ascii_class, decode_broken, decode_byte, decode_escape, decode_kept, decodes_in_parts, digit_not_percent, sound_free, sound_kept, sound_step, utf8_class, white_space_ascii}
 
 -- ---- printable texts
 
 -- a printable byte is ASCII
-printable_ascii : (b : ℕ) → is_printable_byte b ≡ true → b < 128
+pub printable_ascii : (b : ℕ) → is_printable_byte b ≡ true → b < 128
 printable_ascii b printable = grind (arith, nat_tests)
 
 -- and no white space
 printable_no_space : (b : ℕ) → is_printable_byte b ≡ true → is_whitespace b ≡ false
 printable_no_space b printable = grind (arith, nat_tests)
+
+-- a printable text is UTF-8
+pub printable_utf8 : (t : List ℕ) → is_printable t ≡ true → IsUtf8 t
+printable_utf8 t printable = utf8_class is_printable_byte printable_ascii t printable
 
 -- a printable text holds no white space
 pub printable_white_space : (t : List ℕ) → is_printable t ≡ true → LacksWhiteSpace t
@@ -47,7 +51,7 @@ sound_at_cut (b ∷ front) behind free =
 -- ---- escapes that stand for ASCII
 
 -- a byte of ASCII in front
-ascii_cons : (b : ℕ) (t : List ℕ) → b < 128 → IsAscii t → IsAscii (b ∷ t)
+pub ascii_cons : (b : ℕ) (t : List ℕ) → b < 128 → IsAscii t → IsAscii (b ∷ t)
 ascii_cons b t low h zero = low
 ascii_cons b t low h (suc i) = h i
 
@@ -56,7 +60,7 @@ low_escape : (high low : ℕ) → is_digit high 16 ≡ true → is_digit low 16 
 low_escape high low h l below = grind (arith, nat_tests)
 
 -- so does a `%` before such a digit, whether or not it begins an escape
-ascii_escape : (behind : List ℕ) → begins_by (λ b. nat_le 56 b) behind ≡ false → IsAscii (percent_decode behind) → IsAscii (percent_decode (percent_sign ∷ behind))
+pub ascii_escape : (behind : List ℕ) → begins_by (λ b. nat_le 56 b) behind ≡ false → IsAscii (percent_decode behind) → IsAscii (percent_decode (percent_sign ∷ behind))
 ascii_escape [] below h = subst IsAscii (sym (decode_broken percent_sign [] refl)) (ascii_cons percent_sign _ (omega arith) h)
 ascii_escape (high ∷ []) below h = subst IsAscii (sym (decode_broken percent_sign (high ∷ []) refl)) (ascii_cons percent_sign _ (omega arith) h)
 ascii_escape (high ∷ low ∷ rest) below h =
