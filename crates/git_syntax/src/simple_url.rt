@@ -23,7 +23,6 @@ use crate::look::Look;
 use crate::places::{broken_escape, first_byte, white_space};
 use crate::refusal::{Fault, UrlFault};
 use crate::rules::Rules;
-use percent_encoding::percent_decode;
 
 /// The parts of a URL, as slices of its text: nothing is decoded, nothing is copied.
 #[derive(Clone, Copy)]
@@ -163,7 +162,7 @@ fn means_text(look: Look, piece: &[u8]) -> bool
         return true;
     }
     if look.is_printable() {
-        return decoding_is_utf8(percent_decode(piece));
+        return decoding_is_utf8(piece);
     }
     decodes_to_utf8(piece)
 }

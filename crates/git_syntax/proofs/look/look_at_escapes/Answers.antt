@@ -1,5 +1,5 @@
 -- The first `%` decides, and what stands behind it.
-use Rattle.std.proofs.Common.{◌&&◌, ◌∙◌, ap, refl, sym}
+use Rattle.std.proofs.Common.{◌&&◌, ◌∙◌, ap, sym}
 use Rattle.git_syntax.specs.Escapes.{is_sound}
 use Rattle.git_syntax.proofs.Texts.AsciiLemmas.{sound_at_cut}
 use Rattle.git_syntax.proofs.Texts.EscapeLemmas.{sound_free}
