@@ -4,4 +4,6 @@ pub mod EscapeLemmas
 pub mod EscapeSets
 pub mod PlainLemmas
 pub mod AsciiLemmas
+pub mod DecodingLemmas
+pub mod LookLemmas
 pub mod PlaceLemmas

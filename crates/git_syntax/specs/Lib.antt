@@ -18,6 +18,8 @@ pub mod Views
 pub mod Cuts
 pub mod Walks
 pub mod HostPieces
+pub mod Decoding
+pub mod Looks
 pub mod UrlPieces
 pub mod SchemeRules
 pub mod FoundPieces

@@ -4,19 +4,20 @@
 //! `specs/Escapes.antt` or `specs/Bytes.antt` that it is named after, and asks for no memory. `decoded` and
 //! `decoded_text` ask once, and not at all where the text is empty. A text without `%` is copied as it is.
 
-ghost use Rattle.std.specs.Prelude.{◌≡◌, ℕ, List, ◌+◌, ◌≤◌, ◌↔◌, IsTrue, IfOk, IsUtf8, length, nat_le, take, true, drop, chars, string_bytes};
+ghost use Rattle.std.specs.Prelude.{◌≡◌, ◌∷◌, ◌<◌, ◌+◌, ◌≤◌, ◌↔◌, IsTrue, IfOk, IsUtf8, length, take, true, drop, chars, string_bytes};
 ghost use Rattle.std.specs.Char.{is_digit, is_whitespace};
 ghost use Rattle.std.specs.List.{list_any};
 ghost use Rattle.percent_encoding.specs.Percent as percent;
-ghost use Rattle.percent_encoding.specs.Iter.{decoded_bytes};
 ghost use Rattle.git_syntax.specs.Escapes as spec;
 ghost use Rattle.git_syntax.specs.Safeguards.{PasswordSet, PathSet, UserSet};
-ghost use Rattle.git_syntax.specs.Bytes.{LacksWhiteSpace, begins_by};
+ghost use Rattle.git_syntax.specs.Bytes.{LacksWhiteSpace, percent_sign};
+ghost use Rattle.git_syntax.specs.Decoding.{IsDigit, PassesCharacter, SplitsDecoded};
+ghost use Rattle.git_syntax.specs.Looks.{begins_high};
 
 use crate::bytes::cut;
 use crate::text::{into_text, is_plain, is_printable};
 use bstr::{ByteSlice, decode_utf8};
-use percent_encoding::{AsciiSet, CONTROLS, PercentDecode, ascii_set, percent_decode};
+use percent_encoding::{AsciiSet, CONTROLS, ascii_set, percent_decode};
 use std::alloc::{AllocError, Global};
 
 /// The bytes that the path of an HTTP location is not written with.
@@ -90,7 +91,7 @@ pub fn begins_with_digits(text: &[u8]) -> bool
 fn is_hexadecimal(byte: u8) -> bool
     ensures { result ≡ is_digit byte 16 }
 {
-    char::from(byte).is_digit(16)
+    digit(byte).is_some()
 }
 
 /// Whether `%` stands somewhere in the text.
@@ -107,35 +108,16 @@ pub(crate) fn decodes_to_utf8(text: &[u8]) -> bool
     if is_plain(text) {
         return true;
     }
-    if is_printable(text) && decodes_to_ascii(text) {
-        return true;
-    }
     if has_percent(text) {
-        decoding_is_utf8(percent_decode(text))
+        decoding_is_utf8(text)
     } else {
         text.is_utf8()
     }
 }
 
-/// Whether a printable text decodes to ASCII, as far as it is seen without decoding: no escape in it begins with a digit
-/// from 8 on.
-fn decodes_to_ascii(text: &[u8]) -> bool
-    requires { spec.is_printable text.now ≡ true }
-    ensures { IsTrue result → IsUtf8 (percent.percent_decode text.now) }
-{
-    let mut rest = text;
-    while let Some((_, behind)) = cut(rest, b'%') {
-        if begins_high(behind) {
-            return false;
-        }
-        rest = behind;
-    }
-    true
-}
-
 /// Whether the text begins with `8` or a byte behind it.
-fn begins_high(text: &[u8]) -> bool
-    ensures { result ≡ begins_by (λ b. nat_le 56 b) text.now }
+pub(crate) fn begins_high(text: &[u8]) -> bool
+    ensures { result ≡ begins_high text.now }
 {
     match text {
         [] => false,
@@ -143,49 +125,119 @@ fn begins_high(text: &[u8]) -> bool
     }
 }
 
-/// Whether what is left of a decoding is UTF-8.
-fn decoding_is_utf8(mut rest: PercentDecode<'_>) -> bool
-    ensures { IsTrue result ↔ IsUtf8 (decoded_bytes rest.entry) }
+/// Whether the decoding of the text is UTF-8, in which mostly ASCII stands.
+pub(crate) fn decoding_is_utf8(text: &[u8]) -> bool
+    ensures { IsTrue result ↔ IsUtf8 (percent.percent_decode text.now) }
 {
-    loop {
-        let (window, count) = front(rest);
-        if count == 0 {
-            return true;
+    let mut rest = text;
+    while let Some((first, behind)) = split_decoded(rest) {
+        if first < 128 {
+            rest = behind;
+        } else {
+            let Some(behind) = past_character(rest) else {
+                return false;
+            };
+            rest = behind;
         }
-        let (found, size) = decode_utf8(&window[..count]);
-        if found.is_none() {
-            return false;
-        }
-        rest = skip(rest, size);
     }
+    true
+}
+
+/// What is left of a text behind the first character of its decoding, if that begins with one.
+fn past_character(text: &[u8]) -> Option<&[u8]>
+    requires { 0 < length (percent.percent_decode text.now) }
+    ensures { PassesCharacter text.now result }
+{
+    let (window, count) = front(text);
+    let (found, size) = decode_utf8(&window[..count]);
+    if found.is_none() {
+        return None;
+    }
+    Some(skip(text, size))
 }
 
 /// The next four bytes of a decoding, or as many as there are, and their count.
-fn front(rest: PercentDecode<'_>) -> ([u8; 4], usize)
+fn front(text: &[u8]) -> ([u8; 4], usize)
     ensures small { result.1 ≤ 4 }
     ensures full { length (take result.1 result.0) ≡ result.1 }
-    ensures bytes { take result.1 result.0 ≡ take 4 (decoded_bytes rest.entry) }
+    ensures bytes { take result.1 result.0 ≡ take 4 (percent.percent_decode text.now) }
 {
     let mut window = [0; 4];
     let mut count = 0;
-    for byte in rest {
+    let mut rest = text;
+    while let Some((byte, behind)) = split_decoded(rest) {
         if count == 4 {
-            break;
+            return (window, count);
         }
         window[count] = byte;
         count += 1;
+        rest = behind;
     }
     (window, count)
 }
 
-/// What is left of a decoding behind its next `count` bytes.
-fn skip(mut rest: PercentDecode<'_>, count: usize) -> PercentDecode<'_>
-    ensures { decoded_bytes result ≡ drop count (decoded_bytes rest.entry) }
+/// What is left of a text behind the next `count` bytes of its decoding.
+fn skip(text: &[u8], count: usize) -> &[u8]
+    ensures { percent.percent_decode result.now ≡ drop count (percent.percent_decode text.now) }
 {
+    let mut rest = text;
     for _turn in 0..count {
-        let _ = rest.next();
+        rest = behind_first(rest);
     }
     rest
+}
+
+/// What is left of a text behind the first byte of its decoding.
+fn behind_first(text: &[u8]) -> &[u8]
+    ensures { percent.percent_decode result.now ≡ drop 1 (percent.percent_decode text.now) }
+{
+    match split_decoded(text) {
+        None => text,
+        Some((_, behind)) => behind,
+    }
+}
+
+/// The first byte of the decoding of a text, and what is left of the text behind it.
+#[inline(always)]
+fn split_decoded(text: &[u8]) -> Option<(u8, &[u8])>
+    ensures { SplitsDecoded text.now result }
+{
+    let (first, behind) = text.split_first()?;
+    if *first == b'%' {
+        return Some(split_escape(behind));
+    }
+    Some((*first, behind))
+}
+
+/// The first byte of the decoding of `%` and this text, and what is left of the text behind it.
+#[inline(always)]
+fn split_escape(behind: &[u8]) -> (u8, &[u8])
+    ensures { percent.percent_decode (percent_sign ∷ behind.now)
+        ≡ result.0 ∷ percent.percent_decode result.1.now }
+{
+    let [high, low, rest @ ..] = behind else {
+        return (b'%', behind);
+    };
+    let Some(high) = digit(*high) else {
+        return (b'%', behind);
+    };
+    let Some(low) = digit(*low) else {
+        return (b'%', behind);
+    };
+    (high * 16 + low, rest)
+}
+
+/// The value of a hexadecimal digit, of either case.
+#[inline(always)]
+fn digit(byte: u8) -> Option<u8>
+    ensures { IsDigit byte result }
+{
+    match byte {
+        b'0'..=b'9' => Some(byte - b'0'),
+        b'A'..=b'F' => Some(byte - b'A' + 10),
+        b'a'..=b'f' => Some(byte - b'a' + 10),
+        _ => None,
+    }
 }
 
 /// Whether the spelling decodes to the path.
@@ -226,11 +278,9 @@ pub fn decoded(alloc: Global, text: &[u8]) -> Result<Vec<u8>, AllocError>
     if !has_percent(text) {
         return Vec::from_slice(alloc, text);
     }
-    let mut bytes = Vec::with_capacity(alloc, text.len())?;
-    // The room is there, as a decoding is no longer than its text.
-    let appended = percent_decode(text).append_to(&mut bytes);
-    prove!(appended.is_ok());
-    let _ = appended;
+    let mut bytes = Vec::from_slice(alloc, text)?;
+    let size = decode_into(bytes.as_mut_slice(), text);
+    bytes.truncate(size);
     Ok(bytes)
 }
 
@@ -241,9 +291,11 @@ pub fn decode_into(room: &mut [u8], text: &[u8]) -> usize
     ensures bytes { take result room.new ≡ percent.percent_decode text.now }
 {
     let mut size = 0;
-    for byte in percent_decode(text) {
+    let mut rest = text;
+    while let Some((byte, behind)) = split_decoded(rest) {
         room[size] = byte;
         size += 1;
+        rest = behind;
     }
     size
 }

@@ -16,6 +16,7 @@ pub mod home;
 pub mod host;
 pub mod ipv6;
 pub mod length;
+mod look;
 pub mod peeled;
 pub mod places;
 pub mod refusal;

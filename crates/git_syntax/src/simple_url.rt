@@ -1,24 +1,25 @@
 //! The reader of URLs: scheme, user information, host, port and path, as slices of the text.
 //!
-//! It may use `bytes`, `escape`, `host` and `rules`. Its contract: the parts are read exactly where the definitions
+//! It may use `bytes`, `escape`, `host`, `look` and `rules`. Its contract: the parts are read exactly where the definitions
 //! spell a URL with them, and each refusal has its flaw. It takes no memory and copies nothing.
 
-ghost use Rattle.std.specs.Prelude.{◌≡◌, ◌↔◌, ◌⊎◌, IfErr, IfOk, IsTrue, IsUtf8, true};
+ghost use Rattle.std.specs.Prelude.{◌≡◌, ◌↔◌, ◌⊎◌, IfErr, IfOk, IsTrue, IsUtf8};
 ghost use Rattle.percent_encoding.specs.Percent.{percent_decode};
 ghost use Rattle.git_syntax.specs.Authority as authority;
 ghost use Rattle.git_syntax.specs.Authority.{Fits};
 ghost use Rattle.git_syntax.specs.Escapes as escape;
-ghost use Rattle.git_syntax.specs.Escapes.{is_plain};
 ghost use Rattle.git_syntax.specs.Flaws.{AuthorityFlaw, OtherShape, UrlFlaw};
 ghost use Rattle.git_syntax.specs.Grammar.{SpellsParts, UrlParts};
 ghost use Rattle.git_syntax.specs.HostPieces.{strictness};
+ghost use Rattle.git_syntax.specs.Looks.{Looks};
 ghost use Rattle.git_syntax.specs.SchemeRules.{AreRulesOf};
 ghost use Rattle.git_syntax.specs.Bytes.{FreeOf, LacksWhiteSpace, at_sign, backslash, colon};
 ghost use Rattle.git_syntax.specs.UrlPieces.{HoldsParts, IsNoAuthority, ReadsCredentials, decoded_option, parts_of};
 
 use crate::bytes::{cut, cut_before_path, is_free_of, is_scheme_text, last_cut};
-use crate::escape::{decodes_to_utf8, has_percent, is_sound, lacks_white_space};
+use crate::escape::{decodes_to_utf8, decoding_is_utf8, has_percent, is_sound, lacks_white_space};
 use crate::host::{Mode, NamedHost, read_host, simple_host};
+use crate::look::Look;
 use crate::places::{broken_escape, first_byte, white_space};
 use crate::refusal::{Fault, UrlFault};
 use crate::rules::Rules;
@@ -59,15 +60,15 @@ struct CredentialParts<'a> {
 }
 
 /// Reads the URL with this scheme, of which these are the rules, and this rest behind `://`. It is no file URL, and
-/// no remote helper. What is known to be plain isn't looked at again for white space.
+/// no remote helper. What is known of the text isn't looked for again.
 pub(crate) fn read_simple_url<'a>(
     text: &'a str,
-    plain: bool,
+    look: Look,
     rules: Rules,
     scheme: &'a [u8],
     rest: &'a [u8],
 ) -> Result<ParsedUrl<'a>, Fault>
-    requires plain { plain ≡ true → is_plain text.now ≡ true }
+    requires look { Looks look text.now }
     requires shape { OtherShape text.now scheme.now rest.now }
     requires rules { AreRulesOf scheme.now rules }
     requires fits { Fits scheme.now rest.now }
@@ -77,10 +78,10 @@ pub(crate) fn read_simple_url<'a>(
     ensures refused { IfErr result (λ fault. (parts : UrlParts) → ¬ SpellsParts text.now parts) }
     ensures flaw { IfErr result (λ fault. UrlFlaw text.now fault.at fault.len fault.kind) }
 {
-    if !has_no_white_space(plain, text) {
+    if !has_no_white_space(look, text) {
         return Err(white_space(text));
     }
-    if !has_sound_escapes(plain, text) {
+    if !has_sound_escapes(look, text) {
         return Err(Fault {
             kind: UrlFault::BadCharacter,
             at: broken_escape(text.as_bytes()),
@@ -95,7 +96,7 @@ pub(crate) fn read_simple_url<'a>(
         });
     }
     let (authority, path) = cut_before_path(rest, rules.web);
-    if !means_text(plain, path) {
+    if !means_text(look, path) {
         return Err(Fault {
             kind: UrlFault::BadCharacter,
             at: text.len() - path.len(),
@@ -103,7 +104,7 @@ pub(crate) fn read_simple_url<'a>(
         });
     }
     match read_authority(rules.mode, rules.needs_host, authority) {
-        Ok(parts) => Ok(parsed(scheme, parts, path, holds_escape(plain, path))),
+        Ok(parts) => Ok(parsed(scheme, parts, path, holds_escape(look, path))),
         Err(fault) => Err(Fault {
             kind: fault.kind,
             at: scheme.len() + 3 + fault.at,
@@ -136,36 +137,42 @@ fn parsed<'a>(
     }
 }
 
-/// Whether no character of the text is white space, as in a plain one.
-fn has_no_white_space(plain: bool, text: &str) -> bool
-    requires { plain ≡ true → is_plain text.now ≡ true }
+/// Whether no character of the text is white space, as in a printable one.
+fn has_no_white_space(look: Look, text: &str) -> bool
+    requires { Looks look text.now }
     ensures { IsTrue result ↔ LacksWhiteSpace text.now }
 {
-    plain || lacks_white_space(text)
+    look.is_printable() || lacks_white_space(text)
 }
 
-/// Whether every `%` of the text has two hexadecimal digits behind it, as a plain one has none.
-fn has_sound_escapes(plain: bool, text: &str) -> bool
-    requires { plain ≡ true → is_plain text.now ≡ true }
+/// Whether every `%` of the text has two hexadecimal digits behind it.
+fn has_sound_escapes(look: Look, text: &str) -> bool
+    requires { Looks look text.now }
     ensures { result ≡ escape.is_sound text.now }
 {
-    plain || is_sound(text.as_bytes())
+    look.is_printable() || is_sound(text.as_bytes())
 }
 
-/// Whether the piece decodes to UTF-8, as a plain one does.
-fn means_text(plain: bool, piece: &[u8]) -> bool
-    requires { plain ≡ true → is_plain piece.now ≡ true }
+/// Whether the piece decodes to UTF-8, as one does that decodes to ASCII.
+fn means_text(look: Look, piece: &[u8]) -> bool
+    requires { Looks look piece.now }
     ensures { IsTrue result ↔ IsUtf8 (percent_decode piece.now) }
 {
-    plain || decodes_to_utf8(piece)
+    if look.is_ascii() {
+        return true;
+    }
+    if look.is_printable() {
+        return decoding_is_utf8(piece);
+    }
+    decodes_to_utf8(piece)
 }
 
 /// Whether the piece holds a `%`, as a plain one doesn't.
-fn holds_escape(plain: bool, piece: &[u8]) -> bool
-    requires { plain ≡ true → is_plain piece.now ≡ true }
+fn holds_escape(look: Look, piece: &[u8]) -> bool
+    requires { Looks look piece.now }
     ensures { result ≡ escape.has_percent piece.now }
 {
-    if plain {
+    if look.is_plain() {
         return false;
     }
     has_percent(piece)

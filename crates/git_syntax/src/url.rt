@@ -1,27 +1,29 @@
 //! URLs, from the pieces that the classifier cut: file URLs, and those whose scheme gives them a meaning.
 //!
-//! It may use `bytes`, `rules`, `length`, `text`, `simple_url`, `found` and the errors. Its contract: the slices of a
+//! It may use `bytes`, `rules`, `length`, `look`, `text`, `simple_url`, `found` and the errors. Its contract: the slices of a
 //! location are found exactly where the definitions spell one, and each refusal has its flaw. It takes no memory. The
 //! scheme is looked at once, here, and what it says of the rest is handed on.
 
-ghost use Rattle.std.specs.Prelude.{◌≡◌, ◌+◌, ◌<◌, ◌≤◌, ◌↔◌, IfErr, IfOk, IsTrue, codes, length, take, true};
+ghost use Rattle.std.specs.Prelude.{◌≡◌, ◌+◌, ◌<◌, ◌≤◌, ◌↔◌, IfErr, IfOk, IsTrue, codes, length, take};
 ghost use Rattle.git_syntax.specs.Authority.{Fits};
-ghost use Rattle.git_syntax.specs.Escapes.{has_percent, is_plain};
+ghost use Rattle.git_syntax.specs.Escapes.{has_percent};
 ghost use Rattle.git_syntax.specs.Flaws.{NamesFlaw, OtherShape, UrlShape};
 ghost use Rattle.git_syntax.specs.FoundPieces.{IsReady, meant, room_for};
 ghost use Rattle.git_syntax.specs.Grammar.{Spells, SpellsFile, SpellsParts, SpellsUrl};
+ghost use Rattle.git_syntax.specs.Looks.{Looks};
 ghost use Rattle.git_syntax.specs.SchemeRules.{AreRulesOf};
 ghost use Rattle.git_syntax.specs.UrlPieces.{parts_of};
 
 use crate::bytes::cut;
 use crate::found::Found;
 use crate::length::fits;
+use crate::look::{Look, look_at};
 use crate::places::not_utf8;
 use crate::refusal::{Refusal, UrlKind};
 use crate::rules::{Rules, rules_of};
 use crate::scheme::Protocol;
 use crate::simple_url::{ParsedUrl, read_simple_url};
-use crate::text::{as_text, is_plain, is_text};
+use crate::text::{as_text, is_text};
 
 /// Finds what a URL is made of.
 pub(crate) fn find_url<'a>(
@@ -100,11 +102,30 @@ fn find_other<'a>(
     if !fits(rules.web, scheme, rest) {
         return Err(too_long(input, scheme, rest));
     }
-    if is_plain(input) {
-        return find_parts(as_text(input), true, rules, scheme, rest);
+    let look = look_at(input);
+    if look.is_printable() {
+        return find_parts(as_text(input), look, rules, scheme, rest);
     }
+    find_in_text(input, rules, scheme, rest)
+}
+
+/// Finds what a URL is made of, as `find_other` does, where nothing is known of its bytes.
+fn find_in_text<'a>(
+    input: &'a [u8],
+    rules: Rules,
+    scheme: &'a [u8],
+    rest: &'a [u8],
+) -> Result<Found<'a>, Refusal<'a>>
+    requires shape { OtherShape input.now scheme.now rest.now }
+    requires rules { AreRulesOf scheme.now rules }
+    requires fits { Fits scheme.now rest.now }
+    ensures found { IfOk result (λ found. SpellsUrl input.now (meant found)) }
+    ensures ready { IfOk result (λ found. IsReady found) }
+    ensures room { IfOk result (λ found. room_for found ≤ length input.now) }
+    ensures flaw { IfErr result (λ refusal. NamesFlaw input.now refusal) }
+{
     match str::from_utf8(input) {
-        Ok(text) => find_parts(text, false, rules, scheme, rest),
+        Ok(text) => find_parts(text, Look::Other, rules, scheme, rest),
         Err(error) => Err(Refusal::NotUtf8 {
             kind: UrlKind::Url,
             at: error.valid_up_to(),
@@ -147,15 +168,15 @@ fn shown_front<'a>(input: &'a [u8], scheme: &[u8]) -> &'a [u8]
     input.split_at(scheme.len() + 1027).0
 }
 
-/// Finds the parts of a URL that is text and no file URL. What is known to be plain isn't looked at again for white space.
+/// Finds the parts of a URL that is text and no file URL, of which this is known.
 fn find_parts<'a>(
     text: &'a str,
-    plain: bool,
+    look: Look,
     rules: Rules,
     scheme: &'a [u8],
     rest: &'a [u8],
 ) -> Result<Found<'a>, Refusal<'a>>
-    requires plain { plain ≡ true → is_plain text.now ≡ true }
+    requires look { Looks look text.now }
     requires shape { OtherShape text.now scheme.now rest.now }
     requires rules { AreRulesOf scheme.now rules }
     requires fits { Fits scheme.now rest.now }
@@ -164,7 +185,7 @@ fn find_parts<'a>(
     ensures room { IfOk result (λ found. room_for found ≤ length text.now) }
     ensures flaw { IfErr result (λ refusal. NamesFlaw text.now refusal) }
 {
-    match read_simple_url(text, plain, rules, scheme, rest) {
+    match read_simple_url(text, look, rules, scheme, rest) {
         Ok(url) => located(text.as_bytes(), rules, url),
         Err(fault) => Err(Refusal::BadUrl {
             kind: UrlKind::Url,

@@ -6,22 +6,26 @@ use Rattle.std.specs.Str.{IsUtf8}
 use Rattle.std.proofs.lemmas.Bool.{and_parts, cases_Bool}
 use Rattle.std.proofs.lemmas.Bool.Decides.{nat_tests}
 use Rattle.std.proofs.lemmas.List.Folds.{list_all-append}
-use Rattle.std.proofs.lemmas.Str.{IsAscii-append, IsUtf8-from_ascii}
+use Rattle.std.proofs.lemmas.Str.{IsUtf8-from_ascii}
 use Rattle.percent_encoding.specs.Percent.{percent_decode}
 use Rattle.git_syntax.specs.Bytes.{percent_sign, FreeOf, LacksWhiteSpace, begins_by}
 use Rattle.git_syntax.specs.Escapes.{begins_with_digits, is_printable, is_printable_byte, is_sound}
 use Rattle.git_syntax.proofs.Texts.CutLemmas.{free_head_tail, lacks_of_all}
-use Rattle.git_syntax.proofs.Texts.EscapeLemmas.{ascii_class, decode_broken, decode_byte, decode_escape, decode_kept, decodes_in_parts, digit_not_percent, sound_free, sound_kept, sound_step, white_space_ascii}
+use Rattle.git_syntax.proofs.Texts.EscapeLemmas.{ascii_class, decode_broken, decode_byte, decode_escape, decode_kept, digit_not_percent, sound_kept, sound_step, utf8_class, white_space_ascii}
 
 -- ---- printable texts
 
 -- a printable byte is ASCII
-printable_ascii : (b : ℕ) → is_printable_byte b ≡ true → b < 128
+pub printable_ascii : (b : ℕ) → is_printable_byte b ≡ true → b < 128
 printable_ascii b printable = grind (arith, nat_tests)
 
 -- and no white space
 printable_no_space : (b : ℕ) → is_printable_byte b ≡ true → is_whitespace b ≡ false
 printable_no_space b printable = grind (arith, nat_tests)
+
+-- a printable text is UTF-8
+pub printable_utf8 : (t : List ℕ) → is_printable t ≡ true → IsUtf8 t
+printable_utf8 t printable = utf8_class is_printable_byte printable_ascii t printable
 
 -- a printable text holds no white space
 pub printable_white_space : (t : List ℕ) → is_printable t ≡ true → LacksWhiteSpace t
@@ -31,10 +35,6 @@ printable_white_space t printable =
 -- the pieces of a printable text are printable
 pub printable_parts : (x y : List ℕ) → is_printable (x ++ y) ≡ true → (is_printable x ≡ true) × (is_printable y ≡ true)
 printable_parts x y printable = and_parts _ _ (sym (list_all-append is_printable_byte x y) ∙ printable)
-
--- what stands behind a `%` of a printable text is printable
-pub printable_behind : (rest front behind : List ℕ) → rest ≡ front ++ percent_sign ∷ behind → is_printable rest ≡ true → is_printable behind ≡ true
-printable_behind rest front behind e printable = (and_parts (is_printable_byte percent_sign) (is_printable behind) (printable_parts front (percent_sign ∷ behind) (subst (λ t. is_printable t ≡ true) e printable)).1).1
 
 -- ---- the first `%`
 
@@ -47,7 +47,7 @@ sound_at_cut (b ∷ front) behind free =
 -- ---- escapes that stand for ASCII
 
 -- a byte of ASCII in front
-ascii_cons : (b : ℕ) (t : List ℕ) → b < 128 → IsAscii t → IsAscii (b ∷ t)
+pub ascii_cons : (b : ℕ) (t : List ℕ) → b < 128 → IsAscii t → IsAscii (b ∷ t)
 ascii_cons b t low h zero = low
 ascii_cons b t low h (suc i) = h i
 
@@ -56,7 +56,7 @@ low_escape : (high low : ℕ) → is_digit high 16 ≡ true → is_digit low 16 
 low_escape high low h l below = grind (arith, nat_tests)
 
 -- so does a `%` before such a digit, whether or not it begins an escape
-ascii_escape : (behind : List ℕ) → begins_by (λ b. nat_le 56 b) behind ≡ false → IsAscii (percent_decode behind) → IsAscii (percent_decode (percent_sign ∷ behind))
+pub ascii_escape : (behind : List ℕ) → begins_by (λ b. nat_le 56 b) behind ≡ false → IsAscii (percent_decode behind) → IsAscii (percent_decode (percent_sign ∷ behind))
 ascii_escape [] below h = subst IsAscii (sym (decode_broken percent_sign [] refl)) (ascii_cons percent_sign _ (omega arith) h)
 ascii_escape (high ∷ []) below h = subst IsAscii (sym (decode_broken percent_sign (high ∷ []) refl)) (ascii_cons percent_sign _ (omega arith) h)
 ascii_escape (high ∷ low ∷ rest) below h =
@@ -69,14 +69,6 @@ ascii_escape (high ∷ low ∷ rest) below h =
           let left : IsAscii (percent_decode rest) = λ i. subst IsAscii kept h (suc (suc i)) in
           subst IsAscii (sym (decode_escape percent_sign high low rest refl first second)) (ascii_cons _ _ (low_escape high low first second below) left)
     ]
-
--- a printable text decodes to ASCII where what stands behind its first `%` does
-pub ascii_past : (rest front behind : List ℕ) → rest ≡ front ++ percent_sign ∷ behind → FreeOf percent_sign front → is_printable rest ≡ true → begins_by (λ b. nat_le 56 b) behind ≡ false
-    → IsAscii (percent_decode behind) → IsAscii (percent_decode rest)
-ascii_past rest front behind e free printable below h =
-    let shown = (printable_parts front (percent_sign ∷ behind) (subst (λ t. is_printable t ≡ true) e printable)).0 in
-    let cut = ap percent_decode e ∙ decodes_in_parts front (percent_sign ∷ behind) (sound_free front free) ∙ ap (λ t. t ++ percent_decode (percent_sign ∷ behind)) (decode_kept front free) in
-    subst IsAscii (sym cut) (IsAscii-append front (percent_decode (percent_sign ∷ behind)) (ascii_class is_printable_byte printable_ascii front shown) (ascii_escape behind below h))
 
 -- a printable text without `%` decodes to ASCII
 pub ascii_kept : (t : List ℕ) → is_printable t ≡ true → FreeOf percent_sign t → IsAscii (percent_decode t)

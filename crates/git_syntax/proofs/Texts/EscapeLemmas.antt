@@ -1,11 +1,11 @@
 -- Escaped texts: where they are sound, how they decode in parts, and how they are UTF-8 in parts.
 use Rattle.std.proofs.Common.{◌≡◌, ◌∙◌, ◌↔◌, ◌<◌, ◌≤◌, ◌+◌, ℕ, zero, suc, Bool, true, false, not, ◌&&◌, ◌||◌, ◌==◌, List, [], ◌∷◌, ◌++◌, Option, Some, None, length, take, drop, ◌*◌, ◌/◌, ◌%◌, nat_lt, cond, All, IsAscii, get_or, arith, refl, sym, ap, subst, ⊎_elim, inl, inr}
 use Rattle.std.specs.Char.{is_digit, digit_value, is_whitespace, encode_utf8}
-use Rattle.std.specs.Option.{MatchOption, is_some}
+use Rattle.std.specs.Option.{is_some}
 use Rattle.std.specs.Str.{IsUtf8, encode_utf8_all, chars}
 use Rattle.std.proofs.lemmas.Bool.{cond-false, cond_both, cases_Bool, and_parts, and_from, or_parts, or_from, false_from_ne_true, or_cases, or_left, or_right, not-true, both_ways, eqb-true, eqb-false, ltb-true, true≢false, false≢true}
 use Rattle.std.proofs.lemmas.Bool.Decides.{nat_tests}
-use Rattle.std.proofs.lemmas.List.{append_cancel_left, drop-drop, length-take, length-drop, length-append, nil_from_length, take_at, drop_at, get_or_at}
+use Rattle.std.proofs.lemmas.List.{append_cancel_left, length-take, length-drop, length-append, nil_from_length, take_at, drop_at, get_or_at}
 use Rattle.std.proofs.lemmas.Str.{IsUtf8-append, IsUtf8-past_char, IsUtf8-encode, IsUtf8-take, IsUtf8-drop, IsUtf8-from_ascii, IsCharBoundary-from_take, IsCharBoundary-before_ascii, chars-append, chars-IsAscii}
 use lib.Utf8.{scalar, scalars, scalar_cases}
 use Rattle.bstr.specs.Utf8.{Decoded, decoded}
@@ -27,11 +27,6 @@ use Rattle.git_syntax.specs.Escapes.{is_sound, begins_with_digits, escaped_perce
 use Rattle.git_syntax.proofs.Texts.CutLemmas.{free_or_cut, heads}
 
 -- ---- walks over a decoding
-
--- a call that gave the next byte left one less, and a call that gave none leaves none
-pub drop_next : (given : Option ℕ) (whole rest left : List ℕ) (n : ℕ) → rest ≡ drop n whole → MatchOption given ((rest ≡ []) × (left ≡ [])) (λ b. rest ≡ b ∷ left) → left ≡ drop (n + 1) whole
-drop_next None whole rest left n e h = h.1 ∙ sym (ap (drop 1) h.0) ∙ ap (drop 1) e ∙ drop-drop 1 n whole
-drop_next (Some b) whole rest left n e h = sym (ap (drop 1) h) ∙ ap (drop 1) e ∙ drop-drop 1 n whole
 
 -- lists that differ at one place behind an equal front are different
 pub differ_behind : (front xs ys : List ℕ) (x y : ℕ) → (y ≡ x → ⊥) → front ++ x ∷ xs ≡ front ++ y ∷ ys → ⊥

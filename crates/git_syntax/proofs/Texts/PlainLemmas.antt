@@ -1,5 +1,5 @@
 -- Plain texts: printable ASCII without `%`. What the other looks at a text would tell of them.
-use Rattle.std.proofs.Common.{◌≡◌, ◌∙◌, ◌<◌, ◌++◌, ℕ, true, false, List, codes, refl, sym, subst, arith}
+use Rattle.std.proofs.Common.{◌≡◌, ◌∙◌, ◌<◌, ◌++◌, ℕ, true, false, List, refl, sym, subst, arith}
 use Rattle.std.specs.Char.{is_whitespace}
 use Rattle.std.specs.Str.{IsUtf8}
 use Rattle.std.proofs.lemmas.Bool.{and_parts}
@@ -47,10 +47,3 @@ plain_means_utf8 t plain = subst IsUtf8 (sym (plain_decoded t plain)) (plain_utf
 -- the pieces of a plain text are plain
 pub plain_parts : (x y : List ℕ) → is_plain (x ++ y) ≡ true → (is_plain x ≡ true) × (is_plain y ≡ true)
 plain_parts x y plain = and_parts _ _ (sym (list_all-append is_plain_byte x y) ∙ plain)
-
--- the path of a plain URL is plain
-pub plain_path : (text scheme rest authority path : List ℕ) → text ≡ scheme ++ (codes "://" ++ rest) → rest ≡ authority ++ path → is_plain text ≡ true → is_plain path ≡ true
-plain_path text scheme rest authority path joined cut plain =
-    let whole = subst (λ t. is_plain t ≡ true) joined plain in
-    let behind = (plain_parts (codes "://") rest (plain_parts scheme (codes "://" ++ rest) whole).1).1 in
-    (plain_parts authority path (subst (λ t. is_plain t ≡ true) cut behind)).1

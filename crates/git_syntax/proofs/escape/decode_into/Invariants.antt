@@ -1,13 +1,14 @@
 -- What was decoded so far stands in the front of the room.
-use Rattle.std.proofs.Common.{◌≡◌, ◌++◌, length, take}
+use Rattle.std.proofs.Common.{◌≡◌, ◌++◌, ◌+◌, length, take}
 use Rattle.percent_encoding.specs.Percent.{percent_decode}
-use Rattle.percent_encoding.specs.Iter.{decoded_bytes}
 use Rattle.git_syntax.proofs.escape.decode_into.Given as goal
 
 abbrev pub invariant-loop-byte : goal.invariant-loop-byte
 invariant-loop-byte l = record {
-  size : l.size ≡ length l.yielded;
-  bytes : take l.size l.room ≡ l.yielded;
-  decoded : percent_decode l.text ≡ l.yielded ++ decoded_bytes l.byte-iterator;
+  size : l.size + length (percent_decode l.rest) ≡ length (percent_decode l.text);
+  bytes : percent_decode l.text ≡ take l.size l.room ++ percent_decode l.rest;
   kept : length l.room ≡ length l.fn.room;
 }
+
+abbrev pub decreases-loop-byte : goal.decreases-loop-byte
+decreases-loop-byte l = length (percent_decode l.rest)

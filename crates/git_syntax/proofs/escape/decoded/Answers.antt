@@ -1,5 +1,5 @@
--- A text with no `%` decodes to itself. The room that was asked for holds any decoding, which is no longer than the text.
-use Rattle.std.proofs.Common.{sym, arith}
+-- A text with no `%` decodes to itself. What is as long as a text has room for its decoding.
+use Rattle.std.proofs.Common.{arith, sym}
 use Rattle.percent_encoding.proofs.PercentLemmas.{length-percent_decode}
 use Rattle.git_syntax.proofs.Texts.EscapeLemmas.{decode_kept}
 use Rattle.git_syntax.proofs.escape.decoded.Goals as goal
@@ -7,5 +7,5 @@ use Rattle.git_syntax.proofs.escape.decoded.Goals as goal
 pub returns-then-not-has_percent : goal.returns-then-not-has_percent
 returns-then-not-has_percent c = rw (decode_kept c.args.text.now (sym c.if-not-has_percent.ensures)) c.from_slice.ensures.items
 
-pub prove-unreachable-requires : goal.prove-unreachable-requires
-prove-unreachable-requires c = grind (arith, c.in_ok-bytes.ensures, c.append_to-appended.ensures.full, length-percent_decode c.args.text.now)
+pub decode_into-size-requires : goal.decode_into-size-requires
+decode_into-size-requires c = omega (arith, c.as_mut_slice.ensures.len, c.in_ok-bytes.ensures.len, (length-percent_decode c.args.text.now).0)

@@ -1,18 +1,11 @@
--- The window holds the first four bytes of what is left, which decide on its first character.
-use Rattle.std.proofs.Common.{arith}
-use Rattle.git_syntax.proofs.Texts.EscapeLemmas.{utf8_past_window, shorter_past_window, not_utf8_at_window}
+-- A byte of ASCII is a character, and nothing is UTF-8.
+use Rattle.std.proofs.Common.{refl}
+use Rattle.git_syntax.proofs.Texts.DecodingLemmas.{nothing_means_utf8, past_ascii, past_more}
 use Rattle.git_syntax.proofs.escape.decoding_is_utf8.Goals as goal
 
-pub returns-then-is_none : goal.returns-then-is_none
-returns-then-is_none c =
-    let stops = not_utf8_at_window _ _ _ c.front-count.ensures.bytes (omega arith) c.decode-found.ensures.char c.if-is_none.ensures in
-    (λ wrong. absurd (cc), λ whole. absurd (stops (c.loop-rest.invariant.0 whole)))
+pub loop-first-preserved-then-first-lt128 : goal.loop-first-preserved-then-first-lt128
+loop-first-preserved-then-first-lt128 c =
+    past_more c.args.text.now c.loop-first.rest.now c.in-Some.behind.now c.loop-first.invariant (past_ascii c.loop-first.rest.now c.in-Some.behind.now c.in-Some.first c.if-first-lt128.true c.in-Some.ensures)
 
-pub loop-rest-smaller : goal.loop-rest-smaller
-loop-rest-smaller c =
-    shorter_past_window _ _ _ _ c.front-count.ensures.bytes (omega arith) c.decode-found.ensures.size c.skip-rest.ensures
-
-pub loop-rest-preserved : goal.loop-rest-preserved
-loop-rest-preserved c =
-    let past = utf8_past_window _ _ _ _ _ c.front-count.ensures.bytes c.decode-found.ensures.char c.decode-found.ensures.size c.skip-rest.ensures c.if-is_none.ensures in
-    (λ whole. past.0 (c.loop-rest.invariant.0 whole), λ rest. c.loop-rest.invariant.1 (past.1 rest))
+pub returns : goal.returns
+returns c = (λ _. c.loop-first.invariant.1 (nothing_means_utf8 c.loop-first.rest.now c.in_default.ensures), λ _. refl)

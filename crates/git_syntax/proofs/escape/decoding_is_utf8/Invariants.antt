@@ -1,10 +1,11 @@
+-- The text decodes to UTF-8 where what is left of it does.
 use Rattle.std.proofs.Common.{◌↔◌, length}
 use Rattle.std.specs.Str.{IsUtf8}
-use Rattle.percent_encoding.specs.Iter.{decoded_bytes}
+use Rattle.percent_encoding.specs.Percent.{percent_decode}
 use Rattle.git_syntax.proofs.escape.decoding_is_utf8.Given as goal
 
-abbrev pub invariant-loop-rest : goal.invariant-loop-rest
-invariant-loop-rest l = IsUtf8 (decoded_bytes l.fn.rest) ↔ IsUtf8 (decoded_bytes l.rest)
+abbrev pub invariant-loop-first : goal.invariant-loop-first
+invariant-loop-first l = IsUtf8 (percent_decode l.text) ↔ IsUtf8 (percent_decode l.rest)
 
-abbrev pub decreases-loop-rest : goal.decreases-loop-rest
-decreases-loop-rest l = length (decoded_bytes l.rest)
+abbrev pub decreases-loop-first : goal.decreases-loop-first
+decreases-loop-first l = length (percent_decode l.rest)

@@ -1,6 +1,6 @@
--- A call of `next` leaves one byte less, or nothing where nothing was left.
-use Rattle.git_syntax.proofs.Texts.EscapeLemmas.{drop_next}
+-- One byte more is left behind.
+use Rattle.git_syntax.proofs.Texts.DecodingLemmas.{one_more}
 use Rattle.git_syntax.proofs.escape.skip.Goals as goal
 
 pub loop-turn-preserved : goal.loop-turn-preserved
-loop-turn-preserved c = drop_next c.next.result _ _ _ c.loop-turn._turn c.loop-turn.invariant c.next.ensures.steps
+loop-turn-preserved c = one_more c.args.text.now c.loop-turn.rest.now c.behind_first-rest.result.now c.loop-turn._turn c.behind_first-rest.ensures c.loop-turn.invariant

@@ -1,6 +1,6 @@
 use Rattle.std.proofs.Common.{◌≡◌, drop}
-use Rattle.percent_encoding.specs.Iter.{decoded_bytes}
+use Rattle.percent_encoding.specs.Percent.{percent_decode}
 use Rattle.git_syntax.proofs.escape.skip.Given as goal
 
 abbrev pub invariant-loop-turn : goal.invariant-loop-turn
-invariant-loop-turn l = decoded_bytes l.rest ≡ drop l._turn (decoded_bytes l.fn.rest)
+invariant-loop-turn l = percent_decode l.rest ≡ drop l._turn (percent_decode l.text)

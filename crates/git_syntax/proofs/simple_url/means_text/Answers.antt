@@ -1,6 +1,7 @@
--- A plain piece stands for itself.
-use Rattle.git_syntax.proofs.Texts.PlainLemmas.{plain_means_utf8}
+-- What decodes to ASCII decodes to UTF-8.
+use Rattle.std.proofs.Common.{refl, sym}
+use Rattle.git_syntax.proofs.Texts.LookLemmas.{known_means_utf8}
 use Rattle.git_syntax.proofs.simple_url.means_text.Goals as goal
 
-pub returns-then-plain : goal.returns-then-plain
-returns-then-plain c = (λ _. plain_means_utf8 c.args.piece.now (c.requires c.if-plain.true), λ _. c.if-plain.true)
+pub returns-then-is_ascii : goal.returns-then-is_ascii
+returns-then-is_ascii c = (λ _. known_means_utf8 c.args.look c.args.piece.now c.requires (sym c.if-is_ascii.ensures), λ _. refl)

@@ -6,7 +6,7 @@ use Rattle.git_syntax.specs.Flaws.{UrlFlaw}
 use Rattle.git_syntax.specs.Escapes.{is_sound}
 use Rattle.git_syntax.specs.Places.{StandsBroken}
 use Rattle.git_syntax.specs.HostPieces.{strictness}
-use Rattle.git_syntax.proofs.Texts.PlainLemmas.{plain_path}
+use Rattle.git_syntax.proofs.Texts.LookLemmas.{known_path}
 use Rattle.git_syntax.proofs.Readings.UrlLemmas.{authority_flaw_within, path_end, rest_cut, url_cut, spelled, no_scheme_refutes, bad_path_refutes, authority_refutes}
 use Rattle.git_syntax.proofs.simple_url.read_simple_url.Goals as goal
 
@@ -41,8 +41,8 @@ returns-then-not-is_scheme_text-clause-flaw c =
     UrlFlaw.no_scheme c.args.scheme.now c.args.rest.now c.requires.shape (sym c.if-not-is_scheme_text.ensures) refl refl
 
 pub means_text-requires : goal.means_text-requires
-means_text-requires c = λ plain.
-    plain_path c.args.text.now c.args.scheme.now c.args.rest.now c.cut_before_path.result.0.now c.cut_before_path.result.1.now c.requires.shape.shape.joined c.cut_before_path.ensures.joined (c.requires.plain plain)
+means_text-requires c =
+    known_path c.args.rules.web c.args.look c.args.text.now c.args.scheme.now c.args.rest.now c.cut_before_path.result.0.now c.cut_before_path.result.1.now c.requires.shape.shape.joined c.cut_before_path.ensures.joined c.cut_before_path.ensures.rest c.requires.look
 
 pub returns-then-not-means_text-clause-refused : goal.returns-then-not-means_text-clause-refused
 returns-then-not-means_text-clause-refused c =
@@ -83,5 +83,5 @@ returns-in-Ok-clause-read c =
     rw (c.parsed.ensures.scheme, c.parsed.ensures.user, c.parsed.ensures.password, c.parsed.ensures.host, c.parsed.ensures.path) (spelled cut c.utf8.text (c.if-not-has_no_white_space.ensures.0 refl) sound c.in-Ok.ensures.clean fits held (c.if-not-means_text.ensures.0 refl))
 
 pub holds_escape-requires : goal.holds_escape-requires
-holds_escape-requires c = λ plain.
-    plain_path c.args.text.now c.args.scheme.now c.args.rest.now c.cut_before_path.result.0.now c.cut_before_path.result.1.now c.requires.shape.shape.joined c.cut_before_path.ensures.joined (c.requires.plain plain)
+holds_escape-requires c =
+    known_path c.args.rules.web c.args.look c.args.text.now c.args.scheme.now c.args.rest.now c.cut_before_path.result.0.now c.cut_before_path.result.1.now c.requires.shape.shape.joined c.cut_before_path.ensures.joined c.cut_before_path.ensures.rest c.requires.look

@@ -1,0 +1,129 @@
+-- Looks at texts: escapes that stand for ASCII, and what is known of the path of a text that was looked at.
+use Rattle.std.proofs.Common.{◌≡◌, ◌∙◌, ◌++◌, ◌∷◌, ◌&&◌, ◌||◌, ◌==◌, ℕ, Bool, true, false, not, List, [], IsAscii, append_assoc, codes, refl, sym, ap, subst, inl, inr, arith}
+use Rattle.std.specs.Char.{is_digit}
+use Rattle.std.specs.Str.{IsUtf8}
+use Rattle.std.proofs.lemmas.Bool.{and_parts, cases_Bool, eqb-true, false≢true, or_parts}
+use Rattle.std.proofs.lemmas.Bool.Decides.{nat_tests}
+use Rattle.percent_encoding.specs.Percent.{percent_decode}
+use Rattle.git_syntax.specs.declared.look.Look.{Look}
+use Rattle.git_syntax.specs.declared.look.Look.TheVariants.{Plain, Ascii, Escaped, Other}
+use Rattle.git_syntax.specs.Bytes.{percent_sign, FreeOf, LacksWhiteSpace, StartsPath, is_path_start}
+use Rattle.git_syntax.specs.Escapes.{is_printable, is_printable_byte, is_sound}
+use Rattle.git_syntax.specs.Looks.{Looks, begins_high, has_high_escape, knows_ascii, knows_plain, knows_printable}
+use Rattle.git_syntax.proofs.Texts.AsciiLemmas.{ascii_cons, ascii_escape, ascii_kept, ascii_means_utf8, printable_ascii, printable_parts, printable_utf8, printable_white_space}
+use Rattle.git_syntax.proofs.Texts.CutLemmas.{free_head_tail}
+use Rattle.git_syntax.proofs.Texts.EscapeLemmas.{decode_byte, sound_parts}
+use Rattle.git_syntax.proofs.Texts.PlainLemmas.{plain_free, plain_means_utf8, plain_parts, plain_sound, plain_utf8, plain_white_space}
+
+-- ---- high escapes
+
+-- a byte that is no `%` begins none
+high_kept : (b : ℕ) (bs : List ℕ) → (b == percent_sign) ≡ false → has_high_escape (b ∷ bs) ≡ has_high_escape bs
+high_kept b bs other = rw other refl
+
+-- a text without `%` has none
+pub high_free : (t : List ℕ) → FreeOf percent_sign t → has_high_escape t ≡ false
+high_free [] free = refl
+high_free (b ∷ bs) free = let (other, more) = free_head_tail percent_sign b bs free in high_kept b bs other ∙ high_free bs more
+
+-- the first `%` decides, and what stands behind it
+pub high_at_cut : (front behind : List ℕ) → FreeOf percent_sign front → has_high_escape (front ++ percent_sign ∷ behind) ≡ (begins_high behind || has_high_escape behind)
+high_at_cut [] behind free = refl
+high_at_cut (b ∷ front) behind free =
+    let (other, more) = free_head_tail percent_sign b front free in high_kept b (front ++ percent_sign ∷ behind) other ∙ high_at_cut front behind more
+
+-- what stands behind a front has none where the whole has none
+high_behind : (front behind : List ℕ) → has_high_escape (front ++ behind) ≡ false → has_high_escape behind ≡ false
+high_behind [] behind low = low
+high_behind (b ∷ front) behind low = high_behind front behind (or_parts _ _ low).1
+
+-- ---- one `%` after the other
+
+-- where the first escape is low, what stands behind it decides whether all are
+pub low_past : (ascii high : Bool) (text rest front behind : List ℕ) → rest ≡ front ++ percent_sign ∷ behind → FreeOf percent_sign front → high ≡ begins_high behind
+    → (ascii ≡ true → has_high_escape rest ≡ has_high_escape text) → (ascii && not high) ≡ true → has_high_escape behind ≡ has_high_escape text
+low_past ascii high text rest front behind e free is same both =
+    let (first, low) = and_parts ascii (not high) both in
+    sym (ap has_high_escape e ∙ high_at_cut front behind free ∙ ap (λ b. b || has_high_escape behind) (sym is ∙ not_not high low)) ∙ same first
+  where
+    not_not : (b : Bool) → not b ≡ true → b ≡ false
+    not_not true h = absurd (cc)
+    not_not false h = refl
+
+-- ---- decoding
+
+-- a printable text without high escapes decodes to ASCII
+pub ascii_decoded : (t : List ℕ) → is_printable t ≡ true → has_high_escape t ≡ false → IsAscii (percent_decode t)
+ascii_decoded [] printable low = ascii_kept [] refl refl
+ascii_decoded (b ∷ bs) printable low =
+    let (first, others) = and_parts (is_printable_byte b) (is_printable bs) printable in
+    let (here, behind) = or_parts (b == percent_sign && begins_high bs) (has_high_escape bs) low in
+    let rest = ascii_decoded bs others behind in
+    elim (cases_Bool (b == percent_sign)) [
+      | inl percent ↦ subst (λ c. IsAscii (percent_decode (c ∷ bs))) (sym (eqb-true b percent_sign percent)) (ascii_escape bs (rw percent at here) rest)
+      | inr other ↦ subst IsAscii (sym (decode_byte b bs other)) (ascii_cons b (percent_decode bs) (printable_ascii b first) rest)
+    ]
+
+-- ---- what is known of a text
+
+-- what is known to be printable holds no white space
+pub known_white_space : (look : Look) (t : List ℕ) → Looks look t → knows_printable look ≡ true → LacksWhiteSpace t
+known_white_space Plain t h known = plain_white_space t h
+known_white_space Ascii t h known = printable_white_space t h.printable
+known_white_space Escaped t h known = printable_white_space t h.printable
+known_white_space Other t h known = absurd (false≢true known)
+
+-- it is sound
+pub known_sound : (look : Look) (t : List ℕ) → Looks look t → knows_printable look ≡ true → is_sound t ≡ true
+known_sound Plain t h known = plain_sound t h
+known_sound Ascii t h known = h.sound
+known_sound Escaped t h known = h.sound
+known_sound Other t h known = absurd (false≢true known)
+
+-- and UTF-8
+pub known_utf8 : (look : Look) (t : List ℕ) → Looks look t → knows_printable look ≡ true → IsUtf8 t
+known_utf8 Plain t h known = plain_utf8 t h
+known_utf8 Ascii t h known = printable_utf8 t h.printable
+known_utf8 Escaped t h known = printable_utf8 t h.printable
+known_utf8 Other t h known = absurd (false≢true known)
+
+-- what is known to decode to ASCII decodes to UTF-8
+pub known_means_utf8 : (look : Look) (t : List ℕ) → Looks look t → knows_ascii look ≡ true → IsUtf8 (percent_decode t)
+known_means_utf8 Plain t h known = plain_means_utf8 t h
+known_means_utf8 Ascii t h known = ascii_means_utf8 t (ascii_decoded t h.printable h.low)
+known_means_utf8 Escaped t h known = absurd (false≢true known)
+known_means_utf8 Other t h known = absurd (false≢true known)
+
+-- what is known to be plain holds no `%`
+pub known_free : (look : Look) (t : List ℕ) → Looks look t → knows_plain look ≡ true → FreeOf percent_sign t
+known_free Plain t h known = plain_free t h
+known_free Ascii t h known = absurd (false≢true known)
+known_free Escaped t h known = absurd (false≢true known)
+known_free Other t h known = absurd (false≢true known)
+
+-- ---- the path of a text that was looked at
+
+-- a path starts with no digit
+start_no_digit : (web : Bool) (b : ℕ) → is_path_start web b ≡ true → is_digit b 16 ≡ false
+start_no_digit true b start = grind (arith, nat_tests)
+start_no_digit false b start = grind (arith, nat_tests)
+
+-- a path is sound where the whole is
+sound_path : (web : Bool) (front path : List ℕ) → StartsPath web path → is_sound (front ++ path) ≡ true → is_sound path ≡ true
+sound_path web front [] starts sound = refl
+sound_path web front (c ∷ rest) (inl none) sound = absurd (cc)
+sound_path web front (c ∷ rest) (inr start) sound = (sound_parts front rest c (start_no_digit web c start) sound).1
+
+-- what is known of a text is known of the path at its end
+known_behind : (web : Bool) (look : Look) (front path : List ℕ) → StartsPath web path → Looks look (front ++ path) → Looks look path
+known_behind web Plain front path starts h = (plain_parts front path h).1
+known_behind web Ascii front path starts h = record { printable = (printable_parts front path h.printable).1; sound = sound_path web front path starts h.sound; low = high_behind front path h.low }
+known_behind web Escaped front path starts h = record { printable = (printable_parts front path h.printable).1; sound = sound_path web front path starts h.sound }
+known_behind web Other front path starts h = h
+
+-- so is it of the path of a URL
+pub known_path : (web : Bool) (look : Look) (text scheme rest authority path : List ℕ) → text ≡ scheme ++ (codes "://" ++ rest) → rest ≡ authority ++ path → StartsPath web path → Looks look text → Looks look path
+known_path web look text scheme rest authority path joined cut starts h =
+    let whole : text ≡ (scheme ++ (codes "://" ++ authority)) ++ path =
+    joined ∙ ap (λ t. scheme ++ (codes "://" ++ t)) cut ∙ ap (λ t. scheme ++ t) (sym (append_assoc (codes "://") authority path)) ∙ sym (append_assoc scheme (codes "://" ++ authority) path) in
+    known_behind web look (scheme ++ (codes "://" ++ authority)) path starts (subst (Looks look) whole h)
