@@ -1,16 +1,12 @@
 // Makes one call of the library for each line of a file, in passes: driver CALL PASSES FILE
 //
-// CALL is parse, parse_in, write or settled. It prints how many calls answered that all is well, so that calls which give up
-// early are seen.
+// CALL is the name of an export of the library, without `url_bench_`. It prints how many calls answered that all is well, so
+// that calls which give up early are seen.
 #include <stdbool.h>
+#include <stdint.h>
 #include <stdio.h>
 #include <stdlib.h>
 #include <string.h>
-
-bool url_bench_parse(const unsigned char *bytes, size_t length);
-bool url_bench_parse_in(const unsigned char *bytes, size_t length, unsigned char *room, size_t room_length);
-size_t url_bench_write(const unsigned char *bytes, size_t length);
-bool url_bench_settled(const unsigned char *bytes, size_t length);
 
 struct line {
     const unsigned char *bytes;
@@ -20,11 +16,71 @@ struct line {
 // Room for as many bytes as a line has.
 static unsigned char room[1 << 16];
 
-// A call, and whether all is well.
-static bool parses(const struct line *line) { return url_bench_parse(line->bytes, line->length); }
-static bool parses_in(const struct line *line) { return url_bench_parse_in(line->bytes, line->length, room, line->length); }
-static bool writes(const struct line *line) { return url_bench_write(line->bytes, line->length) > 0; }
-static bool settles(const struct line *line) { return url_bench_settled(line->bytes, line->length); }
+bool url_bench_parse(const unsigned char *bytes, size_t length);
+bool url_bench_parse_in(const unsigned char *bytes, size_t length, unsigned char *room, size_t room_length);
+bool url_bench_refuse_in(const unsigned char *bytes, size_t length, unsigned char *room, size_t room_length);
+size_t url_bench_write(const unsigned char *bytes, size_t length);
+bool url_bench_settled(const unsigned char *bytes, size_t length);
+
+size_t url_bench_text_len(const unsigned char *bytes, size_t length);
+size_t url_bench_write_to(const unsigned char *bytes, size_t length);
+size_t url_bench_to_bstring(const unsigned char *bytes, size_t length);
+size_t url_bench_to_string(const unsigned char *bytes, size_t length);
+bool url_bench_is_settled(const unsigned char *bytes, size_t length, bool *settled);
+bool url_bench_agrees_with_git(const unsigned char *bytes, size_t length, bool *agrees);
+size_t url_bench_path_query_fragment(const unsigned char *bytes, size_t length);
+size_t url_bench_clone(const unsigned char *bytes, size_t length);
+bool url_bench_eq(const unsigned char *bytes, size_t length);
+bool url_bench_cmp(const unsigned char *bytes, size_t length);
+bool url_bench_hash(const unsigned char *bytes, size_t length, uint64_t *hash);
+size_t url_bench_to_stored(const unsigned char *bytes, size_t length);
+size_t url_bench_to_json(const unsigned char *bytes, size_t length);
+size_t url_bench_from_json(const unsigned char *bytes, size_t length);
+size_t url_bench_reread(const unsigned char *bytes, size_t length);
+size_t url_bench_from_parts(const unsigned char *bytes, size_t length);
+
+// Each call, and whether all is well.
+static bool parse(const struct line *line) { return url_bench_parse(line->bytes, line->length); }
+static bool parse_in(const struct line *line) { return url_bench_parse_in(line->bytes, line->length, room, line->length); }
+static bool refuse_in(const struct line *line) { return url_bench_refuse_in(line->bytes, line->length, room, line->length); }
+static bool write(const struct line *line) { return url_bench_write(line->bytes, line->length) > 0; }
+static bool settled(const struct line *line) { return url_bench_settled(line->bytes, line->length); }
+
+static bool text_len(const struct line *line) { return url_bench_text_len(line->bytes, line->length) > 0; }
+static bool write_to(const struct line *line) { return url_bench_write_to(line->bytes, line->length) > 0; }
+static bool to_bstring(const struct line *line) { return url_bench_to_bstring(line->bytes, line->length) > 0; }
+static bool to_string(const struct line *line) { return url_bench_to_string(line->bytes, line->length) > 0; }
+static bool is_settled(const struct line *line) {
+    bool answer;
+    return url_bench_is_settled(line->bytes, line->length, &answer) && answer;
+}
+static bool agrees_with_git(const struct line *line) {
+    bool answer;
+    return url_bench_agrees_with_git(line->bytes, line->length, &answer);
+}
+static bool path_query_fragment(const struct line *line) { return url_bench_path_query_fragment(line->bytes, line->length) > 0; }
+static bool clone(const struct line *line) { return url_bench_clone(line->bytes, line->length) > 0; }
+static bool eq(const struct line *line) { return url_bench_eq(line->bytes, line->length); }
+static bool cmp(const struct line *line) { return url_bench_cmp(line->bytes, line->length); }
+static bool hash(const struct line *line) {
+    uint64_t answer;
+    return url_bench_hash(line->bytes, line->length, &answer);
+}
+static bool to_stored(const struct line *line) { return url_bench_to_stored(line->bytes, line->length) > 0; }
+static bool to_json(const struct line *line) { return url_bench_to_json(line->bytes, line->length) > 0; }
+static bool from_json(const struct line *line) { return url_bench_from_json(line->bytes, line->length) > 0; }
+static bool reread(const struct line *line) { return url_bench_reread(line->bytes, line->length) > 0; }
+static bool from_parts(const struct line *line) { return url_bench_from_parts(line->bytes, line->length) > 0; }
+
+#define CALL(name) {#name, name}
+static const struct {
+    const char *name;
+    bool (*call)(const struct line *);
+} calls[] = {
+    CALL(parse), CALL(parse_in), CALL(refuse_in), CALL(write), CALL(settled), CALL(text_len), CALL(write_to),
+    CALL(to_bstring), CALL(to_string), CALL(is_settled), CALL(agrees_with_git), CALL(path_query_fragment), CALL(clone),
+    CALL(eq), CALL(cmp), CALL(hash), CALL(to_stored), CALL(to_json), CALL(from_json), CALL(reread), CALL(from_parts),
+};
 
 static _Noreturn void fail(const char *why) {
     fprintf(stderr, "driver: %s\n", why);
@@ -55,12 +111,10 @@ static struct line *lines_of(const char *bytes, size_t size, size_t *count) {
 
 int main(int words, char **word) {
     if (words != 4) fail("usage: driver CALL PASSES FILE");
-    bool (*call)(const struct line *) = !strcmp(word[1], "parse") ? parses
-        : !strcmp(word[1], "parse_in") ? parses_in
-        : !strcmp(word[1], "write") ? writes
-        : !strcmp(word[1], "settled") ? settles
-        : NULL;
-    if (!call) fail("CALL is parse, parse_in, write or settled");
+    bool (*call)(const struct line *) = NULL;
+    for (size_t i = 0; i < sizeof calls / sizeof *calls; i++)
+        if (!strcmp(word[1], calls[i].name)) call = calls[i].call;
+    if (!call) fail("there is no such call");
     size_t size, count, well = 0;
     char *bytes = contents(word[3], &size);
     struct line *lines = lines_of(bytes, size, &count);

@@ -1,0 +1,10 @@
+-- What is restored is what the record that was read means.
+use Rattle.std.proofs.Common.{◌∙◌, ap, length, sym}
+use Rattle.url_bench.proofs.counted.from_json.Goals as goal
+
+pub returns-in-Ok-from_stored : goal.returns-in-Ok-from_stored
+returns-in-Ok-from_stored c = λ more. (
+  c.in-Ok.stored,
+  ap (λ v. length v.path) (sym c.in-Ok-from_stored.ensures.restored ∙ sym c.url.view_is)
+      ∙ ap length (sym c.as_bytes.ensures),
+)

@@ -1,0 +1,55 @@
+-- What the exports return: numbers, which are told by what they say of a location.
+use Rattle.std.specs.Prelude.{◌≡◌, ◌<◌, ℕ, List, length, None, Some, Ok}
+use Rattle.gix_url.specs.Components.{Components, PartsOf}
+use Rattle.gix_url.specs.Display.{display}
+use Rattle.gix_url.specs.FromParts.{MadeOf}
+use Rattle.gix_url.specs.Grammar.{Spells}
+use Rattle.gix_url.specs.Records.{migrated}
+use Rattle.gix_url.specs.Stored.{recorded_location}
+use Rattle.gix_url.specs.Text.{text}
+use Rattle.gix_url.specs.Value.{Location}
+use Rattle.gix_url.specs.declared.stored.StoredUrl.{StoredUrl}
+use Rattle.json.specs.Lex.{tokens}
+use Rattle.json.specs.Print.{print}
+
+-- a number other than 0 says this of a location that the bytes spell
+abbrev pub SaysOf : (Location → ℕ → Type 0) → List ℕ → ℕ → Type 0
+SaysOf says b n = 0 < n → (v : Location) × Spells b v × says v n
+
+-- the length of its text
+abbrev pub IsTextLength : Location → ℕ → Type 0
+IsTextLength v n = (t : List ℕ) × (text v ≡ Ok t) × (length t ≡ n)
+
+-- the length of its path
+abbrev pub IsPathLength : Location → ℕ → Type 0
+IsPathLength v n = length v.path ≡ n
+
+-- the length of what is shown of it
+abbrev pub IsShownLength : Location → ℕ → Type 0
+IsShownLength v n = (t : List ℕ) → display v ≡ Some t → length t ≡ n
+
+-- the length of the path among its components
+abbrev pub IsComponentLength : Location → ℕ → Type 0
+IsComponentLength v n = (c : Components) × PartsOf v c × (length c.path ≡ n)
+
+-- the length of the path that is read in its text
+abbrev pub IsRereadLength : Location → ℕ → Type 0
+IsRereadLength v n = (again : Location) × ((t : List ℕ) → text v ≡ Ok t → Spells t again)
+    × (length again.path ≡ n)
+
+-- the length of the path of what its parts make
+abbrev pub IsMadeLength : Location → ℕ → Type 0
+IsMadeLength v n = (made : Location) × MadeOf (record v { spelling = None }) (Ok made)
+    × (length made.path ≡ n)
+
+-- JSON without white space between its tokens
+abbrev pub IsCompact : List ℕ → Type 0
+IsCompact json = json ≡ print (tokens json)
+
+-- the length of such a text
+abbrev pub IsCompactLength : ℕ → Type 0
+IsCompactLength n = (json : List ℕ) × IsCompact json × (length json ≡ n)
+
+-- the length of the path of a location that a record means
+abbrev pub IsRestoredLength : ℕ → Type 0
+IsRestoredLength n = (stored : StoredUrl) × (length (migrated (recorded_location stored)).path ≡ n)

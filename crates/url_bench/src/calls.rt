@@ -1,0 +1,227 @@
+//! The exports that make one call over what the bytes are read as: the functions of `counted` with their location.
+//!
+//! Each returns 0 where the bytes are no location, or the call makes nothing.
+
+ghost use Rattle.std.specs.Prelude.{◌≡◌, ◌<◌, ◌↔◌, IsTrue, fold};
+ghost use Rattle.std.specs.Hash.DefaultHasher.{finish, initial, write};
+ghost use Rattle.std.specs.declared.cmp.Ordering.TheVariants.{Equal};
+ghost use Rattle.gix_url.specs.GitClass.{AgreesWithGit};
+ghost use Rattle.gix_url.specs.Grammar.{Spells};
+ghost use Rattle.gix_url.specs.Order.{fed_location, location_cmp, location_eq};
+ghost use Rattle.gix_url.specs.Settled.{IsSettled};
+ghost use Rattle.gix_url.specs.Value.{Location};
+ghost use Rattle.url_bench.specs.Answers.{IsCompactLength, IsComponentLength, IsMadeLength, IsPathLength, IsRereadLength, IsRestoredLength, IsShownLength, IsTextLength, SaysOf};
+
+use crate::counted;
+use bstr::BStr;
+use gix_url::Url;
+use std::alloc::Global;
+use std::cmp::Ordering;
+
+/// The length of the text of the location, told without the text.
+#[unsafe(no_mangle)]
+pub extern "C" fn url_bench_text_len(alloc: Global, bytes: &[u8]) -> usize
+    ensures { SaysOf IsTextLength bytes.now result }
+{
+    match Url::from_bytes(alloc, BStr::new(bytes)) {
+        Ok(url) => counted::text_len(&url),
+        Err(_) => 0,
+    }
+}
+
+/// The length of the text of the location, written to memory that is there.
+#[unsafe(no_mangle)]
+pub extern "C" fn url_bench_write_to(alloc: Global, bytes: &[u8]) -> usize
+    ensures { SaysOf IsTextLength bytes.now result }
+{
+    let Ok(url) = Url::from_bytes(alloc, BStr::new(bytes)) else {
+        return 0;
+    };
+    let Ok(mut out) = Vec::with_capacity(alloc, bytes.len().saturating_mul(3)) else {
+        return 0;
+    };
+    if counted::write_to(&url, &mut out) {
+        out.len()
+    } else {
+        0
+    }
+}
+
+/// The length of the text of the location.
+#[unsafe(no_mangle)]
+pub extern "C" fn url_bench_to_bstring(alloc: Global, bytes: &[u8]) -> usize
+    ensures { SaysOf IsTextLength bytes.now result }
+{
+    match Url::from_bytes(alloc, BStr::new(bytes)) {
+        Ok(url) => counted::to_bstring(alloc, &url),
+        Err(_) => 0,
+    }
+}
+
+/// The length of what is shown of the location.
+#[unsafe(no_mangle)]
+pub extern "C" fn url_bench_to_string(alloc: Global, bytes: &[u8]) -> usize
+    ensures { SaysOf IsShownLength bytes.now result }
+{
+    match Url::from_bytes(alloc, BStr::new(bytes)) {
+        Ok(url) => counted::to_string(alloc, &url),
+        Err(_) => 0,
+    }
+}
+
+/// Whether the location is settled, where the bytes are one.
+#[unsafe(no_mangle)]
+pub extern "C" fn url_bench_is_settled(alloc: Global, bytes: &[u8], settled: &mut bool) -> bool
+    ensures { IsTrue result → (v : Location) × Spells bytes.now v
+        × (IsTrue settled.new ↔ IsSettled v) }
+{
+    match Url::from_bytes(alloc, BStr::new(bytes)) {
+        Ok(url) => {
+            *settled = counted::is_settled(&url);
+            true
+        }
+        Err(_) => false,
+    }
+}
+
+/// Whether Git reads the same, where the bytes are a location.
+#[unsafe(no_mangle)]
+pub extern "C" fn url_bench_agrees_with_git(alloc: Global, bytes: &[u8], agrees: &mut bool) -> bool
+    ensures { IsTrue result → (v : Location) × Spells bytes.now v
+        × (IsTrue agrees.new ↔ AgreesWithGit v) }
+{
+    match Url::from_bytes(alloc, BStr::new(bytes)) {
+        Ok(url) => {
+            *agrees = counted::agrees_with_git(&url);
+            true
+        }
+        Err(_) => false,
+    }
+}
+
+/// The length of the path of the location without query and fragment.
+#[unsafe(no_mangle)]
+pub extern "C" fn url_bench_path_query_fragment(alloc: Global, bytes: &[u8]) -> usize
+    ensures { SaysOf IsComponentLength bytes.now result }
+{
+    match Url::from_bytes(alloc, BStr::new(bytes)) {
+        Ok(url) => counted::path_query_fragment(alloc, &url),
+        Err(_) => 0,
+    }
+}
+
+/// The length of the path of a copy of the location.
+#[unsafe(no_mangle)]
+pub extern "C" fn url_bench_clone(alloc: Global, bytes: &[u8]) -> usize
+    ensures { SaysOf IsPathLength bytes.now result }
+{
+    match Url::from_bytes(alloc, BStr::new(bytes)) {
+        Ok(url) => counted::clone(alloc, &url),
+        Err(_) => 0,
+    }
+}
+
+/// Whether the location is equal to what the bytes are read as once more.
+#[unsafe(no_mangle)]
+pub extern "C" fn url_bench_eq(alloc: Global, bytes: &[u8]) -> bool
+    ensures { IsTrue result → (v : Location) × (w : Location) × Spells bytes.now v
+        × Spells bytes.now w
+        × IsTrue (location_eq v w) }
+{
+    let Ok(url) = Url::from_bytes(alloc, BStr::new(bytes)) else {
+        return false;
+    };
+    match Url::from_bytes(alloc, BStr::new(bytes)) {
+        Ok(again) => counted::eq(&url, &again),
+        Err(_) => false,
+    }
+}
+
+/// Whether the location has no order to what the bytes are read as once more.
+#[unsafe(no_mangle)]
+pub extern "C" fn url_bench_cmp(alloc: Global, bytes: &[u8]) -> bool
+    ensures { IsTrue result → (v : Location) × (w : Location) × Spells bytes.now v
+        × Spells bytes.now w
+        × (location_cmp v w ≡ Equal) }
+{
+    let Ok(url) = Url::from_bytes(alloc, BStr::new(bytes)) else {
+        return false;
+    };
+    match Url::from_bytes(alloc, BStr::new(bytes)) {
+        Ok(again) => matches!(counted::cmp(&url, &again), Ordering::Equal),
+        Err(_) => false,
+    }
+}
+
+/// What the default hasher makes of the location, where the bytes are one.
+#[unsafe(no_mangle)]
+pub extern "C" fn url_bench_hash(alloc: Global, bytes: &[u8], hash: &mut u64) -> bool
+    ensures { IsTrue result → (v : Location) × Spells bytes.now v
+        × (hash.new ≡ finish (fold write initial (fed_location v))) }
+{
+    match Url::from_bytes(alloc, BStr::new(bytes)) {
+        Ok(url) => {
+            *hash = counted::hash(&url);
+            true
+        }
+        Err(_) => false,
+    }
+}
+
+/// The length of the path of the location's record.
+#[unsafe(no_mangle)]
+pub extern "C" fn url_bench_to_stored(alloc: Global, bytes: &[u8]) -> usize
+    ensures { SaysOf IsPathLength bytes.now result }
+{
+    match Url::from_bytes(alloc, BStr::new(bytes)) {
+        Ok(url) => counted::to_stored(alloc, &url),
+        Err(_) => 0,
+    }
+}
+
+/// The length of the JSON of the location's record.
+#[unsafe(no_mangle)]
+pub extern "C" fn url_bench_to_json(alloc: Global, bytes: &[u8]) -> usize
+    ensures { 0 < result → IsCompactLength result }
+{
+    match Url::from_bytes(alloc, BStr::new(bytes)) {
+        Ok(url) => counted::to_json(alloc, &url),
+        Err(_) => 0,
+    }
+}
+
+/// The length of the path that is restored of the JSON of the location's record.
+#[unsafe(no_mangle)]
+pub extern "C" fn url_bench_from_json(alloc: Global, bytes: &[u8]) -> usize
+    ensures { 0 < result → IsRestoredLength result }
+{
+    let Ok(url) = Url::from_bytes(alloc, BStr::new(bytes)) else {
+        return 0;
+    };
+    match counted::json_of(alloc, &url) {
+        Some(json) => counted::from_json(alloc, &json),
+        None => 0,
+    }
+}
+
+/// The length of the path of what the text of the location is read as.
+#[unsafe(no_mangle)]
+pub extern "C" fn url_bench_reread(alloc: Global, bytes: &[u8]) -> usize
+    ensures { SaysOf IsRereadLength bytes.now result }
+{
+    match Url::from_bytes(alloc, BStr::new(bytes)) {
+        Ok(url) => counted::reread(alloc, &url),
+        Err(_) => 0,
+    }
+}
+
+/// The length of the path of what the parts of the location make.
+#[unsafe(no_mangle)]
+pub extern "C" fn url_bench_from_parts(alloc: Global, bytes: &[u8]) -> usize
+    ensures { SaysOf IsMadeLength bytes.now result }
+{
+    match Url::from_bytes(alloc, BStr::new(bytes)) {
+        Ok(url) => counted::from_parts(alloc, url),
+        Err(_) => 0,
+    }
+}

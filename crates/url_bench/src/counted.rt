@@ -1,0 +1,200 @@
+//! One call of the library in each function, so that the instructions of the call alone can be counted.
+//!
+//! None is compiled into its caller: the count begins where it is entered and ends where it is left. What the call
+//! makes is dropped there, so that it counts too.
+
+ghost use Rattle.std.specs.Prelude.{◌≡◌, ◌<◌, ◌↔◌, ◌++◌, ℕ, List, IfSome, IsTrue, Ok, fold, string_bytes};
+ghost use Rattle.std.specs.Hash.DefaultHasher.{finish, initial, write};
+ghost use Rattle.gix_url.specs.GitClass.{AgreesWithGit};
+ghost use Rattle.gix_url.specs.Order.{fed_location, location_cmp, location_eq};
+ghost use Rattle.gix_url.specs.Settled.{IsSettled};
+ghost use Rattle.gix_url.specs.Text as spec;
+ghost use Rattle.url_bench.specs.Answers.{IsCompact, IsCompactLength, IsComponentLength, IsMadeLength, IsPathLength, IsRereadLength, IsRestoredLength, IsShownLength, IsTextLength};
+
+use gix_url::Url;
+use gix_url::stored::StoredUrl;
+use std::alloc::Global;
+use std::cmp::Ordering;
+use std::hash::{DefaultHasher, Hash, Hasher};
+
+/// The length of the text, without the text; 0 where there is none.
+#[inline(never)]
+pub fn text_len(url: &Url) -> usize
+    ensures { 0 < result → IsTextLength url.now result }
+{
+    match url.text_len() {
+        Ok(length) => usize::try_from(length).unwrap_or(0),
+        Err(_) => 0,
+    }
+}
+
+/// The length of the text in memory; 0 where there is none.
+#[inline(never)]
+pub fn to_bstring(alloc: Global, url: &Url) -> usize
+    ensures { 0 < result → IsTextLength url.now result }
+{
+    match url.to_bstring(alloc) {
+        Ok(text) => text.as_bytes().len(),
+        Err(_) => 0,
+    }
+}
+
+/// Appends the text, and reports whether that was done.
+#[inline(never)]
+pub fn write_to(url: &Url, out: &mut Vec<u8>) -> bool
+    ensures { IsTrue result → (t : List ℕ) × (spec.text url.now ≡ Ok t) × (out.new.items
+        ≡ out.old.items ++ t) }
+{
+    url.write_to(out).is_ok()
+}
+
+/// The length of what is shown; 0 where nothing is.
+#[inline(never)]
+pub fn to_string(alloc: Global, url: &Url) -> usize
+    ensures { 0 < result → IsShownLength url.now result }
+{
+    match url.to_string(alloc) {
+        Ok(text) => text.len(),
+        Err(_) => 0,
+    }
+}
+
+/// Whether the location is settled.
+#[inline(never)]
+pub fn is_settled(url: &Url) -> bool
+    ensures { IsTrue result ↔ IsSettled url.now }
+{
+    url.is_settled()
+}
+
+/// Whether Git reads the same.
+#[inline(never)]
+pub fn agrees_with_git(url: &Url) -> bool
+    ensures { IsTrue result ↔ AgreesWithGit url.now }
+{
+    url.agrees_with_git()
+}
+
+/// The length of the path without query and fragment; 0 where memory is refused.
+#[inline(never)]
+pub fn path_query_fragment(alloc: Global, url: &Url) -> usize
+    ensures { 0 < result → IsComponentLength url.now result }
+{
+    match url.path_query_fragment(alloc) {
+        Ok(parts) => parts.path.as_bytes().len(),
+        Err(_) => 0,
+    }
+}
+
+/// The length of the path of a copy; 0 where memory is refused.
+#[inline(never)]
+pub fn clone(alloc: Global, url: &Url) -> usize
+    ensures { 0 < result → IsPathLength url.now result }
+{
+    match url.clone(alloc) {
+        Ok(copy) => copy.path.as_bytes().len(),
+        Err(_) => 0,
+    }
+}
+
+/// Whether the locations are equal.
+#[inline(never)]
+pub fn eq(a: &Url, b: &Url) -> bool
+    ensures { result ≡ location_eq a.now b.now }
+{
+    a == b
+}
+
+/// The order of the locations.
+#[inline(never)]
+pub fn cmp(a: &Url, b: &Url) -> Ordering
+    ensures { result ≡ location_cmp a.now b.now }
+{
+    a.cmp(b)
+}
+
+/// What the default hasher makes of the location.
+#[inline(never)]
+pub fn hash(url: &Url) -> u64
+    ensures { result ≡ finish (fold write initial (fed_location url.now)) }
+{
+    let mut hasher = DefaultHasher::new();
+    url.hash(&mut hasher);
+    hasher.finish()
+}
+
+/// The length of the path of a record; 0 where memory is refused.
+#[inline(never)]
+pub fn to_stored(alloc: Global, url: &Url) -> usize
+    ensures { 0 < result → IsPathLength url.now result }
+{
+    match url.to_stored(alloc) {
+        Ok(stored) => stored.path.len(),
+        Err(_) => 0,
+    }
+}
+
+/// The length of the JSON of its record; 0 where memory is refused.
+#[inline(never)]
+pub fn to_json(alloc: Global, url: &Url) -> usize
+    ensures { 0 < result → IsCompactLength result }
+{
+    match json_of(alloc, url) {
+        Some(json) => json.len(),
+        None => 0,
+    }
+}
+
+/// The JSON of the record of a location, if memory isn't refused.
+pub fn json_of(alloc: Global, url: &Url) -> Option<String>
+    ensures { IfSome result (λ json. IsCompact (string_bytes json)) }
+{
+    let stored = url.to_stored(alloc).ok()?;
+    serde_json::to_string(alloc, &stored).ok()
+}
+
+/// The length of the path of the location that is restored of JSON; 0 where there is none.
+#[inline(never)]
+pub fn from_json(alloc: Global, json: &str) -> usize
+    ensures { 0 < result → IsRestoredLength result }
+{
+    let Ok(stored) = serde_json::from_str::<StoredUrl>(alloc, json) else {
+        return 0;
+    };
+    match Url::from_stored(alloc, stored) {
+        Ok(url) => url.path.as_bytes().len(),
+        Err(_) => 0,
+    }
+}
+
+/// The length of the path of what the text is read as; 0 where there is none.
+#[inline(never)]
+pub fn reread(alloc: Global, url: &Url) -> usize
+    ensures { 0 < result → IsRereadLength url.now result }
+{
+    match url.reread(alloc) {
+        Ok(again) => again.path.as_bytes().len(),
+        Err(_) => 0,
+    }
+}
+
+/// The length of the path of what the parts make; 0 where they make nothing.
+#[inline(never)]
+pub fn from_parts(alloc: Global, url: Url) -> usize
+    ensures { 0 < result → IsMadeLength url result }
+{
+    let made = Url::from_parts(
+        alloc,
+        url.scheme,
+        url.user,
+        url.password,
+        url.host,
+        url.port,
+        url.path,
+        url.serialize_alternative_form,
+    );
+    match made {
+        Ok(made) => made.path.as_bytes().len(),
+        Err(_) => 0,
+    }
+}
