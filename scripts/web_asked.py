@@ -38,7 +38,7 @@ def asked(answer):
     refusal = next((name for words, name in REFUSALS.items() if words in answer), None)
     if refusal:
         return refusal
-    found = re.search(rb"\x01(.*)\x02", answer, re.S)
+    found = re.search(rb"\x01(.*?\n)\x02", answer, re.S)
     said = lines_of(found[1] if found else answer)
     host, port = host_and_port(said.get(b"host"))
     return Web(said[b"protocol"], said.get(b"username"), said.get(b"password"), host, port, said.get(b"path", b""))

@@ -22,9 +22,9 @@ def is_name_or_address(location):
 
 
 def is_usual_number(location):
-    """Whether the last label doesn't begin with a digit, or the host is an address of four decimal numbers."""
+    """Whether the host is in brackets, its last label doesn't begin with a digit, or it is four decimal numbers."""
     host = location.host
-    return not host[:1].isalnum() or not LAST_LABEL.fullmatch(host)[1][:1].isdigit() or oracle.is_ip4(host)
+    return host.startswith(b"[") or not LAST_LABEL.fullmatch(host)[1][:1].isdigit() or oracle.is_ip4(host)
 
 
 def is_short_address(location):
