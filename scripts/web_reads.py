@@ -1,0 +1,221 @@
+"""What the three readers of an HTTP remote read in its text: rules by hand for Git's credential code and for libcurl, and
+the second reading (`oracle.py`) for this library.
+
+A caller picks credentials by the host that this library reads. Git's credential code (`credential_from_url` of Git 2.39.5)
+cuts the same text for the helpers that it asks, and libcurl 7.88.1 cuts it to connect. `web_asked.py` asks the programs
+themselves, and each rule must give for each text what they give.
+"""
+import ipaddress
+import re
+from collections import namedtuple
+
+import oracle
+
+# What a reader reads. A port is its digits, and the path includes the query; for libcurl it is what the request asks for.
+Web = namedtuple("Web", "scheme user password host port path")
+PARTS = Web._fields
+HTTP = (("Http",), ("Https",))
+HOST_AND_PORT = re.compile(rb"(.*?)(?::([0-9]+))?", re.S)
+# An escape, but for that of byte 0, which neither Git nor libcurl decodes.
+ESCAPE = re.compile(rb"%(?!00)([0-9A-Fa-f]{2})")
+# What libcurl refuses in each part of a URL, and in a decoded host.
+CONTROL = re.compile(rb"[\x01-\x20\x7f]")
+NO_HOST = re.compile(rb"[\x01-\x1f \"/:#?!@{}\[\]\\$'^`*<>=;,+&()]")
+LONGEST_ZONE = 15
+
+
+def decoded(text):
+    return ESCAPE.sub(lambda it: bytes([int(it[1], 16)]), text)
+
+
+def escaped(text):
+    """Escapes in place of the bytes past 127, as libcurl writes them."""
+    return re.sub(rb"[\x80-\xff]", lambda it: b"%%%02x" % it[0][0], text)
+
+
+def cut(text):
+    """The scheme, the authority between `://` and the first of `/?#`, and the rest."""
+    scheme, _, rest = text.partition(b"://")
+    at = next((at for at, byte in enumerate(rest) if byte in b"/?#"), len(rest))
+    return scheme, rest[:at], rest[at:]
+
+
+def cut_at_first(authority):
+    """User, password and host of an authority that the first `@` cuts; the first colon before it ends the user."""
+    information, at, named = authority.partition(b"@")
+    if not at:
+        return None, None, authority
+    user, colon, password = information.partition(b":")
+    return user, password if colon else None, named
+
+
+# ---- this library
+
+def located(text):
+    """The location of HTTP that this library reads, None where it reads none."""
+    found = oracle.spells(text)
+    return found if found is not None and found.scheme in HTTP else None
+
+
+def host_and_port(named):
+    """A host that Git asks for in one word, and the port at its end."""
+    return HOST_AND_PORT.fullmatch(named).groups() if named else (named, None)
+
+
+def spelled_path(location):
+    """Path, query and fragment, with the escapes of the text."""
+    return location.path if oracle.matching(location) is None else oracle.matching(location)
+
+
+def here(location, path):
+    port = None if location.port is None else b"%d" % location.port
+    return Web(oracle.as_str(location.scheme), location.user, location.password, location.host, port, path)
+
+
+def for_credential(location):
+    """A location as Git's credential code has it: a decoded path without its first `/`."""
+    return here(location, location.path.removeprefix(b"/"))
+
+
+def for_curl(location):
+    """A location as libcurl has it: the path as the text has it."""
+    return here(location, escaped(spelled_path(location)))
+
+
+# ---- Git's credential code
+
+def decoded_by_git(piece):
+    """A piece with its escapes decoded, except before the first colon: Git takes that for a scheme."""
+    colon = max(piece.find(b":"), 0)
+    return piece[:colon] + decoded(piece[colon:])
+
+
+def credential_cut(text):
+    """The parts that Git's credential code cuts a text into."""
+    scheme, authority, rest = cut(text)
+    user, password, named = (it if it is None else decoded_by_git(it) for it in cut_at_first(authority))
+    path = decoded_by_git(rest.lstrip(b"/"))
+    # A single slash is left, where there is nothing else.
+    path = path.rstrip(b"/") or path[:1]
+    return Web(scheme, user, password, *host_and_port(named), path)
+
+
+def credential_reads(text):
+    """What Git's credential code asks helpers for, or why it asks none."""
+    found = credential_cut(text)
+    for byte, name in ((b"\n", "line end"), (b"\r", "carriage return")):
+        if any(byte in it for it in found if it):
+            return name
+    return found
+
+
+# ---- libcurl
+
+def number(digits):
+    """A number as C's `strtoul` reads it with base 0, None where it doesn't read all of it."""
+    found = re.fullmatch(rb"(0[xX](?=[0-9a-fA-F]))?([0-9a-fA-F]+)", digits)
+    if found is None:
+        return None
+    base = 16 if found[1] else 8 if found[2].startswith(b"0") else 10
+    try:
+        return int(found[2], base)
+    except ValueError:
+        return None
+
+
+def address(host):
+    """The address that libcurl takes a host of numbers for, None where it takes it for a name."""
+    numbers = [number(it) for it in host.split(b".")]
+    if len(numbers) > 4 or None in numbers:
+        return None
+    *fronts, last = numbers
+    if any(it > 255 for it in fronts) or last >= 256 ** (5 - len(numbers)):
+        return None
+    value = sum(it << 24 - 8 * at for at, it in enumerate(fronts)) + last
+    return b"%d.%d.%d.%d" % tuple(value.to_bytes(4, "big"))
+
+
+def literal(host):
+    """A bracketed address as libcurl has it: a shorter form where there is one; None where it is none."""
+    inside, mark, zone = host[1:-1].partition(b"%")
+    if not re.fullmatch(rb"[0-9A-Fa-f:.]+", inside) or (mark and not zone):
+        return None
+    if zone.startswith(b"25") and len(zone) > 2:
+        zone = zone[2:]
+    try:
+        found = ipaddress.IPv6Address(inside.decode())
+    except ValueError:
+        return None
+    shorter = shortest(found)
+    kept = shorter if len(shorter) < len(inside) else inside
+    return None if len(zone) > LONGEST_ZONE else b"[" + kept + (b"%" + zone if zone else b"") + b"]"
+
+
+def shortest(found):
+    """An address of IPv6 as C's `inet_ntop` writes it."""
+    value = found.packed
+    is_mapped = value[:12] == bytes(10) + b"\xff\xff"
+    is_compatible = value[:12] == bytes(12) and value[12:14] != bytes(2)
+    if is_mapped or is_compatible:
+        return (b"::ffff:" if is_mapped else b"::") + b"%d.%d.%d.%d" % tuple(value[12:])
+    return found.compressed.encode()
+
+
+def curl_host(host):
+    """A host as libcurl has it, None where it is none."""
+    if CONTROL.search(host):
+        return None
+    if host.startswith(b"["):
+        return literal(host)
+    if address(host):
+        return address(host)
+    name = decoded(host)
+    if not name or b"%00" in host or NO_HOST.search(name):
+        return None
+    # A transfer asks for the whole URL first, which replaces each `%` that is left by its escape.
+    return name.replace(b"%", b"%25")
+
+
+def parted(named):
+    """A host and what follows its colon; None where something else follows its brackets."""
+    found = re.fullmatch(rb"(\[[^\]]*\]|[^\[:][^:]*|)(?::(.*))?", named, re.S)
+    return found and found.groups()
+
+
+def without_dots(path):
+    """A path without its segments `.` and `..`, as RFC 3986 takes them out."""
+    given, out = path, b""
+    while given:
+        if given.startswith(b"/./") or given == b"/.":
+            given = b"/" + given[3:]
+        elif given.startswith(b"/../") or given == b"/..":
+            given, out = b"/" + given[4:], out.rpartition(b"/")[0]
+        else:
+            segment = re.match(rb"/?[^/]*", given)[0]
+            given, out = given[len(segment) :], out + segment
+    return out
+
+
+def target(rest):
+    """The path and the query that libcurl asks for; None where it refuses them."""
+    front, _, fragment = rest.partition(b"#")
+    path, _, query = front.partition(b"?")
+    if any(CONTROL.search(it) for it in (path, query, fragment)):
+        return None
+    return (escaped(without_dots(path)) or b"/") + (b"?" + escaped(query) if query else b"")
+
+
+def curl_reads(text):
+    """What libcurl reads for a transfer; None where it refuses."""
+    scheme, mark, rest = text.partition(b"://")
+    # A third slash is passed over.
+    scheme, authority, rest = cut(scheme + mark + rest.removeprefix(b"/"))
+    user, password, named = cut_at_first(authority)
+    host, digits = parted(named) or (b"", None)
+    is_port = not digits or (re.fullmatch(rb"[0-9]+", digits) and int(digits) <= 65535)
+    # Git gives libcurl a user and a password itself; a user alone libcurl decodes, and refuses byte 0 in it.
+    is_user = not CONTROL.search((user or b"") + (password or b"")) and (password is not None or b"%00" not in (user or b""))
+    if not is_port or not is_user or None in (curl_host(host), target(rest)):
+        return None
+    user, password = (it if it is None else decoded(it) for it in (user, password))
+    return Web(scheme.lower(), user, password, curl_host(host), b"%d" % int(digits) if digits else None, target(rest))
