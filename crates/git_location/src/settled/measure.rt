@@ -3,13 +3,14 @@
 //! It uses the walk of `length` and the pieces of the writer. Its contract: the answer is yes exactly where the text
 //! of the location is short enough. It takes no memory.
 
-ghost use Rattle.std.specs.Prelude.{◌≡◌, ◌↔◌, IsTrue, Ok};
+ghost use Rattle.std.specs.Prelude.{◌≡◌, ◌↔◌, ◌+◌, IsTrue, Ok, drop, length};
 ghost use Rattle.git_syntax.specs.Bytes.{FreeOf, colon};
 ghost use Rattle.git_location.specs.Pieces.{AreOwn, pieces_text};
 ghost use Rattle.git_syntax.specs.Schemes.{protocol_text};
 ghost use Rattle.git_location.specs.Settled.{HasFittingText};
 ghost use Rattle.git_location.specs.Text.{canonical_text, text};
-ghost use Rattle.git_syntax.specs.Walks.{is_walk_short, text_walk_for, text_walk_past};
+ghost use Rattle.git_syntax.specs.Schemes as spec;
+ghost use Rattle.git_syntax.specs.Walks.{is_rest_short, is_text_in_time};
 ghost use Rattle.git_location.specs.SettledParts.{IsPiecesShort};
 ghost use Rattle.git_location.specs.Sinks.{WalksPast, walks_joined, walks_nothing};
 
@@ -51,28 +52,28 @@ fn is_own_short(url: &UrlRef<'_>) -> bool
 fn are_short(scheme: &[u8], pieces: &Pieces<'_>) -> bool
     ensures { IsTrue result ↔ IsPiecesShort scheme.now (pieces_text pieces.now) }
 {
-    scheme.len() <= usize::from(LIMIT) && is_rest_short(scheme, pieces)
+    scheme.len() <= LIMIT && is_rest_short(scheme, pieces)
 }
 
 /// Whether what stands behind the scheme is short enough. Where it has no more bytes than the limit, none need be
 /// looked at.
 fn is_rest_short(scheme: &[u8], pieces: &Pieces<'_>) -> bool
-    ensures { result ≡ is_walk_short
-        (text_walk_past (text_walk_for scheme.now) (pieces_text pieces.now)).walk }
+    ensures { result ≡ is_rest_short (spec.is_web_scheme scheme.now)
+        (drop (length scheme.now + 3) (pieces_text pieces.now)) }
 {
-    if pieces.len() <= scheme.len() as u128 + 3 + u128::from(LIMIT) {
+    if pieces.len() <= scheme.len() as u128 + 3 + LIMIT as u128 {
         return true;
     }
-    past_pieces(TextWalk::over(scheme), pieces).is_short()
+    is_in_time(TextWalk::over(scheme), pieces)
 }
 
-/// The walk past the pieces.
-fn past_pieces(walk: TextWalk, pieces: &Pieces<'_>) -> TextWalk
-    ensures { result ≡ text_walk_past walk (pieces_text pieces.now) }
+/// Whether a path starts in time where the walk goes past the pieces.
+fn is_in_time(walk: TextWalk, pieces: &Pieces<'_>) -> bool
+    ensures { result ≡ is_text_in_time walk (pieces_text pieces.now) }
 {
     let mut walk = walk;
     let Ok(()) = pieces.put::<TextWalk, Measure>(&mut walk);
-    walk
+    walk.is_in_time()
 }
 
 /// The walk of the length test.
