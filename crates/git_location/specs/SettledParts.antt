@@ -1,5 +1,5 @@
 -- What the tests of the settled class tell of hosts and of texts on the way.
-use Rattle.std.specs.Prelude.{◌≡◌, ℕ, ◌≤◌, true, false, ◌⊎◌, List, [], ◌∷◌, ◌++◌, length, Option, Some, None, MatchOption, Ok}
+use Rattle.std.specs.Prelude.{◌≡◌, ℕ, ◌+◌, false, ◌⊎◌, List, [], ◌∷◌, ◌++◌, length, drop, Option, MatchOption, Ok}
 use Rattle.std.specs.Borrow.{Bor}
 use Rattle.git_syntax.specs.Value.{Location}
 use Rattle.git_syntax.specs.Bytes.{colon, left_bracket, right_bracket, FreeOf}
@@ -7,7 +7,7 @@ use Rattle.git_syntax.specs.Escapes.{has_percent}
 use Rattle.git_syntax.specs.Addresses.{Literal}
 use Rattle.git_syntax.specs.Schemes.{protocol_text}
 use Rattle.git_location.specs.Text.{text, canonical_text}
-use Rattle.git_syntax.specs.Walks.{is_walk_short, text_walk_past, text_walk_for}
+use Rattle.git_syntax.specs.Authority.{Fits}
 use Rattle.git_location.specs.Settled.{HasCredentials, HasFittingText, HasUrlPath, IsHosted, IsRawPath, IsWebName}
 
 -- a literal that stays as it is
@@ -47,10 +47,4 @@ pub record IsWrittenAsUrl (v : Location) : Type 0 where
 
 -- the scheme is short enough, and so is what follows it and its mark in the text
 abbrev pub IsPiecesShort : List ℕ → List ℕ → Type 0
-IsPiecesShort scheme whole = (length scheme ≤ 1024)
-    × (is_walk_short (text_walk_past (text_walk_for scheme) whole).walk ≡ true)
-
--- the length of a part, where there is one
-abbrev pub optional_length : Option (List ℕ) → ℕ
-optional_length None = 0
-optional_length (Some t) = length t
+IsPiecesShort scheme whole = Fits scheme (drop (length scheme + 3) whole)

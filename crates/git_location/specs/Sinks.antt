@@ -8,7 +8,7 @@ use Rattle.std.specs.declared.fmt.Formatter.{Formatter}
 use Rattle.std.specs.Fmt.{HasWrittenStyled, IsFlush}
 use Rattle.git_syntax.specs.declared.length.TextWalk.{TextWalk}
 use Rattle.git_syntax.specs.Bytes.{lossy_text}
-use Rattle.git_syntax.specs.Walks.{text_walk_past}
+use Rattle.git_syntax.specs.Walks.{is_text_in_time}
 
 -- ---- memory
 
@@ -94,18 +94,18 @@ module _ {W : Type 0} (took : W → List ℕ → W → Type 0) where
 
 -- ---- a walk
 
--- a walk past a text leads where it leads with the text before it, whatever comes behind
+-- a walk past a text has the outcome that it has with the text before it, whatever comes behind
 abbrev pub WalksPast : TextWalk → List ℕ → TextWalk → Type 0
 WalksPast old text new = (behind : List ℕ)
-    → text_walk_past old (text ++ behind) ≡ text_walk_past new behind
+    → is_text_in_time new behind ≡ is_text_in_time old (text ++ behind)
 
 pub walks_nothing : (a : TextWalk) → WalksPast a [] a
 walks_nothing a behind = refl
 
 pub walks_joined : (a b c : TextWalk) (x y : List ℕ) → WalksPast a x b → WalksPast b y c
     → WalksPast a (x ++ y) c
-walks_joined a b c x y first second behind = ap (text_walk_past a) (append_assoc x y behind) ∙ first
-    (y ++ behind) ∙ second behind
+walks_joined a b c x y first second behind = second behind ∙ first (y ++ behind) ∙ sym
+    (ap (is_text_in_time a) (append_assoc x y behind))
 
 -- ---- a note
 

@@ -1,62 +1,45 @@
--- A walk over what follows the `://` of a URL, which measures it for the length test. Counts stop one past the limit.
-use Rattle.std.specs.Prelude.{ℕ, ◌+◌, ◌-◌, length, drop, min, nat_le, Bool, List, [], ◌∷◌, if◌then◌else◌}
+-- The length test as a walk over what follows the `://` of a URL: whether a path starts before too many bytes count.
+use Rattle.std.specs.Prelude.{ℕ, ◌+◌, length, take, drop, nat_le, ◌||◌, Bool, List, [], ◌∷◌, if◌then◌else◌}
 use Rattle.std.specs.Char.{is_ascii_whitespace}
+use Rattle.std.specs.List.{list_any}
 use Rattle.git_syntax.specs.declared.length.Stage.{Stage}
-use Rattle.git_syntax.specs.declared.length.Stage.TheVariants.{Slashes, Front, Behind}
-use Rattle.git_syntax.specs.declared.length.Walk.{Walk}
+use Rattle.git_syntax.specs.declared.length.Stage.TheVariants.{Slashes, Front, Fixed}
 use Rattle.git_syntax.specs.declared.length.TextWalk.{TextWalk}
-use Rattle.git_syntax.specs.Authority.{is_any_slash}
+use Rattle.git_syntax.specs.Authority.{is_any_slash, without_white_space}
 use Rattle.git_syntax.specs.Bytes.{is_path_start}
 use Rattle.git_syntax.specs.Schemes.{is_web_scheme}
 
--- one more, up to one past the limit
-abbrev pub one_more : ℕ → ℕ
-one_more count = min count 1024 + 1
+-- slashes at the front, and white space
+abbrev pub is_skipped : ℕ → Bool
+is_skipped b = is_any_slash b || is_ascii_whitespace b
 
--- the stage behind a byte that is no skipped slash, where so many stand before it
-abbrev pub stage_counted : Bool → ℕ → ℕ → Stage
-stage_counted web count b = if is_path_start web b then Behind count else Front (one_more count)
+-- what stands behind the slashes at the front
+abbrev pub without_slashes : List ℕ → List ℕ
+without_slashes [] = []
+without_slashes (b ∷ bs) = if is_any_slash b then without_slashes bs else b ∷ bs
 
--- the stage behind a byte that is no white space
-abbrev pub stage_past : Bool → Stage → ℕ → Stage
-stage_past web Slashes b = if is_any_slash b then Slashes else stage_counted web 0 b
-stage_past web (Front count) b = stage_counted web count b
-stage_past web (Behind count) b = Behind count
+-- a path starts among the first bytes, as many as that
+abbrev pub starts_within : Bool → ℕ → List ℕ → Bool
+starts_within web n bs = list_any (is_path_start web) (take n bs)
 
--- a walk past one more byte
-abbrev pub walk_past : Walk → ℕ → Walk
-walk_past walk b = record walk {
-  stage = if is_ascii_whitespace b then walk.stage else stage_past walk.web walk.stage b;
-  whole = one_more walk.whole;
-}
+-- at a stage, a path starts in time where these bytes follow
+abbrev pub is_in_time : Bool → Stage → List ℕ → Bool
+is_in_time web Slashes bs = starts_within web 1025 (without_slashes (without_white_space bs))
+is_in_time web (Front within) bs = starts_within web within (without_white_space bs)
+is_in_time web (Fixed in_time) bs = in_time
 
--- a walk past more bytes
-abbrev pub walk_past_all : Walk → List ℕ → Walk
-walk_past_all walk [] = walk
-walk_past_all walk (b ∷ bs) = walk_past_all (walk_past walk b) bs
+-- what follows the `://` is short enough: as a whole, or as a path starts in time
+abbrev pub is_rest_short : Bool → List ℕ → Bool
+is_rest_short web rest = nat_le (length rest) 1024 || is_in_time web Slashes rest
 
--- a walk before its first byte
-abbrev pub walk_behind : List ℕ → Walk
-walk_behind scheme = record { web = is_web_scheme scheme; stage = Slashes; whole = 0 }
-
--- what counts at a stage
-abbrev pub counted_at : Stage → ℕ → ℕ
-counted_at Slashes whole = whole
-counted_at (Front count) whole = whole
-counted_at (Behind count) whole = count
-
--- what was walked past is short enough
-abbrev pub is_walk_short : Walk → Bool
-is_walk_short walk = nat_le (counted_at walk.stage walk.whole) 1024
-
--- a walk over a text past more bytes: what is left of the scheme and its mark is left out
-abbrev pub text_walk_past : TextWalk → List ℕ → TextWalk
-text_walk_past text bs = record {
-  left = text.left - length bs;
-  walk = walk_past_all text.walk
-      (drop text.left bs);
-}
+-- the same of a walk over a text: what is left of the scheme and its mark is left out
+abbrev pub is_text_in_time : TextWalk → List ℕ → Bool
+is_text_in_time text bs = is_in_time text.web text.stage (drop text.left bs)
 
 -- a walk over the text of a URL with this scheme, before its first byte
 abbrev pub text_walk_for : List ℕ → TextWalk
-text_walk_for scheme = record { left = length scheme + 3; walk = walk_behind scheme }
+text_walk_for scheme = record {
+  left = length scheme + 3;
+  web = is_web_scheme scheme;
+  stage = Slashes;
+}

@@ -1,95 +1,115 @@
 //! The length test of URLs.
 //!
-//! It uses the tests of `bytes` and `scheme`, and asks for no memory. A [`Walk`] takes what follows the `://` of a
-//! URL in any number of pieces, so that a text can be measured that stands nowhere as a whole. Its contract: a walk
-//! past pieces is a walk past the pieces joined, and it is short exactly where the definition of the length test
-//! says. A text that isn't longer than the limit is short without a walk.
+//! It uses the tests of `bytes` and `scheme`, and asks for no memory. A walk takes what follows the `://` of a URL in any
+//! number of pieces, so that a text can be measured that stands nowhere as a whole, and looks at no byte once nothing
+//! changes its outcome. Its contract: what follows the pieces has the outcome that it has behind them, and the outcome is
+//! the one that the definition of the length test says. A text that isn't longer than the limit is short without a walk.
 
-ghost use Rattle.std.specs.Prelude.{◌≡◌, ◌↔◌, IsTrue};
-ghost use Rattle.git_syntax.specs.Authority.{Fits, is_any_slash};
+ghost use Rattle.std.specs.Prelude.{◌≡◌, ◌↔◌, ◌++◌, [], List, ℕ, IsTrue, not};
+ghost use Rattle.std.specs.List.{count_by};
+ghost use Rattle.std.specs.Char.{is_ascii_whitespace};
+ghost use Rattle.git_syntax.specs.Authority.{Fits};
 ghost use Rattle.git_syntax.specs.Schemes.{is_web_scheme};
-ghost use Rattle.git_syntax.specs.Walks.{one_more, stage_counted, stage_past, walk_past, walk_past_all, is_walk_short, text_walk_past, text_walk_for};
+ghost use Rattle.git_syntax.specs.Walks.{is_skipped, is_in_time, is_text_in_time, text_walk_for};
 
-use crate::bytes::is_path_start;
+use crate::bytes::cut_before_path;
 use crate::scheme::is_web_scheme;
 
-/// The bytes that a scheme may have, and what counts of that which follows.
-pub const LIMIT: u16 = 1024;
+/// The bytes that a scheme may have, and those that may count of what follows.
+pub const LIMIT: usize = 1024;
 
-/// What a walk has come to, white space aside.
-#[derive(Clone, Copy, PartialEq, Eq)]
+/// What a walk over what follows the `://` of a URL has come to.
+#[derive(Clone, Copy)]
 enum Stage {
-    /// Slashes and backslashes, which are skipped.
+    /// Slashes, backslashes and white space alone, which are skipped.
     Slashes,
-    /// The front, with the count of its bytes.
-    Front(u16),
-    /// What stands behind the front, which had so many bytes.
-    Behind(u16),
+    /// The front. A path starts in time among the next bytes that count, as many as that.
+    Front(usize),
+    /// Whether a path started in time, which nothing changes.
+    Fixed(bool),
 }
 
-/// A walk over what follows the `://` of a URL.
-#[derive(Clone, Copy, PartialEq, Eq)]
-struct Walk {
-    web: bool,
-    stage: Stage,
-    whole: u16,
+impl Stage {
+    /// The stage behind these bytes.
+    fn past(self, web: bool, bytes: &[u8]) -> Stage
+        ensures { (behind : List ℕ)
+            → is_in_time web result behind ≡ is_in_time web self (bytes.now ++ behind) }
+    {
+        match self {
+            Stage::Slashes => past_slashes(web, bytes),
+            Stage::Front(within) => past_front(web, within, bytes),
+            Stage::Fixed(in_time) => Stage::Fixed(in_time),
+        }
+    }
+
+    /// Whether a path started in time, where nothing follows.
+    fn is_in_time(self, web: bool) -> bool
+        ensures { result ≡ is_in_time web self [] }
+    {
+        matches!(self, Stage::Fixed(true))
+    }
 }
 
-impl Walk {
-    /// A walk that has yet to begin, behind a scheme of HTTP or another.
-    fn behind(web: bool) -> Walk
-        ensures { result ≡ record { web = web; stage = Stage.Slashes; whole = 0 } }
-    {
-        Walk {
-            web,
-            stage: Stage::Slashes,
-            whole: 0,
+/// The stage behind these bytes, before which only such stand as are skipped.
+fn past_slashes(web: bool, bytes: &[u8]) -> Stage
+    ensures { (behind : List ℕ)
+        → is_in_time web result behind ≡ is_in_time web Stage.Slashes (bytes.now ++ behind) }
+{
+    let mut rest = bytes;
+    while let [first, behind @ ..] = rest {
+        if !is_skipped(*first) {
+            return past_front(web, LIMIT + 1, rest);
         }
+        rest = behind;
     }
+    Stage::Slashes
+}
 
-    /// The walk past these bytes.
-    fn past(self, bytes: &[u8]) -> Walk
-        ensures { result ≡ walk_past_all self bytes.now }
-    {
-        let mut walk = self;
-        for byte in bytes {
-            walk = walk.past_byte(*byte);
+/// The stage behind these bytes of the front. They are looked at in windows, as few as fix the outcome.
+fn past_front(web: bool, within: usize, bytes: &[u8]) -> Stage
+    ensures { (behind : List ℕ)
+        → is_in_time web result behind ≡ is_in_time web (Stage.Front within) (bytes.now ++ behind) }
+{
+    let mut left = within;
+    let mut rest = bytes;
+    while !rest.is_empty() {
+        let (window, behind) = rest.split_at(rest.len().min(LIMIT + 1));
+        let (front, path) = cut_before_path(window, web);
+        left = left.saturating_sub(counted(front));
+        if left == 0 {
+            return Stage::Fixed(false);
         }
-        walk
+        if !path.is_empty() {
+            return Stage::Fixed(true);
+        }
+        rest = behind;
     }
+    Stage::Front(left)
+}
 
-    /// The walk past one byte.
-    fn past_byte(self, byte: u8) -> Walk
-        ensures { result ≡ walk_past self byte }
-    {
-        let stage = if byte.is_ascii_whitespace() {
-            self.stage
-        } else {
-            stage_past(self.stage, byte, self.web)
-        };
-        Walk {
-            web: self.web,
-            stage,
-            whole: one_more(self.whole),
-        }
-    }
+/// How many bytes count: those that are no white space.
+fn counted(bytes: &[u8]) -> usize
+    ensures { result ≡ count_by (λ b. not (is_ascii_whitespace b)) bytes.now }
+{
+    bytes
+        .iter()
+        .filter(|byte| !byte.is_ascii_whitespace())
+        .count()
+}
 
-    /// Whether what was walked past is short enough.
-    fn is_short(self) -> bool
-        ensures { result ≡ is_walk_short self }
-    {
-        match self.stage {
-            Stage::Slashes | Stage::Front(_) => self.whole <= LIMIT,
-            Stage::Behind(count) => count <= LIMIT,
-        }
-    }
+/// Whether the byte is skipped at the front: `/`, `\` and white space.
+fn is_skipped(byte: u8) -> bool
+    ensures { result ≡ is_skipped byte }
+{
+    byte == b'/' || byte == b'\\' || byte.is_ascii_whitespace()
 }
 
 /// A walk over the whole text of a URL, which leaves out the scheme and the `://` behind it.
-#[derive(Clone, Copy, PartialEq, Eq)]
+#[derive(Clone, Copy)]
 pub struct TextWalk {
     left: usize,
-    walk: Walk,
+    web: bool,
+    stage: Stage,
 }
 
 impl TextWalk {
@@ -99,69 +119,36 @@ impl TextWalk {
     {
         TextWalk {
             left: scheme.len() + 3,
-            walk: Walk::behind(is_web_scheme(scheme)),
+            web: is_web_scheme(scheme),
+            stage: Stage::Slashes,
         }
     }
 
     /// The walk past these bytes.
     pub fn past(self, bytes: &[u8]) -> TextWalk
-        ensures { result ≡ text_walk_past self bytes.now }
+        ensures { (behind : List ℕ)
+            → is_text_in_time result behind ≡ is_text_in_time self (bytes.now ++ behind) }
     {
         if bytes.len() <= self.left {
             return TextWalk {
                 left: self.left - bytes.len(),
-                walk: self.walk,
+                web: self.web,
+                stage: self.stage,
             };
         }
         TextWalk {
             left: 0,
-            walk: self.walk.past(bytes.split_at(self.left).1),
+            web: self.web,
+            stage: self.stage.past(self.web, bytes.split_at(self.left).1),
         }
     }
 
-    /// Whether what was walked past is short enough, but for the scheme.
-    pub fn is_short(self) -> bool
-        ensures { result ≡ is_walk_short self.walk }
+    /// Whether a path started in time behind the scheme, where nothing follows.
+    pub fn is_in_time(self) -> bool
+        ensures { result ≡ is_text_in_time self [] }
     {
-        self.walk.is_short()
+        self.stage.is_in_time(self.web)
     }
-}
-
-/// One more, up to one past the limit: a count never wraps.
-fn one_more(count: u16) -> u16
-    ensures { result ≡ one_more count }
-{
-    count.min(LIMIT) + 1
-}
-
-/// The stage behind a byte that is no white space.
-fn stage_past(stage: Stage, byte: u8, web: bool) -> Stage
-    ensures { result ≡ stage_past web stage byte }
-{
-    match stage {
-        Stage::Slashes if is_any_slash(byte) => Stage::Slashes,
-        Stage::Slashes => stage_counted(0, byte, web),
-        Stage::Front(count) => stage_counted(count, byte, web),
-        Stage::Behind(count) => Stage::Behind(count),
-    }
-}
-
-/// The stage behind a byte that isn't skipped, where so many stand before it.
-fn stage_counted(count: u16, byte: u8, web: bool) -> Stage
-    ensures { result ≡ stage_counted web count byte }
-{
-    if is_path_start(byte, web) {
-        Stage::Behind(count)
-    } else {
-        Stage::Front(one_more(count))
-    }
-}
-
-/// Whether the byte is `/` or `\`.
-fn is_any_slash(byte: u8) -> bool
-    ensures { result ≡ is_any_slash byte }
-{
-    byte == b'/' || byte == b'\\'
 }
 
 /// Whether a scheme, of HTTP or another, and what follows its `://` are short enough.
@@ -169,10 +156,9 @@ pub fn fits(web: bool, scheme: &[u8], rest: &[u8]) -> bool
     requires { web ≡ is_web_scheme scheme.now }
     ensures { IsTrue result ↔ Fits scheme.now rest.now }
 {
-    let limit = usize::from(LIMIT);
-    if scheme.len() > limit {
+    if scheme.len() > LIMIT {
         return false;
     }
     // What counts is never longer than the whole, so a short rest needs no walk.
-    rest.len() <= limit || Walk::behind(web).past(rest).is_short()
+    rest.len() <= LIMIT || past_slashes(web, rest).is_in_time(web)
 }

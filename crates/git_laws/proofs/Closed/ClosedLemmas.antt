@@ -1,18 +1,18 @@
 -- What is read is settled but for corners, and of these kinds what comes back is settled.
-use Rattle.std.proofs.Common.{◌≡◌, ℕ, Bool, true, false, ◌⊎◌, inl, inr, List, [], ◌∷◌, ◌++◌, Option, Some, None, Ok, refl, sym, ap, subst, ◌∙◌, ◌≤◌, length, codes, bytes_eq}
+use Rattle.std.proofs.Common.{◌≡◌, ℕ, Bool, true, false, ◌⊎◌, inl, inr, List, [], ◌∷◌, ◌++◌, Option, Some, None, Ok, refl, sym, ap, subst, ◌∙◌, ◌+◌, length, drop, codes, bytes_eq}
 use Rattle.std.specs.Prelude.{is_some, IsSome}
-use Rattle.std.proofs.lemmas.Bool.{both_ways, false≢true, leb-true, or_left}
+use Rattle.std.proofs.lemmas.Bool.{both_ways, false≢true, or_left}
 use Rattle.std.proofs.lemmas.Option.{none-some, same_Some}
 use Rattle.git_syntax.specs.Value.{Protocol, Location}
 use Rattle.git_syntax.specs.Value.Protocol.{file, http, https, ext, helper}
 use Rattle.git_syntax.specs.Bytes.{colon, left_bracket, begins_with}
 use Rattle.git_syntax.specs.Escapes.{has_percent}
 use Rattle.git_syntax.specs.Schemes.{protocol_of, protocol_text}
-use Rattle.git_syntax.specs.Walks.{is_walk_short, text_walk_past, text_walk_for}
 use Rattle.git_syntax.specs.Grammar.{SpellsUrl, SpellsFile, Spells}
 use Rattle.git_location.specs.Text.{has_colon, canonical_text, text}
 use Rattle.git_location.specs.Settled.{IsSettledFile, IsSettledWeb, HasFittingText, IsSettledBy, IsSettled, IsWeb}
 use Rattle.git_laws.specs.Laws.{keeps_bytes, ComesBack, is_closed, IsCorner, Closed, Exact}
+use Rattle.git_laws.proofs.Refused.TextDecisions.{fits_or_not}
 use Rattle.git_laws.proofs.Written.KeptLemmas.{kept_closed, kept_exact}
 use Rattle.git_laws.proofs.Written.FileLemmas.{StaysOpen, file_closed, file_exact}
 use Rattle.git_laws.proofs.Closed.WebClosedLemmas.{StaysBare, IsApart, web_read, web_closed}
@@ -65,15 +65,14 @@ web_host_by v host web there =
       | inr other ↦ inl (λ front e. absurd (other front e))
     ]
 
--- a scheme of HTTP is short
-web_scheme_short : (v : Location) → IsWeb v → length (protocol_text v.scheme) ≤ 1024
-web_scheme_short v (inl e) = subst (λ p. length (protocol_text p) ≤ 1024) (sym e) (leb-true _ _ refl)
-web_scheme_short v (inr e) = subst (λ p. length (protocol_text p) ≤ 1024) (sym e) (leb-true _ _ refl)
-
 -- a text is short enough to be read again, or isn't
-fitting_by : (v : Location) (short : Bool) → IsWeb v → text v ≡ Ok (canonical_text v) → is_walk_short (text_walk_past (text_walk_for (protocol_text v.scheme)) (canonical_text v)).walk ≡ short → HasFittingText v ⊎ ¬ HasFittingText v
-fitting_by v true web written e = inl ((fitting_text v (canonical_text v) (written_web v web).no_colon written (sym written)).0 (web_scheme_short v web, e))
-fitting_by v false web written e = inr (λ fits. both_ways _ e ((fitting_text v (canonical_text v) (written_web v web).no_colon written (sym written)).1 fits).1)
+fitting_or_not : (v : Location) → IsWeb v → text v ≡ Ok (canonical_text v) → HasFittingText v ⊎ ¬ HasFittingText v
+fitting_or_not v web written =
+    let class = fitting_text v (canonical_text v) (written_web v web).no_colon written (sym written) in
+    elim (fits_or_not (protocol_text v.scheme) (drop (length (protocol_text v.scheme) + 3) (canonical_text v))) [
+      | inl fits ↦ inl (class.0 fits)
+      | inr long ↦ inr (λ fits. long (class.1 fits))
+    ]
 
 -- a URL of HTTP that is read has a host, and the text of a URL
 web_written : (b : List ℕ) (v : Location) → SpellsUrl b v → IsWeb v → IsSome v.host × (text v ≡ Ok (canonical_text v))
@@ -95,7 +94,7 @@ web_closed_by b v (Some host) there h web =
     elim (web_host_by v host web there) [
       | inr corner ↦ inr corner
       | inl apart ↦
-          elim (fitting_by v _ web written refl) [
+          elim (fitting_or_not v web written) [
             | inr long ↦ inr (IsCorner.web_length web long)
             | inl fits ↦ inl (web_settled v web (web_closed b v h web (λ other is. subst IsApart (same_Some host other (sym there ∙ is)) apart) fits))
           ]

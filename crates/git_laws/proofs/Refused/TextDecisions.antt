@@ -13,11 +13,12 @@ use Rattle.git_syntax.specs.Addresses.{IsIpv6Text, is_zone_byte, IsZone}
 use Rattle.git_syntax.specs.AddressTest.{is_ipv6_text}
 use Rattle.git_syntax.specs.Hosts.{IsLiteral}
 use Rattle.git_syntax.specs.Authority.{Fits}
-use Rattle.git_syntax.specs.Walks.{is_walk_short, walk_past_all, walk_behind}
+use Rattle.git_syntax.specs.Schemes.{is_web_scheme}
+use Rattle.git_syntax.specs.Walks.{is_rest_short}
 use Rattle.git_syntax.specs.HostPieces.{IsEscapedZone}
 use Rattle.git_syntax.proofs.Texts.CutLemmas.{heads, tails, free-cons, free_or_cut}
 use Rattle.git_syntax.proofs.Addresses.AddressTestLemmas.{ipv6_text_from, ipv6_text_to}
-use Rattle.git_syntax.proofs.Readings.LengthLemmas.{fits_from_walk, walk_from_fits}
+use Rattle.git_syntax.proofs.Readings.LengthLemmas.{fits_tested}
 use Rattle.git_syntax.proofs.Readings.HostLemmas.{literal_address, literal_alone, literal_parts, literal_zoned}
 
 -- ---- tests
@@ -56,7 +57,7 @@ pub fits_or_not : (scheme rest : List ℕ) → Decides (Fits scheme rest)
 fits_or_not scheme rest =
     elim (cases_lt 1024 (length scheme)) [
       | inl long ↦ inr (λ fits. absurd (omega (arith, fits.scheme_length)))
-      | inr short ↦ by_test (is_walk_short (walk_past_all (walk_behind scheme) rest)) (fits_from_walk scheme rest short) (walk_from_fits scheme rest)
+      | inr short ↦ let test = fits_tested scheme rest short in by_test (is_rest_short (is_web_scheme scheme) rest) test.0 test.1
     ]
 
 -- ---- literals

@@ -3,14 +3,16 @@
 //! It uses the walk of `length`, the pieces of the writer and `value`. Its contract: the answer is yes exactly where
 //! the text of the location is short enough. The lengths of the parts decide for nearly all. It takes no memory.
 
-ghost use Rattle.std.specs.Prelude.{◌≡◌, ◌≤◌, ◌^◌, ◌↔◌, IsTrue, Ok, length, option_map};
+ghost use Rattle.std.specs.Prelude.{◌≡◌, ◌≤◌, ◌^◌, ◌↔◌, ◌+◌, IsTrue, Ok, drop, length, option_map};
 ghost use Rattle.git_syntax.specs.Bytes.{FreeOf, colon};
 ghost use Rattle.git_location.specs.Pieces.{AreOwn, pieces_text};
 ghost use Rattle.git_syntax.specs.Schemes.{protocol_text};
 ghost use Rattle.git_location.specs.Settled.{HasFittingText};
 ghost use Rattle.git_location.specs.Text.{canonical_text, text};
-ghost use Rattle.git_syntax.specs.Walks.{is_walk_short, text_walk_for, text_walk_past};
-ghost use Rattle.git_location.specs.SettledParts.{IsPiecesShort, optional_length};
+ghost use Rattle.git_syntax.specs.Schemes as spec;
+ghost use Rattle.git_syntax.specs.Walks.{is_rest_short, is_text_in_time};
+ghost use Rattle.git_syntax.specs.FoundPieces.{optional_length};
+ghost use Rattle.git_location.specs.SettledParts.{IsPiecesShort};
 ghost use Rattle.git_location.specs.Sinks.{WalksPast, walks_joined, walks_nothing};
 
 use crate::url_ref::UrlRef;
@@ -41,7 +43,7 @@ fn has_short_parts(url: &UrlRef<'_>) -> bool
     requires canonical { text url.now ≡ Ok (canonical_text url.now) }
     ensures { IsTrue result → HasFittingText url.now }
 {
-    longest_len(url) <= u128::from(LIMIT)
+    longest_len(url) <= LIMIT as u128
 }
 
 /// A length that the location's text as a URL is not longer than: an escape has three bytes, and the marks and the port
@@ -99,28 +101,28 @@ fn is_own_short(url: &UrlRef<'_>) -> bool
 fn are_short(scheme: &[u8], pieces: &Pieces<'_>) -> bool
     ensures { IsTrue result ↔ IsPiecesShort scheme.now (pieces_text pieces.now) }
 {
-    scheme.len() <= usize::from(LIMIT) && is_rest_short(scheme, pieces)
+    scheme.len() <= LIMIT && is_rest_short(scheme, pieces)
 }
 
 /// Whether what stands behind the scheme is short enough. Where it has no more bytes than the limit, none need be
 /// looked at.
 fn is_rest_short(scheme: &[u8], pieces: &Pieces<'_>) -> bool
-    ensures { result ≡ is_walk_short
-        (text_walk_past (text_walk_for scheme.now) (pieces_text pieces.now)).walk }
+    ensures { result ≡ is_rest_short (spec.is_web_scheme scheme.now)
+        (drop (length scheme.now + 3) (pieces_text pieces.now)) }
 {
-    if pieces.len() <= scheme.len() as u128 + 3 + u128::from(LIMIT) {
+    if pieces.len() <= scheme.len() as u128 + 3 + LIMIT as u128 {
         return true;
     }
-    past_pieces(TextWalk::over(scheme), pieces).is_short()
+    is_in_time(TextWalk::over(scheme), pieces)
 }
 
-/// The walk past the pieces.
-fn past_pieces(walk: TextWalk, pieces: &Pieces<'_>) -> TextWalk
-    ensures { result ≡ text_walk_past walk (pieces_text pieces.now) }
+/// Whether a path starts in time where the walk goes past the pieces.
+fn is_in_time(walk: TextWalk, pieces: &Pieces<'_>) -> bool
+    ensures { result ≡ is_text_in_time walk (pieces_text pieces.now) }
 {
     let mut walk = walk;
     let Ok(()) = pieces.put::<TextWalk, Measure>(&mut walk);
-    walk
+    walk.is_in_time()
 }
 
 /// The walk of the length test.

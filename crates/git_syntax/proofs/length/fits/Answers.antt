@@ -1,16 +1,19 @@
--- Short texts fit; of a longer one, the walk past all bytes is the length test.
-use Rattle.std.proofs.Common.{◌∙◌, ap, sym, arith}
-use Rattle.std.proofs.lemmas.Bool.{le-leb}
-use Rattle.git_syntax.specs.Walks.{walk_past_all, is_walk_short}
-use Rattle.git_syntax.proofs.Readings.LengthLemmas.{behind_scheme, fits_from_lengths, fits_from_walk, walk_from_fits}
+-- Short texts fit; of a longer one, whether a path starts in time is the length test.
+use Rattle.std.proofs.Common.{◌∙◌, [], length, ap, sym, arith, append-nil}
+use Rattle.std.proofs.lemmas.Bool.{le-leb, or_left}
+use Rattle.git_syntax.specs.declared.length.Stage.TheVariants.{Slashes}
+use Rattle.git_syntax.specs.Walks.{is_in_time}
+use Rattle.git_syntax.proofs.Readings.LengthLemmas.{fits_tested, long_tested}
 use Rattle.git_syntax.proofs.length.fits.Goals as goal
 
-pub returns-then-rest-limit : goal.returns-then-rest-limit
-returns-then-rest-limit c = (λ _. fits_from_lengths c.args.scheme.now c.args.rest.now (omega arith) (omega arith), λ _. le-leb _ _ (omega arith))
+pub returns-then-rest-le-LIMIT : goal.returns-then-rest-le-LIMIT
+returns-then-rest-le-LIMIT c =
+    let short = le-leb (length c.args.rest.now) 1024 (omega arith) in
+    (λ _. (fits_tested c.args.scheme.now c.args.rest.now (omega arith)).0 (or_left _ _ short), λ _. short)
 
-pub returns-else-rest-limit : goal.returns-else-rest-limit
-returns-else-rest-limit c =
-    let walked = c.is_short.ensures ∙ ap is_walk_short (c.past.ensures ∙ ap (λ walk. walk_past_all walk c.args.rest.now) (behind_scheme c.args.scheme.now c.args.web c.behind.result c.requires c.behind.ensures)) in (
-      λ yes. fits_from_walk c.args.scheme.now c.args.rest.now (omega arith) (sym walked ∙ yes),
-      λ fits. walked ∙ walk_from_fits c.args.scheme.now c.args.rest.now fits,
-    )
+pub returns-else-rest-le-LIMIT : goal.returns-else-rest-le-LIMIT
+returns-else-rest-le-LIMIT c =
+    let walked = c.is_in_time.ensures ∙ c.past_slashes.ensures [] ∙ ap (is_in_time c.args.web Slashes) (append-nil c.args.rest.now)
+    ∙ ap (λ web. is_in_time web Slashes c.args.rest.now) c.requires ∙ sym (long_tested _ c.args.rest.now (omega arith)) in
+    let test = fits_tested c.args.scheme.now c.args.rest.now (omega arith) in
+    (λ yes. test.0 (sym walked ∙ yes), λ fits. walked ∙ test.1 fits)

@@ -1,15 +1,21 @@
 -- A text that is hardly longer than its scheme, or a walk past it.
-use Rattle.std.proofs.Common.{◌∙◌, ap, sym, arith}
+use Rattle.std.proofs.Common.{◌∙◌, ◌+◌, drop, length, ap, sym, arith}
+use Rattle.std.proofs.lemmas.Bool.{le-leb, or_left}
+use Rattle.std.proofs.lemmas.List.{length-drop}
 use Rattle.git_syntax.specs.declared.length.TextWalk.{TextWalk}
+use Rattle.git_syntax.specs.Schemes.{is_web_scheme}
 use Rattle.git_location.specs.Pieces.{pieces_text}
-use Rattle.git_syntax.specs.Walks.{is_walk_short, text_walk_past}
-use Rattle.git_syntax.proofs.Readings.LengthLemmas.{short_walk}
+use Rattle.git_syntax.specs.Walks.{is_text_in_time}
+use Rattle.git_syntax.proofs.Readings.LengthLemmas.{long_tested}
 use Rattle.git_location.proofs.settled.measure.is_rest_short.Goals as goal
 
 pub returns-then-len-scheme : goal.returns-then-len-scheme
-returns-then-len-scheme c = sym (short_walk c.args.scheme.now (pieces_text c.args.pieces.now) (omega (arith, c.len.ensures)))
+returns-then-len-scheme c =
+    let behind = drop (length c.args.scheme.now + 3) (pieces_text c.args.pieces.now) in
+    sym (or_left _ _ (le-leb (length behind) 1024 (omega (arith, c.len.ensures, length-drop (length c.args.scheme.now + 3) (pieces_text c.args.pieces.now)))))
 
 pub returns : goal.returns
 returns c =
-    c.is_short.ensures
-    ∙ ap (λ (w : TextWalk). is_walk_short w.walk) (c.past_pieces.ensures ∙ ap (λ (w : TextWalk). text_walk_past w (pieces_text c.args.pieces.now)) c.over.ensures)
+    let behind = drop (length c.args.scheme.now + 3) (pieces_text c.args.pieces.now) in
+    c.is_in_time.ensures ∙ ap (λ (w : TextWalk). is_text_in_time w (pieces_text c.args.pieces.now)) c.over.ensures
+    ∙ sym (long_tested (is_web_scheme c.args.scheme.now) behind (omega (arith, c.len.ensures, length-drop (length c.args.scheme.now + 3) (pieces_text c.args.pieces.now))))
