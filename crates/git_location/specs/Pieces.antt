@@ -35,7 +35,6 @@ piece_text (piece.Percents text) = escaped_percents text.now
 abbrev pub scheme_text : SchemePieces → List ℕ
 scheme_text scheme.None = []
 scheme_text (scheme.Marked name mark) = name.now ++ mark.now
-scheme_text (scheme.Known marked) = marked.now
 
 -- the user information
 abbrev pub user_text : UserPieces → List ℕ

@@ -3,13 +3,12 @@
 //! It uses `bytes`, `escape` and `ipv6`, and the forms and pieces of this module's siblings. Its contract: the
 //! pieces of a location make up its text, and a fault is the location's own. It takes no memory.
 
-ghost use Rattle.std.specs.Prelude.{◌≡◌, ℕ, List, ◌++◌, codes, option_map, unwrap_or};
+ghost use Rattle.std.specs.Prelude.{◌≡◌, ℕ, List, ◌++◌, option_map, unwrap_or};
 ghost use Rattle.git_syntax.specs.Views.{lent_protocol};
 ghost use Rattle.git_syntax.specs.AddressTest.{is_ipv6_text};
-ghost use Rattle.git_syntax.specs.Schemes.{protocol_text};
 ghost use Rattle.git_location.specs.Text as spec;
 ghost use Rattle.git_location.specs.Text.{text, helper_text, path_form_text, scp_text, canonical_text};
-ghost use Rattle.git_location.specs.Pieces.{host_text, path_end_text, piece_text, pieces_text, port_text, scheme_text, text_of_pieces, user_text, with_password};
+ghost use Rattle.git_location.specs.Pieces.{host_text, path_end_text, piece_text, pieces_text, port_text, text_of_pieces, user_text, with_password};
 
 use crate::url_ref::UrlRef;
 use crate::write_error::WriteFault;
@@ -86,7 +85,7 @@ impl<'a> UrlRef<'a> {
         ensures { pieces_text result ≡ canonical_text (with_password self.now password.entry) }
     {
         Pieces {
-            scheme: url_scheme(self.scheme),
+            scheme: SchemePieces::Marked(self.scheme.as_str(), "://"),
             user: self.user_information(password),
             host: self.canonical_host(),
             port: port_digits(self.port, digits),
@@ -210,23 +209,6 @@ impl<'a> UrlRef<'a> {
                     None
                 }
             }
-        }
-    }
-}
-
-/// The scheme of a URL and `://`, in one slice where the scheme is a known one.
-fn url_scheme(scheme: SchemeRef<'_>) -> SchemePieces<'_>
-    ensures { scheme_text result ≡ protocol_text (lent_protocol scheme.entry) ++ codes "://" }
-{
-    match scheme {
-        SchemeRef::File => SchemePieces::Known("file://"),
-        SchemeRef::Git => SchemePieces::Known("git://"),
-        SchemeRef::Ssh => SchemePieces::Known("ssh://"),
-        SchemeRef::Http => SchemePieces::Known("http://"),
-        SchemeRef::Https => SchemePieces::Known("https://"),
-        SchemeRef::Ext => SchemePieces::Known("ext://"),
-        SchemeRef::Helper(name) | SchemeRef::HelperUrl(name) => {
-            SchemePieces::Marked(name, "://")
         }
     }
 }

@@ -36,8 +36,6 @@ pub enum SchemePieces<'a> {
     None,
     /// The name and its mark.
     Marked(&'a str, &'a str),
-    /// A known name with its mark, in one slice.
-    Known(&'a str),
 }
 
 /// A user, a password and the marks behind them.
@@ -148,7 +146,6 @@ impl<'a> SchemePieces<'a> {
         match self {
             SchemePieces::None => 0,
             SchemePieces::Marked(name, mark) => name.len() as u128 + mark.len() as u128,
-            SchemePieces::Known(marked) => marked.len() as u128,
         }
     }
 
@@ -163,7 +160,6 @@ impl<'a> SchemePieces<'a> {
                 S::put(place, name)?;
                 S::put(place, mark)
             }
-            SchemePieces::Known(marked) => S::put(place, marked),
         }
     }
 }
