@@ -80,7 +80,9 @@ fn spelling_len(spelling: Option<&[u8]>) -> u128
     }
 }
 
-/// Whether the text of the location, which is laid out now, is short enough.
+/// Whether the text of the location, which is laid out now, is short enough. Few come here, and the code that all go
+/// through doesn't grow by it.
+#[inline(never)]
 fn is_own_short(url: &UrlRef<'_>) -> bool
     requires no_colon { FreeOf colon (protocol_text url.now.scheme) }
     requires canonical { text url.now ≡ Ok (canonical_text url.now) }
