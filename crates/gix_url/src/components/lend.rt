@@ -22,7 +22,7 @@ pub(super) fn lend_pair<'a>(
 ) -> Result<(QueryText<'a>, QueryText<'a>), AllocError>
     ensures { IfOk result (λ pair. LendsPair field.entry.escaped field.entry.text.now pair) }
 {
-    match field.cut(b'=') {
+    match field.cut_near(b'=') {
         Some((name, value)) => Ok((lend_term(alloc, name)?, lend_term(alloc, value)?)),
         None => Ok((lend_term(alloc, field)?, lend_term(alloc, field.nothing())?)),
     }
@@ -45,7 +45,7 @@ fn spaced(alloc: Global, piece: Spelled<'_>) -> Result<Vec<u8>, AllocError>
 {
     let mut bytes = Vec::with_capacity(alloc, piece.meant.len())?;
     let mut rest = piece;
-    while let Some((front, behind)) = rest.cut(b'+') {
+    while let Some((front, behind)) = rest.cut_near(b'+') {
         append_within(&mut bytes, front.meant);
         append_within(&mut bytes, b" ");
         rest = behind;
