@@ -1,9 +1,9 @@
 -- Names and values that are lent: what was cut of a text stands for what the text stands for.
-use Rattle.std.proofs.Common.{◌≡◌, ◌∙◌, ◌≤◌, ◌+◌, ℕ, Bool, true, false, ◌==◌, List, [], ◌∷◌, ◌++◌, Option, Some, None, length, option_map, IfSome, All, filter, refl, sym, ap, subst, arith, append_assoc}
+use Rattle.std.proofs.Common.{◌≡◌, ◌∙◌, ◌+◌, ℕ, Bool, true, false, ◌==◌, List, [], ◌∷◌, ◌++◌, Option, Some, None, length, option_map, IfSome, All, filter, refl, sym, ap, subst, arith, append_assoc}
 use Rattle.std.specs.List.{slice_split, onto_first}
 use Rattle.std.proofs.lemmas.List.{append-nil}
 use Rattle.std.proofs.lemmas.List.Elements.{All-nil, All-cons}
-use Rattle.std.proofs.lemmas.List.Splits.{slice_split_none, slice_split_at, slice_split-cons_yes, slice_split-cons_no}
+use Rattle.std.proofs.lemmas.List.Splits.{slice_split_at, slice_split-cons_yes, slice_split-cons_no}
 use Rattle.gix_url.specs.declared.components.QueryText.{QueryText}
 use Rattle.gix_url.specs.declared.components.cuts.Spelled.{Spelled}
 use Rattle.git_syntax.specs.Bytes.{number_sign, plus_sign, question_mark, FreeOf, space, ampersand}
@@ -69,12 +69,6 @@ field_count_cut text field behind free cut =
     ap field_count cut
     ∙ ap (λ fields. length (filter is_field fields)) (slice_split_at (λ b. b == ampersand) field ampersand behind (none_equal ampersand field free) refl)
     ∙ counted field (slice_split (λ b. b == ampersand) behind)
-
--- and where it is one field, for that
-pub field_count_last : (field : List ℕ) → FreeOf ampersand field → field_count field ≡ one_field field
-field_count_last field free =
-    let all = ap (λ fields. length (filter is_field fields)) (slice_split_none (λ b. b == ampersand) field (none_equal ampersand field free)) ∙ counted field [] in
-    omega (arith, all)
 
 -- how many fields that are not empty begin in the rest of a text, by whether the byte before it is `&`
 abbrev pub begun_in : Bool → List ℕ → ℕ

@@ -31,6 +31,7 @@ pub(super) fn lend_query<'a>(
 }
 
 /// Puts the name and the value of the field behind the pairs, for which there is room, unless it is empty.
+#[inline(always)]
 fn push_field<'a>(
     alloc: Global,
     pairs: &mut Vec<(QueryText<'a>, QueryText<'a>)>,
