@@ -81,6 +81,12 @@ abbrev pub one_field : List ℕ → ℕ
 one_field [] = 0
 one_field (b ∷ bs) = 1
 
+-- how many fields that are not empty begin with a byte, by whether the byte before it and it itself are `&`
+abbrev pub begun_by : Bool → Bool → ℕ
+begun_by before true = 0
+begun_by true false = 1
+begun_by false false = 0
+
 -- how many of the fields of a text are not empty
 abbrev pub field_count : List ℕ → ℕ
 field_count text = length (filter is_field (slice_split (λ b. b == ampersand) text))

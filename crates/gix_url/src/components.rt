@@ -18,6 +18,7 @@ mod cuts;
 mod fields;
 mod lend;
 mod measure;
+mod near;
 mod same;
 
 use crate::error::Error;

@@ -1,17 +1,23 @@
 //! The sink that shows a text to people: a formatter.
 //!
-//! It uses `piece` and `sink`. Its contract: what is shown is the text as UTF-8, with U+FFFD in place of what is none,
-//! whatever options the formatter has. It takes no memory.
+//! It uses `fill`, `piece` and `sink`. Its contract: what is shown is the text as UTF-8, with U+FFFD in place of what is
+//! none, whatever options the formatter has. A text of common length is shown in one call, so that a formatter over memory
+//! that grows has to ask for it once. It takes no memory.
 
+ghost use Rattle.std.specs.Prelude.{◌≡◌, ◌≤◌, length};
 ghost use Rattle.std.specs.Fmt.{WritesOnOk, WritesStyledOnOk};
 ghost use Rattle.git_syntax.specs.Bytes.{lossy_text};
 ghost use Rattle.git_location.specs.Pieces.{pieces_text};
 ghost use Rattle.git_location.specs.Sinks.{ShowsEnd, ShowsText, shows_joined, shows_nothing, shows_to_end};
 
+use crate::writer::fill::fill;
 use crate::writer::piece::Pieces;
 use crate::writer::sink::Sink;
 use bstr::ByteSlice;
 use std::fmt;
+
+/// How long a text is at most that is shown in one call.
+const ROOM: usize = 128;
 
 /// Shows the pieces.
 pub fn show_pieces<W: fmt::Write>(f: &mut fmt::Formatter<W>, pieces: &Pieces<'_>) -> fmt::Result
@@ -20,7 +26,28 @@ pub fn show_pieces<W: fmt::Write>(f: &mut fmt::Formatter<W>, pieces: &Pieces<'_>
     ensures styled { WritesStyledOnOk W.write_str_gives f.old result
         (lossy_text (pieces_text pieces.now)) f.new }
 {
-    pieces.put::<fmt::Formatter<W>, Shown>(f)
+    let size = pieces.len();
+    if size <= ROOM as u128 {
+        show_at_once(f, pieces, size as usize)
+    } else {
+        pieces.put::<fmt::Formatter<W>, Shown>(f)
+    }
+}
+
+/// Shows the pieces of a text that has this length, for which there is room.
+fn show_at_once<W: fmt::Write>(
+    f: &mut fmt::Formatter<W>,
+    pieces: &Pieces<'_>,
+    size: usize,
+) -> fmt::Result
+    requires size { size ≡ length (pieces_text pieces.now) }
+    requires room { size ≤ 128 }
+    ensures { WritesStyledOnOk W.write_str_gives f.old result
+        (lossy_text (pieces_text pieces.now)) f.new }
+{
+    let mut room = [0; ROOM];
+    fill(&mut room, pieces);
+    show_lossy(f, room.split_at(size).0)
 }
 
 /// A formatter.

@@ -1,15 +1,15 @@
 -- Names and values that are lent: what was cut of a text stands for what the text stands for.
-use Rattle.std.proofs.Common.{◌≡◌, ◌∙◌, ◌≤◌, ◌+◌, ℕ, Bool, false, ◌==◌, List, [], ◌∷◌, ◌++◌, Option, Some, None, length, option_map, IfSome, All, filter, refl, sym, ap, subst, arith, append_assoc}
-use Rattle.std.specs.List.{slice_split}
+use Rattle.std.proofs.Common.{◌≡◌, ◌∙◌, ◌+◌, ℕ, Bool, true, false, ◌==◌, List, [], ◌∷◌, ◌++◌, Option, Some, None, length, option_map, IfSome, All, filter, refl, sym, ap, subst, arith, append_assoc}
+use Rattle.std.specs.List.{slice_split, onto_first}
 use Rattle.std.proofs.lemmas.List.{append-nil}
 use Rattle.std.proofs.lemmas.List.Elements.{All-nil, All-cons}
-use Rattle.std.proofs.lemmas.List.Splits.{slice_split_none, slice_split_at}
+use Rattle.std.proofs.lemmas.List.Splits.{slice_split_at, slice_split-cons_yes, slice_split-cons_no}
 use Rattle.gix_url.specs.declared.components.QueryText.{QueryText}
 use Rattle.gix_url.specs.declared.components.cuts.Spelled.{Spelled}
 use Rattle.git_syntax.specs.Bytes.{number_sign, plus_sign, question_mark, FreeOf, space, ampersand}
 use Rattle.git_laws.specs.Components.{CutsText, CutsPath, with_spaces}
 use Rattle.gix_url.specs.Meanings.{meant_by}
-use Rattle.gix_url.specs.ComponentPieces.{CutsAround, CutsOff, LendsFields, AddsPair, HasQuery, LendsQuery, is_field, one_field, field_count}
+use Rattle.gix_url.specs.ComponentPieces.{CutsAround, CutsOff, LendsFields, AddsPair, HasQuery, LendsQuery, is_field, one_field, begun_by, field_count}
 use Rattle.git_syntax.proofs.Texts.CutLemmas.{free_head_tail}
 use Rattle.gix_url.proofs.Parted.MeaningLemmas.{Parts, meant_around, meant_around_plus, meant_spaces}
 
@@ -59,11 +59,6 @@ none_equal c (b ∷ xs) free =
     let parts = free_head_tail c b xs free in
     All-cons (λ d. (d == c) ≡ false) b xs parts.0 (none_equal c xs parts.1)
 
--- a field counts for at most one
-pub one_field-small : (t : List ℕ) → one_field t ≤ 1
-one_field-small [] = omega arith
-one_field-small (b ∷ bs) = omega arith
-
 counted : (field : List ℕ) (fields : List (List ℕ)) → length (filter is_field (field ∷ fields)) ≡ one_field field + length (filter is_field fields)
 counted [] fields = omega arith
 counted (b ∷ bs) fields = omega arith
@@ -75,11 +70,44 @@ field_count_cut text field behind free cut =
     ∙ ap (λ fields. length (filter is_field fields)) (slice_split_at (λ b. b == ampersand) field ampersand behind (none_equal ampersand field free) refl)
     ∙ counted field (slice_split (λ b. b == ampersand) behind)
 
--- and where it is one field, for that
-pub field_count_last : (field : List ℕ) → FreeOf ampersand field → field_count field ≡ one_field field
-field_count_last field free =
-    let all = ap (λ fields. length (filter is_field fields)) (slice_split_none (λ b. b == ampersand) field (none_equal ampersand field free)) ∙ counted field [] in
-    omega (arith, all)
+-- how many fields that are not empty begin in the rest of a text, by whether the byte before it is `&`
+abbrev pub begun_in : Bool → List ℕ → ℕ
+begun_in before [] = 0
+begun_in before (b ∷ bs) = begun_by before (b == ampersand) + begun_in (b == ampersand) bs
+
+-- the fields of a text, of which the first has begun or begins
+record Begun (text : List ℕ) : Type 0 where
+  first : List ℕ
+  others : List (List ℕ)
+  split : slice_split (λ b. b == ampersand) text ≡ first ∷ others
+  behind : begun_in false text ≡ length (filter is_field others)
+  whole : begun_in true text ≡ length (filter is_field (first ∷ others))
+
+begun_more : (b : ℕ) (bs : List ℕ) → Begun bs → (is : Bool) → (b == ampersand) ≡ is → Begun (b ∷ bs)
+begun_more b bs rest true e = record {
+  first = [];
+  others = rest.first ∷ rest.others;
+  split = slice_split-cons_yes (λ d. d == ampersand) b bs e ∙ ap (λ fields. [] ∷ fields) rest.split;
+  behind = let step = ap (λ is. begun_by false is + begun_in is bs) e in omega (arith, step, rest.whole);
+  whole = let step = ap (λ is. begun_by true is + begun_in is bs) e in omega (arith, step, rest.whole);
+}
+begun_more b bs rest false e = record {
+  first = b ∷ rest.first;
+  others = rest.others;
+  split = slice_split-cons_no (λ d. d == ampersand) b bs e ∙ ap (onto_first b) rest.split;
+  behind = let step = ap (λ is. begun_by false is + begun_in is bs) e in omega (arith, step, rest.behind);
+  whole = let step = ap (λ is. begun_by true is + begun_in is bs) e in omega (arith, step, rest.behind);
+}
+
+begun : (text : List ℕ) → Begun text
+begun [] = record { first = []; others = []; split = refl; behind = refl; whole = refl }
+begun (b ∷ bs) = begun_more b bs (begun bs) (b == ampersand) refl
+
+-- the fields of a text are those that begin in it
+pub field_count_begun : (text : List ℕ) → begun_in true text ≡ field_count text
+field_count_begun text =
+    let fields = begun text in
+    fields.whole ∙ ap (λ parts. length (filter is_field parts)) (sym fields.split)
 
 -- ---- names and values of the fields
 

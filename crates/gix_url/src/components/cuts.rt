@@ -1,14 +1,16 @@
 //! A text together with what it stands for, and cuts of both at once.
 //!
-//! It uses the cuts of `bytes` and the counts of `measure`. Its contract: the parts of a text stand for the parts of
-//! what it stands for, so that no part has to be decoded into memory.
+//! It uses the cuts of `bytes`, `near` and the counts of `measure`. Its contract: the parts of a text stand for the parts
+//! of what it stands for, so that no part has to be decoded into memory.
 
-ghost use Rattle.std.specs.Prelude.{◌≡◌, ◌==◌, [], false, true};
+ghost use Rattle.std.specs.Prelude.{◌≡◌, ◌==◌, ◌++◌, [], ◌∷◌, false, true};
 ghost use Rattle.std.specs.Char.{is_digit};
 ghost use Rattle.percent_encoding.specs.Percent.{percent_decode};
+ghost use Rattle.git_syntax.specs.Bytes.{FreeOf};
 ghost use Rattle.gix_url.specs.Meanings.{meant_by};
 
 use crate::components::measure::meant_len;
+use crate::components::near::cut_near;
 use git_syntax::bytes::cut;
 
 /// A text as it is spelled, together with what it stands for.
@@ -24,7 +26,7 @@ pub(super) struct Spelled<'a> {
 }
 
 impl<'a> Spelled<'a> {
-    ghost use Rattle.gix_url.specs.ComponentPieces.{CutsOff, CutsSpelled};
+    ghost use Rattle.gix_url.specs.ComponentPieces.{CutsAround, CutsOff, CutsSpelled};
 
     /// The text as it is: an escape in it stands for itself.
     pub(super) fn raw(text: &'a [u8]) -> Spelled<'a>
@@ -60,8 +62,37 @@ impl<'a> Spelled<'a> {
         ensures { CutsSpelled c self.entry result }
     {
         let (front, behind) = cut(self.text, c)?;
+        Some(self.around(c, front, behind))
+    }
+
+    /// The same, where the first `c` is likely to be near.
+    #[inline(always)]
+    pub(super) fn cut_near(self, c: u8) -> Option<(Spelled<'a>, Spelled<'a>)>
+        requires digit { is_digit c 16 ≡ false }
+        requires percent { (c == 37) ≡ false }
+        ensures { CutsSpelled c self.entry result }
+    {
+        // Hostile queries have nothing before it.
+        if let [first, behind @ ..] = self.text
+            && *first == c
+        {
+            return Some(self.around(c, b"", behind));
+        }
+        let (front, behind) = cut_near(self.text, c)?;
+        Some(self.around(c, front, behind))
+    }
+
+    /// The parts whose texts are these, around the first `c`.
+    #[inline(always)]
+    fn around(self, c: u8, front: &'a [u8], behind: &'a [u8]) -> (Spelled<'a>, Spelled<'a>)
+        requires digit { is_digit c 16 ≡ false }
+        requires percent { (c == 37) ≡ false }
+        requires free { FreeOf c front.now }
+        requires joined { self.text.now ≡ front.now ++ c ∷ behind.now }
+        ensures { CutsAround c self.entry result.0 result.1 }
+    {
         let at = meant_len(front, self.escaped);
-        Some((
+        (
             Spelled {
                 text: front,
                 meant: self.meant.split_at(at).0,
@@ -72,7 +103,7 @@ impl<'a> Spelled<'a> {
                 meant: self.meant.split_at(at + 1).1,
                 escaped: self.escaped,
             },
-        ))
+        )
     }
 
     /// The part before the first `c`, and the part behind it where there is one.

@@ -1,15 +1,15 @@
 //! The fields of a query, in two walks: the first counts them, so that the room for their list is asked for once.
 //!
-//! It uses `cuts`, `lend` and the cuts of `bytes`. Its contract: each field between `&` that isn't empty is a name
+//! It uses `cuts` and `lend`. Its contract: each field between `&` that isn't empty is a name
 //! and a value, in order.
 
-ghost use Rattle.std.specs.Prelude.{◌≡◌, ◌+◌, ◌≤◌, ◌<◌, ◌++◌, [], ◌∷◌, IfOk, OnOk, vec_capacity, vec_len};
-ghost use Rattle.gix_url.specs.ComponentPieces.{AddsPair, LendsFields, field_count, one_field};
+ghost use Rattle.std.specs.Prelude.{◌≡◌, ◌==◌, ◌+◌, ◌≤◌, ◌<◌, ◌++◌, [], ◌∷◌, IfOk, OnOk, vec_capacity, vec_len};
+ghost use Rattle.git_syntax.specs.Bytes.{ampersand};
+ghost use Rattle.gix_url.specs.ComponentPieces.{AddsPair, LendsFields, begun_by, field_count, one_field};
 
 use super::QueryText;
 use crate::components::cuts::Spelled;
 use crate::components::lend::lend_pair;
-use git_syntax::bytes::cut;
 use std::alloc::{AllocError, Global};
 
 /// The names and values of the query.
@@ -22,7 +22,7 @@ pub(super) fn lend_query<'a>(
 {
     let mut pairs = Vec::with_capacity(alloc, count_fields(query.text))?;
     let mut rest = query;
-    while let Some((field, behind)) = rest.cut(b'&') {
+    while let Some((field, behind)) = rest.cut_near(b'&') {
         push_field(alloc, &mut pairs, field)?;
         rest = behind;
     }
@@ -31,6 +31,7 @@ pub(super) fn lend_query<'a>(
 }
 
 /// Puts the name and the value of the field behind the pairs, for which there is room, unless it is empty.
+#[inline(always)]
 fn push_field<'a>(
     alloc: Global,
     pairs: &mut Vec<(QueryText<'a>, QueryText<'a>)>,
@@ -71,20 +72,17 @@ fn count_fields(query: &[u8]) -> usize
     ensures { result ≡ field_count query.now }
 {
     let mut count = 0;
-    let mut rest = query;
-    while let Some((field, behind)) = cut(rest, b'&') {
-        count += one_field(field);
-        rest = behind;
+    let mut before = b'&';
+    for byte in query {
+        count += begun_by(before, *byte);
+        before = *byte;
     }
-    count + one_field(rest)
+    count
 }
 
-/// How much the field counts for: one, unless it is empty.
-fn one_field(field: &[u8]) -> usize
-    ensures { result ≡ one_field field.now }
+/// How many fields that are not empty begin with the byte: one, where it is the first behind an `&`.
+fn begun_by(before: u8, byte: u8) -> usize
+    ensures { result ≡ begun_by (before == ampersand) (byte == ampersand) }
 {
-    match field {
-        [] => 0,
-        [..] => 1,
-    }
+    if before == b'&' && byte != b'&' { 1 } else { 0 }
 }

@@ -3,8 +3,8 @@
 //! It uses `cuts` and the tests of `bytes`. Its contract: a name or a value is what its piece stands for, with each
 //! raw `+` a space, and memory is asked for only where there is one, and then once.
 
-ghost use Rattle.std.specs.Prelude.{◌≡◌, IfOk};
-ghost use Rattle.git_syntax.specs.Bytes.{FreeOf, plus_sign};
+ghost use Rattle.std.specs.Prelude.{◌≡◌, ◌==◌, if◌then◌else◌, IfOk};
+ghost use Rattle.git_syntax.specs.Bytes.{FreeOf, plus_sign, space};
 ghost use Rattle.gix_url.specs.ComponentPieces.{LendsPair, LendsTerm};
 ghost use Rattle.git_laws.specs.Components.{with_spaces};
 ghost use Rattle.gix_url.specs.Meanings.{meant_by};
@@ -22,7 +22,7 @@ pub(super) fn lend_pair<'a>(
 ) -> Result<(QueryText<'a>, QueryText<'a>), AllocError>
     ensures { IfOk result (λ pair. LendsPair field.entry.escaped field.entry.text.now pair) }
 {
-    match field.cut(b'=') {
+    match field.cut_near(b'=') {
         Some((name, value)) => Ok((lend_term(alloc, name)?, lend_term(alloc, value)?)),
         None => Ok((lend_term(alloc, field)?, lend_term(alloc, field.nothing())?)),
     }
@@ -43,13 +43,34 @@ fn spaced(alloc: Global, piece: Spelled<'_>) -> Result<Vec<u8>, AllocError>
     ensures { IfOk result
         (λ bytes. bytes.items ≡ meant_by piece.entry.escaped (with_spaces piece.entry.text.now)) }
 {
+    if !piece.escaped {
+        return spaced_raw(alloc, piece.text);
+    }
     let mut bytes = Vec::with_capacity(alloc, piece.meant.len())?;
     let mut rest = piece;
-    while let Some((front, behind)) = rest.cut(b'+') {
+    while let Some((front, behind)) = rest.cut_near(b'+') {
         append_within(&mut bytes, front.meant);
         append_within(&mut bytes, b" ");
         rest = behind;
     }
     append_within(&mut bytes, rest.meant);
     Ok(bytes)
+}
+
+/// The text with each `+` a space.
+fn spaced_raw(alloc: Global, text: &[u8]) -> Result<Vec<u8>, AllocError>
+    ensures { IfOk result (λ bytes. bytes.items ≡ with_spaces text.now) }
+{
+    let mut bytes = Vec::with_capacity(alloc, text.len())?;
+    for byte in text {
+        append_within(&mut bytes, &[spaced_byte(*byte)]);
+    }
+    Ok(bytes)
+}
+
+/// A space for a `+`, and each other byte as it is.
+fn spaced_byte(byte: u8) -> u8
+    ensures { result ≡ (if byte == plus_sign then space else byte) }
+{
+    if byte == b'+' { b' ' } else { byte }
 }

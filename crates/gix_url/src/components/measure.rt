@@ -10,6 +10,7 @@ ghost use Rattle.gix_url.specs.Meanings.{meant_by};
 use percent_encoding::percent_decode;
 
 /// How many bytes the text stands for: as many as it has, unless its escapes stand for their bytes.
+#[inline(always)]
 pub(super) fn meant_len(text: &[u8], escaped: bool) -> usize
     ensures { result ≡ length (meant_by escaped text.now) }
 {

@@ -1,13 +1,12 @@
--- What was counted so far and the fields of the rest make the whole.
-use Rattle.std.proofs.Common.{◌≡◌, ◌+◌, ◌≤◌, length}
+-- What was counted so far and the fields that begin in the rest make the whole.
+use Rattle.std.proofs.Common.{◌≡◌, ◌+◌, ◌≤◌, ◌==◌, drop}
+use Rattle.git_syntax.specs.Bytes.{ampersand}
 use Rattle.gix_url.specs.ComponentPieces.{field_count}
+use Rattle.gix_url.proofs.Parted.LentLemmas.{begun_in}
 use Rattle.gix_url.proofs.components.fields.count_fields.Given as goal
 
-abbrev pub invariant-loop-field : goal.invariant-loop-field
-invariant-loop-field l = record {
-  counted : l.count + field_count l.rest ≡ field_count l.query;
-  small : l.count + length l.rest ≤ length l.query;
+abbrev pub invariant-loop-byte : goal.invariant-loop-byte
+invariant-loop-byte l = record {
+  counted : l.count + begun_in (l.before == ampersand) (drop l.byte-index l.query) ≡ field_count l.query;
+  small : l.count ≤ l.byte-index;
 }
-
-abbrev pub decreases-loop-field : goal.decreases-loop-field
-decreases-loop-field l = length l.rest

@@ -1,0 +1,37 @@
+//! Cuts of a text around a byte that is likely to be near, as those of a query are.
+//!
+//! It uses the cuts of `bytes` alone, and its contract is theirs. The first bytes are looked at one by one, which takes
+//! less than to begin a search of a long text.
+
+ghost use Rattle.std.specs.Prelude.{◌≤◌, length, take};
+ghost use Rattle.git_syntax.specs.Bytes.{FreeOf};
+ghost use Rattle.git_syntax.specs.Cuts.{CutsAt};
+
+use git_syntax::bytes::cut;
+
+/// How many bytes are looked at one by one.
+const NEAR: usize = 4;
+
+/// What stands before and behind the first `c`.
+#[inline(always)]
+pub(super) fn cut_near(bytes: &[u8], c: u8) -> Option<(&[u8], &[u8])>
+    ensures { CutsAt c bytes.now result }
+{
+    let near = bytes.len().min(NEAR);
+    for at in 0..near {
+        if bytes[at] == c {
+            return Some((bytes.split_at(at).0, bytes.split_at(at + 1).1));
+        }
+    }
+    cut_far(bytes, near, c)
+}
+
+/// The same, where the bytes before a place are none.
+fn cut_far(bytes: &[u8], from: usize, c: u8) -> Option<(&[u8], &[u8])>
+    requires within { from ≤ length bytes.now }
+    requires free { FreeOf c (take from bytes.now) }
+    ensures { CutsAt c bytes.now result }
+{
+    let (front, behind) = cut(bytes.split_at(from).1, c)?;
+    Some((bytes.split_at(from + front.len()).0, behind))
+}
