@@ -84,7 +84,7 @@ impl Url {
 }
 
 /// A copy of a text that may be missing.
-fn copy_text(alloc: Global, text: &Option<String>) -> Result<Option<String>, AllocError>
+pub(crate) fn copy_text(alloc: Global, text: &Option<String>) -> Result<Option<String>, AllocError>
     ensures { IfOk result
         (λ copy. option_map string_bytes copy ≡ option_map string_bytes text.now) }
 {

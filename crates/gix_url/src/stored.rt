@@ -8,6 +8,7 @@ ghost use Rattle.std.specs.Prelude.{◌≡◌, ◌↔◌, [], IfErr, IfOk, IsOk,
 ghost use Rattle.git_laws.specs.Records.{IsLegacy, SpellsFront, begins_escape, from_legacy, migrated, new_spelling};
 ghost use Rattle.gix_url.specs.Stored.{recorded_location};
 
+use crate::copy::copy_text;
 use crate::error::Error;
 use crate::location::Url;
 use crate::scheme::Scheme;
@@ -99,16 +100,18 @@ impl Url {
         ensures stored { IfOk result (λ stored. recorded_location stored ≡ self.now) }
         ensures memory { IfErr result (λ e. e ≡ Error.Memory) }
     {
-        let copy = self.clone(alloc)?;
         Ok(StoredUrl {
-            scheme: copy.scheme,
-            user: copy.user,
-            password: copy.password,
-            host: copy.host,
-            serialize_alternative_form: copy.serialize_alternative_form,
-            port: copy.port,
-            path: copy.path.into_vec(),
-            path_with_percent_escapes: copy.spelling.map(BString::into_vec),
+            scheme: self.scheme.clone(alloc)?,
+            user: copy_text(alloc, &self.user)?,
+            password: copy_text(alloc, &self.password)?,
+            host: copy_text(alloc, &self.host)?,
+            serialize_alternative_form: self.serialize_alternative_form,
+            port: self.port,
+            path: Vec::from_slice(alloc, self.path.as_bytes())?,
+            path_with_percent_escapes: match &self.spelling {
+                None => None,
+                Some(spelling) => Some(Vec::from_slice(alloc, spelling.as_bytes())?),
+            },
         })
     }
 
