@@ -1,5 +1,5 @@
 -- Equality, order and hash of protocols and of locations: part by part in declared order, texts by their bytes.
-use Rattle.std.specs.Prelude.{ℕ, ◌+◌, ◌*◌, Bool, true, false, ◌&&◌, nat_eq, List, [], ◌∷◌, ◌++◌, length, bytes_eq, Option, Some, None}
+use Rattle.std.specs.Prelude.{ℕ, Bool, ◌&&◌, nat_eq, List, [], ◌∷◌, ◌++◌, length, bytes_eq, Option, Some, None}
 use Rattle.std.specs.Option.{option_eq, option_cmp}
 use Rattle.std.specs.declared.cmp.Ordering.{Ordering}
 use Rattle.std.specs.Ordering.{nat_cmp, bool_cmp, on, then_cmp}
@@ -84,38 +84,9 @@ fed_text (Some bs) = fed.u8 1 ++ fed_bytes bs
 abbrev pub fed_protocol : Protocol → HashWrites
 fed_protocol p = fed.u8 (rank p) ++ fed_text (held_name p)
 
--- of a location, one number first: the kind of its protocol, the flag, which texts are there, and the port
-abbrev pub text_mark : Option (List ℕ) → ℕ
-text_mark None = 0
-text_mark (Some bs) = 1
-
-abbrev pub flag_mark : Bool → ℕ
-flag_mark false = 0
-flag_mark true = 1
-
-abbrev pub port_mark : Option ℕ → ℕ
-port_mark None = 0
-port_mark (Some port) = port + 1
-
-abbrev pub location_mark : Location → ℕ
-location_mark v =
-    rank v.scheme + 8 * (flag_mark v.flag + 2 * (text_mark v.user + 2 * (text_mark v.password
-    + 2 * (text_mark v.host + 2 * (text_mark v.spelling + 2 * port_mark v.port)))))
-
--- then the length of each text that is there
-abbrev pub fed_length : Option (List ℕ) → HashWrites
-fed_length None = []
-fed_length (Some bs) = fed.usize (length bs)
-
--- and then the bytes of each, at once
-abbrev pub fed_there : Option (List ℕ) → HashWrites
-fed_there None = []
-fed_there (Some bs) = bs ∷ []
-
+-- of a location it is fed all eight parts
 abbrev pub fed_location : Location → HashWrites
 fed_location v =
-    fed.u64 (location_mark v)
-    ++ (fed_length (held_name v.scheme) ++ (fed_length v.user ++ (fed_length v.password
-    ++ (fed_length v.host ++ (fed.usize (length v.path) ++ (fed_length v.spelling
-    ++ (fed_there (held_name v.scheme) ++ (fed_there v.user ++ (fed_there v.password
-    ++ (fed_there v.host ++ ((v.path ∷ []) ++ fed_there v.spelling)))))))))))
+    fed_protocol v.scheme ++ (fed_text v.user ++ (fed_text v.password ++ (fed_text v.host
+    ++ (fed.bool v.flag ++
+    (fed.option fed.u16 v.port ++ (fed_bytes v.path ++ fed_text v.spelling))))))

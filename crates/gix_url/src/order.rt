@@ -3,9 +3,9 @@
 //! It uses `scheme` and `location`. Its contract: the parts count in declared order, the retained spelling last, so
 //! that equality, order and hash agree, and what is equal is one value. It takes no memory.
 
-ghost use Rattle.std.specs.Prelude.{◌≡◌, ◌≤◌, Some, fold, option_map, refl, string_bytes};
+ghost use Rattle.std.specs.Prelude.{◌≡◌, Some, fold, option_map, refl, string_bytes};
 ghost use Rattle.std.specs.Cmp.{on_equiv, on_per, on_po, on_total, partial_equiv_from_equiv};
-ghost use Rattle.git_laws.specs.Order.{fed_bytes, fed_length, fed_location, fed_protocol, fed_text, fed_there, held_name, location_cmp, location_eq, location_mark, port_mark, protocol_cmp, protocol_eq, rank, text_cmp, text_eq, text_mark};
+ghost use Rattle.git_laws.specs.Order.{fed_bytes, fed_location, fed_protocol, fed_text, held_name, location_cmp, location_eq, protocol_cmp, protocol_eq, rank, text_cmp, text_eq};
 ghost use Rattle.gix_url.specs.Views.{protocol};
 ghost use Rattle.git_laws.specs.OrderLaws.{location_equiv, location_po, location_ties, location_total, locations_alike, protocol_equiv, protocol_po, protocol_ties, protocol_total, protocols_alike};
 
@@ -152,58 +152,16 @@ impl Hash for Url {
 
     ghost respects_eq = { locations_alike };
 
-    /// Feeds the hasher all parts: one number of the kind of the scheme, the form, which texts are there and the port, then
-    /// the lengths of these texts, and then their bytes, in the order of the fields, the retained spelling last. It takes no
-    /// memory.
+    /// Feeds the hasher all parts, in the order of the fields, the retained spelling last. It takes no memory.
     fn hash<H: Hasher>(&self, state: &mut H) {
-        let path = self.path.as_bytes();
-        state.write_u64(mark(self));
-        feed_length(held_name(&self.scheme), state);
-        feed_length(text_bytes(&self.user), state);
-        feed_length(text_bytes(&self.password), state);
-        feed_length(text_bytes(&self.host), state);
-        state.write_usize(path.len());
-        feed_length(spelling(self), state);
-        feed_there(held_name(&self.scheme), state);
-        feed_there(text_bytes(&self.user), state);
-        feed_there(text_bytes(&self.password), state);
-        feed_there(text_bytes(&self.host), state);
-        state.write(path);
-        feed_there(spelling(self), state);
-    }
-}
-
-/// One number of the kind of the scheme, the form, which texts are there and the port.
-fn mark(url: &Url) -> u64
-    ensures { result ≡ location_mark url.now }
-{
-    let texts = text_mark(text_bytes(&url.host))
-        + 2 * (text_mark(spelling(url)) + 2 * port_mark(url.port));
-    let behind_form = text_mark(text_bytes(&url.user))
-        + 2 * (text_mark(text_bytes(&url.password)) + 2 * texts);
-    let form = if url.serialize_alternative_form { 1 } else { 0 };
-    rank(&url.scheme) as u64 + 8 * (form + 2 * behind_form)
-}
-
-/// 1 where a text is there.
-fn text_mark(text: Option<&[u8]>) -> u64
-    ensures value { result ≡ text_mark (option_map (λ t. t.now) text.entry) }
-    ensures bound { result ≤ 1 }
-{
-    match text {
-        None => 0,
-        Some(_) => 1,
-    }
-}
-
-/// 0 where there is no port, and else one more than the port.
-fn port_mark(port: Option<u16>) -> u64
-    ensures value { result ≡ port_mark port }
-    ensures bound { result ≤ 65536 }
-{
-    match port {
-        None => 0,
-        Some(port) => port as u64 + 1,
+        self.scheme.hash(state);
+        feed_text(text_bytes(&self.user), state);
+        feed_text(text_bytes(&self.password), state);
+        feed_text(text_bytes(&self.host), state);
+        self.serialize_alternative_form.hash(state);
+        self.port.hash(state);
+        feed_bytes(self.path.as_bytes(), state);
+        feed_text(spelling(self), state);
     }
 }
 
@@ -294,24 +252,6 @@ pub(crate) fn feed_text<H: Hasher>(text: Option<&[u8]>, state: &mut H)
             state.write_u8(1);
             feed_bytes(text, state);
         }
-    }
-}
-
-/// Feeds the length of a text that is there.
-fn feed_length<H: Hasher>(text: Option<&[u8]>, state: &mut H)
-    ensures { state.new ≡ fold H.write state.old (fed_length (option_map (λ t. t.now) text.entry)) }
-{
-    if let Some(text) = text {
-        state.write_usize(text.len());
-    }
-}
-
-/// Feeds the bytes of a text that is there.
-fn feed_there<H: Hasher>(text: Option<&[u8]>, state: &mut H)
-    ensures { state.new ≡ fold H.write state.old (fed_there (option_map (λ t. t.now) text.entry)) }
-{
-    if let Some(text) = text {
-        state.write(text);
     }
 }
 
