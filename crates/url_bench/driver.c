@@ -1,7 +1,7 @@
-// Makes one call of the library for each line of a file, in passes: driver CALL PASSES FILE
+// Makes one call of the libraries for each line of a file, in passes: driver CALL PASSES FILE
 //
-// CALL is the name of an export of the library, without `url_bench_`. It prints how many calls answered that all is well, so
-// that calls which give up early are seen.
+// CALL is the name of an export of `url_bench` or `call_bench`, without the name of the library. It prints how many calls
+// answered that all is well, so that calls which give up early are seen.
 #include <stdbool.h>
 #include <stdint.h>
 #include <stdio.h>
@@ -18,59 +18,59 @@ static unsigned char room[1 << 16];
 
 bool url_bench_parse(const unsigned char *bytes, size_t length);
 bool url_bench_parse_in(const unsigned char *bytes, size_t length, unsigned char *room, size_t room_length);
-bool url_bench_refuse_in(const unsigned char *bytes, size_t length, unsigned char *room, size_t room_length);
 size_t url_bench_write(const unsigned char *bytes, size_t length);
 bool url_bench_settled(const unsigned char *bytes, size_t length);
 
-size_t url_bench_text_len(const unsigned char *bytes, size_t length);
-size_t url_bench_write_to(const unsigned char *bytes, size_t length);
-size_t url_bench_to_bstring(const unsigned char *bytes, size_t length);
-size_t url_bench_to_string(const unsigned char *bytes, size_t length);
-bool url_bench_is_settled(const unsigned char *bytes, size_t length, bool *settled);
-bool url_bench_agrees_with_git(const unsigned char *bytes, size_t length, bool *agrees);
-size_t url_bench_path_query_fragment(const unsigned char *bytes, size_t length);
-size_t url_bench_clone(const unsigned char *bytes, size_t length);
-bool url_bench_eq(const unsigned char *bytes, size_t length);
-bool url_bench_cmp(const unsigned char *bytes, size_t length);
-bool url_bench_hash(const unsigned char *bytes, size_t length, uint64_t *hash);
-size_t url_bench_to_stored(const unsigned char *bytes, size_t length);
-size_t url_bench_to_json(const unsigned char *bytes, size_t length);
-size_t url_bench_from_json(const unsigned char *bytes, size_t length);
-size_t url_bench_reread(const unsigned char *bytes, size_t length);
-size_t url_bench_from_parts(const unsigned char *bytes, size_t length);
+bool call_bench_refuse_in(const unsigned char *bytes, size_t length, unsigned char *room, size_t room_length);
+size_t call_bench_text_len(const unsigned char *bytes, size_t length);
+size_t call_bench_write_to(const unsigned char *bytes, size_t length);
+size_t call_bench_to_bstring(const unsigned char *bytes, size_t length);
+size_t call_bench_to_string(const unsigned char *bytes, size_t length);
+bool call_bench_is_settled(const unsigned char *bytes, size_t length, bool *settled);
+bool call_bench_agrees_with_git(const unsigned char *bytes, size_t length, bool *agrees);
+size_t call_bench_path_query_fragment(const unsigned char *bytes, size_t length);
+size_t call_bench_clone(const unsigned char *bytes, size_t length);
+bool call_bench_eq(const unsigned char *bytes, size_t length);
+bool call_bench_cmp(const unsigned char *bytes, size_t length);
+bool call_bench_hash(const unsigned char *bytes, size_t length, uint64_t *hash);
+size_t call_bench_to_stored(const unsigned char *bytes, size_t length);
+size_t call_bench_to_json(const unsigned char *bytes, size_t length);
+size_t call_bench_from_json(const unsigned char *bytes, size_t length);
+size_t call_bench_reread(const unsigned char *bytes, size_t length);
+size_t call_bench_from_parts(const unsigned char *bytes, size_t length);
 
 // Each call, and whether all is well.
 static bool parse(const struct line *line) { return url_bench_parse(line->bytes, line->length); }
 static bool parse_in(const struct line *line) { return url_bench_parse_in(line->bytes, line->length, room, line->length); }
-static bool refuse_in(const struct line *line) { return url_bench_refuse_in(line->bytes, line->length, room, line->length); }
+static bool refuse_in(const struct line *line) { return call_bench_refuse_in(line->bytes, line->length, room, line->length); }
 static bool write(const struct line *line) { return url_bench_write(line->bytes, line->length) > 0; }
 static bool settled(const struct line *line) { return url_bench_settled(line->bytes, line->length); }
 
-static bool text_len(const struct line *line) { return url_bench_text_len(line->bytes, line->length) > 0; }
-static bool write_to(const struct line *line) { return url_bench_write_to(line->bytes, line->length) > 0; }
-static bool to_bstring(const struct line *line) { return url_bench_to_bstring(line->bytes, line->length) > 0; }
-static bool to_string(const struct line *line) { return url_bench_to_string(line->bytes, line->length) > 0; }
+static bool text_len(const struct line *line) { return call_bench_text_len(line->bytes, line->length) > 0; }
+static bool write_to(const struct line *line) { return call_bench_write_to(line->bytes, line->length) > 0; }
+static bool to_bstring(const struct line *line) { return call_bench_to_bstring(line->bytes, line->length) > 0; }
+static bool to_string(const struct line *line) { return call_bench_to_string(line->bytes, line->length) > 0; }
 static bool is_settled(const struct line *line) {
     bool answer;
-    return url_bench_is_settled(line->bytes, line->length, &answer) && answer;
+    return call_bench_is_settled(line->bytes, line->length, &answer) && answer;
 }
 static bool agrees_with_git(const struct line *line) {
     bool answer;
-    return url_bench_agrees_with_git(line->bytes, line->length, &answer);
+    return call_bench_agrees_with_git(line->bytes, line->length, &answer);
 }
-static bool path_query_fragment(const struct line *line) { return url_bench_path_query_fragment(line->bytes, line->length) > 0; }
-static bool clone(const struct line *line) { return url_bench_clone(line->bytes, line->length) > 0; }
-static bool eq(const struct line *line) { return url_bench_eq(line->bytes, line->length); }
-static bool cmp(const struct line *line) { return url_bench_cmp(line->bytes, line->length); }
+static bool path_query_fragment(const struct line *line) { return call_bench_path_query_fragment(line->bytes, line->length) > 0; }
+static bool clone(const struct line *line) { return call_bench_clone(line->bytes, line->length) > 0; }
+static bool eq(const struct line *line) { return call_bench_eq(line->bytes, line->length); }
+static bool cmp(const struct line *line) { return call_bench_cmp(line->bytes, line->length); }
 static bool hash(const struct line *line) {
     uint64_t answer;
-    return url_bench_hash(line->bytes, line->length, &answer);
+    return call_bench_hash(line->bytes, line->length, &answer);
 }
-static bool to_stored(const struct line *line) { return url_bench_to_stored(line->bytes, line->length) > 0; }
-static bool to_json(const struct line *line) { return url_bench_to_json(line->bytes, line->length) > 0; }
-static bool from_json(const struct line *line) { return url_bench_from_json(line->bytes, line->length) > 0; }
-static bool reread(const struct line *line) { return url_bench_reread(line->bytes, line->length) > 0; }
-static bool from_parts(const struct line *line) { return url_bench_from_parts(line->bytes, line->length) > 0; }
+static bool to_stored(const struct line *line) { return call_bench_to_stored(line->bytes, line->length) > 0; }
+static bool to_json(const struct line *line) { return call_bench_to_json(line->bytes, line->length) > 0; }
+static bool from_json(const struct line *line) { return call_bench_from_json(line->bytes, line->length) > 0; }
+static bool reread(const struct line *line) { return call_bench_reread(line->bytes, line->length) > 0; }
+static bool from_parts(const struct line *line) { return call_bench_from_parts(line->bytes, line->length) > 0; }
 
 #define CALL(name) {#name, name}
 static const struct {

@@ -10,11 +10,8 @@ ghost use Rattle.gix_url.specs.Settled.{IsSettled};
 ghost use Rattle.gix_url.specs.Text as spec;
 ghost use Rattle.gix_url.specs.Value.{Location};
 
-pub mod calls;
-mod counted;
-
 use bstr::BStr;
-use gix_url::{ParseError, Refusal, Url, UrlRef};
+use gix_url::{Url, UrlRef};
 use std::alloc::Global;
 
 /// Whether the bytes are read as a location.
@@ -31,17 +28,6 @@ pub extern "C" fn url_bench_parse_in(bytes: &[u8], room: &mut [u8]) -> bool
     ensures { IsTrue result → (v : Location) × Spells bytes.now v }
 {
     matches!(UrlRef::parse_in(bytes, room), Ok(_))
-}
-
-/// Whether the bytes are refused without memory for the length of their scheme or their authority.
-#[unsafe(no_mangle)]
-pub extern "C" fn url_bench_refuse_in(bytes: &[u8], room: &mut [u8]) -> bool
-    ensures { IsTrue result → (v : Location) → ¬ Spells bytes.now v }
-{
-    matches!(
-        UrlRef::parse_in(bytes, room),
-        Err(ParseError::Refused(Refusal::TooLong { .. }))
-    )
 }
 
 /// The length of the text of the location that the bytes are read as, or 0 where there is none.

@@ -9,7 +9,7 @@ ghost use Rattle.gix_url.specs.GitClass.{AgreesWithGit};
 ghost use Rattle.gix_url.specs.Order.{fed_location, location_cmp, location_eq};
 ghost use Rattle.gix_url.specs.Settled.{IsSettled};
 ghost use Rattle.gix_url.specs.Text as spec;
-ghost use Rattle.url_bench.specs.Answers.{IsCompact, IsCompactLength, IsComponentLength, IsMadeLength, IsPathLength, IsRereadLength, IsRestoredLength, IsShownLength, IsTextLength};
+ghost use Rattle.call_bench.specs.Answers.{IsCompact, IsCompactLength, IsComponentLength, IsMadeLength, IsPathLength, IsRereadLength, IsRestoredLength, IsShownLength, IsTextLength};
 
 use gix_url::Url;
 use gix_url::stored::StoredUrl;

@@ -1,6 +1,10 @@
-//! The exports that make one call over what the bytes are read as: the functions of `counted` with their location.
+//! Calls for programs in C, each of which makes one call of the library over a location, so that the instructions of that
+//! call alone can be counted.
 //!
-//! Each returns 0 where the bytes are no location, or the call makes nothing.
+//! It is a library beside `url_bench`, whose calls are compiled as in a program that makes no others. `counted` has the
+//! counted calls, and here each is made over what a text is read as. The program that makes the calls is `driver.c` of
+//! `url_bench`, and `scripts/instructions` counts.
+#![tactic(auto)]
 
 ghost use Rattle.std.specs.Prelude.{◌≡◌, ◌<◌, ◌↔◌, IsTrue, fold};
 ghost use Rattle.std.specs.Hash.DefaultHasher.{finish, initial, write};
@@ -10,17 +14,18 @@ ghost use Rattle.gix_url.specs.Grammar.{Spells};
 ghost use Rattle.gix_url.specs.Order.{fed_location, location_cmp, location_eq};
 ghost use Rattle.gix_url.specs.Settled.{IsSettled};
 ghost use Rattle.gix_url.specs.Value.{Location};
-ghost use Rattle.url_bench.specs.Answers.{IsCompactLength, IsComponentLength, IsMadeLength, IsPathLength, IsRereadLength, IsRestoredLength, IsShownLength, IsTextLength, SaysOf};
+ghost use Rattle.call_bench.specs.Answers.{IsCompactLength, IsComponentLength, IsMadeLength, IsPathLength, IsRereadLength, IsRestoredLength, IsShownLength, IsTextLength, SaysOf};
 
-use crate::counted;
+mod counted;
+
 use bstr::BStr;
-use gix_url::Url;
+use gix_url::{ParseError, Refusal, Url, UrlRef};
 use std::alloc::Global;
 use std::cmp::Ordering;
 
 /// The length of the text of the location, told without the text.
 #[unsafe(no_mangle)]
-pub extern "C" fn url_bench_text_len(alloc: Global, bytes: &[u8]) -> usize
+pub extern "C" fn call_bench_text_len(alloc: Global, bytes: &[u8]) -> usize
     ensures { SaysOf IsTextLength bytes.now result }
 {
     match Url::from_bytes(alloc, BStr::new(bytes)) {
@@ -31,7 +36,7 @@ pub extern "C" fn url_bench_text_len(alloc: Global, bytes: &[u8]) -> usize
 
 /// The length of the text of the location, written to memory that is there.
 #[unsafe(no_mangle)]
-pub extern "C" fn url_bench_write_to(alloc: Global, bytes: &[u8]) -> usize
+pub extern "C" fn call_bench_write_to(alloc: Global, bytes: &[u8]) -> usize
     ensures { SaysOf IsTextLength bytes.now result }
 {
     let Ok(url) = Url::from_bytes(alloc, BStr::new(bytes)) else {
@@ -49,7 +54,7 @@ pub extern "C" fn url_bench_write_to(alloc: Global, bytes: &[u8]) -> usize
 
 /// The length of the text of the location.
 #[unsafe(no_mangle)]
-pub extern "C" fn url_bench_to_bstring(alloc: Global, bytes: &[u8]) -> usize
+pub extern "C" fn call_bench_to_bstring(alloc: Global, bytes: &[u8]) -> usize
     ensures { SaysOf IsTextLength bytes.now result }
 {
     match Url::from_bytes(alloc, BStr::new(bytes)) {
@@ -60,7 +65,7 @@ pub extern "C" fn url_bench_to_bstring(alloc: Global, bytes: &[u8]) -> usize
 
 /// The length of what is shown of the location.
 #[unsafe(no_mangle)]
-pub extern "C" fn url_bench_to_string(alloc: Global, bytes: &[u8]) -> usize
+pub extern "C" fn call_bench_to_string(alloc: Global, bytes: &[u8]) -> usize
     ensures { SaysOf IsShownLength bytes.now result }
 {
     match Url::from_bytes(alloc, BStr::new(bytes)) {
@@ -71,7 +76,7 @@ pub extern "C" fn url_bench_to_string(alloc: Global, bytes: &[u8]) -> usize
 
 /// Whether the location is settled, where the bytes are one.
 #[unsafe(no_mangle)]
-pub extern "C" fn url_bench_is_settled(alloc: Global, bytes: &[u8], settled: &mut bool) -> bool
+pub extern "C" fn call_bench_is_settled(alloc: Global, bytes: &[u8], settled: &mut bool) -> bool
     ensures { IsTrue result → (v : Location) × Spells bytes.now v
         × (IsTrue settled.new ↔ IsSettled v) }
 {
@@ -86,7 +91,7 @@ pub extern "C" fn url_bench_is_settled(alloc: Global, bytes: &[u8], settled: &mu
 
 /// Whether Git reads the same, where the bytes are a location.
 #[unsafe(no_mangle)]
-pub extern "C" fn url_bench_agrees_with_git(alloc: Global, bytes: &[u8], agrees: &mut bool) -> bool
+pub extern "C" fn call_bench_agrees_with_git(alloc: Global, bytes: &[u8], agrees: &mut bool) -> bool
     ensures { IsTrue result → (v : Location) × Spells bytes.now v
         × (IsTrue agrees.new ↔ AgreesWithGit v) }
 {
@@ -101,7 +106,7 @@ pub extern "C" fn url_bench_agrees_with_git(alloc: Global, bytes: &[u8], agrees:
 
 /// The length of the path of the location without query and fragment.
 #[unsafe(no_mangle)]
-pub extern "C" fn url_bench_path_query_fragment(alloc: Global, bytes: &[u8]) -> usize
+pub extern "C" fn call_bench_path_query_fragment(alloc: Global, bytes: &[u8]) -> usize
     ensures { SaysOf IsComponentLength bytes.now result }
 {
     match Url::from_bytes(alloc, BStr::new(bytes)) {
@@ -112,7 +117,7 @@ pub extern "C" fn url_bench_path_query_fragment(alloc: Global, bytes: &[u8]) -> 
 
 /// The length of the path of a copy of the location.
 #[unsafe(no_mangle)]
-pub extern "C" fn url_bench_clone(alloc: Global, bytes: &[u8]) -> usize
+pub extern "C" fn call_bench_clone(alloc: Global, bytes: &[u8]) -> usize
     ensures { SaysOf IsPathLength bytes.now result }
 {
     match Url::from_bytes(alloc, BStr::new(bytes)) {
@@ -123,7 +128,7 @@ pub extern "C" fn url_bench_clone(alloc: Global, bytes: &[u8]) -> usize
 
 /// Whether the location is equal to what the bytes are read as once more.
 #[unsafe(no_mangle)]
-pub extern "C" fn url_bench_eq(alloc: Global, bytes: &[u8]) -> bool
+pub extern "C" fn call_bench_eq(alloc: Global, bytes: &[u8]) -> bool
     ensures { IsTrue result → (v : Location) × (w : Location) × Spells bytes.now v
         × Spells bytes.now w
         × IsTrue (location_eq v w) }
@@ -139,7 +144,7 @@ pub extern "C" fn url_bench_eq(alloc: Global, bytes: &[u8]) -> bool
 
 /// Whether the location has no order to what the bytes are read as once more.
 #[unsafe(no_mangle)]
-pub extern "C" fn url_bench_cmp(alloc: Global, bytes: &[u8]) -> bool
+pub extern "C" fn call_bench_cmp(alloc: Global, bytes: &[u8]) -> bool
     ensures { IsTrue result → (v : Location) × (w : Location) × Spells bytes.now v
         × Spells bytes.now w
         × (location_cmp v w ≡ Equal) }
@@ -155,7 +160,7 @@ pub extern "C" fn url_bench_cmp(alloc: Global, bytes: &[u8]) -> bool
 
 /// What the default hasher makes of the location, where the bytes are one.
 #[unsafe(no_mangle)]
-pub extern "C" fn url_bench_hash(alloc: Global, bytes: &[u8], hash: &mut u64) -> bool
+pub extern "C" fn call_bench_hash(alloc: Global, bytes: &[u8], hash: &mut u64) -> bool
     ensures { IsTrue result → (v : Location) × Spells bytes.now v
         × (hash.new ≡ finish (fold write initial (fed_location v))) }
 {
@@ -170,7 +175,7 @@ pub extern "C" fn url_bench_hash(alloc: Global, bytes: &[u8], hash: &mut u64) ->
 
 /// The length of the path of the location's record.
 #[unsafe(no_mangle)]
-pub extern "C" fn url_bench_to_stored(alloc: Global, bytes: &[u8]) -> usize
+pub extern "C" fn call_bench_to_stored(alloc: Global, bytes: &[u8]) -> usize
     ensures { SaysOf IsPathLength bytes.now result }
 {
     match Url::from_bytes(alloc, BStr::new(bytes)) {
@@ -181,7 +186,7 @@ pub extern "C" fn url_bench_to_stored(alloc: Global, bytes: &[u8]) -> usize
 
 /// The length of the JSON of the location's record.
 #[unsafe(no_mangle)]
-pub extern "C" fn url_bench_to_json(alloc: Global, bytes: &[u8]) -> usize
+pub extern "C" fn call_bench_to_json(alloc: Global, bytes: &[u8]) -> usize
     ensures { 0 < result → IsCompactLength result }
 {
     match Url::from_bytes(alloc, BStr::new(bytes)) {
@@ -192,7 +197,7 @@ pub extern "C" fn url_bench_to_json(alloc: Global, bytes: &[u8]) -> usize
 
 /// The length of the path that is restored of the JSON of the location's record.
 #[unsafe(no_mangle)]
-pub extern "C" fn url_bench_from_json(alloc: Global, bytes: &[u8]) -> usize
+pub extern "C" fn call_bench_from_json(alloc: Global, bytes: &[u8]) -> usize
     ensures { 0 < result → IsRestoredLength result }
 {
     let Ok(url) = Url::from_bytes(alloc, BStr::new(bytes)) else {
@@ -206,7 +211,7 @@ pub extern "C" fn url_bench_from_json(alloc: Global, bytes: &[u8]) -> usize
 
 /// The length of the path of what the text of the location is read as.
 #[unsafe(no_mangle)]
-pub extern "C" fn url_bench_reread(alloc: Global, bytes: &[u8]) -> usize
+pub extern "C" fn call_bench_reread(alloc: Global, bytes: &[u8]) -> usize
     ensures { SaysOf IsRereadLength bytes.now result }
 {
     match Url::from_bytes(alloc, BStr::new(bytes)) {
@@ -217,11 +222,22 @@ pub extern "C" fn url_bench_reread(alloc: Global, bytes: &[u8]) -> usize
 
 /// The length of the path of what the parts of the location make.
 #[unsafe(no_mangle)]
-pub extern "C" fn url_bench_from_parts(alloc: Global, bytes: &[u8]) -> usize
+pub extern "C" fn call_bench_from_parts(alloc: Global, bytes: &[u8]) -> usize
     ensures { SaysOf IsMadeLength bytes.now result }
 {
     match Url::from_bytes(alloc, BStr::new(bytes)) {
         Ok(url) => counted::from_parts(alloc, url),
         Err(_) => 0,
     }
+}
+
+/// Whether the bytes are refused without memory for the length of their scheme or their authority.
+#[unsafe(no_mangle)]
+pub extern "C" fn call_bench_refuse_in(bytes: &[u8], room: &mut [u8]) -> bool
+    ensures { IsTrue result → (v : Location) → ¬ Spells bytes.now v }
+{
+    matches!(
+        UrlRef::parse_in(bytes, room),
+        Err(ParseError::Refused(Refusal::TooLong { .. }))
+    )
 }

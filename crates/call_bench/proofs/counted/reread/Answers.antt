@@ -1,6 +1,6 @@
 -- What is read is read in the text, and the length is that of its path.
 use Rattle.std.proofs.Common.{◌∙◌, ap, length, sym}
-use Rattle.url_bench.proofs.counted.reread.Goals as goal
+use Rattle.call_bench.proofs.counted.reread.Goals as goal
 
 pub returns-in-Ok : goal.returns-in-Ok
 returns-in-Ok c = λ more. (

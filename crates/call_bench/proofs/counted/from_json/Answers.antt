@@ -1,6 +1,6 @@
 -- What is restored is what the record that was read means.
 use Rattle.std.proofs.Common.{◌∙◌, ap, length, sym}
-use Rattle.url_bench.proofs.counted.from_json.Goals as goal
+use Rattle.call_bench.proofs.counted.from_json.Goals as goal
 
 pub returns-in-Ok-from_stored : goal.returns-in-Ok-from_stored
 returns-in-Ok-from_stored c = λ more. (
