@@ -67,10 +67,11 @@ pub struct Fault {
 /// Why a text spells no location, and where: `len` bytes of the text are wrong, behind its first `at`. It borrows from the
 /// text, which isn't told with it but for a front.
 ///
-/// The place is what stands there and should not: the character that is white space, the `%` of a broken escape, the first
-/// backslash of an authority, the user, the password, the host or the path that decodes to no text, all that stands in a
-/// port's place, a bracket that is not closed or what follows a closed one, and what should be a scheme. Where something is
-/// missing, it is where that would stand, and no byte long.
+/// The place is what is there and should not be: the character that is white space, the `%` of a broken escape, the first
+/// backslash of an authority, the user, the password or the path that decodes to no text, the host that is none, or all of a
+/// piece whose colons mark no port, the text between brackets that is no host, a bracket that is not closed or what follows
+/// a closed one, all that is in a port's place, and what should be a scheme. Where something is missing, it is where that
+/// would be, and no byte long.
 ///
 /// `Display` says it in words, which show no byte of the text; `Debug` shows the length of a front in place of its bytes.
 ///
