@@ -1,10 +1,10 @@
 -- The settled class by its tests: what the small tests tell, joined.
-use Rattle.std.proofs.Common.{⊎_elim, ◌≡◌, ◌↔◌, ℕ, Bool, true, false, not, ◌≤◌, ◌⊎◌, inl, inr, List, [], ◌∷◌, ◌++◌, refl, sym, ap, subst, ◌∙◌, append_assoc, arith, codes, length, length-append, Option, Some, None, Ok, IsTrue}
+use Rattle.std.proofs.Common.{⊎_elim, ◌≡◌, ◌↔◌, ℕ, Bool, true, false, not, ◌≤◌, ◌⊎◌, inl, inr, List, [], ◌∷◌, ◌++◌, ◌+◌, drop, refl, sym, ap, subst, ◌∙◌, append_assoc, arith, codes, length, length-append, Option, Some, None, Ok, IsTrue}
 use Rattle.std.specs.List.{list_all}
 use Rattle.std.specs.Option.{is_some}
-use Rattle.std.proofs.lemmas.List.{append_cancel_right, same_from_push}
+use Rattle.std.proofs.lemmas.List.{append_cancel_right, length-drop, same_from_push}
 use Rattle.std.proofs.lemmas.List.Folds.{list_all-append}
-use Rattle.std.proofs.lemmas.Bool.{both_ways, false≢true, true≢false, not-false, and_parts}
+use Rattle.std.proofs.lemmas.Bool.{both_ways, false≢true, true≢false, le-leb, not-false, and_parts, or_left}
 use Rattle.git_syntax.specs.Value.{Location}
 use Rattle.git_syntax.specs.Bytes.{slash, colon, left_bracket, right_bracket, percent_sign, FreeOf, lowercase}
 use Rattle.git_syntax.specs.Escapes.{has_percent, is_plain}
@@ -18,7 +18,7 @@ use Rattle.git_location.specs.SettledParts.{IsNormalLiteral, IsBracketedLiteral,
 use Rattle.git_syntax.specs.Schemes.{protocol_text}
 use Rattle.git_location.specs.Text.{text, canonical_text, user_information, host_part, port_part, canonical_path}
 use Rattle.git_syntax.specs.Authority.{FitsText}
-use Rattle.git_syntax.proofs.Readings.LengthLemmas.{fits_text, short_walk}
+use Rattle.git_syntax.proofs.Readings.LengthLemmas.{fits_text, fits_tested}
 use Rattle.git_syntax.proofs.Addresses.AddressLemmas.{address_free}
 use Rattle.git_syntax.proofs.Readings.HostLemmas.{simple_http, simple_normal}
 use Rattle.git_syntax.proofs.Readings.ScpLemmas.{simple_scp_host}
@@ -230,7 +230,10 @@ pub short_text : (v : Location) → FreeOf colon (protocol_text v.scheme) → te
 short_text v free canonical short =
     let rest = codes "://" ++ (user_information v.user v.password ++ (host_part v v.host ++ (port_part v.port ++ canonical_path v))) in
     let whole = length-append (protocol_text v.scheme) rest in
-    (fitting_text v (canonical_text v) free canonical (sym canonical)).0 (omega (arith, whole, short), short_walk (protocol_text v.scheme) (canonical_text v) (omega (arith, short)))
+    let behind = drop (length (protocol_text v.scheme) + 3) (canonical_text v) in
+    let few : length behind ≤ 1024 = omega (arith, short, length-drop (length (protocol_text v.scheme) + 3) (canonical_text v)) in
+    let fits = fits_tested (protocol_text v.scheme) behind (omega (arith, whole, short)) in
+    (fitting_text v (canonical_text v) free canonical (sym canonical)).0 (fits.0 (or_left _ _ (le-leb (length behind) 1024 few)))
 
 -- and a test of its scheme and of what it is made of tells it
 pub text_tested : (v : Location) (s t : List ℕ) (b : Bool) → s ≡ protocol_text v.scheme → FreeOf colon (protocol_text v.scheme) → text v ≡ Ok (canonical_text v) → Ok t ≡ text v

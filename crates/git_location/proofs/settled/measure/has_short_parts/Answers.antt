@@ -5,4 +5,4 @@ use Rattle.git_location.proofs.Closed.SettledLemmas.{short_text}
 use Rattle.git_location.proofs.settled.measure.has_short_parts.Goals as goal
 
 pub returns : goal.returns
-returns c = λ short. short_text c.args.url.now c.requires.no_colon c.requires.canonical (let within = leb-true c.longest_len.result c.from.result short in omega (arith, within, c.from.ensures, c.longest_len.ensures))
+returns c = λ short. short_text c.args.url.now c.requires.no_colon c.requires.canonical (let within = leb-true c.longest_len.result 1024 short in omega (arith, within, c.longest_len.ensures))
