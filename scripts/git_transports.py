@@ -143,6 +143,11 @@ def is_blocked(text, answer):
     return re.match(rb"fatal: strange (hostname|port) '-", answer) is not None
 
 
+def is_past_the_end(text, reading):
+    """Whether the path that Git reads begins with a `~` that it found past the end of a text whose path is empty."""
+    return text.endswith(b":") and reading.path.startswith(b"~")
+
+
 def program_fault(text, answer, reading):
     """What is wrong with the words that a program got for a reading, if anything is. Behind an empty path Git looks at the
     byte past the text's end, so there the path isn't compared."""
@@ -151,7 +156,7 @@ def program_fault(text, answer, reading):
         return None if words is None and is_blocked(text, answer) else f"Git answers {answer!r}"
     if words is None:
         return f"no program is started: {answer!r}"
-    if reading.path == b"":
+    if reading.path == b"" or is_past_the_end(text, reading):
         return None
     if reading.protocol in ("file", HOME):
         return None if words == [reading.path] else f"git-upload-pack gets {words}"
