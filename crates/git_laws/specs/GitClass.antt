@@ -1,10 +1,12 @@
 -- The law on the locations that a careful user hands to Git: in the text of each Git reads what this library reads.
 use Rattle.std.specs.Prelude.{◌≡◌, ℕ, List, Ok}
-use Rattle.git_syntax.specs.Value.{Location}
+use Rattle.git_syntax.specs.Value.{Protocol, Location}
+use Rattle.git_syntax.specs.Value.Protocol.{http, https}
 use Rattle.git_location.specs.Text.{text}
 use Rattle.git_location.specs.Settled.{IsValue}
 use Rattle.git_laws.specs.Git.{GitReading, GitReads}
-pub use Rattle.git_location.specs.GitClass.{is_contested, HasPlainText, HasNoOption, is_tilde_second, IsRsync, SuitsTransport, AgreesWithGit}
+use Rattle.git_laws.specs.GitWeb.{ReadsOwnOverWeb}
+pub use Rattle.git_location.specs.GitClass.{is_contested, HasPlainText, HasNoOption, is_tilde_second, IsRsync, SuitsTransport, AgreesByTransport, AgreesWithGit}
 
 -- the location's own protocol, user, host, port and path
 abbrev pub own_reading : Location → GitReading
@@ -16,11 +18,21 @@ own_reading v = record {
   path = v.path;
 }
 
+-- Git reads the location's own parts in the text, by the protocol: of HTTP its credential code does, and a reader of URIs
+abbrev pub ReadsOwnBy : Protocol → List ℕ → Location → Type 0
+ReadsOwnBy http t v = ReadsOwnOverWeb t v
+ReadsOwnBy https t v = ReadsOwnOverWeb t v
+ReadsOwnBy _ t v = GitReads t (own_reading v)
+
+-- Git reads the location's own parts in the text
+abbrev pub ReadsOwn : List ℕ → Location → Type 0
+ReadsOwn t v = ReadsOwnBy v.scheme t v
+
 -- the location has a text, and Git reads whatever its text is as the location's own parts
 pub record IsReadAlike (v : Location) : Type 0 where
   pub written : List ℕ
   pub has_text : text v ≡ Ok written
-  pub read : (t : List ℕ) → text v ≡ Ok t → GitReads t (own_reading v)
+  pub read : (t : List ℕ) → text v ≡ Ok t → ReadsOwn t v
 
 -- so it is with each location of the class
 abbrev pub ReadAlike : Type 0

@@ -1,5 +1,6 @@
 -- What a user reads.
 pub mod Git
+pub mod GitWeb
 pub mod GitClass
 pub mod Components
 pub mod ComponentEquality

@@ -1,11 +1,13 @@
 -- The locations that a careful user hands to Git: in the text of each Git reads what this library reads.
+-- Those of HTTP are in `WebClass`.
 use Rattle.std.specs.Prelude.{◌≡◌, ℕ, Bool, true, false, ◌||◌, ◌==◌, List, [], ◌∷◌, codes, Some, None, IfSome, Ok}
 use Rattle.git_syntax.specs.Value.{Protocol, Location}
-use Rattle.git_syntax.specs.Value.Protocol.{file, git, ssh}
+use Rattle.git_syntax.specs.Value.Protocol.{file, git, ssh, http, https}
 use Rattle.git_syntax.specs.Bytes.{percent_sign, left_bracket, right_bracket, tilde, Lacks, begins_with}
 use Rattle.git_location.specs.Text.{text}
 use Rattle.git_location.specs.Settled.{IsSettled}
 use Rattle.git_location.specs.Arguments.{is_option_like}
+use Rattle.git_location.specs.WebClass.{AgreesOverWeb}
 
 -- a byte by which Git cuts a text otherwise: byte 0, `%`, `[` or `]`
 abbrev pub is_contested : ℕ → Bool
@@ -42,10 +44,20 @@ SuitsTransport git v = v.user ≡ None
 SuitsTransport file v = (v.host ≡ None) × (begins_with tilde v.path ≡ false)
 SuitsTransport _ v = ⊥
 
--- the location is of the class
-pub record AgreesWithGit (v : Location) : Type 0 where
+-- a location of Git's own transports is of the class
+pub record AgreesByTransport (v : Location) : Type 0 where
   pub settled : IsSettled v
   pub no_password : v.password ≡ None
   pub no_option : HasNoOption v
   pub suits : SuitsTransport v.scheme v
   pub plain : HasPlainText v
+
+-- the location is of the class, by its protocol
+abbrev pub AgreesBy : Protocol → Location → Type 0
+AgreesBy http v = AgreesOverWeb v
+AgreesBy https v = AgreesOverWeb v
+AgreesBy _ v = AgreesByTransport v
+
+-- the location is of the class
+abbrev pub AgreesWithGit : Location → Type 0
+AgreesWithGit v = AgreesBy v.scheme v

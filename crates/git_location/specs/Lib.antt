@@ -5,6 +5,7 @@ pub mod Readings
 pub mod Display
 pub mod Words
 pub mod Arguments
+pub mod WebClass
 pub mod GitClass
 pub mod Safeguards
 pub mod Views

@@ -1,0 +1,238 @@
+-- What two other readers read in the text of a location of HTTP: Git's credential code, which asks helpers for a host, and
+-- a reader of URIs as RFC 3986 has them, as libcurl is in texts of the normal form. No proof says that Git and libcurl keep
+-- to it: `scripts/web_witness` compares.
+use Rattle.std.specs.Prelude.{◌≡◌, ℕ, ◌<◌, Bool, true, false, ◌||◌, ◌==◌, ◌⊎◌, List, [], ◌∷◌, ◌++◌, length, decimal, codes, Option, Some, None, IfSome, option_map, if◌then◌else◌}
+use Rattle.std.specs.List.{list_all}
+use Rattle.std.specs.Char.{is_ascii_alphanumeric, is_ascii_digit}
+use Rattle.percent_encoding.specs.Percent.{percent_decode}
+use Rattle.git_syntax.specs.Value.{Location}
+use Rattle.git_syntax.specs.Bytes.{newline, number_sign, slash, colon, question_mark, at_sign, left_bracket, right_bracket, Lacks, FreeOf, begins_with, Holds, IsLowercase, is_one_of, is_scheme_text, is_path_start, StartsPath}
+use Rattle.git_syntax.specs.Escapes.{is_sound}
+use Rattle.git_syntax.specs.Addresses.{IsIpv6Text}
+use Rattle.git_syntax.specs.Schemes.{protocol_text}
+use Rattle.git_location.specs.Text.{port_part}
+use Rattle.git_location.specs.WebClass.{is_uri_byte, HasDotSegment}
+use Rattle.git_laws.specs.Git.{git_decode}
+
+-- ---- Git's credential code
+
+-- what helpers are asked for; the port is a part of the host
+pub record CredentialReading : Type 0 where
+  pub protocol : List ℕ
+  pub user : Option (List ℕ)
+  pub password : Option (List ℕ)
+  pub host : List ℕ
+  pub path : Option (List ℕ)
+
+-- a piece and its decoding: what precedes the first colon is taken for a scheme, and stays
+pub data CredentialDecodes (piece decoded : List ℕ) : Type 0 where
+  whole : FreeOf colon piece → decoded ≡ git_decode piece → CredentialDecodes piece decoded
+  behind : (front rest : List ℕ) → FreeOf colon front → piece ≡ front ++ colon ∷ rest
+      → decoded ≡ front ++ colon ∷ git_decode rest → CredentialDecodes piece decoded
+
+-- an authority is cut at its first `@`, and what precedes that at its first colon
+pub data CredentialCut (authority : List ℕ) (user password : Option (List ℕ))
+    (named : List ℕ) : Type 0 where
+  host_alone : FreeOf at_sign authority → named ≡ authority → user ≡ None → password ≡ None
+      → CredentialCut authority user password named
+  user_alone : (u name : List ℕ) → FreeOf at_sign u → FreeOf colon u
+      → authority ≡ u ++ at_sign ∷ named → CredentialDecodes u name
+      → user ≡ Some name → password ≡ None → CredentialCut authority user password named
+  with_password : (u w name secret : List ℕ) → FreeOf at_sign u → FreeOf at_sign w → FreeOf colon u
+      → authority ≡ u ++ colon ∷ (w ++ at_sign ∷ named)
+      → CredentialDecodes u name → CredentialDecodes w secret
+      → user ≡ Some name → password ≡ Some secret → CredentialCut authority user password named
+
+-- each byte is a `/`
+abbrev pub are_slashes : List ℕ → Bool
+are_slashes bs = list_all (λ b. b == slash) bs
+
+-- the text without the slashes at its end
+abbrev pub without_last_slashes : List ℕ → List ℕ
+without_last_slashes [] = []
+without_last_slashes (b ∷ bs) = if are_slashes (b ∷ bs) then [] else b ∷ without_last_slashes bs
+
+-- a path without the slashes at its end, but with its first byte; none where it is empty
+abbrev pub trimmed_path : List ℕ → Option (List ℕ)
+trimmed_path [] = None
+trimmed_path (b ∷ bs) = Some (b ∷ without_last_slashes bs)
+
+-- what follows an authority, and the path: without the slashes at its front, decoded, without those at its end
+pub record CredentialPath (behind : List ℕ) (path : Option (List ℕ)) : Type 0 where
+  pub slashes : List ℕ
+  pub rest : List ℕ
+  pub decoded : List ℕ
+  pub joined : behind ≡ slashes ++ rest
+  pub front : are_slashes slashes ≡ true
+  pub begins : begins_with slash rest ≡ false
+  pub decodes : CredentialDecodes rest decoded
+  pub value : path ≡ trimmed_path decoded
+
+-- a part of one line, without a line feed and a carriage return; Git refuses any other
+abbrev pub IsOneLine : List ℕ → Type 0
+IsOneLine part = Lacks (λ b. b == newline || b == 13) part
+
+-- the parts are of one line each
+pub record AreOneLine (r : CredentialReading) : Type 0 where
+  pub protocol : IsOneLine r.protocol
+  pub user : IfSome r.user IsOneLine
+  pub password : IfSome r.password IsOneLine
+  pub host : IsOneLine r.host
+  pub path : IfSome r.path IsOneLine
+
+-- what Git's credential code reads in a text
+pub record CredentialReads (t : List ℕ) (r : CredentialReading) : Type 0 where
+  pub authority : List ℕ
+  pub behind : List ℕ
+  pub named : List ℕ
+  pub whole : FreeOf 0 t
+  pub protocol : 0 < length r.protocol
+  pub no_mark : ¬ Holds (codes "://") r.protocol
+  pub joined : t ≡ r.protocol ++ (codes "://" ++ (authority ++ behind))
+  pub before_path : Lacks (is_path_start true) authority
+  pub path_start : StartsPath true behind
+  pub cut : CredentialCut authority r.user r.password named
+  pub host : CredentialDecodes named r.host
+  pub path : CredentialPath behind r.path
+  pub lines : AreOneLine r
+
+-- Git's credential code reads one thing in a text
+abbrev pub OneCredentialReading : Type 0
+OneCredentialReading = (t : List ℕ) (r other : CredentialReading)
+    → CredentialReads t r → CredentialReads t other → r ≡ other
+
+-- ---- URIs
+
+-- the components of a URI, as they are written (RFC 3986, section 3)
+pub record UriReading : Type 0 where
+  pub scheme : List ℕ
+  pub information : Option (List ℕ)
+  pub host : List ℕ
+  pub port : Option (List ℕ)
+  pub path : List ℕ
+  pub query : Option (List ℕ)
+  pub fragment : Option (List ℕ)
+
+-- what precedes a mark, and what follows its first occurrence where there is one
+pub data SplitsAt (mark : ℕ) (t front : List ℕ) (back : Option (List ℕ)) : Type 0 where
+  absent : FreeOf mark t → front ≡ t → back ≡ None → SplitsAt mark t front back
+  there : (rest : List ℕ) → FreeOf mark front → t ≡ front ++ mark ∷ rest → back ≡ Some rest
+      → SplitsAt mark t front back
+
+-- an authority holds user information before its only `@`, and what names host and port
+pub data UriAuthority (authority : List ℕ) (information : Option (List ℕ))
+    (named : List ℕ) : Type 0 where
+  host_alone : FreeOf at_sign authority → named ≡ authority → information ≡ None
+      → UriAuthority authority information named
+  informed : (i : List ℕ) → FreeOf at_sign i → FreeOf at_sign named
+      → authority ≡ i ++ at_sign ∷ named → information ≡ Some i
+      → UriAuthority authority information named
+
+-- nothing, or a colon and the digits of a port
+pub data UriPort (behind : List ℕ) (port : Option (List ℕ)) : Type 0 where
+  absent : behind ≡ [] → port ≡ None → UriPort behind port
+  there : (digits : List ℕ) → behind ≡ colon ∷ digits → list_all is_ascii_digit digits ≡ true
+      → port ≡ Some digits → UriPort behind port
+
+-- a host and what follows it: an IPv6 address in brackets, or a name or an IPv4 address
+pub data UriHost (named host behind : List ℕ) : Type 0 where
+  bracketed : (inside : List ℕ) → IsIpv6Text inside
+      → host ≡ left_bracket ∷ (inside ++ right_bracket ∷ [])
+      → named ≡ host ++ behind → UriHost named host behind
+  open : FreeOf colon host → begins_with left_bracket host ≡ false → named ≡ host ++ behind
+      → UriHost named host behind
+
+-- a letter, a digit, a mark that is no delimiter of a URI, or the `%` of an escape
+abbrev pub is_host_byte : ℕ → Bool
+is_host_byte b = is_ascii_alphanumeric b || is_one_of (codes "-._~!$&'()*+,;=%") b
+
+-- the text is of such bytes, and each `%` begins an escape
+abbrev pub IsEscaped : (ℕ → Bool) → List ℕ → Type 0
+IsEscaped test t = (list_all test t ≡ true) × (is_sound t ≡ true)
+
+-- the components have the bytes that RFC 3986 allows them
+pub record HasUriBytes (r : UriReading) : Type 0 where
+  pub scheme : is_scheme_text r.scheme ≡ true
+  pub information : IfSome r.information (IsEscaped (λ b. is_host_byte b || b == colon))
+  pub host : (begins_with left_bracket r.host ≡ true) ⊎ IsEscaped is_host_byte r.host
+  pub path : IsEscaped is_uri_byte r.path
+  pub query : IfSome r.query (IsEscaped is_uri_byte)
+  pub fragment : IfSome r.fragment (IsEscaped is_uri_byte)
+
+-- the text is a URI with an authority, and these are its components
+pub record UriReads (t : List ℕ) (r : UriReading) : Type 0 where
+  pub authority : List ℕ
+  pub behind : List ℕ
+  pub named : List ℕ
+  pub after_host : List ℕ
+  pub before_fragment : List ℕ
+  pub joined : t ≡ r.scheme ++ (codes "://" ++ (authority ++ behind))
+  pub before_path : Lacks (is_path_start true) authority
+  pub path_start : StartsPath true behind
+  pub cut : UriAuthority authority r.information named
+  pub host : UriHost named r.host after_host
+  pub port : UriPort after_host r.port
+  pub fragment : SplitsAt number_sign behind before_fragment r.fragment
+  pub query : SplitsAt question_mark before_fragment r.path r.query
+  pub bytes : HasUriBytes r
+
+-- a text is a URI in one way
+abbrev pub OneUriReading : Type 0
+OneUriReading = (t : List ℕ) (r other : UriReading) → UriReads t r → UriReads t other → r ≡ other
+
+-- the URI is in the normal form, as far as readers change it: scheme and host in lower case, and no segment `.` or `..`
+pub record IsNormalUri (r : UriReading) : Type 0 where
+  pub scheme : IsLowercase r.scheme
+  pub host : IsLowercase r.host
+  pub path : ¬ HasDotSegment r.path
+
+-- ---- the location's own
+
+-- a path without its first byte, as Git's credential code has it
+abbrev pub below_root : List ℕ → Option (List ℕ)
+below_root [] = None
+below_root (b ∷ bs) = trimmed_path bs
+
+-- the location's own parts, as Git's credential code has them: the host with its port, and the path without the slashes
+-- around it
+abbrev pub own_credential : Location → List ℕ → CredentialReading
+own_credential v host_text = record {
+  protocol = protocol_text v.scheme;
+  user = v.user;
+  password = v.password;
+  host = host_text ++ port_part v.port;
+  path = below_root v.path;
+}
+
+-- user information that decodes to a user and, behind its colon, to a password
+pub data IsOwnInformation (user password information : Option (List ℕ)) : Type 0 where
+  absent : user ≡ None → information ≡ None → IsOwnInformation user password information
+  user_alone : (u i : List ℕ) → user ≡ Some u → password ≡ None → information ≡ Some i
+      → FreeOf colon i → percent_decode i ≡ u → IsOwnInformation user password information
+  with_password : (u p a b : List ℕ) → user ≡ Some u → password ≡ Some p
+      → information ≡ Some (a ++ colon ∷ b) → FreeOf colon a
+      → percent_decode a ≡ u → percent_decode b ≡ p → IsOwnInformation user password information
+
+-- a path with the query behind it, as it is written
+abbrev pub with_query : List ℕ → Option (List ℕ) → List ℕ
+with_query path None = path
+with_query path (Some query) = path ++ question_mark ∷ query
+
+-- the components of the URI are the location's own: they decode to its parts, and there is no fragment
+pub record IsOwnUri (v : Location) (r : UriReading) : Type 0 where
+  pub scheme : r.scheme ≡ protocol_text v.scheme
+  pub information : IsOwnInformation v.user v.password r.information
+  pub host : v.host ≡ Some r.host
+  pub port : r.port ≡ option_map decimal v.port
+  pub path : percent_decode (with_query r.path r.query) ≡ v.path
+  pub fragment : r.fragment ≡ None
+
+-- both readers read the location's own in the text
+pub record ReadsOwnOverWeb (t : List ℕ) (v : Location) : Type 0 where
+  pub host : List ℕ
+  pub there : v.host ≡ Some host
+  pub credential : CredentialReads t (own_credential v host)
+  pub uri : UriReading
+  pub reads : UriReads t uri
+  pub own : IsOwnUri v uri
+  pub normal : IsNormalUri uri
