@@ -4,3 +4,5 @@ pub mod GitPieceLemmas
 pub mod GitTransportLemmas
 pub mod GitLemmas
 pub mod GitUniqueLemmas
+pub mod WebUriLemmas
+pub mod WebUriUniqueLemmas
