@@ -6,12 +6,13 @@ use Rattle.std.specs.List.{list_all}
 use Rattle.std.specs.Char.{is_ascii_alphanumeric, is_ascii_digit}
 use Rattle.percent_encoding.specs.Percent.{percent_decode}
 use Rattle.git_syntax.specs.Value.{Location}
-use Rattle.git_syntax.specs.Bytes.{newline, number_sign, slash, colon, question_mark, at_sign, left_bracket, right_bracket, Lacks, FreeOf, begins_with, Holds, IsLowercase, is_one_of, is_scheme_text, is_path_start, StartsPath}
+use Rattle.git_syntax.specs.Bytes.{newline, slash, colon, question_mark, at_sign, left_bracket, right_bracket, Lacks, FreeOf, begins_with, Holds, IsLowercase, is_one_of, is_scheme_text, is_path_start, StartsPath}
 use Rattle.git_syntax.specs.Escapes.{is_sound}
 use Rattle.git_syntax.specs.Addresses.{IsIpv6Text}
 use Rattle.git_syntax.specs.Schemes.{protocol_text}
 use Rattle.git_location.specs.Text.{port_part}
 use Rattle.git_location.specs.WebClass.{is_uri_byte, HasDotSegment}
+use Rattle.git_laws.specs.Components.{CutsPath}
 use Rattle.git_laws.specs.Git.{git_decode}
 
 -- ---- Git's credential code
@@ -113,12 +114,6 @@ pub record UriReading : Type 0 where
   pub query : Option (List ℕ)
   pub fragment : Option (List ℕ)
 
--- what precedes a mark, and what follows its first occurrence where there is one
-pub data SplitsAt (mark : ℕ) (t front : List ℕ) (back : Option (List ℕ)) : Type 0 where
-  absent : FreeOf mark t → front ≡ t → back ≡ None → SplitsAt mark t front back
-  there : (rest : List ℕ) → FreeOf mark front → t ≡ front ++ mark ∷ rest → back ≡ Some rest
-      → SplitsAt mark t front back
-
 -- an authority holds user information before its only `@`, and what names host and port
 pub data UriAuthority (authority : List ℕ) (information : Option (List ℕ))
     (named : List ℕ) : Type 0 where
@@ -139,7 +134,7 @@ pub data UriHost (named host behind : List ℕ) : Type 0 where
   bracketed : (inside : List ℕ) → IsIpv6Text inside
       → host ≡ left_bracket ∷ (inside ++ right_bracket ∷ [])
       → named ≡ host ++ behind → UriHost named host behind
-  open : FreeOf colon host → begins_with left_bracket host ≡ false → named ≡ host ++ behind
+  unbracketed : FreeOf colon host → begins_with left_bracket host ≡ false → named ≡ host ++ behind
       → UriHost named host behind
 
 -- a letter, a digit, a mark that is no delimiter of a URI, or the `%` of an escape
@@ -165,26 +160,26 @@ pub record UriReads (t : List ℕ) (r : UriReading) : Type 0 where
   pub behind : List ℕ
   pub named : List ℕ
   pub after_host : List ℕ
-  pub before_fragment : List ℕ
   pub joined : t ≡ r.scheme ++ (codes "://" ++ (authority ++ behind))
   pub before_path : Lacks (is_path_start true) authority
   pub path_start : StartsPath true behind
   pub cut : UriAuthority authority r.information named
   pub host : UriHost named r.host after_host
   pub port : UriPort after_host r.port
-  pub fragment : SplitsAt number_sign behind before_fragment r.fragment
-  pub query : SplitsAt question_mark before_fragment r.path r.query
+  pub path : CutsPath behind r.path r.query r.fragment
   pub bytes : HasUriBytes r
 
 -- a text is a URI in one way
 abbrev pub OneUriReading : Type 0
 OneUriReading = (t : List ℕ) (r other : UriReading) → UriReads t r → UriReads t other → r ≡ other
 
--- the URI is in the normal form, as far as readers change it: scheme and host in lower case, and no segment `.` or `..`
+-- the URI is in the normal form, as far as readers change it: scheme and host in lower case, and no segment `.` or `..`,
+-- be it escaped
 pub record IsNormalUri (r : UriReading) : Type 0 where
   pub scheme : IsLowercase r.scheme
   pub host : IsLowercase r.host
   pub path : ¬ HasDotSegment r.path
+  pub escaped : ¬ HasDotSegment (percent_decode r.path)
 
 -- ---- the location's own
 
@@ -206,7 +201,8 @@ own_credential v host_text = record {
 
 -- user information that decodes to a user and, behind its colon, to a password
 pub data IsOwnInformation (user password information : Option (List ℕ)) : Type 0 where
-  absent : user ≡ None → information ≡ None → IsOwnInformation user password information
+  absent : user ≡ None → password ≡ None → information ≡ None
+      → IsOwnInformation user password information
   user_alone : (u i : List ℕ) → user ≡ Some u → password ≡ None → information ≡ Some i
       → FreeOf colon i → percent_decode i ≡ u → IsOwnInformation user password information
   with_password : (u p a b : List ℕ) → user ≡ Some u → password ≡ Some p

@@ -11,10 +11,10 @@ use Rattle.git_syntax.specs.Addresses.{IsZone, is_zone_byte, Literal}
 use Rattle.git_syntax.specs.Addresses.Literal.{address, zoned}
 use Rattle.git_syntax.specs.Hosts.{Number, Names, IsPlainHost, HostText, is_http_host_byte}
 use Rattle.git_syntax.specs.Hosts.Mode.{strict}
-use Rattle.git_location.specs.Text.{has_colon, open_host, needs_brackets, wants_brackets, port_part}
+use Rattle.git_location.specs.Text.{has_colon, open_host, canonical_host, needs_brackets, wants_brackets, port_part}
 use Rattle.git_location.specs.Settled.{IsWebName, IsWebHost, IsWeb}
 use Rattle.git_location.specs.Settled.IsWebHost.{literal, literal_colon, named, named_colon}
-use Rattle.git_laws.proofs.Written.WrittenPieces.{IsAuthorityPiece, WritesHost, host_and_port}
+use Rattle.git_laws.proofs.Written.WrittenPieces.{IsAuthorityPiece, WritesHost}
 use Rattle.git_syntax.proofs.Texts.CutLemmas.{all_weaker, free-append, free_begins, free_of_all}
 use Rattle.git_syntax.proofs.Addresses.AddressLemmas.{address_free}
 use Rattle.git_syntax.proofs.Readings.HostLemmas.{number_written}
@@ -156,16 +156,16 @@ web_host_kept : (v : Location) (host : List ℕ) → IsWeb v → open_host v.sch
 web_host_kept v host (inl e) = ap (λ s. open_host s host) e
 web_host_kept v host (inr e) = ap (λ s. open_host s host) e
 
--- so the host stands before the port as it is
-web_host_and_port : (v : Location) (host : List ℕ) → IsWeb v → needs_brackets v.port host ≡ false → host ++ port_part v.port ≡ host_and_port v host
-web_host_and_port v host web h = ap (λ x. x ++ port_part v.port) (sym (cond-false _ _ _ h ∙ web_host_kept v host web))
+-- so a settled host of HTTP is written as it is
+pub web_host_same : (v : Location) (host : List ℕ) → IsWeb v → IsWebHost v.port host → v.port ≢ Some 0 → IfSome v.port (λ p. p < 65536) → canonical_host v host ≡ host
+web_host_same v host web settled other within = cond-false _ _ _ (host_written v.port host settled other within).unbracketed ∙ web_host_kept v host web
 
 -- the written host and port of a settled location of HTTP name that host and that port
 pub web_host_written : (v : Location) (host : List ℕ) → IsWeb v → IsWebHost v.port host → v.port ≢ Some 0 → IfSome v.port (λ p. p < 65536) → WritesHost strict v host host
 web_host_written v host web settled other within =
     let w = host_written v.port host settled other within in
     let whole = joined_hosts host (port_part v.port) w.piece (port_piece v.port within) in
-    let same = web_host_and_port v host web w.unbracketed in record {
+    let same = ap (λ x. x ++ port_part v.port) (sym (web_host_same v host web settled other within)) in record {
       no_at = subst (λ x. FreeOf at_sign x) same whole.no_at;
       names = subst (λ x. Names strict x (Some host) v.port) same w.names;
       piece = subst (λ x. IsAuthorityPiece x) same whole.piece;

@@ -1,0 +1,71 @@
+-- A text is a URI in one way: its cuts are unique.
+use Rattle.std.proofs.Common.{◌≡◌, ◌∙◌, ℕ, true, false, ◌==◌, ◌⊎◌, inl, inr, List, [], ◌∷◌, ◌++◌, Option, Some, refl, sym, ap, subst, append_assoc}
+use Rattle.std.proofs.lemmas.Bool.{both_ways}
+use Rattle.git_syntax.specs.Bytes.{slash, colon, at_sign, left_bracket, right_bracket, FreeOf, begins_by, begins_with}
+use Rattle.git_laws.specs.Components.{CutsPath}
+use Rattle.git_laws.specs.GitWeb.{UriAuthority, UriPort, UriHost, OneUriReading}
+use Rattle.git_syntax.proofs.Texts.CutLemmas.{tails, different_bytes, class_cut_unique, cut_unique, not_free, path_cut_unique, scheme_text_free}
+use Rattle.git_syntax.proofs.Addresses.AddressLemmas.{address_free}
+use Rattle.git_laws.proofs.Parted.PartsLemmas.{path_unique}
+
+-- an authority is cut at its only `@`
+authority_unique : (t : List ℕ) (i j : Option (List ℕ)) (named other : List ℕ) → UriAuthority t i named → UriAuthority t j other → (i ≡ j) × (named ≡ other)
+authority_unique t i j named other (UriAuthority.host_alone free is none) (UriAuthority.host_alone free' is' none') = (none ∙ sym none', is ∙ sym is')
+authority_unique t i j named other (UriAuthority.host_alone free is none) (UriAuthority.informed y before' behind' e' some') = absurd (not_free at_sign y other (subst (λ s. FreeOf at_sign s) e' free))
+authority_unique t i j named other (UriAuthority.informed x before behind e some) (UriAuthority.host_alone free' is' none') = absurd (not_free at_sign x named (subst (λ s. FreeOf at_sign s) e free'))
+authority_unique t i j named other (UriAuthority.informed x before behind e some) (UriAuthority.informed y before' behind' e' some') =
+    let same = cut_unique at_sign x y named other before before' (sym e ∙ e') in
+    (some ∙ ap Some same.0 ∙ sym some', same.1)
+
+-- nothing or a colon stands behind a host
+port_begins : (behind : List ℕ) (port : Option (List ℕ)) → UriPort behind port → (behind ≡ []) ⊎ (begins_by (λ b. b == colon) behind ≡ true)
+port_begins behind port (UriPort.absent e none) = inl e
+port_begins behind port (UriPort.there digits e each some) = inr (ap (begins_by (λ b. b == colon)) e)
+
+-- one port stands there
+port_unique : (behind beyond : List ℕ) (port other : Option (List ℕ)) → behind ≡ beyond → UriPort behind port → UriPort beyond other → port ≡ other
+port_unique behind beyond port other same (UriPort.absent e none) (UriPort.absent e' none') = none ∙ sym none'
+port_unique behind beyond port other same (UriPort.absent e none) (UriPort.there digits e' each some) = let wrong : [] ≡ colon ∷ digits = sym e ∙ same ∙ e' in absurd (cc)
+port_unique behind beyond port other same (UriPort.there digits e each some) (UriPort.absent e' none') = let wrong : [] ≡ colon ∷ digits = sym e' ∙ sym same ∙ e in absurd (cc)
+port_unique behind beyond port other same (UriPort.there x e each some) (UriPort.there y e' each' some') = some ∙ ap Some (tails (sym e ∙ same ∙ e')) ∙ sym some'
+
+-- what stands behind `[` where a host is in brackets
+behind_bracket : (named host inside behind : List ℕ) → host ≡ left_bracket ∷ (inside ++ right_bracket ∷ []) → named ≡ host ++ behind → named ≡ left_bracket ∷ (inside ++ right_bracket ∷ behind)
+behind_bracket named host inside behind is e = e ∙ ap (λ h. h ++ behind) is ∙ ap (λ t. left_bracket ∷ t) (append_assoc inside (right_bracket ∷ []) behind)
+
+-- no other host stands there
+open_apart : (rest host behind : List ℕ) (port : Option (List ℕ)) → begins_with left_bracket host ≡ false → UriPort behind port → left_bracket ∷ rest ≡ host ++ behind → ⊥
+open_apart rest [] behind port other (UriPort.absent e none) is = let wrong : left_bracket ∷ rest ≡ [] = is ∙ e in cc
+open_apart rest [] behind port other (UriPort.there digits e each some) is = different_bytes left_bracket colon refl (is ∙ e)
+open_apart rest (b ∷ host) behind port other p is = both_ways _ other (sym (ap (begins_with left_bracket) is))
+
+-- one host stands before a port
+host_unique : (t host other behind beyond : List ℕ) (port more : Option (List ℕ)) → UriPort behind port → UriPort beyond more → UriHost t host behind → UriHost t other beyond → (host ≡ other) × (behind ≡ beyond)
+host_unique t host other behind beyond port more p q (UriHost.bracketed x address is e) (UriHost.bracketed y address' is' e') =
+    let same = cut_unique right_bracket x y behind beyond (address_free right_bracket x refl address) (address_free right_bracket y refl address') (tails (sym (behind_bracket t host x behind is e) ∙ behind_bracket t other y beyond is' e')) in
+    (is ∙ ap (λ i. left_bracket ∷ (i ++ right_bracket ∷ [])) same.0 ∙ sym is', same.1)
+host_unique t host other behind beyond port more p q (UriHost.bracketed x address is e) (UriHost.unbracketed free begins e') =
+    absurd (open_apart (x ++ right_bracket ∷ behind) other beyond more begins q (sym (behind_bracket t host x behind is e) ∙ e'))
+host_unique t host other behind beyond port more p q (UriHost.unbracketed free begins e) (UriHost.bracketed y address' is' e') =
+    absurd (open_apart (y ++ right_bracket ∷ beyond) host behind port begins p (sym (behind_bracket t other y beyond is' e') ∙ e))
+host_unique t host other behind beyond port more p q (UriHost.unbracketed free begins e) (UriHost.unbracketed free' begins' e') =
+    class_cut_unique (λ b. b == colon) host other behind beyond free free' (port_begins behind port p) (port_begins beyond more q) (sym e ∙ e')
+
+-- a text is a URI in one way
+pub one_uri : OneUriReading
+one_uri t r o h k =
+    let (scheme, rest) = cut_unique colon r.scheme o.scheme (slash ∷ slash ∷ (h.authority ++ h.behind)) (slash ∷ slash ∷ (k.authority ++ k.behind)) (scheme_text_free r.scheme colon h.bytes.scheme refl) (scheme_text_free o.scheme colon k.bytes.scheme refl) (sym h.joined ∙ k.joined) in
+    let (authority, behind) = path_cut_unique true h.authority k.authority h.behind k.behind h.before_path k.before_path h.path_start k.path_start (tails (tails rest)) in
+    let (information, named) = authority_unique k.authority r.information o.information h.named k.named (subst (λ a. UriAuthority a r.information h.named) authority h.cut) k.cut in
+    let (host, after) = host_unique k.named r.host o.host h.after_host k.after_host r.port o.port h.port k.port (subst (λ n. UriHost n r.host h.after_host) named h.host) k.host in
+    let port = port_unique h.after_host k.after_host r.port o.port after h.port k.port in
+    let (path, query, fragment) = path_unique k.behind r.path o.path r.query o.query r.fragment o.fragment (subst (λ b. CutsPath b r.path r.query r.fragment) behind h.path) k.path in
+    λ i. record {
+      scheme = scheme i;
+      information = information i;
+      host = host i;
+      port = port i;
+      path = path i;
+      query = query i;
+      fragment = fragment i;
+    }
