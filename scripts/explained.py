@@ -6,7 +6,7 @@
 
 What a location is, is asked of `oracle.py`, in whose home folder its path begins of `plain_paths.py`, and where a refused
 line is wrong of `places.py`; what is said of it is put together here, and not by the library. Whether Git is known to read
-the same is the rule by hand of docs/GIT.md, in `git_classes.py`, and what it reads is asked of `git_reads.py`. The texts of
+the same is the rule by hand of docs/GIT.md, in `git_classes.py` and of HTTP in `web_plain.py`, and what it reads is asked of `git_reads.py`. The texts of
 the tables in docs/GRAMMAR.md and docs/EXPLAIN.md are among the lines, and the last line lacks its end.
 """
 import itertools
@@ -21,6 +21,7 @@ import places
 import plain_paths
 from git_classes import Case, Reading, is_careful
 from git_reads import git_reads, unread
+from web_plain import broken
 
 HELPERS = [b"a::b://c", b"ext::sh -c x", b"a::", b"ssh::address", b"a::\xff"]
 URLS = [
@@ -171,9 +172,9 @@ def reading(v):
 
 
 def agrees_with_git(v):
-    """The rule by hand, asked of the text that is written: the text of a settled location is read as it and written again."""
-    is_settled = oracle.settled(v)
-    answer = is_careful(Case(oracle.text(v), None, reading(v)), is_settled)
+    """The rules by hand, asked of the text that is written: the text of a settled location is read as it and written again."""
+    is_web = v.scheme in oracle.HTTP_SCHEMES
+    answer = not broken(v) if is_web else is_careful(Case(oracle.text(v), None, reading(v)), oracle.settled(v))
     assert answer == oracle.agrees_with_git(v), v
     return answer
 
