@@ -296,7 +296,7 @@ def path_cuts(scheme, rest):
     """All (authority, path) that the bytes behind `://` are."""
     starts = path_starts(scheme)
     return [(a, p) for a, p in halves(rest)
-            if not any(b in starts for b in a) and (p == b"" or p[0] in starts)]
+            if (p == b"" or p[0] in starts) and not any(b in starts for b in a)]
 
 
 def fits(scheme, rest):

@@ -20,7 +20,7 @@ URI_BYTES = HOST_BYTES | frozenset(b":@/?")
 def pieces(rest):
     """The authority and what is behind it: it ends at the first byte with which a path may start."""
     return [(front, back) for front, back in oracle.halves(rest)
-            if not any(it in front for it in PATH_STARTS) and (back == b"" or back[0] in PATH_STARTS)]
+            if (back == b"" or back[0] in PATH_STARTS) and not any(it in front for it in PATH_STARTS)]
 
 
 # ---- Git's credential code

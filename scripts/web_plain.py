@@ -5,6 +5,7 @@ Each condition is on the parts of the location. Most are needed: some location t
 Those of `STRICTER` aren't: the programs that were compared read such texts alike. They are asked since other readers differ
 there, or so that the text is a URI of RFC 3986 which is in its normal form also where it is decoded first.
 """
+import functools
 import re
 import socket
 
@@ -20,6 +21,7 @@ OTHER_CONTROL = re.compile(rb"[\x01-\x09\x0b\x0c\x0e-\x1f\x7f]")
 NO_URI_BYTE = re.compile(rb"[^\x00-\x1f\x7f#A-Za-z0-9._~!$&'()*+,;=:@/?%-]")
 
 
+@functools.cache
 def path_of(location):
     """Path, query and fragment as they are written."""
     return oracle.canonical_path(location)
