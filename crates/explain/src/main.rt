@@ -23,6 +23,7 @@ mod shown;
 mod split;
 mod style;
 mod told;
+mod web;
 
 use answer::Line;
 use clap::ArgMatches;

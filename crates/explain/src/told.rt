@@ -55,9 +55,10 @@ pub struct Told<'a> {
     pub text: Option<String>,
     /// Whether the location comes back from its own text.
     pub settled: bool,
-    /// Whether Git is known to read the same protocol, user, host, port and path in the text of the location.
+    /// Whether Git, and of HTTP curl too, is known to read the same protocol, user, host, port and path in the text of the
+    /// location.
     pub agrees_with_git: bool,
-    /// What Git reads there, where it isn't known to be the same.
+    /// What Git reads there, where it isn't known to be the same, or why it may be another place.
     pub git_reads: Option<GitReads>,
     /// What its own text is read as, where it is not settled.
     pub reread: Option<Reread>,
