@@ -210,7 +210,10 @@ pub fn is_of_web(url: &Url) -> bool {
 
 /// Whether Git hands the text of the location to another remote helper by its scheme.
 fn is_for_helper(url: &Url) -> bool {
-    matches!(&url.scheme, Scheme::Ext | Scheme::Helper(_) | Scheme::HelperUrl(_))
+    matches!(
+        &url.scheme,
+        Scheme::Ext | Scheme::Helper(_) | Scheme::HelperUrl(_)
+    )
 }
 
 /// The name of a transport.

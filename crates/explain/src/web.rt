@@ -90,7 +90,8 @@ impl Doubt {
     /// What Git, which hands the text to curl, may do, in words that follow its name.
     pub fn words(self) -> &'static str {
         match self {
-            Doubt::NotSettled => "and curl may read another place in its text, which is not settled",
+            Doubt::NotSettled =>
+                "and curl may read another place in its text, which is not settled",
             Doubt::Zone => "and curl read different hosts: the address has a zone",
             Doubt::HostColon => "and curl read different hosts: a colon ends it",
             Doubt::HostByte => "and curl may read different hosts: it has an escape or a mark",
@@ -151,8 +152,7 @@ fn of_host(host: &[u8]) -> Option<Doubt> {
 
 /// Whether the host is of lower-case letters, digits, `-`, `.` and `_`.
 fn is_plain(host: &[u8]) -> bool {
-    host.iter()
-        .all(|byte| matches!(byte, b'a'..=b'z' | b'0'..=b'9' | b'-' | b'.' | b'_'))
+    host.iter().all(|byte| matches!(byte, b'a'..=b'z' | b'0'..=b'9' | b'-' | b'.' | b'_'))
 }
 
 /// Whether the last label begins with a letter, or the host is an IPv4 address.
@@ -209,8 +209,21 @@ fn of_password(password: &[u8]) -> Option<Doubt> {
 fn is_written(byte: u8) -> bool {
     let is_escaped = matches!(
         byte,
-        b'"' | b'#' | b'%' | b'/' | b'<' | b'>' | b'?' | b'@' | b'[' | b'\\' | b']' | b'^' | b'`'
-            | b'{' | b'|' | b'}'
+        b'"' | b'#'
+            | b'%'
+            | b'/'
+            | b'<'
+            | b'>'
+            | b'?'
+            | b'@'
+            | b'['
+            | b'\\'
+            | b']'
+            | b'^'
+            | b'`'
+            | b'{'
+            | b'|'
+            | b'}'
     );
     byte.is_ascii_graphic() && !is_escaped
 }
@@ -238,7 +251,10 @@ fn of_path(path: &[u8], written: &[u8]) -> Option<Doubt> {
         (path.contains(&b'#'), Doubt::Fragment),
         (path.split_str(b"/").any(is_dots), Doubt::DotSegment),
         (path.ends_with(b"?"), Doubt::EmptyQuery),
-        (!written.iter().all(|byte| is_uri_byte(*byte)), Doubt::PathByte),
+        (
+            !written.iter().all(|byte| is_uri_byte(*byte)),
+            Doubt::PathByte,
+        ),
         (has_colon, Doubt::PathColon),
     ];
     first_of(found.as_slice())
@@ -246,7 +262,10 @@ fn of_path(path: &[u8], written: &[u8]) -> Option<Doubt> {
 
 /// Whether what stands between two slashes is `.` or `..`, as far as a `?` in it.
 fn is_dots(segment: &[u8]) -> bool {
-    matches!(segment, b"." | b".." | [b'.', b'?', ..] | [b'.', b'.', b'?', ..])
+    matches!(
+        segment,
+        b"." | b".." | [b'.', b'?', ..] | [b'.', b'.', b'?', ..]
+    )
 }
 
 /// Whether a path or a query of a URI may have the byte.
@@ -254,7 +273,24 @@ fn is_uri_byte(byte: u8) -> bool {
     byte.is_ascii_alphanumeric()
         || matches!(
             byte,
-            b'-' | b'.' | b'_' | b'~' | b'!' | b'$' | b'&' | b'\'' | b'(' | b')' | b'*' | b'+' | b','
-                | b';' | b'=' | b':' | b'@' | b'/' | b'?' | b'%'
+            b'-' | b'.'
+                | b'_'
+                | b'~'
+                | b'!'
+                | b'$'
+                | b'&'
+                | b'\''
+                | b'('
+                | b')'
+                | b'*'
+                | b'+'
+                | b','
+                | b';'
+                | b'='
+                | b':'
+                | b'@'
+                | b'/'
+                | b'?'
+                | b'%'
         )
 }
