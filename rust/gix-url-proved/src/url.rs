@@ -240,11 +240,12 @@ impl Url {
     ///
     /// Hand Git the text that [`Url::to_bstring`] writes, and not another one that was read as the location: of
     /// `ssh://@h/p`, which is written as `ssh://h/p`, the answer is yes, and Git would give Secure Shell the word `@h`,
-    /// which it refuses. What Git reads is a definition. No proof says that Git keeps to it: a second reading of it was
-    /// compared with git 2.39.5 on Linux.
+    /// which it refuses. What Git reads is a definition, of HTTP one for its credential code and one for a reader of URIs. No
+    /// proof says that Git keeps to it: a second reading of it was compared with git 2.39.5 and libcurl 7.88.1 on Linux.
     ///
-    /// The answer is no for what Git hands to a remote helper, HTTP among it, for an empty user of Secure Shell, for a local
-    /// path that begins with `~`, and for what isn't settled. It is no for some texts that Git reads alike, among them those with brackets or an escape.
+    /// The answer is no for what Git hands to another remote helper than that of HTTP, for an empty user of Secure Shell, for
+    /// a local path that begins with `~`, and for what isn't settled. It is no for some texts that Git reads alike, among
+    /// them those with brackets or an escape outside HTTP.
     ///
     /// ```
     /// use gix_url_proved::{parse, Url};
