@@ -7,7 +7,7 @@
 What a location is, is asked of `oracle.py`, in whose home folder its path begins of `plain_paths.py`, and where a refused
 line is wrong of `places.py`; what is said of it is put together here, and not by the library. Whether Git is known to read
 the same is the rule by hand of docs/GIT.md, in `git_classes.py` and of HTTP in `web_plain.py`, and what it reads is asked of
-`git_reads.py`. The texts of the tables in docs/GRAMMAR.md and docs/EXPLAIN.md are among the lines, and the last line lacks
+`git_reads.py`, or of Git's credential code of `web_defined.py`. The texts of the tables in docs/GRAMMAR.md and docs/EXPLAIN.md are among the lines, and the last line lacks
 its end.
 """
 import itertools
@@ -22,6 +22,7 @@ import places
 import plain_paths
 from git_classes import Case, Reading, is_careful
 from git_reads import git_reads, unread
+from web_defined import credential_readings
 from web_plain import broken
 
 HELPERS = [b"a::b://c", b"ext::sh -c x", b"a::", b"ssh::address", b"a::\xff"]
@@ -232,6 +233,16 @@ def read_by_git(v):
     return {"protocol": protocol, "user": lossy(user), "host": lossy(host), "port": port, "path": lossy(path), "same": same, "why": why}
 
 
+def credential(v):
+    """What Git's credential code asks helpers for in the text of a location of HTTP, None where Git refuses it."""
+    text = oracle.text(v)
+    if v.scheme not in oracle.HTTP_SCHEMES or isinstance(text, oracle.Fault):
+        return None
+    names = ("protocol", "user", "host", "path")
+    found = [{name: lossy(getattr(it, name)) for name in names} for it in credential_readings(text)]
+    return found[0] if found else None
+
+
 def host_spellings(place):
     """The texts that may spell the host in what stands behind the `@`: with and without a port, a colon and brackets."""
     fronts = [place] + ([place.rpartition(b":")[0]] if b":" in place else [])
@@ -281,7 +292,7 @@ def told(v):
         "path_is_utf8": oracle.is_utf8(v.path), "original_path": lossy(spelled), "components": components(v), "home": home(v),
         "shell_path": shell_path(v), "arguments": {"user": judged(v.user), "host": judged(v.host), "path": path_judged(v.path)},
         "text": oracle.display(v), "settled": oracle.settled(v), "agrees_with_git": agrees_with_git(v),
-        "git_reads": read_by_git(v), "reread": reread(v)}
+        "git_reads": read_by_git(v), "credential": credential(v), "reread": reread(v)}
 
 
 # ---------------------------------------------------------------------------------------------------------------

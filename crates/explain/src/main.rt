@@ -7,6 +7,7 @@
 #![tactic(auto)]
 
 mod answer;
+mod credential;
 mod danger;
 mod difference;
 mod git;
