@@ -6,8 +6,9 @@
 
 What a location is, is asked of `oracle.py`, in whose home folder its path begins of `plain_paths.py`, and where a refused
 line is wrong of `places.py`; what is said of it is put together here, and not by the library. Whether Git is known to read
-the same is the rule by hand of docs/GIT.md, in `git_classes.py`, and what it reads is asked of `git_reads.py`. The texts of
-the tables in docs/GRAMMAR.md and docs/EXPLAIN.md are among the lines, and the last line lacks its end.
+the same is the rule by hand of docs/GIT.md, in `git_classes.py` and of HTTP in `web_plain.py`, and what it reads is asked of
+`git_reads.py`, or of Git's credential code of `web_defined.py`. The texts of the tables in docs/GRAMMAR.md and docs/EXPLAIN.md are among the lines, and the last line lacks
+its end.
 """
 import itertools
 import json
@@ -21,6 +22,8 @@ import places
 import plain_paths
 from git_classes import Case, Reading, is_careful
 from git_reads import git_reads, unread
+from web_defined import credential_readings
+from web_plain import broken
 
 HELPERS = [b"a::b://c", b"ext::sh -c x", b"a::", b"ssh::address", b"a::\xff"]
 URLS = [
@@ -54,6 +57,16 @@ READ = [
     b"ssh://[ssh://u@x:22]/p", b"git://h/p%0A", b"git://h:%2B22/p", b"/a\0b", b"~", b"~b%20b/r", b"u@-h:p", b"ssh://h/~~a",
     b"ssh://%5Bssh%3A%2F%2Fu@x%5D/p", b"ssh://h/p%C3%A4", b"git://%40%5Bh%5D/p"]
 
+# Of HTTP: for each doubt a line or two, lines with two doubts, and lines that are nearly such, in which all read the same.
+WEB = [
+    b"http://[::1%25e]/p", b"https://[::1]:8080/p", b"http://[::1]:/p", b"http://h*/p", b"http://%68/p", b"http://h.1a/p", b"http://1a.h/p",
+    b"http://127.1/p", b"http://127.0.0.1/p", b"http://127.0.0.01/p", b"http://255.256.0.1/p", b"http://1.2.3.4.5/p", b"http://0.10.99.200/p",
+    b"http://249.255.100.9/p", b"http://h./p", b"https://_h/p", b"https://u%0Av@h/p", b"https://u%3Av@h/p", b"https://u%40v@h/p", b"https://u:p%01@h/p",
+    b"https://u:p:%40@h/p", b"https://u:p:q@h/p", b"https://u:p%40@h/p", b"https://h?q", b"https://h#f", b"https://h//p", b"https://h/%2Fp", b"https://h/p/",
+    b"https://h/a%09b", b"https://h/p#f", b"https://h/a%23b", b"https://h/a/../b", b"https://h/%2e", b"https://h/a%2F..%2Fb", b"https://h/p?a/./b",
+    b"https://h/.?q", b"https://h/..a/b..", b"https://h/p?", b"https://h/p%3F", b"https://h/p?q", b"https://h/a|b", b"https://h/a%41:b", b"https://h/a:b",
+    b"https://h/a%3Ab", b"https://h/a%20b?c=d%20e", b"https://H:0443/p", b"https://h/a/../b#f", b"https://u%3Av@127.1/p#f", b"https://-h/-r"]
+
 # For each hint a line to which it applies, and one that is nearly such a line.
 SLIPS = [b"ssh://git@github.com:a/b.git", b"ssh://git@github.com:22/b.git", b"github.com/a/b", b"repo.git/a/b",
          b"C:\\Users\\me", b"C:Users", b"HTTPS://github.com/a/b", b"XHTTPS://github.com/a/b", b"git@h:a/b\r", b"git@h:a\rb",
@@ -61,6 +74,28 @@ SLIPS = [b"ssh://git@github.com:a/b.git", b"ssh://git@github.com:22/b.git", b"gi
          b"https://u:p@h/p", b"https://:@h/p", b"http://u@h/p", b"https://u@h/p", b"git clone git@h:a/b", b"git cloned",
          b"https://github.com/a/b/tree/main", b"https://github.com/a/b/tree", b"https://h/a/b/-/blob/main/c",
          b"https://h/a/b/blob/main/c", b"git@github.com/a/b", b"git@localhost/a/b", b"\"git@h:a/b\"", b"\"a'"]
+
+# Why of HTTP not all are known to read the same, in this order, and the conditions that a location misses then.
+DOUBTS = {
+    "NotSettled": {"the location is settled"},
+    "Zone": {"host: no zone"},
+    "HostColon": {"host: no `:` behind it"},
+    "HostByte": {"host: lower case, digits, `-`, `.`, `_`, or in brackets"},
+    "LastLabel": {"host: a number only as four decimal numbers", "host: no last label that is empty or begins with `-` or `_`"},
+    "UserControl": {"user: no byte 0, line feed, carriage return", "user: no other control character"},
+    "UserColon": {"user: no `:`"},
+    "PasswordControl": {"password: no byte 0, line feed, carriage return", "password: no other control character"},
+    "PasswordColon": {"password: no `:` beside what is written as an escape"},
+    "PathStart": {"path: begins with `/`"},
+    "PathSlashes": {"path: no second `/` at its front", "path: no second `/` at its front as an escape"},
+    "PathControl": {"path: no byte 0, line feed, carriage return", "path: no control character that is written as it is",
+                    "path: no other control character"},
+    "Fragment": {"path: no `#`", "path: no `#` as an escape"},
+    "DotSegment": {"path: no segment `.` or `..`", "path: no such segment as an escape, or in a query"},
+    "EmptyQuery": {"path: something behind a `?`", "path: no other `?` at its end, and no escape of one"},
+    "PathByte": {"path: the bytes of a URI"},
+    "PathColon": {"path: no `:` beside an escape"},
+}
 
 FORMS = {"Ext": "remote_helper", "Helper": "remote_helper"}
 PORTS = {"Http": 80, "Https": 443, "Ssh": 22, "Git": 9418}
@@ -171,9 +206,9 @@ def reading(v):
 
 
 def agrees_with_git(v):
-    """The rule by hand, asked of the text that is written: the text of a settled location is read as it and written again."""
-    is_settled = oracle.settled(v)
-    answer = is_careful(Case(oracle.text(v), None, reading(v)), is_settled)
+    """The rules by hand, asked of the text that is written: the text of a settled location is read as it and written again."""
+    is_web = v.scheme in oracle.HTTP_SCHEMES
+    answer = not broken(v) if is_web else is_careful(Case(oracle.text(v), None, reading(v)), oracle.settled(v))
     assert answer == oracle.agrees_with_git(v), v
     return answer
 
@@ -181,17 +216,31 @@ def agrees_with_git(v):
 def read_by_git(v):
     """What Git reads in the text of the location by the second reading of its definition, unless that is known to be the same.
 
-    A password stands in what is read, which isn't told then.
+    A password stands in what is read, which isn't told then. Of HTTP it is told what may be read otherwise.
     """
-    text = oracle.text(v)
-    if not is_of_files(v) or agrees_with_git(v) or isinstance(text, oracle.Fault):
+    text, is_web = oracle.text(v), v.scheme in oracle.HTTP_SCHEMES
+    if not (is_web or is_of_files(v)) or agrees_with_git(v) or isinstance(text, oracle.Fault):
         return None
+    if is_web:
+        missed = {*broken(v)}
+        why = next(name for name, conditions in DOUBTS.items() if conditions & missed)
+        return {**dict.fromkeys(["protocol", "user", "host", "port", "path"]), "same": False, "why": why}
     found = [*git_reads(text)]
     same, why = found == [reading(v)], None if found else unread(text)
     if found and v.password is not None:
         found, why = [], "Password"
     protocol, user, _, host, port, path = found[0] if found else [None] * 6
     return {"protocol": protocol, "user": lossy(user), "host": lossy(host), "port": port, "path": lossy(path), "same": same, "why": why}
+
+
+def credential(v):
+    """What Git's credential code asks helpers for in the text of a location of HTTP, None where Git refuses it."""
+    text = oracle.text(v)
+    if v.scheme not in oracle.HTTP_SCHEMES or isinstance(text, oracle.Fault):
+        return None
+    names = ("protocol", "user", "host", "path")
+    found = [{name: lossy(getattr(it, name)) for name in names} for it in credential_readings(text)]
+    return found[0] if found else None
 
 
 def host_spellings(place):
@@ -243,7 +292,7 @@ def told(v):
         "path_is_utf8": oracle.is_utf8(v.path), "original_path": lossy(spelled), "components": components(v), "home": home(v),
         "shell_path": shell_path(v), "arguments": {"user": judged(v.user), "host": judged(v.host), "path": path_judged(v.path)},
         "text": oracle.display(v), "settled": oracle.settled(v), "agrees_with_git": agrees_with_git(v),
-        "git_reads": read_by_git(v), "reread": reread(v)}
+        "git_reads": read_by_git(v), "credential": credential(v), "reread": reread(v)}
 
 
 # ---------------------------------------------------------------------------------------------------------------
@@ -373,7 +422,7 @@ def table_faults():
 def stored_run():
     """The files of the stored run. The texts of the tables are among its lines."""
     texts = [*(row[0].strip("`").encode() for row in table()), *reason_examples(), *PLACED]
-    lines = list(dict.fromkeys([*HELPERS, *URLS, *FILES, *SCPS, *LOCALS, *REFUSED, *GIT, *READ, *SLIPS, *texts]))
+    lines = list(dict.fromkeys([*HELPERS, *URLS, *FILES, *SCPS, *LOCALS, *REFUSED, *GIT, *READ, *WEB, *SLIPS, *texts]))
     lines.append(b"/the/last")
     answers = "".join(answer(number, line) + "\n" for number, line in enumerate(lines, 1))
     return {"stdin": b"\n".join(lines), "stdout": answers.encode(), "args": b"--json\n", "status": b"1\n"}

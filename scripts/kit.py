@@ -126,20 +126,29 @@ def keep_built(root, number):
         it.write(number)
 
 
+def kept(file):
+    """The program or static library that the gate built of these very sources; None where there is none."""
+    try:
+        with open(f"{BUILT}/sources", encoding="utf-8") as it:
+            return f"{BUILT}/{file}" if it.read() == sources() and os.path.isfile(f"{BUILT}/{file}") else None
+    except OSError:
+        return None
+
+
 def built(name, *words):
     """The program or the static library of a crate: as the gate built it of these very sources, or proved and built now."""
     file = f"lib{name}.a" if words == ("lib",) else name
-    try:
-        with open(f"{BUILT}/sources", encoding="utf-8") as it:
-            is_kept = it.read() == sources() and os.path.isfile(f"{BUILT}/{file}")
-    except OSError:
-        is_kept = False
-    if is_kept:
-        return f"{BUILT}/{file}"
+    if kept(file):
+        return kept(file)
     ran = subprocess.run(["rt", *words], cwd=f"{ROOT}/crates/{name}", stdin=subprocess.DEVNULL, stdout=subprocess.PIPE, stderr=subprocess.STDOUT, text=True)
     if ran.returncode:
         sys.exit(f"{name} is not proved\n{ran.stdout}")
     return f"{ROOT}/crates/{name}/out/{file}"
+
+
+def ready_program(name):
+    """The program of a crate that is built already: the one that the environment names, or the gate's; None without one."""
+    return os.environ.get(name.upper()) or kept(name)
 
 
 def program(name):

@@ -30,6 +30,8 @@ ALNUM = LETTERS | DIGITS
 DNS_LIKE = ALNUM | frozenset(b"-._*")
 HTTP_HOST = ALNUM | frozenset(b"-._~!$&'()*+,;=%")
 ZONE = ALNUM | frozenset(b"-._~")
+PLAIN_HOST = DIGITS | frozenset(b"abcdefghijklmnopqrstuvwxyz-._")
+URI_PATH = ALNUM | frozenset(b"-._~!$&'()*+,;=:@/?%")
 
 PATH_SET = frozenset(range(32)) | frozenset([127]) | frozenset(b" \"%<>`{}")
 USER_SET = PATH_SET | frozenset(b"#/?@[\\]^|:")
@@ -294,7 +296,7 @@ def path_cuts(scheme, rest):
     """All (authority, path) that the bytes behind `://` are."""
     starts = path_starts(scheme)
     return [(a, p) for a, p in halves(rest)
-            if not any(b in starts for b in a) and (p == b"" or p[0] in starts)]
+            if (p == b"" or p[0] in starts) and not any(b in starts for b in a)]
 
 
 def fits(scheme, rest):
@@ -656,7 +658,11 @@ def settled(v):
 
 
 def agrees_with_git(v):
-    """Git reads the same place in the text of the location."""
+    """The readers of the location's text read the same place in it: of HTTP all that read it, else Git."""
+    return agrees_over_web(v) if v.scheme in HTTP_SCHEMES else agrees_by_transport(v)
+
+
+def agrees_by_transport(v):
     kind = v.scheme[0]
     if kind not in ("Ssh", "Git", "File") or not settled(v) or v.password is not None:
         return False
@@ -670,6 +676,46 @@ def agrees_with_git(v):
     if kind == "Git":
         return v.user is None
     return v.host is None and not v.path.startswith(b"~")
+
+
+def has_control(t):
+    return any(b < 32 or b == 127 for b in t)
+
+
+def is_decoded_whole(piece):
+    return b":" not in piece or b"%" not in piece
+
+
+def is_plain_name(host):
+    """A name of such bytes whose last label begins with a letter."""
+    labels = [host] if b"." not in host else [label for _, label in cuts(host, b".") if b"." not in label]
+    return all(b in PLAIN_HOST for b in host) and all(label[:1].islower() for label in labels)
+
+
+def is_unambiguous_host(host):
+    in_brackets = host[:1] == b"[" and host[-1:] == b"]" and ip6(host[1:-1]) and is_lower(host[1:-1])
+    return is_plain_name(host) or is_ip4(host) or in_brackets
+
+
+def has_dot_segment(path):
+    """A segment `.` or `..` behind a `/`, which ends at a `/`, at a `?` or at the end."""
+    return any(behind[:len(dots)] == dots and (behind[len(dots):] == b"" or behind[len(dots)] in b"/?")
+               for _, behind in cuts(path, b"/") for dots in (b".", b".."))
+
+
+def has_unambiguous_path(v):
+    written = canonical_path(v)
+    return (v.path[:1] == b"/" and v.path[:2] != b"//" and not has_control(v.path) and b"#" not in v.path
+            and not has_dot_segment(v.path) and v.path[-1:] != b"?"
+            and all(b in URI_PATH for b in written) and is_decoded_whole(written))
+
+
+def agrees_over_web(v):
+    """The class of HTTP in `WebClass.antt`."""
+    return (settled(v) and v.host is not None and is_unambiguous_host(v.host)
+            and (v.user is None or not (has_control(v.user) or b":" in v.user))
+            and (v.password is None or not has_control(v.password) and is_decoded_whole(enc(PASSWORD_SET, v.password)))
+            and has_unambiguous_path(v))
 
 
 # ---------------------------------------------------------------------------------------------------------------

@@ -13,8 +13,11 @@ STORED = f"{ROOT}/crates/explain/people"
 # A remote of HTTP, of Secure Shell or in the scp form, of which nothing has to be said.
 PLAIN = re.compile(rb"(https|ssh)://([\w.-]+@)?[\w.-]+(:\d+)?/[\w./-]+|([\w.-]+@)?[\w.-]+:[\w.][\w./-]*")
 OPTION = re.compile(rb"(^|//|@|/|:)-")
+# Segments that curl takes out.
+DOTS = re.compile(rb"https://.*/\.\.?(/|\Z)")
 # In the row of Git all but that the same is read, and that it was not compared.
-ALARM = re.compile(rb"; danger: |: refused: |, not settled|^ +git +(?! |reads the same in its text|hands its text to a remote helper)|^ +hint ", re.M)
+READ_ALIKE = rb"reads the same in its text|and curl read the same in its text|hands its text to a remote helper"
+ALARM = re.compile(rb"; danger: |: refused: |, not settled|^ +git +(?! |" + READ_ALIKE + rb")|^ +hint ", re.M)
 
 
 def stored(name):
@@ -58,7 +61,7 @@ def false_alarms(lines):
 
 def check(_room):
     made = subprocess.run([sys.executable, f"{ROOT}/scripts/remotes.py"], stdout=subprocess.PIPE, check=True, timeout=60).stdout
-    plain = [it for it in made.splitlines() if PLAIN.fullmatch(it) and not OPTION.search(it)]
+    plain = [it for it in made.splitlines() if PLAIN.fullmatch(it) and not OPTION.search(it) and not DOTS.match(it)]
     bad = stored("alarms").splitlines()
     faults = [*written_by_hand(), *in_colours(), *(f"a false alarm about {it!r}" for it in false_alarms(plain))]
     faults += [f"no alarm about {it!r}" for it in sorted({*bad} - {*false_alarms(bad)})]

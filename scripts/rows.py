@@ -6,7 +6,8 @@ is told in `row_text.py`, and how it stands for many rows in `many_rows.py`.
 
 Of JSON that is refused a row may expect less than the whole: `{"refused": true}`, whatever the words are; words that end
 in `…`, which are the front of those that are told; and a `column` of two numbers, between which that column lies.
-The rows of `vectors/git.jsonl` that read a text have `class` and `git`, of which `git_rows.py` tells.
+The rows of `vectors/git.jsonl` that read a text have `class` and `git`, of which `git_rows.py` tells, or of HTTP `class`,
+`credential` and `curl`, of which `web_rows.py` does.
 """
 import glob
 import json
@@ -22,7 +23,7 @@ FOLDER = f"{ROOT}/vectors"
 # Where an expectation may come from, and nothing in this library is among it.
 SOURCES = {"crate", "oracle", "reading", "git", "hand", "rfc"}
 # The members of a row that are no part of the order.
-OWN = {"is", "from", "requests", "bytes", "note", "class", "git"}
+OWN = {"is", "from", "requests", "bytes", "note", "class", "git", "credential", "curl"}
 # Errors that keep the text that they are about.
 KEEPING = ("MissingPath", "NotUtf8", "BadUrl")
 MEMORY = {"error": "Memory"}
@@ -62,6 +63,7 @@ class Row:
         self.place, self.source = place, members.get("from")
         self.requests, self.bytes = members.get("requests"), members.get("bytes")
         self.class_name, self.git = members.get("class"), members.get("git")
+        self.credential, self.curl = members.get("credential"), members.get("curl")
         self.members = {name: joined(it) for name, it in members.items() if name not in OWN}
         expected = joined(members.get("is"))
         # What is read into a room keeps nothing.

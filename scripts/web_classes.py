@@ -9,6 +9,7 @@ import re
 from functools import cached_property
 
 import oracle
+from web_defined import trimmed_path
 from web_reads import CONTROL, NO_HOST, PARTS, Web, address, cut, decoded, for_credential, for_curl, literal, spelled_path
 
 # The server takes user and password in one piece, and cuts it at the first colon (RFC 7617).
@@ -59,6 +60,12 @@ class WebCase:
     @cached_property
     def is_settled(self):
         return oracle.settled(self.location)
+
+    @cached_property
+    def is_alike(self):
+        """Whether all readers read the location's own, except for slashes behind a path and the spelling of an address."""
+        is_trimmed = isinstance(self.credential, Web) and (self.credential.path or None) == trimmed_path(self.location.path[1:])
+        return self.differing <= {*long_address(self)} | ({(GIT, "path")} if is_trimmed else set())
 
     @cached_property
     def is_written_so(self):

@@ -1,39 +1,62 @@
-"""Conditions on a location of HTTP under which this library, Git's credential code and libcurl read the same place in its text.
+"""The conditions on a location of HTTP of which `agrees_with_git` is true, one by one: under all of them this library, Git's
+credential code and libcurl read the same place in the location's text.
 
-Each condition is on the parts of the location. Each is needed: some location that meets all the others is read otherwise.
+Each condition is on the parts of the location. Most are needed: some location that meets all the others is read otherwise.
+Those of `STRICTER` aren't: the programs that were compared read such texts alike. They are asked since other readers differ
+there, or so that the text is a URI of RFC 3986 which is in its normal form also where it is decoded first.
 """
+import functools
 import re
 import socket
 
 import oracle
-from web_reads import CONTROL, literal
+from web_reads import CONTROL
 
 NAME_BYTES = re.compile(rb"[a-z0-9._-]+")
 LAST_LABEL = re.compile(rb"(?:.*\.)?([^.]*)", re.S)
+DOT_SEGMENT = re.compile(rb"/\.\.?(/|$)")
+LINE_ENDS = re.compile(rb"[\0\n\r]")
+OTHER_CONTROL = re.compile(rb"[\x01-\x09\x0b\x0c\x0e-\x1f\x7f]")
+# What RFC 3986 allows in a path and a query, `#` and controls aside, which are conditions of their own.
+NO_URI_BYTE = re.compile(rb"[^\x00-\x1f\x7f#A-Za-z0-9._~!$&'()*+,;=:@/?%-]")
 
 
+@functools.cache
 def path_of(location):
     """Path, query and fragment as they are written."""
     return oracle.canonical_path(location)
 
 
-def is_name_or_address(location):
-    return location.host.startswith(b"[") or NAME_BYTES.fullmatch(location.host) is not None
+def front_of(path):
+    """A path without query and fragment."""
+    return re.match(rb"[^?#]*", path)[0]
+
+
+def name_of(location):
+    """The host without a colon behind it, None of one in brackets."""
+    return None if location.host.startswith(b"[") else location.host.removesuffix(b":")
+
+
+def has_name_bytes(location):
+    return name_of(location) is None or NAME_BYTES.fullmatch(name_of(location)) is not None
+
+
+def first_of_last_label(location):
+    return LAST_LABEL.fullmatch(name_of(location))[1][:1]
 
 
 def is_usual_number(location):
     """Whether the host is in brackets, its last label doesn't begin with a digit, or it is four decimal numbers."""
-    host = location.host
-    return host.startswith(b"[") or not LAST_LABEL.fullmatch(host)[1][:1].isdigit() or oracle.is_ip4(host)
+    name = name_of(location)
+    return name is None or not first_of_last_label(location).isdigit() or oracle.is_ip4(name)
 
 
-def is_short_address(location):
-    """Whether libcurl has no shorter form of an address in brackets."""
-    return not location.host.startswith(b"[") or b"%" in location.host or literal(location.host) == location.host
+def ends_in_letters(location):
+    return name_of(location) is None or first_of_last_label(location).isalnum()
 
 
-def lacks(part, *refused):
-    return lambda location: not any(it in (getattr(location, part) or b"") for it in refused)
+def lacks(part, refused):
+    return lambda location: not refused.search(getattr(location, part) or b"")
 
 
 def is_whole_password(location):
@@ -41,29 +64,47 @@ def is_whole_password(location):
     return b":" not in password or oracle.enc(oracle.PASSWORD_SET, password) == password
 
 
-def has_segments(location):
-    return not re.search(rb"/\.\.?(/|$)", re.match(rb"[^?#]*", path_of(location))[0])
+def has_written_dots(location):
+    return DOT_SEGMENT.search(front_of(path_of(location))) is not None
+
+
+def is_empty_query(location):
+    return path_of(location).endswith(b"?") and b"?" not in path_of(location)[:-1]
 
 
 CONDITIONS = {
     "the location is settled": oracle.settled,
-    "host: lower case, digits, `-`, `.`, `_`, or in brackets": is_name_or_address,
+    "host: lower case, digits, `-`, `.`, `_`, or in brackets": has_name_bytes,
     "host: a number only as four decimal numbers": is_usual_number,
-    "host: no zone": lacks("host", b"%"),
-    "host: the shortest form of an address in brackets": is_short_address,
-    "user: no byte 0, line feed, carriage return": lacks("user", b"\0", b"\n", b"\r"),
-    "user: no `:`": lacks("user", b":"),
-    "password: no byte 0, line feed, carriage return": lacks("password", b"\0", b"\n", b"\r"),
+    "host: no last label that is empty or begins with `-` or `_`": ends_in_letters,
+    "host: no zone": lambda it: not it.host.startswith(b"[") or b"%" not in it.host,
+    "host: no `:` behind it": lambda it: not it.host.endswith(b":"),
+    "user: no byte 0, line feed, carriage return": lacks("user", LINE_ENDS),
+    "user: no other control character": lacks("user", OTHER_CONTROL),
+    "user: no `:`": lacks("user", re.compile(b":")),
+    "password: no byte 0, line feed, carriage return": lacks("password", LINE_ENDS),
+    "password: no other control character": lacks("password", OTHER_CONTROL),
     "password: no `:` beside what is written as an escape": is_whole_password,
     "path: begins with `/`": lambda it: it.path.startswith(b"/"),
     "path: no second `/` at its front": lambda it: not path_of(it).startswith(b"//"),
-    "path: no `/` at its end, unless it is the whole path": lambda it: it.path == b"/" or not it.path.endswith(b"/"),
-    "path: no byte 0, line feed, carriage return": lacks("path", b"\0", b"\n", b"\r"),
-    "path: no control byte that is written as it is": lambda it: not CONTROL.search(path_of(it)),
-    "path: no segment `.` or `..`": has_segments,
+    "path: no second `/` at its front as an escape": lambda it: path_of(it).startswith(b"//") or not it.path.startswith(b"//"),
+    "path: no byte 0, line feed, carriage return": lacks("path", LINE_ENDS),
+    "path: no control character that is written as it is": lambda it: not CONTROL.search(path_of(it)),
+    "path: no other control character": lambda it: CONTROL.search(path_of(it)) or not OTHER_CONTROL.search(it.path),
+    "path: no segment `.` or `..`": lambda it: not has_written_dots(it),
+    "path: no such segment as an escape, or in a query": lambda it: has_written_dots(it) or not oracle.has_dot_segment(it.path),
     "path: no `:` beside an escape": lambda it: b":" not in path_of(it) or b"%" not in path_of(it),
     "path: no `#`": lambda it: b"#" not in path_of(it),
-    "path: something behind a `?`": lambda it: not path_of(it).endswith(b"?") or b"?" in path_of(it)[:-1],
+    "path: no `#` as an escape": lambda it: b"#" in path_of(it) or b"#" not in it.path,
+    "path: something behind a `?`": lambda it: not is_empty_query(it),
+    "path: no other `?` at its end, and no escape of one": lambda it: is_empty_query(it) or not it.path.endswith(b"?"),
+    "path: the bytes of a URI": lambda it: not NO_URI_BYTE.search(path_of(it)),
+}
+STRICTER = {
+    "host: no last label that is empty or begins with `-` or `_`", "user: no other control character",
+    "password: no other control character", "path: no second `/` at its front as an escape", "path: no other control character",
+    "path: no such segment as an escape, or in a query", "path: no `#` as an escape",
+    "path: no other `?` at its end, and no escape of one", "path: the bytes of a URI",
 }
 
 

@@ -404,6 +404,11 @@ fn cut_place(text: &[u8], mark: u8) -> Option<(&[u8], &[u8])> {
 /// Makes the room hold the text with each escape replaced by its byte, but not the escape of byte 0.
 fn decode(out: &mut Vec<u8>, text: &[u8]) -> Result<(), AllocError> {
     out.clear();
+    decode_behind(out, text)
+}
+
+/// Appends the text with each escape replaced by its byte, but not the escape of byte 0.
+pub fn decode_behind(out: &mut Vec<u8>, text: &[u8]) -> Result<(), AllocError> {
     let mut rest = text;
     while let Some((first, tail)) = rest.split_first() {
         match escaped(*first, tail) {

@@ -1,6 +1,6 @@
 //! What Git reads in the own text of a location, where the library doesn't promise that it is the same.
 //!
-//! It uses `git` for the reading and the public calls of `gix_url`. Its contract: no field is told of a location that has
+//! It uses `git` for the reading, `web` for what is in doubt of HTTP, and the public calls of `gix_url`. Its contract: no field is told of a location that has
 //! a password, which Git reads as a part of another one. The stored run shows what it tells, and `scripts/hostile people`
 //! its words.
 
@@ -9,6 +9,7 @@ ghost use Rattle.std.specs.Prelude.{◌≡◌, IfOk, IfSome, IsSome, None};
 use crate::git::{self, GitReading, Protocol, Room, Unread};
 use crate::line::Quoted;
 use crate::told::both;
+use crate::web::Doubt;
 use bstr::ByteSlice;
 use gix_url::{Error, Scheme, Url};
 use serde::Serialize;
@@ -43,7 +44,7 @@ impl GitReads {
         ensures hidden { IfOk result (λ reads. IfSome reads (λ it.
             IsSome url.now.password → (it.user ≡ None) × (it.host ≡ None) × (it.path ≡ None))) }
     {
-        if own_protocol(url).is_none() || url.agrees_with_git() {
+        if is_for_helper(url) || url.agrees_with_git() {
             return Ok(None);
         }
         match url.to_bstring(alloc) {
@@ -65,6 +66,9 @@ impl GitReads {
         ensures { IfOk result (λ it.
             IsSome url.now.password → (it.user ≡ None) × (it.host ≡ None) × (it.path ≡ None)) }
     {
+        if is_of_web(url) {
+            return in_doubt(alloc, Doubt::of(url, text));
+        }
         let mut room = Room::new(alloc);
         let told = match git::reading(text, &mut room) {
             Ok(_) | Err(Unread::HomeOrHere) if url.password().is_some() => withheld(alloc),
@@ -139,6 +143,14 @@ fn unread(alloc: Global, text: &[u8], why: Unread) -> Result<GitReads, AllocErro
     Ok(without_fields(String::from_str(alloc, words)?, name))
 }
 
+/// What is told of a text of HTTP in which the readers may read different places.
+fn in_doubt(alloc: Global, doubt: Doubt) -> Result<GitReads, AllocError>
+    ensures { IfOk result (λ it. (it.user ≡ None) × (it.host ≡ None) × (it.path ≡ None)) }
+{
+    let words = String::from_str(alloc, doubt.words())?;
+    Ok(without_fields(words, doubt.name()))
+}
+
 /// What is told of a local path that begins with `~`.
 fn in_two_places(alloc: Global, text: &[u8]) -> Result<GitReads, AllocError>
     ensures { IfOk result (λ it. (it.user ≡ None) × (it.host ≡ None) × (it.path ≡ None)) }
@@ -189,6 +201,19 @@ fn own_protocol(url: &Url) -> Option<Protocol> {
             None
         }
     }
+}
+
+/// Whether the location is one of HTTP, whose text Git hands to curl.
+pub fn is_of_web(url: &Url) -> bool {
+    matches!(&url.scheme, Scheme::Http | Scheme::Https)
+}
+
+/// Whether Git hands the text of the location to another remote helper by its scheme.
+fn is_for_helper(url: &Url) -> bool {
+    matches!(
+        &url.scheme,
+        Scheme::Ext | Scheme::Helper(_) | Scheme::HelperUrl(_)
+    )
 }
 
 /// The name of a transport.

@@ -7,6 +7,7 @@
 #![tactic(auto)]
 
 mod answer;
+mod credential;
 mod danger;
 mod difference;
 mod git;
@@ -23,6 +24,7 @@ mod shown;
 mod split;
 mod style;
 mod told;
+mod web;
 
 use answer::Line;
 use clap::ArgMatches;

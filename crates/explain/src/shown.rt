@@ -6,7 +6,7 @@
 
 use crate::answer::Line;
 use crate::danger::dangers;
-use crate::git_told::HANDED;
+use crate::git_told::{HANDED, is_of_web};
 use crate::hint::Hint;
 use crate::line::{Quoted, SeenLine};
 use crate::paint::{self, Colors};
@@ -32,7 +32,7 @@ pub fn location(
     if let Some(cut) = &seen.cut {
         paint::split(&mut out, cut, line.style.colors)?;
     }
-    text(&mut out, told, seen)?;
+    text(&mut out, url, told, seen)?;
     parts(&mut out, url, told)?;
     components(&mut out, &told.components)?;
     on_files(&mut out, told)?;
@@ -52,14 +52,19 @@ fn heading(out: &mut String, number: u64, url: &Url, told: &Told<'_>) -> Result<
 }
 
 /// The rows of the text, unless it is the line as it was shown, and of what Git reads in it.
-fn text(out: &mut String, told: &Told<'_>, seen: &SeenLine<'_>) -> Result<(), AllocError> {
+fn text(
+    out: &mut String,
+    url: &Url,
+    told: &Told<'_>,
+    seen: &SeenLine<'_>,
+) -> Result<(), AllocError> {
     let Some(text) = &told.text else {
         return Ok(());
     };
     if !is_shown(seen, text.as_str()) {
         quoted(out, "text", text.as_str())?;
     }
-    row(out, "git", reading_of_git(told))
+    row(out, "git", reading_of_git(url, told))
 }
 
 /// Whether the line was shown whole, and is this text.
@@ -154,8 +159,9 @@ fn paths(out: &mut String, url: &Url) -> Result<(), AllocError> {
 }
 
 /// What Git reads in the text of the location, in words.
-fn reading_of_git<'b>(told: &'b Told<'_>) -> &'b str {
+fn reading_of_git<'b>(url: &Url, told: &'b Told<'_>) -> &'b str {
     match &told.git_reads {
+        _ if told.agrees_with_git && is_of_web(url) => "and curl read the same in its text",
         _ if told.agrees_with_git => "reads the same in its text",
         Some(reads) => reads.words.as_str(),
         None => HANDED,

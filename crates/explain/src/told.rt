@@ -9,12 +9,13 @@ ghost use Rattle.gix_url.specs.GitClass.{AgreesWithGit};
 ghost use Rattle.gix_url.specs.Display.{hidden_password};
 ghost use Rattle.gix_url.specs.Settled.{IsSettled};
 
+use crate::credential::Credential;
 use crate::difference::Reread;
-use crate::git_told::GitReads;
+use crate::git_told::{GitReads, is_of_web};
 use crate::path::{Components, Home, Meaning};
 use crate::split::{Fields, Form};
 use bstr::ByteSlice;
-use gix_url::{ArgumentSafety, Scheme, Url};
+use gix_url::{ArgumentSafety, Error, Scheme, Url};
 use serde::Serialize;
 use std::alloc::{AllocError, Global};
 use std::borrow::CowStr;
@@ -55,10 +56,13 @@ pub struct Told<'a> {
     pub text: Option<String>,
     /// Whether the location comes back from its own text.
     pub settled: bool,
-    /// Whether Git is known to read the same protocol, user, host, port and path in the text of the location.
+    /// Whether Git, and of HTTP curl too, is known to read the same protocol, user, host, port and path in the text of the
+    /// location.
     pub agrees_with_git: bool,
-    /// What Git reads there, where it isn't known to be the same.
+    /// What Git reads there, where it isn't known to be the same, or why it may be another place.
     pub git_reads: Option<GitReads>,
+    /// What Git's credential code asks helpers for in the text of a location of HTTP, unless Git refuses it.
+    pub credential: Option<Credential>,
     /// What its own text is read as, where it is not settled.
     pub reread: Option<Reread>,
 }
@@ -106,8 +110,16 @@ impl<'a> Told<'a> {
     {
         let found = both(Texts::of(alloc, url)?, Meaning::of(alloc, url))?;
         let found = both(found, GitReads::of(alloc, url))?;
-        let (((texts, meaning), git_reads), reread) = both(found, Reread::of(alloc, url))?;
-        Ok(Told::put_together(url, texts, meaning, git_reads, reread))
+        let found = both(found, credential_of(alloc, url))?;
+        let ((((texts, meaning), git_reads), credential), reread) = both(
+            found,
+            Reread::of(alloc, url),
+        )?;
+        let reads = Reads {
+            git_reads,
+            credential,
+        };
+        Ok(Told::put_together(url, texts, meaning, reads, reread))
     }
 
     /// What is told of this location, with what was made of it.
@@ -115,7 +127,7 @@ impl<'a> Told<'a> {
         url: &'a Url,
         texts: Texts<'a>,
         meaning: Meaning<'a>,
-        git_reads: Option<GitReads>,
+        reads: Reads,
         reread: Option<Reread>,
     ) -> Told<'a>
         ensures hidden { option_map (λ word. word.now) result.password
@@ -141,8 +153,35 @@ impl<'a> Told<'a> {
             text: texts.text,
             settled: url.is_settled(),
             agrees_with_git: is_read_alike(url),
-            git_reads,
+            git_reads: reads.git_reads,
+            credential: reads.credential,
             reread,
+        }
+    }
+}
+
+/// What Git reads in the text of a location.
+#[derive(Drop)]
+struct Reads {
+    git_reads: Option<GitReads>,
+    credential: Option<Credential>,
+}
+
+/// What Git's credential code asks helpers for in the text of a location of HTTP, if it has a text.
+fn credential_of(alloc: Global, url: &Url) -> Result<Option<Credential>, AllocError> {
+    if !is_of_web(url) {
+        return Ok(None);
+    }
+    match url.to_bstring(alloc) {
+        Ok(text) => {
+            let found = Credential::in_text(alloc, text.as_bytes());
+            drop(text);
+            found
+        }
+        Err(error) => {
+            let is_memory = matches!(error, Error::Memory);
+            drop(error);
+            if is_memory { Err(AllocError) } else { Ok(None) }
         }
     }
 }

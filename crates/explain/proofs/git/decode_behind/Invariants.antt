@@ -1,5 +1,5 @@
 use Rattle.std.proofs.Common.{◌≤◌, length}
-use Rattle.explain.proofs.git.decode.Given as goal
+use Rattle.explain.proofs.git.decode_behind.Given as goal
 
 abbrev pub invariant-loop-first : goal.invariant-loop-first
 invariant-loop-first l = length l.rest ≤ length l.text

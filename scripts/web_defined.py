@@ -1,0 +1,176 @@
+"""A second reading of `CredentialReads` and `UriReads`, the definitions of what Git's credential code and a reader of URIs read
+in the text of a location of HTTP (`crates/git_laws/specs/GitWeb.antt`).
+
+Each function is a relation of the definitions, and answers all that it relates to what is given: every cut of a text is
+tried, and what each case asks is asked of it. It takes no word from Git and libcurl: `scripts/web_witness` compares.
+"""
+from collections import namedtuple
+
+import oracle
+from git_reads import GIT_ESCAPE, cuts, first_cuts
+from web_reads import Web, escaped
+
+CredentialReading = namedtuple("CredentialReading", "protocol user password host path")
+UriReading = namedtuple("UriReading", "scheme information host port path query fragment")
+PATH_STARTS = b"/?#"
+HOST_BYTES = oracle.ALNUM | frozenset(b"-._~!$&'()*+,;=%")
+URI_BYTES = HOST_BYTES | frozenset(b":@/?")
+
+
+def pieces(rest):
+    """The authority and what is behind it: it ends at the first byte with which a path may start."""
+    return [(front, back) for front, back in oracle.halves(rest)
+            if (back == b"" or back[0] in PATH_STARTS) and not any(it in front for it in PATH_STARTS)]
+
+
+# ---- Git's credential code
+
+def git_decode(text):
+    return GIT_ESCAPE.sub(lambda it: bytes([int(it[1], 16)]), text)
+
+
+def credential_decodes(piece):
+    whole = [git_decode(piece)] if b":" not in piece else []
+    return whole + [front + b":" + git_decode(rest) for front, rest in first_cuts(piece, b":")]
+
+
+def credential_cuts(authority):
+    """All of user, password and what names a host."""
+    found = [(None, None, authority)] if b"@" not in authority else []
+    for information, named in first_cuts(authority, b"@"):
+        if b":" not in information:
+            found += [(user, None, named) for user in credential_decodes(information)]
+        for u, w in first_cuts(information, b":"):
+            found += [(user, password, named) for user in credential_decodes(u) for password in credential_decodes(w)]
+    return found
+
+
+def trimmed_path(path):
+    return path[:1] + path[1:].rstrip(b"/") if path else None
+
+
+def credential_paths(behind):
+    rests = [rest for slashes, rest in oracle.halves(behind) if not slashes.strip(b"/") and not rest.startswith(b"/")]
+    return [trimmed_path(it) for rest in rests for it in credential_decodes(rest)]
+
+
+def is_one_line(part):
+    return part is None or (b"\n" not in part and b"\r" not in part)
+
+
+def credential_readings(text):
+    """All readings of Git's credential code."""
+    found = [
+        CredentialReading(protocol, user, password, host, path)
+        for protocol, rest in cuts(text, b"://") if protocol and b"://" not in protocol and b"\0" not in text
+        for authority, behind in pieces(rest)
+        for user, password, named in credential_cuts(authority)
+        for host in credential_decodes(named)
+        for path in credential_paths(behind)
+    ]
+    return {it for it in found if all(map(is_one_line, it))}
+
+
+# ---- URIs
+
+def splits_at(mark, text):
+    return [(text, None)] if mark not in text else first_cuts(text, mark)
+
+
+def uri_authorities(authority):
+    alone = [(None, authority)] if b"@" not in authority else []
+    return alone + [(information, named) for information, named in first_cuts(authority, b"@") if b"@" not in named]
+
+
+def uri_hosts(named):
+    """All of a host and what follows it."""
+    return [(host, behind) for host, behind in oracle.halves(named) if is_bracketed(host) or (b":" not in host and host[:1] != b"[")]
+
+
+def is_bracketed(host):
+    return host[:1] == b"[" and host[-1:] == b"]" and oracle.ip6(host[1:-1])
+
+
+def uri_ports(behind):
+    is_port = behind[:1] == b":" and all(it in oracle.DIGITS for it in behind[1:])
+    return [None] if behind == b"" else [behind[1:]] if is_port else []
+
+
+def is_escaped(allowed, part):
+    return part is None or (all(it in allowed for it in part) and oracle.sound(part))
+
+
+def has_uri_bytes(r):
+    return (oracle.is_scheme_text(r.scheme) and is_escaped(HOST_BYTES | frozenset(b":"), r.information)
+            and (r.host[:1] == b"[" or is_escaped(HOST_BYTES, r.host))
+            and all(is_escaped(URI_BYTES, it) for it in (r.path, r.query, r.fragment)))
+
+
+def uri_readings(text):
+    """All ways in which a text is a URI with an authority."""
+    found = {
+        UriReading(scheme, information, host, port, path, query, fragment)
+        for scheme, rest in cuts(text, b"://")
+        for authority, behind in pieces(rest)
+        for information, named in uri_authorities(authority)
+        for host, after in uri_hosts(named)
+        for port in uri_ports(after)
+        for before, fragment in splits_at(b"#", behind)
+        for path, query in splits_at(b"?", before)
+    }
+    return {it for it in found if has_uri_bytes(it)}
+
+
+def is_normal(uri):
+    return uri.scheme == uri.scheme.lower() and uri.host == uri.host.lower() and not oracle.has_dot_segment(uri.path)
+
+
+# ---- the location's own
+
+def own_credential(v):
+    port = b"" if v.port is None else b":%d" % v.port
+    return CredentialReading(oracle.as_str(v.scheme), v.user, v.password, v.host + port, trimmed_path(v.path[1:]))
+
+
+def with_query(uri):
+    return uri.path if uri.query is None else uri.path + b"?" + uri.query
+
+
+def is_own_information(v, information):
+    if v.user is None or information is None:
+        return v.user is None and information is None
+    if v.password is None:
+        return b":" not in information and oracle.dec(information) == v.user
+    return any((oracle.dec(a), oracle.dec(b)) == (v.user, v.password) for a, b in first_cuts(information, b":"))
+
+
+def is_own_uri(v, uri):
+    port = None if v.port is None else b"%d" % v.port
+    return (uri.scheme, uri.host, uri.port, uri.fragment) == (oracle.as_str(v.scheme), v.host, port, None) and (
+        is_own_information(v, uri.information) and oracle.dec(with_query(uri)) == v.path)
+
+
+def own_faults(text, v):
+    """What is wrong with `ReadsOwnOverWeb` of a text and a location."""
+    if credential_readings(text) != {own_credential(v)}:
+        yield f"by the definition Git's credential code reads {credential_readings(text)} in {text!r}, and not {own_credential(v)}"
+    found = uri_readings(text)
+    if len(found) != 1 or not all(is_own_uri(v, it) and is_normal(it) for it in found):
+        yield f"by the definition {found} is the URI {text!r}, and not one in normal form of the location's own components"
+
+
+# ---- beside what the programs read
+
+def as_defined(credential):
+    """What Git's credential code reads, as the definition has it: none where it refuses."""
+    if not isinstance(credential, Web):
+        return set()
+    scheme, user, password, host, port, path = credential
+    return {CredentialReading(scheme, user, password, host if port is None else host + b":" + port, path or None)}
+
+
+def for_transfer(uri):
+    """A URI as libcurl has it for a transfer."""
+    user, colon, password = (uri.information or b"").partition(b":")
+    user, password = (oracle.dec(it) if is_there else None for it, is_there in ((user, uri.information is not None), (password, colon)))
+    return Web(uri.scheme, user, password, uri.host, uri.port, escaped(with_query(uri)))
