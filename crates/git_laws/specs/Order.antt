@@ -1,5 +1,5 @@
 -- Equality, order and hash of protocols and of locations: part by part in declared order, texts by their bytes.
-use Rattle.std.specs.Prelude.{ℕ, Bool, ◌&&◌, nat_eq, List, [], ◌∷◌, ◌++◌, length, bytes_eq, Option, Some, None}
+use Rattle.std.specs.Prelude.{ℕ, Bool, cond, ◌&&◌, nat_eq, List, [], ◌∷◌, ◌++◌, length, bytes_eq, Option, Some, None, is_some}
 use Rattle.std.specs.Option.{option_eq, option_cmp}
 use Rattle.std.specs.declared.cmp.Ordering.{Ordering}
 use Rattle.std.specs.Ordering.{nat_cmp, bool_cmp, on, then_cmp}
@@ -71,22 +71,41 @@ location_cmp =
 
 -- ---- hash
 
--- of a text a hasher is fed the length, and then the bytes at once
+-- a truth value as a byte
+abbrev pub as_byte : Bool → ℕ
+as_byte b = cond b 1 0
+
+-- whether a part is there, as a byte
+abbrev pub there : {K : Type 0} → Option K → ℕ
+there p = as_byte (is_some p)
+
+-- of bytes a hasher is fed the length, and then all of them at once
 abbrev pub fed_bytes : List ℕ → HashWrites
 fed_bytes bs = fed.usize (length bs) ++ (bs ∷ [])
 
--- of a text that may be missing it is fed a byte that tells, and then the text
-abbrev pub fed_text : Option (List ℕ) → HashWrites
-fed_text None = fed.u8 0
-fed_text (Some bs) = fed.u8 1 ++ fed_bytes bs
+-- of what may be missing it is fed what is there
+abbrev pub fed_part : {K : Type 0} → (K → HashWrites) → Option K → HashWrites
+fed_part feed None = []
+fed_part feed (Some x) = feed x
 
--- of a protocol it is fed the kind and the name
+-- of a text the bytes, and 255 behind them, which no UTF-8 has
+abbrev pub fed_text : Option (List ℕ) → HashWrites
+fed_text = fed_part fed.str
+
+-- of a protocol it is fed the kind, and the name of a kind that has one
 abbrev pub fed_protocol : Protocol → HashWrites
 fed_protocol p = fed.u8 (rank p) ++ fed_text (held_name p)
 
--- of a location it is fed all eight parts
+-- a byte for each of the eight parts: the kind of the scheme, the flag, and whether each other part is there, as the
+-- path always is
+abbrev pub outline : Location → List ℕ
+outline v =
+    rank v.scheme ∷ there v.user ∷ there v.password ∷ there v.host
+    ∷ as_byte v.flag ∷ there v.port ∷ 1 ∷ there v.spelling ∷ []
+
+-- of a location it is fed the outline, and then what the parts hold, in declared order
 abbrev pub fed_location : Location → HashWrites
 fed_location v =
-    fed_protocol v.scheme ++ (fed_text v.user ++ (fed_text v.password ++ (fed_text v.host
-    ++ (fed.bool v.flag ++
-    (fed.option fed.u16 v.port ++ (fed_bytes v.path ++ fed_text v.spelling))))))
+    outline v ∷ (fed_text (held_name v.scheme) ++ (fed_text v.user ++ (fed_text v.password
+    ++ (fed_text v.host ++ (fed_part fed.u16 v.port ++
+    (fed_bytes v.path ++ fed_part fed_bytes v.spelling))))))

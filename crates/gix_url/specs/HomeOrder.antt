@@ -1,14 +1,15 @@
 -- Equality, order and hash of users of home folders: the current user comes first, others by the bytes of their names.
-use Rattle.std.specs.Prelude.{◌≡◌, Bool, true, List, ℕ, Option, Some, None}
+use Rattle.std.specs.Prelude.{◌≡◌, Bool, true, List, ◌++◌, ℕ, Option, Some, None}
 use mathlib.Core.Path.{refl, sym, ap, ◌∙◌}
 use Rattle.std.specs.Bool.{Decides}
 use Rattle.std.specs.declared.cmp.Ordering.{Ordering}
 use Rattle.std.specs.Ordering.{eq_by_cmp, on}
 use Rattle.std.specs.Cmp.{IsEquivalence, IsPartialOrder, IsTotalOrder, decided, on_total, po}
+use Rattle.std.specs.Hash as fed
 use Rattle.std.specs.Hash.{HashWrites}
 use Rattle.gix_url.specs.Homes.{HomeUser}
 use Rattle.gix_url.specs.Homes.HomeUser.{current, named}
-use Rattle.git_laws.specs.Order.{text_eq, text_cmp, fed_text}
+use Rattle.git_laws.specs.Order.{text_eq, text_cmp, there, fed_bytes, fed_part}
 use Rattle.git_laws.specs.OrderLaws.{text_decides, text_total, text_ties}
 
 -- the name that a user brings with it
@@ -24,9 +25,9 @@ user_eq u v = text_eq (user_name u) (user_name v)
 abbrev pub user_cmp : HomeUser → HomeUser → Ordering
 user_cmp = on user_name text_cmp
 
--- of a user a hasher is fed the name
+-- of a user a hasher is fed whether there is a name, and the name
 abbrev pub fed_user : HomeUser → HashWrites
-fed_user u = fed_text (user_name u)
+fed_user u = fed.u8 (there (user_name u)) ++ fed_part fed_bytes (user_name u)
 
 -- ---- laws
 

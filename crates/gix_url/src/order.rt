@@ -4,8 +4,9 @@
 //! that equality, order and hash agree, and what is equal is one value. It takes no memory.
 
 ghost use Rattle.std.specs.Prelude.{◌≡◌, Some, fold, option_map, refl, string_bytes};
+ghost use Rattle.std.specs.Hash as fed;
 ghost use Rattle.std.specs.Cmp.{on_equiv, on_per, on_po, on_total, partial_equiv_from_equiv};
-ghost use Rattle.git_laws.specs.Order.{fed_bytes, fed_location, fed_protocol, fed_text, held_name, location_cmp, location_eq, protocol_cmp, protocol_eq, rank, text_cmp, text_eq};
+ghost use Rattle.git_laws.specs.Order.{fed_bytes, fed_location, fed_part, fed_protocol, fed_text, held_name, location_cmp, location_eq, outline, protocol_cmp, protocol_eq, rank, text_cmp, text_eq};
 ghost use Rattle.gix_url.specs.Views.{protocol};
 ghost use Rattle.git_laws.specs.OrderLaws.{location_equiv, location_po, location_ties, location_total, locations_alike, protocol_equiv, protocol_po, protocol_ties, protocol_total, protocols_alike};
 
@@ -90,9 +91,9 @@ impl PartialEq for Url {
     /// ```
     fn eq(&self, other: &Url) -> bool {
         self.scheme == other.scheme
-            && texts_equal(text_bytes(&self.user), text_bytes(&other.user))
-            && texts_equal(text_bytes(&self.password), text_bytes(&other.password))
-            && texts_equal(text_bytes(&self.host), text_bytes(&other.host))
+            && self.user == other.user
+            && self.password == other.password
+            && self.host == other.host
             && self.serialize_alternative_form == other.serialize_alternative_form
             && self.port == other.port
             && self.path.as_bytes() == other.path.as_bytes()
@@ -133,16 +134,16 @@ impl Ord for Url {
     /// }
     /// ```
     fn cmp(&self, other: &Url) -> Ordering {
-        self.scheme
-            .cmp(&other.scheme)
-            .then_with(|| compare_texts(text_bytes(&self.user), text_bytes(&other.user)))
-            .then_with(|| compare_texts(text_bytes(&self.password), text_bytes(&other.password)))
-            .then_with(|| compare_texts(text_bytes(&self.host), text_bytes(&other.host)))
-            .then_with(|| self
-                .serialize_alternative_form
-                .cmp(&other.serialize_alternative_form))
-            .then_with(|| self.port.cmp(&other.port))
-            .then_with(|| self.path.as_bytes().cmp(other.path.as_bytes()))
+        compare(&self.scheme, &other.scheme)
+            .then_with(|| compare_strings(&self.user, &other.user))
+            .then_with(|| compare_strings(&self.password, &other.password))
+            .then_with(|| compare_strings(&self.host, &other.host))
+            .then_with(|| compare(
+                &self.serialize_alternative_form,
+                &other.serialize_alternative_form,
+            ))
+            .then_with(|| compare(&self.port, &other.port))
+            .then_with(|| compare(&self.path.as_bytes(), &other.path.as_bytes()))
             .then_with(|| compare_texts(spelling(self), spelling(other)))
     }
 }
@@ -152,17 +153,34 @@ impl Hash for Url {
 
     ghost respects_eq = { locations_alike };
 
-    /// Feeds the hasher all parts, in the order of the fields, the retained spelling last. It takes no memory.
+    /// Feeds the hasher a byte for each part, which says what kind of scheme it is and which parts are there, and then
+    /// what the parts hold, in the order of the fields, the retained spelling last. It takes no memory.
     fn hash<H: Hasher>(&self, state: &mut H) {
-        self.scheme.hash(state);
+        state.write(&outline(self));
+        feed_text(held_name(&self.scheme), state);
         feed_text(text_bytes(&self.user), state);
         feed_text(text_bytes(&self.password), state);
         feed_text(text_bytes(&self.host), state);
-        self.serialize_alternative_form.hash(state);
-        self.port.hash(state);
+        feed_port(self.port, state);
         feed_bytes(self.path.as_bytes(), state);
-        feed_text(spelling(self), state);
+        feed_bytes_there(spelling(self), state);
     }
+}
+
+/// A byte for each part: the kind of the scheme, the flag, and whether each other part is there, as the path always is.
+fn outline(url: &Url) -> [u8; 8]
+    ensures { result ≡ outline url.now }
+{
+    [
+        rank(&url.scheme),
+        url.user.is_some() as u8,
+        url.password.is_some() as u8,
+        url.host.is_some() as u8,
+        url.serialize_alternative_form as u8,
+        url.port.is_some() as u8,
+        1,
+        url.spelling.is_some() as u8,
+    ]
 }
 
 /// The bytes of a text that may be missing.
@@ -225,6 +243,22 @@ pub(crate) fn texts_equal(a: Option<&[u8]>, b: Option<&[u8]>) -> bool
     }
 }
 
+/// The order of two parts. Equality, which takes less than an order, is asked first: all parts but one are equal.
+#[inline(always)]
+fn compare<T: Ord>(a: &T, b: &T) -> Ordering
+    ensures { result ≡ T.cmp a.now b.now }
+{
+    if a == b { Ordering::Equal } else { a.cmp(b) }
+}
+
+/// The order of two texts that own their bytes.
+#[inline(always)]
+fn compare_strings(a: &Option<String>, b: &Option<String>) -> Ordering
+    ensures { result ≡ text_cmp (option_map string_bytes a.now) (option_map string_bytes b.now) }
+{
+    compare(a, b)
+}
+
 /// The order of two texts: one that is missing comes first.
 pub(crate) fn compare_texts(a: Option<&[u8]>, b: Option<&[u8]>) -> Ordering
     ensures { result ≡ text_cmp (option_map (λ t. t.now) a.entry)
@@ -242,16 +276,32 @@ pub(crate) fn compare_texts(a: Option<&[u8]>, b: Option<&[u8]>) -> Ordering
     }
 }
 
-/// Feeds a text that may be missing.
-pub(crate) fn feed_text<H: Hasher>(text: Option<&[u8]>, state: &mut H)
+/// Feeds a text, if it is there: its bytes, and 255 behind them, which no UTF-8 has.
+fn feed_text<H: Hasher>(text: Option<&[u8]>, state: &mut H)
     ensures { state.new ≡ fold H.write state.old (fed_text (option_map (λ t. t.now) text.entry)) }
 {
-    match text {
-        None => state.write_u8(0),
-        Some(text) => {
-            state.write_u8(1);
-            feed_bytes(text, state);
-        }
+    if let Some(text) = text {
+        state.write(text);
+        state.write_u8(255);
+    }
+}
+
+/// Feeds a port, if it is there.
+fn feed_port<H: Hasher>(port: Option<u16>, state: &mut H)
+    ensures { state.new ≡ fold H.write state.old (fed_part fed.u16 port) }
+{
+    if let Some(port) = port {
+        state.write_u16(port);
+    }
+}
+
+/// Feeds bytes, if they are there.
+pub(crate) fn feed_bytes_there<H: Hasher>(bytes: Option<&[u8]>, state: &mut H)
+    ensures { state.new ≡ fold H.write state.old
+        (fed_part fed_bytes (option_map (λ b. b.now) bytes.entry)) }
+{
+    if let Some(bytes) = bytes {
+        feed_bytes(bytes, state);
     }
 }
 

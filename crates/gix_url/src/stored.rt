@@ -96,6 +96,7 @@ impl Url {
     /// # Errors
     ///
     /// [`Error::Memory`] where memory is refused.
+    #[inline(always)] // so that the record, which is large, is not copied once more for the caller
     pub fn to_stored(&self, alloc: Global) -> Result<StoredUrl, Error>
         ensures stored { IfOk result (λ stored. recorded_location stored ≡ self.now) }
         ensures memory { IfErr result (λ e. e ≡ Error.Memory) }

@@ -9,7 +9,7 @@ ghost use Rattle.gix_url.specs.HomeOrder.{fed_user, user_cmp, user_eq, user_equi
 ghost use Rattle.gix_url.specs.HomeReadings.{user_of};
 
 use super::ForUser;
-use crate::order::{compare_texts, feed_text, texts_equal};
+use crate::order::{compare_texts, feed_bytes_there, texts_equal};
 use std::cmp::Ordering;
 use std::hash::{Hash, Hasher};
 
@@ -57,7 +57,8 @@ impl Hash for ForUser {
     ghost respects_eq = { λ u v. users_alike (user_of u) (user_of v) };
 
     fn hash<H: Hasher>(&self, state: &mut H) {
-        feed_text(name_of(self), state);
+        state.write_u8(name_of(self).is_some() as u8);
+        feed_bytes_there(name_of(self), state);
     }
 }
 

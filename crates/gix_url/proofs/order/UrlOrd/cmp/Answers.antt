@@ -10,8 +10,8 @@ pub returns : goal.returns
 returns c =
     let v = c.args.self.now in
     let w = c.args.other.now in
-    let scheme : c.cmp.result ≡ protocol_cmp v.scheme w.scheme = search rules in
-    let user = found c.cmp.result (text_cmp v.user w.user) c.then_with.result c.then_with.ensures (λ h. search rules) in
+    let scheme : c.compare.result ≡ protocol_cmp v.scheme w.scheme = search rules in
+    let user = found c.compare.result (text_cmp v.user w.user) c.then_with.result c.then_with.ensures (λ h. search rules) in
     let password = found c.then_with.result (text_cmp v.password w.password) c.then_with-2.result c.then_with-2.ensures (λ h. search rules) in
     let host = found c.then_with-2.result (text_cmp v.host w.host) c.then_with-3.result c.then_with-3.ensures (λ h. search rules) in
     let flag = found c.then_with-3.result (bool_cmp v.flag w.flag) c.then_with-4.result c.then_with-4.ensures (λ h. search rules) in
