@@ -1,11 +1,12 @@
 -- Rows: what Git reads in texts that are written out, as git 2.39.5 told it (`git fetch-pack --diag-url`, `git ls-remote`);
 -- of the end of a line in `git://`, where that transport is allowed. OpenSSH 9.2 told that it refuses the word `@h`, and reads
 -- `ssh://u@x:22` as user `u`, host `x` and port 22 (`ssh -G`). Of `~/x` `git clone` takes another repository than `git fetch`.
--- A text with byte 0 can't be given to a command.
-use Rattle.std.specs.Prelude.{ℕ, List, ◌∷◌, ◌++◌, codes, Option, Some, None}
+-- A text with byte 0 can't be given to a command. What Git's credential code reads it told by `git credential fill`.
+use Rattle.std.specs.Prelude.{ℕ, List, [], ◌∷◌, ◌++◌, codes, Option, Some, None}
 use Rattle.git_syntax.specs.Value.Protocol.{git, ssh}
 use Rattle.git_syntax.specs.Bytes.{tab}
 use Rattle.git_laws.specs.Git.{GitReading, GitReads, on_this_machine}
+use Rattle.git_laws.specs.GitWeb.{CredentialReading, CredentialReads}
 
 -- a place that Secure Shell reaches
 abbrev pub by_ssh : Option (List ℕ) → Option (List ℕ) → Option ℕ → List ℕ → GitReading
@@ -67,3 +68,19 @@ NoGitRows =
     × ((reading : GitReading) → ¬ GitReads (codes "git://h%0Ax/p") reading)
     × ((reading : GitReading) → ¬ GitReads (codes "git://h/p%0Aq") reading)
     × ((reading : GitReading) → ¬ GitReads (codes "h:p" ++ 0 ∷ codes "q") reading)
+
+-- what Git's credential code reads in a text with a user and a password
+abbrev pub asked : List ℕ → List ℕ → List ℕ → List ℕ → Option (List ℕ) → CredentialReading
+asked scheme name secret place below =
+    record { protocol = scheme; user = Some name; password = Some secret; host = place; path = below }
+
+-- texts of HTTP
+abbrev pub CredentialRows : Type 0
+CredentialRows =
+    CredentialReads (codes "http://u:p@h:8080/a/b") (asked (codes "http") (codes "u") (codes "p") (codes "h:8080") (Some (codes "a/b")))
+    × CredentialReads (codes "https://u:p@h/") (asked (codes "https") (codes "u") (codes "p") (codes "h") None)
+    × CredentialReads (codes "http://u:p@h//a//") (asked (codes "http") (codes "u") (codes "p") (codes "h") (Some (codes "a")))
+    × CredentialReads (codes "http://a:b@c@h/x") (asked (codes "http") (codes "a") (codes "b") (codes "c@h") (Some (codes "x")))
+    × CredentialReads (codes "http://u%3Av:p@h/%2Fa:%2Fb") (asked (codes "http") (codes "u:v") (codes "p") (codes "h") (Some (codes "%2Fa:/b")))
+    × CredentialReads (codes "http://u:p%00@[::1]:80?q#f") (asked (codes "http") (codes "u") (codes "p%00") (codes "[::1]:80") (Some (codes "?q#f")))
+    × CredentialReads (codes "http://:p@h") (asked (codes "http") [] (codes "p") (codes "h") None)

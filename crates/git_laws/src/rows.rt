@@ -5,7 +5,7 @@
 ghost use Rattle.git_laws.specs.ByteRows.{EscapeSetRows, EscapedByteRows, GitByteRows, HostByteRows, NameByteRows, QuickByteRows, WhiteSpaceRows};
 ghost use Rattle.git_laws.specs.ClassRows.{SettledRows, UnsettledOtherRows, UnsettledUrlRows, UnsettledWebRows, WebHostRows};
 ghost use Rattle.git_laws.specs.OtherRows.{CornerRows, NoCornerRows, SlipRows};
-ghost use Rattle.git_laws.specs.GitRows.{GitTextRows, GitUrlRows, NoGitRows};
+ghost use Rattle.git_laws.specs.GitRows.{CredentialRows, GitTextRows, GitUrlRows, NoGitRows};
 
 /// Classes of bytes, with all their members.
 fn law_bytes()
@@ -32,6 +32,7 @@ fn law_git()
     ensures urls { GitUrlRows }
     ensures others { GitTextRows }
     ensures none { NoGitRows }
+    ensures credentials { CredentialRows }
 {}
 
 /// Corners of what is read, and slips in definitions.

@@ -3,12 +3,13 @@ use Rattle.std.proofs.Common.{◌≡◌, ◌∙◌, ◌==◌, ◌&&◌, ◌<◌,
 use Rattle.std.proofs.lemmas.Bool.{false≢true, true≢false}
 use Rattle.git_syntax.specs.Value.{Protocol}
 use Rattle.git_syntax.specs.Value.Protocol.{file, git, ssh}
-use Rattle.git_syntax.specs.Bytes.{tab, newline, slash, colon, at_sign, left_bracket, right_bracket, tilde, FreeOf, Holds, begins_with, is_helper_name}
+use Rattle.git_syntax.specs.Bytes.{tab, newline, slash, colon, at_sign, left_bracket, right_bracket, tilde, FreeOf, Holds, Lacks, StartsPath, begins_with, is_helper_name, is_path_start}
 use Rattle.git_syntax.specs.Schemes.{protocol_of}
 use Rattle.git_syntax.specs.Authority.{unless_empty}
 use Rattle.git_location.specs.Arguments.{is_option_like}
 use Rattle.git_laws.specs.Git.{GitReading, on_this_machine, from_tilde, git_decode, host_mark, OpensHost, InBrackets, LacksHostBrackets, HostEnd, CutsPlace, BeforePort, HostAndPort, SecurePort, UserCut, ReachesSecure, OwnUrl, IsNoUrl, ReadsGiven, GitReads}
-use Rattle.git_laws.specs.GitRows.{by_ssh, by_git, GitUrlRows, GitTextRows, NoGitRows}
+use Rattle.git_laws.specs.GitRows.{asked, by_ssh, by_git, CredentialRows, GitUrlRows, GitTextRows, NoGitRows}
+use Rattle.git_laws.specs.GitWeb.{are_slashes, AreOneLine, CredentialCut, CredentialDecodes, CredentialReads, trimmed_path}
 use Rattle.git_syntax.proofs.Texts.CutLemmas.{cut_unique, different_bytes, free-cons, held_free, last_cut_unique, not_free}
 use Rattle.git_laws.proofs.Examples.RowFormLemmas.{holds, not_held, no_helper_at}
 use Rattle.git_laws.proofs.GitReadings.GitCutLemmas.{git_decode_kept, lacks_brackets, nothing_passed, place_cut, portless_free}
@@ -363,4 +364,46 @@ no_git_rows = (
   λ reading h. line_row (codes "h%0Ax/p") (codes "h" ++ newline ∷ codes "x") (codes "p") refl refl refl (λ lines. true≢false lines.0) reading h.reads,
   λ reading h. line_row (codes "h/p%0Aq") (codes "h") (codes "p" ++ newline ∷ codes "q") refl refl refl (λ lines. true≢false lines.1) reading h.reads,
   λ reading h. true≢false h.whole,
+)
+
+-- ---- Git's credential code
+
+-- a piece without a colon
+free_piece : (piece : List ℕ) → FreeOf colon piece → CredentialDecodes piece (git_decode piece)
+free_piece piece free = CredentialDecodes.whole free refl
+
+-- a piece with one
+marked_piece : (front rest : List ℕ) → FreeOf colon front → CredentialDecodes (front ++ colon ∷ rest) (front ++ colon ∷ git_decode rest)
+marked_piece front rest free = CredentialDecodes.behind front rest free refl refl
+
+-- a text with a user and a password, by its cuts
+asked_row : (scheme u w named place slashes rest below : List ℕ) → 0 < length scheme → FreeOf colon scheme → FreeOf colon u → FreeOf at_sign u → FreeOf at_sign w → FreeOf colon w → CredentialDecodes named place → are_slashes slashes ≡ true → begins_with slash rest ≡ false → CredentialDecodes rest below
+    → FreeOf 0 (scheme ++ (codes "://" ++ ((u ++ colon ∷ (w ++ at_sign ∷ named)) ++ (slashes ++ rest)))) → Lacks (is_path_start true) (u ++ colon ∷ (w ++ at_sign ∷ named)) → StartsPath true (slashes ++ rest) → AreOneLine (asked scheme (git_decode u) (git_decode w) place (trimmed_path below))
+    → CredentialReads (scheme ++ (codes "://" ++ ((u ++ colon ∷ (w ++ at_sign ∷ named)) ++ (slashes ++ rest)))) (asked scheme (git_decode u) (git_decode w) place (trimmed_path below))
+asked_row scheme u w named place slashes rest below some no_colon plain first second free host all begins path whole before starts lines = record {
+  authority = u ++ colon ∷ (w ++ at_sign ∷ named);
+  behind = slashes ++ rest;
+  named = named;
+  whole = whole;
+  protocol = some;
+  no_mark = held_free scheme no_colon;
+  joined = refl;
+  before_path = before;
+  path_start = starts;
+  cut = CredentialCut.with_password u w (git_decode u) (git_decode w) first second plain refl (free_piece u plain) (free_piece w free) refl refl;
+  host = host;
+  path = record { slashes = slashes; rest = rest; decoded = below; joined = refl; front = all; begins = begins; decodes = path; value = refl };
+  lines = lines;
+}
+
+-- texts of HTTP
+pub credential_rows : CredentialRows
+credential_rows = (
+  asked_row (codes "http") (codes "u") (codes "p") (codes "h:8080") (codes "h:8080") (codes "/") (codes "a/b") (codes "a/b") (omega arith) refl refl refl refl refl (marked_piece (codes "h") (codes "8080") refl) refl refl (free_piece (codes "a/b") refl) refl refl (inr refl) record { protocol = refl; user = refl; password = refl; host = refl; path = refl },
+  asked_row (codes "https") (codes "u") (codes "p") (codes "h") (codes "h") (codes "/") [] [] (omega arith) refl refl refl refl refl (free_piece (codes "h") refl) refl refl (free_piece [] refl) refl refl (inr refl) record { protocol = refl; user = refl; password = refl; host = refl; path = tt },
+  asked_row (codes "http") (codes "u") (codes "p") (codes "h") (codes "h") (codes "//") (codes "a//") (codes "a//") (omega arith) refl refl refl refl refl (free_piece (codes "h") refl) refl refl (free_piece (codes "a//") refl) refl refl (inr refl) record { protocol = refl; user = refl; password = refl; host = refl; path = refl },
+  asked_row (codes "http") (codes "a") (codes "b") (codes "c@h") (codes "c@h") (codes "/") (codes "x") (codes "x") (omega arith) refl refl refl refl refl (free_piece (codes "c@h") refl) refl refl (free_piece (codes "x") refl) refl refl (inr refl) record { protocol = refl; user = refl; password = refl; host = refl; path = refl },
+  asked_row (codes "http") (codes "u%3Av") (codes "p") (codes "h") (codes "h") (codes "/") (codes "%2Fa:%2Fb") (codes "%2Fa:/b") (omega arith) refl refl refl refl refl (free_piece (codes "h") refl) refl refl (marked_piece (codes "%2Fa") (codes "%2Fb") refl) refl refl (inr refl) record { protocol = refl; user = refl; password = refl; host = refl; path = refl },
+  asked_row (codes "http") (codes "u") (codes "p%00") (codes "[::1]:80") (codes "[::1]:80") [] (codes "?q#f") (codes "?q#f") (omega arith) refl refl refl refl refl (marked_piece (codes "[") (codes ":1]:80") refl) refl refl (free_piece (codes "?q#f") refl) refl refl (inr refl) record { protocol = refl; user = refl; password = refl; host = refl; path = refl },
+  asked_row (codes "http") [] (codes "p") (codes "h") (codes "h") [] [] [] (omega arith) refl refl refl refl refl (free_piece (codes "h") refl) refl refl (free_piece [] refl) refl refl (inl refl) record { protocol = refl; user = refl; password = refl; host = refl; path = tt },
 )
