@@ -1,5 +1,5 @@
 -- Each byte is that of its part.
-use Rattle.std.proofs.Common.{◌≡◌, ◌∷◌, [], ap, ◌∙◌, sym, string_bytes}
+use Rattle.std.proofs.Common.{◌∷◌, [], ap, ◌∙◌, string_bytes}
 use mir.Val.{bool_byte}
 use Rattle.bstr.specs.Owned.{bstring_bytes}
 use Rattle.git_laws.specs.Order.{outline}
