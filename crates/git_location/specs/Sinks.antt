@@ -1,7 +1,7 @@
--- What a place is after it took a text, for each sink, and that two texts taken are one: memory with room, a formatter,
--- and the walk of the length test. What stands behind the text is any, so that texts join without counting.
-use Rattle.std.specs.Prelude.{◌≡◌, ℕ, ◌+◌, ◌≤◌, Bool, true, false, ◌||◌, List, [], ◌∷◌, ◌++◌, length, refl}
-use Rattle.std.proofs.Common.{sym, ap, subst, ◌∙◌, append_assoc, append-nil}
+-- What a place is after it took a text, for each sink, and that two texts taken are one: a formatter, the walk of the
+-- length test, and a note. What stands behind the text is any, so that texts join without counting.
+use Rattle.std.specs.Prelude.{◌≡◌, ℕ, Bool, true, false, ◌||◌, List, [], ◌∷◌, ◌++◌, refl}
+use Rattle.std.proofs.Common.{sym, ap, subst, ◌∙◌, append_assoc}
 use Rattle.std.specs.List.{FoldsTo, list_any}
 use Rattle.std.proofs.lemmas.List.Folds.{concat-append, list_any-append}
 use Rattle.std.specs.declared.fmt.Formatter.{Formatter}
@@ -9,26 +9,6 @@ use Rattle.std.specs.Fmt.{HasWrittenStyled, IsFlush}
 use Rattle.git_syntax.specs.declared.length.TextWalk.{TextWalk}
 use Rattle.git_syntax.specs.Bytes.{lossy_text}
 use Rattle.git_syntax.specs.Walks.{is_text_in_time}
-
--- ---- memory
-
-module _ {A : Type 0} (items : A → List ℕ) (len capacity : A → ℕ) where
-  -- memory with room for a text and for what comes behind it has the text appended, and still has that room
-  abbrev pub AppendsWithin : A → List ℕ → A → Type 0
-  AppendsWithin old text new =
-      (behind : List ℕ) → len old + length (text ++ behind) ≤ capacity old
-      → (items new ≡ items old ++ text) × (len new + length behind ≤ capacity new)
-
-  pub appends_nothing : (a : A) → AppendsWithin a [] a
-  appends_nothing a behind room = (sym (append-nil (items a)), room)
-
-  pub appends_joined : (a b c : A) (x y : List ℕ) → AppendsWithin a x b → AppendsWithin b y c
-      → AppendsWithin a (x ++ y) c
-  appends_joined a b c x y first second behind room =
-      let one = first (y ++ behind)
-      (subst (λ z. len a + length z ≤ capacity a) (append_assoc x y behind) room) in
-      let two = second behind one.1 in
-      (two.0 ∙ ap (λ z. z ++ y) one.0 ∙ append_assoc (items a) x y, two.1)
 
 -- ---- a formatter
 

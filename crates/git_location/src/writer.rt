@@ -13,7 +13,7 @@ ghost use Rattle.git_location.specs.Text.{canonical_text, in_form, original_path
 ghost use Rattle.git_location.specs.Pieces.{form_chosen, form_of, pieces_text, text_length, text_of_pieces};
 ghost use Rattle.git_location.specs.Readings.{Written};
 
-mod fill;
+pub mod fill;
 pub mod form;
 mod layout;
 pub mod piece;

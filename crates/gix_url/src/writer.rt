@@ -3,7 +3,7 @@
 //! It uses `location`, `error` and the writer of `git_location`, which lays a text out as pieces: here they are collected,
 //! with one request for memory. The contract of each public call is the text of the definitions.
 
-ghost use Rattle.std.specs.Prelude.{◌≡◌, [], Ok, Err, IsOk, IfOk, IfErr};
+ghost use Rattle.std.specs.Prelude.{◌≡◌, [], Ok, Err, IsOk, IfOk, IfErr, length};
 ghost use Rattle.bstr.specs.BStr.{bstr_bytes};
 ghost use Rattle.bstr.specs.Owned.{bstring_bytes};
 ghost use Rattle.git_location.specs.declared.write_error.WriteFault.{WriteFault};
@@ -19,11 +19,11 @@ use bstr::{BStr, BString};
 use git_location::url_ref::UrlRef;
 use git_location::value::law_lent_value;
 use git_location::write_error::{WriteError, WriteFault};
+use git_location::writer::fill::fill;
 use git_location::writer::form::Form;
 use git_location::writer::piece::Pieces;
-use git_location::writer::sink::Room;
 use itoa::Buffer;
-use std::alloc::Global;
+use std::alloc::{AllocError, Global};
 use std::io::Write;
 
 impl Url {
@@ -136,10 +136,23 @@ impl Url {
     }
 }
 
-/// The text in this form. Each form is collected by itself, so that the compiler knows which pieces it lacks.
+/// The text in this form.
+#[inline(always)]
 fn collect_in(alloc: Global, url: &UrlRef<'_>, form: Form) -> Result<BString, Error>
     ensures text { IfOk result (λ s. bstring_bytes s ≡ text_in (form_of form) url.now) }
     ensures memory { IfErr result (λ e. e ≡ Error.Memory) }
+    ensures empty { text_in (form_of form) url.now ≡ [] → IsOk result }
+{
+    match collect_form(alloc, url, form) {
+        Ok(text) => Ok(BString::new(text)),
+        Err(_) => Err(Error::Memory),
+    }
+}
+
+/// The bytes in this form. Each form is collected by itself, so that the compiler knows which pieces it lacks.
+#[inline(always)]
+fn collect_form(alloc: Global, url: &UrlRef<'_>, form: Form) -> Result<Vec<u8>, AllocError>
+    ensures text { IfOk result (λ s. s.items ≡ text_in (form_of form) url.now) }
     ensures empty { text_in (form_of form) url.now ≡ [] → IsOk result }
 {
     match form {
@@ -151,10 +164,9 @@ fn collect_in(alloc: Global, url: &UrlRef<'_>, form: Form) -> Result<BString, Er
 }
 
 /// The text as a URL.
-#[inline(never)]
-fn collect_canonical(alloc: Global, url: &UrlRef<'_>) -> Result<BString, Error>
-    ensures text { IfOk result (λ s. bstring_bytes s ≡ canonical_text url.now) }
-    ensures memory { IfErr result (λ e. e ≡ Error.Memory) }
+#[inline(always)]
+fn collect_canonical(alloc: Global, url: &UrlRef<'_>) -> Result<Vec<u8>, AllocError>
+    ensures text { IfOk result (λ s. s.items ≡ canonical_text url.now) }
     ensures empty { canonical_text url.now ≡ [] → IsOk result }
 {
     let mut digits = Buffer::new();
@@ -163,15 +175,24 @@ fn collect_canonical(alloc: Global, url: &UrlRef<'_>) -> Result<BString, Error>
 
 /// The text of the pieces. Memory is asked for once, and a length that no memory has counts as refused.
 #[inline(always)]
-fn collect(alloc: Global, pieces: &Pieces<'_>) -> Result<BString, Error>
-    ensures text { IfOk result (λ s. bstring_bytes s ≡ pieces_text pieces.now) }
-    ensures memory { IfErr result (λ e. e ≡ Error.Memory) }
+fn collect(alloc: Global, pieces: &Pieces<'_>) -> Result<Vec<u8>, AllocError>
+    ensures text { IfOk result (λ s. s.items ≡ pieces_text pieces.now) }
     ensures empty { pieces_text pieces.now ≡ [] → IsOk result }
 {
-    let Ok(len) = usize::try_from(pieces.len()) else {
-        return Err(Error::Memory);
-    };
-    let mut text = Vec::with_capacity(alloc, len)?;
-    let Ok(()) = pieces.put::<Vec<u8>, Room>(&mut text);
-    Ok(BString::new(text))
+    match usize::try_from(pieces.len()) {
+        Ok(0) => Ok(Vec::new(alloc)),
+        Ok(len) => filled(alloc, pieces, len),
+        Err(_) => Err(AllocError),
+    }
+}
+
+/// The text of the pieces, which has this length.
+#[inline(always)]
+fn filled(alloc: Global, pieces: &Pieces<'_>, len: usize) -> Result<Vec<u8>, AllocError>
+    requires { len ≡ length (pieces_text pieces.now) }
+    ensures { IfOk result (λ s. s.items ≡ pieces_text pieces.now) }
+{
+    let mut text = vec![in alloc; 0_u8; len]?;
+    fill(text.as_mut_slice(), pieces);
+    Ok(text)
 }

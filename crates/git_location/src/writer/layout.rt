@@ -4,6 +4,7 @@
 //! pieces of a location make up its text, and a fault is the location's own. It takes no memory.
 
 ghost use Rattle.std.specs.Prelude.{◌≡◌, ℕ, List, ◌++◌, option_map, unwrap_or};
+ghost use Rattle.git_syntax.specs.Value.Protocol.{ssh};
 ghost use Rattle.git_syntax.specs.Views.{lent_protocol};
 ghost use Rattle.git_syntax.specs.AddressTest.{is_ipv6_text};
 ghost use Rattle.git_location.specs.Text as spec;
@@ -120,6 +121,7 @@ impl<'a> UrlRef<'a> {
     }
 
     /// The user, this password and their marks, with escapes. A password without a user is left out.
+    #[inline(always)]
     fn user_information<'b>(&'b self, password: Option<&'b str>) -> UserPieces<'b>
         ensures { user_text result
             ≡ spec.user_information self.now.user (option_map (λ p. p.now) password.entry) }
@@ -127,14 +129,14 @@ impl<'a> UrlRef<'a> {
         let Some(user) = self.user else {
             return UserPieces::None;
         };
-        let user = Piece::user(user);
         match password {
-            None => UserPieces::User(user),
-            Some(password) => UserPieces::Both(user, Piece::password(password)),
+            None => UserPieces::User(Piece::user(user)),
+            Some(password) => UserPieces::Both(Piece::user(user), Piece::password(password)),
         }
     }
 
     /// The host of a URL.
+    #[inline(always)]
     fn canonical_host(&self) -> HostPieces<'_>
         ensures { host_text result ≡ spec.host_part self.now self.now.host }
     {
@@ -149,6 +151,7 @@ impl<'a> UrlRef<'a> {
     }
 
     /// The path of a URL: the spelling where it matches, and else the path as the scheme has it written.
+    #[inline(always)]
     fn canonical_path(&self) -> PathPieces<'_>
         ensures { path_end_text result ≡ spec.canonical_path self.now }
     {
@@ -196,6 +199,7 @@ impl<'a> UrlRef<'a> {
     }
 
     /// The retained spelling of the path where it matches.
+    #[inline(always)]
     pub fn matching_spelling(&self) -> Option<&'a [u8]>
         ensures { (other : List ℕ) → unwrap_or (option_map (λ s. s.now) result) other
             ≡ spec.matching_or self.now.spelling self.now.path other }
@@ -224,6 +228,7 @@ fn port_digits<'a>(port: Option<u16>, digits: &'a mut Buffer) -> Option<&'a str>
 }
 
 /// A host outside brackets: as it is, or escaped, but for the colons of an address.
+#[inline(always)]
 fn open_host<'a>(scheme: SchemeRef<'_>, host: &'a str) -> Piece<'a>
     ensures { piece_text result ≡ spec.open_host (lent_protocol scheme.entry) host.now }
 {
@@ -233,13 +238,19 @@ fn open_host<'a>(scheme: SchemeRef<'_>, host: &'a str) -> Piece<'a>
         | SchemeRef::Ssh
         | SchemeRef::Ext
         | SchemeRef::Helper(_)
-        | SchemeRef::HelperUrl(_) => {
-            if is_address(host.as_bytes()) {
-                Piece::password(host)
-            } else {
-                Piece::user(host)
-            }
-        }
+        | SchemeRef::HelperUrl(_) => escaped_host(host),
+    }
+}
+
+/// A host outside brackets as most schemes have it: escaped, but for the colons of an address.
+#[inline(never)]
+fn escaped_host(host: &str) -> Piece<'_>
+    ensures { piece_text result ≡ spec.open_host ssh host.now }
+{
+    if is_address(host.as_bytes()) {
+        Piece::password(host)
+    } else {
+        Piece::user(host)
     }
 }
 

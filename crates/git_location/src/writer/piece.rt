@@ -261,7 +261,9 @@ impl<'a> PathPieces<'a> {
     {
         match self {
             PathPieces::Raw(mark, path) => {
-                S::put(place, mark)?;
+                if !mark.is_empty() {
+                    S::put(place, mark)?;
+                }
                 S::put_end(place, path)
             }
             PathPieces::Escaped(mark, path) => {

@@ -1,21 +1,19 @@
 //! Sinks: the places that a text is put into, slice by slice.
 //!
 //! It uses the crate `percent_encoding` and nothing else of this crate. The contract of a [`Sink`]: a place that took
-//! two slices is one that took them joined, so what puts a text slice by slice puts the whole text. `Room` is memory
-//! that is there and `Output` a writer; `show` adds formatters, and `settled` the walk of its length test. It takes no
+//! two slices is one that took them joined, so what puts a text slice by slice puts the whole text. `Output` is a
+//! writer; `fill` adds room that is there, `show` formatters, and `settled` the walk of its length test. It takes no
 //! memory.
 
-ghost use Rattle.std.specs.Prelude.{ℕ, List, [], ◌++◌, OnOk, vec_capacity, vec_items, vec_len};
+ghost use Rattle.std.specs.Prelude.{ℕ, List, [], ◌++◌, OnOk};
 ghost use Rattle.std.specs.Io.KnownBytes.{Appends};
 ghost use Rattle.std.proofs.KnownBytes.{Appends-nil, Appends-trans};
 ghost use Rattle.percent_encoding.specs.Percent.{percent_encode};
 ghost use Rattle.git_syntax.specs.Bytes.{percent_sign};
 ghost use Rattle.git_syntax.specs.Cuts.{CutsAt};
 ghost use Rattle.git_syntax.specs.Escapes.{escaped_percents};
-ghost use Rattle.git_location.specs.Sinks.{AppendsWithin, appends_joined, appends_nothing};
 
 use percent_encoding::{AsciiSet, percent_encode};
-use std::convert::Infallible;
 use std::io::{self, Write};
 
 /// A way of putting a text into a place of type `T`: slices that are UTF-8, and an end that may be any bytes.
@@ -76,33 +74,6 @@ fn cut_at_percent(text: &str) -> Option<(&str, &str)>
     ensures { CutsAt percent_sign text.now result }
 {
     text.split_once('%')
-}
-
-/// Memory with room for the whole text: it can't be refused, and nothing is asked for.
-pub struct Room;
-
-impl Sink<Vec<u8>> for Room {
-    type Fault = Infallible;
-
-    ghost takes = { AppendsWithin vec_items vec_len vec_capacity };
-
-    ghost ends = { AppendsWithin vec_items vec_len vec_capacity };
-
-    fn put(place: &mut Vec<u8>, slice: &str) -> Result<(), Infallible> {
-        Room::put_end(place, slice.as_bytes())
-    }
-
-    fn put_end(place: &mut Vec<u8>, end: &[u8]) -> Result<(), Infallible> {
-        // Nothing is refused where there is room, and nothing is promised where there is none.
-        let _ = place.extend_from_slice(end);
-        Ok(())
-    }
-
-    ghost takes_nothing = { appends_nothing vec_items vec_len vec_capacity };
-
-    ghost takes_joined = { appends_joined vec_items vec_len vec_capacity };
-
-    ghost ends_joined = { appends_joined vec_items vec_len vec_capacity };
 }
 
 /// A writer.
