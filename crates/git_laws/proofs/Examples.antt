@@ -1,6 +1,5 @@
 -- The examples of the definitions, by computing or by giving the parts.
 pub mod RowByteLemmas
 pub mod RowFormLemmas
-pub mod RowClassLemmas
 pub mod RowGitLemmas
 pub mod RowOtherLemmas

@@ -13,6 +13,5 @@ pub mod OrderLaws
 pub mod Safeguards
 -- Examples of the definitions: each row is proved.
 pub mod ByteRows
-pub mod ClassRows
 pub mod GitRows
 pub mod OtherRows

@@ -1,11 +1,15 @@
 -- Rows of corners, and one for each slip in a definition that the laws would let pass.
-use Rattle.std.specs.Prelude.{◌≡◌, true, codes, Some, None}
+use Rattle.std.specs.Prelude.{◌≡◌, ℕ, true, false, List, codes, Some, None}
+use Rattle.git_syntax.specs.Value.{Protocol, Location, path_alone}
 use Rattle.git_syntax.specs.Value.Protocol.{file, git, http, https}
 use Rattle.git_syntax.specs.Schemes.{requires_host}
 use Rattle.git_laws.specs.Components.{PartsOf}
 use Rattle.git_laws.specs.Records.{migrated}
 use Rattle.git_laws.specs.Laws.{IsCorner}
-use Rattle.git_laws.specs.ClassRows.{at_host}
+
+-- a location with a host
+abbrev pub at_host : Protocol → List ℕ → List ℕ → Location
+at_host scheme host path = record (path_alone scheme false path) { host = Some host }
 
 -- FTP needs a host; in a path without a spelling an escape stands for itself; in a record of the older form a `%`
 -- without digits is no escape

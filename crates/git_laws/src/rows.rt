@@ -3,7 +3,6 @@
 //! It has no code and uses nothing: the contract of each function is a group of rows.
 
 ghost use Rattle.git_laws.specs.ByteRows.{EscapeSetRows, EscapedByteRows, GitByteRows, HostByteRows, NameByteRows, QuickByteRows, WhiteSpaceRows};
-ghost use Rattle.git_laws.specs.ClassRows.{SettledRows, UnsettledOtherRows, UnsettledUrlRows, UnsettledWebRows, WebHostRows};
 ghost use Rattle.git_laws.specs.OtherRows.{CornerRows, NoCornerRows, SlipRows};
 ghost use Rattle.git_laws.specs.GitRows.{CredentialRows, GitTextRows, GitUrlRows, NoGitRows};
 
@@ -16,15 +15,6 @@ fn law_bytes()
     ensures quick { QuickByteRows }
     ensures documented { EscapedByteRows }
     ensures sets { EscapeSetRows }
-{}
-
-/// The settled class.
-fn law_class()
-    ensures settled { SettledRows }
-    ensures hosts { WebHostRows }
-    ensures web { UnsettledWebRows }
-    ensures urls { UnsettledUrlRows }
-    ensures others { UnsettledOtherRows }
 {}
 
 /// What Git reads.

@@ -1,4 +1,4 @@
--- What a written-out text holds and what it doesn't, by searching it, and which shape it has.
+-- What a written-out text holds and what it doesn't, by searching it.
 use Rattle.std.proofs.Common.{◌≡◌, ℕ, Bool, true, false, nat_le, ◌&&◌, ◌||◌, ◌==◌, inl, inr, List, [], ◌∷◌, ◌++◌, length, codes, refl, sym, ap, subst, ◌∙◌, eqb}
 use Rattle.std.proofs.lemmas.Bool.{both_ways, false≢true, and_from, eq-eqb, leb-true, or_left, or_right}
 use Rattle.git_syntax.specs.Bytes.{slash, colon, at_sign, left_bracket, Lacks, FreeOf, Holds, begins_by, begins_with, is_helper_name, is_path_start, StartsPath}
@@ -47,42 +47,9 @@ no_helper_at bs front rest e free other (name, address, parts) =
     let same = cut_unique colon front name rest (colon ∷ address) free (helper_name_free name colon parts.named refl) (sym e ∙ parts.joined) in
     both_ways _ other (and_from _ _ (ap is_helper_name same.0 ∙ parts.named) (ap (begins_with colon) same.1))
 
--- a text without a colon has no shape of the scp form
-pub no_scp_free : (bs : List ℕ) → FreeOf colon bs → ¬ IsScpShaped bs
-no_scp_free bs free (inl (front, path, s)) = not_free colon front path (subst (λ t. FreeOf colon t) s.joined free)
-no_scp_free bs free (inr (user, address, path, s)) = addressed_free bs free (user, address, path, s.cut)
-
--- nor has one whose first colon stands behind a slash
-pub no_scp_behind_slash : (bs front rest : List ℕ) → bs ≡ front ++ colon ∷ rest → FreeOf colon front → begins_with left_bracket bs ≡ false → FreeOf at_sign bs → ¬ FreeOf slash front → ¬ IsScpShaped bs
-no_scp_behind_slash bs front rest e free apart lacks slashed (inl (f, path, s)) =
-    elim s.shape [
-      | ScpFront.plain none _ ↦ slashed (subst (λ t. FreeOf slash t) (sym (cut_unique colon front f rest path free none (sym e ∙ s.joined)).0) s.no_slash)
-      | ScpFront.bracketed inside after _ _ is ↦ both_ways _ apart (ap (begins_with left_bracket) (s.joined ∙ ap (λ t. t ++ colon ∷ path) is))
-    ]
-no_scp_behind_slash bs front rest e free apart lacks slashed (inr (user, address, path, s)) = not_free at_sign user _ (subst (λ t. FreeOf at_sign t) s.cut.joined lacks)
-
 -- ---- lengths
 
 -- a scheme, a front and a path are short enough, by tests
 pub fits_row : (scheme front back : List ℕ) → nat_le (length scheme) 1024 ≡ true → without_white_space (front ++ back) ≡ front ++ back → begins_by is_any_slash (front ++ back) ≡ false → Lacks (is_path_start (is_web_scheme scheme)) front → StartsPath (is_web_scheme scheme) back → IsWithinLimit front back (front ++ back) → Fits scheme (front ++ back)
 fits_row scheme front back size kept apart before starts short =
     record { slashes = []; front = front; back = back; scheme_length = leb-true _ _ size; joined = kept; skipped = refl; reached = apart; before_path = before; path = starts; short = short }
-
--- ---- shapes
-
--- a text without a colon is neither a remote helper nor a URL
-pub neither_free : (bs : List ℕ) → FreeOf colon bs → holds (codes "://") bs ≡ false → IsNeither bs
-neither_free bs free none = record { no_helper = no_helper_free bs free; no_mark = not_held (codes "://") bs none }
-
--- nor is one by what stands around its first colon
-pub neither_at : (bs front rest : List ℕ) → bs ≡ front ++ colon ∷ rest → FreeOf colon front → (is_helper_name front && begins_with colon rest) ≡ false → holds (codes "://") bs ≡ false → IsNeither bs
-neither_at bs front rest e free other none = record { no_helper = no_helper_at bs front rest e free other; no_mark = not_held (codes "://") bs none }
-
--- a front without colons and brackets
-pub shape_row : (front path : List ℕ) → FreeOf colon front → begins_with left_bracket front ≡ false → FreeOf slash front → (is_helper_name front && begins_with colon path) ≡ false → holds (codes "://") (front ++ colon ∷ path) ≡ false → ScpShape (front ++ colon ∷ path) front path
-shape_row front path free apart lacks other none =
-    record { joined = refl; neither = neither_at (front ++ colon ∷ path) front path refl free other none; no_slash = lacks; shape = ScpFront.plain free (inl apart) }
-
--- a local path behind a dot
-pub dot_path_no_scp : ¬ IsScpShaped (codes "./a:b")
-dot_path_no_scp = no_scp_behind_slash (codes "./a:b") (codes "./a") (codes "b") refl refl refl refl (λ e. false≢true (sym e))
