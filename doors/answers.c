@@ -43,16 +43,26 @@ static void is_seen(const gix_url *url) {
     HOLDS(!url->has_port || (seen.has_port && seen.port == url->port));
 }
 
-/* What Git is told to read alike is settled, and of HTTP, or of one of Git's own three transports and without a password or
- * an option. */
+/* Whether the byte is in the text. */
+static bool holds(gix_url_text text, char byte) {
+    return text.len > 0 && memchr(text.at, byte, text.len);
+}
+
+/* What Git is told to read alike is settled. It is of one of Git's own three transports, and without a password or an option;
+ * or of HTTP, with a host, a user without a colon, and a path from a slash on without a fragment. */
 static void is_for_git(const gix_url *url, bool settled) {
     bool agrees;
     gix_url_seen seen;
     HOLDS(gix_url_agrees_with_git(url, &agrees) == GIX_URL_OK && gix_url_look(url, &seen) == GIX_URL_OK);
     if (!agrees) return;
-    HOLDS(settled && url->scheme <= GIX_URL_HTTPS);
-    if (url->scheme >= GIX_URL_HTTP) return;
-    HOLDS(!url->password.at && seen.user != GIX_URL_DANGEROUS && seen.host != GIX_URL_DANGEROUS);
+    HOLDS(settled);
+    if (url->scheme == GIX_URL_HTTP || url->scheme == GIX_URL_HTTPS) {
+        HOLDS(url->host.len > 0 && !holds(url->user, ':'));
+        HOLDS(url->path.len > 0 && url->path.at[0] == '/' && !holds(url->path, '#'));
+        return;
+    }
+    HOLDS(url->scheme <= GIX_URL_SSH && !url->password.at);
+    HOLDS(seen.user != GIX_URL_DANGEROUS && seen.host != GIX_URL_DANGEROUS);
 }
 
 /* A location without a password is shown as its text, where that is ASCII; with one it is shown otherwise. */

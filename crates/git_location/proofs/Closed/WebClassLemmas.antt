@@ -1,6 +1,6 @@
 -- The class of HTTP locations by its tests: hosts by their last label, paths by their bytes and segments, and what is written
 -- for a text by what stands in it.
-use Rattle.std.proofs.Common.{⊎_elim, ◌≡◌, ◌↔◌, ◌∙◌, ◌<◌, ◌+◌, ℕ, Bool, true, false, not, ◌&&◌, ◌||◌, ◌==◌, ◌⊎◌, inl, inr, List, [], ◌∷◌, ◌++◌, codes, refl, sym, ap, subst, append_assoc, arith, cond}
+use Rattle.std.proofs.Common.{⊎_elim, ◌≡◌, ◌↔◌, ◌∙◌, ◌<◌, ℕ, Bool, true, false, not, ◌||◌, ◌==◌, ◌⊎◌, inl, inr, List, [], ◌∷◌, ◌++◌, codes, refl, sym, ap, subst, append_assoc, arith}
 use Rattle.std.specs.List.{list_all, list_any, count_by}
 use Rattle.std.specs.Char.{is_ascii_lowercase}
 use Rattle.std.proofs.lemmas.Bool.{agree_below_at, and_from, and_parts, both_ways, cases_Bool, cond-false, cond-true, eqb-true, false_from_ne_true, not-false, or_from, or_left, or_parts, true≢false}
@@ -11,12 +11,12 @@ use Rattle.std.proofs.lemmas.List.Sums.{list_all-from_AllPass}
 use Rattle.percent_encoding.specs.declared.ascii_set.AsciiSet.{AsciiSet}
 use Rattle.percent_encoding.specs.AsciiSet.{contains, should_percent_encode}
 use Rattle.percent_encoding.specs.Percent.{percent_encode, percent_encode_byte}
-use Rattle.percent_encoding.proofs.AsciiSetLemmas.{ascii_from_kept, escaped_from_inside, kept_from_outside, outside_from_kept}
+use Rattle.percent_encoding.proofs.AsciiSetLemmas.{ascii_from_kept, kept_from_outside, outside_from_kept}
 use Rattle.percent_encoding.proofs.PercentLemmas.{IsEscapeByte, All-percent_encode_byte, percent_encode-nil, percent_encode_escaped, percent_encode_kept}
 use Rattle.git_syntax.specs.declared.escape.TheConstants.{PATH}
 use Rattle.git_syntax.specs.Bytes.{colon, dot, number_sign, percent_sign, slash, FreeOf, Lacks, begins_by}
 use Rattle.git_syntax.proofs.Texts.CutLemmas.{cut_unique, free_of_all, free_of_lacked, free_or_cut, lacks_of_all, lacks_weaker, last_cut_unique, not_free}
-use Rattle.git_syntax.proofs.Texts.EscapeLemmas.{encode_lacks_kept, is_escape_byte, lacks_from_encode}
+use Rattle.git_syntax.proofs.Texts.EscapeLemmas.{encode_lacks_kept, lacks_from_encode}
 use Rattle.git_location.specs.WebClass.{HasDotSegment, IsDecodedWhole, IsLastLabel, IsPlainName, is_control, is_plain_host_byte, is_segment_end, is_uri_byte}
 use Rattle.git_location.specs.WebParts.{BeginsWithDots, IsUriPath, ends_segment, is_simple_byte, is_stray}
 use Rattle.git_location.proofs.Written.PieceLemmas.{counted}

@@ -1,5 +1,5 @@
 -- A colon is written as itself, and a `%` where a byte is escaped.
-use Rattle.std.proofs.Common.{inl, inr, refl, sym, ◌∙◌, ⊎_elim, eqb-true, ap, nat_eq}
+use Rattle.std.proofs.Common.{inl, inr, sym, ◌∙◌, ⊎_elim, eqb-true}
 use Rattle.std.proofs.lemmas.Bool.{both_ways, eq-eqb}
 use Rattle.git_location.proofs.Closed.WebClassLemmas.{colon_written, percent_written}
 use Rattle.git_location.proofs.git.web.is_written_whole.Goals as goal
