@@ -39,7 +39,7 @@ ends_segment (b ∷ bs) = is_segment_end b
 abbrev pub EndsSecondDot : List ℕ → Type 0
 EndsSecondDot text = (behind : List ℕ) × (text ≡ dot ∷ behind) × (ends_segment behind ≡ true)
 
--- a segment `.` or `..` begins the text
-abbrev pub BeginsWithDots : List ℕ → Type 0
-BeginsWithDots text = (behind : List ℕ) × (text ≡ dot ∷ behind)
+-- the `.` between the texts begins a segment `.` or `..` behind a `/`
+abbrev pub IsDotSegment : List ℕ → List ℕ → Type 0
+IsDotSegment front behind = (x : List ℕ) × (front ≡ x ++ slash ∷ [])
     × ((ends_segment behind ≡ true) ⊎ EndsSecondDot behind)

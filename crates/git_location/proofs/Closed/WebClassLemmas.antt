@@ -15,10 +15,10 @@ use Rattle.percent_encoding.proofs.AsciiSetLemmas.{ascii_from_kept, kept_from_ou
 use Rattle.percent_encoding.proofs.PercentLemmas.{IsEscapeByte, All-percent_encode_byte, percent_encode-nil, percent_encode_escaped, percent_encode_kept}
 use Rattle.git_syntax.specs.declared.escape.TheConstants.{PATH}
 use Rattle.git_syntax.specs.Bytes.{colon, dot, number_sign, percent_sign, slash, FreeOf, Lacks, begins_by}
-use Rattle.git_syntax.proofs.Texts.CutLemmas.{cut_unique, free_of_all, free_of_lacked, free_or_cut, lacks_of_all, lacks_weaker, last_cut_unique, not_free}
+use Rattle.git_syntax.proofs.Texts.CutLemmas.{cut_unique, free-append, free_of_all, free_of_lacked, free_or_cut, lacks_of_all, lacks_weaker, last_cut_unique, not_free}
 use Rattle.git_syntax.proofs.Texts.EscapeLemmas.{encode_lacks_kept, lacks_from_encode}
 use Rattle.git_location.specs.WebClass.{HasDotSegment, IsDecodedWhole, IsLastLabel, IsPlainName, is_control, is_plain_host_byte, is_segment_end, is_uri_byte}
-use Rattle.git_location.specs.WebParts.{BeginsWithDots, IsUriPath, ends_segment, is_simple_byte, is_stray}
+use Rattle.git_location.specs.WebParts.{EndsSecondDot, IsDotSegment, IsUriPath, ends_segment, is_simple_byte, is_stray}
 use Rattle.git_location.proofs.Written.PieceLemmas.{counted}
 
 -- ---- hosts
@@ -50,58 +50,52 @@ ends_from_cases (b ∷ bs) (inl none) = cc
 ends_from_cases (b ∷ bs) (inr ends) = ends
 
 -- dots behind a `/` are a dot segment
-dots_from : (front behind : List ℕ) → BeginsWithDots behind → HasDotSegment (front ++ slash ∷ behind)
-dots_from front behind (rest, joined, inl ends) = record {
-  front = front;
-  dots = codes ".";
-  behind = rest;
-  joined = ap (λ x. front ++ slash ∷ x) joined;
-  segment = inl refl;
-  end = ends_by_cases rest ends;
-}
-dots_from front behind (rest, joined, inr (last, second, ends)) = record {
-  front = front;
-  dots = codes "..";
-  behind = last;
-  joined = ap (λ x. front ++ slash ∷ x) (joined ∙ ap (λ x. dot ∷ x) second);
-  segment = inr refl;
-  end = ends_by_cases last ends;
-}
+dots_from : (x behind : List ℕ) → (ends_segment behind ≡ true) ⊎ EndsSecondDot behind → HasDotSegment (x ++ slash ∷ (dot ∷ behind))
+dots_from x behind (inl ends) = record { front = x; dots = codes "."; behind = behind; joined = refl; segment = inl refl; end = ends_by_cases behind ends }
+dots_from x behind (inr (last, second, ends)) =
+    record { front = x; dots = codes ".."; behind = last; joined = ap (λ y. x ++ slash ∷ (dot ∷ y)) second; segment = inr refl; end = ends_by_cases last ends }
 
--- and dot segments are such dots
-dots_to : (behind dots rest : List ℕ) → behind ≡ dots ++ rest → (dots ≡ codes ".") ⊎ (dots ≡ codes "..") → (rest ≡ []) ⊎ (begins_by is_segment_end rest ≡ true) → BeginsWithDots behind
-dots_to behind dots rest joined (inl one) end = (rest, joined ∙ ap (λ x. x ++ rest) one, inl (ends_from_cases rest end))
-dots_to behind dots rest joined (inr two) end =
-    (dot ∷ rest, joined ∙ ap (λ x. x ++ rest) two, inr (rest, refl, ends_from_cases rest end))
+-- a dot segment begins with a dot
+dots_to : (dots rest : List ℕ) → (dots ≡ codes ".") ⊎ (dots ≡ codes "..") → (rest ≡ []) ⊎ (begins_by is_segment_end rest ≡ true) → (behind : List ℕ) × (dots ++ rest ≡ dot ∷ behind) × ((ends_segment behind ≡ true) ⊎ EndsSecondDot behind)
+dots_to dots rest (inl one) end = (rest, ap (λ x. x ++ rest) one, inl (ends_from_cases rest end))
+dots_to dots rest (inr two) end = (dot ∷ rest, ap (λ x. x ++ rest) two, inr (rest, refl, ends_from_cases rest end))
 
 -- a dot segment of what stands behind a front is one of the whole
-dots_behind : (front behind : List ℕ) → HasDotSegment behind → HasDotSegment (front ++ slash ∷ behind)
+dots_behind : (front behind : List ℕ) → HasDotSegment behind → HasDotSegment (front ++ dot ∷ behind)
 dots_behind front behind h = record {
-  front = front ++ slash ∷ h.front;
+  front = front ++ dot ∷ h.front;
   dots = h.dots;
   behind = h.behind;
-  joined = ap (λ x. front ++ slash ∷ x) h.joined ∙ sym (append_assoc front (slash ∷ h.front) (slash ∷ (h.dots ++ h.behind)));
+  joined = ap (λ x. front ++ dot ∷ x) h.joined ∙ sym (append_assoc front (dot ∷ h.front) (slash ∷ (h.dots ++ h.behind)));
   segment = h.segment;
   end = h.end;
 }
 
--- a text without a `/` has no dot segment
-pub no_segment : (t : List ℕ) → FreeOf slash t → ¬ HasDotSegment t
-no_segment t free h = not_free slash h.front (h.dots ++ h.behind) (subst (λ x. FreeOf slash x) h.joined free)
+-- a text without a `.` has no dot segment
+pub no_segment : (t : List ℕ) → FreeOf dot t → ¬ HasDotSegment t
+no_segment t free h =
+    let (behind, joined, ends) = dots_to h.dots h.behind h.segment h.end in
+    not_free dot (h.front ++ slash ∷ []) behind (subst (λ x. FreeOf dot x) (h.joined ∙ ap (λ x. h.front ++ slash ∷ x) joined ∙ sym (append_assoc h.front (slash ∷ []) (dot ∷ behind))) free)
 
--- behind the first `/` stands a dot segment, or begins
-segment_at_cut : (front behind : List ℕ) → FreeOf slash front → HasDotSegment (front ++ slash ∷ behind) → BeginsWithDots behind ⊎ HasDotSegment behind
-segment_at_cut front behind free h = elim (free_or_cut slash h.front) [
-  | inl none ↦ inl (dots_to behind h.dots h.behind (cut_unique slash front h.front behind (h.dots ++ h.behind) free none h.joined).1 h.segment h.end)
+-- at the first `.` a dot segment begins, or one stands behind it
+segment_at_cut : (front behind : List ℕ) → FreeOf dot front → HasDotSegment (front ++ dot ∷ behind) → IsDotSegment front behind ⊎ HasDotSegment behind
+segment_at_cut front behind free h = elim (free_or_cut dot h.front) [
+  | inl none ↦
+      let (rest, dots, ends) = dots_to h.dots h.behind h.segment h.end in
+      let whole = h.joined ∙ ap (λ x. h.front ++ slash ∷ x) dots ∙ sym (append_assoc h.front (slash ∷ []) (dot ∷ rest)) in
+      let same = cut_unique dot front (h.front ++ slash ∷ []) behind rest free (free-append dot h.front (slash ∷ []) none refl) whole in
+      inl (h.front, same.0, subst (λ x. (ends_segment x ≡ true) ⊎ EndsSecondDot x) (sym same.1) ends)
   | inr (x, y, none, cut) ↦
-      let whole = h.joined ∙ ap (λ z. z ++ slash ∷ (h.dots ++ h.behind)) cut ∙ append_assoc x (slash ∷ y) (slash ∷ (h.dots ++ h.behind)) in
-      inr (record { front = y; dots = h.dots; behind = h.behind; joined = (cut_unique slash front x behind (y ++ slash ∷ (h.dots ++ h.behind)) free none whole).1; segment = h.segment; end = h.end })
+      let whole = h.joined ∙ ap (λ z. z ++ slash ∷ (h.dots ++ h.behind)) cut ∙ append_assoc x (dot ∷ y) (slash ∷ (h.dots ++ h.behind)) in
+      inr (record { front = y; dots = h.dots; behind = h.behind; joined = (cut_unique dot front x behind (y ++ slash ∷ (h.dots ++ h.behind)) free none whole).1; segment = h.segment; end = h.end })
 ]
 
--- so a text with a `/` has one exactly where it begins behind the first `/`, or stands there
-pub segment_cut : (t front behind : List ℕ) → FreeOf slash front → t ≡ front ++ slash ∷ behind → (BeginsWithDots behind ⊎ HasDotSegment behind) ↔ HasDotSegment t
+-- so a text with a `.` has one exactly where it begins at the first `.`, or stands behind that
+pub segment_cut : (t front behind : List ℕ) → FreeOf dot front → t ≡ front ++ dot ∷ behind → (IsDotSegment front behind ⊎ HasDotSegment behind) ↔ HasDotSegment t
 segment_cut t front behind free joined = (
-  λ either. subst HasDotSegment (sym joined) (⊎_elim (λ dots. dots_from front behind dots) (λ later. dots_behind front behind later) either),
+  λ either. subst HasDotSegment (sym joined) (⊎_elim
+    (λ here. subst HasDotSegment (sym (append_assoc here.0 (slash ∷ []) (dot ∷ behind)) ∙ ap (λ x. x ++ dot ∷ behind) (sym here.1)) (dots_from here.0 behind here.2))
+    (λ later. dots_behind front behind later) either),
   λ has. segment_at_cut front behind free (subst HasDotSegment joined has),
 )
 

@@ -3,8 +3,8 @@ use Rattle.std.proofs.Common.{◌↔◌, length}
 use Rattle.git_location.specs.WebClass.{HasDotSegment}
 use Rattle.git_location.proofs.git.web.has_dot_segment.Given as goal
 
-abbrev pub invariant-loop-behind : goal.invariant-loop-behind
-invariant-loop-behind l = HasDotSegment l.rest ↔ HasDotSegment l.path
+abbrev pub invariant-loop-front : goal.invariant-loop-front
+invariant-loop-front l = HasDotSegment l.rest ↔ HasDotSegment l.path
 
-abbrev pub decreases-loop-behind : goal.decreases-loop-behind
-decreases-loop-behind l = length l.rest
+abbrev pub decreases-loop-front : goal.decreases-loop-front
+decreases-loop-front l = length l.rest
