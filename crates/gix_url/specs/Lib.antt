@@ -52,6 +52,7 @@ pub use Rattle.git_location.specs.SettledParts
 pub use Rattle.git_location.specs.WebParts
 pub use Rattle.git_lines.specs.Answers
 pub use Rattle.git_laws.specs.Git
+pub use Rattle.git_laws.specs.GitWeb
 pub use Rattle.git_laws.specs.GitClass
 pub use Rattle.git_laws.specs.Components
 pub use Rattle.git_laws.specs.ComponentEquality
