@@ -94,8 +94,8 @@ segment_at_cut front behind free h = elim (free_or_cut dot h.front) [
 pub segment_cut : (t front behind : List ℕ) → FreeOf dot front → t ≡ front ++ dot ∷ behind → (IsDotSegment front behind ⊎ HasDotSegment behind) ↔ HasDotSegment t
 segment_cut t front behind free joined = (
   λ either. subst HasDotSegment (sym joined) (⊎_elim
-    (λ here. subst HasDotSegment (sym (append_assoc here.0 (slash ∷ []) (dot ∷ behind)) ∙ ap (λ x. x ++ dot ∷ behind) (sym here.1)) (dots_from here.0 behind here.2))
-    (λ later. dots_behind front behind later) either),
+      (λ here. subst HasDotSegment (sym (append_assoc here.0 (slash ∷ []) (dot ∷ behind)) ∙ ap (λ x. x ++ dot ∷ behind) (sym here.1)) (dots_from here.0 behind here.2))
+      (λ later. dots_behind front behind later) either),
   λ has. segment_at_cut front behind free (subst HasDotSegment joined has),
 )
 
