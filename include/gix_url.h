@@ -147,10 +147,20 @@ gix_url_error gix_url_is_settled(const gix_url *url, bool *settled);
 /* Whether Git reads this very place in the text that gix_url_write puts: the same protocol, user, host, port and path. Of
  * another text that was read as the location it says nothing: of ssh://@h/p, which is written as ssh://h/p, the answer is
  * yes, and Git would give Secure Shell the word @h, which it refuses. What Git reads is a definition. No proof says that
- * Git keeps to it: a second reading of it was compared with git 2.39.5 on Linux. The answer is no for what Git hands to a
- * remote helper, HTTP among it, for an empty user of Secure Shell, for a local path that begins with ~, for what isn't
- * settled, and for some texts that Git reads alike, among them those with brackets or an escape; docs/GIT.md has the
- * cases. */
+ * Git keeps to it: a second reading of it was compared with git 2.39.5 on Linux.
+ *
+ * Git hands a text of HTTP to curl, and asks its credential code for a password. Of such a location, yes says that in the
+ * text this code reads the location's own scheme, user, password, host with port, and path, and that the text is a URI of
+ * RFC 3986 in the normal form, whose components are the location's own. Such a location is settled. Its host is a name of
+ * lower-case letters, digits, -, . and _ whose last label begins with a letter, an IPv4 address, or an IPv6 address in
+ * brackets. Neither user, password nor path has a control character, and the user has no colon. The path begins with one
+ * slash, and has no #, no ? at its end and no segment . or .., not in the query either; it is written in the bytes that a
+ * path and a query of a URI have. Neither what is written for the password nor what is written for the path holds both a
+ * colon and an escape.
+ *
+ * The answer is no for what Git hands to another remote helper, for an empty user of Secure Shell, for a local path that
+ * begins with ~, for what isn't settled, and for some texts that Git reads alike: but for HTTP, among them those with
+ * brackets or an escape; docs/GIT.md has the cases. */
 gix_url_error gix_url_agrees_with_git(const gix_url *url, bool *agrees);
 
 /* Puts the text of the location into the room, and stores its length, on GIX_URL_NO_ROOM too: SIZE_MAX where that is

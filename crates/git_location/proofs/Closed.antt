@@ -1,2 +1,3 @@
 -- What is read is settled but for corners, and has a text; of four kinds nothing else comes back; the class by its parts.
 pub mod SettledLemmas
+pub mod WebClassLemmas

@@ -16,3 +16,4 @@ pub mod Pieces
 pub mod Sinks
 pub mod Fills
 pub mod SettledParts
+pub mod WebParts

@@ -1,15 +1,17 @@
 //! Locations in whose texts Git reads the same place.
 //!
-//! It uses the settled test, the tests of bytes and the pieces of the writer, and takes no memory. Its contract: the
-//! answer is yes exactly for the class of the definitions, and in the text of each location of that class Git reads the
-//! location's own protocol, user, host, port and path (`law_git`).
+//! It uses the settled test, the tests of bytes and the pieces of the writer, and takes no memory. Inside: `web` decides
+//! the class of HTTP. Its contract: the answer is yes exactly for the class of the definitions, and in the text of each
+//! location of that class Git reads the location's own protocol, user, host, port and path (`law_git`).
 
 ghost use Rattle.std.specs.Prelude.{◌≡◌, ◌↔◌, IsTrue, IfSome, None, Some, false, option_map};
 ghost use Rattle.std.specs.List.{list_any};
 ghost use Rattle.git_location.specs.Arguments.{is_option_like};
-ghost use Rattle.git_location.specs.GitClass.{AgreesWithGit, HasNoOption, HasPlainText, IsRsync, SuitsTransport, is_contested, is_tilde_second};
+ghost use Rattle.git_location.specs.GitClass.{AgreesByTransport, AgreesWithGit, HasNoOption, HasPlainText, IsRsync, SuitsTransport, is_contested, is_tilde_second};
 ghost use Rattle.git_location.specs.Pieces.{pieces_text};
 ghost use Rattle.git_location.specs.Sinks.{Notes, notes_joined, notes_nothing};
+
+mod web;
 
 use crate::url_ref::UrlRef;
 use crate::writer::piece::Pieces;
@@ -18,6 +20,7 @@ use git_syntax::bytes::starts_with_byte;
 use git_syntax::scheme::SchemeRef;
 use itoa::Buffer;
 use std::convert::Infallible;
+use web::agrees_over_web;
 
 impl UrlRef<'_> {
     /// Whether Git reads this very place in the text of the location, as [`Url::agrees_with_git`] tells. It takes no
@@ -36,13 +39,28 @@ impl UrlRef<'_> {
     pub fn agrees_with_git(&self) -> bool
         ensures { IsTrue result ↔ AgreesWithGit self.now }
     {
-        // The scheme comes first: for some of them it is the whole answer.
-        suits_transport(self)
-            && self.password.is_none()
-            && has_no_option(self)
-            && self.is_settled()
-            && has_plain_text(self)
+        match self.scheme {
+            SchemeRef::Http | SchemeRef::Https => agrees_over_web(self),
+            SchemeRef::File
+            | SchemeRef::Git
+            | SchemeRef::Ssh
+            | SchemeRef::Ext
+            | SchemeRef::Helper(_)
+            | SchemeRef::HelperUrl(_) => agrees_by_transport(self),
+        }
     }
+}
+
+/// Whether the location is one of Git's own transports, and of their class.
+fn agrees_by_transport(url: &UrlRef<'_>) -> bool
+    ensures { IsTrue result ↔ AgreesByTransport url.now }
+{
+    // The scheme comes first: for some of them it is the whole answer.
+    suits_transport(url)
+        && url.password.is_none()
+        && has_no_option(url)
+        && url.is_settled()
+        && has_plain_text(url)
 }
 
 /// Whether neither user nor host nor path begins with `-`.

@@ -9,10 +9,10 @@ ghost use Rattle.git_syntax.specs.Value.Protocol.{helper};
 ghost use Rattle.git_location.specs.Pieces.{AreOwn};
 ghost use Rattle.git_location.specs.Settled.{IsSettled, IsSettledBy, IsValue};
 
-mod host;
+pub(crate) mod host;
 mod local;
 mod measure;
-mod parts;
+pub(crate) mod parts;
 mod scp;
 mod url;
 

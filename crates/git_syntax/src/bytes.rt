@@ -22,7 +22,7 @@ pub fn cut(bytes: &[u8], c: u8) -> Option<(&[u8], &[u8])>
 }
 
 /// What stands before and behind the last `c`.
-pub(crate) fn last_cut(bytes: &[u8], c: u8) -> Option<(&[u8], &[u8])>
+pub fn last_cut(bytes: &[u8], c: u8) -> Option<(&[u8], &[u8])>
     ensures { CutsAtLast c bytes.now result }
 {
     let at = bytes.rfind_byte(c)?;

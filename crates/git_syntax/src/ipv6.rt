@@ -1,12 +1,12 @@
-//! IPv6 texts, as a host of a location may be one.
+//! IPv6 and IPv4 texts, as a host of a location may be one.
 //!
-//! Stands on std's reader of addresses alone and takes no memory. Offers one test, over bytes inside the crate and
-//! over text to its users, which is true exactly for an IPv6 text.
+//! Stands on std's readers of addresses alone and takes no memory. Its tests are true exactly for an IPv6 text, of bytes
+//! or of text, and for an IPv4 text.
 
-ghost use Rattle.git_syntax.specs.Addresses.{IsIpv6Text};
+ghost use Rattle.git_syntax.specs.Addresses.{IsIpv4Text, IsIpv6Text};
 ghost use Rattle.std.specs.Prelude.{IsTrue, ◌↔◌};
 
-use std::net::Ipv6Addr;
+use std::net::{Ipv4Addr, Ipv6Addr};
 
 /// Whether the text is eight groups of one to four hexadecimal digits joined by `:`, where one `::` may stand for one
 /// or more groups that are zero, and an IPv4 text for the last two (RFC 4291, section 2.2). Brackets and zones are no part
@@ -29,4 +29,12 @@ pub fn is_address(text: &[u8]) -> bool
     ensures { IsTrue result ↔ IsIpv6Text text.now }
 {
     Ipv6Addr::parse_ascii(text).is_ok()
+}
+
+/// Whether the text is four numbers from 0 to 255 in decimal, without leading zeros, joined by `.`.
+#[tactic(auto, using(crate::proofs::Addresses::AddressReader::reads_dotted))]
+pub fn is_dotted(text: &[u8]) -> bool
+    ensures { IsTrue result ↔ IsIpv4Text text.now }
+{
+    Ipv4Addr::parse_ascii(text).is_ok()
 }

@@ -42,12 +42,14 @@ pub use Rattle.git_location.specs.Settled
 pub use Rattle.git_location.specs.Display
 pub use Rattle.git_location.specs.Words
 pub use Rattle.git_location.specs.Arguments
+pub use Rattle.git_location.specs.WebClass
 pub use Rattle.git_location.specs.UrlRef
 pub use Rattle.git_location.specs.KeptBytes
 pub use Rattle.git_location.specs.Pieces
 pub use Rattle.git_location.specs.Sinks
 pub use Rattle.git_location.specs.Fills
 pub use Rattle.git_location.specs.SettledParts
+pub use Rattle.git_location.specs.WebParts
 pub use Rattle.git_lines.specs.Answers
 pub use Rattle.git_laws.specs.Git
 pub use Rattle.git_laws.specs.GitClass

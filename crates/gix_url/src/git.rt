@@ -16,10 +16,22 @@ impl Url {
     /// it refuses. What Git reads is a definition, `GitReads`. No proof says that Git keeps to it: a second reading of it
     /// was compared with git 2.39.5 on Linux, text by text. `docs/GIT.md` has the cases.
     ///
-    /// The answer is no for what Git hands to a remote helper, HTTP among it, for an empty user of Secure Shell (`@h:p`),
-    /// for a local path that begins with `~`, where `git fetch` and `git push` open a home folder's path and `git clone` this
-    /// one, and for what comes from an unsettled location. It is no for some texts that Git reads alike, too: with `%` or
-    /// brackets, those of an address among them; with a host that begins with `-`, of `git://` or behind a user
+    /// Git hands a text of HTTP to curl, and asks its credential code for a password. Of such a location, yes says that in
+    /// the text this code reads the location's own scheme, user, password, host with port, and path, and that the text is a
+    /// URI of RFC 3986 in the normal form, whose components are the location's own (`ReadsOwnOverWeb`). Such a location is
+    /// settled, and
+    ///
+    /// - its host is a name of lower-case letters, digits, `-`, `.` and `_` whose last label begins with a letter, an IPv4
+    ///   address, or an IPv6 address in brackets;
+    /// - neither user, password nor path has a control character, and the user has no `:`;
+    /// - the path begins with one `/`, and has no `#`, no `?` at its end and no segment `.` or `..`, not in the query either;
+    ///   it is written in the bytes that a path and a query of a URI have;
+    /// - neither what is written for the password nor what is written for the path holds both a `:` and an escape.
+    ///
+    /// The answer is no for what Git hands to another remote helper, for an empty user of Secure Shell (`@h:p`), for a local
+    /// path that begins with `~`, where `git fetch` and `git push` open a home folder's path and `git clone` this one, and
+    /// for what comes from an unsettled location. It is no for some texts that Git reads alike, too: but for HTTP, with `%`
+    /// or brackets, those of an address among them; with a host that begins with `-`, of `git://` or behind a user
     /// (`u@-h:p`); and with a `~` behind the one that begins the path (`ssh://h/~~a`).
     ///
     /// ```

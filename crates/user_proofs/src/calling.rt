@@ -5,8 +5,7 @@ ghost use Rattle.bstr.specs.BStr.{bstr_bytes};
 ghost use Rattle.bstr.specs.Owned.{bstring_bytes};
 ghost use Rattle.gix_url.specs.declared.error.Error.TheVariants as error;
 ghost use Rattle.gix_url.specs.Arguments.{is_option_like};
-ghost use Rattle.gix_url.specs.Git.{GitReads};
-ghost use Rattle.gix_url.specs.GitClass.{own_reading};
+ghost use Rattle.gix_url.specs.GitClass.{ReadsOwn};
 ghost use Rattle.gix_url.specs.Grammar.{Spells};
 ghost use Rattle.gix_url.specs.Readings.{IsAgain, Refuses};
 ghost use Rattle.gix_url.specs.Settled.{IsSettled};
@@ -93,9 +92,10 @@ fn read_back(alloc: Global, url: &Url) -> Result<Option<Url>, Error>
     Ok(Some(back))
 }
 
-/// The text of a location for Git, if Git reads in it the location's own protocol, user, host, port and path.
+/// The text of a location for Git, if Git reads the location's own parts in it: of HTTP, its credential code and a reader of
+/// URIs.
 fn text_for_git(alloc: Global, url: &Url) -> Result<Option<BString>, Error>
-    ensures { IfOk result (λ new. IfSome new (λ t. GitReads (bstring_bytes t) (own_reading url.now))) }
+    ensures { IfOk result (λ new. IfSome new (λ t. ReadsOwn (bstring_bytes t) url.now)) }
 {
     if !url.agrees_with_git() {
         return Ok(None);
@@ -204,11 +204,12 @@ fn remotes_by_their_texts(rt: HostRuntime) -> Result<(), Fail> {
 }
 
 /// Texts, and the text for Git of each, if Git reads it alike.
-static FOR_GIT: [(&str, Option<&str>); 4] = [
+static FOR_GIT: [(&str, Option<&str>); 5] = [
     ("ssh+git://u@H:022/p", Some("ssh://u@h:22/p")),
     ("ssh://u:p@h/p", None),
     ("git://u@h/p", None),
-    ("https://h/p", None),
+    ("https://u:p@H:0443/p", Some("https://u:p@h:443/p")),
+    ("https://127.1/p", None),
 ];
 
 /// Checks the text for Git of a text.

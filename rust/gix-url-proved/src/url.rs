@@ -243,8 +243,20 @@ impl Url {
     /// which it refuses. What Git reads is a definition. No proof says that Git keeps to it: a second reading of it was
     /// compared with git 2.39.5 on Linux.
     ///
-    /// The answer is no for what Git hands to a remote helper, HTTP among it, for an empty user of Secure Shell, for a local
-    /// path that begins with `~`, and for what isn't settled. It is no for some texts that Git reads alike, among them those with brackets or an escape.
+    /// Git hands a text of HTTP to curl, and asks its credential code for a password. Of such a location, yes says that in
+    /// the text this code reads the location's own scheme, user, password, host with port, and path, and that the text is a
+    /// URI of RFC 3986 in the normal form, whose components are the location's own. Such a location is settled, and
+    ///
+    /// - its host is a name of lower-case letters, digits, `-`, `.` and `_` whose last label begins with a letter, an IPv4
+    ///   address, or an IPv6 address in brackets;
+    /// - neither user, password nor path has a control character, and the user has no `:`;
+    /// - the path begins with one `/`, and has no `#`, no `?` at its end and no segment `.` or `..`, not in the query either;
+    ///   it is written in the bytes that a path and a query of a URI have;
+    /// - neither what is written for the password nor what is written for the path holds both a `:` and an escape.
+    ///
+    /// The answer is no for what Git hands to another remote helper, for an empty user of Secure Shell, for a local path
+    /// that begins with `~`, and for what isn't settled. It is no for some texts that Git reads alike: but for HTTP, among
+    /// them those with brackets or an escape.
     ///
     /// ```
     /// use gix_url_proved::{parse, Url};
@@ -256,6 +268,7 @@ impl Url {
     ///
     /// assert_eq!(for_git(&parse(b"ssh://@h/p")?), Some(b"ssh://h/p".to_vec()));
     /// assert_eq!(for_git(&parse(b"ssh://u:p@h/p")?), None); // Git reads the user `u:p`
+    /// assert_eq!(for_git(&parse(b"https://127.1/p")?), None); // curl takes the host for a number
     /// # Ok::<(), parse::Error>(())
     /// ```
     pub fn agrees_with_git(&self) -> bool {

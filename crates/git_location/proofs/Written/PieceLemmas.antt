@@ -20,7 +20,7 @@ use Rattle.git_syntax.proofs.Texts.EscapeLemmas.{escaped_percents-append, escape
 -- ---- lengths
 
 -- the count over a list is that of its first element and that of the others
-counted : (p : ℕ → Bool) (b : ℕ) (bs : List ℕ) (n : ℕ) → cond (p b) 1 0 ≡ n → count_by p (b ∷ bs) ≡ n + count_by p bs
+pub counted : (p : ℕ → Bool) (b : ℕ) (bs : List ℕ) (n : ℕ) → cond (p b) 1 0 ≡ n → count_by p (b ∷ bs) ≡ n + count_by p bs
 counted p b bs n h = sum_by-cons (λ x. cond (p x) 1 0) b bs ∙ ap (λ m. m + count_by p bs) h
 
 -- the escape of a byte has three bytes

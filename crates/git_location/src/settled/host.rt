@@ -86,7 +86,7 @@ pub(crate) fn is_bracketed_host(host: &[u8]) -> bool
 }
 
 /// Whether the text is brackets around an IPv6 text in lower case.
-fn is_bracketed_address(host: &[u8]) -> bool
+pub(crate) fn is_bracketed_address(host: &[u8]) -> bool
     ensures { IsTrue result ↔ IsBracketedAddress host.now }
 {
     match in_brackets(host) {

@@ -340,7 +340,7 @@ fn escaped_len(text: &[u8], set: AsciiSet) -> u128
 }
 
 /// How many bytes of the text are written as escapes.
-fn count_escaped(text: &[u8], set: AsciiSet) -> usize
+pub(crate) fn count_escaped(text: &[u8], set: AsciiSet) -> usize
     ensures { result ≡ count_by (should_percent_encode set) text.now }
 {
     text.iter()

@@ -5,10 +5,11 @@ use Rattle.std.proofs.lemmas.Bool.Decides.{nat_tests}
 use Rattle.std.specs.List.{join_with_byte}
 use Rattle.std.specs.Char.{digit_value}
 use Rattle.std.specs.Str.Parse.{digits_value}
-use Rattle.std.specs.Net.Addr.{segments_of}
+use Rattle.std.specs.Net.Addr.{segments_of, ipv4_octets}
 use Rattle.std.specs.Net.Grammar as std
 use Rattle.std.specs.Net.Text.{dotted_text}
 use Rattle.std.specs.Result.{is_ok}
+use Rattle.std.specs.declared.net.ipv4_addr.Ipv4Addr.{Ipv4Addr}
 use Rattle.std.specs.declared.net.ipv6_addr.Ipv6Addr.{Ipv6Addr}
 use Rattle.git_syntax.specs.Bytes.{colon, dot, is_hexadecimal}
 use Rattle.git_syntax.specs.Addresses.{IsGroup, IsIpv4Text, AreItems, IsIpv6Text}
@@ -168,3 +169,8 @@ pub reads_addresses : {E : Type 0} (t : List ℕ) (r : Result Ipv6Addr E) → st
 reads_addresses t (Ok a) written = (λ _. address_read t a.segments written, λ _. refl)
 reads_addresses t (Err e) none =
     (λ wrong. absurd (false≢true wrong), λ h. let (s, written) = address_written t h in absurd (none (record { segments = s }) written))
+
+-- and an address of IPv4 exactly where there is an IPv4 text
+pub reads_dotted : {E : Type 0} (t : List ℕ) (r : Result Ipv4Addr E) → std.Parses std.IsIpv4Text t r → IsTrue (is_ok r) ↔ IsIpv4Text t
+reads_dotted t (Ok a) written = (λ _. dotted_read t (ipv4_octets a) written, λ _. refl)
+reads_dotted t (Err e) none = (λ wrong. absurd (false≢true wrong), λ h. absurd (none (record { octets = h.octets.0.0 ∷ h.octets.1.0 ∷ h.octets.2.0 ∷ h.octets.3.0 ∷ [] }) (dotted_written t h)))

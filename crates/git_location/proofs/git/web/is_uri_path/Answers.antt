@@ -1,0 +1,22 @@
+-- A path without a spelling is written as a URI by its bytes.
+use Rattle.std.proofs.Common.{sym, ◌∙◌}
+use Rattle.std.proofs.lemmas.Bool.{both_ways, not-true}
+use Rattle.git_location.proofs.Closed.SettledLemmas.{second_decides}
+use Rattle.git_location.proofs.Closed.WebClassLemmas.{simple_uri_path, uri_path_by_bytes}
+use Rattle.git_location.proofs.git.web.is_uri_path.Goals as goal
+
+pub returns-then-is_simple_path : goal.returns-then-is_simple_path
+returns-then-is_simple_path c = (
+  λ yes. simple_uri_path c.args.path.now (sym c.is_simple_path.ensures ∙ c.if-is_simple_path.true),
+  λ path. c.if-is_simple_path.true,
+)
+
+pub returns-then-not-has_stray : goal.returns-then-not-has_stray
+returns-then-not-has_stray c =
+    second_decides c.is_written_whole.result (sym c.has_stray.ensures ∙ c.if-not-has_stray.true) c.is_written_whole.ensures (uri_path_by_bytes c.args.path.now)
+
+pub returns-else-not-has_stray : goal.returns-else-not-has_stray
+returns-else-not-has_stray c = (
+  λ yes. absurd (both_ways _ (not-true _ yes) c.if-not-has_stray.false),
+  λ path. absurd (both_ways _ (c.has_stray.ensures ∙ ((uri_path_by_bytes c.args.path.now).1 path).0) c.if-not-has_stray.false),
+)
