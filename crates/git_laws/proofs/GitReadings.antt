@@ -2,7 +2,10 @@
 pub mod GitCutLemmas
 pub mod GitPieceLemmas
 pub mod GitTransportLemmas
+pub mod WebTextLemmas
+pub mod WebCredentialLemmas
+pub mod WebUriLemmas
 pub mod GitLemmas
 pub mod GitUniqueLemmas
-pub mod WebUriLemmas
+pub mod WebCredentialUniqueLemmas
 pub mod WebUriUniqueLemmas

@@ -10,6 +10,7 @@ ghost use Rattle.git_laws.specs.AnswerLaws.{LineForLine, OneLine, OneSplit};
 ghost use Rattle.git_laws.specs.ComponentLaws.{EqualComponents, OneComponents};
 ghost use Rattle.git_laws.specs.Git.{OneGitReading};
 ghost use Rattle.git_laws.specs.GitClass.{ReadAlike};
+ghost use Rattle.git_laws.specs.GitWeb.{OneCredentialReading, OneUriReading};
 ghost use Rattle.git_laws.specs.Laws.{Apart, Closed, EqualIsSame, Exact, ExactByFields, FedAlike, KeepsEarlier, LocationsFedApart, ProtocolsFedApart, ReadAgain, SameComponents, SettledAgain, SpellingLast, TextDecides, TiedIsEqual, Unchanged, Unique, Writable};
 ghost use Rattle.git_laws.specs.Order.{fed_location, fed_protocol, location_cmp, location_eq, protocol_cmp, protocol_eq};
 ghost use Rattle.git_laws.specs.Records.{KeepsMeaning, MigratedOnce, Migrates, RespelledOnce};
@@ -179,9 +180,17 @@ pub fn law_stripped()
 ///
 /// - `alike`: a location that [`Url::agrees_with_git`](gix_url::Url::agrees_with_git) accepts has a text, and Git reads in
 ///   it the location's own protocol, user, host, port and path. So where credentials are picked by the host that is
-///   read here, and the text is then handed to Git, Git reads that host.
+///   read here, and the text is then handed to Git, Git reads that host. Over HTTP two readers do: Git's credential code,
+///   which asks helpers for a password, reads the location's own protocol, user, password, host and port, and its path
+///   without the slashes around it; and a reader of URIs, which opens the connection, reads components that decode to the
+///   location's own parts, without a fragment, and finds nothing to change in them. So a helper is asked for the host that
+///   is connected to.
 /// - `one`: Git reads one thing in a text, whatever the text is. So it reads nothing else in that one.
+/// - `one_credential`: so it is with its credential code, whatever the text is.
+/// - `one_uri`: so it is with a reader of URIs.
 pub fn law_git()
     ensures alike { ReadAlike }
     ensures one { OneGitReading }
+    ensures one_credential { OneCredentialReading }
+    ensures one_uri { OneUriReading }
 {}

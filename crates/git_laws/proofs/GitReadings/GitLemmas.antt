@@ -1,16 +1,18 @@
 -- Git reads the same place: in the text of each location of the class it reads the location's own parts.
 use Rattle.std.proofs.Common.{◌≡◌, ◌∙◌, ℕ, ◌<◌, false, ◌⊎◌, inl, inr, List, [], ◌∷◌, ◌++◌, length, Option, Some, None, Ok, IfSome, IsUtf8, codes, refl, sym, ap, subst, arith, append_assoc}
 use Rattle.git_syntax.specs.Value.{Protocol, Location}
-use Rattle.git_syntax.specs.Value.Protocol.{file, git, ssh}
+use Rattle.git_syntax.specs.Value.Protocol.{file, git, http, https, ssh}
 use Rattle.git_syntax.specs.Bytes.{slash, colon, at_sign, left_bracket, tilde, FreeOf, begins_with}
 use Rattle.git_syntax.specs.Grammar.{ScpFront, IsNeither, IsScpShaped}
 use Rattle.git_location.specs.Arguments.{is_option_like}
-use Rattle.git_location.specs.Text.{raw_user, raw_host, text}
-use Rattle.git_location.specs.Settled.{IsValue, IsNormalAddress, IsScpName, IsSettledLocal, IsSettledFile, IsSettledScp, IsSettledBy, LooksLikeHelper}
+use Rattle.git_location.specs.Text.{raw_user, raw_host, canonical_text, text}
+use Rattle.git_location.specs.Settled.{IsValue, IsWeb, IsNormalAddress, IsScpName, IsSettledLocal, IsSettledFile, IsSettledScp, IsSettledBy, LooksLikeHelper}
 use Rattle.std.proofs.lemmas.Option.{IfSome_then}
 use Rattle.git_laws.specs.Git.{HostAndPort, on_this_machine, IsNoUrl, IsLocal, ReachesSecure, ReadsGiven}
-use Rattle.git_location.specs.GitClass.{is_tilde_second, IsRsync, SuitsTransport, AgreesWithGit}
-use Rattle.git_laws.specs.GitClass.{own_reading, IsReadAlike, ReadAlike}
+use Rattle.git_location.specs.GitClass.{is_tilde_second, IsRsync, SuitsTransport, AgreesByTransport, AgreesBy}
+use Rattle.git_location.specs.WebClass.{AgreesOverWeb}
+use Rattle.git_laws.specs.GitWeb.{ReadsOwnOverWeb}
+use Rattle.git_laws.specs.GitClass.{own_reading, ReadsOwnBy, ReadAlike}
 use Rattle.git_syntax.proofs.Texts.CutLemmas.{begins_cut, cut_unique, free-append, free_or_cut, free_parts, not_free}
 use Rattle.git_syntax.proofs.Addresses.AddressLemmas.{address_two_colons}
 use Rattle.git_laws.proofs.Written.FileLemmas.{hostless_text}
@@ -18,7 +20,11 @@ use Rattle.git_laws.proofs.Written.KeptLemmas.{flagged_text}
 use Rattle.git_laws.proofs.Written.WrittenScpLemmas.{scp_value_of, scp_written, scp_spelled}
 use Rattle.git_laws.proofs.GitReadings.GitCutLemmas.{lacks_brackets, nothing_passed, place_cut, portless_free}
 use Rattle.git_laws.proofs.GitReadings.GitPieceLemmas.{from_tilde_kept, scp_host_raw}
-use Rattle.git_laws.proofs.GitReadings.GitTransportLemmas.{IsUncontested, plain_text, read_alike, secure_reading, word_of, secure_reached, host_safe, own_url, behind_plain, secure_url_alike, git_url_alike}
+use Rattle.git_laws.proofs.GitReadings.GitTransportLemmas.{IsUncontested, IsReadBy, plain_text, own_read, secure_reading, word_of, secure_reached, host_safe, own_url, behind_plain, secure_url_alike, git_url_alike}
+use Rattle.git_laws.proofs.GitReadings.WebCredentialLemmas.{credential_own}
+use Rattle.git_laws.proofs.GitReadings.WebTextLemmas.{web_text}
+use Rattle.git_laws.proofs.GitReadings.WebUriLemmas.{uri_own}
+use Rattle.git_location.proofs.Written.WrittenAsUrlLemmas.{one_text}
 use Rattle.git_syntax.proofs.Readings.FormLemmas.{scp_neither}
 
 -- ---- this machine
@@ -33,13 +39,13 @@ file_url_reads path rest e plain =
     ReadsGiven.file_url path [] rest (own_url file (codes "file") path refl plain.percent) (place_cut slash path [] rest plain.left refl e) (ap on_this_machine e)
 
 -- a settled file URL without a host
-file_url_alike : (v : Location) → v.scheme ≡ file → AgreesWithGit v → v.host ≡ None → IsSettledFile v → IsReadAlike v
+file_url_alike : (v : Location) → v.scheme ≡ file → AgreesByTransport v → v.host ≡ None → IsSettledFile v → IsReadBy file v
 file_url_alike v e a none h =
     let (rest, rooted) = begins_cut slash v.path h.rooted in
     let (t, has, lacks) = a.plain in
     let written = hostless_text v e h none in
     let plain = behind_plain v (codes "file") v.path (plain_text v t (codes "file://" ++ v.path) has lacks written) in
-    read_alike v (codes "file://" ++ v.path) (on_this_machine v.path) (machine_reading v e h.alone.0 none h.alone.2) written a refl (file_url_reads v.path rest rooted plain)
+    own_read v (codes "file://" ++ v.path) (on_this_machine v.path) (machine_reading v e h.alone.0 none h.alone.2) written a refl (file_url_reads v.path rest rooted plain)
 
 -- without brackets a colon before any `/` would make it the scp form
 unshaped : (t front rest : List ℕ) → IsUncontested t → IsNeither t → ¬ IsScpShaped t → FreeOf colon front → t ≡ front ++ colon ∷ rest → ¬ FreeOf slash front
@@ -69,12 +75,12 @@ local_no_url t plain neither no_scp = record {
 }
 
 -- a settled local path
-local_alike : (v : Location) → v.scheme ≡ file → AgreesWithGit v → begins_with tilde v.path ≡ false → IsSettledLocal v → IsReadAlike v
+local_alike : (v : Location) → v.scheme ≡ file → AgreesByTransport v → begins_with tilde v.path ≡ false → IsSettledLocal v → IsReadBy file v
 local_alike v e a homeless h =
     let (t, has, lacks) = a.plain in
     let written : text v ≡ Ok v.path = flagged_text v e h in
     let plain = plain_text v t v.path has lacks written in
-    read_alike v v.path (on_this_machine v.path) (machine_reading v e h.bare.1.0 h.bare.2 h.bare.1.2) written a a.no_option.path (ReadsGiven.local_path [] v.path (local_no_url v.path plain h.shape.neither h.shape.no_scp) (local_text v.path plain h.shape.neither h.shape.no_scp) (nothing_passed v.path plain.left) h.shape.nonempty a.no_option.path homeless refl)
+    own_read v v.path (on_this_machine v.path) (machine_reading v e h.bare.1.0 h.bare.2 h.bare.1.2) written a a.no_option.path (ReadsGiven.local_path [] v.path (local_no_url v.path plain h.shape.neither h.shape.no_scp) (local_text v.path plain h.shape.neither h.shape.no_scp) (nothing_passed v.path plain.left) h.shape.nonempty a.no_option.path homeless refl)
 
 -- ---- the scp form
 
@@ -114,7 +120,7 @@ scp_pieces v host h there same name free neither has =
     }
 
 -- and it goes without them where the text has none
-scp_text : (v : Location) (host : List ℕ) → v.scheme ≡ ssh → IsValue v → AgreesWithGit v → IsSettledScp v → v.host ≡ Some host → IsScpName host ⊎ IsNormalAddress host → ¬ LooksLikeHelper v host → IsScpText v host
+scp_text : (v : Location) (host : List ℕ) → v.scheme ≡ ssh → IsValue v → AgreesByTransport v → IsSettledScp v → v.host ≡ Some host → IsScpName host ⊎ IsNormalAddress host → ¬ LooksLikeHelper v host → IsScpText v host
 scp_text v host e is a h there kind other =
     let whole = raw_user v.user ++ (raw_host (Some host) ++ colon ∷ v.path) in
     let (t, given, lacks) = a.plain in
@@ -150,7 +156,7 @@ scp_no_url v host h t other = record {
 }
 
 -- Git reads in it what the location holds
-scp_reads : (v : Location) (host : List ℕ) → IsSettledScp v → (t : IsScpText v host) → AgreesWithGit v → is_tilde_second v.path ≡ false → ¬ IsRsync v → ¬ (v.user ≡ Some []) → FreeOf left_bracket (word_of v.user host ++ colon ∷ v.path) → ReadsGiven (word_of v.user host ++ colon ∷ v.path) (secure_reading v.user (Some host) None v.path)
+scp_reads : (v : Location) (host : List ℕ) → IsSettledScp v → (t : IsScpText v host) → AgreesByTransport v → is_tilde_second v.path ≡ false → ¬ IsRsync v → ¬ (v.user ≡ Some []) → FreeOf left_bracket (word_of v.user host ++ colon ∷ v.path) → ReadsGiven (word_of v.user host ++ colon ∷ v.path) (secure_reading v.user (Some host) None v.path)
 scp_reads v host h t a second other named free =
     let word = word_of v.user host in
     let portless = portless_free word t.no_colon in
@@ -166,26 +172,44 @@ word_option (Some []) host path some first second = refl
 word_option (Some (b ∷ u)) host path some first second = first
 
 -- a settled location in the scp form
-scp_alike : (v : Location) → v.scheme ≡ ssh → IsValue v → AgreesWithGit v → SuitsTransport ssh v → IsSettledScp v → IsReadAlike v
+scp_alike : (v : Location) → v.scheme ≡ ssh → IsValue v → AgreesByTransport v → SuitsTransport ssh v → IsSettledScp v → IsReadBy ssh v
 scp_alike v e is a suits h =
     let (host, there, kind, other) = h.host in
     let found = scp_text v host e is a h there kind other in
     let (t, has, lacks) = a.plain in
     let free = (plain_text v t (word_of v.user host ++ colon ∷ v.path) has lacks found.written).left in
     let value : own_reading v ≡ secure_reading v.user (Some host) None v.path = λ i. record { protocol = e i; user = v.user; host = there i; port = h.no_port i; path = v.path } in
-    read_alike v (word_of v.user host ++ colon ∷ v.path) (secure_reading v.user (Some host) None v.path) value found.written a (word_option v.user host v.path found.name.normal.unbracketed.nonempty a.no_option.user (host_safe v host there a.no_option)) (scp_reads v host h found a suits.0 suits.1 suits.2 free)
+    own_read v (word_of v.user host ++ colon ∷ v.path) (secure_reading v.user (Some host) None v.path) value found.written a (word_option v.user host v.path found.name.normal.unbracketed.nonempty a.no_option.user (host_safe v host there a.no_option)) (scp_reads v host h found a suits.0 suits.1 suits.2 free)
 
 -- ---- all kinds
 
+-- of Git's own transports, by protocol
+transport_read : (p : Protocol) (v : Location) → v.scheme ≡ p → IsValue v → AgreesByTransport v → SuitsTransport p v → IsSettledBy p v → IsReadBy p v
+transport_read file v e is a suits (inl h) = local_alike v e a suits.1 h
+transport_read file v e is a suits (inr h) = file_url_alike v e a suits.0 h
+transport_read ssh v e is a suits (inl h) = scp_alike v e is a suits h
+transport_read ssh v e is a suits (inr h) = secure_url_alike v e is a suits.2 h
+transport_read git v e is a suits h = git_url_alike v e is a suits h
+transport_read _ v e is a suits h = absurd suits
+
+-- of HTTP both readers read the location's own
+web_read : (v : Location) → IsWeb v → IsValue v → AgreesOverWeb v → (t : List ℕ) × (text v ≡ Ok t) × ReadsOwnOverWeb t v
+web_read v web is a =
+    let (host, there, kind) = a.host in
+    let (uri, reads, own, normal) = uri_own v web is a host there in
+    (canonical_text v, web_text v web a, record { host = host; there = there; credential = credential_own v web is a host there; uri = uri; reads = reads; own = own; normal = normal })
+
 -- by protocol
-alike_by : (p : Protocol) (v : Location) → v.scheme ≡ p → IsValue v → AgreesWithGit v → SuitsTransport p v → IsSettledBy p v → IsReadAlike v
-alike_by file v e is a suits (inl h) = local_alike v e a suits.1 h
-alike_by file v e is a suits (inr h) = file_url_alike v e a suits.0 h
-alike_by ssh v e is a suits (inl h) = scp_alike v e is a suits h
-alike_by ssh v e is a suits (inr h) = secure_url_alike v e is a suits.2 h
-alike_by git v e is a suits h = git_url_alike v e is a suits h
-alike_by _ v e is a suits h = absurd suits
+read_by : (p : Protocol) (v : Location) → v.scheme ≡ p → IsValue v → AgreesBy p v → IsReadBy p v
+read_by http v e is a = web_read v (inl e) is a
+read_by https v e is a = web_read v (inr e) is a
+read_by p v e is a = transport_read p v e is a (subst (λ q. SuitsTransport q v) e a.suits) (subst (λ q. IsSettledBy q v) e a.settled)
 
 -- Git reads in the text of each location of the class the location's own parts
 pub read_same : ReadAlike
-read_same v is a = alike_by v.scheme v refl is a a.suits a.settled
+read_same v is a =
+    let (whole, has, own) = read_by v.scheme v refl is a in record {
+      written = whole;
+      has_text = has;
+      read = λ t written. subst (λ x. ReadsOwnBy v.scheme x v) (one_text has written) own;
+    }

@@ -11,8 +11,8 @@ use Rattle.git_location.specs.Arguments.{is_option_like}
 use Rattle.git_location.specs.Text.{raw_user, keeps_host, canonical_host, user_information, host_part, port_part, canonical_path, canonical_text, text, needs_brackets}
 use Rattle.git_location.specs.Settled.{IsValue, IsNormalName, IsBareHost, IsBracketedHost, IsTransportPath, IsSettledUrl, IsSettledSecure, IsSettledGit, IsRawPath, HasMatch}
 use Rattle.git_laws.specs.Git.{GitReading, HostAndPort, SecurePort, UserCut, ReachesSecure, ReachesGit, CutsPlace, OwnUrl, ReadsGiven, GitReads}
-use Rattle.git_location.specs.GitClass.{is_contested, HasNoOption, AgreesWithGit}
-use Rattle.git_laws.specs.GitClass.{own_reading, IsReadAlike}
+use Rattle.git_location.specs.GitClass.{is_contested, HasNoOption, AgreesByTransport}
+use Rattle.git_laws.specs.GitClass.{own_reading, ReadsOwnBy}
 use Rattle.git_syntax.proofs.Texts.CutLemmas.{free-append, free_of_lacked, free_parts, not_free}
 use Rattle.git_syntax.proofs.Texts.EscapeLemmas.{no_line}
 use Rattle.git_syntax.proofs.Addresses.AddressLemmas.{address_two_colons}
@@ -44,15 +44,15 @@ uncontested t h = record {
 pub plain_text : (v : Location) (t whole : List ℕ) → text v ≡ Ok t → Lacks is_contested t → text v ≡ Ok whole → IsUncontested whole
 plain_text v t whole has lacks is = uncontested whole (subst (λ x. Lacks is_contested x) (one_text has is) lacks)
 
--- what is read in a given text, is read alike where the text is the location's
-pub read_alike : (v : Location) (whole : List ℕ) (reading : GitReading) → own_reading v ≡ reading → text v ≡ Ok whole → AgreesWithGit v → is_option_like whole ≡ false → ReadsGiven whole reading → IsReadAlike v
-read_alike v whole reading value has a safe reads =
+-- the location has a text, in which its own parts are read, as they are of the protocol
+abbrev pub IsReadBy : Protocol → Location → Type 0
+IsReadBy p v = (t : List ℕ) × (text v ≡ Ok t) × ReadsOwnBy p t v
+
+-- of Git's own transports, where they are what Git reads in it
+pub own_read : (v : Location) (whole : List ℕ) (reading : GitReading) → own_reading v ≡ reading → text v ≡ Ok whole → AgreesByTransport v → is_option_like whole ≡ false → ReadsGiven whole reading → (t : List ℕ) × (text v ≡ Ok t) × GitReads t (own_reading v)
+own_read v whole reading value has a safe reads =
     let (t, is, lacks) = a.plain in
-    let read : GitReads whole (own_reading v) = subst (λ r. GitReads whole r) (sym value) record { whole = (plain_text v t whole is lacks has).zero_free; no_option = safe; reads = reads } in record {
-      written = whole;
-      has_text = has;
-      read = λ s written. subst (λ x. GitReads x (own_reading v)) (one_text has written) read;
-    }
+    (whole, has, subst (λ r. GitReads whole r) (sym value) record { whole = (plain_text v t whole is lacks has).zero_free; no_option = safe; reads = reads })
 
 -- ---- what Secure Shell reaches
 
@@ -253,7 +253,7 @@ secure_url_reads v host is t kind safe named there =
     ReadsGiven.secure_url rest place t.pathed.rest (own_url ssh (codes "ssh") rest refl t.plain.percent) (transport_cut v host is t) (subst (λ p. ReachesSecure place p (secure_reading v.user (Some host) v.port v.path)) (sym t.pathed.meant) reached)
 
 -- a settled URL of Secure Shell
-pub secure_url_alike : (v : Location) → v.scheme ≡ ssh → IsValue v → AgreesWithGit v → ¬ (v.user ≡ Some []) → IsSettledSecure v → IsReadAlike v
+pub secure_url_alike : (v : Location) → v.scheme ≡ ssh → IsValue v → AgreesByTransport v → ¬ (v.user ≡ Some []) → IsSettledSecure v → IsReadBy ssh v
 secure_url_alike v e is a named h =
     let (host, there, kind) = h.host in
     let (t, has, lacks) = a.plain in
@@ -262,7 +262,7 @@ secure_url_alike v e is a named h =
     let found = transport_text v host given (transport_plain v t has lacks written) in
     let whole = transport_whole v host ssh e found in
     let value : own_reading v ≡ secure_reading v.user (Some host) v.port v.path = λ i. record { protocol = e i; user = v.user; host = there i; port = v.port; path = v.path } in
-    read_alike v (codes "ssh" ++ (codes "://" ++ ((word_of v.user host ++ port_part v.port) ++ slash ∷ found.pathed.rest))) (secure_reading v.user (Some host) v.port v.path) value (written ∙ ap Ok whole) a refl (secure_url_reads v host is found kind a.no_option named there)
+    own_read v (codes "ssh" ++ (codes "://" ++ ((word_of v.user host ++ port_part v.port) ++ slash ∷ found.pathed.rest))) (secure_reading v.user (Some host) v.port v.path) value (written ∙ ap Ok whole) a refl (secure_url_reads v host is found kind a.no_option named there)
 
 -- ---- Git's own protocol
 
@@ -302,7 +302,7 @@ git_url_reads v host is t kind none path_line =
     ReadsGiven.git_url rest place t.pathed.rest (own_url git (codes "git") rest refl t.plain.percent) (transport_cut v host is t) (subst (λ p. ReachesGit place p (git_reading None (Some host) v.port v.path)) (sym t.pathed.meant) reached)
 
 -- a settled URL of Git's own protocol
-pub git_url_alike : (v : Location) → v.scheme ≡ git → IsValue v → AgreesWithGit v → v.user ≡ None → IsSettledGit v → IsReadAlike v
+pub git_url_alike : (v : Location) → v.scheme ≡ git → IsValue v → AgreesByTransport v → v.user ≡ None → IsSettledGit v → IsReadBy git v
 git_url_alike v e is a none h =
     let (host, there, kind) = h.host in
     let (t, has, lacks) = a.plain in
@@ -314,4 +314,4 @@ git_url_alike v e is a none h =
     let value : own_reading v ≡ git_reading None (Some host) v.port v.path = λ i. record { protocol = e i; user = none i; host = there i; port = v.port; path = v.path } in
     let behind = free_pieces percent_sign v host there a.no_password plain.percent in
     let lines = raw_lines v h.url.raw h.url.common.path.path_text (no_match v h.url.common.path.spelling behind.path) in
-    read_alike v (codes "git" ++ (codes "://" ++ ((word_of v.user host ++ port_part v.port) ++ slash ∷ found.pathed.rest))) (git_reading None (Some host) v.port v.path) value (written ∙ ap Ok whole) a refl (git_url_reads v host is found kind none lines)
+    own_read v (codes "git" ++ (codes "://" ++ ((word_of v.user host ++ port_part v.port) ++ slash ∷ found.pathed.rest))) (git_reading None (Some host) v.port v.path) value (written ∙ ap Ok whole) a refl (git_url_reads v host is found kind none lines)

@@ -1,41 +1,38 @@
 -- A reader of URIs reads the location's own components in the text of each location of HTTP of the class.
 use Rattle.std.proofs.Common.{◌≡◌, ◌∙◌, ⊎_elim, ℕ, ◌<◌, Bool, true, false, ◌||◌, ◌==◌, ◌⊎◌, inl, inr, List, [], ◌∷◌, ◌++◌, length, decimal, Option, Some, None, IsSome, IfSome, IsUtf8, option_map, refl, sym, ap, subst, arith, append_assoc}
 use Rattle.std.specs.List.{list_all}
-use Rattle.std.specs.Char.{to_ascii_lowercase, is_ascii_digit, is_digit}
-use Rattle.std.proofs.lemmas.Bool.{agree_below_at, and_from, and_parts, and_right, both_ways, cond-false, false_from_ne_true, false≢true, not_from_true, or_left}
+use Rattle.std.specs.Char.{to_ascii_lowercase, is_digit}
+use Rattle.std.proofs.lemmas.Bool.{agree_below_at, and_from, and_parts, both_ways, false_from_ne_true, false≢true, or_left}
 use Rattle.std.proofs.lemmas.Bool.Decides.{nat_tests}
 use Rattle.std.proofs.lemmas.List.{map-append}
 use Rattle.std.proofs.lemmas.List.Elements.{All-weaker}
 use Rattle.std.proofs.lemmas.List.Folds.{list_all-append, map_fixed}
 use Rattle.std.proofs.lemmas.List.Sums.{AllPass-from_list_all, list_all-from_AllPass}
-use Rattle.std.proofs.lemmas.Option.{same_Some}
 use Rattle.percent_encoding.specs.declared.ascii_set.AsciiSet.{AsciiSet}
 use Rattle.percent_encoding.specs.AsciiSet.{contains, should_percent_encode}
 use Rattle.percent_encoding.specs.Percent.{percent_decode, percent_encode}
 use Rattle.percent_encoding.proofs.AsciiSetLemmas.{ascii_from_kept, outside_from_kept}
 use Rattle.percent_encoding.proofs.PercentLemmas.{All-percent_encode}
-use Rattle.git_syntax.specs.declared.escape.TheConstants.{PATH, PASSWORD, USER}
+use Rattle.git_syntax.specs.declared.escape.TheConstants.{PASSWORD, USER}
 use Rattle.git_syntax.specs.Value.{Location}
-use Rattle.git_syntax.specs.Bytes.{dot, number_sign, percent_sign, slash, colon, question_mark, at_sign, left_bracket, right_bracket, Lacks, FreeOf, begins_by, begins_with, IsLowercase, is_scheme_text, is_path_start}
+use Rattle.git_syntax.specs.Bytes.{number_sign, percent_sign, slash, colon, question_mark, at_sign, left_bracket, right_bracket, FreeOf, begins_by, begins_with, IsLowercase}
 use Rattle.git_syntax.specs.Escapes.{is_sound, has_percent, is_password_escaped}
-use Rattle.git_syntax.specs.Addresses.{IsOctet}
-use Rattle.git_syntax.specs.Hosts.Mode.{strict}
 use Rattle.git_syntax.specs.Schemes.{protocol_text}
-use Rattle.git_location.specs.Text.{user_information, host_part, port_part, root_part, plain_path, matching_or, canonical_path, canonical_text}
-use Rattle.git_location.specs.Settled.{IsValue, IsBracketedAddress, IsWeb, IsWebHost, IsSettledWeb}
-use Rattle.git_location.specs.WebClass.{is_plain_host_byte, IsUnambiguousHost, is_uri_byte, is_segment_end, HasDotSegment, AgreesOverWeb}
+use Rattle.git_location.specs.Text.{user_information, port_part, canonical_path, canonical_text}
+use Rattle.git_location.specs.Settled.{IsValue, IsBracketedAddress, IsWeb}
+use Rattle.git_location.specs.WebClass.{is_plain_host_byte, is_uri_byte, is_segment_end, HasDotSegment, AgreesOverWeb}
 use Rattle.git_laws.specs.Components.{CutsPath}
 use Rattle.git_laws.specs.GitWeb.{UriAuthority, UriPort, UriHost, is_host_byte, IsEscaped, UriReading, UriReads, IsNormalUri, IsOwnInformation, with_query, IsOwnUri}
 use Rattle.git_syntax.proofs.Texts.CutLemmas.{all_weaker, free-append, free-cons, free_begins, free_of_all, free_or_cut}
-use Rattle.git_syntax.proofs.Texts.EscapeLemmas.{decode_byte, decode_encode_utf8, decode_kept, decodes_in_parts, encode_sound, sound-append, sound_around, sound_free}
+use Rattle.git_syntax.proofs.Texts.EscapeLemmas.{decode_byte, decode_kept, decodes_in_parts, encode_sound, sound-append, sound_around, sound_free}
 use Rattle.git_syntax.proofs.Texts.DecodingLemmas.{nothing_decoded}
 use Rattle.git_syntax.proofs.Texts.EscapeSets.{password_holds, user_holds}
 use Rattle.git_syntax.proofs.Readings.HostLemmas.{decimal_digits}
 use Rattle.git_laws.proofs.Written.PieceTextLemmas.{user_piece, password_piece, user_no_colon, user_decoded, password_decoded}
-use Rattle.git_laws.proofs.Written.WrittenPathLemmas.{matching_cases, web_path_written}
-use Rattle.git_laws.proofs.Written.WrittenUrlLemmas.{authority_text, canonical_cut, authority_with_host}
-use Rattle.git_laws.proofs.Written.WrittenWebHostLemmas.{web_host_same, web_host_written}
+use Rattle.git_laws.proofs.Written.WrittenPathLemmas.{starts_alike, web_path_writing}
+use Rattle.git_laws.proofs.Written.WrittenUrlLemmas.{authority_text, canonical_cut}
 use Rattle.git_laws.proofs.Refused.CornerLemmas.{settled_as_web}
+use Rattle.git_laws.proofs.GitReadings.WebTextLemmas.{web_authority, web_scheme}
 
 -- ---- escaped texts
 
@@ -133,22 +130,6 @@ bracketed_host host (address, normal, e) = record {
   read = λ behind. UriHost.bracketed address normal.address e refl;
 }
 
--- an octet is of bytes of a plain host
-octet_plain : (t : List ℕ) → IsOctet t → list_all is_plain_host_byte t ≡ true
-octet_plain t (n, small, e) = subst (λ x. list_all is_plain_host_byte x ≡ true) (sym e) (all_weaker is_ascii_digit is_plain_host_byte (λ b is. grind (arith, nat_tests)) (decimal n) (decimal_digits n (omega arith)).1)
-
--- and so are two such texts around a `.`
-dot_plain : (x y : List ℕ) → list_all is_plain_host_byte x ≡ true → list_all is_plain_host_byte y ≡ true → list_all is_plain_host_byte (x ++ dot ∷ y) ≡ true
-dot_plain x y h k = list_all-append is_plain_host_byte x (dot ∷ y) ∙ and_from _ _ h k
-
--- so it is where all readers take it for the same
-uri_host : (host : List ℕ) → IsUnambiguousHost host → IsUriHost host
-uri_host host (inl name) = plain_host host name.bytes
-uri_host host (inr (inl h)) =
-    let (first, second, third, fourth) = h.octets in
-    plain_host host (subst (λ x. list_all is_plain_host_byte x ≡ true) (sym h.joined) (dot_plain h.first _ (octet_plain h.first first) (dot_plain h.second _ (octet_plain h.second second) (dot_plain h.third h.fourth (octet_plain h.third third) (octet_plain h.fourth fourth)))))
-uri_host host (inr (inr h)) = bracketed_host host h
-
 -- the port is read behind its colon
 port_read : (port : Option ℕ) → IfSome port (λ p. p < 65536) → UriPort (port_part port) (option_map decimal port)
 port_read None small = UriPort.absent refl refl
@@ -175,15 +156,6 @@ uri_path t h =
           let parts = escaped_around is_uri_byte x y question_mark refl (subst (IsEscaped is_uri_byte) e h) in
           record { path = x; query = Some y; cut = (t, (whole, refl), (free, e)); joined = sym e; path_bytes = parts.0; query_bytes = parts.1 }
     ]
-
--- the written path stands for the path
-path_decoded : (v : Location) → IsWeb v → begins_with slash v.path ≡ true → IsUtf8 v.path → percent_decode (canonical_path v) ≡ v.path
-path_decoded v web rooted text =
-    let plain = plain_path v.scheme v.path in
-    let root : root_part v ≡ [] = cond-false _ _ _ (and_right _ _ (not_from_true _ rooted)) in
-    let encoded : plain ≡ percent_encode PATH v.path = ⊎_elim (ap (λ p. plain_path p v.path)) (ap (λ p. plain_path p v.path)) web in
-    ap (λ r. percent_decode (r ++ matching_or v.spelling v.path plain)) root
-    ∙ matching_cases (λ t. percent_decode t ≡ v.path) v.spelling v.path plain (λ s is same. same) (λ none. ap percent_decode encoded ∙ decode_encode_utf8 PATH v.path refl text)
 
 -- path and query are decoded apart
 query_decoded : (path : List ℕ) (query : Option (List ℕ)) → is_sound path ≡ true → percent_decode (with_query path query) ≡ with_query (percent_decode path) (option_map percent_decode query)
@@ -233,45 +205,16 @@ dots_decoded t sound h =
 
 -- ---- the text
 
--- the scheme is one of a URI, in lower case
-record IsUriScheme (scheme : List ℕ) : Type 0 where
-  text : is_scheme_text scheme ≡ true
-  lower : IsLowercase scheme
-
--- so are those of HTTP
-uri_scheme : (v : Location) → IsWeb v → IsUriScheme (protocol_text v.scheme)
-uri_scheme v (inl e) = subst (λ p. IsUriScheme (protocol_text p)) (sym e) record { text = refl; lower = refl }
-uri_scheme v (inr e) = subst (λ p. IsUriScheme (protocol_text p)) (sym e) record { text = refl; lower = refl }
-
--- the authority, as a reader of URIs cuts it
-record CutsAuthority (v : Location) (host : List ℕ) : Type 0 where
-  before_path : Lacks (is_path_start true) (authority_text v)
-  cut : UriAuthority (authority_text v) (information_text v.user v.password) (host ++ port_part v.port)
-
--- that of a settled location of HTTP is so cut
-web_authority : (v : Location) (host : List ℕ) → IsWeb v → IsValue v → IsSettledWeb v → v.host ≡ Some host → CutsAuthority v host
-web_authority v host web is w there =
-    let (h, given, kind) = w.host in
-    let settled = subst (λ x. IsWebHost v.port x) (same_Some h host (sym given ∙ there)) kind in
-    let writes = web_host_written v host web settled w.port is.port in
-    let same = ap (λ x. x ++ port_part v.port) (web_host_same v host web settled w.port is.port) in
-    let whole : authority_text v ≡ user_information v.user v.password ++ (host ++ port_part v.port) = ap (λ o. user_information v.user v.password ++ (host_part v o ++ port_part v.port)) there ∙ ap (λ x. user_information v.user v.password ++ x) same in
-    record {
-      before_path = (authority_with_host strict v host host w.common is there writes).1.before_path;
-      cut = subst (λ t. UriAuthority t (information_text v.user v.password) (host ++ port_part v.port)) (sym whole) (information_cut v.user v.password (host ++ port_part v.port) (subst (λ x. FreeOf at_sign x) same writes.no_at));
-    }
-
 -- a reader of URIs reads the location's own components in the text of a location of the class, which is in the normal form
 pub uri_own : (v : Location) → IsWeb v → IsValue v → AgreesOverWeb v → (host : List ℕ) → v.host ≡ Some host → (r : UriReading) × UriReads (canonical_text v) r × IsOwnUri v r × IsNormalUri r
 uri_own v web is a host there =
     let w = settled_as_web v web a.settled in
-    let (h, given, kind) = a.host in
-    let named = uri_host host (subst (λ x. IsUnambiguousHost x) (same_Some h host (sym given ∙ there)) kind) in
-    let scheme = uri_scheme v web in
-    let authority = web_authority v host web is w there in
-    let written = web_path_written v web w.path w.common.path in
+    let scheme = web_scheme v web in
+    let authority = web_authority v host web is a there in
+    let named = ⊎_elim (plain_host host) (bracketed_host host) authority.shape in
+    let written = web_path_writing v web w.path w.common.path in
     let p = uri_path (canonical_path v) (a.path.bytes, written.escaped.sound) in
-    let decoded = ap percent_decode p.joined ∙ path_decoded v web a.path.rooted w.common.path.path_text in
+    let decoded = ap percent_decode p.joined ∙ written.decoded in
     let whole = sym (query_decoded p.path p.query p.path_bytes.1) ∙ decoded in
     let no_dots : ¬ HasDotSegment (percent_decode p.path) = λ dots. a.path.no_dots (subst HasDotSegment whole (dots_joined (percent_decode p.path) (option_map percent_decode p.query) dots)) in (
       record {
@@ -290,8 +233,8 @@ uri_own v web is a host there =
         after_host = port_part v.port;
         joined = canonical_cut v;
         before_path = authority.before_path;
-        path_start = written.starts;
-        cut = authority.cut;
+        path_start = starts_alike true (canonical_path v) v.path written.front (inr w.path);
+        cut = subst (λ t. UriAuthority t (information_text v.user v.password) (host ++ port_part v.port)) (sym authority.written) (information_cut v.user v.password (host ++ port_part v.port) authority.no_at);
         host = named.read (port_part v.port);
         port = port_read v.port is.port;
         path = p.cut;

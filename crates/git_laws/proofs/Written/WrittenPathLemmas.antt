@@ -24,10 +24,10 @@ use Rattle.std.proofs.lemmas.Str.{IsUtf8-append}
 -- ---- a path and its writing
 
 -- the text stands for the path, begins as it does, and is the plain one where it holds no escape
-record IsWriting (path plain t : List ℕ) : Type 0 where
-  escaped : IsEscapedPiece t
-  front : first_byte t ≡ first_byte path
-  decoded : percent_decode t ≡ path
+pub record IsWriting (path plain t : List ℕ) : Type 0 where
+  pub escaped : IsEscapedPiece t
+  pub front : first_byte t ≡ first_byte path
+  pub decoded : percent_decode t ≡ path
   unescaped : has_percent t ≡ false → t ≡ plain
 
 -- a spelling is given, and stands for the path
@@ -102,7 +102,7 @@ retained_again path plain t w = retained_again_by (has_percent t) path plain t r
 -- ---- fronts
 
 -- a text that begins as another starts a path where that one does
-starts_alike : (web : Bool) (t path : List ℕ) → first_byte t ≡ first_byte path → StartsPath web path → StartsPath web t
+pub starts_alike : (web : Bool) (t path : List ℕ) → first_byte t ≡ first_byte path → StartsPath web path → StartsPath web t
 starts_alike web [] path same starts = inl refl
 starts_alike web (b ∷ t) [] same starts = absurd (false≢true (sym (ap is_some same)))
 starts_alike web (b ∷ t) (c ∷ path) same (inl none) = absurd (false≢true (sym (ap is_some (ap first_byte none))))
@@ -205,18 +205,25 @@ written_fair v web begins url s same other =
       | inr lacks ↦ absurd (other (sym (decode_kept s lacks) ∙ w.decoded))
     ]
 
--- the written path of a settled location of HTTP means its path, and is written the same again
-pub web_path_written : (v : Location) → IsWeb v → begins_by (is_path_start true) v.path ≡ true → HasUrlPath v → WritesPath true v
-web_path_written v web begins url =
-    let facts = web_paths v web in
-    plainly_written true v record {
+-- a path of a location of HTTP is written as it is, or as one of its spellings
+web_plainly : (v : Location) → IsWeb v → begins_by (is_path_start true) v.path ≡ true → HasUrlPath v → IsPlainly true v
+web_plainly v web begins url =
+    let facts = web_paths v web in record {
       root = cond-false _ _ _ (and_left _ _ facts.required);
       starts = inr begins;
       text = url.path_text;
       meant = facts.meant v.path ∙ root_kept (is_path_start true) v.path begins;
       present = λ needed. absurd (both_ways _ facts.required needed);
       writing = λ none. plain_writing v web begins url.path_text;
-    } url.spelling
+    }
+
+-- what is written of it is a writing of it
+pub web_path_writing : (v : Location) → IsWeb v → begins_by (is_path_start true) v.path ≡ true → HasUrlPath v → IsWriting v.path (plain_path v.scheme v.path) (canonical_path v)
+web_path_writing v web begins url = plainly_writing true v (web_plainly v web begins url) url.spelling
+
+-- the written path of a settled location of HTTP means its path, and is written the same again
+pub web_path_written : (v : Location) → IsWeb v → begins_by (is_path_start true) v.path ≡ true → HasUrlPath v → WritesPath true v
+web_path_written v web begins url = plainly_written true v (web_plainly v web begins url) url.spelling
 
 -- ---- raw paths
 

@@ -1,0 +1,82 @@
+-- Git's credential code reads one thing in a text: its cuts are unique.
+use Rattle.std.proofs.Common.{◌≡◌, ◌∙◌, ℕ, true, false, not, ◌==◌, ◌⊎◌, inl, inr, List, [], ◌∷◌, ◌++◌, Option, Some, refl, sym, ap, subst, append_assoc}
+use Rattle.git_syntax.specs.Bytes.{slash, colon, at_sign, FreeOf, Lacks, begins_by, begins_with}
+use Rattle.git_laws.specs.Git.{git_decode}
+use Rattle.git_laws.specs.GitWeb.{CredentialDecodes, CredentialCut, CredentialPath, OneCredentialReading, are_slashes, trimmed_path}
+use Rattle.git_syntax.proofs.Texts.CutLemmas.{class_cut_unique, cut_unique, free-append, lacks_of_all, mark_cut_unique, not_free, path_cut_unique}
+
+-- a piece is decoded in one way
+decodes_unique : (piece decoded other : List ℕ) → CredentialDecodes piece decoded → CredentialDecodes piece other → decoded ≡ other
+decodes_unique piece decoded other (CredentialDecodes.whole free e) (CredentialDecodes.whole free' e') = e ∙ sym e'
+decodes_unique piece decoded other (CredentialDecodes.whole free e) (CredentialDecodes.behind x y first cut e') = absurd (not_free colon x y (subst (λ t. FreeOf colon t) cut free))
+decodes_unique piece decoded other (CredentialDecodes.behind x y first cut e) (CredentialDecodes.whole free e') = absurd (not_free colon x y (subst (λ t. FreeOf colon t) cut free))
+decodes_unique piece decoded other (CredentialDecodes.behind x y first cut e) (CredentialDecodes.behind x' y' first' cut' e') =
+    let same = cut_unique colon x x' y y' first first' (sym cut ∙ cut') in
+    e ∙ ap (λ t. t ++ colon ∷ git_decode y) same.0 ∙ ap (λ t. x' ++ colon ∷ git_decode t) same.1 ∙ sym e'
+
+-- ---- the authority
+
+-- what precedes the first `@`, of a user and a password
+information_free : (u w : List ℕ) → FreeOf at_sign u → FreeOf at_sign w → FreeOf at_sign (u ++ colon ∷ w)
+information_free u w first second = free-append at_sign u (colon ∷ w) first second
+
+-- the text around it
+information_joined : (authority u w named : List ℕ) → authority ≡ u ++ colon ∷ (w ++ at_sign ∷ named) → authority ≡ (u ++ colon ∷ w) ++ at_sign ∷ named
+information_joined authority u w named e = e ∙ sym (append_assoc u (colon ∷ w) (at_sign ∷ named))
+
+-- an authority without `@` isn't cut at one
+never_cut : {A : Type 0} (authority i named : List ℕ) → FreeOf at_sign authority → authority ≡ i ++ at_sign ∷ named → A
+never_cut authority i named free e = absurd (not_free at_sign i named (subst (λ t. FreeOf at_sign t) e free))
+
+-- a user without a password isn't one with a password
+never_both : {A : Type 0} (authority u x w named name : List ℕ) → FreeOf at_sign u → FreeOf colon u → authority ≡ u ++ at_sign ∷ named → FreeOf at_sign x → FreeOf at_sign w → authority ≡ x ++ colon ∷ (w ++ at_sign ∷ name) → A
+never_both authority u x w named name free plain e first second e' =
+    let same = cut_unique at_sign u (x ++ colon ∷ w) named name free (information_free x w first second) (sym e ∙ information_joined authority x w name e') in
+    absurd (not_free colon x w (subst (λ t. FreeOf colon t) same.0 plain))
+
+-- an authority is cut in one way
+cut_same : (authority : List ℕ) (user other password secret : Option (List ℕ)) (named name : List ℕ) → CredentialCut authority user password named → CredentialCut authority other secret name → (user ≡ other) × (password ≡ secret) × (named ≡ name)
+cut_same a user other password secret named name (CredentialCut.host_alone free e none without) (CredentialCut.host_alone free' e' none' without') = (none ∙ sym none', without ∙ sym without', e ∙ sym e')
+cut_same a user other password secret named name (CredentialCut.host_alone free e none without) (CredentialCut.user_alone u n at plain e' d some without') = never_cut a u name free e'
+cut_same a user other password secret named name (CredentialCut.host_alone free e none without) (CredentialCut.with_password u w n s at at' plain e' d d' some some') = never_cut a (u ++ colon ∷ w) name free (information_joined a u w name e')
+cut_same a user other password secret named name (CredentialCut.user_alone u n at plain e d some without) (CredentialCut.host_alone free e' none without') = never_cut a u named free e
+cut_same a user other password secret named name (CredentialCut.user_alone u n at plain e d some without) (CredentialCut.user_alone u' n' at' plain' e' d' some' without') =
+    let same = cut_unique at_sign u u' named name at at' (sym e ∙ e') in
+    (some ∙ ap Some (decodes_unique u' n n' (subst (λ t. CredentialDecodes t n) same.0 d) d') ∙ sym some', without ∙ sym without', same.1)
+cut_same a user other password secret named name (CredentialCut.user_alone u n at plain e d some without) (CredentialCut.with_password x w n' s at' at'' plain' e' d' d'' some' some'') = never_both a u x w named name at plain e at' at'' e'
+cut_same a user other password secret named name (CredentialCut.with_password u w n s at at' plain e d d' some some') (CredentialCut.host_alone free e' none without) = never_cut a (u ++ colon ∷ w) named free (information_joined a u w named e)
+cut_same a user other password secret named name (CredentialCut.with_password x w n s at at' plain e d d' some some') (CredentialCut.user_alone u n' at'' plain' e' d'' some'' without) = never_both a u x w name named at'' plain' e' at at' e
+cut_same a user other password secret named name (CredentialCut.with_password u w n s at at' plain e d c some given) (CredentialCut.with_password u' w' n' s' at'' at''' plain' e' d' c' some' given') =
+    let users = cut_unique colon u u' (w ++ at_sign ∷ named) (w' ++ at_sign ∷ name) plain plain' (sym e ∙ e') in
+    let words = cut_unique at_sign w w' named name at' at''' users.1 in
+    (some ∙ ap Some (decodes_unique u' n n' (subst (λ t. CredentialDecodes t n) users.0 d) d') ∙ sym some', given ∙ ap Some (decodes_unique w' s s' (subst (λ t. CredentialDecodes t s) words.0 c) c') ∙ sym given', words.1)
+
+-- ---- the path
+
+-- what follows the slashes is empty or begins with another byte
+behind_slashes : (rest : List ℕ) → begins_with slash rest ≡ false → (rest ≡ []) ⊎ (begins_by (λ b. not (b == slash)) rest ≡ true)
+behind_slashes [] other = inl refl
+behind_slashes (b ∷ rest) other = inr (ap not other)
+
+-- slashes lack other bytes
+only_slashes : (slashes : List ℕ) → are_slashes slashes ≡ true → Lacks (λ b. not (b == slash)) slashes
+only_slashes slashes all = lacks_of_all (λ b. b == slash) (λ b. not (b == slash)) (λ b is. ap not is) slashes all
+
+-- a path is read in one way
+path_same : (behind : List ℕ) (path other : Option (List ℕ)) → CredentialPath behind path → CredentialPath behind other → path ≡ other
+path_same behind path other h k =
+    let same = class_cut_unique (λ b. not (b == slash)) h.slashes k.slashes h.rest k.rest (only_slashes h.slashes h.front) (only_slashes k.slashes k.front) (behind_slashes h.rest h.begins) (behind_slashes k.rest k.begins) (sym h.joined ∙ k.joined) in
+    let decoded = decodes_unique k.rest h.decoded k.decoded (subst (λ t. CredentialDecodes t h.decoded) same.1 h.decodes) k.decodes in
+    h.value ∙ ap trimmed_path decoded ∙ sym k.value
+
+-- ---- the text
+
+-- Git's credential code reads one thing in a text
+pub one_credential : OneCredentialReading
+one_credential t r other h k =
+    let schemes = mark_cut_unique r.protocol other.protocol (h.authority ++ h.behind) (k.authority ++ k.behind) h.no_mark k.no_mark (sym h.joined ∙ k.joined) in
+    let cut = path_cut_unique true h.authority k.authority h.behind k.behind h.before_path k.before_path h.path_start k.path_start schemes.1 in
+    let credentials = cut_same k.authority r.user other.user r.password other.password h.named k.named (subst (λ t. CredentialCut t r.user r.password h.named) cut.0 h.cut) k.cut in
+    let hosts = decodes_unique k.named r.host other.host (subst (λ t. CredentialDecodes t r.host) credentials.2 h.host) k.host in
+    let paths = path_same k.behind r.path other.path (subst (λ t. CredentialPath t r.path) cut.1 h.path) k.path in
+    λ i. record { protocol = schemes.0 i; user = credentials.0 i; password = credentials.1 i; host = hosts i; path = paths i }

@@ -1,0 +1,83 @@
+-- The text of a location of HTTP of the class, before any reader cuts it: scheme, user information, host, port and path.
+use Rattle.std.proofs.Common.{◌≡◌, ◌∙◌, ℕ, ◌<◌, true, ◌⊎◌, inl, inr, List, ◌∷◌, ◌++◌, length, decimal, Some, Ok, refl, sym, ap, subst, arith}
+use Rattle.std.specs.List.{list_all}
+use Rattle.std.specs.Char.{is_ascii_digit}
+use Rattle.std.proofs.lemmas.Bool.{and_from}
+use Rattle.std.proofs.lemmas.Bool.Decides.{nat_tests}
+use Rattle.std.proofs.lemmas.List.Folds.{list_all-append}
+use Rattle.std.proofs.lemmas.Option.{same_Some}
+use Rattle.git_syntax.specs.Value.{Location}
+use Rattle.git_syntax.specs.Bytes.{dot, at_sign, Lacks, FreeOf, IsLowercase, is_scheme_text, is_path_start}
+use Rattle.git_syntax.specs.Addresses.{IsOctet}
+use Rattle.git_syntax.specs.Hosts.Mode.{strict}
+use Rattle.git_syntax.specs.Schemes.{protocol_text}
+use Rattle.git_location.specs.Text.{user_information, host_part, port_part, canonical_text, text}
+use Rattle.git_location.specs.Settled.{IsValue, IsBracketedAddress, IsWeb, IsWebHost}
+use Rattle.git_location.specs.WebClass.{is_plain_host_byte, IsUnambiguousHost, AgreesOverWeb}
+use Rattle.git_laws.specs.GitWeb.{IsOneLine}
+use Rattle.git_syntax.proofs.Texts.CutLemmas.{all_weaker}
+use Rattle.git_syntax.proofs.Readings.HostLemmas.{decimal_digits}
+use Rattle.git_location.proofs.Written.WrittenAsUrlLemmas.{written_web}
+use Rattle.git_laws.proofs.Written.WrittenWebHostLemmas.{web_host_same, web_host_written}
+use Rattle.git_laws.proofs.Written.WrittenUrlLemmas.{authority_text, authority_with_host}
+use Rattle.git_laws.proofs.Refused.CornerLemmas.{settled_as_web}
+
+-- a location of the class has the text of a URL
+pub web_text : (v : Location) → IsWeb v → AgreesOverWeb v → text v ≡ Ok (canonical_text v)
+web_text v web a =
+    let h = settled_as_web v web a.settled in
+    (written_web v web).canonical h.common.unflagged h.common.hosted
+
+-- a scheme of one line, in lower case
+pub record IsWebScheme (scheme : List ℕ) : Type 0 where
+  pub text : is_scheme_text scheme ≡ true
+  pub lower : IsLowercase scheme
+  pub nonempty : 0 < length scheme
+  pub line : IsOneLine scheme
+
+-- each of HTTP is one
+pub web_scheme : (v : Location) → IsWeb v → IsWebScheme (protocol_text v.scheme)
+web_scheme v (inl e) = subst (λ p. IsWebScheme (protocol_text p)) (sym e) record { text = refl; lower = refl; nonempty = omega arith; line = refl }
+web_scheme v (inr e) = subst (λ p. IsWebScheme (protocol_text p)) (sym e) record { text = refl; lower = refl; nonempty = omega arith; line = refl }
+
+-- an octet is of bytes of a plain host
+octet_plain : (t : List ℕ) → IsOctet t → list_all is_plain_host_byte t ≡ true
+octet_plain t (n, small, e) = subst (λ x. list_all is_plain_host_byte x ≡ true) (sym e) (all_weaker is_ascii_digit is_plain_host_byte (λ b is. grind (arith, nat_tests)) (decimal n) (decimal_digits n (omega arith)).1)
+
+-- and so are two such texts around a `.`
+dot_plain : (x y : List ℕ) → list_all is_plain_host_byte x ≡ true → list_all is_plain_host_byte y ≡ true → list_all is_plain_host_byte (x ++ dot ∷ y) ≡ true
+dot_plain x y h k = list_all-append is_plain_host_byte x (dot ∷ y) ∙ and_from _ _ h k
+
+-- a host is of bytes of a plain host, or an address in brackets
+abbrev pub IsWebShape : List ℕ → Type 0
+IsWebShape host = (list_all is_plain_host_byte host ≡ true) ⊎ IsBracketedAddress host
+
+-- so is each of the class
+host_shape : (host : List ℕ) → IsUnambiguousHost host → IsWebShape host
+host_shape host (inl name) = inl name.bytes
+host_shape host (inr (inl h)) =
+    let (first, second, third, fourth) = h.octets in
+    inl (subst (λ x. list_all is_plain_host_byte x ≡ true) (sym h.joined) (dot_plain h.first _ (octet_plain h.first first) (dot_plain h.second _ (octet_plain h.second second) (dot_plain h.third h.fourth (octet_plain h.third third) (octet_plain h.fourth fourth)))))
+host_shape host (inr (inr h)) = inr h
+
+-- the authority is the user information, and host and port as they are
+pub record IsWebAuthority (v : Location) (host : List ℕ) : Type 0 where
+  pub shape : IsWebShape host
+  pub written : authority_text v ≡ user_information v.user v.password ++ (host ++ port_part v.port)
+  pub no_at : FreeOf at_sign (host ++ port_part v.port)
+  pub before_path : Lacks (is_path_start true) (authority_text v)
+
+-- that of the class is
+pub web_authority : (v : Location) (host : List ℕ) → IsWeb v → IsValue v → AgreesOverWeb v → v.host ≡ Some host → IsWebAuthority v host
+web_authority v host web is a there =
+    let w = settled_as_web v web a.settled in
+    let (g, given, kind) = w.host in
+    let (o, own, unambiguous) = a.host in
+    let settled = subst (λ x. IsWebHost v.port x) (same_Some g host (sym given ∙ there)) kind in
+    let writes = web_host_written v host web settled w.port is.port in
+    let same = ap (λ x. x ++ port_part v.port) (web_host_same v host web settled w.port is.port) in record {
+      shape = host_shape host (subst (λ x. IsUnambiguousHost x) (same_Some o host (sym own ∙ there)) unambiguous);
+      written = ap (λ o. user_information v.user v.password ++ (host_part v o ++ port_part v.port)) there ∙ ap (λ x. user_information v.user v.password ++ x) same;
+      no_at = subst (λ x. FreeOf at_sign x) same writes.no_at;
+      before_path = (authority_with_host strict v host host w.common is there writes).1.before_path;
+    }
