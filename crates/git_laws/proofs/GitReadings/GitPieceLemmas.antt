@@ -1,5 +1,5 @@
 -- The pieces of a written text: a plain user and host and the port stand in it as they are, and the path is decoded.
-use Rattle.std.proofs.Common.{◌≡◌, ◌∙◌, ℕ, ◌<◌, Bool, true, false, not, ◌⊎◌, inl, inr, List, [], ◌∷◌, ◌++◌, decimal, Option, Some, None, IfSome, ◌==◌, if◌then◌else◌, refl, sym, ap, subst}
+use Rattle.std.proofs.Common.{◌≡◌, ◌∙◌, ℕ, ◌<◌, true, false, not, ◌⊎◌, inl, inr, List, [], ◌∷◌, ◌++◌, decimal, Option, Some, None, IfSome, ◌==◌, if◌then◌else◌, refl, sym, ap, subst}
 use Rattle.std.specs.Prelude.{IsSome}
 use Rattle.std.specs.Char.{is_ascii_digit}
 use Rattle.std.proofs.lemmas.Bool.{cases_Bool, cond-true, cond-false, and_left, and_right, and_from, or_from, not_from_true}
