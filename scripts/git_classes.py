@@ -244,15 +244,18 @@ def is_careful(case, is_same):
     It is what `Url::agrees_with_git` asks of a text that is written as it was read. `is_same` says that the text is settled
     and is what `to_bstring` writes.
     """
-    if not is_same or re.search(rb"\Arsync:|[%\[\]\0]", case.text) or case.ours.protocol.startswith("helper "):
+    if not is_same or re.search(rb"\Arsync:|[\[\]\0]", case.text) or case.ours.protocol.startswith("helper "):
         return False
     _, user, password, host, _, path = case.ours
+    if b"%" in (case.authority or b"") or re.search(rb"[\[\]\0]", path):
+        return False
     is_known = password is None and not any((it or b"").startswith(b"-") for it in (user, host, path))
     if case.ours.protocol == "ssh":
         return is_known and user != b"" and host is not None and (path.startswith(b"/") or path[1:2] != b"~")
     if case.ours.protocol == "git":
-        return is_known and user is None
-    return is_known and user is None and host is None and not path.startswith(b"~")
+        return is_known and user is None and b"\n" not in path
+    is_plain = case.rest is None or b"%" not in path
+    return is_known and user is None and host is None and is_plain and not path.startswith(b"~")
 
 
 def class_of(case, classes):

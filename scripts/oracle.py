@@ -669,12 +669,14 @@ def agrees_by_transport(v):
     if any(it is not None and it.startswith(b"-") for it in (v.user, v.host, v.path)):
         return False
     t = text(v)
-    if t.startswith(b"rsync:") or any(it in t for it in (b"\0", b"%", b"[", b"]")):
+    if t.startswith(b"rsync:") or any(it in t or it in v.path for it in (b"\0", b"[", b"]")):
+        return False
+    if not v.flag and b"%" in (t if kind == "File" else t.split(b"/")[2]):
         return False
     if kind == "Ssh":
         return v.path[1:2] != b"~" and v.user != b""
     if kind == "Git":
-        return v.user is None
+        return v.user is None and b"\n" not in v.path
     return v.host is None and not v.path.startswith(b"~")
 
 

@@ -63,7 +63,7 @@ WhiteSpaceRows =
 abbrev pub GitByteRows : Type 0
 GitByteRows =
     (members is_c_space ≡ 9 ∷ 10 ∷ 11 ∷ 12 ∷ 13 ∷ 32 ∷ [])
-    × (members is_contested ≡ 0 ∷ codes "%[]")
+    × (members is_contested ≡ 0 ∷ codes "[]")
 
 -- ---- escapes
 

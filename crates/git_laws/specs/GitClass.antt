@@ -6,7 +6,7 @@ use Rattle.git_location.specs.Text.{text}
 use Rattle.git_location.specs.Settled.{IsValue}
 use Rattle.git_laws.specs.Git.{GitReading, GitReads}
 use Rattle.git_laws.specs.GitWeb.{ReadsOwnOverWeb}
-pub use Rattle.git_location.specs.GitClass.{is_contested, HasPlainText, HasNoOption, is_tilde_second, IsRsync, SuitsTransport, AgreesByTransport, AgreesWithGit}
+pub use Rattle.git_location.specs.GitClass.{is_contested, HasPlainParts, HasNoOption, is_tilde_second, IsRsync, SuitsTransport, AgreesByTransport, AgreesWithGit}
 
 -- the location's own protocol, user, host, port and path
 abbrev pub own_reading : Location → GitReading

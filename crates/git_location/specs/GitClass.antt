@@ -1,21 +1,35 @@
 -- The locations that a careful user hands to Git: in the text of each Git reads what this library reads.
 -- Those of HTTP are in `WebClass`.
-use Rattle.std.specs.Prelude.{◌≡◌, ℕ, Bool, true, false, ◌||◌, ◌==◌, List, [], ◌∷◌, codes, Some, None, IfSome, Ok}
+use Rattle.std.specs.Prelude.{◌≡◌, ℕ, Bool, true, false, ◌||◌, ◌==◌, ◌⊎◌, List, [], ◌∷◌, codes, Some, None, IsSome, IfSome}
+use Rattle.percent_encoding.specs.declared.ascii_set.AsciiSet.{AsciiSet}
+use Rattle.percent_encoding.specs.AsciiSet.{should_percent_encode}
 use Rattle.git_syntax.specs.Value.{Protocol, Location}
 use Rattle.git_syntax.specs.Value.Protocol.{file, git, ssh, http, https}
-use Rattle.git_syntax.specs.Bytes.{percent_sign, left_bracket, right_bracket, tilde, Lacks, begins_with}
-use Rattle.git_location.specs.Text.{text}
+use Rattle.git_syntax.specs.Bytes.{newline, percent_sign, colon, left_bracket, right_bracket, tilde, Lacks, FreeOf, begins_with}
+use Rattle.git_syntax.specs.Escapes.{password_set, user_set}
 use Rattle.git_location.specs.Settled.{IsSettled}
 use Rattle.git_location.specs.Arguments.{is_option_like}
 use Rattle.git_location.specs.WebClass.{AgreesOverWeb}
 
--- a byte by which Git cuts a text otherwise: byte 0, `%`, `[` or `]`
+-- a byte by which Git cuts a text otherwise: byte 0, `[` or `]`
 abbrev pub is_contested : ℕ → Bool
-is_contested b = b == 0 || (b == percent_sign || (b == left_bracket || b == right_bracket))
+is_contested b = b == 0 || (b == left_bracket || b == right_bracket)
 
--- the location has a text, without such a byte
-abbrev pub HasPlainText : Location → Type 0
-HasPlainText v = (t : List ℕ) × (text v ≡ Ok t) × Lacks is_contested t
+-- a user or a host has none of them. Git decodes a URL before it cuts it, so there no byte of it is written as an escape
+abbrev pub IsPlainPart : Bool → AsciiSet → List ℕ → Type 0
+IsPlainPart true set part = Lacks is_contested part
+IsPlainPart false set part = Lacks (should_percent_encode set) part
+
+-- the host is written without brackets: it has no colon where an address is written with them
+abbrev pub IsOpenHost : Location → List ℕ → Type 0
+IsOpenHost v host = (v.flag ≡ true) ⊎ IsSome v.port → FreeOf colon host
+
+-- Git cuts the location's own parts out of its text: of a URL it decodes the path as this library does
+pub record HasPlainParts (v : Location) : Type 0 where
+  pub user : IfSome v.user (IsPlainPart v.flag user_set)
+  pub host : IfSome v.host (IsPlainPart v.flag password_set)
+  pub unbracketed : IfSome v.host (IsOpenHost v)
+  pub path : Lacks is_contested v.path
 
 -- neither user nor host nor path begins with `-`
 pub record HasNoOption (v : Location) : Type 0 where
@@ -37,11 +51,13 @@ pub record IsRsync (v : Location) : Type 0 where
   pub host : v.host ≡ Some (codes "rsync")
 
 -- what Git's own transports ask besides: a path and a user of Secure Shell, and not the host `rsync` alone; no user
--- for `git://`; no host for a file, and a path that doesn't begin with `~`
+-- for `git://`, and no end of a line in the path; no host for a file, a path that doesn't begin with `~`, and in a URL
+-- no `%`, which Git alone decodes
 abbrev pub SuitsTransport : Protocol → Location → Type 0
 SuitsTransport ssh v = (is_tilde_second v.path ≡ false) × (¬ IsRsync v) × ¬ (v.user ≡ Some [])
-SuitsTransport git v = v.user ≡ None
+SuitsTransport git v = (v.user ≡ None) × FreeOf newline v.path
 SuitsTransport file v = (v.host ≡ None) × (begins_with tilde v.path ≡ false)
+    × (v.flag ≡ false → FreeOf percent_sign v.path)
 SuitsTransport _ v = ⊥
 
 -- a location of Git's own transports is of the class
@@ -50,7 +66,7 @@ pub record AgreesByTransport (v : Location) : Type 0 where
   pub no_password : v.password ≡ None
   pub no_option : HasNoOption v
   pub suits : SuitsTransport v.scheme v
-  pub plain : HasPlainText v
+  pub plain : HasPlainParts v
 
 -- the location is of the class, by its protocol
 abbrev pub AgreesBy : Protocol → Location → Type 0

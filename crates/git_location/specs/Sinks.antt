@@ -1,9 +1,9 @@
--- What a place is after it took a text, for each sink, and that two texts taken are one: a formatter, the walk of the
--- length test, and a note. What stands behind the text is any, so that texts join without counting.
-use Rattle.std.specs.Prelude.{◌≡◌, ℕ, Bool, true, false, ◌||◌, List, [], ◌∷◌, ◌++◌, refl}
+-- What a place is after it took a text, for each sink, and that two texts taken are one: a formatter, and the walk of the
+-- length test. What stands behind the text is any, so that texts join without counting.
+use Rattle.std.specs.Prelude.{◌≡◌, ℕ, List, [], ◌∷◌, ◌++◌, refl}
 use Rattle.std.proofs.Common.{sym, ap, subst, ◌∙◌, append_assoc}
-use Rattle.std.specs.List.{FoldsTo, list_any}
-use Rattle.std.proofs.lemmas.List.Folds.{concat-append, list_any-append}
+use Rattle.std.specs.List.{FoldsTo}
+use Rattle.std.proofs.lemmas.List.Folds.{concat-append}
 use Rattle.std.specs.declared.fmt.Formatter.{Formatter}
 use Rattle.std.specs.Fmt.{HasWrittenStyled, IsFlush}
 use Rattle.git_syntax.specs.declared.length.TextWalk.{TextWalk}
@@ -86,19 +86,3 @@ pub walks_joined : (a b c : TextWalk) (x y : List ℕ) → WalksPast a x b → W
     → WalksPast a (x ++ y) c
 walks_joined a b c x y first second behind = second behind ∙ first (y ++ behind) ∙ sym
     (ap (is_text_in_time a) (append_assoc x y behind))
-
--- ---- a note
-
--- a note is made where the text holds a byte that passes the test; one that was made stays
-abbrev pub Notes : (ℕ → Bool) → Bool → List ℕ → Bool → Type 0
-Notes test old text new = new ≡ (old || list_any test text)
-
-pub notes_nothing : (test : ℕ → Bool) (a : Bool) → Notes test a [] a
-notes_nothing test false = refl
-notes_nothing test true = refl
-
-pub notes_joined : (test : ℕ → Bool) (a b c : Bool) (x y : List ℕ) → Notes test a x b
-    → Notes test b y c → Notes test a (x ++ y) c
-notes_joined test false b c x y first second = second ∙ ap
-    (λ n. n || list_any test y) first ∙ sym (list_any-append test x y)
-notes_joined test true b c x y first second = second ∙ ap (λ n. n || list_any test y) first

@@ -1,25 +1,23 @@
 //! Locations in whose texts Git reads the same place.
 //!
-//! It uses the settled test, the tests of bytes and the pieces of the writer, and takes no memory. Inside: `web` decides
+//! It uses the settled test, the tests of bytes and the sets of escapes, and takes no memory. Inside: `web` decides
 //! the class of HTTP. Its contract: the answer is yes exactly for the class of the definitions, and in the text of each
 //! location of that class Git reads the location's own protocol, user, host, port and path (`law_git`).
 
 ghost use Rattle.std.specs.Prelude.{◌≡◌, ◌↔◌, IsTrue, IfSome, None, Some, false, option_map};
 ghost use Rattle.std.specs.List.{list_any};
+ghost use Rattle.percent_encoding.specs.AsciiSet.{should_percent_encode};
+ghost use Rattle.git_syntax.specs.Bytes.{FreeOf, begins_with, percent_sign, tilde};
 ghost use Rattle.git_location.specs.Arguments.{is_option_like};
-ghost use Rattle.git_location.specs.GitClass.{AgreesByTransport, AgreesWithGit, HasNoOption, HasPlainText, IsRsync, SuitsTransport, is_contested, is_tilde_second};
-ghost use Rattle.git_location.specs.Pieces.{pieces_text};
-ghost use Rattle.git_location.specs.Sinks.{Notes, notes_joined, notes_nothing};
+ghost use Rattle.git_location.specs.GitClass.{AgreesByTransport, AgreesWithGit, HasNoOption, HasPlainParts, IsOpenHost, IsPlainPart, IsRsync, SuitsTransport, is_contested, is_tilde_second};
 
 mod web;
 
 use crate::url_ref::UrlRef;
-use crate::writer::piece::Pieces;
-use crate::writer::sink::Sink;
-use git_syntax::bytes::starts_with_byte;
+use git_syntax::bytes::{is_free_of, starts_with_byte};
+use git_syntax::escape::{PASSWORD, USER};
 use git_syntax::scheme::SchemeRef;
-use itoa::Buffer;
-use std::convert::Infallible;
+use percent_encoding::AsciiSet;
 use web::agrees_over_web;
 
 impl UrlRef<'_> {
@@ -60,7 +58,7 @@ fn agrees_by_transport(url: &UrlRef<'_>) -> bool
         && url.password.is_none()
         && has_no_option(url)
         && url.is_settled()
-        && has_plain_text(url)
+        && has_plain_parts(url)
 }
 
 /// Whether neither user nor host nor path begins with `-`.
@@ -87,14 +85,23 @@ fn suits_transport(url: &UrlRef<'_>) -> bool
 {
     match url.scheme {
         SchemeRef::Ssh => !is_tilde_second(url.path) && !is_rsync(url) && !url.has_empty_user(),
-        SchemeRef::Git => url.user.is_none(),
-        SchemeRef::File => url.host.is_none() && !starts_with_byte(url.path, b'~'),
+        SchemeRef::Git => url.user.is_none() && is_free_of(url.path, b'\n'),
+        SchemeRef::File => url.host.is_none() && is_plain_file(url),
         SchemeRef::Http
         | SchemeRef::Https
         | SchemeRef::Ext
         | SchemeRef::Helper(_)
         | SchemeRef::HelperUrl(_) => false,
     }
+}
+
+/// Whether the path doesn't begin with `~`, and in a URL has no `%`.
+fn is_plain_file(url: &UrlRef<'_>) -> bool
+    ensures { IsTrue result ↔ (begins_with tilde url.now.path ≡ false)
+        × (url.now.flag ≡ false → FreeOf percent_sign url.now.path) }
+{
+    !starts_with_byte(url.path, b'~')
+        && (url.serialize_alternative_form || is_free_of(url.path, b'%'))
 }
 
 /// Whether the second byte is `~`.
@@ -124,67 +131,63 @@ fn has_host(url: &UrlRef<'_>, name: &[u8]) -> bool
     }
 }
 
-/// Whether the location has a text, without a byte by which Git cuts it otherwise.
-fn has_plain_text(url: &UrlRef<'_>) -> bool
-    ensures { IsTrue result ↔ HasPlainText url.now }
+/// Whether user, host and path are such that Git cuts them out of the text.
+fn has_plain_parts(url: &UrlRef<'_>) -> bool
+    ensures { IsTrue result ↔ HasPlainParts url.now }
 {
-    let mut digits = Buffer::new();
-    match url.own_pieces(&mut digits) {
-        Ok(pieces) => !are_contested(&pieces),
-        Err(_) => false,
+    is_plain_part(url.user, url.serialize_alternative_form, USER)
+        && is_plain_part(url.host, url.serialize_alternative_form, PASSWORD)
+        && has_open_host(url)
+        && !holds_contested(url.path)
+}
+
+/// Whether the user or host, where there is one, stands in the text as it is, without a byte by which Git cuts it.
+fn is_plain_part(part: Option<&str>, is_no_url: bool, escaped: AsciiSet) -> bool
+    ensures { IsTrue result
+        ↔ IfSome (option_map (λ t. t.now) part.entry) (IsPlainPart is_no_url escaped) }
+{
+    match part {
+        None => true,
+        Some(text) => {
+            if is_no_url {
+                !holds_contested(text.as_bytes())
+            } else {
+                !holds_escaped(text.as_bytes(), escaped)
+            }
+        }
     }
 }
 
-/// Whether such a byte stands in the text of the pieces.
-fn are_contested(pieces: &Pieces<'_>) -> bool
-    ensures { result ≡ list_any is_contested (pieces_text pieces.now) }
+/// Whether the host, where there is one, is written without brackets.
+fn has_open_host(url: &UrlRef<'_>) -> bool
+    ensures { IsTrue result ↔ IfSome url.now.host (IsOpenHost url.now) }
 {
-    let mut found = false;
-    let Ok(()) = pieces.put::<bool, Search>(&mut found);
-    found
+    match url.host {
+        None => true,
+        Some(host) => {
+            !(url.serialize_alternative_form || url.port.is_some())
+                || is_free_of(host.as_bytes(), b':')
+        }
+    }
 }
 
 /// Whether the byte is one by which Git cuts a text otherwise.
 fn is_contested(byte: u8) -> bool
     ensures { result ≡ is_contested byte }
 {
-    byte == 0 || byte == b'%' || byte == b'[' || byte == b']'
+    byte == 0 || byte == b'[' || byte == b']'
 }
 
 /// Whether such a byte stands in the text.
 fn holds_contested(text: &[u8]) -> bool
     ensures { result ≡ list_any is_contested text.now }
 {
-    for byte in text {
-        if is_contested(*byte) {
-            return true;
-        }
-    }
-    false
+    text.iter().any(|byte| is_contested(*byte))
 }
 
-/// A note that such a byte was seen.
-struct Search;
-
-impl Sink<bool> for Search {
-    type Fault = Infallible;
-
-    ghost takes = { Notes is_contested };
-
-    ghost ends = { Notes is_contested };
-
-    fn put(place: &mut bool, slice: &str) -> Result<(), Infallible> {
-        Search::put_end(place, slice.as_bytes())
-    }
-
-    fn put_end(place: &mut bool, end: &[u8]) -> Result<(), Infallible> {
-        *place = *place || holds_contested(end);
-        Ok(())
-    }
-
-    ghost takes_nothing = { notes_nothing is_contested };
-
-    ghost takes_joined = { notes_joined is_contested };
-
-    ghost ends_joined = { notes_joined is_contested };
+/// Whether a byte of the text is written as an escape.
+fn holds_escaped(text: &[u8], escaped: AsciiSet) -> bool
+    ensures { result ≡ list_any (should_percent_encode escaped) text.now }
+{
+    text.iter().any(|byte| escaped.should_percent_encode(*byte))
 }

@@ -256,7 +256,7 @@ impl Url {
     ///
     /// The answer is no for what Git hands to another remote helper, for an empty user of Secure Shell, for a local path
     /// that begins with `~`, and for what isn't settled. It is no for some texts that Git reads alike: but for HTTP, among
-    /// them those with brackets or an escape.
+    /// them those with brackets or an escape before the path.
     ///
     /// ```
     /// use gix_url_proved::{parse, Url};

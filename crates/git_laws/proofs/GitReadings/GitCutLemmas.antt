@@ -1,16 +1,17 @@
--- How Git cuts texts without brackets and escapes.
-use Rattle.std.proofs.Common.{◌≡◌, ◌∙◌, ℕ, ◌<◌, ◌≤◌, Bool, true, false, List, [], ◌∷◌, ◌++◌, length, decimal, Option, Some, None, if◌then◌else◌, ◌==◌, nat_le, eq-eqb, inl, inr, refl, sym, ap, subst, arith, append_assoc, append-nil}
+-- How Git decodes texts without byte 0, and cuts texts without brackets.
+use Rattle.std.proofs.Common.{◌≡◌, ◌∙◌, ℕ, ◌<◌, ◌≤◌, Bool, true, false, List, [], ◌∷◌, ◌++◌, length, decimal, Option, Some, None, if◌then◌else◌, not, ◌==◌, nat_le, eq-eqb, inl, inr, refl, sym, ap, subst, arith, append_assoc, append-nil}
 use Rattle.std.specs.List.{list_all}
 use Rattle.std.specs.Char.{is_ascii_digit}
 use Rattle.std.specs.Str.Parse.{digits_value}
-use Rattle.std.proofs.lemmas.Bool.{cond-true, cond-false, and_left, and_right, and_from, false≢true, both_ways, and_parts}
+use Rattle.std.proofs.lemmas.Bool.{cases_Bool, cond-true, cond-false, and_left, and_right, and_from, false≢true, both_ways, and_parts}
 use Rattle.std.proofs.lemmas.Bool.Decides.{nat_tests}
+use Rattle.percent_encoding.specs.Percent.{is_escape, percent_decode}
 use Rattle.git_syntax.specs.Bytes.{percent_sign, colon, left_bracket, plus_sign, hyphen, FreeOf, Holds}
 use Rattle.git_syntax.specs.Hosts.{HoldsTwoColons}
 use Rattle.git_syntax.specs.Hosts.Mode.{bare}
 use Rattle.git_location.specs.Text.{port_part}
-use Rattle.git_laws.specs.Git.{is_git_escape, git_decode, host_mark, LacksHostBrackets, HostEnd, CutsPlace, is_c_space, digits_port, negative_port, signed_port, git_port, BeforePort, HostAndPort, SecurePort}
-use Rattle.git_syntax.proofs.Texts.CutLemmas.{heads, tails, not_free, free_parts, free_head_tail, free_begins, free_or_cut, free-append}
+use Rattle.git_laws.specs.Git.{escaped_byte, is_git_escape, git_decode, host_mark, LacksHostBrackets, HostEnd, CutsPlace, is_c_space, digits_port, negative_port, signed_port, git_port, BeforePort, HostAndPort, SecurePort}
+use Rattle.git_syntax.proofs.Texts.CutLemmas.{heads, tails, not_free, free_parts, free_head_tail, free_begins, free_or_cut, free-append, free-cons}
 use Rattle.git_syntax.proofs.Readings.HostLemmas.{number_written}
 
 -- ---- brackets
@@ -53,6 +54,32 @@ git_decode_kept (b ∷ c ∷ []) free = refl
 git_decode_kept (b ∷ high ∷ low ∷ rest) free =
     let parts = free_head_tail percent_sign b (high ∷ low ∷ rest) free in
     cond-false _ _ _ (no_git_escape b high low parts.0) ∙ ap (λ x. b ∷ x) (git_decode_kept (high ∷ low ∷ rest) parts.1)
+
+-- no byte of an escape is byte 0
+escape_bytes : (b high low : ℕ) → is_escape b high low ≡ true → ((b == 0) ≡ false) × ((high == 0) ≡ false) × ((low == 0) ≡ false)
+escape_bytes b high low escape = (grind (arith, nat_tests), grind (arith, nat_tests), grind (arith, nat_tests))
+
+-- a text that decodes to one without byte 0 is decoded to that, and has none itself
+pub git_decoded : (t : List ℕ) → FreeOf 0 (percent_decode t) → (git_decode t ≡ percent_decode t) × FreeOf 0 t
+unfolding percent_decode
+git_decoded [] free = (refl, refl)
+git_decoded (b ∷ []) free = (refl, free)
+git_decoded (b ∷ c ∷ []) free = (refl, free)
+git_decoded (b ∷ high ∷ low ∷ rest) free =
+    elim (cases_Bool (is_escape b high low)) [
+      | inl escape ↦
+          let e : percent_decode (b ∷ high ∷ low ∷ rest) ≡ escaped_byte high low ∷ percent_decode rest = cond-true _ _ _ escape in
+          let parts = free_head_tail 0 (escaped_byte high low) (percent_decode rest) (subst (λ t. FreeOf 0 t) e free) in
+          let behind = git_decoded rest parts.1 in
+          let (first, second, third) = escape_bytes b high low escape in
+          (cond-true _ _ _ (and_from _ _ escape (ap not parts.0)) ∙ ap (λ t. escaped_byte high low ∷ t) behind.0 ∙ sym e,
+          free-cons 0 b (high ∷ low ∷ rest) first (free-cons 0 high (low ∷ rest) second (free-cons 0 low rest third behind.1)))
+      | inr other ↦
+          let e : percent_decode (b ∷ high ∷ low ∷ rest) ≡ b ∷ percent_decode (high ∷ low ∷ rest) = cond-false _ _ _ other in
+          let parts = free_head_tail 0 b (percent_decode (high ∷ low ∷ rest)) (subst (λ t. FreeOf 0 t) e free) in
+          let behind = git_decoded (high ∷ low ∷ rest) parts.1 in
+          (cond-false _ _ _ (and_left _ _ other) ∙ ap (λ t. b ∷ t) behind.0 ∙ sym e, free-cons 0 b (high ∷ low ∷ rest) parts.0 behind.1)
+    ]
 
 -- ---- ports
 

@@ -1,26 +1,27 @@
 -- Git reads the same place: in the text of each location of the class it reads the location's own parts.
-use Rattle.std.proofs.Common.{◌≡◌, ◌∙◌, ℕ, ◌<◌, false, ◌⊎◌, inl, inr, List, [], ◌∷◌, ◌++◌, length, Option, Some, None, Ok, IfSome, IsUtf8, codes, refl, sym, ap, subst, arith, append_assoc}
+use Rattle.std.proofs.Common.{◌≡◌, ◌∙◌, ℕ, ◌<◌, true, false, ◌⊎◌, inl, inr, List, [], ◌∷◌, ◌++◌, length, ◌==◌, Option, Some, None, Ok, IfSome, IsUtf8, codes, refl, sym, ap, subst, arith, append_assoc}
+use Rattle.git_syntax.specs.declared.escape.TheConstants.{PASSWORD, USER}
 use Rattle.git_syntax.specs.Value.{Protocol, Location}
 use Rattle.git_syntax.specs.Value.Protocol.{file, git, http, https, ssh}
-use Rattle.git_syntax.specs.Bytes.{slash, colon, at_sign, left_bracket, tilde, FreeOf, begins_with}
+use Rattle.git_syntax.specs.Bytes.{percent_sign, slash, colon, at_sign, left_bracket, right_bracket, tilde, FreeOf, begins_with}
 use Rattle.git_syntax.specs.Grammar.{ScpFront, IsNeither, IsScpShaped}
 use Rattle.git_location.specs.Arguments.{is_option_like}
 use Rattle.git_location.specs.Text.{raw_user, raw_host, canonical_text, text}
 use Rattle.git_location.specs.Settled.{IsValue, IsWeb, IsNormalAddress, IsScpName, IsSettledLocal, IsSettledFile, IsSettledScp, IsSettledBy, LooksLikeHelper}
 use Rattle.std.proofs.lemmas.Option.{IfSome_then}
 use Rattle.git_laws.specs.Git.{HostAndPort, on_this_machine, IsNoUrl, IsLocal, ReachesSecure, ReadsGiven}
-use Rattle.git_location.specs.GitClass.{is_tilde_second, IsRsync, SuitsTransport, AgreesByTransport, AgreesBy}
+use Rattle.git_location.specs.GitClass.{is_contested, IsPlainPart, IsOpenHost, HasPlainParts, is_tilde_second, IsRsync, SuitsTransport, AgreesByTransport, AgreesBy}
 use Rattle.git_location.specs.WebClass.{AgreesOverWeb}
 use Rattle.git_laws.specs.GitWeb.{ReadsOwnOverWeb}
 use Rattle.git_laws.specs.GitClass.{own_reading, ReadsOwnBy, ReadAlike}
-use Rattle.git_syntax.proofs.Texts.CutLemmas.{begins_cut, cut_unique, free-append, free_or_cut, free_parts, not_free}
+use Rattle.git_syntax.proofs.Texts.CutLemmas.{begins_cut, cut_unique, free-append, free-cons, free_of_lacked, free_or_cut, free_parts, not_free}
 use Rattle.git_syntax.proofs.Addresses.AddressLemmas.{address_two_colons}
 use Rattle.git_laws.proofs.Written.FileLemmas.{hostless_text}
 use Rattle.git_laws.proofs.Written.KeptLemmas.{flagged_text}
 use Rattle.git_laws.proofs.Written.WrittenScpLemmas.{scp_value_of, scp_written, scp_spelled}
-use Rattle.git_laws.proofs.GitReadings.GitCutLemmas.{lacks_brackets, nothing_passed, place_cut, portless_free}
+use Rattle.git_laws.proofs.GitReadings.GitCutLemmas.{git_decode_kept, lacks_brackets, nothing_passed, place_cut, portless_free}
 use Rattle.git_laws.proofs.GitReadings.GitPieceLemmas.{from_tilde_kept, scp_host_raw}
-use Rattle.git_laws.proofs.GitReadings.GitTransportLemmas.{IsUncontested, IsReadBy, plain_text, own_read, secure_reading, word_of, secure_reached, host_safe, own_url, behind_plain, secure_url_alike, git_url_alike}
+use Rattle.git_laws.proofs.GitReadings.GitTransportLemmas.{IsReadBy, own_read, secure_reading, word_of, secure_reached, host_safe, own_url, secure_url_alike, git_url_alike}
 use Rattle.git_laws.proofs.GitReadings.WebCredentialLemmas.{credential_own}
 use Rattle.git_laws.proofs.GitReadings.WebTextLemmas.{web_text}
 use Rattle.git_laws.proofs.GitReadings.WebUriLemmas.{uri_own}
@@ -29,31 +30,32 @@ use Rattle.git_syntax.proofs.Readings.FormLemmas.{scp_neither}
 
 -- ---- this machine
 
+-- the path is free of a byte by which Git cuts a text
+path_free : (v : Location) → HasPlainParts v → (c : ℕ) → is_contested c ≡ true → FreeOf c v.path
+path_free v plain c contested = free_of_lacked is_contested c v.path plain.path contested
+
 -- a location without a user, a host and a port is one of this machine
 machine_reading : (v : Location) → v.scheme ≡ file → v.user ≡ None → v.host ≡ None → v.port ≡ None → own_reading v ≡ on_this_machine v.path
 machine_reading v scheme user host port = λ i. record { protocol = scheme i; user = user i; host = host i; port = port i; path = v.path }
 
 -- behind `file://` stands the path alone
-file_url_reads : (path rest : List ℕ) → path ≡ slash ∷ rest → IsUncontested path → ReadsGiven (codes "file://" ++ path) (on_this_machine path)
-file_url_reads path rest e plain =
-    ReadsGiven.file_url path [] rest (own_url file (codes "file") path refl plain.percent) (place_cut slash path [] rest plain.left refl e) (ap on_this_machine e)
+file_url_reads : (path rest : List ℕ) → path ≡ slash ∷ rest → FreeOf percent_sign path → FreeOf left_bracket path → ReadsGiven (codes "file://" ++ path) (on_this_machine path)
+file_url_reads path rest e plain left =
+    ReadsGiven.file_url path [] rest (own_url file (codes "file") path path refl (git_decode_kept path plain)) (place_cut slash path [] rest left refl e) (ap on_this_machine e)
 
 -- a settled file URL without a host
-file_url_alike : (v : Location) → v.scheme ≡ file → AgreesByTransport v → v.host ≡ None → IsSettledFile v → IsReadBy file v
-file_url_alike v e a none h =
+file_url_alike : (v : Location) → v.scheme ≡ file → AgreesByTransport v → v.host ≡ None → FreeOf percent_sign v.path → IsSettledFile v → IsReadBy file v
+file_url_alike v e a none plain h =
     let (rest, rooted) = begins_cut slash v.path h.rooted in
-    let (t, has, lacks) = a.plain in
-    let written = hostless_text v e h none in
-    let plain = behind_plain v (codes "file") v.path (plain_text v t (codes "file://" ++ v.path) has lacks written) in
-    own_read v (codes "file://" ++ v.path) (on_this_machine v.path) (machine_reading v e h.alone.0 none h.alone.2) written a refl (file_url_reads v.path rest rooted plain)
+    own_read v (codes "file://" ++ v.path) (on_this_machine v.path) (machine_reading v e h.alone.0 none h.alone.2) (hostless_text v e h none) (free-append 0 (codes "file://") v.path refl (path_free v a.plain 0 refl)) refl (file_url_reads v.path rest rooted plain (path_free v a.plain left_bracket refl))
 
 -- without brackets a colon before any `/` would make it the scp form
-unshaped : (t front rest : List ℕ) → IsUncontested t → IsNeither t → ¬ IsScpShaped t → FreeOf colon front → t ≡ front ++ colon ∷ rest → ¬ FreeOf slash front
+unshaped : (t front rest : List ℕ) → FreeOf right_bracket t → IsNeither t → ¬ IsScpShaped t → FreeOf colon front → t ≡ front ++ colon ∷ rest → ¬ FreeOf slash front
 unshaped t front rest plain neither no_scp first e free =
-    no_scp (inl (front, rest, record { joined = e; neither = neither; no_slash = free; shape = ScpFront.plain first (inr plain.right) }))
+    no_scp (inl (front, rest, record { joined = e; neither = neither; no_slash = free; shape = ScpFront.plain first (inr plain) }))
 
 -- so it has no colon, or a `/` before it
-local_text : (t : List ℕ) → IsUncontested t → IsNeither t → ¬ IsScpShaped t → IsLocal t
+local_text : (t : List ℕ) → FreeOf right_bracket t → IsNeither t → ¬ IsScpShaped t → IsLocal t
 local_text t plain neither no_scp =
     elim (free_or_cut colon t) [
       | inl free ↦ inl free
@@ -66,7 +68,7 @@ local_text t plain neither no_scp =
     ]
 
 -- such a text is neither a URL nor for a remote helper nor for `rsync`
-local_no_url : (t : List ℕ) → IsUncontested t → IsNeither t → ¬ IsScpShaped t → IsNoUrl t
+local_no_url : (t : List ℕ) → FreeOf right_bracket t → IsNeither t → ¬ IsScpShaped t → IsNoUrl t
 local_no_url t plain neither no_scp = record {
   no_mark = neither.no_mark;
   no_helper = neither.no_helper;
@@ -77,14 +79,12 @@ local_no_url t plain neither no_scp = record {
 -- a settled local path
 local_alike : (v : Location) → v.scheme ≡ file → AgreesByTransport v → begins_with tilde v.path ≡ false → IsSettledLocal v → IsReadBy file v
 local_alike v e a homeless h =
-    let (t, has, lacks) = a.plain in
-    let written : text v ≡ Ok v.path = flagged_text v e h in
-    let plain = plain_text v t v.path has lacks written in
-    own_read v v.path (on_this_machine v.path) (machine_reading v e h.bare.1.0 h.bare.2 h.bare.1.2) written a a.no_option.path (ReadsGiven.local_path [] v.path (local_no_url v.path plain h.shape.neither h.shape.no_scp) (local_text v.path plain h.shape.neither h.shape.no_scp) (nothing_passed v.path plain.left) h.shape.nonempty a.no_option.path homeless refl)
+    let plain = path_free v a.plain right_bracket refl in
+    own_read v v.path (on_this_machine v.path) (machine_reading v e h.bare.1.0 h.bare.2 h.bare.1.2) (flagged_text v e h) (path_free v a.plain 0 refl) a.no_option.path (ReadsGiven.local_path [] v.path (local_no_url v.path plain h.shape.neither h.shape.no_scp) (local_text v.path plain h.shape.neither h.shape.no_scp) (nothing_passed v.path (path_free v a.plain left_bracket refl)) h.shape.nonempty a.no_option.path homeless refl)
 
 -- ---- the scp form
 
--- the pieces of a settled location in the scp form whose text has no bracket
+-- the pieces of a settled location in the scp form whose host has no colon
 record IsScpText (v : Location) (host : List ℕ) : Type 0 where
   there : v.host ≡ Some host
   host_same : raw_host (Some host) ≡ host
@@ -119,16 +119,21 @@ scp_pieces v host h there same name free neither has =
       written = has ∙ ap Ok joined;
     }
 
--- and it goes without them where the text has none
+-- and it goes without them in the class
 scp_text : (v : Location) (host : List ℕ) → v.scheme ≡ ssh → IsValue v → AgreesByTransport v → IsSettledScp v → v.host ≡ Some host → IsScpName host ⊎ IsNormalAddress host → ¬ LooksLikeHelper v host → IsScpText v host
 scp_text v host e is a h there kind other =
-    let whole = raw_user v.user ++ (raw_host (Some host) ++ colon ∷ v.path) in
-    let (t, given, lacks) = a.plain in
-    let has : text v ≡ Ok whole = ap (λ l. text l) (scp_value_of v host e h there) ∙ scp_written v.user host v.path v.spelling in
-    let open_text = (plain_text v t whole given lacks has).left in
-    let (same, free) = scp_host_raw host (free_parts left_bracket (raw_host (Some host)) (colon ∷ v.path) (free_parts left_bracket (raw_user v.user) (raw_host (Some host) ++ colon ∷ v.path) open_text).1).0 in
+    let has : text v ≡ Ok (raw_user v.user ++ (raw_host (Some host) ++ colon ∷ v.path)) = ap (λ l. text l) (scp_value_of v host e h there) ∙ scp_written v.user host v.path v.spelling in
+    let free = subst (λ o. IfSome o (IsOpenHost v)) there a.plain.unbracketed (inl h.flagged) in
     let spelled = scp_spelled v.user host v.path is.user (subst (λ o. IfSome o IsUtf8) there is.host) h.user kind h.path other in
-    scp_pieces v host h there same (scp_name host free kind) free (scp_neither spelled) has
+    scp_pieces v host h there (scp_host_raw host free) (scp_name host free kind) free (scp_neither spelled) has
+
+-- the text is free of a byte by which Git cuts it otherwise
+scp_free : (v : Location) (host : List ℕ) → v.flag ≡ true → HasPlainParts v → v.host ≡ Some host → (c : ℕ) → is_contested c ≡ true → (at_sign == c) ≡ false → (colon == c) ≡ false → FreeOf c (word_of v.user host ++ colon ∷ v.path)
+scp_free v host flagged plain there c contested other mark =
+    let user = subst (λ f. IfSome v.user (IsPlainPart f USER)) flagged plain.user in
+    let named = subst (λ f. IsPlainPart f PASSWORD host) flagged (subst (λ o. IfSome o (IsPlainPart v.flag PASSWORD)) there plain.host) in
+    let front = user_free c v.user (free-cons c at_sign [] other refl) (IfSome_then v.user user (λ u lacks. free_of_lacked is_contested c u lacks contested)) in
+    free-append c (word_of v.user host) (colon ∷ v.path) (free-append c (raw_user v.user) host front (free_of_lacked is_contested c host named contested)) (free-cons c colon v.path mark (path_free v plain c contested))
 
 -- a word with a host isn't empty
 word_nonempty : (user : Option (List ℕ)) (host : List ℕ) → 0 < length host → 0 < length (word_of user host)
@@ -176,20 +181,19 @@ scp_alike : (v : Location) → v.scheme ≡ ssh → IsValue v → AgreesByTransp
 scp_alike v e is a suits h =
     let (host, there, kind, other) = h.host in
     let found = scp_text v host e is a h there kind other in
-    let (t, has, lacks) = a.plain in
-    let free = (plain_text v t (word_of v.user host ++ colon ∷ v.path) has lacks found.written).left in
+    let free = scp_free v host h.flagged a.plain there in
     let value : own_reading v ≡ secure_reading v.user (Some host) None v.path = λ i. record { protocol = e i; user = v.user; host = there i; port = h.no_port i; path = v.path } in
-    own_read v (word_of v.user host ++ colon ∷ v.path) (secure_reading v.user (Some host) None v.path) value found.written a (word_option v.user host v.path found.name.normal.unbracketed.nonempty a.no_option.user (host_safe v host there a.no_option)) (scp_reads v host h found a suits.0 suits.1 suits.2 free)
+    own_read v (word_of v.user host ++ colon ∷ v.path) (secure_reading v.user (Some host) None v.path) value found.written (free 0 refl refl refl) (word_option v.user host v.path found.name.normal.unbracketed.nonempty a.no_option.user (host_safe v host there a.no_option)) (scp_reads v host h found a suits.0 suits.1 suits.2 (free left_bracket refl refl refl))
 
 -- ---- all kinds
 
 -- of Git's own transports, by protocol
 transport_read : (p : Protocol) (v : Location) → v.scheme ≡ p → IsValue v → AgreesByTransport v → SuitsTransport p v → IsSettledBy p v → IsReadBy p v
 transport_read file v e is a suits (inl h) = local_alike v e a suits.1 h
-transport_read file v e is a suits (inr h) = file_url_alike v e a suits.0 h
+transport_read file v e is a suits (inr h) = file_url_alike v e a suits.0 (suits.2 h.unflagged) h
 transport_read ssh v e is a suits (inl h) = scp_alike v e is a suits h
 transport_read ssh v e is a suits (inr h) = secure_url_alike v e is a suits.2 h
-transport_read git v e is a suits h = git_url_alike v e is a suits h
+transport_read git v e is a suits h = git_url_alike v e is a suits.0 suits.1 h
 transport_read _ v e is a suits h = absurd suits
 
 -- of HTTP both readers read the location's own

@@ -1,130 +1,107 @@
--- The pieces of a written text without escapes and brackets: user, host, port and path stand in it as they are.
-use Rattle.std.proofs.Common.{◌≡◌, ◌∙◌, ⊎_elim, ℕ, ◌<◌, Bool, true, false, not, ◌⊎◌, inl, inr, List, [], ◌∷◌, ◌++◌, decimal, Option, Some, None, IfSome, ◌==◌, refl, sym, ap, subst, arith}
-use Rattle.std.specs.Prelude.{◌&&◌}
+-- The pieces of a written text: a plain user and host and the port stand in it as they are, and the path is decoded.
+use Rattle.std.proofs.Common.{◌≡◌, ◌∙◌, ℕ, ◌<◌, true, false, not, ◌⊎◌, inl, inr, List, [], ◌∷◌, ◌++◌, decimal, Option, Some, None, IfSome, ◌==◌, if◌then◌else◌, refl, sym, ap, subst}
+use Rattle.std.specs.Prelude.{IsSome}
 use Rattle.std.specs.Char.{is_ascii_digit}
-use Rattle.std.proofs.lemmas.Bool.{cases_Bool, cond-true, cond-false, and_right, and_from, false≢true, true≢false, both_ways, not_from_true}
+use Rattle.std.proofs.lemmas.Bool.{cases_Bool, cond-true, cond-false, and_left, and_right, and_from, or_from, not_from_true}
 use Rattle.percent_encoding.specs.AsciiSet.{contains, should_percent_encode}
 use Rattle.percent_encoding.specs.declared.ascii_set.AsciiSet.{AsciiSet}
-use Rattle.percent_encoding.specs.Percent.{percent_encode, percent_encode_byte}
-use Rattle.percent_encoding.proofs.PercentLemmas.{percent_encode-nil, percent_encode_escaped, percent_encode_kept}
+use Rattle.percent_encoding.specs.Percent.{percent_decode, percent_encode}
+use Rattle.percent_encoding.proofs.AsciiSetLemmas.{ascii_from_kept, escaped_from_inside, kept_from_outside, outside_from_kept}
+use Rattle.percent_encoding.proofs.PercentLemmas.{percent_encode-nil, percent_encode_kept}
 use Rattle.git_syntax.specs.declared.escape.TheConstants.{PASSWORD, USER}
 use Rattle.git_syntax.specs.Value.{Protocol, Location}
 use Rattle.git_syntax.specs.Value.Protocol.{ssh, git}
-use Rattle.git_syntax.specs.Bytes.{newline, percent_sign, slash, colon, at_sign, left_bracket, tilde, FreeOf, begins_with}
-use Rattle.git_syntax.specs.Escapes.{has_percent}
+use Rattle.git_syntax.specs.Addresses.{IsIpv6Text}
 use Rattle.git_syntax.specs.AddressTest.{is_ipv6_text}
+use Rattle.git_syntax.specs.Bytes.{percent_sign, slash, colon, at_sign, tilde, FreeOf, Lacks, begins_with}
+use Rattle.git_syntax.specs.Escapes.{is_password_escaped}
 use Rattle.git_syntax.specs.Schemes.{requires_path}
-use Rattle.git_location.specs.Text.{has_colon, wants_brackets, raw_user, raw_host, keeps_host, open_host, needs_brackets, canonical_host, user_information, port_part, root_part, plain_path, matching_or, canonical_path}
-use Rattle.git_location.specs.Settled.{HasMatch, IsTransportPath, HasFairSpelling}
+use Rattle.git_location.specs.Text.{wants_brackets, raw_user, raw_host, keeps_host, needs_brackets, canonical_host, user_information, port_part, root_part, plain_path, matching_or, canonical_path}
+use Rattle.git_location.specs.Settled.{IsRawPath, IsTransportPath}
 use Rattle.git_syntax.specs.Grammar.{begins_at_home}
 use Rattle.git_laws.specs.Git.{from_tilde}
 use Rattle.git_location.specs.GitClass.{is_tilde_second}
-use Rattle.git_syntax.proofs.Texts.CutLemmas.{free_parts, free_head_tail, free-append, free-cons, free_of_all, free_begins, begins_cut}
-use Rattle.git_syntax.proofs.Texts.EscapeLemmas.{encode_free}
+use Rattle.git_syntax.proofs.Addresses.AddressTestLemmas.{ipv6_text_to}
+use Rattle.git_syntax.proofs.Texts.CutLemmas.{lacks-cons, lacks_head_tail, free_head_tail, free-append, free-cons, free_of_all, free_of_lacked, begins_cut}
+use Rattle.git_syntax.proofs.Texts.EscapeLemmas.{decode_byte, decode_kept}
 use Rattle.git_syntax.proofs.Texts.EscapeSets.{password_holds, user_holds}
 use Rattle.git_syntax.proofs.Readings.HostLemmas.{decimal_digits}
-use Rattle.git_laws.proofs.Written.PieceTextLemmas.{user_no_colon}
-use Rattle.git_laws.proofs.Written.WrittenPathLemmas.{matched, unmatched}
+use Rattle.git_laws.proofs.Written.WrittenPathLemmas.{matching_cases}
 
--- ---- escaped texts
+-- ---- bytes that are kept
 
--- an escape has a `%`
-escape_not_free : (b : ℕ) (rest : List ℕ) → FreeOf percent_sign (percent_encode_byte b ++ rest) → ⊥
-unfolding percent_encode_byte
-escape_not_free b rest free = false≢true (sym free)
+-- a text of which no byte is written as an escape is written as it is
+unescaped : (set : AsciiSet) (t : List ℕ) → Lacks (should_percent_encode set) t → percent_encode set t ≡ t
+unescaped set [] kept = percent_encode-nil set
+unescaped set (b ∷ bs) kept =
+    let parts = lacks_head_tail (should_percent_encode set) b bs kept in
+    percent_encode_kept set b bs parts.0 ∙ ap (λ t. b ∷ t) (unescaped set bs parts.1)
 
--- a text that is written without `%` is written as it is
-pub unescaped : (set : AsciiSet) (t : List ℕ) → FreeOf percent_sign (percent_encode set t) → percent_encode set t ≡ t
-unescaped set [] free = percent_encode-nil set
-unescaped set (b ∷ bs) free = ⊎_elim
-    (λ out. absurd (escape_not_free b (percent_encode set bs) (subst (λ t. FreeOf percent_sign t) (percent_encode_escaped set b bs out) free)))
-    (λ kept.
-    let e = percent_encode_kept set b bs kept in
-    e ∙ ap (λ t. b ∷ t) (unescaped set bs (free_head_tail percent_sign b (percent_encode set bs) (subst (λ t. FreeOf percent_sign t) e free)).1))
-    (cases_Bool (should_percent_encode set b))
+-- and is free of the bytes of the set
+pub kept_free : (set : AsciiSet) (t : List ℕ) → Lacks (should_percent_encode set) t → (c : ℕ) → contains set c ≡ true → FreeOf c t
+kept_free set t kept c inside = free_of_lacked (should_percent_encode set) c t kept (escaped_from_inside set c inside)
 
--- and is free of what would be escaped
-kept_free : (set : AsciiSet) (t : List ℕ) (c : ℕ) → FreeOf percent_sign (percent_encode set t) → FreeOf c (percent_encode set t) → FreeOf c t
-kept_free set t c free there = subst (λ x. FreeOf c x) (unescaped set t free) there
+-- a byte of a user is written as it is where that of a password is, but for a colon
+user_byte_kept : (b : ℕ) → should_percent_encode PASSWORD b ≡ false → (b == colon) ≡ false → should_percent_encode USER b ≡ false
+user_byte_kept b kept other =
+    let ascii = ascii_from_kept PASSWORD b kept in
+    let outside : is_password_escaped b ≡ false = sym (password_holds b ascii) ∙ outside_from_kept PASSWORD b kept in
+    kept_from_outside USER b ascii (user_holds b ascii ∙ or_from _ _ outside other)
+
+-- and so is a text
+user_kept : (t : List ℕ) → Lacks (should_percent_encode PASSWORD) t → FreeOf colon t → Lacks (should_percent_encode USER) t
+user_kept [] kept free = refl
+user_kept (b ∷ bs) kept free =
+    let parts = lacks_head_tail (should_percent_encode PASSWORD) b bs kept in
+    let others = free_head_tail colon b bs free in
+    lacks-cons (should_percent_encode USER) b bs (user_byte_kept b parts.0 others.0) (user_kept bs parts.1 others.1)
 
 -- ---- the user
 
 -- the user stands in the text as it is
 pub record IsUserRaw (user : Option (List ℕ)) : Type 0 where
   pub written : user_information user None ≡ raw_user user
-  pub no_colon : FreeOf colon (raw_user user)
-  pub no_slash : FreeOf slash (raw_user user)
+  pub free : (c : ℕ) → contains USER c ≡ true → (at_sign == c) ≡ false → FreeOf c (raw_user user)
 
--- it does where no `%` is written
-pub user_raw : (user : Option (List ℕ)) → FreeOf percent_sign (user_information user None) → IsUserRaw user
-user_raw None free = record { written = refl; no_colon = refl; no_slash = refl }
-user_raw (Some u) free =
-    let plain = (free_parts percent_sign (percent_encode USER u) (at_sign ∷ []) free).0 in record {
-      written = ap (λ t. t ++ at_sign ∷ []) (unescaped USER u plain);
-      no_colon = free-append colon u (at_sign ∷ []) (kept_free USER u colon plain (user_no_colon u)) refl;
-      no_slash = free-append slash u (at_sign ∷ []) (kept_free USER u slash plain (encode_free USER u slash (user_holds slash (omega arith)) refl)) refl;
-    }
+-- it does where no byte of it is written as an escape
+pub user_raw : (user : Option (List ℕ)) → IfSome user (λ u. Lacks (should_percent_encode USER) u) → IsUserRaw user
+user_raw None kept = record { written = refl; free = λ c inside other. refl }
+user_raw (Some u) kept = record {
+  written = ap (λ t. t ++ at_sign ∷ []) (unescaped USER u kept);
+  free = λ c inside other. free-append c u (at_sign ∷ []) (kept_free USER u kept c inside) (free-cons c at_sign [] other refl);
+}
 
 -- ---- the host
 
 -- the host stands in the text as it is
 pub record IsHostRaw (v : Location) (host : List ℕ) : Type 0 where
-  pub unmarked : needs_brackets v.port host ≡ false
   pub written : canonical_host v host ≡ host
-  pub no_at : FreeOf at_sign host
-  pub no_slash : FreeOf slash host
-  pub no_line : FreeOf newline host
+  pub free : (c : ℕ) → contains PASSWORD c ≡ true → FreeOf c host
 
--- it is escaped by a set that has these bytes
-encoded_raw : (v : Location) (host : List ℕ) (set : AsciiSet) → needs_brackets v.port host ≡ false → contains set at_sign ≡ true → contains set slash ≡ true → contains set newline ≡ true → canonical_host v host ≡ percent_encode set host → FreeOf percent_sign (canonical_host v host) → IsHostRaw v host
-encoded_raw v host set unmarked at_in slash_in line_in e free =
-    let plain = subst (λ t. FreeOf percent_sign t) e free in record {
-      unmarked = unmarked;
-      written = e ∙ unescaped set host plain;
-      no_at = kept_free set host at_sign plain (encode_free set host at_sign at_in refl);
-      no_slash = kept_free set host slash plain (encode_free set host slash slash_in refl);
-      no_line = kept_free set host newline plain (encode_free set host newline line_in refl);
-    }
+-- without brackets an address is, and a host without a colon
+open_written : (host : List ℕ) → Lacks (should_percent_encode PASSWORD) host → IsIpv6Text host ⊎ FreeOf colon host → (if is_ipv6_text host then percent_encode PASSWORD host else percent_encode USER host) ≡ host
+open_written host kept (inl address) = cond-true _ _ _ (ipv6_text_to host address) ∙ unescaped PASSWORD host kept
+open_written host kept (inr free) =
+    elim (cases_Bool (is_ipv6_text host)) [
+      | inl address ↦ cond-true _ _ _ address ∙ unescaped PASSWORD host kept
+      | inr other ↦ cond-false _ _ _ other ∙ unescaped USER host (user_kept host kept free)
+    ]
 
--- it does where neither `%` nor `[` is written
-pub host_raw : (v : Location) (host : List ℕ) → keeps_host v.scheme ≡ false → FreeOf percent_sign (canonical_host v host) → FreeOf left_bracket (canonical_host v host) → IsHostRaw v host
-host_raw v host escapes free unbracketed = ⊎_elim
-    (λ marked. absurd (false≢true (sym (subst (λ t. FreeOf left_bracket t) (cond-true _ _ _ marked) unbracketed))))
-    (λ unmarked.
-    let bare : canonical_host v host ≡ open_host v.scheme host = cond-false _ _ _ unmarked in
-    ⊎_elim
-    (λ address. encoded_raw v host PASSWORD unmarked (password_holds at_sign (omega arith)) (password_holds slash (omega arith)) (password_holds newline (omega arith)) (bare ∙ cond-false _ _ _ escapes ∙ cond-true _ _ _ address) free)
-    (λ other. encoded_raw v host USER unmarked (user_holds at_sign (omega arith)) (user_holds slash (omega arith)) (user_holds newline (omega arith)) (bare ∙ cond-false _ _ _ escapes ∙ cond-false _ _ _ other) free)
-    (cases_Bool (is_ipv6_text host)))
-    (cases_Bool (needs_brackets v.port host))
+-- it does where no byte of it is written as an escape
+pub host_raw : (v : Location) (host : List ℕ) → keeps_host v.scheme ≡ false → needs_brackets v.port host ≡ false → Lacks (should_percent_encode PASSWORD) host → IsIpv6Text host ⊎ FreeOf colon host → IsHostRaw v host
+host_raw v host escapes unmarked kept kind = record {
+  written = cond-false _ _ _ unmarked ∙ cond-false _ _ _ escapes ∙ open_written host kept kind;
+  free = kept_free PASSWORD host kept;
+}
 
--- no brackets are wanted: then no colon stands in it
-unwanted_by : (colons bracket : Bool) → bracket ≡ false → (colons && not bracket) ≡ false → colons ≡ false
-unwanted_by false bracket front unwanted = refl
-unwanted_by true false front unwanted = unwanted
-unwanted_by true true front unwanted = absurd (true≢false front)
+-- and goes without brackets where it has no colon beside a port
+pub unmarked : (port : Option ℕ) (host : List ℕ) → FreeOf percent_sign host → (IsSome port → FreeOf colon host) → needs_brackets port host ≡ false
+unmarked None host free beside = and_right (wants_brackets host) _ free
+unmarked (Some p) host free beside = and_left _ _ (and_left _ _ (beside refl))
 
--- so it is with a host that has no bracket at its front
-pub unwanted_free : (host : List ℕ) → FreeOf left_bracket host → wants_brackets host ≡ false → FreeOf colon host
-unwanted_free host free unwanted = unwanted_by (has_colon host) (begins_with left_bracket host) (free_begins left_bracket host free) unwanted
-
--- what fails beside `true` fails
-only_first : (wanted : Bool) → (wanted && true) ≡ false → wanted ≡ false
-only_first false h = refl
-only_first true h = h
-
--- beside a port a host without brackets has no colon
-pub beside_port : (port : ℕ) (host : List ℕ) → FreeOf left_bracket host → needs_brackets (Some port) host ≡ false → FreeOf colon host
-beside_port port host free unmarked = unwanted_free host free (only_first (wants_brackets host) unmarked)
-
--- the host of the scp form stands in the text as it is
-pub scp_host_raw : (host : List ℕ) → FreeOf left_bracket (raw_host (Some host)) → (raw_host (Some host) ≡ host) × FreeOf colon host
-scp_host_raw host free = ⊎_elim
-    (λ wants. absurd (false≢true (sym (subst (λ t. FreeOf left_bracket t) (cond-true _ _ _ wants) free))))
-    (λ unwanted.
-    let same : raw_host (Some host) ≡ host = cond-false _ _ _ unwanted in
-    (same, unwanted_free host (subst (λ t. FreeOf left_bracket t) same free) unwanted))
-    (cases_Bool (wants_brackets host))
+-- the host of the scp form stands in the text as it is where it has no colon
+pub scp_host_raw : (host : List ℕ) → FreeOf colon host → raw_host (Some host) ≡ host
+scp_host_raw host free = cond-false _ _ _ (and_left _ _ free)
 
 -- ---- the port
 
@@ -136,19 +113,12 @@ port_free c (Some p) other mark small =
 
 -- ---- the path
 
--- of a path that is written without `%` no spelling matches
-pub no_match : (v : Location) → HasFairSpelling v → FreeOf percent_sign (canonical_path v) → ¬ HasMatch v
-no_match v fair free (s, is, same) =
-    let plain = plain_path v.scheme v.path in
-    let behind = (free_parts percent_sign (root_part v) (matching_or v.spelling v.path plain) free).1 in
-    let written : matching_or v.spelling v.path plain ≡ s = ap (λ o. matching_or o v.path plain) is ∙ matched s v.path plain same in
-    both_ways (has_percent s) (subst (λ t. FreeOf percent_sign t) written behind) (fair s is same).escaped
-
--- the path stands in the text behind a `/`, and Git reads it as it is
+-- the path is decoded to a text behind a `/`, and Git reads it as it is
 pub record IsPathRaw (v : Location) : Type 0 where
   pub rest : List ℕ
-  pub written : canonical_path v ≡ slash ∷ rest
+  pub decoded : percent_decode (canonical_path v) ≡ slash ∷ rest
   pub meant : from_tilde (slash ∷ rest) ≡ v.path
+  pub free : (c : ℕ) → (slash == c) ≡ false → FreeOf c v.path → FreeOf c (slash ∷ rest)
 
 -- a path whose second byte is no `~` stays
 pub from_tilde_kept : (path : List ℕ) → is_tilde_second path ≡ false → from_tilde path ≡ path
@@ -165,25 +135,6 @@ homeless_second (b ∷ rest) other = other
 unrooted_tilde : (path rest : List ℕ) → path ≡ tilde ∷ rest → begins_with slash path ≡ false
 unrooted_tilde path rest e = ap (begins_with slash) e
 
--- it does where the path is written as it is
-path_raw_by : (v : Location) → requires_path v.scheme ≡ true → matching_or v.spelling v.path (plain_path v.scheme v.path) ≡ v.path → IsTransportPath v → IsPathRaw v
-path_raw_by v roots same (inl (rooted, homeless)) =
-    let (rest, e) = begins_cut slash v.path rooted in
-    let root : root_part v ≡ [] = cond-false _ _ _ (and_right _ _ (not_from_true _ rooted)) in
-    record {
-      rest = rest;
-      written = ap (λ r. r ++ matching_or v.spelling v.path (plain_path v.scheme v.path)) root ∙ same ∙ e;
-      meant = from_tilde_kept (slash ∷ rest) (homeless_second rest (subst (λ p. begins_at_home p ≡ false) e homeless)) ∙ sym e;
-    }
-path_raw_by v roots same (inr (home, none)) =
-    let (rest, e) = begins_cut tilde v.path home in
-    let root : root_part v ≡ slash ∷ [] = cond-true _ _ _ (and_from _ _ roots (ap not (unrooted_tilde v.path rest e))) in
-    record {
-      rest = v.path;
-      written = ap (λ r. r ++ matching_or v.spelling v.path (plain_path v.scheme v.path)) root ∙ ap (λ p. slash ∷ p) same;
-      meant = ap (λ p. from_tilde (slash ∷ p)) e ∙ sym e;
-    }
-
 -- both protocols write it so
 record HasPlainPaths (p : Protocol) : Type 0 where
   roots : requires_path p ≡ true
@@ -194,9 +145,35 @@ plain_paths : (v : Location) → (v.scheme ≡ ssh) ⊎ (v.scheme ≡ git) → H
 plain_paths v (inl e) = subst HasPlainPaths (sym e) record { roots = refl; plain = λ path. refl }
 plain_paths v (inr e) = subst HasPlainPaths (sym e) record { roots = refl; plain = λ path. refl }
 
--- it does where no `%` is written
-pub path_raw : (v : Location) → (v.scheme ≡ ssh) ⊎ (v.scheme ≡ git) → HasFairSpelling v → IsTransportPath v → FreeOf percent_sign (canonical_path v) → IsPathRaw v
-path_raw v transport fair path free =
+-- what is written for it is decoded to it
+path_decoded : (v : Location) → HasPlainPaths v.scheme → IsRawPath v → percent_decode (matching_or v.spelling v.path (plain_path v.scheme v.path)) ≡ v.path
+path_decoded v facts raw =
+    matching_cases (λ t. percent_decode t ≡ v.path) v.spelling v.path (plain_path v.scheme v.path) (λ s is same. same) (λ none. ap percent_decode (facts.plain v.path) ∙ decode_kept v.path (raw none).0)
+
+-- by where the path stands
+path_raw_by : (v : Location) → requires_path v.scheme ≡ true → percent_decode (matching_or v.spelling v.path (plain_path v.scheme v.path)) ≡ v.path → IsTransportPath v → IsPathRaw v
+path_raw_by v roots same (inl (rooted, homeless)) =
+    let (rest, e) = begins_cut slash v.path rooted in
+    let root : root_part v ≡ [] = cond-false _ _ _ (and_right _ _ (not_from_true _ rooted)) in
+    record {
+      rest = rest;
+      decoded = ap (λ r. percent_decode (r ++ matching_or v.spelling v.path (plain_path v.scheme v.path))) root ∙ same ∙ e;
+      meant = from_tilde_kept (slash ∷ rest) (homeless_second rest (subst (λ p. begins_at_home p ≡ false) e homeless)) ∙ sym e;
+      free = λ c other free. subst (λ p. FreeOf c p) e free;
+    }
+path_raw_by v roots same (inr (home, none)) =
+    let (rest, e) = begins_cut tilde v.path home in
+    let written = matching_or v.spelling v.path (plain_path v.scheme v.path) in
+    let root : root_part v ≡ slash ∷ [] = cond-true _ _ _ (and_from _ _ roots (ap not (unrooted_tilde v.path rest e))) in
+    record {
+      rest = v.path;
+      decoded = ap (λ r. percent_decode (r ++ written)) root ∙ decode_byte slash written refl ∙ ap (λ p. slash ∷ p) same;
+      meant = ap (λ p. from_tilde (slash ∷ p)) e ∙ sym e;
+      free = λ c other free. free-cons c slash v.path other free;
+    }
+
+-- the path of a settled URL of a transport is
+pub path_raw : (v : Location) → (v.scheme ≡ ssh) ⊎ (v.scheme ≡ git) → IsRawPath v → IsTransportPath v → IsPathRaw v
+path_raw v transport raw path =
     let facts = plain_paths v transport in
-    let same = unmatched v.spelling v.path (plain_path v.scheme v.path) (no_match v fair free) ∙ facts.plain v.path in
-    path_raw_by v facts.roots same path
+    path_raw_by v facts.roots (path_decoded v facts raw) path

@@ -1,58 +1,42 @@
 -- Git reads in the text of a URL of one of its own transports the user, the host, the port and the path of the location.
-use Rattle.std.proofs.Common.{◌≡◌, ◌∙◌, ℕ, ◌<◌, false, ◌⊎◌, inl, inr, List, [], ◌∷◌, ◌++◌, length, Option, Some, None, Ok, IfSome, IsUtf8, codes, refl, sym, ap, subst, arith, append_assoc}
+use Rattle.std.proofs.Common.{◌≡◌, ◌∙◌, ℕ, ◌<◌, true, false, ◌⊎◌, inl, inr, List, [], ◌∷◌, ◌++◌, length, ◌==◌, Option, Some, None, Ok, IfSome, codes, refl, sym, ap, subst, arith, append_assoc}
 use Rattle.std.specs.Prelude.{IsSome}
+use Rattle.std.specs.Char.{is_ascii_digit}
 use Rattle.std.proofs.lemmas.Bool.{false≢true}
+use Rattle.percent_encoding.specs.AsciiSet.{contains, should_percent_encode}
+use Rattle.percent_encoding.specs.Percent.{percent_decode}
+use Rattle.git_syntax.specs.declared.escape.TheConstants.{PASSWORD, USER}
 use Rattle.git_syntax.specs.Value.{Protocol, Location}
 use Rattle.git_syntax.specs.Value.Protocol.{git, ssh}
-use Rattle.git_syntax.specs.Bytes.{newline, percent_sign, slash, colon, at_sign, left_bracket, right_bracket, FreeOf, Lacks}
+use Rattle.git_syntax.specs.Addresses.{IsIpv6Text}
+use Rattle.git_syntax.specs.Bytes.{newline, percent_sign, slash, colon, at_sign, left_bracket, FreeOf, Lacks}
 use Rattle.git_syntax.specs.Schemes.{protocol_of, protocol_text}
 use Rattle.git_syntax.specs.Authority.{unless_empty}
 use Rattle.git_location.specs.Arguments.{is_option_like}
-use Rattle.git_location.specs.Text.{raw_user, keeps_host, canonical_host, user_information, host_part, port_part, canonical_path, canonical_text, text, needs_brackets}
-use Rattle.git_location.specs.Settled.{IsValue, IsNormalName, IsBareHost, IsBracketedHost, IsTransportPath, IsSettledUrl, IsSettledSecure, IsSettledGit, IsRawPath, HasMatch}
-use Rattle.git_laws.specs.Git.{GitReading, HostAndPort, SecurePort, UserCut, ReachesSecure, ReachesGit, CutsPlace, OwnUrl, ReadsGiven, GitReads}
-use Rattle.git_location.specs.GitClass.{is_contested, HasNoOption, AgreesByTransport}
+use Rattle.git_location.specs.Text.{raw_user, keeps_host, canonical_host, user_information, host_part, port_part, canonical_path, canonical_text, text}
+use Rattle.git_location.specs.Settled.{IsValue, IsNormalName, IsBareHost, IsBracketedHost, IsTransportPath, IsSettledRaw, IsSettledSecure, IsSettledGit, IsRawPath}
+use Rattle.git_laws.specs.Git.{GitReading, git_decode, HostAndPort, SecurePort, UserCut, ReachesSecure, ReachesGit, CutsPlace, OwnUrl, ReadsGiven, GitReads}
+use Rattle.git_location.specs.GitClass.{is_contested, IsPlainPart, IsOpenHost, HasNoOption, AgreesByTransport}
 use Rattle.git_laws.specs.GitClass.{own_reading, ReadsOwnBy}
 use Rattle.git_syntax.proofs.Texts.CutLemmas.{free-append, free_of_lacked, free_parts, not_free}
-use Rattle.git_syntax.proofs.Texts.EscapeLemmas.{no_line}
+use Rattle.git_syntax.proofs.Texts.EscapeLemmas.{decode_kept, decodes_in_parts, sound_free}
 use Rattle.git_syntax.proofs.Addresses.AddressLemmas.{address_two_colons}
 use Rattle.git_syntax.proofs.Readings.UrlLemmas.{some_kept}
 use Rattle.git_laws.proofs.Written.WrittenUrlLemmas.{authority_text, canonical_cut}
-use Rattle.git_laws.proofs.GitReadings.GitCutLemmas.{IsPortless, ReadsPlace, git_decode_kept, place_cut, place_with_port, place_without_port, portless_coloned, portless_free, some_behind}
-use Rattle.git_laws.proofs.GitReadings.GitPieceLemmas.{IsHostRaw, IsPathRaw, IsUserRaw, beside_port, host_raw, no_match, path_raw, port_free, user_raw}
-use Rattle.git_location.proofs.Written.WrittenAsUrlLemmas.{one_text, written_git, written_secure}
+use Rattle.git_laws.proofs.GitReadings.GitCutLemmas.{IsPortless, ReadsPlace, git_decoded, place_cut, place_with_port, place_without_port, portless_coloned, portless_free, some_behind}
+use Rattle.git_laws.proofs.GitReadings.GitPieceLemmas.{IsHostRaw, IsPathRaw, IsUserRaw, host_raw, kept_free, path_raw, port_free, unmarked, user_raw}
+use Rattle.git_location.proofs.Written.WrittenAsUrlLemmas.{written_git, written_secure}
 
--- ---- texts without contested bytes
-
--- the text has no byte by which Git cuts it otherwise
-pub record IsUncontested (t : List ℕ) : Type 0 where
-  pub zero_free : FreeOf 0 t
-  pub percent : FreeOf percent_sign t
-  pub left : FreeOf left_bracket t
-  pub right : FreeOf right_bracket t
-
--- what lacks them all is free of each
-uncontested : (t : List ℕ) → Lacks is_contested t → IsUncontested t
-uncontested t h = record {
-  zero_free = free_of_lacked is_contested 0 t h refl;
-  percent = free_of_lacked is_contested percent_sign t h refl;
-  left = free_of_lacked is_contested left_bracket t h refl;
-  right = free_of_lacked is_contested right_bracket t h refl;
-}
-
--- the text of the location, known otherwise
-pub plain_text : (v : Location) (t whole : List ℕ) → text v ≡ Ok t → Lacks is_contested t → text v ≡ Ok whole → IsUncontested whole
-plain_text v t whole has lacks is = uncontested whole (subst (λ x. Lacks is_contested x) (one_text has is) lacks)
+-- ---- texts
 
 -- the location has a text, in which its own parts are read, as they are of the protocol
 abbrev pub IsReadBy : Protocol → Location → Type 0
 IsReadBy p v = (t : List ℕ) × (text v ≡ Ok t) × ReadsOwnBy p t v
 
 -- of Git's own transports, where they are what Git reads in it
-pub own_read : (v : Location) (whole : List ℕ) (reading : GitReading) → own_reading v ≡ reading → text v ≡ Ok whole → AgreesByTransport v → is_option_like whole ≡ false → ReadsGiven whole reading → (t : List ℕ) × (text v ≡ Ok t) × GitReads t (own_reading v)
-own_read v whole reading value has a safe reads =
-    let (t, is, lacks) = a.plain in
-    (whole, has, subst (λ r. GitReads whole r) (sym value) record { whole = (plain_text v t whole is lacks has).zero_free; no_option = safe; reads = reads })
+pub own_read : (v : Location) (whole : List ℕ) (reading : GitReading) → own_reading v ≡ reading → text v ≡ Ok whole → FreeOf 0 whole → is_option_like whole ≡ false → ReadsGiven whole reading → (t : List ℕ) × (text v ≡ Ok t) × GitReads t (own_reading v)
+own_read v whole reading value has zero_free safe reads =
+    (whole, has, subst (λ r. GitReads whole r) (sym value) record { whole = zero_free; no_option = safe; reads = reads })
 
 -- ---- what Secure Shell reaches
 
@@ -109,32 +93,50 @@ word_read : (word : List ℕ) (port : Option ℕ) → IfSome port (λ p. p < 655
 word_read word None small marked portless free = place_without_port word (portless refl) (free_parts left_bracket word [] free).0
 word_read word (Some p) small marked portless free = place_with_port word p small (marked refl) free
 
--- the rest of a text behind its scheme
-behind_free : (c : ℕ) (scheme rest : List ℕ) → FreeOf c (scheme ++ (codes "://" ++ rest)) → FreeOf c rest
-behind_free c scheme rest free = (free_parts c (codes "://") rest (free_parts c scheme (codes "://" ++ rest) free).1).1
-
--- the text is a URL of the transport, in which nothing is decoded
-pub own_url : (protocol : Protocol) (scheme rest : List ℕ) → protocol_of scheme ≡ protocol → FreeOf percent_sign rest → OwnUrl protocol (scheme ++ (codes "://" ++ rest)) rest
-own_url protocol scheme rest own free = record { scheme = scheme; spelled = rest; own = own; joined = refl; decoded = sym (git_decode_kept rest free) }
+-- the text is a URL of the transport, and this is what the rest is decoded to
+pub own_url : (protocol : Protocol) (scheme spelled rest : List ℕ) → protocol_of scheme ≡ protocol → git_decode spelled ≡ rest → OwnUrl protocol (scheme ++ (codes "://" ++ spelled)) rest
+own_url protocol scheme spelled rest own decoded = record { scheme = scheme; spelled = spelled; own = own; joined = refl; decoded = sym decoded }
 
 -- ---- URLs of Git's own transports
 
--- what the text of a location holds behind `://`: a word, a port, and a path
+-- what the text of a location holds behind `://`: it is decoded to a word, a port, and a path
 record IsTransportText (v : Location) (host : List ℕ) : Type 0 where
   user : IsUserRaw v.user
   hosted : IsHostRaw v host
   pathed : IsPathRaw v
-  behind : authority_text v ++ canonical_path v ≡ (word_of v.user host ++ port_part v.port) ++ slash ∷ pathed.rest
-  plain : IsUncontested ((word_of v.user host ++ port_part v.port) ++ slash ∷ pathed.rest)
+  behind : git_decode (authority_text v ++ canonical_path v) ≡ (word_of v.user host ++ port_part v.port) ++ slash ∷ pathed.rest
+  zero_free : FreeOf 0 (authority_text v ++ canonical_path v)
+  left : FreeOf left_bracket ((word_of v.user host ++ port_part v.port) ++ slash ∷ pathed.rest)
 
--- a location with a host and no password
+-- a location with a host and no password, whose parts are plain
 record HasHostGiven (v : Location) (host : List ℕ) : Type 0 where
   transport : (v.scheme ≡ ssh) ⊎ (v.scheme ≡ git)
   escapes : keeps_host v.scheme ≡ false
   there : v.host ≡ Some host
+  kind : IsIpv6Text host ⊎ FreeOf colon host
   no_password : v.password ≡ None
-  common : IsSettledUrl v
+  user : IfSome v.user (λ u. Lacks (should_percent_encode USER) u)
+  kept : Lacks (should_percent_encode PASSWORD) host
+  beside : IsSome v.port → FreeOf colon host
+  plain_path : Lacks is_contested v.path
+  raw : IsRawPath v
   path : IsTransportPath v
+
+-- so it is with a settled URL of the class
+host_given : (v : Location) (host : List ℕ) → (v.scheme ≡ ssh) ⊎ (v.scheme ≡ git) → keeps_host v.scheme ≡ false → AgreesByTransport v → v.host ≡ Some host → IsSettledRaw v → IsTransportPath v → IsIpv6Text host ⊎ FreeOf colon host → HasHostGiven v host
+host_given v host transport escapes a there url path kind = record {
+  transport = transport;
+  escapes = escapes;
+  there = there;
+  kind = kind;
+  no_password = a.no_password;
+  user = subst (λ f. IfSome v.user (IsPlainPart f USER)) url.common.unflagged a.plain.user;
+  kept = subst (λ f. IsPlainPart f PASSWORD host) url.common.unflagged (subst (λ o. IfSome o (IsPlainPart v.flag PASSWORD)) there a.plain.host);
+  beside = λ some. subst (λ o. IfSome o (IsOpenHost v)) there a.plain.unbracketed (inr some);
+  plain_path = a.plain.path;
+  raw = url.raw;
+  path = path;
+}
 
 -- the authority is user, host and port as they are
 authority_given : (v : Location) (host : List ℕ) → v.host ≡ Some host → v.password ≡ None → authority_text v ≡ user_information v.user None ++ (canonical_host v host ++ port_part v.port)
@@ -149,80 +151,55 @@ authority_raw v host h user hosted =
     ∙ ap (λ t. raw_user v.user ++ (t ++ port_part v.port)) hosted.written
     ∙ sym (append_assoc (raw_user v.user) host (port_part v.port))
 
--- each piece lacks the contested bytes that the whole lacks
-record HasFreePieces (c : ℕ) (v : Location) (host : List ℕ) : Type 0 where
-  user : FreeOf c (user_information v.user None)
-  hosted : FreeOf c (canonical_host v host)
-  path : FreeOf c (canonical_path v)
+-- the place is free of a byte that is written as an escape and is no mark of it
+place_free : (v : Location) (host : List ℕ) → IfSome v.port (λ p. p < 65536) → IsUserRaw v.user → IsHostRaw v host → (c : ℕ) → contains USER c ≡ true → contains PASSWORD c ≡ true → (at_sign == c) ≡ false → (colon == c) ≡ false → is_ascii_digit c ≡ false → FreeOf c (word_of v.user host ++ port_part v.port)
+place_free v host small user hosted c in_user in_host other mark digit =
+    free-append c (word_of v.user host) (port_part v.port) (free-append c (raw_user v.user) host (user.free c in_user other) (hosted.free c in_host)) (port_free c v.port digit mark small)
 
--- it is free of what the whole is free of
-free_pieces : (c : ℕ) (v : Location) (host : List ℕ) → v.host ≡ Some host → v.password ≡ None → FreeOf c (authority_text v ++ canonical_path v) → HasFreePieces c v host
-free_pieces c v host there none free =
-    let both = free_parts c (authority_text v) (canonical_path v) free in
-    let front = subst (λ t. FreeOf c t) (authority_given v host there none) both.0 in
-    let behind = free_parts c (user_information v.user None) (canonical_host v host ++ port_part v.port) front in
-    record { user = behind.0; hosted = (free_parts c (canonical_host v host) (port_part v.port) behind.1).0; path = both.1 }
+-- this is the text, where its parts are plain
+transport_text : (v : Location) (host : List ℕ) → IfSome v.port (λ p. p < 65536) → HasHostGiven v host → IsTransportText v host
+transport_text v host small h =
+    let user = user_raw v.user h.user in
+    let hosted = host_raw v host h.escapes (unmarked v.port host (kept_free PASSWORD host h.kept percent_sign refl) h.beside) h.kept h.kind in
+    let pathed = path_raw v h.transport h.raw h.path in
+    let place = word_of v.user host ++ port_part v.port in
+    let free = place_free v host small user hosted in
+    let whole : percent_decode (authority_text v ++ canonical_path v) ≡ place ++ slash ∷ pathed.rest =
+        ap (λ t. percent_decode (t ++ canonical_path v)) (authority_raw v host h user hosted)
+        ∙ decodes_in_parts place (canonical_path v) (sound_free place (free percent_sign refl refl refl refl refl))
+        ∙ ap (λ t. t ++ percent_decode (canonical_path v)) (decode_kept place (free percent_sign refl refl refl refl refl))
+        ∙ ap (λ t. place ++ t) pathed.decoded in
+    let zero = free-append 0 place (slash ∷ pathed.rest) (free 0 refl refl refl refl refl) (pathed.free 0 refl (free_of_lacked is_contested 0 v.path h.plain_path refl)) in
+    let decoded = git_decoded (authority_text v ++ canonical_path v) (subst (λ t. FreeOf 0 t) (sym whole) zero) in
+    record {
+      user = user;
+      hosted = hosted;
+      pathed = pathed;
+      behind = decoded.0 ∙ whole;
+      zero_free = decoded.1;
+      left = free-append left_bracket place (slash ∷ pathed.rest) (free left_bracket refl refl refl refl refl) (pathed.free left_bracket refl (free_of_lacked is_contested left_bracket v.path h.plain_path refl));
+    }
 
--- this is the text, where it has no contested byte
-transport_text : (v : Location) (host : List ℕ) → HasHostGiven v host → IsUncontested (authority_text v ++ canonical_path v) → IsTransportText v host
-transport_text v host h plain =
-    let whole = free_pieces percent_sign v host h.there h.no_password plain.percent in
-    let open_pieces = free_pieces left_bracket v host h.there h.no_password plain.left in
-    let user = user_raw v.user whole.user in
-    let hosted = host_raw v host h.escapes whole.hosted open_pieces.hosted in
-    let pathed = path_raw v h.transport h.common.path.spelling h.path whole.path in
-    let behind = ap (λ t. t ++ canonical_path v) (authority_raw v host h user hosted) ∙ ap (λ t. (word_of v.user host ++ port_part v.port) ++ t) pathed.written in
-    record { user = user; hosted = hosted; pathed = pathed; behind = behind; plain = subst IsUncontested behind plain }
-
--- behind its scheme the text of a URL lacks what it lacks
-pub behind_plain : (v : Location) (scheme : List ℕ) (rest : List ℕ) → IsUncontested (scheme ++ (codes "://" ++ rest)) → IsUncontested rest
-behind_plain v scheme rest h = record {
-  zero_free = behind_free 0 scheme rest h.zero_free;
-  percent = behind_free percent_sign scheme rest h.percent;
-  left = behind_free left_bracket scheme rest h.left;
-  right = behind_free right_bracket scheme rest h.right;
-}
-
--- the place before the path has no `/`
-place_free : (v : Location) (host : List ℕ) → IfSome v.port (λ p. p < 65536) → IsUserRaw v.user → IsHostRaw v host → FreeOf slash (word_of v.user host ++ port_part v.port)
-place_free v host small user hosted =
-    free-append slash (word_of v.user host) (port_part v.port) (free-append slash (raw_user v.user) host user.no_slash hosted.no_slash) (port_free slash v.port refl refl small)
-
--- no bracket stands in the place, nor in the word
+-- no bracket stands in the place
 place_open : (v : Location) (host : List ℕ) → (t : IsTransportText v host) → FreeOf left_bracket (word_of v.user host ++ port_part v.port)
-place_open v host t = (free_parts left_bracket (word_of v.user host ++ port_part v.port) (slash ∷ t.pathed.rest) t.plain.left).0
-
--- nor in the host
-host_open : (v : Location) (host : List ℕ) → (t : IsTransportText v host) → FreeOf left_bracket host
-host_open v host t = (free_parts left_bracket (raw_user v.user) host (free_parts left_bracket (word_of v.user host) (port_part v.port) (place_open v host t)).0).1
-
--- a host beside a port has no colon
-beside_given : (port : Option ℕ) (host : List ℕ) → FreeOf left_bracket host → needs_brackets port host ≡ false → IsSome port → FreeOf colon host
-beside_given None host free unmarked given = absurd (false≢true given)
-beside_given (Some p) host free unmarked given = beside_port p host free unmarked
+place_open v host t = (free_parts left_bracket (word_of v.user host ++ port_part v.port) (slash ∷ t.pathed.rest) t.left).0
 
 -- the place is read as the word and the port, where the word alone names no port
-place_read : (v : Location) (host : List ℕ) → IsValue v → (t : IsTransportText v host) → IsPortless (word_of v.user host) → ReadsPlace (word_of v.user host) v.port
-place_read v host is t portless =
+place_read : (v : Location) (host : List ℕ) → IsValue v → (t : IsTransportText v host) → (IsSome v.port → FreeOf colon host) → IsPortless (word_of v.user host) → ReadsPlace (word_of v.user host) v.port
+place_read v host is t beside portless =
     word_read (word_of v.user host) v.port is.port
-    (λ given. free-append colon (raw_user v.user) host t.user.no_colon (beside_given v.port host (host_open v host t) t.hosted.unmarked given))
+    (λ given. free-append colon (raw_user v.user) host (t.user.free colon refl refl) (beside given))
     (λ none. portless)
     (place_open v host t)
 
 -- what Git reads behind the scheme is cut before the path
 transport_cut : (v : Location) (host : List ℕ) → IsValue v → (t : IsTransportText v host) → CutsPlace slash ((word_of v.user host ++ port_part v.port) ++ slash ∷ t.pathed.rest) (word_of v.user host ++ port_part v.port) t.pathed.rest
 transport_cut v host is t =
-    place_cut slash ((word_of v.user host ++ port_part v.port) ++ slash ∷ t.pathed.rest) (word_of v.user host ++ port_part v.port) t.pathed.rest t.plain.left (place_free v host is.port t.user t.hosted) refl
+    place_cut slash ((word_of v.user host ++ port_part v.port) ++ slash ∷ t.pathed.rest) (word_of v.user host ++ port_part v.port) t.pathed.rest t.left (place_free v host is.port t.user t.hosted slash refl refl refl refl refl) refl
 
 -- the whole text, with its scheme
-transport_whole : (v : Location) (host : List ℕ) (p : Protocol) → v.scheme ≡ p → (t : IsTransportText v host) → canonical_text v ≡ protocol_text p ++ (codes "://" ++ ((word_of v.user host ++ port_part v.port) ++ slash ∷ t.pathed.rest))
-transport_whole v host p e t =
-    canonical_cut v ∙ ap (λ rest. protocol_text v.scheme ++ (codes "://" ++ rest)) t.behind ∙ ap (λ q. protocol_text q ++ (codes "://" ++ ((word_of v.user host ++ port_part v.port) ++ slash ∷ t.pathed.rest))) e
-
--- what is left of a text without contested bytes behind its scheme
-transport_plain : (v : Location) (t : List ℕ) → text v ≡ Ok t → Lacks is_contested t → text v ≡ Ok (canonical_text v) → IsUncontested (authority_text v ++ canonical_path v)
-transport_plain v t has lacks is =
-    behind_plain v (protocol_text v.scheme) (authority_text v ++ canonical_path v) (subst IsUncontested (canonical_cut v) (plain_text v t (canonical_text v) has lacks is))
+transport_whole : (v : Location) (p : Protocol) → v.scheme ≡ p → canonical_text v ≡ protocol_text p ++ (codes "://" ++ (authority_text v ++ canonical_path v))
+transport_whole v p e = canonical_cut v ∙ ap (λ q. protocol_text q ++ (codes "://" ++ (authority_text v ++ canonical_path v))) e
 
 -- the parts of a host that is there
 pub host_safe : (v : Location) (host : List ℕ) → v.host ≡ Some host → HasNoOption v → is_option_like host ≡ false
@@ -242,27 +219,30 @@ bare_portless : (front host : List ℕ) → FreeOf colon front → IsBareHost ho
 bare_portless front host free (inl name) = portless_free (front ++ host) (free-append colon front host free name.unbracketed.no_colon)
 bare_portless front host free (inr address) = portless_coloned front host free (address_two_colons host address.address)
 
+-- it is an address, or has no colon
+bare_kind : (host : List ℕ) → IsBareHost host → IsIpv6Text host ⊎ FreeOf colon host
+bare_kind host (inl name) = inr name.unbracketed.no_colon
+bare_kind host (inr address) = inl address.address
+
 -- Git reads in the text what the location holds
-secure_url_reads : (v : Location) (host : List ℕ) → IsValue v → (t : IsTransportText v host) → IsBareHost host → HasNoOption v → ¬ (v.user ≡ Some []) → v.host ≡ Some host → ReadsGiven (codes "ssh://" ++ ((word_of v.user host ++ port_part v.port) ++ slash ∷ t.pathed.rest)) (secure_reading v.user (Some host) v.port v.path)
-secure_url_reads v host is t kind safe named there =
+secure_url_reads : (v : Location) (host : List ℕ) → IsValue v → HasHostGiven v host → (t : IsTransportText v host) → IsBareHost host → HasNoOption v → ¬ (v.user ≡ Some []) → ReadsGiven (codes "ssh://" ++ (authority_text v ++ canonical_path v)) (secure_reading v.user (Some host) v.port v.path)
+secure_url_reads v host is h t kind safe named =
     let place = word_of v.user host ++ port_part v.port in
-    let rest = place ++ slash ∷ t.pathed.rest in
-    let read = place_read v host is t (bare_portless (raw_user v.user) host t.user.no_colon kind) in
-    let no_slash = free-append slash (raw_user v.user) host t.user.no_slash t.hosted.no_slash in
-    let reached = secure_reached v.user host v.port place v.path read.cut read.secure no_slash t.hosted.no_at (bare_nonempty host kind) named safe.user (host_safe v host there safe) safe.path in
-    ReadsGiven.secure_url rest place t.pathed.rest (own_url ssh (codes "ssh") rest refl t.plain.percent) (transport_cut v host is t) (subst (λ p. ReachesSecure place p (secure_reading v.user (Some host) v.port v.path)) (sym t.pathed.meant) reached)
+    let read = place_read v host is t h.beside (bare_portless (raw_user v.user) host (t.user.free colon refl refl) kind) in
+    let no_slash = free-append slash (raw_user v.user) host (t.user.free slash refl refl) (t.hosted.free slash refl) in
+    let reached = secure_reached v.user host v.port place v.path read.cut read.secure no_slash (t.hosted.free at_sign refl) (bare_nonempty host kind) named safe.user (host_safe v host h.there safe) safe.path in
+    ReadsGiven.secure_url (place ++ slash ∷ t.pathed.rest) place t.pathed.rest (own_url ssh (codes "ssh") (authority_text v ++ canonical_path v) (place ++ slash ∷ t.pathed.rest) refl t.behind) (transport_cut v host is t) (subst (λ p. ReachesSecure place p (secure_reading v.user (Some host) v.port v.path)) (sym t.pathed.meant) reached)
 
 -- a settled URL of Secure Shell
 pub secure_url_alike : (v : Location) → v.scheme ≡ ssh → IsValue v → AgreesByTransport v → ¬ (v.user ≡ Some []) → IsSettledSecure v → IsReadBy ssh v
 secure_url_alike v e is a named h =
     let (host, there, kind) = h.host in
-    let (t, has, lacks) = a.plain in
-    let written = (written_secure v e h.path).canonical h.url.common.unflagged h.url.common.hosted in
-    let given : HasHostGiven v host = record { transport = inl e; escapes = ap keeps_host e; there = there; no_password = a.no_password; common = h.url.common; path = h.path } in
-    let found = transport_text v host given (transport_plain v t has lacks written) in
-    let whole = transport_whole v host ssh e found in
+    let spelled = authority_text v ++ canonical_path v in
+    let given = host_given v host (inl e) (ap keeps_host e) a there h.url h.path (bare_kind host kind) in
+    let found = transport_text v host is.port given in
+    let written = (written_secure v e h.path).canonical h.url.common.unflagged h.url.common.hosted ∙ ap Ok (transport_whole v ssh e) in
     let value : own_reading v ≡ secure_reading v.user (Some host) v.port v.path = λ i. record { protocol = e i; user = v.user; host = there i; port = v.port; path = v.path } in
-    own_read v (codes "ssh" ++ (codes "://" ++ ((word_of v.user host ++ port_part v.port) ++ slash ∷ found.pathed.rest))) (secure_reading v.user (Some host) v.port v.path) value (written ∙ ap Ok whole) a refl (secure_url_reads v host is found kind a.no_option named there)
+    own_read v (codes "ssh://" ++ spelled) (secure_reading v.user (Some host) v.port v.path) value written (free-append 0 (codes "ssh://") spelled refl found.zero_free) refl (secure_url_reads v host is given found kind a.no_option named)
 
 -- ---- Git's own protocol
 
@@ -275,43 +255,30 @@ open_name : (host : List ℕ) → FreeOf left_bracket host → IsBracketedHost h
 open_name host free (inl name) = name
 open_name host free (inr (address, normal, e)) = absurd (false≢true (sym (subst (λ t. FreeOf left_bracket t) e free)))
 
--- the path is written raw: no spelling of it could be written without a `%`
-raw_lines : (v : Location) → IsRawPath v → IsUtf8 v.path → ¬ HasMatch v → FreeOf newline v.path
-raw_lines v raw is_text none = no_line v.path is_text (raw none).1
-
--- without a user the place has no end of a line
-git_place_line : (v : Location) (host : List ℕ) → IfSome v.port (λ p. p < 65536) → v.user ≡ None → IsHostRaw v host → FreeOf newline (word_of v.user host ++ port_part v.port)
-git_place_line v host small none hosted =
-    subst (λ o. FreeOf newline (word_of o host ++ port_part v.port)) (sym none) (free-append newline host (port_part v.port) hosted.no_line (port_free newline v.port refl refl small))
-
 -- Git reads in the text what the location holds
-git_url_reads : (v : Location) (host : List ℕ) → IsValue v → (t : IsTransportText v host) → IsBracketedHost host → v.user ≡ None → FreeOf newline v.path → ReadsGiven (codes "git://" ++ ((word_of v.user host ++ port_part v.port) ++ slash ∷ t.pathed.rest)) (git_reading None (Some host) v.port v.path)
-git_url_reads v host is t kind none path_line =
+git_url_reads : (v : Location) (host : List ℕ) → IsValue v → HasHostGiven v host → (t : IsTransportText v host) → IsNormalName host → v.user ≡ None → FreeOf newline v.path → ReadsGiven (codes "git://" ++ (authority_text v ++ canonical_path v)) (git_reading None (Some host) v.port v.path)
+git_url_reads v host is h t name none path_line =
     let place = word_of v.user host ++ port_part v.port in
-    let rest = place ++ slash ∷ t.pathed.rest in
-    let name = open_name host (host_open v host t) kind in
-    let read = place_read v host is t (portless_free (word_of v.user host) (free-append colon (raw_user v.user) host t.user.no_colon name.unbracketed.no_colon)) in
+    let read = place_read v host is t h.beside (portless_free (word_of v.user host) (free-append colon (raw_user v.user) host (t.user.free colon refl refl) name.unbracketed.no_colon)) in
     let reached : ReachesGit place v.path (git_reading None (Some host) v.port v.path) = record {
       host = host;
       port = v.port;
       cut = subst (λ o. HostAndPort place (word_of o host) v.port) none read.cut;
-      place_line = git_place_line v host is.port none t.hosted;
+      place_line = place_free v host is.port t.user t.hosted newline refl refl refl refl refl;
       path_line = path_line;
       value = ap (λ h. git_reading None h v.port v.path) (sym (nonempty_kept host name.unbracketed.nonempty));
     } in
-    ReadsGiven.git_url rest place t.pathed.rest (own_url git (codes "git") rest refl t.plain.percent) (transport_cut v host is t) (subst (λ p. ReachesGit place p (git_reading None (Some host) v.port v.path)) (sym t.pathed.meant) reached)
+    ReadsGiven.git_url (place ++ slash ∷ t.pathed.rest) place t.pathed.rest (own_url git (codes "git") (authority_text v ++ canonical_path v) (place ++ slash ∷ t.pathed.rest) refl t.behind) (transport_cut v host is t) (subst (λ p. ReachesGit place p (git_reading None (Some host) v.port v.path)) (sym t.pathed.meant) reached)
 
 -- a settled URL of Git's own protocol
-pub git_url_alike : (v : Location) → v.scheme ≡ git → IsValue v → AgreesByTransport v → v.user ≡ None → IsSettledGit v → IsReadBy git v
-git_url_alike v e is a none h =
+pub git_url_alike : (v : Location) → v.scheme ≡ git → IsValue v → AgreesByTransport v → v.user ≡ None → FreeOf newline v.path → IsSettledGit v → IsReadBy git v
+git_url_alike v e is a none path_line h =
     let (host, there, kind) = h.host in
-    let (t, has, lacks) = a.plain in
-    let written = (written_git v e).canonical h.url.common.unflagged h.url.common.hosted in
-    let given : HasHostGiven v host = record { transport = inr e; escapes = ap keeps_host e; there = there; no_password = a.no_password; common = h.url.common; path = h.path } in
-    let plain = transport_plain v t has lacks written in
-    let found = transport_text v host given plain in
-    let whole = transport_whole v host git e found in
+    let spelled = authority_text v ++ canonical_path v in
+    let kept = subst (λ f. IsPlainPart f PASSWORD host) h.url.common.unflagged (subst (λ o. IfSome o (IsPlainPart v.flag PASSWORD)) there a.plain.host) in
+    let name = open_name host (kept_free PASSWORD host kept left_bracket refl) kind in
+    let given = host_given v host (inr e) (ap keeps_host e) a there h.url h.path (inr name.unbracketed.no_colon) in
+    let found = transport_text v host is.port given in
+    let written = (written_git v e).canonical h.url.common.unflagged h.url.common.hosted ∙ ap Ok (transport_whole v git e) in
     let value : own_reading v ≡ git_reading None (Some host) v.port v.path = λ i. record { protocol = e i; user = none i; host = there i; port = v.port; path = v.path } in
-    let behind = free_pieces percent_sign v host there a.no_password plain.percent in
-    let lines = raw_lines v h.url.raw h.url.common.path.path_text (no_match v h.url.common.path.spelling behind.path) in
-    own_read v (codes "git" ++ (codes "://" ++ ((word_of v.user host ++ port_part v.port) ++ slash ∷ found.pathed.rest))) (git_reading None (Some host) v.port v.path) value (written ∙ ap Ok whole) a refl (git_url_reads v host is found kind none lines)
+    own_read v (codes "git://" ++ spelled) (git_reading None (Some host) v.port v.path) value written (free-append 0 (codes "git://") spelled refl found.zero_free) refl (git_url_reads v host is given found name none path_line)
