@@ -71,9 +71,10 @@ git_decoded (b ∷ high ∷ low ∷ rest) free =
           let e : percent_decode (b ∷ high ∷ low ∷ rest) ≡ escaped_byte high low ∷ percent_decode rest = cond-true _ _ _ escape in
           let parts = free_head_tail 0 (escaped_byte high low) (percent_decode rest) (subst (λ t. FreeOf 0 t) e free) in
           let behind = git_decoded rest parts.1 in
-          let (first, second, third) = escape_bytes b high low escape in
-          (cond-true _ _ _ (and_from _ _ escape (ap not parts.0)) ∙ ap (λ t. escaped_byte high low ∷ t) behind.0 ∙ sym e,
-          free-cons 0 b (high ∷ low ∷ rest) first (free-cons 0 high (low ∷ rest) second (free-cons 0 low rest third behind.1)))
+          let (first, second, third) = escape_bytes b high low escape in (
+            cond-true _ _ _ (and_from _ _ escape (ap not parts.0)) ∙ ap (λ t. escaped_byte high low ∷ t) behind.0 ∙ sym e,
+            free-cons 0 b (high ∷ low ∷ rest) first (free-cons 0 high (low ∷ rest) second (free-cons 0 low rest third behind.1)),
+          )
       | inr other ↦
           let e : percent_decode (b ∷ high ∷ low ∷ rest) ≡ b ∷ percent_decode (high ∷ low ∷ rest) = cond-false _ _ _ other in
           let parts = free_head_tail 0 b (percent_decode (high ∷ low ∷ rest)) (subst (λ t. FreeOf 0 t) e free) in

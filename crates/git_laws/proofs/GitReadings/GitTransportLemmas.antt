@@ -165,10 +165,10 @@ transport_text v host small h =
     let place = word_of v.user host ++ port_part v.port in
     let free = place_free v host small user hosted in
     let whole : percent_decode (authority_text v ++ canonical_path v) ≡ place ++ slash ∷ pathed.rest =
-        ap (λ t. percent_decode (t ++ canonical_path v)) (authority_raw v host h user hosted)
-        ∙ decodes_in_parts place (canonical_path v) (sound_free place (free percent_sign refl refl refl refl refl))
-        ∙ ap (λ t. t ++ percent_decode (canonical_path v)) (decode_kept place (free percent_sign refl refl refl refl refl))
-        ∙ ap (λ t. place ++ t) pathed.decoded in
+    ap (λ t. percent_decode (t ++ canonical_path v)) (authority_raw v host h user hosted)
+    ∙ decodes_in_parts place (canonical_path v) (sound_free place (free percent_sign refl refl refl refl refl))
+    ∙ ap (λ t. t ++ percent_decode (canonical_path v)) (decode_kept place (free percent_sign refl refl refl refl refl))
+    ∙ ap (λ t. place ++ t) pathed.decoded in
     let zero = free-append 0 place (slash ∷ pathed.rest) (free 0 refl refl refl refl refl) (pathed.free 0 refl (free_of_lacked is_contested 0 v.path h.plain_path refl)) in
     let decoded = git_decoded (authority_text v ++ canonical_path v) (subst (λ t. FreeOf 0 t) (sym whole) zero) in
     record {
