@@ -90,7 +90,8 @@ fn what_comes_back_is_stored(rt: HostRuntime) -> Result<(), Fail> {
     assert_eq!(rt; text.as_bstr(), BStr::from("http://h/p"));
     for (text, handed) in [
         ("ssh://u:p@h/p", None),
-        ("https://h/p", None),
+        ("https://h/p", Some("https://h/p")),
+        ("https://127.1/p", None),
         ("ssh://[::1]:22/p", None),
         ("ssh://@h/p", Some("ssh://h/p")),
     ] {
