@@ -15,6 +15,8 @@ from kit import Slots, load_kit
 
 # More than there are checks: how many run at a time is said by slots, for which the memory was counted.
 ALL = 64
+# A program of more lines than these is still being proved when all else has ended, so two processors prove it.
+LONG = 4000
 
 
 def compiled(kit, crate, flags):
@@ -37,7 +39,7 @@ def compiled(kit, crate, flags):
 
 def in_turn(kit, slots):
     """The proof of a crate: by most of the processors where others wait for it, which those that are proved beside it
-    share, and else by one."""
+    share, and else by one, or a long one by two."""
     judges, most = kit.Crate.ci, max(1, 3 * kit.processors() // 4)
 
     def proves(crate, flags, tests):
@@ -49,7 +51,7 @@ def in_turn(kit, slots):
 
     def jobs_of(crate):
         if crate.name not in below:
-            return 1
+            return 2 if crate.count(rb"\n") > LONG else 1
         beside = [it for it in below if it not in stands_on[crate.name] and crate.name not in stands_on[it]]
         return max(1, most // len(beside))
 
