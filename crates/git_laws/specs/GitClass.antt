@@ -1,28 +1,41 @@
 -- The law on the locations that a careful user hands to Git: in the text of each Git reads what this library reads.
-use Rattle.std.specs.Prelude.{◌≡◌, ℕ, List, Ok}
+use Rattle.std.specs.Prelude.{◌≡◌, ℕ, List, Option, Some, None, Ok}
 use Rattle.git_syntax.specs.Value.{Protocol, Location}
-use Rattle.git_syntax.specs.Value.Protocol.{http, https}
+use Rattle.git_syntax.specs.Value.Protocol.{git, http, https}
+use Rattle.git_syntax.specs.Grammar.{Unbrackets}
 use Rattle.git_location.specs.Text.{text}
 use Rattle.git_location.specs.Settled.{IsValue}
 use Rattle.git_laws.specs.Git.{GitReading, GitReads}
 use Rattle.git_laws.specs.GitWeb.{ReadsOwnOverWeb}
-pub use Rattle.git_location.specs.GitClass.{is_contested, HasPlainParts, HasNoOption, is_tilde_second, IsRsync, SuitsTransport, AgreesByTransport, AgreesWithGit}
+pub use Rattle.git_location.specs.GitClass.{is_contested, IsPlainHost, HasPlainParts, HasNoOption, is_tilde_second, IsRsync, SuitsTransport, AgreesByTransport, AgreesWithGit}
 
--- the location's own protocol, user, host, port and path
-abbrev pub own_reading : Location → GitReading
-own_reading v = record {
+-- the host that Git has of a location's host: of `git://` it is without the brackets around it
+abbrev pub HostForGit : Protocol → Option (List ℕ) → Option (List ℕ) → Type 0
+HostForGit git None host = host ≡ None
+HostForGit git (Some own) host = (inner : List ℕ) × Unbrackets own inner × (host ≡ Some inner)
+HostForGit _ own host = host ≡ own
+
+-- the location's own protocol, user, port and path, with this host
+abbrev pub own_reading : Location → Option (List ℕ) → GitReading
+own_reading v place = record {
   protocol = v.scheme;
   user = v.user;
-  host = v.host;
+  host = place;
   port = v.port;
   path = v.path;
 }
+
+-- Git reads the location's own protocol, user, host, port and path in the text
+pub record ReadsOwnPlace (t : List ℕ) (v : Location) : Type 0 where
+  pub host : Option (List ℕ)
+  pub own : HostForGit v.scheme v.host host
+  pub reads : GitReads t (own_reading v host)
 
 -- Git reads the location's own parts in the text, by the protocol: of HTTP its credential code does, and a reader of URIs
 abbrev pub ReadsOwnBy : Protocol → List ℕ → Location → Type 0
 ReadsOwnBy http t v = ReadsOwnOverWeb t v
 ReadsOwnBy https t v = ReadsOwnOverWeb t v
-ReadsOwnBy _ t v = GitReads t (own_reading v)
+ReadsOwnBy _ t v = ReadsOwnPlace t v
 
 -- Git reads the location's own parts in the text
 abbrev pub ReadsOwn : List ℕ → Location → Type 0

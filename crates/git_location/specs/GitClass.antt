@@ -1,11 +1,11 @@
 -- The locations that a careful user hands to Git: in the text of each Git reads what this library reads.
 -- Those of HTTP are in `WebClass`.
-use Rattle.std.specs.Prelude.{◌≡◌, ℕ, Bool, true, false, ◌||◌, ◌==◌, ◌⊎◌, List, [], ◌∷◌, codes, Some, None, IsSome, IfSome}
+use Rattle.std.specs.Prelude.{◌≡◌, ℕ, Bool, true, false, ◌||◌, ◌==◌, ◌⊎◌, List, [], ◌∷◌, codes, Some, None, IfSome}
 use Rattle.percent_encoding.specs.declared.ascii_set.AsciiSet.{AsciiSet}
 use Rattle.percent_encoding.specs.AsciiSet.{should_percent_encode}
 use Rattle.git_syntax.specs.Value.{Protocol, Location}
 use Rattle.git_syntax.specs.Value.Protocol.{file, git, ssh, http, https}
-use Rattle.git_syntax.specs.Bytes.{newline, percent_sign, colon, left_bracket, right_bracket, tilde, Lacks, FreeOf, begins_with}
+use Rattle.git_syntax.specs.Bytes.{newline, percent_sign, left_bracket, right_bracket, tilde, Lacks, FreeOf, begins_with}
 use Rattle.git_syntax.specs.Escapes.{password_set, user_set}
 use Rattle.git_location.specs.Settled.{IsSettled}
 use Rattle.git_location.specs.Arguments.{is_option_like}
@@ -20,15 +20,20 @@ abbrev pub IsPlainPart : Bool → AsciiSet → List ℕ → Type 0
 IsPlainPart true set part = Lacks is_contested part
 IsPlainPart false set part = Lacks (should_percent_encode set) part
 
--- the host is written without brackets: it has no colon where an address is written with them
-abbrev pub IsOpenHost : Location → List ℕ → Type 0
-IsOpenHost v host = (v.flag ≡ true) ⊎ IsSome v.port → FreeOf colon host
+-- the host of `git://` has brackets of its own: all of it is written as escapes where the location is settled, and they are
+-- decoded to an address in its brackets before Git cuts
+abbrev pub IsBracketedOfGit : Location → List ℕ → Type 0
+IsBracketedOfGit v host = (v.scheme ≡ git) × (begins_with left_bracket host ≡ true)
 
--- Git cuts the location's own parts out of its text: of a URL it decodes the path as this library does
+-- a plain host, or such a one of `git://`
+abbrev pub IsPlainHost : Location → List ℕ → Type 0
+IsPlainHost v host = IsPlainPart v.flag password_set host ⊎ IsBracketedOfGit v host
+
+-- Git cuts the location's own parts out of its text: of a URL it decodes the path as this library does. The brackets
+-- that are written around an address are none of its bytes, and Git takes them off
 pub record HasPlainParts (v : Location) : Type 0 where
   pub user : IfSome v.user (IsPlainPart v.flag user_set)
-  pub host : IfSome v.host (IsPlainPart v.flag password_set)
-  pub unbracketed : IfSome v.host (IsOpenHost v)
+  pub host : IfSome v.host (IsPlainHost v)
   pub path : Lacks is_contested v.path
 
 -- neither user nor host nor path begins with `-`

@@ -9,7 +9,7 @@ ghost use Rattle.std.specs.List.{list_any};
 ghost use Rattle.percent_encoding.specs.AsciiSet.{should_percent_encode};
 ghost use Rattle.git_syntax.specs.Bytes.{FreeOf, begins_with, percent_sign, tilde};
 ghost use Rattle.git_location.specs.Arguments.{is_option_like};
-ghost use Rattle.git_location.specs.GitClass.{AgreesByTransport, AgreesWithGit, HasNoOption, HasPlainParts, IsOpenHost, IsPlainPart, IsRsync, SuitsTransport, is_contested, is_tilde_second};
+ghost use Rattle.git_location.specs.GitClass.{AgreesByTransport, AgreesWithGit, HasNoOption, HasPlainParts, IsBracketedOfGit, IsPlainHost, IsPlainPart, IsRsync, SuitsTransport, is_contested, is_tilde_second};
 
 mod web;
 
@@ -136,8 +136,7 @@ fn has_plain_parts(url: &UrlRef<'_>) -> bool
     ensures { IsTrue result ↔ HasPlainParts url.now }
 {
     is_plain_part(url.user, url.serialize_alternative_form, USER)
-        && is_plain_part(url.host, url.serialize_alternative_form, PASSWORD)
-        && has_open_host(url)
+        && has_plain_host(url)
         && !holds_contested(url.path)
 }
 
@@ -158,17 +157,24 @@ fn is_plain_part(part: Option<&str>, is_no_url: bool, escaped: AsciiSet) -> bool
     }
 }
 
-/// Whether the host, where there is one, is written without brackets.
-fn has_open_host(url: &UrlRef<'_>) -> bool
-    ensures { IsTrue result ↔ IfSome url.now.host (IsOpenHost url.now) }
+/// Whether the host, where there is one, is such a part, or has brackets of its own, as `git://` alone has them.
+fn has_plain_host(url: &UrlRef<'_>) -> bool
+    ensures { IsTrue result ↔ IfSome url.now.host (IsPlainHost url.now) }
 {
     match url.host {
         None => true,
         Some(host) => {
-            !(url.serialize_alternative_form || url.port.is_some())
-                || is_free_of(host.as_bytes(), b':')
+            is_plain_part(Some(host), url.serialize_alternative_form, PASSWORD)
+                || is_bracketed_of_git(url, host)
         }
     }
+}
+
+/// Whether the location is one of `git://`, and a bracket stands at the front of this host.
+fn is_bracketed_of_git(url: &UrlRef<'_>, host: &str) -> bool
+    ensures { IsTrue result ↔ IsBracketedOfGit url.now host.now }
+{
+    matches!(url.scheme, SchemeRef::Git) && starts_with_byte(host.as_bytes(), b'[')
 }
 
 /// Whether the byte is one by which Git cuts a text otherwise.

@@ -7,7 +7,7 @@ use Rattle.git_syntax.specs.Bytes.{tab, newline, slash, colon, at_sign, left_bra
 use Rattle.git_syntax.specs.Schemes.{protocol_of}
 use Rattle.git_syntax.specs.Authority.{unless_empty}
 use Rattle.git_location.specs.Arguments.{is_option_like}
-use Rattle.git_laws.specs.Git.{GitReading, on_this_machine, from_tilde, git_decode, host_mark, OpensHost, InBrackets, LacksHostBrackets, HostEnd, CutsPlace, BeforePort, HostAndPort, SecurePort, UserCut, ReachesSecure, OwnUrl, IsNoUrl, ReadsGiven, GitReads}
+use Rattle.git_laws.specs.Git.{GitReading, on_this_machine, from_tilde, git_decode, host_mark, OpensHost, InBrackets, LacksHostBrackets, HostEnd, CutsPlace, BeforePort, HostAndPort, SecurePort, UserCut, ReachesSecure, ReachesGit, OwnUrl, IsNoUrl, ReadsGiven, GitReads}
 use Rattle.git_laws.specs.GitRows.{asked, by_ssh, by_git, CredentialRows, GitUrlRows, GitTextRows, NoGitRows}
 use Rattle.git_laws.specs.GitWeb.{are_slashes, AreOneLine, CredentialCut, CredentialDecodes, CredentialReads, trimmed_path}
 use Rattle.git_syntax.proofs.Texts.CutLemmas.{cut_unique, different_bytes, free-cons, held_free, last_cut_unique, not_free}
@@ -141,6 +141,12 @@ git_url_rows = (
       let inner = at_front (codes "h:22") [] (not_held host_mark place refl) refl in
       let word = reached place (codes "/p") (codes "h:22") (codes "h") (codes "h") None (Some 22) None (enclosed place [] (codes "h:22") [] [] None inner (BeforePort.no_colon refl refl refl)) (SecurePort.inside (codes "22") 22 refl refl refl refl refl) (UserCut.host_alone refl refl refl) refl refl refl in
       record { whole = refl; no_option = refl; reads = ReadsGiven.secure_url (codes "[h:22]/p") place (codes "p") (url ssh (codes "ssh") (codes "[h:22]/p") (codes "[h:22]/p") refl refl) (bracket_cut slash (codes "[h:22]/p") [] (codes "h:22") [] (codes "p") opened refl refl) word },
+  -- a port behind an address in brackets
+  let place = codes "[::1]:22" in
+      let opened = at_front (codes "::1") (codes ":22/p") (not_held host_mark (codes "[::1]:22/p") refl) refl in
+      let inner = at_front (codes "::1") (codes ":22") (not_held host_mark place refl) refl in
+      let word = reached place (codes "/p") (codes "::1") (codes "::1") (codes "::1") (Some 22) (Some 22) None (enclosed place [] (codes "::1") (codes ":22") [] (Some 22) inner (BeforePort.marked (codes "22") 22 refl refl refl refl)) (SecurePort.behind 22 refl refl refl) (UserCut.host_alone refl refl refl) refl refl refl in
+      record { whole = refl; no_option = refl; reads = ReadsGiven.secure_url (codes "[::1]:22/p") place (codes "p") (url ssh (codes "ssh") (codes "[::1]:22/p") (codes "[::1]:22/p") refl refl) (bracket_cut slash (codes "[::1]:22/p") [] (codes "::1") (codes ":22") (codes "p") opened refl refl) word },
   -- what stands behind a bracket is dropped
   let place = codes "[x]u@h" in
       let opened = at_front (codes "x") (codes "u@h/p") (not_held host_mark (codes "[x]u@h/p") refl) refl in
@@ -156,6 +162,12 @@ git_url_rows = (
   git_row (codes "h%2Fx/p") (codes "h/x/p") (codes "h") (codes "x/p") (codes "h") None refl refl refl refl refl (BeforePort.no_colon refl refl refl) refl refl refl refl,
   git_row (codes "h/p%00q") (codes "h/p%00q") (codes "h") (codes "p%00q") (codes "h") None refl refl refl refl refl (BeforePort.no_colon refl refl refl) refl refl refl refl,
   git_row (codes "u@h:22/p") (codes "u@h:22/p") (codes "u@h:22") (codes "p") (codes "u@h") (Some 22) refl refl refl refl refl (BeforePort.marked (codes "22") 22 refl refl refl refl) refl refl refl refl,
+  -- brackets that are written as escapes
+  let place = codes "[::1]:22" in
+      let opened = at_front (codes "::1") (codes ":22/p") (not_held host_mark (codes "[::1]:22/p") refl) refl in
+      let inner = at_front (codes "::1") (codes ":22") (not_held host_mark place refl) refl in
+      let word : ReachesGit place (codes "/p") (by_git (codes "::1") (Some 22) (codes "/p")) = record { host = codes "::1"; port = Some 22; cut = enclosed place [] (codes "::1") (codes ":22") [] (Some 22) inner (BeforePort.marked (codes "22") 22 refl refl refl refl); place_line = refl; path_line = refl; value = refl } in
+      record { whole = refl; no_option = refl; reads = ReadsGiven.git_url (codes "[::1]:22/p") place (codes "p") (url git (codes "git") (codes "%5B%3A%3A1%5D:22/p") (codes "[::1]:22/p") refl refl) (bracket_cut slash (codes "[::1]:22/p") [] (codes "::1") (codes ":22") (codes "p") opened refl refl) word },
   file_row (codes "h") (codes "p") refl refl refl refl,
   file_row (codes "~") (codes "x") refl refl refl refl,
   file_row [] (codes "~/x") refl refl refl refl,
@@ -201,6 +213,11 @@ git_text_rows = (
       let none = not_held host_mark (codes "u:p") refl in
       let word = reached place (codes "q") (codes "u:p@h") (codes "u:p@h") (codes "h") None None (Some (codes "u:p")) (enclosed place (codes "u:p@") (codes "h") [] [] None (behind_at (codes "u:p") (codes "h") [] none refl) (BeforePort.no_colon refl refl refl)) (SecurePort.unmarked (codes "u") (codes "p@h") refl refl refl refl refl refl) (UserCut.with_user (codes "u:p") (lit< tt) refl refl refl) refl refl refl in
       record { whole = refl; no_option = refl; reads = ReadsGiven.scp_form place (codes "q") (no_url (codes "u:p@[h]:q") (codes "u") (codes "p@[h]:q") refl refl (not_held (codes "://") (codes "u:p@[h]:q") refl) refl (λ e. cc) (λ e. different_bytes 117 114 refl e)) record { front = codes "u"; rest = codes "p@[h]:q"; joined = refl; no_slash = refl } (bracket_cut colon (codes "u:p@[h]:q") (codes "u:p@") (codes "h") [] (codes "q") (behind_at (codes "u:p") (codes "h") (codes ":q") none refl) refl refl) word },
+  -- an address in brackets, of whose colons none marks a port
+  let place = codes "u@[::1]" in
+      let none = not_held host_mark (codes "u") refl in
+      let word = reached place (codes "p") (codes "u@::1") (codes "u@::1") (codes "::1") None None (Some (codes "u")) (enclosed place (codes "u@") (codes "::1") [] [] None (behind_at (codes "u") (codes "::1") [] none refl) (BeforePort.no_colon refl refl refl)) (SecurePort.unmarked (codes "u@") (codes ":1") refl refl refl refl refl refl) (UserCut.with_user (codes "u") (lit< tt) refl refl refl) refl refl refl in
+      record { whole = refl; no_option = refl; reads = ReadsGiven.scp_form place (codes "p") (no_url (codes "u@[::1]:p") (codes "u@[") (codes ":1]:p") refl refl (not_held (codes "://") (codes "u@[::1]:p") refl) refl (λ e. cc) (λ e. different_bytes 117 114 refl e)) record { front = codes "u@["; rest = codes ":1]:p"; joined = refl; no_slash = refl } (bracket_cut colon (codes "u@[::1]:p") (codes "u@") (codes "::1") [] (codes "p") (behind_at (codes "u") (codes "::1") (codes ":p") none refl) refl refl) word },
   -- a byte before `~` is lost
   record {
     whole = refl;

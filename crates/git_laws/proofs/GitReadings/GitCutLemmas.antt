@@ -1,16 +1,16 @@
--- How Git decodes texts without byte 0, and cuts texts without brackets.
-use Rattle.std.proofs.Common.{◌≡◌, ◌∙◌, ℕ, ◌<◌, ◌≤◌, Bool, true, false, List, [], ◌∷◌, ◌++◌, length, decimal, Option, Some, None, if◌then◌else◌, not, ◌==◌, nat_le, eq-eqb, inl, inr, refl, sym, ap, subst, arith, append_assoc, append-nil}
+-- How Git decodes texts without byte 0, and cuts texts without brackets and those whose host is in brackets.
+use Rattle.std.proofs.Common.{◌≡◌, ◌∙◌, ℕ, ◌<◌, ◌≤◌, Bool, true, false, List, [], ◌∷◌, ◌++◌, length, decimal, Option, Some, None, IfSome, if◌then◌else◌, not, ◌==◌, nat_le, eq-eqb, inl, inr, refl, sym, ap, subst, arith, append_assoc, append-nil}
 use Rattle.std.specs.List.{list_all}
 use Rattle.std.specs.Char.{is_ascii_digit}
 use Rattle.std.specs.Str.Parse.{digits_value}
 use Rattle.std.proofs.lemmas.Bool.{cases_Bool, cond-true, cond-false, and_left, and_right, and_from, false≢true, both_ways, and_parts}
 use Rattle.std.proofs.lemmas.Bool.Decides.{nat_tests}
 use Rattle.percent_encoding.specs.Percent.{is_escape, percent_decode}
-use Rattle.git_syntax.specs.Bytes.{percent_sign, colon, left_bracket, plus_sign, hyphen, FreeOf, Holds}
+use Rattle.git_syntax.specs.Bytes.{percent_sign, colon, at_sign, left_bracket, right_bracket, plus_sign, hyphen, FreeOf, Holds}
 use Rattle.git_syntax.specs.Hosts.{HoldsTwoColons}
 use Rattle.git_syntax.specs.Hosts.Mode.{bare}
-use Rattle.git_location.specs.Text.{port_part}
-use Rattle.git_laws.specs.Git.{escaped_byte, is_git_escape, git_decode, host_mark, LacksHostBrackets, HostEnd, CutsPlace, is_c_space, digits_port, negative_port, signed_port, git_port, BeforePort, HostAndPort, SecurePort}
+use Rattle.git_location.specs.Text.{raw_user, port_part}
+use Rattle.git_laws.specs.Git.{escaped_byte, is_git_escape, git_decode, host_mark, OpensHost, InBrackets, LacksHostBrackets, HostEnd, CutsPlace, is_c_space, digits_port, negative_port, signed_port, git_port, BeforePort, HostAndPort, SecurePort}
 use Rattle.git_syntax.proofs.Texts.CutLemmas.{heads, tails, not_free, free_parts, free_head_tail, free_begins, free_or_cut, free-append, free-cons}
 use Rattle.git_syntax.proofs.Readings.HostLemmas.{number_written}
 
@@ -21,6 +21,11 @@ no_host_mark : (t : List ℕ) → FreeOf left_bracket t → ¬ Holds host_mark t
 no_host_mark t free (front, rest, e) =
     let there : FreeOf left_bracket (front ++ (host_mark ++ rest)) = subst (λ x. FreeOf left_bracket x) e free in
     false≢true (sym (free_parts left_bracket front (host_mark ++ rest) there).1)
+
+-- nor in one that begins with it and has no second one
+no_mark_behind : (t : List ℕ) → FreeOf left_bracket t → ¬ Holds host_mark (left_bracket ∷ t)
+no_mark_behind t free ([], rest, e) = both_ways (left_bracket == at_sign) refl (eq-eqb left_bracket at_sign (heads e))
+no_mark_behind t free (b ∷ front, rest, e) = no_host_mark t free (front, rest, tails e)
 
 -- so no host is in brackets
 pub lacks_brackets : (t : List ℕ) → FreeOf left_bracket t → LacksHostBrackets t
@@ -38,6 +43,37 @@ place_cut c t place rest free first e = record {
   end = HostEnd.none (lacks_brackets t free) refl (sym e);
   first = first;
   joined = refl;
+}
+
+-- behind a user, or at the front, a bracket opens a host where no second one follows
+opens_host : (user : Option (List ℕ)) (rest : List ℕ) → FreeOf left_bracket (raw_user user) → FreeOf left_bracket rest → OpensHost (raw_user user ++ left_bracket ∷ rest) (raw_user user) rest
+opens_host None rest free behind = OpensHost.at_front (no_mark_behind rest behind) refl refl
+opens_host (Some u) rest free behind =
+    OpensHost.behind_at u (no_host_mark u (free_parts left_bracket u (at_sign ∷ []) free).0) refl (append_assoc u (at_sign ∷ []) (left_bracket ∷ rest))
+
+-- the next bracket closes it
+in_brackets : (user : Option (List ℕ)) (inside behind t : List ℕ) → t ≡ raw_user user ++ left_bracket ∷ (inside ++ right_bracket ∷ behind) → FreeOf left_bracket (raw_user user) → FreeOf left_bracket (inside ++ right_bracket ∷ behind) → FreeOf right_bracket inside → InBrackets t (raw_user user) inside behind
+in_brackets user inside behind t e free left right =
+    subst (λ x. InBrackets x (raw_user user) inside behind) (sym e) record { opened = opens_host user (inside ++ right_bracket ∷ behind) free left; next = right }
+
+-- a user, a host in brackets and what stands behind these
+abbrev pub bracketed_place : Option (List ℕ) → List ℕ → List ℕ → List ℕ
+bracketed_place user inside between = raw_user user ++ left_bracket ∷ (inside ++ right_bracket ∷ between)
+
+-- with a text behind it
+bracketed_joined : (user : Option (List ℕ)) (inside between rest : List ℕ) → bracketed_place user inside between ++ rest ≡ raw_user user ++ left_bracket ∷ (inside ++ right_bracket ∷ (between ++ rest))
+bracketed_joined user inside between rest =
+    append_assoc (raw_user user) (left_bracket ∷ (inside ++ right_bracket ∷ between)) rest
+    ∙ ap (λ t. raw_user user ++ left_bracket ∷ t) (append_assoc inside (right_bracket ∷ between) rest)
+
+-- such a text is cut at the first c behind the brackets
+pub bracketed_cut : (c : ℕ) (user : Option (List ℕ)) (inside between rest : List ℕ) → FreeOf left_bracket (raw_user user) → FreeOf left_bracket (inside ++ right_bracket ∷ (between ++ c ∷ rest)) → FreeOf right_bracket inside → FreeOf c (right_bracket ∷ between) → CutsPlace c (bracketed_place user inside between ++ c ∷ rest) (bracketed_place user inside between) rest
+bracketed_cut c user inside between rest free left right first = record {
+  passed = raw_user user ++ left_bracket ∷ inside;
+  between = right_bracket ∷ between;
+  end = HostEnd.brackets (raw_user user) inside (between ++ c ∷ rest) (in_brackets user inside (between ++ c ∷ rest) (bracketed_place user inside between ++ c ∷ rest) (bracketed_joined user inside between (c ∷ rest)) free left right) refl refl;
+  first = first;
+  joined = sym (append_assoc (raw_user user) (left_bracket ∷ inside) (right_bracket ∷ between));
 }
 
 -- ---- escapes
@@ -180,20 +216,47 @@ portless_coloned front host free (x, y, z, e) =
     ]
 
 -- a place is read as a word and the port that is written behind it
-pub record ReadsPlace (word : List ℕ) (port : Option ℕ) : Type 0 where
-  pub cut : HostAndPort (word ++ port_part port) word port
+pub record ReadsPlace (place word : List ℕ) (port : Option ℕ) : Type 0 where
+  pub cut : HostAndPort place word port
   pub secure : SecurePort word port word port
 
 -- where there is a port, the word has no colon
-pub place_with_port : (word : List ℕ) (port : ℕ) → port < 65536 → FreeOf colon word → FreeOf left_bracket (word ++ port_part (Some port)) → ReadsPlace word (Some port)
+pub place_with_port : (word : List ℕ) (port : ℕ) → port < 65536 → FreeOf colon word → FreeOf left_bracket (word ++ port_part (Some port)) → ReadsPlace (word ++ port_part (Some port)) word (Some port)
 place_with_port word port small free unbracketed = record {
   cut = HostAndPort.none (lacks_brackets (word ++ port_part (Some port)) unbracketed) (BeforePort.marked (decimal port) port free refl (git_port_written port small) refl);
   secure = SecurePort.behind port refl refl refl;
 }
 
 -- without one the word names none
-pub place_without_port : (word : List ℕ) → IsPortless word → FreeOf left_bracket word → ReadsPlace word None
+pub place_without_port : (word : List ℕ) → IsPortless word → FreeOf left_bracket word → ReadsPlace (word ++ port_part None) word None
 place_without_port word portless unbracketed = record {
   cut = subst (λ t. HostAndPort t word None) (sym (append-nil word)) (HostAndPort.none (lacks_brackets word unbracketed) portless.before);
   secure = portless.secure;
 }
+
+-- behind the brackets the port is marked
+port_behind : (port : Option ℕ) → IfSome port (λ p. p < 65536) → BeforePort (port_part port) [] port
+port_behind None small = BeforePort.no_colon refl refl refl
+port_behind (Some p) small = BeforePort.marked (decimal p) p refl refl (git_port_written p small) refl
+
+-- and where it isn't, the word names none
+secure_behind : (word : List ℕ) (port : Option ℕ) → IsPortless word → SecurePort word port word port
+secure_behind word None portless = portless.secure
+secure_behind word (Some p) portless = SecurePort.behind p refl refl refl
+
+-- so the word of a host in brackets is user and host, whatever colons the host has
+pub place_in_brackets : (user : Option (List ℕ)) (inside : List ℕ) (port : Option ℕ) → IfSome port (λ p. p < 65536) → FreeOf left_bracket (raw_user user) → FreeOf left_bracket (inside ++ right_bracket ∷ port_part port) → FreeOf right_bracket inside → IsPortless (raw_user user ++ inside) → ReadsPlace (bracketed_place user inside (port_part port)) (raw_user user ++ inside) port
+place_in_brackets user inside port small free left right portless = record {
+  cut = HostAndPort.brackets (raw_user user) inside (port_part port) [] (in_brackets user inside (port_part port) (bracketed_place user inside (port_part port)) refl free left right) refl (port_behind port small);
+  secure = secure_behind (raw_user user ++ inside) port portless;
+}
+
+-- a text with such brackets isn't one whose first colon stands behind a word without them
+pub bracket_first : (front behind word rest : List ℕ) → FreeOf colon front → FreeOf left_bracket word → ¬ (front ++ left_bracket ∷ behind ≡ word ++ colon ∷ rest)
+bracket_first [] behind [] rest free plain e = both_ways (left_bracket == colon) refl (eq-eqb left_bracket colon (heads e))
+bracket_first [] behind (b ∷ word) rest free plain e =
+    both_ways (b == left_bracket) (free_head_tail left_bracket b word plain).0 (eq-eqb b left_bracket (sym (heads e)))
+bracket_first (b ∷ front) behind [] rest free plain e =
+    both_ways (b == colon) (free_head_tail colon b front free).0 (eq-eqb b colon (heads e))
+bracket_first (b ∷ front) behind (c ∷ word) rest free plain e =
+    bracket_first front behind word rest (free_head_tail colon b front free).1 (free_head_tail left_bracket c word plain).1 (tails e)

@@ -3,25 +3,27 @@ use Rattle.std.proofs.Common.{◌≡◌, ◌∙◌, ℕ, ◌<◌, true, false, �
 use Rattle.git_syntax.specs.declared.escape.TheConstants.{PASSWORD, USER}
 use Rattle.git_syntax.specs.Value.{Protocol, Location}
 use Rattle.git_syntax.specs.Value.Protocol.{file, git, http, https, ssh}
-use Rattle.git_syntax.specs.Bytes.{percent_sign, slash, colon, at_sign, left_bracket, right_bracket, tilde, FreeOf, begins_with}
+use Rattle.git_syntax.specs.Addresses.{IsIpv6Text}
+use Rattle.git_syntax.specs.Bytes.{percent_sign, slash, colon, at_sign, left_bracket, right_bracket, tilde, FreeOf, Lacks, begins_with}
+use Rattle.git_syntax.specs.HostPieces.{in_brackets}
 use Rattle.git_syntax.specs.Grammar.{ScpFront, IsNeither, IsScpShaped}
 use Rattle.git_location.specs.Arguments.{is_option_like}
 use Rattle.git_location.specs.Text.{raw_user, raw_host, canonical_text, text}
 use Rattle.git_location.specs.Settled.{IsValue, IsWeb, IsNormalAddress, IsScpName, IsSettledLocal, IsSettledFile, IsSettledScp, IsSettledBy, LooksLikeHelper}
 use Rattle.std.proofs.lemmas.Option.{IfSome_then}
 use Rattle.git_laws.specs.Git.{HostAndPort, on_this_machine, IsNoUrl, IsLocal, ReachesSecure, ReadsGiven}
-use Rattle.git_location.specs.GitClass.{is_contested, IsPlainPart, IsOpenHost, HasPlainParts, is_tilde_second, IsRsync, SuitsTransport, AgreesByTransport, AgreesBy}
+use Rattle.git_location.specs.GitClass.{is_contested, IsPlainPart, IsPlainHost, HasPlainParts, is_tilde_second, IsRsync, SuitsTransport, AgreesByTransport, AgreesBy}
 use Rattle.git_location.specs.WebClass.{AgreesOverWeb}
 use Rattle.git_laws.specs.GitWeb.{ReadsOwnOverWeb}
-use Rattle.git_laws.specs.GitClass.{own_reading, ReadsOwnBy, ReadAlike}
+use Rattle.git_laws.specs.GitClass.{HostForGit, own_reading, ReadsOwnBy, ReadAlike}
 use Rattle.git_syntax.proofs.Texts.CutLemmas.{begins_cut, cut_unique, free-append, free-cons, free_of_lacked, free_or_cut, free_parts, not_free}
-use Rattle.git_syntax.proofs.Addresses.AddressLemmas.{address_two_colons}
+use Rattle.git_syntax.proofs.Addresses.AddressLemmas.{address_free, address_two_colons, is_address_byte}
 use Rattle.git_laws.proofs.Written.FileLemmas.{hostless_text}
 use Rattle.git_laws.proofs.Written.KeptLemmas.{flagged_text}
-use Rattle.git_laws.proofs.Written.WrittenScpLemmas.{scp_value_of, scp_written, scp_spelled}
-use Rattle.git_laws.proofs.GitReadings.GitCutLemmas.{git_decode_kept, lacks_brackets, nothing_passed, place_cut, portless_free}
+use Rattle.git_laws.proofs.Written.WrittenScpLemmas.{address_raw, scp_value_of, scp_written, scp_spelled}
+use Rattle.git_laws.proofs.GitReadings.GitCutLemmas.{bracket_first, bracketed_cut, bracketed_place, git_decode_kept, lacks_brackets, nothing_passed, place_cut, place_in_brackets, portless_coloned, portless_free, some_behind}
 use Rattle.git_laws.proofs.GitReadings.GitPieceLemmas.{from_tilde_kept, scp_host_raw}
-use Rattle.git_laws.proofs.GitReadings.GitTransportLemmas.{IsReadBy, own_read, secure_reading, word_of, secure_reached, host_safe, own_url, secure_url_alike, git_url_alike}
+use Rattle.git_laws.proofs.GitReadings.GitTransportLemmas.{IsReadBy, own_read, secure_host, secure_reading, word_of, secure_reached, host_safe, own_url, secure_url_alike, git_url_alike}
 use Rattle.git_laws.proofs.GitReadings.WebCredentialLemmas.{credential_own}
 use Rattle.git_laws.proofs.GitReadings.WebTextLemmas.{web_text}
 use Rattle.git_laws.proofs.GitReadings.WebUriLemmas.{uri_own}
@@ -35,8 +37,12 @@ path_free : (v : Location) → HasPlainParts v → (c : ℕ) → is_contested c 
 path_free v plain c contested = free_of_lacked is_contested c v.path plain.path contested
 
 -- a location without a user, a host and a port is one of this machine
-machine_reading : (v : Location) → v.scheme ≡ file → v.user ≡ None → v.host ≡ None → v.port ≡ None → own_reading v ≡ on_this_machine v.path
-machine_reading v scheme user host port = λ i. record { protocol = scheme i; user = user i; host = host i; port = port i; path = v.path }
+machine_reading : (v : Location) → v.scheme ≡ file → v.user ≡ None → v.port ≡ None → own_reading v None ≡ on_this_machine v.path
+machine_reading v scheme user port = λ i. record { protocol = scheme i; user = user i; host = None; port = port i; path = v.path }
+
+-- nor has Git a host of it
+machine_host : (v : Location) → v.scheme ≡ file → v.host ≡ None → HostForGit v.scheme v.host None
+machine_host v scheme none = subst (λ p. HostForGit p v.host None) (sym scheme) (sym none)
 
 -- behind `file://` stands the path alone
 file_url_reads : (path rest : List ℕ) → path ≡ slash ∷ rest → FreeOf percent_sign path → FreeOf left_bracket path → ReadsGiven (codes "file://" ++ path) (on_this_machine path)
@@ -47,7 +53,7 @@ file_url_reads path rest e plain left =
 file_url_alike : (v : Location) → v.scheme ≡ file → AgreesByTransport v → v.host ≡ None → FreeOf percent_sign v.path → IsSettledFile v → IsReadBy file v
 file_url_alike v e a none plain h =
     let (rest, rooted) = begins_cut slash v.path h.rooted in
-    own_read v (codes "file://" ++ v.path) (on_this_machine v.path) (machine_reading v e h.alone.0 none h.alone.2) (hostless_text v e h none) (free-append 0 (codes "file://") v.path refl (path_free v a.plain 0 refl)) refl (file_url_reads v.path rest rooted plain (path_free v a.plain left_bracket refl))
+    own_read v None (codes "file://" ++ v.path) (on_this_machine v.path) (machine_host v e none) (machine_reading v e h.alone.0 h.alone.2) (hostless_text v e h none) (free-append 0 (codes "file://") v.path refl (path_free v a.plain 0 refl)) refl (file_url_reads v.path rest rooted plain (path_free v a.plain left_bracket refl))
 
 -- without brackets a colon before any `/` would make it the scp form
 unshaped : (t front rest : List ℕ) → FreeOf right_bracket t → IsNeither t → ¬ IsScpShaped t → FreeOf colon front → t ≡ front ++ colon ∷ rest → ¬ FreeOf slash front
@@ -80,60 +86,68 @@ local_no_url t plain neither no_scp = record {
 local_alike : (v : Location) → v.scheme ≡ file → AgreesByTransport v → begins_with tilde v.path ≡ false → IsSettledLocal v → IsReadBy file v
 local_alike v e a homeless h =
     let plain = path_free v a.plain right_bracket refl in
-    own_read v v.path (on_this_machine v.path) (machine_reading v e h.bare.1.0 h.bare.2 h.bare.1.2) (flagged_text v e h) (path_free v a.plain 0 refl) a.no_option.path (ReadsGiven.local_path [] v.path (local_no_url v.path plain h.shape.neither h.shape.no_scp) (local_text v.path plain h.shape.neither h.shape.no_scp) (nothing_passed v.path (path_free v a.plain left_bracket refl)) h.shape.nonempty a.no_option.path homeless refl)
+    own_read v None v.path (on_this_machine v.path) (machine_host v e h.bare.2) (machine_reading v e h.bare.1.0 h.bare.1.2) (flagged_text v e h) (path_free v a.plain 0 refl) a.no_option.path (ReadsGiven.local_path [] v.path (local_no_url v.path plain h.shape.neither h.shape.no_scp) (local_text v.path plain h.shape.neither h.shape.no_scp) (nothing_passed v.path (path_free v a.plain left_bracket refl)) h.shape.nonempty a.no_option.path homeless refl)
 
 -- ---- the scp form
 
--- the pieces of a settled location in the scp form whose host has no colon
+-- the pieces of a settled location in the scp form whose host is a name
 record IsScpText (v : Location) (host : List ℕ) : Type 0 where
   there : v.host ≡ Some host
-  host_same : raw_host (Some host) ≡ host
   name : IsScpName host
   no_colon : FreeOf colon (word_of v.user host)
   no_slash : FreeOf slash (word_of v.user host)
   neither : IsNeither (word_of v.user host ++ colon ∷ v.path)
   written : text v ≡ Ok (word_of v.user host ++ colon ∷ v.path)
 
--- without a colon the host is a name
-scp_name : (host : List ℕ) → FreeOf colon host → IsScpName host ⊎ IsNormalAddress host → IsScpName host
-scp_name host free (inl name) = name
-scp_name host free (inr address) =
-    let (x, y, z, e) = address_two_colons host address.address in
-    absurd (not_free colon x (y ++ colon ∷ z) (subst (λ t. FreeOf colon t) e free))
-
 -- a settled user is free of `:` and `/`, and so is the user with its `@`
 user_free : (c : ℕ) (user : Option (List ℕ)) → FreeOf c (at_sign ∷ []) → IfSome user (λ u. FreeOf c u) → FreeOf c (raw_user user)
 user_free c None mark free = refl
 user_free c (Some u) mark free = free-append c u (at_sign ∷ []) free mark
 
--- these are its pieces, where the host goes without brackets
-scp_pieces : (v : Location) (host : List ℕ) → IsSettledScp v → v.host ≡ Some host → raw_host (Some host) ≡ host → IsScpName host → FreeOf colon host → IsNeither (raw_user v.user ++ (raw_host (Some host) ++ colon ∷ v.path)) → text v ≡ Ok (raw_user v.user ++ (raw_host (Some host) ++ colon ∷ v.path)) → IsScpText v host
-scp_pieces v host h there same name free neither has =
-    let joined = ap (λ x. raw_user v.user ++ (x ++ colon ∷ v.path)) same ∙ sym (append_assoc (raw_user v.user) host (colon ∷ v.path)) in record {
+-- a settled location in the scp form has a text with this host, which is neither a URL nor for a remote helper
+record IsScpWritten (v : Location) (spelled : List ℕ) : Type 0 where
+  neither : IsNeither (raw_user v.user ++ (spelled ++ colon ∷ v.path))
+  written : text v ≡ Ok (raw_user v.user ++ (spelled ++ colon ∷ v.path))
+
+-- the host as it is written there
+scp_has : (v : Location) (host : List ℕ) → v.scheme ≡ ssh → IsValue v → IsSettledScp v → v.host ≡ Some host → IsScpName host ⊎ IsNormalAddress host → ¬ LooksLikeHelper v host → IsScpWritten v (raw_host (Some host))
+scp_has v host e is h there kind other = record {
+  neither = scp_neither (scp_spelled v.user host v.path is.user (subst (λ o. IfSome o IsUtf8) there is.host) h.user kind h.path other);
+  written = ap (λ l. text l) (scp_value_of v host e h there) ∙ scp_written v.user host v.path v.spelling;
+}
+
+-- a name is written as it is
+scp_text : (v : Location) (host : List ℕ) → IsSettledScp v → v.host ≡ Some host → IsScpName host → IsScpWritten v (raw_host (Some host)) → IsScpText v host
+scp_text v host h there name has =
+    let free = name.normal.unbracketed.no_colon in
+    let joined = ap (λ x. raw_user v.user ++ (x ++ colon ∷ v.path)) (scp_host_raw host free) ∙ sym (append_assoc (raw_user v.user) host (colon ∷ v.path)) in record {
       there = there;
-      host_same = same;
       name = name;
       no_colon = free-append colon (raw_user v.user) host (user_free colon v.user refl (IfSome_then v.user h.user (λ u parts. parts.no_colon))) free;
       no_slash = free-append slash (raw_user v.user) host (user_free slash v.user refl (IfSome_then v.user h.user (λ u parts. parts.no_slash))) name.no_slash;
-      neither = subst IsNeither joined neither;
-      written = has ∙ ap Ok joined;
+      neither = subst IsNeither joined has.neither;
+      written = has.written ∙ ap Ok joined;
     }
 
--- and it goes without them in the class
-scp_text : (v : Location) (host : List ℕ) → v.scheme ≡ ssh → IsValue v → AgreesByTransport v → IsSettledScp v → v.host ≡ Some host → IsScpName host ⊎ IsNormalAddress host → ¬ LooksLikeHelper v host → IsScpText v host
-scp_text v host e is a h there kind other =
-    let has : text v ≡ Ok (raw_user v.user ++ (raw_host (Some host) ++ colon ∷ v.path)) = ap (λ l. text l) (scp_value_of v host e h there) ∙ scp_written v.user host v.path v.spelling in
-    let free = subst (λ o. IfSome o (IsOpenHost v)) there a.plain.unbracketed (inl h.flagged) in
-    let spelled = scp_spelled v.user host v.path is.user (subst (λ o. IfSome o IsUtf8) there is.host) h.user kind h.path other in
-    scp_pieces v host h there (scp_host_raw host free) (scp_name host free kind) free (scp_neither spelled) has
-
--- the text is free of a byte by which Git cuts it otherwise
-scp_free : (v : Location) (host : List ℕ) → v.flag ≡ true → HasPlainParts v → v.host ≡ Some host → (c : ℕ) → is_contested c ≡ true → (at_sign == c) ≡ false → (colon == c) ≡ false → FreeOf c (word_of v.user host ++ colon ∷ v.path)
-scp_free v host flagged plain there c contested other mark =
+-- its user is free of a byte by which Git cuts it otherwise
+scp_user_free : (v : Location) → v.flag ≡ true → HasPlainParts v → (c : ℕ) → is_contested c ≡ true → (at_sign == c) ≡ false → FreeOf c (raw_user v.user)
+scp_user_free v flagged plain c contested other =
     let user = subst (λ f. IfSome v.user (IsPlainPart f USER)) flagged plain.user in
-    let named = subst (λ f. IsPlainPart f PASSWORD host) flagged (subst (λ o. IfSome o (IsPlainPart v.flag PASSWORD)) there plain.host) in
-    let front = user_free c v.user (free-cons c at_sign [] other refl) (IfSome_then v.user user (λ u lacks. free_of_lacked is_contested c u lacks contested)) in
-    free-append c (word_of v.user host) (colon ∷ v.path) (free-append c (raw_user v.user) host front (free_of_lacked is_contested c host named contested)) (free-cons c colon v.path mark (path_free v plain c contested))
+    user_free c v.user (free-cons c at_sign [] other refl) (IfSome_then v.user user (λ u lacks. free_of_lacked is_contested c u lacks contested))
+
+-- its host is plain
+scp_plain_host : (v : Location) (host : List ℕ) → v.flag ≡ true → v.scheme ≡ ssh → HasPlainParts v → v.host ≡ Some host → Lacks is_contested host
+scp_plain_host v host flagged e plain there =
+    elim (subst (λ o. IfSome o (IsPlainHost v)) there plain.host) [
+      | inl lacks ↦ subst (λ f. IsPlainPart f PASSWORD host) flagged lacks
+      | inr (scheme, begins) ↦ let wrong : ssh ≡ git = sym e ∙ scheme in cc
+    ]
+
+-- the text is free of such a byte, where the host is a name
+scp_free : (v : Location) (host : List ℕ) → v.flag ≡ true → HasPlainParts v → v.scheme ≡ ssh → v.host ≡ Some host → (c : ℕ) → is_contested c ≡ true → (at_sign == c) ≡ false → (colon == c) ≡ false → FreeOf c (word_of v.user host ++ colon ∷ v.path)
+scp_free v host flagged plain e there c contested other mark =
+    let named = scp_plain_host v host flagged e plain there in
+    free-append c (word_of v.user host) (colon ∷ v.path) (free-append c (raw_user v.user) host (scp_user_free v flagged plain c contested other) (free_of_lacked is_contested c host named contested)) (free-cons c colon v.path mark (path_free v plain c contested))
 
 -- a word with a host isn't empty
 word_nonempty : (user : Option (List ℕ)) (host : List ℕ) → 0 < length host → 0 < length (word_of user host)
@@ -176,14 +190,105 @@ word_option None (b ∷ host) path some first second = second
 word_option (Some []) host path some first second = refl
 word_option (Some (b ∷ u)) host path some first second = first
 
+-- what the location holds, as Git reads it
+scp_reading : (v : Location) (host : List ℕ) → v.scheme ≡ ssh → IsSettledScp v → own_reading v (Some host) ≡ secure_reading v.user (Some host) None v.path
+scp_reading v host e h = λ i. record { protocol = e i; user = v.user; host = Some host; port = h.no_port i; path = v.path }
+
+-- a settled location in the scp form whose host is a name
+scp_name_alike : (v : Location) (host : List ℕ) → v.scheme ≡ ssh → AgreesByTransport v → SuitsTransport ssh v → IsSettledScp v → v.host ≡ Some host → IsScpName host → IsScpWritten v (raw_host (Some host)) → IsReadBy ssh v
+scp_name_alike v host e a suits h there name has =
+    let found = scp_text v host h there name has in
+    let free = scp_free v host h.flagged a.plain e there in
+    own_read v (Some host) (word_of v.user host ++ colon ∷ v.path) (secure_reading v.user (Some host) None v.path) (secure_host v (Some host) e there) (scp_reading v host e h) found.written (free 0 refl refl refl) (word_option v.user host v.path name.normal.unbracketed.nonempty a.no_option.user (host_safe v host there a.no_option)) (scp_reads v host h found a suits.0 suits.1 suits.2 (free left_bracket refl refl refl))
+
+-- ---- the scp form with an address
+
+-- the pieces of a settled location in the scp form whose host is an address
+record IsAddressedText (v : Location) (host : List ℕ) : Type 0 where
+  there : v.host ≡ Some host
+  address : IsIpv6Text host
+  no_colon : FreeOf colon (raw_user v.user)
+  no_slash : FreeOf slash (raw_user v.user)
+  no_left : FreeOf left_bracket (raw_user v.user)
+  no_zero : FreeOf 0 (raw_user v.user)
+  neither : IsNeither (bracketed_place v.user host [] ++ colon ∷ v.path)
+  written : text v ≡ Ok (bracketed_place v.user host [] ++ colon ∷ v.path)
+
+-- an address is written in brackets
+addressed_text : (v : Location) (host : List ℕ) → AgreesByTransport v → IsSettledScp v → v.host ≡ Some host → IsNormalAddress host → IsScpWritten v (raw_host (Some host)) → IsAddressedText v host
+addressed_text v host a h there address has =
+    let joined = ap (λ x. raw_user v.user ++ (x ++ colon ∷ v.path)) (address_raw host address) ∙ sym (append_assoc (raw_user v.user) (in_brackets host) (colon ∷ v.path)) in
+    let free = scp_user_free v h.flagged a.plain in
+    record {
+      there = there;
+      address = address.address;
+      no_colon = user_free colon v.user refl (IfSome_then v.user h.user (λ u parts. parts.no_colon));
+      no_slash = user_free slash v.user refl (IfSome_then v.user h.user (λ u parts. parts.no_slash));
+      no_left = free left_bracket refl refl;
+      no_zero = free 0 refl refl;
+      neither = subst IsNeither joined has.neither;
+      written = has.written ∙ ap Ok joined;
+    }
+
+-- its place is free of what neither user nor address holds
+addressed_free : (v : Location) (host : List ℕ) → IsAddressedText v host → (c : ℕ) → is_address_byte c ≡ false → (left_bracket == c) ≡ false → (right_bracket == c) ≡ false → FreeOf c (raw_user v.user) → FreeOf c (bracketed_place v.user host [])
+addressed_free v host t c other left right free =
+    free-append c (raw_user v.user) (left_bracket ∷ (host ++ right_bracket ∷ [])) free (free-cons c left_bracket (host ++ right_bracket ∷ []) left (free-append c host (right_bracket ∷ []) (address_free c host other t.address) (free-cons c right_bracket [] right refl)))
+
+-- no word without a bracket stands before its first colon
+addressed_word : (v : Location) (host word rest : List ℕ) → IsAddressedText v host → FreeOf left_bracket word → ¬ (bracketed_place v.user host [] ++ colon ∷ v.path ≡ word ++ colon ∷ rest)
+addressed_word v host word rest t plain e =
+    bracket_first (raw_user v.user) ((host ++ right_bracket ∷ []) ++ colon ∷ v.path) word rest t.no_colon plain (sym (append_assoc (raw_user v.user) (in_brackets host) (colon ∷ v.path)) ∙ e)
+
+-- so the text is neither a URL nor for a remote helper nor for `rsync`
+addressed_no_url : (v : Location) (host : List ℕ) → IsAddressedText v host → IsNoUrl (bracketed_place v.user host [] ++ colon ∷ v.path)
+addressed_no_url v host t = record {
+  no_mark = t.neither.no_mark;
+  no_helper = t.neither.no_helper;
+  no_empty_helper = λ rest e. addressed_word v host [] (colon ∷ rest) t refl e;
+  no_rsync = λ rest e. addressed_word v host (codes "rsync") rest t refl e;
+}
+
+-- an address isn't empty
+address_nonempty : (host : List ℕ) → IsIpv6Text host → 0 < length host
+address_nonempty host address =
+    let (x, y, z, e) = address_two_colons host address in
+    subst (λ t. 0 < length t) (sym e) (some_behind x (y ++ colon ∷ z))
+
+-- Git reads in it what the location holds
+addressed_reads : (v : Location) (host : List ℕ) → IsAddressedText v host → AgreesByTransport v → is_tilde_second v.path ≡ false → ¬ (v.user ≡ Some []) → ReadsGiven (bracketed_place v.user host [] ++ colon ∷ v.path) (secure_reading v.user (Some host) None v.path)
+addressed_reads v host t a second named =
+    let place = bracketed_place v.user host [] in
+    let free : (c : ℕ) → is_address_byte c ≡ false → FreeOf c host = λ c other. address_free c host other t.address in
+    let closed : (behind : List ℕ) → FreeOf left_bracket behind → FreeOf left_bracket (host ++ right_bracket ∷ behind) = λ behind plain. free-append left_bracket host (right_bracket ∷ behind) (free left_bracket refl) (free-cons left_bracket right_bracket behind refl plain) in
+    let read = place_in_brackets v.user host None tt t.no_left (closed [] refl) (free right_bracket refl) (portless_coloned (raw_user v.user) host t.no_colon (address_two_colons host t.address)) in
+    let reached = secure_reached v.user host None place v.path read.cut read.secure (free-append slash (raw_user v.user) host t.no_slash (free slash refl)) (free at_sign refl) (address_nonempty host t.address) named a.no_option.user (host_safe v host t.there a.no_option) a.no_option.path in
+    ReadsGiven.scp_form place v.path (addressed_no_url v host t) record { front = place; rest = v.path; joined = refl; no_slash = addressed_free v host t slash refl refl refl t.no_slash } (bracketed_cut colon v.user host [] v.path t.no_left (closed (colon ∷ v.path) (path_free v a.plain left_bracket refl)) (free right_bracket refl) refl) (subst (λ p. ReachesSecure place p (secure_reading v.user (Some host) None v.path)) (sym (from_tilde_kept v.path second)) reached)
+
+-- a bracket or a user stands in front, so the text is no option where the user is none
+addressed_option : (user : Option (List ℕ)) (inside path : List ℕ) → IfSome user (λ u. is_option_like u ≡ false) → is_option_like (bracketed_place user inside [] ++ colon ∷ path) ≡ false
+addressed_option None inside path safe = refl
+addressed_option (Some []) inside path safe = refl
+addressed_option (Some (b ∷ u)) inside path safe = safe
+
+-- a settled location in the scp form whose host is an address
+addressed_alike : (v : Location) (host : List ℕ) → v.scheme ≡ ssh → AgreesByTransport v → SuitsTransport ssh v → IsSettledScp v → v.host ≡ Some host → IsNormalAddress host → IsScpWritten v (raw_host (Some host)) → IsReadBy ssh v
+addressed_alike v host e a suits h there address has =
+    let found = addressed_text v host a h there address has in
+    let place = bracketed_place v.user host [] in
+    let zero = free-append 0 place (colon ∷ v.path) (addressed_free v host found 0 refl refl refl found.no_zero) (free-cons 0 colon v.path refl (path_free v a.plain 0 refl)) in
+    own_read v (Some host) (place ++ colon ∷ v.path) (secure_reading v.user (Some host) None v.path) (secure_host v (Some host) e there) (scp_reading v host e h) found.written zero (addressed_option v.user host v.path a.no_option.user) (addressed_reads v host found a suits.0 suits.2)
+
+-- a settled location in the scp form, by its host
+scp_alike_by : (v : Location) (host : List ℕ) → v.scheme ≡ ssh → AgreesByTransport v → SuitsTransport ssh v → IsSettledScp v → v.host ≡ Some host → IsScpWritten v (raw_host (Some host)) → IsScpName host ⊎ IsNormalAddress host → IsReadBy ssh v
+scp_alike_by v host e a suits h there has (inl name) = scp_name_alike v host e a suits h there name has
+scp_alike_by v host e a suits h there has (inr address) = addressed_alike v host e a suits h there address has
+
 -- a settled location in the scp form
 scp_alike : (v : Location) → v.scheme ≡ ssh → IsValue v → AgreesByTransport v → SuitsTransport ssh v → IsSettledScp v → IsReadBy ssh v
 scp_alike v e is a suits h =
     let (host, there, kind, other) = h.host in
-    let found = scp_text v host e is a h there kind other in
-    let free = scp_free v host h.flagged a.plain there in
-    let value : own_reading v ≡ secure_reading v.user (Some host) None v.path = λ i. record { protocol = e i; user = v.user; host = there i; port = h.no_port i; path = v.path } in
-    own_read v (word_of v.user host ++ colon ∷ v.path) (secure_reading v.user (Some host) None v.path) value found.written (free 0 refl refl refl) (word_option v.user host v.path found.name.normal.unbracketed.nonempty a.no_option.user (host_safe v host there a.no_option)) (scp_reads v host h found a suits.0 suits.1 suits.2 (free left_bracket refl refl refl))
+    scp_alike_by v host e a suits h there (scp_has v host e is h there kind other) kind
 
 -- ---- all kinds
 

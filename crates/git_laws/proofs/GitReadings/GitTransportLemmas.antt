@@ -1,29 +1,31 @@
 -- Git reads in the text of a URL of one of its own transports the user, the host, the port and the path of the location.
-use Rattle.std.proofs.Common.{◌≡◌, ◌∙◌, ℕ, ◌<◌, true, false, ◌⊎◌, inl, inr, List, [], ◌∷◌, ◌++◌, length, ◌==◌, Option, Some, None, Ok, IfSome, codes, refl, sym, ap, subst, arith, append_assoc}
+use Rattle.std.proofs.Common.{◌≡◌, ◌∙◌, ℕ, ◌<◌, true, false, ◌⊎◌, inl, inr, List, [], ◌∷◌, ◌++◌, length, ◌==◌, Option, Some, None, Ok, IfSome, IsUtf8, codes, refl, sym, ap, subst, arith, append_assoc}
 use Rattle.std.specs.Prelude.{IsSome}
 use Rattle.std.specs.Char.{is_ascii_digit}
-use Rattle.std.proofs.lemmas.Bool.{false≢true}
+use Rattle.std.proofs.lemmas.Bool.{false≢true, both_ways}
 use Rattle.percent_encoding.specs.AsciiSet.{contains, should_percent_encode}
-use Rattle.percent_encoding.specs.Percent.{percent_decode}
+use Rattle.percent_encoding.specs.Percent.{percent_decode, percent_encode}
 use Rattle.git_syntax.specs.declared.escape.TheConstants.{PASSWORD, USER}
 use Rattle.git_syntax.specs.Value.{Protocol, Location}
 use Rattle.git_syntax.specs.Value.Protocol.{git, ssh}
 use Rattle.git_syntax.specs.Addresses.{IsIpv6Text}
-use Rattle.git_syntax.specs.Bytes.{newline, percent_sign, slash, colon, at_sign, left_bracket, FreeOf, Lacks}
+use Rattle.git_syntax.specs.Bytes.{newline, percent_sign, slash, colon, at_sign, left_bracket, right_bracket, FreeOf, Lacks, begins_with}
 use Rattle.git_syntax.specs.Schemes.{protocol_of, protocol_text}
 use Rattle.git_syntax.specs.Authority.{unless_empty}
+use Rattle.git_syntax.specs.Grammar.{Unbrackets}
 use Rattle.git_location.specs.Arguments.{is_option_like}
 use Rattle.git_location.specs.Text.{raw_user, keeps_host, canonical_host, user_information, host_part, port_part, canonical_path, canonical_text, text}
 use Rattle.git_location.specs.Settled.{IsValue, IsNormalName, IsBareHost, IsBracketedHost, IsTransportPath, IsSettledRaw, IsSettledSecure, IsSettledGit, IsRawPath}
-use Rattle.git_laws.specs.Git.{GitReading, git_decode, HostAndPort, SecurePort, UserCut, ReachesSecure, ReachesGit, CutsPlace, OwnUrl, ReadsGiven, GitReads}
-use Rattle.git_location.specs.GitClass.{is_contested, IsPlainPart, IsOpenHost, HasNoOption, AgreesByTransport}
-use Rattle.git_laws.specs.GitClass.{own_reading, ReadsOwnBy}
-use Rattle.git_syntax.proofs.Texts.CutLemmas.{free-append, free_of_lacked, free_parts, not_free}
-use Rattle.git_syntax.proofs.Texts.EscapeLemmas.{decode_kept, decodes_in_parts, sound_free}
-use Rattle.git_syntax.proofs.Addresses.AddressLemmas.{address_two_colons}
+use Rattle.git_laws.specs.Git.{GitReading, git_decode, CutsPlace, HostAndPort, SecurePort, UserCut, ReachesSecure, ReachesGit, OwnUrl, ReadsGiven, GitReads}
+use Rattle.git_location.specs.GitClass.{is_contested, IsPlainPart, IsBracketedOfGit, IsPlainHost, HasNoOption, AgreesByTransport}
+use Rattle.git_laws.specs.GitClass.{HostForGit, own_reading, ReadsOwnPlace, ReadsOwnBy}
+use Rattle.git_syntax.proofs.Texts.CutLemmas.{free-append, free-cons, free_begins, free_head_tail, free_of_lacked, free_parts, not_free}
+use Rattle.git_syntax.proofs.Texts.EscapeLemmas.{decode_encode_utf8, decode_kept, decodes_in_parts, encode_sound, sound_free}
+use Rattle.git_syntax.proofs.Addresses.AddressLemmas.{address_free, address_two_colons, is_address_byte}
 use Rattle.git_syntax.proofs.Readings.UrlLemmas.{some_kept}
+use Rattle.git_laws.proofs.Written.WrittenHostLemmas.{address_in_brackets, bracketed_escaped, written_host}
 use Rattle.git_laws.proofs.Written.WrittenUrlLemmas.{authority_text, canonical_cut}
-use Rattle.git_laws.proofs.GitReadings.GitCutLemmas.{IsPortless, ReadsPlace, git_decoded, place_cut, place_with_port, place_without_port, portless_coloned, portless_free, some_behind}
+use Rattle.git_laws.proofs.GitReadings.GitCutLemmas.{IsPortless, ReadsPlace, bracketed_cut, bracketed_place, git_decoded, place_cut, place_in_brackets, place_with_port, place_without_port, portless_coloned, portless_free, some_behind}
 use Rattle.git_laws.proofs.GitReadings.GitPieceLemmas.{IsHostRaw, IsPathRaw, IsUserRaw, host_raw, kept_free, path_raw, port_free, unmarked, user_raw}
 use Rattle.git_location.proofs.Written.WrittenAsUrlLemmas.{written_git, written_secure}
 
@@ -34,9 +36,20 @@ abbrev pub IsReadBy : Protocol → Location → Type 0
 IsReadBy p v = (t : List ℕ) × (text v ≡ Ok t) × ReadsOwnBy p t v
 
 -- of Git's own transports, where they are what Git reads in it
-pub own_read : (v : Location) (whole : List ℕ) (reading : GitReading) → own_reading v ≡ reading → text v ≡ Ok whole → FreeOf 0 whole → is_option_like whole ≡ false → ReadsGiven whole reading → (t : List ℕ) × (text v ≡ Ok t) × GitReads t (own_reading v)
-own_read v whole reading value has zero_free safe reads =
-    (whole, has, subst (λ r. GitReads whole r) (sym value) record { whole = zero_free; no_option = safe; reads = reads })
+pub own_read : (v : Location) (host : Option (List ℕ)) (whole : List ℕ) (reading : GitReading) → HostForGit v.scheme v.host host → own_reading v host ≡ reading → text v ≡ Ok whole → FreeOf 0 whole → is_option_like whole ≡ false → ReadsGiven whole reading → (t : List ℕ) × (text v ≡ Ok t) × ReadsOwnPlace t v
+own_read v host whole reading own value has zero_free safe reads = (
+  whole,
+  has,
+  record {
+    host = host;
+    own = own;
+    reads = subst (λ r. GitReads whole r) (sym value) record { whole = zero_free; no_option = safe; reads = reads };
+  },
+)
+
+-- the host of Secure Shell is the location's own
+pub secure_host : (v : Location) (host : Option (List ℕ)) → v.scheme ≡ ssh → v.host ≡ host → HostForGit v.scheme v.host host
+secure_host v host e there = subst (λ p. HostForGit p v.host host) (sym e) (sym there)
 
 -- ---- what Secure Shell reaches
 
@@ -89,8 +102,8 @@ secure_reached user host port place path cut secure no_slash free some named use
 -- ---- written places
 
 -- the word names itself and the port that is written behind it
-word_read : (word : List ℕ) (port : Option ℕ) → IfSome port (λ p. p < 65536) → (IsSome port → FreeOf colon word) → (port ≡ None → IsPortless word) → FreeOf left_bracket (word ++ port_part port) → ReadsPlace word port
-word_read word None small marked portless free = place_without_port word (portless refl) (free_parts left_bracket word [] free).0
+word_read : (word : List ℕ) (port : Option ℕ) → IfSome port (λ p. p < 65536) → (IsSome port → FreeOf colon word) → IsPortless word → FreeOf left_bracket (word ++ port_part port) → ReadsPlace (word ++ port_part port) word port
+word_read word None small marked portless free = place_without_port word portless (free_parts left_bracket word [] free).0
 word_read word (Some p) small marked portless free = place_with_port word p small (marked refl) free
 
 -- the text is a URL of the transport, and this is what the rest is decoded to
@@ -99,103 +112,161 @@ own_url protocol scheme spelled rest own decoded = record { scheme = scheme; spe
 
 -- ---- URLs of Git's own transports
 
--- what the text of a location holds behind `://`: it is decoded to a word, a port, and a path
-record IsTransportText (v : Location) (host : List ℕ) : Type 0 where
-  user : IsUserRaw v.user
-  hosted : IsHostRaw v host
-  pathed : IsPathRaw v
-  behind : git_decode (authority_text v ++ canonical_path v) ≡ (word_of v.user host ++ port_part v.port) ++ slash ∷ pathed.rest
-  zero_free : FreeOf 0 (authority_text v ++ canonical_path v)
-  left : FreeOf left_bracket ((word_of v.user host ++ port_part v.port) ++ slash ∷ pathed.rest)
+-- what stands before the path is decoded to a place, which Git reads as this word and the port
+pub record HasPlace (v : Location) (word : List ℕ) : Type 0 where
+  pub place : List ℕ
+  pub decoded : (t : List ℕ) → percent_decode (authority_text v ++ t) ≡ place ++ percent_decode t
+  pub zero_free : FreeOf 0 place
+  pub line_free : FreeOf newline place
+  pub cut : (rest : List ℕ) → FreeOf left_bracket rest → CutsPlace slash (place ++ slash ∷ rest) place rest
+  pub read : ReadsPlace place word v.port
 
--- a location with a host and no password, whose parts are plain
+-- what the text of a location holds behind `://`: it is decoded to the place and a path
+record IsTransportText (v : Location) (place : List ℕ) : Type 0 where
+  pathed : IsPathRaw v
+  behind : git_decode (authority_text v ++ canonical_path v) ≡ place ++ slash ∷ pathed.rest
+  zero_free : FreeOf 0 (authority_text v ++ canonical_path v)
+  left : FreeOf left_bracket pathed.rest
+
+-- a location with a host and no password, whose user and path are plain
 record HasHostGiven (v : Location) (host : List ℕ) : Type 0 where
   transport : (v.scheme ≡ ssh) ⊎ (v.scheme ≡ git)
   escapes : keeps_host v.scheme ≡ false
   there : v.host ≡ Some host
-  kind : IsIpv6Text host ⊎ FreeOf colon host
   no_password : v.password ≡ None
   user : IfSome v.user (λ u. Lacks (should_percent_encode USER) u)
-  kept : Lacks (should_percent_encode PASSWORD) host
-  beside : IsSome v.port → FreeOf colon host
+  plain : IsPlainPart false PASSWORD host ⊎ IsBracketedOfGit v host
   plain_path : Lacks is_contested v.path
   raw : IsRawPath v
   path : IsTransportPath v
 
 -- so it is with a settled URL of the class
-host_given : (v : Location) (host : List ℕ) → (v.scheme ≡ ssh) ⊎ (v.scheme ≡ git) → keeps_host v.scheme ≡ false → AgreesByTransport v → v.host ≡ Some host → IsSettledRaw v → IsTransportPath v → IsIpv6Text host ⊎ FreeOf colon host → HasHostGiven v host
-host_given v host transport escapes a there url path kind = record {
+host_given : (v : Location) (host : List ℕ) → (v.scheme ≡ ssh) ⊎ (v.scheme ≡ git) → keeps_host v.scheme ≡ false → AgreesByTransport v → v.host ≡ Some host → IsSettledRaw v → IsTransportPath v → HasHostGiven v host
+host_given v host transport escapes a there url path = record {
   transport = transport;
   escapes = escapes;
   there = there;
-  kind = kind;
   no_password = a.no_password;
   user = subst (λ f. IfSome v.user (IsPlainPart f USER)) url.common.unflagged a.plain.user;
-  kept = subst (λ f. IsPlainPart f PASSWORD host) url.common.unflagged (subst (λ o. IfSome o (IsPlainPart v.flag PASSWORD)) there a.plain.host);
-  beside = λ some. subst (λ o. IfSome o (IsOpenHost v)) there a.plain.unbracketed (inr some);
+  plain = subst (λ f. IsPlainPart f PASSWORD host ⊎ IsBracketedOfGit v host) url.common.unflagged (subst (λ o. IfSome o (IsPlainHost v)) there a.plain.host);
   plain_path = a.plain.path;
   raw = url.raw;
   path = path;
 }
 
--- the authority is user, host and port as they are
-authority_given : (v : Location) (host : List ℕ) → v.host ≡ Some host → v.password ≡ None → authority_text v ≡ user_information v.user None ++ (canonical_host v host ++ port_part v.port)
-authority_given v host there none =
-    ap (λ o. user_information v.user o ++ (host_part v v.host ++ port_part v.port)) none ∙ ap (λ o. user_information v.user None ++ (host_part v o ++ port_part v.port)) there
-
--- and as they are where they are written so
-authority_raw : (v : Location) (host : List ℕ) → HasHostGiven v host → IsUserRaw v.user → IsHostRaw v host → authority_text v ≡ word_of v.user host ++ port_part v.port
-authority_raw v host h user hosted =
-    authority_given v host h.there h.no_password
+-- the authority is user, host and port
+authority_given : (v : Location) (host : List ℕ) → (h : HasHostGiven v host) → IsUserRaw v.user → authority_text v ≡ raw_user v.user ++ (canonical_host v host ++ port_part v.port)
+authority_given v host h user =
+    ap (λ o. user_information v.user o ++ (host_part v v.host ++ port_part v.port)) h.no_password
+    ∙ ap (λ o. user_information v.user None ++ (host_part v o ++ port_part v.port)) h.there
     ∙ ap (λ t. t ++ (canonical_host v host ++ port_part v.port)) user.written
-    ∙ ap (λ t. raw_user v.user ++ (t ++ port_part v.port)) hosted.written
-    ∙ sym (append_assoc (raw_user v.user) host (port_part v.port))
+
+-- a place without `%` is decoded to itself
+place_decoded : (v : Location) (place : List ℕ) → authority_text v ≡ place → FreeOf percent_sign place → (t : List ℕ) → percent_decode (authority_text v ++ t) ≡ place ++ percent_decode t
+place_decoded v place e free t =
+    ap (λ x. percent_decode (x ++ t)) e
+    ∙ decodes_in_parts place t (sound_free place free)
+    ∙ ap (λ x. x ++ percent_decode t) (decode_kept place free)
+
+-- ---- places without brackets
 
 -- the place is free of a byte that is written as an escape and is no mark of it
 place_free : (v : Location) (host : List ℕ) → IfSome v.port (λ p. p < 65536) → IsUserRaw v.user → IsHostRaw v host → (c : ℕ) → contains USER c ≡ true → contains PASSWORD c ≡ true → (at_sign == c) ≡ false → (colon == c) ≡ false → is_ascii_digit c ≡ false → FreeOf c (word_of v.user host ++ port_part v.port)
 place_free v host small user hosted c in_user in_host other mark digit =
     free-append c (word_of v.user host) (port_part v.port) (free-append c (raw_user v.user) host (user.free c in_user other) (hosted.free c in_host)) (port_free c v.port digit mark small)
 
--- this is the text, where its parts are plain
-transport_text : (v : Location) (host : List ℕ) → IfSome v.port (λ p. p < 65536) → HasHostGiven v host → IsTransportText v host
-transport_text v host small h =
+-- a host that is written as it is, beside no port where it has a colon, is read as it is
+open_place : (v : Location) (host : List ℕ) → IsValue v → HasHostGiven v host → IsHostRaw v host → (IsSome v.port → FreeOf colon host) → IsPortless (word_of v.user host) → HasPlace v (word_of v.user host)
+open_place v host is h hosted beside portless =
     let user = user_raw v.user h.user in
-    let hosted = host_raw v host h.escapes (unmarked v.port host (kept_free PASSWORD host h.kept percent_sign refl) h.beside) h.kept h.kind in
-    let pathed = path_raw v h.transport h.raw h.path in
     let place = word_of v.user host ++ port_part v.port in
-    let free = place_free v host small user hosted in
-    let whole : percent_decode (authority_text v ++ canonical_path v) ≡ place ++ slash ∷ pathed.rest =
-    ap (λ t. percent_decode (t ++ canonical_path v)) (authority_raw v host h user hosted)
-    ∙ decodes_in_parts place (canonical_path v) (sound_free place (free percent_sign refl refl refl refl refl))
-    ∙ ap (λ t. t ++ percent_decode (canonical_path v)) (decode_kept place (free percent_sign refl refl refl refl refl))
-    ∙ ap (λ t. place ++ t) pathed.decoded in
-    let zero = free-append 0 place (slash ∷ pathed.rest) (free 0 refl refl refl refl refl) (pathed.free 0 refl (free_of_lacked is_contested 0 v.path h.plain_path refl)) in
+    let free = place_free v host is.port user hosted in
+    let left = free left_bracket refl refl refl refl refl in
+    let raw = authority_given v host h user ∙ ap (λ t. raw_user v.user ++ (t ++ port_part v.port)) hosted.written ∙ sym (append_assoc (raw_user v.user) host (port_part v.port)) in
+    record {
+      place = place;
+      decoded = place_decoded v place raw (free percent_sign refl refl refl refl refl);
+      zero_free = free 0 refl refl refl refl refl;
+      line_free = free newline refl refl refl refl refl;
+      cut = λ rest behind. place_cut slash (place ++ slash ∷ rest) place rest (free-append left_bracket place (slash ∷ rest) left (free-cons left_bracket slash rest refl behind)) (free slash refl refl refl refl refl) refl;
+      read = word_read (word_of v.user host) v.port is.port (λ given. free-append colon (raw_user v.user) host (user.free colon refl refl) (beside given)) portless left;
+    }
+
+-- a name is
+name_place : (v : Location) (host : List ℕ) → IsValue v → HasHostGiven v host → Lacks (should_percent_encode PASSWORD) host → FreeOf colon host → HasPlace v (word_of v.user host)
+name_place v host is h kept free =
+    let hosted = host_raw v host h.escapes (unmarked v.port host (kept_free PASSWORD host kept percent_sign refl) (λ given. free)) kept (inr free) in
+    open_place v host is h hosted (λ given. free) (portless_free (word_of v.user host) (free-append colon (raw_user v.user) host ((user_raw v.user h.user).free colon refl refl) free))
+
+-- ---- addresses
+
+-- a place with an address in brackets is free of what is written as an escape, and is no mark of the place
+address_free_place : (user : Option (List ℕ)) (address : List ℕ) (port : Option ℕ) → IsIpv6Text address → IfSome port (λ p. p < 65536) → IsUserRaw user → (c : ℕ) → contains USER c ≡ true → is_address_byte c ≡ false → (at_sign == c) ≡ false → (left_bracket == c) ≡ false → (right_bracket == c) ≡ false → (colon == c) ≡ false → is_ascii_digit c ≡ false → FreeOf c (bracketed_place user address (port_part port))
+address_free_place user address port h small raw c in_user other mark left right separator digit =
+    free-append c (raw_user user) (left_bracket ∷ (address ++ right_bracket ∷ port_part port)) (raw.free c in_user mark) (free-cons c left_bracket (address ++ right_bracket ∷ port_part port) left (free-append c address (right_bracket ∷ port_part port) (address_free c address other h) (free-cons c right_bracket (port_part port) right (port_free c port digit separator small))))
+
+-- behind its bracket nothing opens another
+address_closed : (address behind : List ℕ) → IsIpv6Text address → FreeOf left_bracket behind → FreeOf left_bracket (address ++ right_bracket ∷ behind)
+address_closed address behind h free =
+    free-append left_bracket address (right_bracket ∷ behind) (address_free left_bracket address refl h) (free-cons left_bracket right_bracket behind refl free)
+
+-- with a port, an address is read so where it is decoded to itself in brackets
+address_place : (v : Location) (address : List ℕ) → IsValue v → IsIpv6Text address → IsUserRaw v.user → ((t : List ℕ) → percent_decode (authority_text v ++ t) ≡ bracketed_place v.user address (port_part v.port) ++ percent_decode t) → HasPlace v (word_of v.user address)
+address_place v address is h user decoded =
+    let place = bracketed_place v.user address (port_part v.port) in
+    let free = address_free_place v.user address v.port h is.port user in
+    let ported = port_free left_bracket v.port refl refl is.port in
+    let front = user.free left_bracket refl refl in
+    let right = address_free right_bracket address refl h in
+    record {
+      place = place;
+      decoded = decoded;
+      zero_free = free 0 refl refl refl refl refl refl refl;
+      line_free = free newline refl refl refl refl refl refl refl;
+      cut = λ rest behind. bracketed_cut slash v.user address (port_part v.port) rest front (address_closed address (port_part v.port ++ slash ∷ rest) h (free-append left_bracket (port_part v.port) (slash ∷ rest) ported (free-cons left_bracket slash rest refl behind))) right (free-cons slash right_bracket (port_part v.port) refl (port_free slash v.port refl refl is.port));
+      read = place_in_brackets v.user address v.port is.port front (address_closed address (port_part v.port) h ported) right (portless_coloned (raw_user v.user) address (user.free colon refl refl) (address_two_colons address h));
+    }
+
+-- a host in brackets and what stands behind it, joined
+brackets_joined : (address behind : List ℕ) → (left_bracket ∷ (address ++ right_bracket ∷ [])) ++ behind ≡ left_bracket ∷ (address ++ right_bracket ∷ behind)
+brackets_joined address behind = ap (λ t. left_bracket ∷ t) (append_assoc address (right_bracket ∷ []) behind)
+
+-- so is one of Secure Shell beside a port, where it is written in brackets
+marked_place : (v : Location) (host : List ℕ) (p : ℕ) → v.port ≡ Some p → IsValue v → HasHostGiven v host → IsIpv6Text host → HasPlace v (word_of v.user host)
+marked_place v host p ported is h address =
+    let user = user_raw v.user h.user in
+    let place = bracketed_place v.user host (port_part v.port) in
+    let written : canonical_host v host ≡ left_bracket ∷ (host ++ right_bracket ∷ []) = ap (λ o. written_host v.scheme o host) ported ∙ address_in_brackets v.scheme p host address in
+    let raw = authority_given v host h user ∙ ap (λ t. raw_user v.user ++ (t ++ port_part v.port)) written ∙ ap (λ t. raw_user v.user ++ t) (brackets_joined host (port_part v.port)) in
+    address_place v host is address user (place_decoded v place raw (address_free_place v.user host v.port address is.port user percent_sign refl refl refl refl refl refl refl))
+
+-- alone it is written as it is
+unmarked_place : (v : Location) (host : List ℕ) → v.port ≡ None → IsValue v → HasHostGiven v host → Lacks (should_percent_encode PASSWORD) host → IsIpv6Text host → HasPlace v (word_of v.user host)
+unmarked_place v host portless is h kept address =
+    let lonely : IsSome v.port → FreeOf colon host = λ given. absurd (false≢true (subst IsSome portless given)) in
+    let hosted = host_raw v host h.escapes (unmarked v.port host (kept_free PASSWORD host kept percent_sign refl) lonely) kept (inl address) in
+    open_place v host is h hosted lonely (portless_coloned (raw_user v.user) host ((user_raw v.user h.user).free colon refl refl) (address_two_colons host address))
+
+-- beside a port or without one
+address_place_by : (v : Location) (host : List ℕ) (port : Option ℕ) → v.port ≡ port → IsValue v → HasHostGiven v host → Lacks (should_percent_encode PASSWORD) host → IsIpv6Text host → HasPlace v (word_of v.user host)
+address_place_by v host None e is h kept address = unmarked_place v host e is h kept address
+address_place_by v host (Some p) e is h kept address = marked_place v host p e is h address
+
+-- ---- texts of URLs
+
+-- this is the text, where its place is read
+transport_text : (v : Location) (host word : List ℕ) → HasHostGiven v host → (p : HasPlace v word) → IsTransportText v p.place
+transport_text v host word h p =
+    let pathed = path_raw v h.transport h.raw h.path in
+    let whole : percent_decode (authority_text v ++ canonical_path v) ≡ p.place ++ slash ∷ pathed.rest = p.decoded (canonical_path v) ∙ ap (λ t. p.place ++ t) pathed.decoded in
+    let zero = free-append 0 p.place (slash ∷ pathed.rest) p.zero_free (pathed.free 0 refl (free_of_lacked is_contested 0 v.path h.plain_path refl)) in
     let decoded = git_decoded (authority_text v ++ canonical_path v) (subst (λ t. FreeOf 0 t) (sym whole) zero) in
     record {
-      user = user;
-      hosted = hosted;
       pathed = pathed;
       behind = decoded.0 ∙ whole;
       zero_free = decoded.1;
-      left = free-append left_bracket place (slash ∷ pathed.rest) (free left_bracket refl refl refl refl refl) (pathed.free left_bracket refl (free_of_lacked is_contested left_bracket v.path h.plain_path refl));
+      left = (free_head_tail left_bracket slash pathed.rest (pathed.free left_bracket refl (free_of_lacked is_contested left_bracket v.path h.plain_path refl))).1;
     }
-
--- no bracket stands in the place
-place_open : (v : Location) (host : List ℕ) → (t : IsTransportText v host) → FreeOf left_bracket (word_of v.user host ++ port_part v.port)
-place_open v host t = (free_parts left_bracket (word_of v.user host ++ port_part v.port) (slash ∷ t.pathed.rest) t.left).0
-
--- the place is read as the word and the port, where the word alone names no port
-place_read : (v : Location) (host : List ℕ) → IsValue v → (t : IsTransportText v host) → (IsSome v.port → FreeOf colon host) → IsPortless (word_of v.user host) → ReadsPlace (word_of v.user host) v.port
-place_read v host is t beside portless =
-    word_read (word_of v.user host) v.port is.port
-    (λ given. free-append colon (raw_user v.user) host (t.user.free colon refl refl) (beside given))
-    (λ none. portless)
-    (place_open v host t)
-
--- what Git reads behind the scheme is cut before the path
-transport_cut : (v : Location) (host : List ℕ) → IsValue v → (t : IsTransportText v host) → CutsPlace slash ((word_of v.user host ++ port_part v.port) ++ slash ∷ t.pathed.rest) (word_of v.user host ++ port_part v.port) t.pathed.rest
-transport_cut v host is t =
-    place_cut slash ((word_of v.user host ++ port_part v.port) ++ slash ∷ t.pathed.rest) (word_of v.user host ++ port_part v.port) t.pathed.rest t.left (place_free v host is.port t.user t.hosted slash refl refl refl refl refl) refl
 
 -- the whole text, with its scheme
 transport_whole : (v : Location) (p : Protocol) → v.scheme ≡ p → canonical_text v ≡ protocol_text p ++ (codes "://" ++ (authority_text v ++ canonical_path v))
@@ -207,42 +278,43 @@ host_safe v host there h = subst (λ o. IfSome o (λ x. is_option_like x ≡ fal
 
 -- ---- Secure Shell's URLs
 
--- nor is any settled host of Secure Shell
+-- no settled host of Secure Shell is empty
 bare_nonempty : (host : List ℕ) → IsBareHost host → 0 < length host
 bare_nonempty host (inl name) = name.unbracketed.nonempty
 bare_nonempty host (inr address) =
     let (x, y, z, e) = address_two_colons host address.address in
     subst (λ t. 0 < length t) (sym e) (some_behind x (y ++ colon ∷ z))
 
--- and names no port behind its colons
-bare_portless : (front host : List ℕ) → FreeOf colon front → IsBareHost host → IsPortless (front ++ host)
-bare_portless front host free (inl name) = portless_free (front ++ host) (free-append colon front host free name.unbracketed.no_colon)
-bare_portless front host free (inr address) = portless_coloned front host free (address_two_colons host address.address)
+-- Secure Shell's host is plain
+secure_kept : (v : Location) (host : List ℕ) → v.scheme ≡ ssh → HasHostGiven v host → Lacks (should_percent_encode PASSWORD) host
+secure_kept v host e h = elim h.plain [
+  | inl kept ↦ kept
+  | inr (other, begins) ↦ let wrong : ssh ≡ git = sym e ∙ other in cc
+]
 
--- it is an address, or has no colon
-bare_kind : (host : List ℕ) → IsBareHost host → IsIpv6Text host ⊎ FreeOf colon host
-bare_kind host (inl name) = inr name.unbracketed.no_colon
-bare_kind host (inr address) = inl address.address
+-- its place is user, host and port
+secure_place : (v : Location) (host : List ℕ) → v.scheme ≡ ssh → IsValue v → HasHostGiven v host → IsBareHost host → HasPlace v (word_of v.user host)
+secure_place v host e is h (inl name) = name_place v host is h (secure_kept v host e h) name.unbracketed.no_colon
+secure_place v host e is h (inr address) = address_place_by v host v.port refl is h (secure_kept v host e h) address.address
 
 -- Git reads in the text what the location holds
-secure_url_reads : (v : Location) (host : List ℕ) → IsValue v → HasHostGiven v host → (t : IsTransportText v host) → IsBareHost host → HasNoOption v → ¬ (v.user ≡ Some []) → ReadsGiven (codes "ssh://" ++ (authority_text v ++ canonical_path v)) (secure_reading v.user (Some host) v.port v.path)
-secure_url_reads v host is h t kind safe named =
-    let place = word_of v.user host ++ port_part v.port in
-    let read = place_read v host is t h.beside (bare_portless (raw_user v.user) host (t.user.free colon refl refl) kind) in
-    let no_slash = free-append slash (raw_user v.user) host (t.user.free slash refl refl) (t.hosted.free slash refl) in
-    let reached = secure_reached v.user host v.port place v.path read.cut read.secure no_slash (t.hosted.free at_sign refl) (bare_nonempty host kind) named safe.user (host_safe v host h.there safe) safe.path in
-    ReadsGiven.secure_url (place ++ slash ∷ t.pathed.rest) place t.pathed.rest (own_url ssh (codes "ssh") (authority_text v ++ canonical_path v) (place ++ slash ∷ t.pathed.rest) refl t.behind) (transport_cut v host is t) (subst (λ p. ReachesSecure place p (secure_reading v.user (Some host) v.port v.path)) (sym t.pathed.meant) reached)
+secure_url_reads : (v : Location) (host : List ℕ) → Lacks (should_percent_encode PASSWORD) host → HasHostGiven v host → (p : HasPlace v (word_of v.user host)) → (t : IsTransportText v p.place) → IsBareHost host → HasNoOption v → ¬ (v.user ≡ Some []) → ReadsGiven (codes "ssh://" ++ (authority_text v ++ canonical_path v)) (secure_reading v.user (Some host) v.port v.path)
+secure_url_reads v host kept h p t kind safe named =
+    let no_slash = free-append slash (raw_user v.user) host ((user_raw v.user h.user).free slash refl refl) (kept_free PASSWORD host kept slash refl) in
+    let reached = secure_reached v.user host v.port p.place v.path p.read.cut p.read.secure no_slash (kept_free PASSWORD host kept at_sign refl) (bare_nonempty host kind) named safe.user (host_safe v host h.there safe) safe.path in
+    ReadsGiven.secure_url (p.place ++ slash ∷ t.pathed.rest) p.place t.pathed.rest (own_url ssh (codes "ssh") (authority_text v ++ canonical_path v) (p.place ++ slash ∷ t.pathed.rest) refl t.behind) (p.cut t.pathed.rest t.left) (subst (λ q. ReachesSecure p.place q (secure_reading v.user (Some host) v.port v.path)) (sym t.pathed.meant) reached)
 
 -- a settled URL of Secure Shell
 pub secure_url_alike : (v : Location) → v.scheme ≡ ssh → IsValue v → AgreesByTransport v → ¬ (v.user ≡ Some []) → IsSettledSecure v → IsReadBy ssh v
 secure_url_alike v e is a named h =
     let (host, there, kind) = h.host in
     let spelled = authority_text v ++ canonical_path v in
-    let given = host_given v host (inl e) (ap keeps_host e) a there h.url h.path (bare_kind host kind) in
-    let found = transport_text v host is.port given in
+    let given = host_given v host (inl e) (ap keeps_host e) a there h.url h.path in
+    let place = secure_place v host e is given kind in
+    let found = transport_text v host (word_of v.user host) given place in
     let written = (written_secure v e h.path).canonical h.url.common.unflagged h.url.common.hosted ∙ ap Ok (transport_whole v ssh e) in
-    let value : own_reading v ≡ secure_reading v.user (Some host) v.port v.path = λ i. record { protocol = e i; user = v.user; host = there i; port = v.port; path = v.path } in
-    own_read v (codes "ssh://" ++ spelled) (secure_reading v.user (Some host) v.port v.path) value written (free-append 0 (codes "ssh://") spelled refl found.zero_free) refl (secure_url_reads v host is given found kind a.no_option named)
+    let value : own_reading v (Some host) ≡ secure_reading v.user (Some host) v.port v.path = λ i. record { protocol = e i; user = v.user; host = Some host; port = v.port; path = v.path } in
+    own_read v (Some host) (codes "ssh://" ++ spelled) (secure_reading v.user (Some host) v.port v.path) (secure_host v (Some host) e there) value written (free-append 0 (codes "ssh://") spelled refl found.zero_free) refl (secure_url_reads v host (secure_kept v host e given) given place found kind a.no_option named)
 
 -- ---- Git's own protocol
 
@@ -250,35 +322,82 @@ secure_url_alike v e is a named h =
 abbrev git_reading : Option (List ℕ) → Option (List ℕ) → Option ℕ → List ℕ → GitReading
 git_reading name place number whole = record { protocol = git; user = name; host = place; port = number; path = whole }
 
--- without brackets the host is a name
-open_name : (host : List ℕ) → FreeOf left_bracket host → IsBracketedHost host → IsNormalName host
-open_name host free (inl name) = name
-open_name host free (inr (address, normal, e)) = absurd (false≢true (sym (subst (λ t. FreeOf left_bracket t) e free)))
+-- what Git has for a host of its own protocol, and that it reads it
+record HasGitHost (v : Location) (own : List ℕ) : Type 0 where
+  host : List ℕ
+  bare : Unbrackets own host
+  nonempty : 0 < length host
+  placed : HasPlace v (word_of v.user host)
+
+-- a name begins with no bracket, and is plain
+name_kept : (v : Location) (host : List ℕ) → HasHostGiven v host → IsNormalName host → Lacks (should_percent_encode PASSWORD) host
+name_kept v host h name = elim h.plain [
+  | inl kept ↦ kept
+  | inr (scheme, begins) ↦ absurd (both_ways (begins_with left_bracket host) (free_begins left_bracket host name.unbracketed.no_left_bracket) begins)
+]
+
+-- and stays as it is
+name_bare : (host : List ℕ) → FreeOf left_bracket host → Unbrackets host host
+name_bare host free =
+    Unbrackets.same (λ (inner, e). false≢true (sym (subst (λ t. FreeOf left_bracket t) e free))) refl
+
+-- an address in brackets of its own is written as escapes, which are decoded to it
+escaped_address : (v : Location) (host address : List ℕ) → HasHostGiven v host → IsUtf8 host → IfSome v.port (λ p. p < 65536) → v.user ≡ None → host ≡ left_bracket ∷ (address ++ right_bracket ∷ []) → (t : List ℕ) → percent_decode (authority_text v ++ t) ≡ bracketed_place v.user address (port_part v.port) ++ percent_decode t
+escaped_address v host address h utf8 small none e t =
+    let spelled = percent_encode USER host in
+    let written : canonical_host v host ≡ spelled = ap (canonical_host v) e ∙ bracketed_escaped v.scheme v.port (address ++ right_bracket ∷ []) h.escapes ∙ ap (percent_encode USER) (sym e) in
+    let raw : authority_text v ≡ spelled ++ port_part v.port = authority_given v host h (user_raw v.user h.user) ∙ ap (λ o. raw_user o ++ (canonical_host v host ++ port_part v.port)) none ∙ ap (λ x. x ++ port_part v.port) written in
+    let ported = port_free percent_sign v.port refl refl small in
+    ap (λ x. percent_decode (x ++ t)) raw
+    ∙ ap percent_decode (append_assoc spelled (port_part v.port) t)
+    ∙ decodes_in_parts spelled (port_part v.port ++ t) (encode_sound USER host refl)
+    ∙ ap (λ x. x ++ percent_decode (port_part v.port ++ t)) (decode_encode_utf8 USER host refl utf8)
+    ∙ ap (λ x. host ++ x) (decodes_in_parts (port_part v.port) t (sound_free (port_part v.port) ported) ∙ ap (λ x. x ++ percent_decode t) (decode_kept (port_part v.port) ported))
+    ∙ sym (append_assoc host (port_part v.port) (percent_decode t))
+    ∙ ap (λ x. x ++ percent_decode t) (ap (λ x. x ++ port_part v.port) e ∙ brackets_joined address (port_part v.port))
+    ∙ ap (λ o. bracketed_place o address (port_part v.port) ++ percent_decode t) (sym none)
+
+-- each settled host of Git's own protocol is such a one
+git_host : (v : Location) (host : List ℕ) → IsValue v → HasHostGiven v host → v.user ≡ None → IsBracketedHost host → HasGitHost v host
+git_host v host is h none (inl name) = record {
+  host = host;
+  bare = name_bare host name.unbracketed.no_left_bracket;
+  nonempty = name.unbracketed.nonempty;
+  placed = name_place v host is h (name_kept v host h name) name.unbracketed.no_colon;
+}
+git_host v host is h none (inr (address, normal, e)) = record {
+  host = address;
+  bare = Unbrackets.brackets e;
+  nonempty = bare_nonempty address (inr normal);
+  placed = address_place v address is normal.address (user_raw v.user h.user) (escaped_address v host address h (subst (λ o. IfSome o IsUtf8) h.there is.host) is.port none e);
+}
 
 -- Git reads in the text what the location holds
-git_url_reads : (v : Location) (host : List ℕ) → IsValue v → HasHostGiven v host → (t : IsTransportText v host) → IsNormalName host → v.user ≡ None → FreeOf newline v.path → ReadsGiven (codes "git://" ++ (authority_text v ++ canonical_path v)) (git_reading None (Some host) v.port v.path)
-git_url_reads v host is h t name none path_line =
-    let place = word_of v.user host ++ port_part v.port in
-    let read = place_read v host is t h.beside (portless_free (word_of v.user host) (free-append colon (raw_user v.user) host (t.user.free colon refl refl) name.unbracketed.no_colon)) in
-    let reached : ReachesGit place v.path (git_reading None (Some host) v.port v.path) = record {
+git_url_reads : (v : Location) (host : List ℕ) → (p : HasPlace v (word_of v.user host)) → (t : IsTransportText v p.place) → 0 < length host → v.user ≡ None → FreeOf newline v.path → ReadsGiven (codes "git://" ++ (authority_text v ++ canonical_path v)) (git_reading None (Some host) v.port v.path)
+git_url_reads v host p t some none path_line =
+    let reached : ReachesGit p.place v.path (git_reading None (Some host) v.port v.path) = record {
       host = host;
       port = v.port;
-      cut = subst (λ o. HostAndPort place (word_of o host) v.port) none read.cut;
-      place_line = place_free v host is.port t.user t.hosted newline refl refl refl refl refl;
+      cut = subst (λ o. HostAndPort p.place (word_of o host) v.port) none p.read.cut;
+      place_line = p.line_free;
       path_line = path_line;
-      value = ap (λ h. git_reading None h v.port v.path) (sym (nonempty_kept host name.unbracketed.nonempty));
+      value = ap (λ h. git_reading None h v.port v.path) (sym (nonempty_kept host some));
     } in
-    ReadsGiven.git_url (place ++ slash ∷ t.pathed.rest) place t.pathed.rest (own_url git (codes "git") (authority_text v ++ canonical_path v) (place ++ slash ∷ t.pathed.rest) refl t.behind) (transport_cut v host is t) (subst (λ p. ReachesGit place p (git_reading None (Some host) v.port v.path)) (sym t.pathed.meant) reached)
+    ReadsGiven.git_url (p.place ++ slash ∷ t.pathed.rest) p.place t.pathed.rest (own_url git (codes "git") (authority_text v ++ canonical_path v) (p.place ++ slash ∷ t.pathed.rest) refl t.behind) (p.cut t.pathed.rest t.left) (subst (λ q. ReachesGit p.place q (git_reading None (Some host) v.port v.path)) (sym t.pathed.meant) reached)
+
+-- the host of Git's own protocol is the location's without its brackets
+own_git_host : (v : Location) (own host : List ℕ) → v.scheme ≡ git → v.host ≡ Some own → Unbrackets own host → HostForGit v.scheme v.host (Some host)
+own_git_host v own host e there bare =
+    subst (λ p. HostForGit p v.host (Some host)) (sym e) (subst (λ o. HostForGit git o (Some host)) (sym there) (host, bare, refl))
 
 -- a settled URL of Git's own protocol
 pub git_url_alike : (v : Location) → v.scheme ≡ git → IsValue v → AgreesByTransport v → v.user ≡ None → FreeOf newline v.path → IsSettledGit v → IsReadBy git v
 git_url_alike v e is a none path_line h =
-    let (host, there, kind) = h.host in
+    let (own, there, kind) = h.host in
     let spelled = authority_text v ++ canonical_path v in
-    let kept = subst (λ f. IsPlainPart f PASSWORD host) h.url.common.unflagged (subst (λ o. IfSome o (IsPlainPart v.flag PASSWORD)) there a.plain.host) in
-    let name = open_name host (kept_free PASSWORD host kept left_bracket refl) kind in
-    let given = host_given v host (inr e) (ap keeps_host e) a there h.url h.path (inr name.unbracketed.no_colon) in
-    let found = transport_text v host is.port given in
+    let given = host_given v own (inr e) (ap keeps_host e) a there h.url h.path in
+    let named = git_host v own is given none kind in
+    let found = transport_text v own (word_of v.user named.host) given named.placed in
     let written = (written_git v e).canonical h.url.common.unflagged h.url.common.hosted ∙ ap Ok (transport_whole v git e) in
-    let value : own_reading v ≡ git_reading None (Some host) v.port v.path = λ i. record { protocol = e i; user = none i; host = there i; port = v.port; path = v.path } in
-    own_read v (codes "git://" ++ spelled) (git_reading None (Some host) v.port v.path) value written (free-append 0 (codes "git://") spelled refl found.zero_free) refl (git_url_reads v host is given found name none path_line)
+    let value : own_reading v (Some named.host) ≡ git_reading None (Some named.host) v.port v.path = λ i. record { protocol = e i; user = none i; host = Some named.host; port = v.port; path = v.path } in
+    own_read v (Some named.host) (codes "git://" ++ spelled) (git_reading None (Some named.host) v.port v.path) (own_git_host v own named.host e there named.bare) value written (free-append 0 (codes "git://") spelled refl found.zero_free) refl (git_url_reads v named.host named.placed found named.nonempty none path_line)

@@ -56,7 +56,7 @@ plain_named mode text host None other is h small = rw append-nil (Names.plain ho
 plain_named mode text host (Some p) other is h small = Names.plain_port text host (decimal p) p is h (number_written mode p small (port_allowed mode p other)) refl refl refl
 
 -- the host of a URL of this protocol, as it is written beside the port
-abbrev written_host : Protocol → Option ℕ → List ℕ → List ℕ
+abbrev pub written_host : Protocol → Option ℕ → List ℕ → List ℕ
 written_host protocol port host = if needs_brackets port host then left_bracket ∷ (escaped_percents host ++ right_bracket ∷ []) else open_host protocol host
 
 -- a host that is no address and goes without brackets is escaped as a user
@@ -78,6 +78,10 @@ open_host_written mode v host other escapes some normal unmarked no_address utf8
 bracket_no_address : (t : List ℕ) → is_ipv6_text (left_bracket ∷ t) ≡ false
 bracket_no_address t =
     ipv6_text_fails (left_bracket ∷ t) (λ h. true≢false (free_head_tail left_bracket left_bracket t (address_free left_bracket (left_bracket ∷ t) refl h)).0)
+
+-- so a host with a bracket in front is escaped as a user
+pub bracketed_escaped : (protocol : Protocol) (port : Option ℕ) (t : List ℕ) → keeps_host protocol ≡ false → written_host protocol port (left_bracket ∷ t) ≡ percent_encode USER (left_bracket ∷ t)
+bracketed_escaped protocol port t escapes = written_as_user protocol port (left_bracket ∷ t) escapes (and-false _) (bracket_no_address t)
 
 -- a settled name names itself
 name_written : (mode : Mode) (v : Location) (host : List ℕ) → ¬ (mode ≡ strict) → keeps_host v.scheme ≡ false → IsNormalName host → IsUtf8 host → IfSome v.port (λ p. p < 65536) → WritesHost mode v host host
@@ -152,7 +156,7 @@ address_alone protocol a escapes h =
     rw (none, wants, escapes, address) (password_kept a (address_bytes a h))
 
 -- with one it is written in brackets
-address_in_brackets : (protocol : Protocol) (p : ℕ) (a : List ℕ) → IsIpv6Text a → written_host protocol (Some p) a ≡ left_bracket ∷ (a ++ right_bracket ∷ [])
+pub address_in_brackets : (protocol : Protocol) (p : ℕ) (a : List ℕ) → IsIpv6Text a → written_host protocol (Some p) a ≡ left_bracket ∷ (a ++ right_bracket ∷ [])
 address_in_brackets protocol p a h =
     let wants = address_wants a h in
     let same = escaped_percents_kept a (address_free percent_sign a refl h) in

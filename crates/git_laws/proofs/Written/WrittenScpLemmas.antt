@@ -202,7 +202,7 @@ holds_colon [] y = refl
 holds_colon (b ∷ x) y = or_right (b == colon) (has_colon (x ++ colon ∷ y)) (holds_colon x y)
 
 -- an address wants brackets
-address_raw : (h : List ℕ) → IsNormalAddress h → raw_host (Some h) ≡ in_brackets h
+pub address_raw : (h : List ℕ) → IsNormalAddress h → raw_host (Some h) ≡ in_brackets h
 address_raw h a =
     let (x, y, free, e) = address_cut h a.address in
     let held : has_colon h ≡ true = ap has_colon e ∙ holds_colon x y in
