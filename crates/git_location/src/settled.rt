@@ -14,7 +14,7 @@ mod local;
 mod measure;
 pub(crate) mod parts;
 mod scp;
-mod url;
+pub(crate) mod url;
 
 use crate::url_ref::UrlRef;
 use crate::value::law_lent_value;

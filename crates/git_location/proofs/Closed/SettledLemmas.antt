@@ -12,7 +12,7 @@ use Rattle.git_syntax.specs.Addresses.{Literal, IsIpv6Text}
 use Rattle.git_syntax.specs.Addresses.Literal.{address, zoned}
 use Rattle.git_syntax.specs.Hosts.{is_http_host_byte}
 use Rattle.git_syntax.specs.HostPieces.{IsEscapedZone, IsSimpleHost, is_simple_byte}
-use Rattle.git_location.specs.Settled.{HasFittingText, HasUrlPath, IsNormalAddress, IsNormalName, IsScpName, IsSettledRaw, IsSettledUrl, IsWebName, IsWebHost}
+use Rattle.git_location.specs.Settled.{HasFittingText, HasUrlPath, IsNormalAddress, IsNormalName, IsScpName, IsSettled, IsSettledBy, IsSettledRaw, IsSettledUrl, IsSettledWeb, IsWeb, IsWebName, IsWebHost}
 use Rattle.git_location.specs.Settled.IsWebHost.{literal, literal_colon, named, named_colon}
 use Rattle.git_location.specs.SettledParts.{IsNormalLiteral, IsBracketedLiteral, IsClosedHost, HasRawPath, IsSettledBesidePath, IsPiecesShort}
 use Rattle.git_syntax.specs.Schemes.{protocol_text}
@@ -211,6 +211,18 @@ raw_by_parts v = (
   λ parts. record { common = (url_by_parts v).0 (parts.0.0, parts.1); raw = parts.0.1 },
   λ url. let parts = (url_by_parts v).1 url.common in ((parts.0, url.raw), parts.1),
 )
+
+-- ---- locations of HTTP
+
+-- a settled location of HTTP is settled
+pub web_settled : (v : Location) → IsWeb v → IsSettledWeb v → IsSettled v
+web_settled v (inl e) h = subst (λ p. IsSettledBy p v) (sym e) h
+web_settled v (inr e) h = subst (λ p. IsSettledBy p v) (sym e) h
+
+-- and settled as one
+pub settled_as_web : (v : Location) → IsWeb v → IsSettled v → IsSettledWeb v
+settled_as_web v (inl e) h = subst (λ p. IsSettledBy p v) e h
+settled_as_web v (inr e) h = subst (λ p. IsSettledBy p v) e h
 
 -- ---- the texts of settled URLs
 

@@ -1,24 +1,39 @@
 -- The class of HTTP locations by its tests: hosts by their last label, paths by their bytes and segments, and what is written
 -- for a text by what stands in it.
-use Rattle.std.proofs.Common.{⊎_elim, ◌≡◌, ◌↔◌, ◌∙◌, ◌<◌, ℕ, Bool, true, false, not, ◌||◌, ◌==◌, ◌⊎◌, inl, inr, List, [], ◌∷◌, ◌++◌, codes, refl, sym, ap, subst, append_assoc, arith}
+use Rattle.std.proofs.Common.{⊎_elim, ◌≡◌, ◌≢◌, ◌↔◌, ◌∙◌, ◌<◌, ℕ, Bool, true, false, not, ◌&&◌, ◌||◌, ◌==◌, ◌⊎◌, inl, inr, List, [], ◌∷◌, ◌++◌, length, codes, decimal, Option, Some, None, IfSome, IsUtf8, if◌then◌else◌, refl, sym, ap, subst, append_assoc, length-append, arith}
 use Rattle.std.specs.List.{list_all, list_any, count_by}
-use Rattle.std.specs.Char.{is_ascii_lowercase}
-use Rattle.std.proofs.lemmas.Bool.{agree_below_at, and_from, and_parts, both_ways, cases_Bool, cond-false, cond-true, eqb-true, false_from_ne_true, not-false, or_from, or_left, or_parts, true≢false}
+use Rattle.std.specs.Char.{is_ascii_digit, is_ascii_lowercase, to_ascii_lowercase}
+use Rattle.std.proofs.lemmas.Bool.{agree_below_at, and_from, and_parts, both_ways, cases_Bool, cond-false, cond-true, eqb-true, false_from_ne_true, false≢true, not-false, or_from, or_left, or_parts, true≢false}
 use Rattle.std.proofs.lemmas.Bool.Decides.{nat_tests}
 use Rattle.std.proofs.lemmas.List.Elements.{All-weaker}
-use Rattle.std.proofs.lemmas.List.Folds.{list_all-append}
-use Rattle.std.proofs.lemmas.List.Sums.{list_all-from_AllPass}
+use Rattle.std.proofs.lemmas.List.Folds.{list_all-append, map_fixed}
+use Rattle.std.proofs.lemmas.List.Sums.{AllPass-from_list_all, list_all-from_AllPass}
+use Rattle.std.proofs.lemmas.Option.{same_Some}
+use Rattle.std.proofs.lemmas.Slice.Eq.{bytes_eq-Decides}
 use Rattle.percent_encoding.specs.declared.ascii_set.AsciiSet.{AsciiSet}
 use Rattle.percent_encoding.specs.AsciiSet.{contains, should_percent_encode}
-use Rattle.percent_encoding.specs.Percent.{percent_encode, percent_encode_byte}
+use Rattle.percent_encoding.specs.Percent.{percent_decode, percent_encode, percent_encode_byte}
 use Rattle.percent_encoding.proofs.AsciiSetLemmas.{ascii_from_kept, kept_from_outside, outside_from_kept}
 use Rattle.percent_encoding.proofs.PercentLemmas.{IsEscapeByte, All-percent_encode_byte, percent_encode-nil, percent_encode_escaped, percent_encode_kept}
 use Rattle.git_syntax.specs.declared.escape.TheConstants.{PATH}
-use Rattle.git_syntax.specs.Bytes.{colon, dot, number_sign, percent_sign, slash, FreeOf, Lacks, begins_by}
-use Rattle.git_syntax.proofs.Texts.CutLemmas.{cut_unique, free-append, free_of_all, free_of_lacked, free_or_cut, lacks_of_all, lacks_weaker, last_cut_unique, not_free}
-use Rattle.git_syntax.proofs.Texts.EscapeLemmas.{encode_lacks_kept, lacks_from_encode}
-use Rattle.git_location.specs.WebClass.{HasDotSegment, IsDecodedWhole, IsLastLabel, IsPlainName, is_control, is_plain_host_byte, is_segment_end, is_uri_byte}
+use Rattle.git_syntax.specs.Value.{Location}
+use Rattle.git_syntax.specs.Bytes.{colon, dot, number_sign, percent_sign, slash, FreeOf, IsLowercase, Lacks, begins_by, begins_with, is_path_start}
+use Rattle.git_syntax.specs.Escapes.{DecodesTo, matches}
+use Rattle.git_syntax.specs.Addresses.{IsOctet}
+use Rattle.git_syntax.specs.Addresses.Literal.{address}
+use Rattle.git_syntax.specs.Hosts.{is_http_host_byte}
+use Rattle.git_syntax.specs.Schemes.{requires_path}
+use Rattle.git_syntax.proofs.Readings.HostLemmas.{decimal_digits}
+use Rattle.git_syntax.proofs.Readings.RoomLemmas.{normal_host_kept}
+use Rattle.git_syntax.proofs.Texts.CutLemmas.{all_weaker, cut_unique, free-append, free_of_all, free_of_lacked, free_or_cut, lacks_of_all, lacks_weaker, last_cut_unique, not_free}
+use Rattle.git_syntax.proofs.Texts.EscapeLemmas.{encode_lacks_kept, lacks_from_encode, sound_free, utf8_class}
+use Rattle.git_location.specs.Settled.{HasUrlPath, IsBracketedAddress, IsFairSpelling, IsWeb, IsWebHost}
+use Rattle.git_location.specs.Settled.IsWebHost.{literal, named}
+use Rattle.git_location.specs.SettledParts.{IsSettledBesidePath}
+use Rattle.git_location.specs.Text.{canonical_path, matching_or, plain_path}
+use Rattle.git_location.specs.WebClass.{AgreesOverWeb, HasDotSegment, HasUnambiguousHost, HasUnambiguousPath, IsDecodedWhole, IsLastLabel, IsPlainName, IsUnambiguousHost, IsUnambiguousPassword, IsUnambiguousUser, is_control, is_plain_host_byte, is_segment_end, is_uri_byte}
 use Rattle.git_location.specs.WebParts.{EndsSecondDot, IsDotSegment, IsUriPath, ends_segment, is_simple_byte, is_stray}
+use Rattle.git_location.proofs.Closed.SettledLemmas.{settled_as_web, url_by_parts, web_settled}
 use Rattle.git_location.proofs.Written.PieceLemmas.{counted}
 
 -- ---- hosts
@@ -36,6 +51,57 @@ plain_by_label name label last = (
   λ parts. record { bytes = parts.0; label = label; last = last; letter = parts.1 },
   λ plain. (plain.bytes, ap (begins_by is_ascii_lowercase) (one_label name label plain.label last plain.last) ∙ plain.letter),
 )
+
+-- a text that begins by a test has a byte
+begun : (test : ℕ → Bool) (t : List ℕ) → begins_by test t ≡ true → 0 < length t
+begun test [] begins = absurd (false≢true begins)
+begun test (b ∷ bs) begins = omega arith
+
+-- so has a plain name
+some_name : (name label : List ℕ) → IsLastLabel name label → 0 < length label → 0 < length name
+some_name name label (inl (free, whole)) some = subst (λ t. 0 < length t) whole some
+some_name name label (inr (front, last, joined)) some = omega (arith, ap length joined, length-append front (dot ∷ label))
+
+-- an octet is of bytes of a plain host
+octet_plain : (t : List ℕ) → IsOctet t → list_all is_plain_host_byte t ≡ true
+octet_plain t (n, small, e) = subst (λ x. list_all is_plain_host_byte x ≡ true) (sym e) (all_weaker is_ascii_digit is_plain_host_byte (λ b is. grind (arith, nat_tests)) (decimal n) (decimal_digits n (omega arith)).1)
+
+-- and so are two such texts around a `.`
+dot_plain : (x y : List ℕ) → list_all is_plain_host_byte x ≡ true → list_all is_plain_host_byte y ≡ true → list_all is_plain_host_byte (x ++ dot ∷ y) ≡ true
+dot_plain x y h k = list_all-append is_plain_host_byte x (dot ∷ y) ∙ and_from _ _ h k
+
+-- a host is of bytes of a plain host, or an address in brackets
+abbrev pub IsWebShape : List ℕ → Type 0
+IsWebShape host = (list_all is_plain_host_byte host ≡ true) ⊎ IsBracketedAddress host
+
+-- so is each of the class
+pub host_shape : (host : List ℕ) → IsUnambiguousHost host → IsWebShape host
+host_shape host (inl name) = inl name.bytes
+host_shape host (inr (inl h)) =
+    let (first, second, third, fourth) = h.octets in
+    inl (subst (λ x. list_all is_plain_host_byte x ≡ true) (sym h.joined) (dot_plain h.first _ (octet_plain h.first first) (dot_plain h.second _ (octet_plain h.second second) (dot_plain h.third h.fourth (octet_plain h.third third) (octet_plain h.fourth fourth)))))
+host_shape host (inr (inr h)) = inr h
+
+-- and it has a byte
+some_host : (host : List ℕ) → IsUnambiguousHost host → 0 < length host
+some_host host (inl name) = some_name host name.label name.last (begun is_ascii_lowercase name.label name.letter)
+some_host host (inr (inl h)) = omega (arith, ap length h.joined, length-append h.first (dot ∷ (h.second ++ dot ∷ (h.third ++ dot ∷ h.fourth))))
+some_host host (inr (inr (inside, normal, e))) = omega (arith, ap length e)
+
+-- a host of these bytes is in lower case
+pub plain_lowercase : (host : List ℕ) → list_all is_plain_host_byte host ≡ true → IsLowercase host
+plain_lowercase host h =
+    map_fixed to_ascii_lowercase host (All-weaker (λ b. is_plain_host_byte b ≡ true) (λ b. to_ascii_lowercase b ≡ b) (λ b is. grind (arith, nat_tests)) host (AllPass-from_list_all is_plain_host_byte host h))
+
+-- a host of such a shape is settled for HTTP
+shape_settled : (port : Option ℕ) (host : List ℕ) → 0 < length host → IsWebShape host → IsWebHost port host
+shape_settled port host some (inl h) = named (record {
+  nonempty = some;
+  bytes = all_weaker is_plain_host_byte is_http_host_byte (λ b is. grind (arith, nat_tests)) host h;
+  sound = sound_free host (free_of_all is_plain_host_byte percent_sign host h refl);
+  normal = normal_host_kept host (plain_lowercase host h);
+})
+shape_settled port host some (inr (inside, normal, e)) = literal inside (address normal.address (sym normal.lower)) e
 
 -- ---- dot segments
 
@@ -220,3 +286,87 @@ simple_no_stray b simple = grind (arith, nat_tests)
 pub simple_uri_path : (t : List ℕ) → list_all is_simple_byte t ≡ true → IsUriPath t (percent_encode PATH t)
 simple_uri_path t all =
     (uri_path_by_bytes t).0 (lacks_of_all is_simple_byte is_stray simple_no_stray t all, inl ((colon_written PATH t refl).0 (free_of_all is_simple_byte colon t all refl)))
+
+-- and text
+pub simple_path_text : (t : List ℕ) → list_all is_simple_byte t ≡ true → IsUtf8 t
+simple_path_text t all = utf8_class is_simple_byte (λ b simple. grind (arith, nat_tests)) t all
+
+-- ---- spellings
+
+-- the written path of a location of HTTP is the spelling that matches, and else the encoded path
+pub web_path : (v : Location) → IsWeb v → canonical_path v ≡ matching_or v.spelling v.path (percent_encode PATH v.path)
+web_path v (inl e) = ap (λ p. (if requires_path p && not (begins_with slash v.path) then slash ∷ [] else []) ++ matching_or v.spelling v.path (plain_path p v.path)) e
+web_path v (inr e) = ap (λ p. (if requires_path p && not (begins_with slash v.path) then slash ∷ [] else []) ++ matching_or v.spelling v.path (plain_path p v.path)) e
+
+-- a text is no longer one
+other_text : (s : List ℕ) → ¬ (s ≡ 0 ∷ s)
+other_text s e = omega (arith, ap length e)
+
+-- a spelling that stands for the path whatever else would is the one that matches it
+taken : (spelling : Option (List ℕ)) (path s : List ℕ) → ((other : List ℕ) → s ≡ matching_or spelling path other) → (spelling ≡ Some s) × DecodesTo s path
+taken None path s is = absurd (other_text s (is (0 ∷ s)))
+taken (Some found) path s is = elim (cases_Bool (matches (Some found) path)) [
+  | inl matching ↦
+      let same : s ≡ found = is s ∙ cond-true _ _ _ matching in
+      (ap Some (sym same), subst (λ t. DecodesTo t path) (sym same) ((bytes_eq-Decides (percent_decode found) path).0 matching))
+  | inr other ↦ absurd (other_text s (is (0 ∷ s) ∙ cond-false _ _ _ other))
+]
+
+-- where anything else is taken, none matches
+none_taken : (spelling : Option (List ℕ)) (path s : List ℕ) → ((other : List ℕ) → other ≡ matching_or spelling path other) → spelling ≡ Some s → ¬ DecodesTo s path
+none_taken spelling path s is some decodes =
+    other_text s (sym (is (0 ∷ s) ∙ ap (λ o. matching_or o path (0 ∷ s)) some ∙ cond-true _ _ _ ((bytes_eq-Decides (percent_decode s) path).1 decodes)))
+
+-- a path without a spelling that matches is one of a settled URL where it is text
+pub unspelled_path : (v : Location) (path : List ℕ) → IsWeb v → path ≡ v.path → ((other : List ℕ) → other ≡ matching_or v.spelling v.path other) → (IsUtf8 path × IsUriPath path (percent_encode PATH path)) ↔ (IsUriPath v.path (canonical_path v) × HasUrlPath v)
+unspelled_path v path web same is =
+    let written = web_path v web ∙ sym (is (percent_encode PATH v.path)) in
+    subst (λ p. (IsUtf8 p × IsUriPath p (percent_encode PATH p)) ↔ (IsUriPath v.path (canonical_path v) × HasUrlPath v)) (sym same) (
+      λ (utf8, uri). (
+        subst (λ w. IsUriPath v.path w) (sym written) uri,
+        record { path_text = utf8; spelling = λ s some decodes. absurd (none_taken v.spelling v.path s is some decodes) },
+      ),
+      λ (uri, url). (url.path_text, subst (λ w. IsUriPath v.path w) written uri),
+    )
+
+-- and one with such a spelling where that is fair too
+pub spelled_path : (v : Location) (path s : List ℕ) → IsWeb v → path ≡ v.path → ((other : List ℕ) → s ≡ matching_or v.spelling v.path other) → (IsUtf8 path × (IsUriPath path s × IsFairSpelling s path)) ↔ (IsUriPath v.path (canonical_path v) × HasUrlPath v)
+spelled_path v path s web same is =
+    let written = web_path v web ∙ sym (is (percent_encode PATH v.path)) in
+    let (some, decodes) = taken v.spelling v.path s is in
+    subst (λ p. (IsUtf8 p × (IsUriPath p s × IsFairSpelling s p)) ↔ (IsUriPath v.path (canonical_path v) × HasUrlPath v)) (sym same) (
+      λ (utf8, (uri, fair)). (
+        subst (λ w. IsUriPath v.path w) (sym written) uri,
+        record { path_text = utf8; spelling = λ t given match. subst (λ x. IsFairSpelling x v.path) (same_Some s t (sym some ∙ given)) fair },
+      ),
+      λ (uri, url). (url.path_text, (subst (λ w. IsUriPath v.path w) written uri, url.spelling s some decodes)),
+    )
+
+-- ---- the class
+
+-- a path that begins with `/` begins as one of HTTP
+rooted_starts : (path : List ℕ) → begins_with slash path ≡ true → begins_by (is_path_start true) path ≡ true
+rooted_starts [] rooted = rooted
+rooted_starts (b ∷ bs) rooted = or_left _ _ rooted
+
+-- a location of HTTP is of the class by its parts, and by what settled URLs have beside their paths
+pub class_by_parts : (v : Location) → IsWeb v
+    → ((HasUnambiguousHost v × (v.port ≢ Some 0) × IfSome v.user IsUnambiguousUser × IfSome v.password IsUnambiguousPassword × HasUnambiguousPath v × HasUrlPath v) × IsSettledBesidePath v) ↔ AgreesOverWeb v
+class_by_parts v web = (
+  λ ((host, port, user, password, path, url), beside). record {
+    settled = web_settled v web record {
+      common = (url_by_parts v).0 (url, beside);
+      host = (host.0, host.1, shape_settled v.port host.0 (some_host host.0 host.2) (host_shape host.0 host.2));
+      port = port;
+      path = rooted_starts v.path path.rooted;
+    };
+    host = host;
+    user = user;
+    password = password;
+    path = path;
+  },
+  λ class.
+      let settled = settled_as_web v web class.settled in
+      let (url, beside) = (url_by_parts v).1 settled.common in
+      ((class.host, settled.port, class.user, class.password, class.path, url), beside),
+)

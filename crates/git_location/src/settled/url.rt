@@ -195,7 +195,7 @@ fn is_settled_url(url: &UrlRef<'_>, laid: Option<&Pieces<'_>>) -> bool
 }
 
 /// Whether the location has what the settled URLs have in common beside their paths.
-fn is_settled_beside_path(url: &UrlRef<'_>, laid: Option<&Pieces<'_>>) -> bool
+pub(crate) fn is_settled_beside_path(url: &UrlRef<'_>, laid: Option<&Pieces<'_>>) -> bool
     requires form { IsWrittenAsUrl url.now }
     requires laid { AreOwn laid url.now }
     ensures { IsTrue result ↔ IsSettledBesidePath url.now }
@@ -243,7 +243,7 @@ fn has_fair_spelling(url: &UrlRef<'_>) -> bool
 }
 
 /// Whether the spelling is written and read again as itself.
-fn is_fair_spelling(spelling: &[u8], path: &[u8]) -> bool
+pub(crate) fn is_fair_spelling(spelling: &[u8], path: &[u8]) -> bool
     ensures { IsTrue result ↔ IsFairSpelling spelling.now path.now }
 {
     match str::from_utf8(spelling) {

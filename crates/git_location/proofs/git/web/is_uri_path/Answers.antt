@@ -2,14 +2,8 @@
 use Rattle.std.proofs.Common.{sym, ◌∙◌}
 use Rattle.std.proofs.lemmas.Bool.{both_ways, not-true}
 use Rattle.git_location.proofs.Closed.SettledLemmas.{second_decides}
-use Rattle.git_location.proofs.Closed.WebClassLemmas.{simple_uri_path, uri_path_by_bytes}
+use Rattle.git_location.proofs.Closed.WebClassLemmas.{uri_path_by_bytes}
 use Rattle.git_location.proofs.git.web.is_uri_path.Goals as goal
-
-pub returns-then-is_simple_path : goal.returns-then-is_simple_path
-returns-then-is_simple_path c = (
-  λ yes. simple_uri_path c.args.path.now (sym c.is_simple_path.ensures ∙ c.if-is_simple_path.true),
-  λ path. c.if-is_simple_path.true,
-)
 
 pub returns-then-not-has_stray : goal.returns-then-not-has_stray
 returns-then-not-has_stray c =
