@@ -6,11 +6,14 @@
 ghost use Rattle.std.specs.Prelude.{◌≡◌, Some, fold, option_map, refl, string_bytes};
 ghost use Rattle.std.specs.Hash as fed;
 ghost use Rattle.std.specs.Cmp.{on_equiv, on_per, on_po, on_total, partial_equiv_from_equiv};
-ghost use Rattle.git_laws.specs.Order.{fed_bytes, fed_location, fed_part, fed_protocol, fed_text, held_name, location_cmp, location_eq, outline, protocol_cmp, protocol_eq, rank, text_cmp, text_eq};
+ghost use Rattle.git_laws.specs.Order.{bytes_cmp, fed_bytes, fed_location, fed_part, fed_protocol, fed_text, held_name, location_cmp, location_eq, outline, protocol_cmp, protocol_eq, rank, text_cmp, text_eq};
 ghost use Rattle.gix_url.specs.Views.{protocol};
 ghost use Rattle.git_laws.specs.OrderLaws.{location_equiv, location_po, location_ties, location_total, locations_alike, protocol_equiv, protocol_po, protocol_ties, protocol_total, protocols_alike};
 
+mod same;
+
 use crate::location::Url;
+use crate::order::same::bytes_equal;
 use crate::scheme::Scheme;
 use std::cmp::Ordering;
 use std::hash::{Hash, Hasher};
@@ -24,6 +27,7 @@ impl PartialEq for Scheme {
     ///
     /// Equal schemes are written alike, but schemes that are written alike can differ: the remote helper `x` isn't the
     /// scheme `x` of a URL.
+    #[inline(always)]
     fn eq(&self, other: &Scheme) -> bool {
         rank(self) == rank(other) && texts_equal(held_name(self), held_name(other))
     }
@@ -91,12 +95,12 @@ impl PartialEq for Url {
     /// ```
     fn eq(&self, other: &Url) -> bool {
         self.scheme == other.scheme
-            && self.user == other.user
-            && self.password == other.password
-            && self.host == other.host
+            && strings_equal(&self.user, &other.user)
+            && strings_equal(&self.password, &other.password)
+            && strings_equal(&self.host, &other.host)
             && self.serialize_alternative_form == other.serialize_alternative_form
             && self.port == other.port
-            && self.path.as_bytes() == other.path.as_bytes()
+            && bytes_equal(self.path.as_bytes(), other.path.as_bytes())
             && texts_equal(spelling(self), spelling(other))
     }
 }
@@ -143,7 +147,7 @@ impl Ord for Url {
                 &other.serialize_alternative_form,
             ))
             .then_with(|| compare(&self.port, &other.port))
-            .then_with(|| compare(&self.path.as_bytes(), &other.path.as_bytes()))
+            .then_with(|| compare_bytes(self.path.as_bytes(), other.path.as_bytes()))
             .then_with(|| compare_texts(spelling(self), spelling(other)))
     }
 }
@@ -230,7 +234,16 @@ fn held_name(scheme: &Scheme) -> Option<&[u8]>
     }
 }
 
+/// Whether both texts that own their bytes are missing, or both are there with the same bytes.
+#[inline(always)]
+fn strings_equal(a: &Option<String>, b: &Option<String>) -> bool
+    ensures { result ≡ text_eq (option_map string_bytes a.now) (option_map string_bytes b.now) }
+{
+    texts_equal(text_bytes(a), text_bytes(b))
+}
+
 /// Whether both texts are missing, or both are there with the same bytes.
+#[inline(always)]
 pub(crate) fn texts_equal(a: Option<&[u8]>, b: Option<&[u8]>) -> bool
     ensures { result ≡ text_eq (option_map (λ t. t.now) a.entry) (option_map (λ t. t.now) b.entry) }
 {
@@ -238,7 +251,7 @@ pub(crate) fn texts_equal(a: Option<&[u8]>, b: Option<&[u8]>) -> bool
         None => b.is_none(),
         Some(a) => match b {
             None => false,
-            Some(b) => a == b,
+            Some(b) => bytes_equal(a, b),
         },
     }
 }
@@ -256,11 +269,38 @@ fn compare<T: Ord>(a: &T, b: &T) -> Ordering
 fn compare_strings(a: &Option<String>, b: &Option<String>) -> Ordering
     ensures { result ≡ text_cmp (option_map string_bytes a.now) (option_map string_bytes b.now) }
 {
-    compare(a, b)
+    compare_texts(text_bytes(a), text_bytes(b))
 }
 
-/// The order of two texts: one that is missing comes first.
+/// The order of two texts: one that is missing comes first. Equality is asked first here, too.
+#[inline(always)]
 pub(crate) fn compare_texts(a: Option<&[u8]>, b: Option<&[u8]>) -> Ordering
+    ensures { result ≡ text_cmp (option_map (λ t. t.now) a.entry)
+        (option_map (λ t. t.now) b.entry) }
+{
+    if texts_equal(a, b) {
+        Ordering::Equal
+    } else {
+        order_texts(a, b)
+    }
+}
+
+/// The order of bytes, by the first that differs. Equality is asked first here, too.
+#[inline(always)]
+fn compare_bytes(a: &[u8], b: &[u8]) -> Ordering
+    ensures { result ≡ bytes_cmp a.now b.now }
+{
+    if bytes_equal(a, b) {
+        Ordering::Equal
+    } else {
+        a.cmp(b)
+    }
+}
+
+/// The order of two texts, found without asking first whether they are equal. It is called where they are not, so it
+/// stays out of those that compare.
+#[inline(never)]
+fn order_texts(a: Option<&[u8]>, b: Option<&[u8]>) -> Ordering
     ensures { result ≡ text_cmp (option_map (λ t. t.now) a.entry)
         (option_map (λ t. t.now) b.entry) }
 {

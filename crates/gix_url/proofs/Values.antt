@@ -1,0 +1,2 @@
+-- Equality of bytes by their front and their back.
+pub mod FrontLemmas
