@@ -1,5 +1,5 @@
 -- What the rooms that hand out components tell of each other's answers: which piece each was cut out as.
-use Rattle.std.specs.Prelude.{◌≡◌, ℕ, Bool, true, false, ◌==◌, List, [], ◌∷◌, ◌++◌, Option, Some, None, MatchOption, option_map, length, filter}
+use Rattle.std.specs.Prelude.{◌≡◌, ℕ, Bool, true, false, ◌==◌, ◌+◌, List, [], ◌∷◌, ◌++◌, Option, Some, None, MatchOption, option_map, length, filter}
 use Rattle.std.specs.List.{slice_split}
 use Rattle.bstr.specs.BStr.{bstr_bytes}
 use Rattle.bstr.specs.Owned.{bstring_bytes}
@@ -86,6 +86,16 @@ abbrev pub begun_by : Bool → Bool → ℕ
 begun_by before true = 0
 begun_by true false = 1
 begun_by false false = 0
+
+-- how many fields that are not empty begin in the rest of a text, by whether the byte before it is `&`
+abbrev pub begun_in : Bool → List ℕ → ℕ
+begun_in before [] = 0
+begun_in before (b ∷ bs) = begun_by before (b == ampersand) + begun_in (b == ampersand) bs
+
+-- whether the last byte is `&`, of a text and one byte before it
+abbrev pub ends_in : Bool → List ℕ → Bool
+ends_in before [] = before
+ends_in before (b ∷ bs) = ends_in (b == ampersand) bs
 
 -- how many of the fields of a text are not empty
 abbrev pub field_count : List ℕ → ℕ

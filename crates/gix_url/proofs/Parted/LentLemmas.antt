@@ -1,7 +1,7 @@
 -- Names and values that are lent: what was cut of a text stands for what the text stands for.
-use Rattle.std.proofs.Common.{◌≡◌, ◌∙◌, ◌+◌, ℕ, Bool, true, false, ◌==◌, List, [], ◌∷◌, ◌++◌, Option, Some, None, length, option_map, IfSome, All, filter, refl, sym, ap, subst, arith, append_assoc}
+use Rattle.std.proofs.Common.{◌≡◌, ◌∙◌, ◌+◌, ◌<◌, ℕ, Bool, true, false, ◌==◌, if◌then◌else◌, List, [], ◌∷◌, ◌++◌, Option, Some, None, length, take, drop, get_or, set, option_map, IfSome, All, filter, refl, sym, ap, subst, arith, append_assoc}
 use Rattle.std.specs.List.{slice_split, onto_first}
-use Rattle.std.proofs.lemmas.List.{append-nil}
+use Rattle.std.proofs.lemmas.List.{append-nil, drop-drop, drop-set-lt, get_or-drop, map-append, take_more, take_more_set}
 use Rattle.std.proofs.lemmas.List.Elements.{All-nil, All-cons}
 use Rattle.std.proofs.lemmas.List.Splits.{slice_split_at, slice_split-cons_yes, slice_split-cons_no}
 use Rattle.gix_url.specs.declared.components.QueryText.{QueryText}
@@ -9,8 +9,8 @@ use Rattle.gix_url.specs.declared.components.cuts.Spelled.{Spelled}
 use Rattle.git_syntax.specs.Bytes.{number_sign, plus_sign, question_mark, FreeOf, space, ampersand}
 use Rattle.git_laws.specs.Components.{CutsText, CutsPath, with_spaces}
 use Rattle.gix_url.specs.Meanings.{meant_by}
-use Rattle.gix_url.specs.ComponentPieces.{CutsAround, CutsOff, LendsFields, AddsPair, HasQuery, LendsQuery, is_field, one_field, begun_by, field_count}
-use Rattle.git_syntax.proofs.Texts.CutLemmas.{free_head_tail}
+use Rattle.gix_url.specs.ComponentPieces.{CutsAround, CutsOff, LendsFields, AddsPair, HasQuery, LendsQuery, is_field, one_field, begun_by, begun_in, ends_in, field_count}
+use Rattle.git_syntax.proofs.Texts.CutLemmas.{free_head_tail, free_parts}
 use Rattle.gix_url.proofs.Parted.MeaningLemmas.{Parts, meant_around, meant_around_plus, meant_spaces}
 
 -- ---- pieces and what they stand for
@@ -50,6 +50,30 @@ pub spaced_whole : (escaped : Bool) (whole made rest meant : List ℕ) → FreeO
 spaced_whole escaped whole made rest meant free is before =
     ap (λ t. made ++ t) (is ∙ sym (meant_spaces escaped rest free)) ∙ sym before
 
+-- in a text that is turned in place, byte by byte, the next byte goes to those that have their spaces
+pub spaced_next : (text items : List ℕ) (i y : ℕ) → i < length items → length items ≡ length text → take i items ≡ with_spaces (take i text) → drop i items ≡ drop i text → y ≡ (if get_or items i 0 == plus_sign then space else get_or items i 0) → take (i + 1) (set items i y) ≡ with_spaces (take (i + 1) text)
+spaced_next text items i y inside size made left is =
+    let at : i + 0 ≡ i = omega arith in
+    let same : get_or items i 0 ≡ get_or text i 0 = ap (λ n. get_or items n 0) (sym at) ∙ sym (get_or-drop i items 0 0) ∙ ap (λ t. get_or t 0 0) left ∙ get_or-drop i text 0 0 ∙ ap (λ n. get_or text n 0) at in
+    take_more_set items i y inside
+    ∙ ap (λ t. t ++ y ∷ []) made
+    ∙ ap (λ b. with_spaces (take i text) ++ b ∷ []) (is ∙ ap (λ b. if b == plus_sign then space else b) same)
+    ∙ sym (map-append (λ b. if b == plus_sign then space else b) (take i text) (get_or text i 0 ∷ []))
+    ∙ sym (ap with_spaces (take_more text i 0 (omega (arith, inside, size))))
+
+-- and those behind it stay
+pub left_next : (text items : List ℕ) (i y : ℕ) → drop i items ≡ drop i text → drop (i + 1) (set items i y) ≡ drop (i + 1) text
+left_next text items i y left =
+    drop-set-lt (i + 1) items i y (omega arith)
+    ∙ sym (drop-drop 1 i items)
+    ∙ ap (drop 1) left
+    ∙ drop-drop 1 i text
+
+-- what stands behind a delimiter in a text without `+` has none
+pub behind_free : (text front behind : List ℕ) → text ≡ front ++ ampersand ∷ behind → FreeOf plus_sign text → FreeOf plus_sign behind
+behind_free text front behind cut free =
+    (free_head_tail plus_sign ampersand behind (free_parts plus_sign front (ampersand ∷ behind) (subst (FreeOf plus_sign) cut free)).1).1
+
 -- ---- counts of fields
 
 -- no byte of a text is one that it is free of
@@ -69,11 +93,6 @@ field_count_cut text field behind free cut =
     ap field_count cut
     ∙ ap (λ fields. length (filter is_field fields)) (slice_split_at (λ b. b == ampersand) field ampersand behind (none_equal ampersand field free) refl)
     ∙ counted field (slice_split (λ b. b == ampersand) behind)
-
--- how many fields that are not empty begin in the rest of a text, by whether the byte before it is `&`
-abbrev pub begun_in : Bool → List ℕ → ℕ
-begun_in before [] = 0
-begun_in before (b ∷ bs) = begun_by before (b == ampersand) + begun_in (b == ampersand) bs
 
 -- the fields of a text, of which the first has begun or begins
 record Begun (text : List ℕ) : Type 0 where
@@ -108,6 +127,13 @@ pub field_count_begun : (text : List ℕ) → begun_in true text ≡ field_count
 field_count_begun text =
     let fields = begun text in
     fields.whole ∙ ap (λ parts. length (filter is_field parts)) (sym fields.split)
+
+-- those that begin in a text begin in a front of it or in the rest behind that
+pub begun_joined : (before : Bool) (front behind : List ℕ) → begun_in before (front ++ behind) ≡ begun_in before front + begun_in (ends_in before front) behind
+begun_joined before [] behind = omega arith
+begun_joined before (b ∷ bs) behind =
+    let rest = begun_joined (b == ampersand) bs behind in
+    omega (arith, rest)
 
 -- ---- names and values of the fields
 
@@ -145,6 +171,11 @@ adds_field escaped text (b ∷ bs) behind old new more free cut (pair, lends, gr
   };
   behind = ap (λ t. t ++ more) grown ∙ append_assoc old (pair ∷ []) more;
 }
+
+-- what a field adds whose escapes stand for themselves
+pub adds_raw : (piece : Spelled) (field : List ℕ) (old new : List (QueryText × QueryText)) → piece.text.now ≡ field → piece.escaped ≡ false → AddsPair piece.escaped piece.text.now old new → AddsPair false field old new
+adds_raw piece field old new text mode adds =
+    subst (λ t. AddsPair false t old new) text (subst (λ b. AddsPair b piece.text.now old new) mode adds)
 
 -- those of a text that is one field
 pub adds_last : (escaped : Bool) (field : List ℕ) (old new : List (QueryText × QueryText)) → FreeOf ampersand field → AddsPair escaped field old new → Adds escaped field old new

@@ -72,12 +72,6 @@ impl<'a> Spelled<'a> {
         requires percent { (c == 37) ≡ false }
         ensures { CutsSpelled c self.entry result }
     {
-        // Hostile queries have nothing before it.
-        if let [first, behind @ ..] = self.text
-            && *first == c
-        {
-            return Some(self.around(c, b"", behind));
-        }
         let (front, behind) = cut_near(self.text, c)?;
         Some(self.around(c, front, behind))
     }

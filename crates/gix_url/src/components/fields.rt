@@ -1,16 +1,21 @@
 //! The fields of a query, in two walks: the first counts them, so that the room for their list is asked for once.
 //!
-//! It uses `cuts` and `lend`. Its contract: each field between `&` that isn't empty is a name
-//! and a value, in order.
+//! It uses `cuts`, `near` and `lend`. Its contract: each field between `&` that isn't empty is a name and a value, in
+//! order. A query whose escapes stand for themselves is walked as it is, without what it stands for.
 
-ghost use Rattle.std.specs.Prelude.{◌≡◌, ◌==◌, ◌+◌, ◌≤◌, ◌<◌, ◌++◌, [], ◌∷◌, IfOk, OnOk, vec_capacity, vec_len};
-ghost use Rattle.git_syntax.specs.Bytes.{ampersand};
-ghost use Rattle.gix_url.specs.ComponentPieces.{AddsPair, LendsFields, begun_by, field_count, one_field};
+ghost use Rattle.std.specs.Prelude.{◌≡◌, ◌==◌, ◌+◌, ◌≤◌, ◌<◌, ◌++◌, [], ◌∷◌, IfOk, IsTrue, OnOk, false, length, vec_capacity, vec_len};
+ghost use Rattle.git_syntax.specs.Bytes.{FreeOf, ampersand, plus_sign};
+ghost use Rattle.gix_url.specs.ComponentPieces.{AddsPair, LendsFields, begun_by, begun_in, ends_in, field_count, one_field};
 
 use super::QueryText;
 use crate::components::cuts::Spelled;
-use crate::components::lend::lend_pair;
+use crate::components::lend::{lend_pair, lent_pair};
+use crate::components::near::cut_near;
+use git_syntax::bytes::is_free_of;
 use std::alloc::{AllocError, Global};
+
+/// How many bytes a piece has in which fields are counted: no more than a number of one byte holds.
+const PIECE: usize = 255;
 
 /// The names and values of the query.
 pub(super) fn lend_query<'a>(
@@ -20,24 +25,61 @@ pub(super) fn lend_query<'a>(
     ensures { IfOk result
         (λ pairs. LendsFields query.entry.escaped query.entry.text.now pairs.items) }
 {
+    if query.escaped {
+        lend_spelled(alloc, query)
+    } else {
+        lend_raw(alloc, query.text)
+    }
+}
+
+/// The names and values of a query in which an escape stands for its byte.
+fn lend_spelled<'a>(
+    alloc: Global,
+    query: Spelled<'a>,
+) -> Result<Vec<(QueryText<'a>, QueryText<'a>)>, AllocError>
+    ensures { IfOk result
+        (λ pairs. LendsFields query.entry.escaped query.entry.text.now pairs.items) }
+{
     let mut pairs = Vec::with_capacity(alloc, count_fields(query.text))?;
+    let plain = is_free_of(query.text, b'+');
     let mut rest = query;
     while let Some((field, behind)) = rest.cut_near(b'&') {
-        push_field(alloc, &mut pairs, field)?;
+        push_field(alloc, &mut pairs, field, plain)?;
         rest = behind;
     }
-    push_field(alloc, &mut pairs, rest)?;
+    push_field(alloc, &mut pairs, rest, plain)?;
     Ok(pairs)
 }
 
-/// Puts the name and the value of the field behind the pairs, for which there is room, unless it is empty.
+/// The names and values of a query in which an escape stands for itself.
+fn lend_raw<'a>(
+    alloc: Global,
+    query: &'a [u8],
+) -> Result<Vec<(QueryText<'a>, QueryText<'a>)>, AllocError>
+    ensures { IfOk result (λ pairs. LendsFields false query.now pairs.items) }
+{
+    let mut pairs = Vec::with_capacity(alloc, count_fields(query))?;
+    let plain = is_free_of(query, b'+');
+    let mut rest = query;
+    while let Some((field, behind)) = cut_near(rest, b'&') {
+        push_field(alloc, &mut pairs, Spelled::raw(field), plain)?;
+        rest = behind;
+    }
+    push_field(alloc, &mut pairs, Spelled::raw(rest), plain)?;
+    Ok(pairs)
+}
+
+/// Puts the name and the value of the field behind the pairs, for which there is room, unless it is empty. Where it is
+/// known that no `+` stands in the field, it is not searched for one.
 #[inline(always)]
 fn push_field<'a>(
     alloc: Global,
     pairs: &mut Vec<(QueryText<'a>, QueryText<'a>)>,
     field: Spelled<'a>,
+    plain: bool,
 ) -> Result<(), AllocError>
-    requires { vec_len pairs.old + one_field field.text.now ≤ vec_capacity pairs.old }
+    requires room { vec_len pairs.old + one_field field.text.now ≤ vec_capacity pairs.old }
+    requires plain { IsTrue plain → FreeOf plus_sign field.text.now }
     ensures pairs { OnOk result
         (AddsPair field.entry.escaped field.entry.text.now pairs.old.items pairs.new.items) }
     ensures len { OnOk result
@@ -47,12 +89,26 @@ fn push_field<'a>(
     if field.text.is_empty() {
         return Ok(());
     }
+    if lacks_plus(field.text, plain) {
+        push_within(pairs, lent_pair(field));
+        return Ok(());
+    }
     let pair = lend_pair(alloc, field)?;
     push_within(pairs, pair);
     Ok(())
 }
 
+/// Whether no `+` stands in the field, where that may be known.
+#[inline(always)]
+fn lacks_plus(field: &[u8], known: bool) -> bool
+    requires { IsTrue known → FreeOf plus_sign field.now }
+    ensures { IsTrue result → FreeOf plus_sign field.now }
+{
+    known || is_free_of(field, b'+')
+}
+
 /// Puts the name and the value behind the pairs, for which there is room.
+#[inline(always)]
 pub(super) fn push_within<'a>(
     pairs: &mut Vec<(QueryText<'a>, QueryText<'a>)>,
     pair: (QueryText<'a>, QueryText<'a>),
@@ -67,21 +123,42 @@ pub(super) fn push_within<'a>(
     let _ = pushed;
 }
 
-/// How many fields are not empty.
+/// How many fields are not empty. They are counted in short pieces of the query, where a number of one byte serves.
 fn count_fields(query: &[u8]) -> usize
     ensures { result ≡ field_count query.now }
 {
     let mut count = 0;
     let mut before = b'&';
-    for byte in query {
-        count += begun_by(before, *byte);
-        before = *byte;
+    let mut rest = query;
+    while PIECE < rest.len() {
+        let (piece, behind) = rest.split_at(PIECE);
+        let (begun, last) = count_begun(before, piece);
+        count += usize::from(begun);
+        before = last;
+        rest = behind;
     }
-    count
+    count + usize::from(count_begun(before, rest).0)
+}
+
+/// How many fields that are not empty begin in a piece behind a byte, and the last of these bytes.
+fn count_begun(before: u8, piece: &[u8]) -> (u8, u8)
+    requires { length piece.now ≤ 255 }
+    ensures count { result.0 ≡ begun_in (before == ampersand) piece.now }
+    ensures small { result.0 ≤ length piece.now }
+    ensures last { (result.1 == ampersand) ≡ ends_in (before == ampersand) piece.now }
+{
+    let mut count = 0;
+    let mut last = before;
+    for byte in piece {
+        count += begun_by(last, *byte);
+        last = *byte;
+    }
+    (count, last)
 }
 
 /// How many fields that are not empty begin with the byte: one, where it is the first behind an `&`.
-fn begun_by(before: u8, byte: u8) -> usize
+#[inline(always)]
+fn begun_by(before: u8, byte: u8) -> u8
     ensures { result ≡ begun_by (before == ampersand) (byte == ampersand) }
 {
     if before == b'&' && byte != b'&' { 1 } else { 0 }

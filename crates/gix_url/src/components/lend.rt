@@ -6,7 +6,7 @@
 ghost use Rattle.std.specs.Prelude.{◌≡◌, ◌==◌, if◌then◌else◌, IfOk};
 ghost use Rattle.git_syntax.specs.Bytes.{FreeOf, plus_sign, space};
 ghost use Rattle.gix_url.specs.ComponentPieces.{LendsPair, LendsTerm};
-ghost use Rattle.git_laws.specs.Components.{with_spaces};
+ghost use Rattle.git_laws.specs.Components.{SplitsField, with_spaces};
 ghost use Rattle.gix_url.specs.Meanings.{meant_by};
 
 use super::QueryText;
@@ -15,16 +15,40 @@ use bstr::{BStr, BString};
 use git_syntax::bytes::{append_within, is_free_of};
 use std::alloc::{AllocError, Global};
 
-/// The name and the value of a field: what stands before and behind its first `=`.
+/// The name and the value of a field, lent as they stand in the path.
+#[inline(always)]
+pub(super) fn lent_pair<'a>(field: Spelled<'a>) -> (QueryText<'a>, QueryText<'a>)
+    requires { FreeOf plus_sign field.text.now }
+    ensures { LendsPair field.entry.escaped field.entry.text.now result }
+{
+    let (name, value) = split_field(field);
+    (
+        QueryText::Borrowed(BStr::new(name.meant)),
+        QueryText::Borrowed(BStr::new(value.meant)),
+    )
+}
+
+/// The name and the value of a field, each lent where no raw `+` stands in it.
 pub(super) fn lend_pair<'a>(
     alloc: Global,
     field: Spelled<'a>,
 ) -> Result<(QueryText<'a>, QueryText<'a>), AllocError>
     ensures { IfOk result (λ pair. LendsPair field.entry.escaped field.entry.text.now pair) }
 {
+    let (name, value) = split_field(field);
+    Ok((lend_term(alloc, name)?, lend_term(alloc, value)?))
+}
+
+/// The pieces of a field before and behind its first `=`; without one, all of it and nothing.
+#[inline(always)]
+fn split_field<'a>(field: Spelled<'a>) -> (Spelled<'a>, Spelled<'a>)
+    ensures split { SplitsField field.entry.text.now result.0.text.now result.1.text.now }
+    ensures name { result.0.escaped ≡ field.entry.escaped }
+    ensures value { result.1.escaped ≡ field.entry.escaped }
+{
     match field.cut_near(b'=') {
-        Some((name, value)) => Ok((lend_term(alloc, name)?, lend_term(alloc, value)?)),
-        None => Ok((lend_term(alloc, field)?, lend_term(alloc, field.nothing())?)),
+        Some((name, value)) => (name, value),
+        None => (field, field.nothing()),
     }
 }
 
@@ -61,9 +85,9 @@ fn spaced(alloc: Global, piece: Spelled<'_>) -> Result<Vec<u8>, AllocError>
 fn spaced_raw(alloc: Global, text: &[u8]) -> Result<Vec<u8>, AllocError>
     ensures { IfOk result (λ bytes. bytes.items ≡ with_spaces text.now) }
 {
-    let mut bytes = Vec::with_capacity(alloc, text.len())?;
-    for byte in text {
-        append_within(&mut bytes, &[spaced_byte(*byte)]);
+    let mut bytes = Vec::from_slice(alloc, text)?;
+    for byte in bytes.iter_mut() {
+        *byte = spaced_byte(*byte);
     }
     Ok(bytes)
 }

@@ -17,6 +17,12 @@ const NEAR: usize = 4;
 pub(super) fn cut_near(bytes: &[u8], c: u8) -> Option<(&[u8], &[u8])>
     ensures { CutsAt c bytes.now result }
 {
+    // Hostile queries have nothing before it.
+    if let [first, behind @ ..] = bytes
+        && *first == c
+    {
+        return Some((b"", behind));
+    }
     let near = bytes.len().min(NEAR);
     for at in 0..near {
         if bytes[at] == c {

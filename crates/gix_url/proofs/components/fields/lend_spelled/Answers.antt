@@ -1,8 +1,8 @@
 -- The names and values of the next field stand before those of the rest.
 use Rattle.std.proofs.Common.{◌∙◌, arith, subst, sym}
 use Rattle.gix_url.specs.ComponentPieces.{LendsFields, AddsPair}
-use Rattle.gix_url.proofs.Parted.LentLemmas.{adds_field, adds_last, field_count_cut}
-use Rattle.gix_url.proofs.components.fields.lend_query.Goals as goal
+use Rattle.gix_url.proofs.Parted.LentLemmas.{adds_field, adds_last, behind_free, field_count_cut}
+use Rattle.gix_url.proofs.components.fields.lend_spelled.Goals as goal
 
 pub loop-field-preserved : goal.loop-field-preserved
 loop-field-preserved c =
@@ -16,6 +16,7 @@ loop-field-preserved c =
           let all = adds_field c.args.query.escaped rest.text.now c.in-Some.field.text.now c.in-Some.behind.text.now c.loop-field.pairs.items c.push_field.new.pairs.items more around.free around.joined adds lends in
           subst (LendsFields c.args.query.escaped c.args.query.text.now) (sym all.behind) (c.loop-field.invariant.lent all.whole all.lent);
       room = omega (arith, count, c.in_ok-push_field.ensures.len);
+      plain = λ known. behind_free rest.text.now c.in-Some.field.text.now c.in-Some.behind.text.now around.joined (c.loop-field.invariant.plain known);
     }
 
 pub returns : goal.returns

@@ -1,0 +1,12 @@
+-- What was counted so far and the fields that begin in the rest make the whole.
+use Rattle.std.proofs.Common.{◌≡◌, ◌+◌, ◌≤◌, ◌==◌, drop}
+use Rattle.git_syntax.specs.Bytes.{ampersand}
+use Rattle.gix_url.specs.ComponentPieces.{begun_in, ends_in}
+use Rattle.gix_url.proofs.components.fields.count_begun.Given as goal
+
+abbrev pub invariant-loop-byte : goal.invariant-loop-byte
+invariant-loop-byte l = record {
+  counted : l.count + begun_in (l.last == ampersand) (drop l.byte-index l.piece) ≡ begun_in (l.before == ampersand) l.piece;
+  ended : ends_in (l.last == ampersand) (drop l.byte-index l.piece) ≡ ends_in (l.before == ampersand) l.piece;
+  small : l.count ≤ l.byte-index;
+}
