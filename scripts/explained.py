@@ -7,7 +7,7 @@
 What a location is, is asked of `oracle.py`, in whose home folder its path begins of `plain_paths.py`, and where a refused
 line is wrong of `places.py`; what is said of it is put together here, and not by the library. Whether Git is known to read
 the same is the rule by hand of docs/GIT.md, in `git_classes.py` and of HTTP in `web_plain.py`, and what it reads is asked of
-`git_reads.py`, or of Git's credential code of `web_defined.py`. The texts of the tables in docs/GRAMMAR.md and docs/EXPLAIN.md are among the lines, and the last line lacks
+`git_reads.py`, of Git's credential code of `web_defined.py`, and of libcurl of `web_reads.py`. The texts of the tables in docs/GRAMMAR.md and docs/EXPLAIN.md are among the lines, and the last line lacks
 its end.
 """
 import itertools
@@ -24,6 +24,7 @@ from git_classes import Case, Reading, is_careful
 from git_reads import git_reads, unread
 from web_defined import credential_readings
 from web_plain import broken
+from web_reads import curl_reads
 
 HELPERS = [b"a::b://c", b"ext::sh -c x", b"a::", b"ssh::address", b"a::\xff"]
 URLS = [
@@ -66,6 +67,13 @@ WEB = [
     b"https://h/a%09b", b"https://h/p#f", b"https://h/a%23b", b"https://h/a/../b", b"https://h/%2e", b"https://h/a%2F..%2Fb", b"https://h/p?a/./b",
     b"https://h/.?q", b"https://h/..a/b..", b"https://h/p?", b"https://h/p%3F", b"https://h/p?q", b"https://h/a|b", b"https://h/a%41:b", b"https://h/a:b",
     b"https://h/a%3Ab", b"https://h/a%20b?c=d%20e", b"https://H:0443/p", b"https://h/a/../b#f", b"https://u%3Av@127.1/p#f", b"https://-h/-r"]
+# Hosts and paths that curl changes or refuses, and hosts that it takes for no number.
+CURL = [
+    b"http://%41/", b"http://%2F/p", b"http://h%00/", b"http://h%25/p", b"http://h|x%7C/p", b"http://0x7F.0377.65535:8080/p", b"http://1.2.3.0x4/p", b"http://08.1/p",
+    b"http://1.256.3.4/p", b"http://4294967296/p", b"http://0x/p", b"http://1.2.3.4./p", b"http://[0:0::1]/p", b"http://[::1.2.3.4]/p", b"http://[::102:304]/p",
+    b"http://[::ffff:102:304]/p", b"http://[::ffff:1.2.3.4]/p", b"http://[1:0:0:2:0:0:0:3]:80/p", b"http://[::1%2525]/p", b"http://[::1%25abcdefghijklmnop]/p",
+    b"https://u%00@h/p", b"https://u%00:p@h/p", "https://h/\u00e9?\u00fc#\u00e4".encode(), b"https://h/./a/../../b/./c/..", b"https://h//../p?a/../b", b"https://h?/../q",
+    b"http://h/x\0%41", b"http://h/x\x1b%41"]
 
 # For each hint a line to which it applies, and one that is nearly such a line.
 SLIPS = [b"ssh://git@github.com:a/b.git", b"ssh://git@github.com:22/b.git", b"github.com/a/b", b"repo.git/a/b",
@@ -243,6 +251,15 @@ def credential(v):
     return found[0] if found else None
 
 
+def curl(v):
+    """What curl connects to and asks for in the text of a location of HTTP, None where it refuses it. Byte 0 can't be handed to it."""
+    text = oracle.text(v)
+    if v.scheme not in oracle.HTTP_SCHEMES or isinstance(text, oracle.Fault) or b"\0" in text:
+        return None
+    found = curl_reads(text)
+    return found and {"host": lossy(found.host), "port": found.port and int(found.port), "path": lossy(found.path)}
+
+
 def host_spellings(place):
     """The texts that may spell the host in what stands behind the `@`: with and without a port, a colon and brackets."""
     fronts = [place] + ([place.rpartition(b":")[0]] if b":" in place else [])
@@ -292,7 +309,7 @@ def told(v):
         "path_is_utf8": oracle.is_utf8(v.path), "original_path": lossy(spelled), "components": components(v), "home": home(v),
         "shell_path": shell_path(v), "arguments": {"user": judged(v.user), "host": judged(v.host), "path": path_judged(v.path)},
         "text": oracle.display(v), "settled": oracle.settled(v), "agrees_with_git": agrees_with_git(v),
-        "git_reads": read_by_git(v), "credential": credential(v), "reread": reread(v)}
+        "git_reads": read_by_git(v), "credential": credential(v), "curl": curl(v), "reread": reread(v)}
 
 
 # ---------------------------------------------------------------------------------------------------------------
@@ -422,7 +439,7 @@ def table_faults():
 def stored_run():
     """The files of the stored run. The texts of the tables are among its lines."""
     texts = [*(row[0].strip("`").encode() for row in table()), *reason_examples(), *PLACED]
-    lines = list(dict.fromkeys([*HELPERS, *URLS, *FILES, *SCPS, *LOCALS, *REFUSED, *GIT, *READ, *WEB, *SLIPS, *texts]))
+    lines = list(dict.fromkeys([*HELPERS, *URLS, *FILES, *SCPS, *LOCALS, *REFUSED, *GIT, *READ, *WEB, *CURL, *SLIPS, *texts]))
     lines.append(b"/the/last")
     answers = "".join(answer(number, line) + "\n" for number, line in enumerate(lines, 1))
     return {"stdin": b"\n".join(lines), "stdout": answers.encode(), "args": b"--json\n", "status": b"1\n"}

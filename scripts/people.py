@@ -15,9 +15,9 @@ PLAIN = re.compile(rb"(https|ssh)://([\w.-]+@)?[\w.-]+(:\d+)?/[\w./-]+|([\w.-]+@
 OPTION = re.compile(rb"(^|//|@|/|:)-")
 # Segments that curl takes out.
 DOTS = re.compile(rb"https://.*/\.\.?(/|\Z)")
-# In the row of Git all but that the same is read, and that it was not compared.
+# In the row of Git all but that the same is read, and that it was not compared; rows of what others read.
 READ_ALIKE = rb"reads the same in its text|and curl read the same in its text|hands its text to a remote helper"
-ALARM = re.compile(rb"; danger: |: refused: |, not settled|^ +git +(?! |" + READ_ALIKE + rb")|^ +hint ", re.M)
+ALARM = re.compile(rb"; danger: |: refused: |, not settled|^ +git +(?! |" + READ_ALIKE + rb")|^ +(helpers|curl|hint) ", re.M)
 
 
 def stored(name):

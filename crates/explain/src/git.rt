@@ -337,7 +337,7 @@ fn signed_port(text: &[u8]) -> Option<u16> {
 }
 
 /// The port that digits write.
-fn digits_port(digits: &[u8]) -> Option<u16> {
+pub fn digits_port(digits: &[u8]) -> Option<u16> {
     if !digits.iter().all(|byte| byte.is_ascii_digit()) {
         return None;
     }
@@ -443,7 +443,7 @@ fn escaped(first: u8, tail: &[u8]) -> Option<(u8, &[u8])>
 }
 
 /// The value of a hexadecimal digit of either case.
-fn digit(byte: u8) -> Option<u8>
+pub fn digit(byte: u8) -> Option<u8>
     ensures { IfSome result (λ value. value < 16) }
 {
     match byte {

@@ -8,6 +8,7 @@
 
 mod answer;
 mod credential;
+mod curl;
 mod danger;
 mod difference;
 mod git;

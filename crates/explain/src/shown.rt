@@ -5,6 +5,7 @@
 //! shows its answers.
 
 use crate::answer::Line;
+use crate::curl::Curl;
 use crate::danger::dangers;
 use crate::git_told::{HANDED, is_of_web};
 use crate::hint::Hint;
@@ -51,7 +52,7 @@ fn heading(out: &mut String, number: u64, url: &Url, told: &Told<'_>) -> Result<
     out.push('\n')
 }
 
-/// The rows of the text, unless it is the line as it was shown, and of what Git reads in it.
+/// The rows of the text, unless it is the line as it was shown, and of what Git and curl read in it.
 fn text(
     out: &mut String,
     url: &Url,
@@ -64,7 +65,12 @@ fn text(
     if !is_shown(seen, text.as_str()) {
         quoted(out, "text", text.as_str())?;
     }
-    row(out, "git", reading_of_git(url, told))
+    row(out, "git", reading_of_git(url, told))?;
+    if told.agrees_with_git || !is_of_web(url) {
+        return Ok(());
+    }
+    helpers(out, url, told)?;
+    curl(out, url, &told.curl)
 }
 
 /// Whether the line was shown whole, and is this text.
@@ -166,6 +172,57 @@ fn reading_of_git<'b>(url: &Url, told: &'b Told<'_>) -> &'b str {
         Some(reads) => reads.words.as_str(),
         None => HANDED,
     }
+}
+
+/// The rows of what Git's credential code asks helpers for in a text of HTTP, where that is not the location's own.
+fn helpers(out: &mut String, url: &Url, told: &Told<'_>) -> Result<(), AllocError> {
+    let Some(asked) = &told.credential else {
+        return row(
+            out,
+            "helpers",
+            "are asked for nothing, as Git refuses its text",
+        );
+    };
+    if !asked.has_own_host(url) {
+        let host = Quoted(asked.host.as_str().as_bytes());
+        row(
+            out,
+            "helpers",
+            format_args!("are asked for the host {host}"),
+        )?;
+    }
+    if asked.has_own_path(told.path.as_str()) {
+        return Ok(());
+    }
+    let path = Quoted(asked.path_or_empty().as_bytes());
+    row(
+        out,
+        "helpers",
+        format_args!("are asked for the path {path}"),
+    )
+}
+
+/// The rows of what curl reads in a text of HTTP, where that is not the location's own.
+fn curl(out: &mut String, url: &Url, read: &Option<Curl>) -> Result<(), AllocError> {
+    let Some(read) = read else {
+        return row(out, "curl", "refuses its text");
+    };
+    if !read.has_own_host(url) {
+        let host = Quoted(read.host.as_str().as_bytes());
+        match read.port {
+            None => row(out, "curl", format_args!("connects to the host {host}")),
+            Some(port) => row(
+                out,
+                "curl",
+                format_args!("connects to the host {host}, port {port}"),
+            ),
+        }?;
+    }
+    if read.has_own_path(url) {
+        return Ok(());
+    }
+    let path = Quoted(read.path.as_str().as_bytes());
+    row(out, "curl", format_args!("asks for the path {path}"))
 }
 
 /// The rows of a query and a fragment, and of the path before them.

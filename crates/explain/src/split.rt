@@ -565,15 +565,18 @@ fn is_lowered(byte: u8, other: u8) -> bool {
 fn is_spelled(piece: &[u8], field: &[u8], spelling: Spelling) -> bool {
     match spelling {
         Spelling::Raw => piece == field,
-        Spelling::Escaped => {
-            let mut rest = field;
-            for byte in percent_decode(piece) {
-                match rest.split_first() {
-                    Some((first, tail)) if byte == *first => rest = tail,
-                    _ => return false,
-                }
-            }
-            rest.is_empty()
+        Spelling::Escaped => decodes_to(piece, field),
+    }
+}
+
+/// Whether a text is this one, once its escapes are decoded.
+pub fn decodes_to(text: &[u8], decoded: &[u8]) -> bool {
+    let mut rest = decoded;
+    for byte in percent_decode(text) {
+        match rest.split_first() {
+            Some((first, tail)) if byte == *first => rest = tail,
+            _ => return false,
         }
     }
+    rest.is_empty()
 }

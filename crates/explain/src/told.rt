@@ -10,6 +10,7 @@ ghost use Rattle.gix_url.specs.Display.{hidden_password};
 ghost use Rattle.gix_url.specs.Settled.{IsSettled};
 
 use crate::credential::Credential;
+use crate::curl::Curl;
 use crate::difference::Reread;
 use crate::git_told::{GitReads, is_of_web};
 use crate::path::{Components, Home, Meaning};
@@ -63,6 +64,8 @@ pub struct Told<'a> {
     pub git_reads: Option<GitReads>,
     /// What Git's credential code asks helpers for in the text of a location of HTTP, unless Git refuses it.
     pub credential: Option<Credential>,
+    /// What curl connects to and asks for in the text of a location of HTTP, unless it refuses it.
+    pub curl: Option<Curl>,
     /// What its own text is read as, where it is not settled.
     pub reread: Option<Reread>,
 }
@@ -110,14 +113,14 @@ impl<'a> Told<'a> {
     {
         let found = both(Texts::of(alloc, url)?, Meaning::of(alloc, url))?;
         let found = both(found, GitReads::of(alloc, url))?;
-        let found = both(found, credential_of(alloc, url))?;
-        let ((((texts, meaning), git_reads), credential), reread) = both(
+        let found = both(found, over_web(alloc, url))?;
+        let ((((texts, meaning), git_reads), over_web), reread) = both(
             found,
             Reread::of(alloc, url),
         )?;
         let reads = Reads {
             git_reads,
-            credential,
+            over_web,
         };
         Ok(Told::put_together(url, texts, meaning, reads, reread))
     }
@@ -154,36 +157,52 @@ impl<'a> Told<'a> {
             settled: url.is_settled(),
             agrees_with_git: is_read_alike(url),
             git_reads: reads.git_reads,
-            credential: reads.credential,
+            credential: reads.over_web.0,
+            curl: reads.over_web.1,
             reread,
         }
     }
 }
 
-/// What Git reads in the text of a location.
+/// What other programs read in the text of a location.
 #[derive(Drop)]
 struct Reads {
     git_reads: Option<GitReads>,
-    credential: Option<Credential>,
+    over_web: (Option<Credential>, Option<Curl>),
 }
 
-/// What Git's credential code asks helpers for in the text of a location of HTTP, if it has a text.
-fn credential_of(alloc: Global, url: &Url) -> Result<Option<Credential>, AllocError> {
+/// What Git's credential code and curl read in the text of a location of HTTP, if it has a text.
+fn over_web(alloc: Global, url: &Url) -> Result<(Option<Credential>, Option<Curl>), AllocError> {
     if !is_of_web(url) {
-        return Ok(None);
+        return Ok((None, None));
     }
     match url.to_bstring(alloc) {
         Ok(text) => {
-            let found = Credential::in_text(alloc, text.as_bytes());
+            let found = in_text_of_web(alloc, text.as_bytes());
             drop(text);
             found
         }
         Err(error) => {
             let is_memory = matches!(error, Error::Memory);
             drop(error);
-            if is_memory { Err(AllocError) } else { Ok(None) }
+            if is_memory {
+                Err(AllocError)
+            } else {
+                Ok((None, None))
+            }
         }
     }
+}
+
+/// What Git's credential code and curl read in this text of HTTP.
+fn in_text_of_web(
+    alloc: Global,
+    text: &[u8],
+) -> Result<(Option<Credential>, Option<Curl>), AllocError> {
+    both(
+        Credential::in_text(alloc, text)?,
+        Curl::in_text(alloc, text),
+    )
 }
 
 /// The texts that are told of a location.
