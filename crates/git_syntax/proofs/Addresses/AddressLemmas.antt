@@ -1,5 +1,5 @@
 -- IPv6 texts: their bytes, their colons, and their form in lower case.
-use Rattle.std.proofs.Common.{◌≡◌, ℕ, ◌<◌, ◌≤◌, ◌==◌, ◌||◌, Bool, true, false, List, [], ◌∷◌, ◌++◌, length, map, refl, ap, ◌∙◌, inl, inr, arith}
+use Rattle.std.proofs.Common.{◌≡◌, ℕ, ◌<◌, ◌≤◌, ◌==◌, ◌||◌, Bool, true, false, List, [], ◌∷◌, ◌++◌, map, refl, ap, ◌∙◌, inl, inr, arith}
 use Rattle.std.proofs.lemmas.Bool.{and_parts, and_from}
 use Rattle.std.proofs.lemmas.Bool.Decides.{nat_tests}
 use Rattle.std.proofs.lemmas.Fmt.{decimal_is_IsNumeral}
@@ -70,22 +70,11 @@ octet_bytes t h = hexdigits_bytes t (digits_pass 10 is_hexadecimal digit_class t
 
 -- the bytes of an IPv4 text
 ipv4_bytes : (t : List ℕ) → IsIpv4Text t → list_all is_address_byte t ≡ true
-ipv4_bytes t h =
-    let (a, b, c, d) = h.octets in
-    rw h.joined
-    (bytes_joined h.first _ (octet_bytes _ a)
-    (bytes_joined h.second _ (octet_bytes _ b)
-    (bytes_joined h.third _ (octet_bytes _ c) (octet_bytes _ d))))
+ipv4_bytes t h = grind (arith, nat_tests, bytes_joined, octet_bytes)
 
 -- an IPv4 text has no letter case
 ipv4_lowercase : (t : List ℕ) → IsIpv4Text t → lowercase t ≡ t
-ipv4_lowercase t h =
-    let (a, b, c, d) = h.octets in
-    let a_stays = digits_lowercase h.first (octet_digits _ a) in
-    let b_stays = digits_lowercase h.second (octet_digits _ b) in
-    let c_stays = digits_lowercase h.third (octet_digits _ c) in
-    let d_stays = digits_lowercase h.fourth (octet_digits _ d) in
-    rw h.joined (simp (map-append, a_stays, b_stays, c_stays, d_stays))
+ipv4_lowercase t h = grind (arith, nat_tests, digits_lowercase, octet_digits, map-append)
 
 -- the bytes of items joined by `:`
 items_bytes : (ending : Bool) (items : List (List ℕ)) (n : ℕ) → AreItems ending items n → list_all is_address_byte (join_with_byte colon items) ≡ true
@@ -97,11 +86,7 @@ items_bytes ending (t ∷ u ∷ us) n (group, m, rest, more) =
 
 -- each byte of an IPv6 text is a hexadecimal digit, `:` or `.`
 pub address_bytes : (t : List ℕ) → IsIpv6Text t → list_all is_address_byte t ≡ true
-address_bytes t (inl full) = rw full.joined (items_bytes true full.items 8 full.eight)
-address_bytes t (inr short) =
-    rw short.joined
-    (bytes_joined (join_with_byte colon short.front) _ (items_bytes false short.front _ short.front_items)
-    (items_bytes true short.back _ short.back_items))
+address_bytes t h = grind (arith, nat_tests, bytes_joined, items_bytes)
 
 -- an IPv6 text holds no other byte
 pub address_free : (c : ℕ) (t : List ℕ) → is_address_byte c ≡ false → IsIpv6Text t → FreeOf c t
@@ -150,9 +135,7 @@ hexdigit_lowercase b h = grind (arith, nat_tests)
 
 -- so does a group
 group_lowercase : (g : List ℕ) → IsGroup g → IsGroup (lowercase g)
-group_lowercase g h =
-    let same : length (lowercase g) ≡ length g = length-map g to_ascii_lowercase in
-    (omega (arith, h.0), omega (arith, h.1), all_lowercase is_hexadecimal hexdigit_lowercase g h.2)
+group_lowercase g h = grind (arith, nat_tests, all_lowercase, hexdigit_lowercase, length-map)
 
 -- and items with what they count for
 items_lowercase : (ending : Bool) (items : List (List ℕ)) (n : ℕ) → AreItems ending items n → AreItems ending (map lowercase items) n
@@ -170,21 +153,4 @@ joined_lowercase (t ∷ u ∷ us) =
 
 -- an IPv6 text in lower case is one
 pub address-lowercase : (t : List ℕ) → IsIpv6Text t → IsIpv6Text (lowercase t)
-address-lowercase t (inl full) = inl record {
-  items = map lowercase full.items;
-  eight = items_lowercase true full.items 8 full.eight;
-  joined = ap lowercase full.joined ∙ joined_lowercase full.items;
-}
-address-lowercase t (inr short) = inr record {
-  front = map lowercase short.front;
-  back = map lowercase short.back;
-  front_count = short.front_count;
-  back_count = short.back_count;
-  front_items = items_lowercase false short.front short.front_count short.front_items;
-  back_items = items_lowercase true short.back short.back_count short.back_items;
-  short = short.short;
-  joined =
-      ap lowercase short.joined ∙ map-append to_ascii_lowercase (join_with_byte colon short.front) (colon ∷ colon ∷ join_with_byte colon short.back)
-      ∙ ap (λ x. x ++ colon ∷ (colon ∷ lowercase (join_with_byte colon short.back))) (joined_lowercase short.front)
-      ∙ ap (λ x. join_with_byte colon (map lowercase short.front) ++ colon ∷ (colon ∷ x)) (joined_lowercase short.back);
-}
+address-lowercase t h = grind (arith, nat_tests, items_lowercase, joined_lowercase, map-append)

@@ -37,31 +37,11 @@ dotted_parts a b c d = simp append_assoc
 
 -- an IPv4 text writes four octets
 dotted_written : (t : List ℕ) (h : IsIpv4Text t) → std.IsDotted t (h.octets.0.0 ∷ h.octets.1.0 ∷ h.octets.2.0 ∷ h.octets.3.0 ∷ [])
-dotted_written t h =
-    let (a, small_a, is_a) = h.octets.0 in
-    let (b, small_b, is_b) = h.octets.1 in
-    let (c, small_c, is_c) = h.octets.2 in
-    let (d, small_d, is_d) = h.octets.3 in
-    record {
-      a = a;
-      b = b;
-      c = c;
-      d = d;
-      fit = (omega arith, omega arith, omega arith, omega arith);
-      value = refl;
-      spelled = rw dotted_parts (cc (h.joined));
-    }
+dotted_written t h = grind (arith, nat_tests, dotted_parts)
 
 -- what writes four octets is an IPv4 text
 dotted_read : (t octets : List ℕ) → std.IsDotted t octets → IsIpv4Text t
-dotted_read t octets h = record {
-  first = decimal h.a;
-  second = decimal h.b;
-  third = decimal h.c;
-  fourth = decimal h.d;
-  octets = ((h.a, omega (arith, h.fit.0), refl), (h.b, omega (arith, h.fit.1), refl), (h.c, omega (arith, h.fit.2), refl), (h.d, omega (arith, h.fit.3), refl));
-  joined = h.spelled ∙ dotted_parts h.a h.b h.c h.d;
-}
+dotted_read t octets h = grind (arith, nat_tests, dotted_parts)
 
 -- segments that a text after some lead writes, as many as its items count for
 abbrev Written : Bool → List ℕ → List ℕ → ℕ → Type 0
@@ -147,22 +127,7 @@ address_written t (inr short) =
 
 -- what writes the segments of an address is an IPv6 text
 address_read : (t s : List ℕ) → std.IsColonHex t s → IsIpv6Text t
-address_read t s (inl (groups, eight)) =
-    let (items, count, joined) = list_read true t s groups in
-    inl record { items = items; eight = subst (λ n. AreItems true items n) eight count; joined = joined }
-address_read t s (inr h) =
-    let (front, front_items, front_joined) = list_read false h.head_text h.head h.head_groups in
-    let (back, back_items, back_joined) = list_read true h.tail_text h.tail h.tail_groups in
-    inr record {
-      front = front;
-      back = back;
-      front_count = length h.head;
-      back_count = length h.tail;
-      front_items = front_items;
-      back_items = back_items;
-      short = omega (arith, h.room);
-      joined = h.spelled ∙ append_assoc h.head_text (colon ∷ colon ∷ []) h.tail_text ∙ ap (λ x. x ++ colon ∷ (colon ∷ h.tail_text)) front_joined ∙ ap (λ x. join_with_byte colon front ++ colon ∷ (colon ∷ x)) back_joined;
-    }
+address_read t s h = grind (arith, nat_tests, list_read, append_assoc)
 
 -- std reads an address exactly where there is an IPv6 text
 pub reads_addresses : {E : Type 0} (t : List ℕ) (r : Result Ipv6Addr E) → std.Parses std.IsIpv6Text t r → IsTrue (is_ok r) ↔ IsIpv6Text t

@@ -1,11 +1,11 @@
 -- The test for IPv6 texts decides the definition, and answers rows of it by computing.
-use Rattle.std.proofs.Common.{◌≡◌, ℕ, zero, suc, ◌-◌, ◌^◌, ◌<◌, ◌≤◌, Bool, true, false, ◌&&◌, ◌||◌, eqb, List, [], ◌∷◌, ◌++◌, length, get_or, refl, sym, ap, subst, ◌∙◌, arith, add-one}
+use Rattle.std.proofs.Common.{◌≡◌, ℕ, zero, suc, ◌-◌, ◌^◌, ◌<◌, ◌≤◌, Bool, true, false, ◌&&◌, ◌||◌, List, [], ◌∷◌, ◌++◌, length, get_or, refl, sym, ap, subst, ◌∙◌, arith, add-one}
 use Rattle.std.specs.Prelude.{not, ◌==◌, ◌⊎◌, ◌↔◌, IsTrue, decimal}
 use mathlib.Core.Logic.{inl, inr, ⊎_elim}
 use Rattle.std.specs.Char.{digit_value, is_ascii_digit}
 use Rattle.std.specs.List.{join_with_byte}
 use Rattle.std.specs.Str.Parse.{AllDigits, digits_value}
-use Rattle.std.proofs.lemmas.Bool.{and_parts, and_from, or_cases, or_left, or_right, eqb-true, eq-eqb, ltb-true, lt-ltb, leb-true, le-leb, not-true, cases_eq, ne_eqb, not_from_false, false_from_ne_true}
+use Rattle.std.proofs.lemmas.Bool.{and_parts, and_from, or_cases, or_left, or_right, eqb-true, eq-eqb, ltb-true, lt-ltb, leb-true, le-leb, cases_eq, false_from_ne_true}
 use Rattle.std.proofs.lemmas.Bool.Decides.{nat_tests, same_from_decides}
 use Rattle.std.proofs.lemmas.Str.Parse.{IsNumeralModel, numerals_by_value, tells_digits}
 use Rattle.std.proofs.lemmas.Fmt.{decimal-digits_value, digits_decimal, digits_value-decimal, decimal_nonempty, first_decimal, decimal_digit}
@@ -26,15 +26,11 @@ record Cut (c : ℕ) (before behind : List ℕ → Bool) (t : List ℕ) : Type 0
 
 -- a cut in front of all bytes
 cut_here : (c : ℕ) (before behind : List ℕ → Bool) (b : ℕ) (bs : List ℕ) → (b == c && (before [] && behind bs)) ≡ true → Cut c before behind (b ∷ bs)
-cut_here c before behind b bs e =
-    let parts = and_parts (b == c) (before [] && behind bs) e in
-    let both = and_parts (before []) (behind bs) parts.1 in
-    record { front = []; back = bs; front_passes = both.0; back_passes = both.1; joined = ap (λ x. x ∷ bs) (eqb-true b c parts.0) }
+cut_here c before behind b bs e = grind arith
 
 -- a cut further on
 cut_later : (c : ℕ) (before behind : List ℕ → Bool) (b : ℕ) (bs : List ℕ) → Cut c (λ x. before (b ∷ x)) behind bs → Cut c before behind (b ∷ bs)
-cut_later c before behind b bs r =
-    record { front = b ∷ r.front; back = r.back; front_passes = r.front_passes; back_passes = r.back_passes; joined = ap (λ x. b ∷ x) r.joined }
+cut_later c before behind b bs r = grind arith
 
 -- what the search finds is a cut
 any_cut_from : (c : ℕ) (before behind : List ℕ → Bool) (t : List ℕ) → any_cut c before behind t ≡ true → Cut c before behind t
@@ -50,9 +46,7 @@ any_cut_to c before behind (b ∷ x) y e f = or_right _ _ (any_cut_to c (λ z. b
 
 -- the byte and what follows it
 follows_byte_from : (c : ℕ) (behind : List ℕ → Bool) (t : List ℕ) → follows_byte c behind t ≡ true → (y : List ℕ) × (behind y ≡ true) × (t ≡ c ∷ y)
-follows_byte_from c behind [] e = cc
-follows_byte_from c behind (b ∷ bs) e =
-    let parts = and_parts (b == c) (behind bs) e in (bs, parts.1, ap (λ x. x ∷ bs) (eqb-true b c parts.0))
+follows_byte_from c behind t e = grind arith
 
 -- the same, back
 follows_byte_to : (c : ℕ) (behind : List ℕ → Bool) (y : List ℕ) → behind y ≡ true → follows_byte c behind (c ∷ y) ≡ true
@@ -76,10 +70,7 @@ any_up_to_to test (suc last) m h e =
 
 -- a group
 group_from : (g : List ℕ) → is_group g ≡ true → IsGroup g
-group_from g e =
-    let parts = and_parts _ _ e in
-    let more = and_parts _ _ parts.1 in
-    (ltb-true _ _ parts.0, leb-true _ _ more.0, more.1)
+group_from g e = grind arith
 
 -- the same, back
 group_to : (g : List ℕ) → IsGroup g → is_group g ≡ true
@@ -95,15 +86,11 @@ digit_to b h = grind (arith, nat_tests)
 
 -- no leading zero
 plain_from : (t : List ℕ) → ((length t == 1) || not (begins_with 48 t)) ≡ true → get_or t 0 0 ≡ 48 → length t ≡ 1
-plain_from [] e zero_first = absurd (omega (arith, zero_first))
-plain_from (b ∷ bs) e zero_first =
-    ⊎_elim (λ h. eqb-true _ _ h) (λ h. let wrong : eqb b 48 ≡ true = eq-eqb b 48 zero_first in cc (not-true _ h))
-    (or_cases (length (b ∷ bs) == 1) (not (begins_with 48 (b ∷ bs))) e)
+plain_from t e zero_first = grind arith
 
 -- a text that begins above `0` has none
 plain_to : (t : List ℕ) → 48 < get_or t 0 0 → ((length t == 1) || not (begins_with 48 t)) ≡ true
-plain_to [] h = absurd (omega arith)
-plain_to (b ∷ bs) h = or_right _ _ (not_from_false _ (ne_eqb b 48 (λ e. omega arith)))
+plain_to t h = grind arith
 
 -- std's reading of digits
 own : IsNumeralModel (AllDigits 10) (digits_value 10)
@@ -121,11 +108,7 @@ octet_from t e =
 
 -- the text of a number has no leading zero
 decimal_plain : (n : ℕ) → n ≤ 255 → ((length (decimal n) == 1) || not (begins_with 48 (decimal n))) ≡ true
-decimal_plain n h = by_zero (cases_eq n 0)
-  where
-    by_zero : (n ≡ 0) ⊎ (n ≡ 0 → ⊥) → ((length (decimal n) == 1) || not (begins_with 48 (decimal n))) ≡ true
-    by_zero (inl none) = or_left _ _ (eq-eqb _ _ (ap length (decimal_digit n (omega arith))))
-    by_zero (inr some) = plain_to (decimal n) (first_decimal n (omega arith) (omega arith))
+decimal_plain n h = grind (arith, nat_tests, plain_to, cases_eq, decimal_digit, eq-eqb, first_decimal, or_left)
 
 -- the same, back
 octet_to : (t : List ℕ) → IsOctet t → is_octet t ≡ true
@@ -157,16 +140,7 @@ ipv4_from t e =
 
 -- the same, back
 ipv4_to : (t : List ℕ) → IsIpv4Text t → is_ipv4_text t ≡ true
-ipv4_to t h = subst (λ x. is_ipv4_text x ≡ true) (sym h.joined) passes
-  where
-    last : any_cut dot is_octet is_octet (h.third ++ dot ∷ h.fourth) ≡ true
-    last = any_cut_to dot is_octet is_octet h.third h.fourth (octet_to h.third h.octets.2) (octet_to h.fourth h.octets.3)
-
-    later : any_cut dot is_octet (any_cut dot is_octet is_octet) (h.second ++ dot ∷ (h.third ++ dot ∷ h.fourth)) ≡ true
-    later = any_cut_to dot is_octet (any_cut dot is_octet is_octet) h.second (h.third ++ dot ∷ h.fourth) (octet_to h.second h.octets.1) last
-
-    passes : is_ipv4_text (h.first ++ dot ∷ (h.second ++ dot ∷ (h.third ++ dot ∷ h.fourth))) ≡ true
-    passes = any_cut_to dot is_octet (any_cut dot is_octet (any_cut dot is_octet is_octet)) h.first (h.second ++ dot ∷ (h.third ++ dot ∷ h.fourth)) (octet_to h.first h.octets.0) later
+ipv4_to t h = grind (arith, nat_tests, any_cut_to, octet_to)
 
 -- ---- items
 
@@ -200,9 +174,7 @@ items_from ending (suc (suc n)) t e =
 
 -- one item or more counts for one group or more
 items_count : (ending : Bool) (u : List ℕ) (us : List (List ℕ)) (n : ℕ) → AreItems ending (u ∷ us) n → 0 < n
-items_count ending u [] n (inl h) = omega (arith, h.1)
-items_count ending u [] n (inr h) = omega (arith, h.2)
-items_count ending u (v ∷ vs) n h = omega (arith, h.3)
+items_count ending u us n h = grind arith
 
 -- the test finds items
 items_to : (ending : Bool) (items : List (List ℕ)) (n : ℕ) → AreItems ending items n → are_items ending n (join_with_byte colon items) ≡ true
@@ -278,13 +250,12 @@ short_to t h = subst (λ x. is_short_address x ≡ true) (sym h.joined) passes
 -- what passes is an IPv6 text
 pub ipv6_text_from : (t : List ℕ) → is_ipv6_text t ≡ true → IsIpv6Text t
 unfolding is_ipv6_text
-ipv6_text_from t e = ⊎_elim (λ h. inl (full_from t h)) (λ h. inr (short_from t h)) (or_cases (is_full_address t) (is_short_address t) e)
+ipv6_text_from t e = grind (arith, nat_tests, full_from, short_from, or_cases)
 
 -- an IPv6 text passes
 pub ipv6_text_to : (t : List ℕ) → IsIpv6Text t → is_ipv6_text t ≡ true
 unfolding is_ipv6_text
-ipv6_text_to t (inl h) = or_left _ _ (full_to t h)
-ipv6_text_to t (inr h) = or_right _ _ (short_to t h)
+ipv6_text_to t h = grind (arith, nat_tests, full_to, short_to, or_left, or_right)
 
 -- what is no IPv6 text fails
 pub ipv6_text_fails : (t : List ℕ) → ¬ IsIpv6Text t → is_ipv6_text t ≡ false

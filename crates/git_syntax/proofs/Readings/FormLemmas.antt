@@ -1,21 +1,20 @@
 -- The forms of a text exclude one another.
-use Rattle.std.proofs.Common.{◌≡◌, ℕ, inl, inr, false, List, [], ◌∷◌, ◌++◌, refl, sym, ap, subst, ◌∙◌, append_assoc, codes}
+use Rattle.std.proofs.Common.{◌≡◌, ℕ, inl, inr, false, List, [], ◌∷◌, ◌++◌, refl, sym, ap, subst, ◌∙◌, append_assoc, codes, arith}
+use Rattle.std.proofs.lemmas.Bool.Decides.{nat_tests}
 use Rattle.std.proofs.lemmas.Bool.{cases_Bool}
 use Rattle.git_syntax.specs.Value.{Location}
 use Rattle.git_syntax.specs.Bytes.{slash, colon, at_sign, left_bracket, right_bracket, FreeOf, begins_with}
 use Rattle.git_syntax.specs.Cuts.{url_mark}
 use Rattle.git_syntax.specs.Addresses.{IsIpv6Text}
 use Rattle.git_syntax.specs.Grammar.{HasHelperForm, IsNeither, ScpFront, ScpShape, AddressedShape, IsScpShaped, SpellsUrl, SpellsFile, SpellsScp}
-use Rattle.git_syntax.proofs.Texts.CutLemmas.{tails, different_bytes, cut_unique, helper_name_free, scheme_text_free, free-append, free_parts, free_head_tail, free_or_cut, begins_cut, not_free}
+use Rattle.git_syntax.proofs.Texts.CutLemmas.{different_bytes, cut_unique, helper_name_free, scheme_text_free, free-append, free_parts, free_head_tail, free_or_cut, begins_cut, not_free}
 use Rattle.git_syntax.proofs.Addresses.AddressLemmas.{is_address_byte, address_free, address_two_colons}
 
 -- ---- marks
 
 -- what stands before `://` and holds no colon is determined, and so is what stands behind
 pub scheme_cut_unique : (s t x y : List ℕ) → FreeOf colon s → FreeOf colon t → s ++ (url_mark ++ x) ≡ t ++ (url_mark ++ y) → (s ≡ t) × (x ≡ y)
-scheme_cut_unique s t x y f g e =
-    let pieces = cut_unique colon s t (slash ∷ slash ∷ x) (slash ∷ slash ∷ y) f g e in
-    (pieces.0, tails (tails pieces.1))
+scheme_cut_unique s t x y f g e = grind (arith, nat_tests, cut_unique)
 
 -- a text whose first colon begins `://` doesn't have the form of a remote helper
 pub mark_no_helper : (b scheme rest : List ℕ) → FreeOf colon scheme → b ≡ scheme ++ (url_mark ++ rest) → ¬ HasHelperForm b
@@ -36,10 +35,7 @@ address_cut t h = elim (free_or_cut colon t) [
 
 -- the text around its first colon, which stands in the address
 pub addressed_joined : (user address path x y : List ℕ) → address ≡ x ++ colon ∷ y → user ++ at_sign ∷ (left_bracket ∷ (address ++ right_bracket ∷ (colon ∷ path))) ≡ (user ++ at_sign ∷ (left_bracket ∷ x)) ++ colon ∷ (y ++ right_bracket ∷ (colon ∷ path))
-addressed_joined user address path x y e =
-    ap (λ t. user ++ at_sign ∷ (left_bracket ∷ (t ++ right_bracket ∷ (colon ∷ path)))) e
-    ∙ ap (λ t. user ++ at_sign ∷ (left_bracket ∷ t)) (append_assoc x (colon ∷ y) (right_bracket ∷ (colon ∷ path)))
-    ∙ sym (append_assoc user (at_sign ∷ (left_bracket ∷ x)) (colon ∷ (y ++ right_bracket ∷ (colon ∷ path))))
+addressed_joined user address path x y e = grind (arith, nat_tests, append_assoc)
 
 -- what stands before that colon holds none
 pub addressed_front_free : (user x : List ℕ) → FreeOf colon user → FreeOf colon x → FreeOf colon (user ++ at_sign ∷ (left_bracket ∷ x))
@@ -73,20 +69,17 @@ file_not_neither h k = k.no_mark (codes "file", h.host ++ h.path, h.joined)
 
 -- what has the scp form is neither a remote helper nor a URL
 pub scp_neither : {b : List ℕ} {v : Location} → SpellsScp b v → IsNeither b
-scp_neither (inl h) = h.shape.neither
-scp_neither (inr h) = h.shape.neither
+scp_neither h = grind arith
 
 -- it has a shape of that form
 pub scp_shaped : {b : List ℕ} {v : Location} → SpellsScp b v → IsScpShaped b
-scp_shaped (inl h) = inl (h.front, h.path, h.shape)
-scp_shaped (inr h) = inr (h.user, h.address, h.path, h.shape)
+scp_shaped h = grind arith
 
 -- ---- the shape `user@[address]:path` is one of the earlier scp form too
 
 -- a text in front of an `@` that begins with no bracket
 pub begins_before_at : (user rest : List ℕ) → begins_with left_bracket user ≡ false → begins_with left_bracket (user ++ at_sign ∷ rest) ≡ false
-begins_before_at [] rest h = refl
-begins_before_at (c ∷ user) rest h = h
+begins_before_at user rest h = grind arith
 
 -- a front that ends within the address
 within_shape : (b user address path x y : List ℕ) → AddressedShape b user address path → address ≡ x ++ colon ∷ y → ScpFront b (user ++ at_sign ∷ (left_bracket ∷ x)) → ScpShape b (user ++ at_sign ∷ (left_bracket ∷ x)) (y ++ right_bracket ∷ (colon ∷ path))

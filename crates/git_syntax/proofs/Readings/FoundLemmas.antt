@@ -1,8 +1,8 @@
 -- What is found in a text: the host that Secure Shell takes, and the location that the parts of a URL mean.
-use Rattle.std.proofs.Common.{◌≡◌, ℕ, ◌<◌, ◌==◌, true, false, inl, inr, List, [], ◌∷◌, ◌++◌, length, Option, Some, None, refl, sym, ap, subst, ◌∙◌, append_assoc, eq-eqb}
+use Rattle.std.proofs.Common.{◌≡◌, ℕ, ◌<◌, ◌==◌, true, false, inl, inr, List, [], ◌∷◌, ◌++◌, length, Option, Some, None, refl, sym, ap, subst, ◌∙◌, append_assoc, eq-eqb, arith}
+use Rattle.std.proofs.lemmas.Bool.Decides.{nat_tests}
 use Rattle.std.specs.Prelude.{IfSome, IsUtf8, MatchOption, option_map}
 use Rattle.std.specs.Option.{unwrap_or}
-use Rattle.std.specs.List.{list_any}
 use Rattle.std.proofs.lemmas.List.{same_from_push}
 use Rattle.std.proofs.lemmas.Bool.{both_ways, cases_Bool, eqb-true}
 use Rattle.git_syntax.specs.Value.{Protocol}
@@ -11,7 +11,7 @@ use Rattle.git_syntax.specs.Bytes.{colon, left_bracket, right_bracket, begins_wi
 use Rattle.git_syntax.specs.Schemes.{protocol_of, requires_path}
 use Rattle.git_syntax.specs.Grammar.{UrlParts, SpellsParts, SpellsUrl, Peels, HostFor, MeansByProtocol}
 use Rattle.git_syntax.specs.FoundPieces.{front_of, colon_dropped, peeled, host_for, url_location}
-use Rattle.git_syntax.proofs.Texts.CutLemmas.{heads, tails, different_bytes}
+use Rattle.git_syntax.proofs.Texts.CutLemmas.{heads, tails}
 use Rattle.git_syntax.proofs.Readings.UrlLocationLemmas.{peels_utf8, spelled_url}
 
 -- ---- fronts
@@ -59,12 +59,7 @@ front_told c (b ∷ d ∷ bs) = front_of_more c b d bs (front_of c (d ∷ bs)) (
 
 -- a host with a bracket in front that ends in no bracket, with or without a colon behind it
 kept_bracket : (behind : List ℕ) → EndsNot right_bracket behind → ((front : List ℕ) → ¬ (behind ≡ front ++ right_bracket ∷ (colon ∷ []))) → Peels (left_bracket ∷ behind) (left_bracket ∷ behind)
-kept_bracket behind closed marked =
-    Peels.same (λ (inner, e). closed inner (tails e)) (λ (inner, e). marked inner (tails e)) (λ (front, free, open_front, e). ends_open front open_front e) refl
-  where
-    ends_open : (front : List ℕ) → begins_with left_bracket front ≡ false → left_bracket ∷ behind ≡ front ++ colon ∷ [] → ⊥
-    ends_open [] open_front e = different_bytes left_bracket colon refl e
-    ends_open (c ∷ front) open_front e = both_ways _ open_front (eq-eqb c left_bracket (sym (heads e)))
+kept_bracket behind closed marked = grind arith
 
 -- a host with a bracket in front
 peels_bracket : (behind : List ℕ) (whole inside : Option (List ℕ)) → TellsFront colon behind whole → TellsFront right_bracket (unwrap_or whole behind) inside → Peels (left_bracket ∷ behind) (unwrap_or inside (left_bracket ∷ behind))
@@ -83,19 +78,7 @@ unbracketed host behind open_front e = both_ways _ open_front (ap (begins_with l
 
 -- such a host
 peels_open : (host : List ℕ) (front : Option (List ℕ)) → begins_with left_bracket host ≡ false → TellsFront colon host front → Peels host (colon_dropped host front)
-peels_open host None open_front other =
-    Peels.same (λ (inner, e). unbracketed host _ open_front e) (λ (inner, e). unbracketed host _ open_front e) (λ (front, free, begins, e). other front e) refl
-peels_open host (Some front) open_front e =
-    elim (cases_Bool (list_any (λ b. b == colon) front)) [
-      | inr free ↦ rw free (Peels.last_colon free (front_open front host open_front e) e)
-      | inl held ↦
-          rw held (Peels.same (λ (inner, k). unbracketed host _ open_front k) (λ (inner, k). unbracketed host _ open_front k)
-          (λ (other, free, begins, k). both_ways _ (subst (λ t. list_any (λ b. b == colon) t ≡ false) (same_from_push other front colon colon (sym k ∙ e)).0 free) held) refl)
-    ]
-  where
-    front_open : (front host : List ℕ) → begins_with left_bracket host ≡ false → host ≡ front ++ colon ∷ [] → begins_with left_bracket front ≡ false
-    front_open [] host open_front e = refl
-    front_open (c ∷ front) host open_front e = sym (ap (begins_with left_bracket) e) ∙ open_front
+peels_open host front open_front e = grind (arith, nat_tests, unbracketed, both_ways, cases_Bool, same_from_push)
 
 -- Secure Shell takes this host out of each
 pub peels : (host : List ℕ) → Peels host (peeled host)
@@ -109,15 +92,7 @@ peels (b ∷ bs) =
 
 -- a location has this host for the host that its URL names
 pub hosted : (protocol : Protocol) (named : Option (List ℕ)) → HostFor protocol named (host_for protocol named)
-hosted ssh None = refl
-hosted ssh (Some named) = (peeled named, peels named, refl)
-hosted file named = refl
-hosted git named = refl
-hosted http named = refl
-hosted https named = refl
-hosted ext named = refl
-hosted (helper name) named = refl
-hosted (helper_url name) named = refl
+hosted protocol named = grind (arith, nat_tests, peels)
 
 -- which is text where that is
 pub host_utf8 : (protocol : Protocol) (named : Option (List ℕ)) → IfSome named IsUtf8 → IfSome (host_for protocol named) IsUtf8

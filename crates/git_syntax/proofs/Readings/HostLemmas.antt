@@ -6,7 +6,7 @@ use Rattle.std.specs.Str.Parse.{IsNumeral, digits_value, without_leading_plus}
 use Rattle.std.specs.Fmt.{decimal}
 use Rattle.std.proofs.lemmas.Fmt.{decimal_is_IsNumeral, digits_decimal}
 use Rattle.std.proofs.lemmas.Str.Parse.{IsNumeralModel, numerals_by_value, parse_digits}
-use Rattle.std.proofs.lemmas.Bool.{and_parts, cases_Bool, cond-false, cond_both, both_ways, false≢true, eqb-true}
+use Rattle.std.proofs.lemmas.Bool.{and_parts, cond-false, cond_both, both_ways, false≢true, eqb-true}
 use Rattle.std.proofs.lemmas.Bool.Decides.{nat_tests}
 use Rattle.std.proofs.lemmas.Option.{same_Some}
 use Rattle.std.proofs.lemmas.List.{append-nil, map-append, take_all, drop_all}
@@ -17,7 +17,6 @@ use Rattle.std.specs.Str.{IsUtf8}
 use Rattle.percent_encoding.specs.Percent.{percent_decode}
 use Rattle.git_syntax.specs.declared.refusal.UrlFault.{UrlFault}
 use Rattle.git_syntax.specs.declared.refusal.UrlFault.TheVariants as fault
-use Rattle.std.specs.Option.{MatchOption}
 use Rattle.git_syntax.specs.declared.host.NamedHost.{NamedHost}
 use Rattle.git_syntax.specs.Bytes.{colon, left_bracket, right_bracket, percent_sign, FreeOf, begins_with, lowercase}
 use Rattle.git_syntax.specs.Addresses.{IsIpv6Text, is_zone_byte, Literal}
@@ -26,7 +25,7 @@ use Rattle.git_syntax.specs.Hosts as spec
 use Rattle.git_syntax.specs.Hosts.{Mode, is_dns_byte, is_http_host_byte, HostText, IsLiteral, Bracketed, Inner, AllowsPort, IsDigits, Number, IsAddressPiece, ReadsAddress, HoldsTwoColons, IsManyColoned, IsPlainHost, Names, normal_host}
 use Rattle.git_syntax.specs.Hosts.Mode.{strict, bare, loose}
 use Rattle.git_syntax.specs.Flaws.{IsNoPort, HasBadPort, IsPortPlace, IsNoInner, BracketsAround, HasBadHost, NameFlaw}
-use Rattle.git_syntax.specs.HostPieces.{EndsHost, Follows, IsBadPort, named_text, IsEscapedZone, IsInner, IsSimpleHost, is_simple_byte, in_brackets, lowercase_address, shown_literal}
+use Rattle.git_syntax.specs.HostPieces.{EndsHost, Follows, named_text, IsEscapedZone, IsInner, IsSimpleHost, is_simple_byte, in_brackets, lowercase_address, shown_literal}
 use Rattle.git_syntax.proofs.Texts.CutLemmas.{heads, tails, class_cut_unique, cut_unique, free-append, free_begins, free_head_tail, free_of_all, free_or_cut, begins-append, not_free}
 use Rattle.git_syntax.proofs.Texts.EscapeLemmas.{decode_kept, decodes_in_parts, sound_free, utf8_byte, utf8_class}
 use Rattle.git_syntax.proofs.Addresses.AddressLemmas.{address_free, address_two_colons, address_utf8, address-lowercase, all_lowercase}
@@ -56,10 +55,6 @@ digits_model = numerals_by_value (λ ds. list_all is_ascii_digit ds ≡ true) (s
 -- digits that std reads as no number of 16 bits spell no port
 pub not_parsed : (mode : Mode) (text : List ℕ) → list_all is_ascii_digit text ≡ true → ¬ (IsNumeral 10 (without_leading_plus text) × (digits_value 10 (without_leading_plus text) < 2 ^ 16)) → (port : ℕ) → ¬ Number mode text port
 not_parsed mode text digits fails port n = parse_digits digits_model {E = ℕ} 16 text (Err 0) fails digits (n.digits.0, omega (arith, n.value, n.within))
-
--- digits spell one port
-pub number_unique : (mode : Mode) (text : List ℕ) (m n : ℕ) → Number mode text m → Number mode text n → m ≡ n
-number_unique mode text m n h k = h.value ∙ sym k.value
 
 -- a port is a number of a machine word
 machine_word : (port : ℕ) → port < 65536 → port < 2 ^ 64
@@ -106,15 +101,11 @@ lowercase_address_cut t a z free e =
     ∙ sym (ap (λ x. lowercase x ++ drop (length a) t) front ∙ ap (λ x. lowercase a ++ x) behind)
 
 pub lowercase_address_whole : (t : List ℕ) → FreeOf percent_sign t → lowercase_address t ≡ lowercase (take (length t) t) ++ drop (length t) t
-lowercase_address_whole t free =
-    lowercase_address_alone t free ∙ sym (append-nil (lowercase t))
-    ∙ sym (ap (λ x. lowercase x ++ drop (length t) t) (take_all (length t) t (omega arith)) ∙ ap (λ x. lowercase t ++ x) (drop_all (length t) t (omega arith)))
+lowercase_address_whole t free = grind (arith, nat_tests, lowercase_address_alone, append-nil, drop_all, take_all)
 
 -- the normal form of an IPv6 literal is in lower case up to its `%`
 pub literal_normal : (t n : List ℕ) → Literal t n → n ≡ lowercase_address t
-literal_normal t n (address h e) = e ∙ sym (lowercase_address_alone t (address_no_percent t h))
-literal_normal t n (zoned a z h zone is e) =
-    e ∙ sym (ap lowercase_address is ∙ lowercase_address_before a (50 ∷ (53 ∷ z)) (address_no_percent a h))
+literal_normal t n h = grind (arith, nat_tests, address_no_percent, lowercase_address_alone, lowercase_address_before)
 
 -- so it is one
 pub literal_unique : (t m n : List ℕ) → Literal t m → Literal t n → m ≡ n
@@ -143,28 +134,11 @@ host_text_unique loose t m n h k = h.1 ∙ sym k.1
 
 -- a port's place follows
 follows_place : {mode : Mode} {base rest : List ℕ} {host : Option (List ℕ)} {port : Option ℕ} → Follows mode base rest host port → IsPortPlace rest
-follows_place (Follows.nothing e h p) = inl e
-follows_place (Follows.lone_colon e h p) = inr ([], refl, e)
-follows_place (Follows.number digits n k e h p) = inr (digits, digits_free digits k.digits, e)
-
--- digits aren't empty
-no_digits : {A : Type 0} {mode : Mode} {digits : List ℕ} {n : ℕ} → Number mode digits n → digits ≡ [] → A
-no_digits h e = absurd (omega (arith, ap length e, h.digits.0))
+follows_place h = grind (arith, nat_tests, digits_free)
 
 -- what follows a host tells what is added to it, and the port
 follows_unique : {mode : Mode} {rest : List ℕ} (base other : List ℕ) (host second : Option (List ℕ)) (port last : Option ℕ) → base ≡ other → Follows mode base rest host port → Follows mode other rest second last → (host ≡ second) × (port ≡ last)
-follows_unique base other host second port last same (Follows.nothing e h p) (Follows.nothing f k q) = (cc, cc)
-follows_unique base other host second port last same (Follows.nothing e h p) (Follows.lone_colon f k q) = let wrong = sym e ∙ f in cc
-follows_unique base other host second port last same (Follows.nothing e h p) (Follows.number d n l f k q) = let wrong = sym e ∙ f in cc
-follows_unique base other host second port last same (Follows.lone_colon e h p) (Follows.nothing f k q) = let wrong = sym e ∙ f in cc
-follows_unique base other host second port last same (Follows.lone_colon e h p) (Follows.lone_colon f k q) = (h ∙ ap (λ x. Some (x ++ colon ∷ [])) same ∙ sym k, cc)
-follows_unique base other host second port last same (Follows.lone_colon e h p) (Follows.number d n l f k q) = no_digits l (sym (tails (sym e ∙ f)))
-follows_unique base other host second port last same (Follows.number c m j e h p) (Follows.nothing f k q) = let wrong = sym e ∙ f in cc
-follows_unique base other host second port last same (Follows.number c m j e h p) (Follows.lone_colon f k q) = no_digits j (tails (sym e ∙ f))
-follows_unique {mode} base other host second port last same (Follows.number c m j e h p) (Follows.number d n l f k q) =
-    let digits : c ≡ d = tails (sym e ∙ f) in
-    let number : m ≡ n = number_unique mode d m n (subst (λ x. Number mode x m) digits j) l in
-    (h ∙ ap Some same ∙ sym k, p ∙ ap Some number ∙ sym q)
+follows_unique base other host second port last same h k = grind arith
 
 -- ---- the looks of a piece
 
@@ -218,8 +192,7 @@ plain_not_many piece (text, rest, h, place, e) (inr two) = absurd (plain_one_col
 
 -- a port's place is empty or begins with a colon
 place_begins : (rest : List ℕ) → IsPortPlace rest → (rest ≡ []) ⊎ (begins_with colon rest ≡ true)
-place_begins rest (inl e) = inl e
-place_begins rest (inr (digits, g, e)) = inr (ap (begins_with colon) e)
+place_begins rest h = grind arith
 
 -- a piece is one host and one port's place
 plain_unique : (text other rest last : List ℕ) → IsPlainHost text → IsPlainHost other → IsPortPlace rest → IsPortPlace last → text ++ rest ≡ other ++ last → (text ≡ other) × (rest ≡ last)
@@ -273,10 +246,7 @@ name_shape (Names.colons named s r b m t is p) = Shape.many (b, m) (ManyNames.ot
 
 -- the shape of a name tells the host and the port
 many_unique : (mode : Mode) (piece : List ℕ) (host second : Option (List ℕ)) → ManyNames mode piece host → ManyNames mode piece second → host ≡ second
-many_unique mode piece host second (ManyNames.unbracketed r h) (ManyNames.unbracketed s k) = h ∙ sym k
-many_unique mode piece host second (ManyNames.unbracketed r h) (ManyNames.other_host n s u t k) = absurd (u r)
-many_unique mode piece host second (ManyNames.other_host m s u t h) (ManyNames.unbracketed r k) = absurd (u r)
-many_unique mode piece host second (ManyNames.other_host m s u t h) (ManyNames.other_host n v w x k) = h ∙ ap Some (host_text_unique mode piece m n t x) ∙ sym k
+many_unique mode piece host second h k = grind arith
 
 -- what is read between brackets: the cut and what follows
 bracket_cut : (x y rest last piece : List ℕ) → FreeOf right_bracket x → FreeOf right_bracket y → piece ≡ left_bracket ∷ (x ++ right_bracket ∷ rest) → piece ≡ left_bracket ∷ (y ++ right_bracket ∷ last) → (x ≡ y) × (rest ≡ last)
@@ -319,9 +289,7 @@ names_unique mode piece host second port last h k = shape_unique mode piece host
 
 -- what stands in a port's place and is no port follows no host
 no_port_follows : {mode : Mode} {base digits rest : List ℕ} {host : Option (List ℕ)} {port : Option ℕ} → IsNoPort mode digits → rest ≡ colon ∷ digits → Follows mode base rest host port → ⊥
-no_port_follows h e (Follows.nothing f k p) = let wrong = sym e ∙ f in cc
-no_port_follows h e (Follows.lone_colon f k p) = omega (arith, h.0, ap length (tails (sym e ∙ f)))
-no_port_follows {mode} h e (Follows.number d n k f is p) = h.1 n (subst (λ t. Number mode t n) (tails (sym f ∙ e)) k)
+no_port_follows h e k = grind arith
 
 -- a name between brackets
 record InBrackets (mode : Mode) (piece : List ℕ) (host : Option (List ℕ)) (port : Option ℕ) : Type 0 where
@@ -423,17 +391,11 @@ flawed_unnamed mode piece fault.HostRequired at len h host port n = h
 
 -- a bad port stands within its piece
 bad_port_within : (mode : Mode) (piece : List ℕ) (at len : ℕ) → HasBadPort mode piece at len → at + len ≤ length piece
-bad_port_within mode piece at len (HasBadPort.plain front digits h free e none a l) = omega (arith, a, l, ap length e, length-append front (colon ∷ digits))
-bad_port_within mode piece at len (HasBadPort.bracketed x digits free e none a l) = omega (arith, a, l, ap length e, length-append x (right_bracket ∷ (colon ∷ digits)))
+bad_port_within mode piece at len h = grind (arith, nat_tests, length-append)
 
 -- so does a bad host
 bad_host_within : (mode : Mode) (piece : List ℕ) (at len : ℕ) → HasBadHost mode piece at len → at + len ≤ length piece
-bad_host_within mode piece at len (HasBadHost.plain front rest h place e none a l) = omega (arith, a, l, ap length e, length-append front rest)
-bad_host_within mode piece at len (HasBadHost.colons_on_the_web e b m a l) = omega (arith, a, l)
-bad_host_within mode piece at len (HasBadHost.colons w r b m none a l) = omega (arith, a, l)
-bad_host_within mode piece at len (HasBadHost.open_bracket behind free e a l) = omega (arith, a, l, ap length e)
-bad_host_within mode piece at len (HasBadHost.behind_bracket x rest free e some other a l) = omega (arith, a, l, ap length e, length-append x (right_bracket ∷ rest))
-bad_host_within mode piece at len (HasBadHost.brackets x rest around none a l) = omega (arith, a, l, ap length around.joined, length-append x (right_bracket ∷ rest))
+bad_host_within mode piece at len h = grind (arith, nat_tests, length-append)
 
 -- the flaw of a piece stands within it
 pub name_flaw_within : (mode : Mode) (piece : List ℕ) (named : UrlFault) (at len : ℕ) → NameFlaw mode piece named at len → at + len ≤ length piece
@@ -459,8 +421,7 @@ decoded_behind a rest h = decodes_in_parts a rest (sound_free a h) ∙ ap (λ fr
 
 -- and `%25` behind it is a `%`, with another text behind that
 zone_decoded : (a z : List ℕ) → FreeOf percent_sign a → percent_decode (a ++ percent_sign ∷ (50 ∷ (53 ∷ z))) ≡ a ++ percent_sign ∷ percent_decode z
-zone_decoded a z h =
-    decoded_behind a (percent_sign ∷ (50 ∷ (53 ∷ z))) h ∙ ap (λ t. a ++ t) (percent_decode_escape percent_sign 50 53 z refl (omega arith) (omega arith))
+zone_decoded a z h = grind (arith, nat_tests, decoded_behind, percent_decode_escape)
 
 -- a literal is decoded before or after it is lowercased
 literal_decoded : (t n : List ℕ) → Literal t n → percent_decode n ≡ lowercase_address (percent_decode t)
@@ -504,8 +465,7 @@ literal_zoned t a e whole h (z, zone, is) =
 
 -- a text without `%` is a literal only as an address
 pub literal_address : (t : List ℕ) → FreeOf percent_sign t → IsLiteral t → IsIpv6Text t
-literal_address t f (n, address h e) = h
-literal_address t f (n, zoned a z h zone whole e) = absurd (not_free percent_sign a (50 ∷ 53 ∷ z) (subst (λ x. FreeOf percent_sign x) whole f))
+literal_address t f h = grind (arith, nat_tests, not_free)
 
 -- a text with a `%` is one only as an address and a zone
 pub literal_parts : (t a e : List ℕ) → FreeOf percent_sign a → t ≡ a ++ percent_sign ∷ e → IsLiteral t → IsIpv6Text a × IsEscapedZone e
@@ -518,8 +478,7 @@ literal_parts t a e f whole (n, zoned b z h zone is k) =
 
 -- a text whose length isn't tested to be 0
 pub some_tested : (t : List ℕ) → false ≡ (length t == 0) → 0 < length t
-some_tested [] e = absurd (false≢true e)
-some_tested (b ∷ t) e = omega arith
+some_tested t e = grind arith
 
 -- nothing is in front of a first colon: no port is marked
 pub colon_first : (piece front rest : List ℕ) → true ≡ (length front == 0) → piece ≡ front ++ colon ∷ rest → IsManyColoned piece
@@ -528,16 +487,11 @@ colon_first piece (b ∷ front) rest none e = absurd (omega (arith, eqb-true (le
 
 -- nor is one where another colon follows
 pub colon_again : (piece front rest : List ℕ) → ¬ FreeOf colon rest → piece ≡ front ++ colon ∷ rest → IsManyColoned piece
-colon_again piece front rest held e =
-    elim (free_or_cut colon rest) [
-      | inl h ↦ absurd (held h)
-      | inr (y, z, f, k) ↦ inr (front, y, z, e ∙ ap (λ t. front ++ colon ∷ t) k)
-    ]
+colon_again piece front rest held e = grind (arith, nat_tests, free_or_cut)
 
 -- what stands before the first colon, if anything, is a host outside brackets
 pub plain_front : (piece front rest : List ℕ) → false ≡ (length front == 0) → FreeOf colon front → begins_with left_bracket piece ≡ false → piece ≡ front ++ rest → IsPlainHost front
-plain_front piece front rest some free none e =
-    record { nonempty = some_tested front some; no_colon = free; no_bracket = sym (begins-append left_bracket front rest (some_tested front some)) ∙ ap (begins_with left_bracket) (sym e) ∙ none }
+plain_front piece front rest some free none e = grind arith
 
 -- a byte that is no digit spells no port
 pub not_digits : (mode : Mode) (digits : List ℕ) → false ≡ list_all is_ascii_digit digits → IsNoPort mode digits
@@ -561,8 +515,7 @@ plain_name mode piece front rest named host port h e t (Follows.number d n k f i
 
 -- what is no end of a host isn't empty, and begins with another byte than a colon
 no_end_begins : (rest : List ℕ) → ¬ EndsHost rest → (0 < length rest) × (begins_with colon rest ≡ false)
-no_end_begins [] h = absurd (h (inl refl))
-no_end_begins (b ∷ rest) h = (omega arith, elim (cases_Bool (begins_with colon (b ∷ rest))) [ inl begins ↦ absurd (h (inr begins)) | inr other ↦ other ])
+no_end_begins rest h = grind arith
 
 -- a closing bracket that another byte than a colon follows
 pub not_ended : (mode : Mode) (behind x rest : List ℕ) → FreeOf right_bracket x → behind ≡ x ++ right_bracket ∷ rest → ¬ EndsHost rest → HasBadHost mode (left_bracket ∷ behind) (length x + 2) (length rest)
@@ -579,18 +532,6 @@ not_inner mode behind x rest free e ended none =
 pub no_port_behind : (mode : Mode) (behind x rest digits : List ℕ) (len : ℕ) → FreeOf right_bracket x → behind ≡ x ++ right_bracket ∷ rest → rest ≡ colon ∷ digits → IsNoPort mode digits → len + 1 ≡ length rest → HasBadPort mode (left_bracket ∷ behind) (length x + 3) len
 no_port_behind mode behind x rest digits len free e f none size =
     HasBadPort.bracketed x digits free (ap (λ t. left_bracket ∷ t) (e ∙ ap (λ t. x ++ right_bracket ∷ t) f)) none refl (omega (arith, size, ap length f))
-
--- nothing follows where no colon does
-pub nothing_follows : (rest : List ℕ) → EndsHost rest → begins_with colon rest ≡ false → rest ≡ []
-nothing_follows rest (inl e) none = e
-nothing_follows rest (inr h) none = absurd (both_ways _ none h)
-
--- what follows a colon follows the host
-pub port_follows : (mode : Mode) (base rest digits : List ℕ) (named : Option NamedHost) → rest ≡ colon ∷ digits
-    → MatchOption named (IsNoPort mode digits) (λ n. Follows mode base (colon ∷ digits) (Some (named_text n)) n.port)
-    → MatchOption named (IsBadPort mode rest) (λ n. Follows mode base rest (Some (named_text n)) n.port)
-port_follows mode base rest digits None is h = (digits, h, is)
-port_follows mode base rest digits (Some n) is h = subst (λ t. Follows mode base t (Some (named_text n)) n.port) (sym is) h
 
 -- ---- hosts are text
 

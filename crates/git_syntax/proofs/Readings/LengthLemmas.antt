@@ -1,5 +1,6 @@
 -- The length test: what counts of a text in pieces, and that the walk over it is the definition.
-use Rattle.std.proofs.Common.{◌↔◌, ◌-◌, codes, zero, suc, length-append, ◌≡◌, ℕ, ◌+◌, ◌<◌, ◌≤◌, Bool, true, false, not, ◌==◌, ◌||◌, ◌&&◌, inl, inr, List, [], ◌∷◌, ◌++◌, length, take, drop, refl, sym, ap, subst, ◌∙◌, arith, append_assoc}
+use Rattle.std.proofs.Common.{◌↔◌, ◌-◌, codes, zero, suc, length-append, ◌≡◌, ℕ, ◌+◌, ◌<◌, ◌≤◌, Bool, true, false, not, ◌==◌, ◌||◌, inl, inr, List, [], ◌∷◌, ◌++◌, length, take, drop, refl, sym, ap, subst, ◌∙◌, arith, append_assoc}
+use Rattle.std.proofs.lemmas.Bool.Decides.{nat_tests}
 use Rattle.std.specs.Prelude.{nat_le}
 use Rattle.std.specs.List.{list_all, list_any, count_by, position_or_len}
 use Rattle.std.specs.Char.{is_ascii_whitespace}
@@ -13,7 +14,7 @@ use Rattle.git_syntax.specs.Bytes.{Lacks, FreeOf, colon, begins_by, is_path_star
 use Rattle.git_syntax.specs.Schemes.{is_web_scheme}
 use Rattle.git_syntax.specs.Authority.{is_any_slash, without_white_space, IsWithinLimit, Fits, FitsText}
 use Rattle.git_syntax.specs.Walks.{without_slashes, starts_within, is_in_time, is_rest_short}
-use Rattle.git_syntax.proofs.Texts.CutLemmas.{cut_at_first, cut_unique, lacks_head_tail, tails}
+use Rattle.git_syntax.proofs.Texts.CutLemmas.{cut_at_first, cut_unique, lacks_head_tail}
 
 -- ---- white space
 
@@ -40,18 +41,6 @@ lacks_without web (b ∷ bs) lacks =
     elim (cases_Bool (is_ascii_whitespace b)) [
       | inl white ↦ ap (list_any (is_path_start web)) (white_left_out b bs white) ∙ rest
       | inr other ↦ ap (list_any (is_path_start web)) (other_left_in b bs other) ∙ rw parts.0 rest
-    ]
-
--- a byte that is equal to one that isn't white space isn't either
-not_white : (b c : ℕ) → is_ascii_whitespace c ≡ false → (b == c) ≡ true → is_ascii_whitespace b ≡ false
-not_white b c other same = ap is_ascii_whitespace (eqb-true b c same) ∙ other
-
--- no path starts at white space
-start_counts : (web : Bool) (b : ℕ) → is_path_start web b ≡ true → is_ascii_whitespace b ≡ false
-start_counts web b starts =
-    elim (or_cases (b == 47) (web && (b == 63 || b == 35)) starts) [
-      | inl slash ↦ not_white b 47 refl slash
-      | inr mark ↦ elim (or_cases (b == 63) (b == 35) (and_parts web (b == 63 || b == 35) mark).1) [ inl query ↦ not_white b 63 refl query | inr fragment ↦ not_white b 35 refl fragment ]
     ]
 
 -- ---- a path among the first bytes
@@ -108,11 +97,7 @@ none_left web left bs none = ap (λ n. is_in_time web (Front n) bs) none
 
 -- and where one is left, a path may start there
 pub starts_in_time : (web : Bool) (left : ℕ) (path y : List ℕ) → 0 < left → StartsPath web path → (length path == 0) ≡ false → is_in_time web (Front left) (path ++ y) ≡ true
-starts_in_time web left [] y some starts there = absurd (false≢true (sym there))
-starts_in_time web zero (b ∷ path) y some starts there = absurd (omega (arith, some))
-starts_in_time web (suc left) (b ∷ path) y some (inl e) there = let wrong : b ∷ path ≡ [] = e in cc
-starts_in_time web (suc left) (b ∷ path) y some (inr starts) there =
-    ap (starts_within web (suc left)) (other_left_in b (path ++ y) (start_counts web b starts)) ∙ starts_now web left b (without_white_space (path ++ y)) starts
+starts_in_time web left path y some starts there = grind arith
 
 -- where no path starts in the window, what stands behind it is left
 pub window_behind : (web : Bool) (left : ℕ) (path y : List ℕ) → (length path == 0) ≡ true → is_in_time web (Front left) y ≡ is_in_time web (Front left) (path ++ y)
@@ -121,9 +106,7 @@ window_behind web left (b ∷ path) y there = let none = eqb-true (length (b ∷
 
 -- a front that is longer than a text is left out of it and of what follows
 pub drop_joined : (n : ℕ) (x y : List ℕ) → length x ≤ n → drop n (x ++ y) ≡ drop (n - length x) y
-drop_joined n x y short =
-    let whole : n ≡ length x + (n - length x) = omega arith in
-    ap (λ m. drop m (x ++ y)) whole ∙ drop-append-add x y (n - length x)
+drop_joined n x y short = grind (arith, nat_tests, drop-append-add)
 
 -- ---- the parts that the test tells apart
 
@@ -167,8 +150,7 @@ parts_of_text web text =
 
 -- a front is short enough where it and the whole are no longer than the limit
 limit_by_lengths : (front back whole : List ℕ) → length front ≤ 1024 → length whole ≤ 1024 → IsWithinLimit front back whole
-limit_by_lengths front [] whole short all = all
-limit_by_lengths front (b ∷ back) whole short all = short
+limit_by_lengths front back whole short all = grind arith
 
 -- and where a path starts in time
 limit_by_start : (web : Bool) (front back whole : List ℕ) → Lacks (is_path_start web) front → starts_within web 1025 (front ++ back) ≡ true → IsWithinLimit front back whole
@@ -217,10 +199,7 @@ fits_from_test scheme rest known short =
 
 -- and only there
 test_from_fits : (scheme rest : List ℕ) → Fits scheme rest → is_rest_short (is_web_scheme scheme) rest ≡ true
-test_from_fits scheme rest fits =
-    let web = is_web_scheme scheme in
-    let counted = ap without_slashes fits.joined ∙ slashes_left_out fits.slashes (fits.front ++ fits.back) fits.skipped fits.reached in
-    ap (λ t. nat_le (length rest) 1024 || starts_within web 1025 t) counted ∙ start_by_limit web fits.front fits.back rest fits.before_path fits.path fits.short
+test_from_fits scheme rest fits = grind (arith, nat_tests, slashes_left_out, start_by_limit)
 
 -- so the test decides
 pub fits_tested : (scheme rest : List ℕ) → length scheme ≤ 1024 → (is_rest_short (is_web_scheme scheme) rest ≡ true) ↔ Fits scheme rest
@@ -234,21 +213,8 @@ long_tested web rest long = ap (λ b. b || is_in_time web Slashes rest) (lt-leb 
 
 -- where a text is short enough, its scheme and its rest are
 pub fits_from_text : (scheme rest t : List ℕ) → FreeOf colon scheme → t ≡ scheme ++ (codes "://" ++ rest) → FitsText t → Fits scheme rest
-fits_from_text scheme rest t free joined text =
-    let cuts : (scheme ≡ text.scheme) × (47 ∷ 47 ∷ rest ≡ 47 ∷ 47 ∷ text.rest) = cut_unique colon scheme text.scheme (47 ∷ 47 ∷ rest) (47 ∷ 47 ∷ text.rest) free text.no_colon (sym joined ∙ text.joined) in
-    let same : rest ≡ text.rest = tails (tails cuts.1) in
-    subst (λ s. Fits s rest) (sym cuts.0) (subst (λ r. Fits text.scheme r) (sym same) text.fits)
+fits_from_text scheme rest t free joined text = grind (arith, nat_tests, cut_unique)
 
 -- a text with a scheme is short enough where the scheme and what stands behind its mark are
 pub fits_text : (scheme rest t : List ℕ) → FreeOf colon scheme → t ≡ scheme ++ (codes "://" ++ rest) → Fits scheme (drop (length scheme + 3) t) ↔ FitsText t
-fits_text scheme rest t free joined =
-    let behind : drop (length scheme + 3) t ≡ rest = ap (drop (length scheme + 3)) joined ∙ drop-append-add scheme (codes "://" ++ rest) 3 in (
-      λ fits. record {
-        scheme = scheme;
-        rest = rest;
-        no_colon = free;
-        joined = joined;
-        fits = subst (λ r. Fits scheme r) behind fits;
-      },
-      λ text. subst (λ r. Fits scheme r) (sym behind) (fits_from_text scheme rest t free joined text),
-    )
+fits_text scheme rest t free joined = grind (arith, nat_tests, fits_from_text, drop-append-add)

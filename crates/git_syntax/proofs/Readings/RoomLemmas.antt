@@ -1,9 +1,10 @@
 -- How much room what is found takes: no part of a location is longer than the piece of the text that it was read of.
-use Rattle.std.proofs.Common.{◌≡◌, ℕ, suc, ◌+◌, ◌<◌, ◌≤◌, true, ◌==◌, List, [], ◌∷◌, ◌++◌, length, take, Option, Some, None, refl, ap, ◌∙◌, arith, length-append}
+use Rattle.std.proofs.Common.{◌≡◌, ℕ, suc, ◌+◌, ◌<◌, ◌≤◌, true, ◌==◌, List, [], ◌∷◌, ◌++◌, length, take, Option, refl, ap, ◌∙◌, arith, length-append}
+use Rattle.std.proofs.lemmas.Bool.Decides.{nat_tests}
 use Rattle.std.specs.Prelude.{codes}
 use Rattle.std.specs.List.{list_all}
 use Rattle.std.specs.Char.{to_ascii_lowercase}
-use Rattle.std.proofs.lemmas.Bool.{cond_both, false≢true}
+use Rattle.std.proofs.lemmas.Bool.{cond_both}
 use Rattle.std.proofs.lemmas.List.{length-map, take_more_set}
 use Rattle.std.proofs.Math.ListN.{set}
 use Rattle.percent_encoding.specs.Percent.{percent_decode}
@@ -53,13 +54,7 @@ normal_host_kept t h = cond_both (list_all is_dns_byte t) (lowercase t) t (λ n.
 
 -- a piece shows as many bytes as it stands for
 pub normal_case_length : (piece : HostPiece) (t : List ℕ) → length (normal_case piece t) ≡ length t
-normal_case_length (Simple text) t = refl
-normal_case_length (Address text) t = lowercase_length t
-normal_case_length (Kept text) t = normal_host_length t
-normal_case_length (Decoded text) t = normal_host_length t
-normal_case_length (Literal text) t = lowercase_address_length t
-normal_case_length (DecodedLiteral text) t = lowercase_address_length t
-normal_case_length (Bracketed text) t = refl
+normal_case_length piece t = grind (arith, nat_tests, lowercase_length, lowercase_address_length, normal_host_length)
 
 -- the length of a text between brackets, and of what stands behind them
 brackets_length : (inner rest : List ℕ) → length (left_bracket ∷ (inner ++ right_bracket ∷ rest)) ≡ length inner + 2 + length rest
@@ -67,18 +62,11 @@ brackets_length inner rest = omega (arith, length-append inner (right_bracket �
 
 -- a host in brackets is what its piece shows, in them
 pub bracketed_host : (piece : HostPiece) → is_bracketed piece ≡ true → meant_host piece ≡ in_brackets (normal_case piece (unescaped_host piece))
-bracketed_host (Simple text) h = absurd (false≢true h)
-bracketed_host (Address text) h = absurd (false≢true h)
-bracketed_host (Kept text) h = absurd (false≢true h)
-bracketed_host (Decoded text) h = absurd (false≢true h)
-bracketed_host (Literal text) h = refl
-bracketed_host (DecodedLiteral text) h = refl
-bracketed_host (Bracketed text) h = refl
+bracketed_host piece h = grind arith
 
 -- so it is two bytes longer than that
 pub bracketed_host_length : (piece : HostPiece) → is_bracketed piece ≡ true → length (meant_host piece) ≡ length (unescaped_host piece) + 2
-bracketed_host_length piece h =
-    omega (arith, ap length (bracketed_host piece h), normal_case_length piece (unescaped_host piece), length-append (normal_case piece (unescaped_host piece)) (right_bracket ∷ []))
+bracketed_host_length piece h = grind (arith, nat_tests, normal_case_length, bracketed_host, length-append)
 
 -- a bracket, a text behind it and the bracket that closes, in the front of a room
 pub brackets_put : (front behind shown : List ℕ) (size : ℕ) → length front ≡ 1 → size < length behind → take size behind ≡ shown → take (size + 2) (set front 0 left_bracket ++ set behind size right_bracket) ≡ in_brackets shown
@@ -102,10 +90,7 @@ meant_host_length (Bracketed text) = omega (arith, (length-percent_decode text.n
 
 -- and a host three
 pub named_text_length : (host : NamedHost) → length (named_text host) ≤ length (slice_text host.piece) + 3
-named_text_length host =
-    cond_both host.keeps_colon (meant_host host.piece ++ colon ∷ []) (meant_host host.piece) (λ t. length t ≤ length (slice_text host.piece) + 3)
-    (λ _. omega (arith, meant_host_length host.piece, length-append (meant_host host.piece) (colon ∷ [])))
-    (λ _. omega (arith, meant_host_length host.piece))
+named_text_length host = grind (arith, nat_tests, meant_host_length, cond_both, length-append)
 
 -- the normal form of a literal is as long as it
 literal_length : (t n : List ℕ) → addresses.Literal t n → length n ≡ length t
@@ -149,13 +134,11 @@ names_length {mode} {piece} {host} (Names.colons named s r b m t is p) = omega (
 
 -- a text is as long where it is none for being empty
 unless_empty_length : (t : List ℕ) → optional_length (unless_empty t) ≡ length t
-unless_empty_length [] = refl
-unless_empty_length (b ∷ bs) = refl
+unless_empty_length t = grind arith
 
 -- and beside a password
 user_beside_length : (password : Option (List ℕ)) (user : List ℕ) → optional_length (user_beside password user) ≡ length user
-user_beside_length None user = unless_empty_length user
-user_beside_length (Some password) user = refl
+user_beside_length password user = grind arith
 
 -- a user and a password are no longer than the user information that holds them
 credentials_length : {text : List ℕ} {user password : Option (List ℕ)} → Credentials text user password → optional_length user + optional_length password ≤ length text
@@ -180,14 +163,8 @@ parts_within {b} {parts} h =
 
 -- the host is no longer than the front
 pub scp_user_length : {front host : List ℕ} {user : Option (List ℕ)} → ScpUser front user host → length host ≤ length front
-scp_user_length {front} {host} (ScpUser.host_alone e u) = omega (arith, ap length e)
-scp_user_length {front} {host} (ScpUser.with_user u e is) = omega (arith, ap length e, length-append u (at_sign ∷ host))
-
--- nor is it longer than the text
-pub scp_host_within : {b front host : List ℕ} {user : Option (List ℕ)} (path : List ℕ) → b ≡ front ++ colon ∷ path → ScpUser front user host → length host ≤ length b
-scp_host_within {b} {front} path e h = omega (arith, ap length e, length-append front (colon ∷ path), scp_user_length h)
+scp_user_length h = grind (arith, nat_tests, length-append)
 
 -- an address between brackets is no longer than the text
 pub address_within : {b user address path : List ℕ} → AddressedCut b user address path → length address ≤ length b
-address_within {b} {user} {address} {path} h =
-    omega (arith, ap length h.joined, length-append user (at_sign ∷ (left_bracket ∷ (address ++ right_bracket ∷ (colon ∷ path)))), brackets_length address (colon ∷ path))
+address_within h = grind (arith, nat_tests, brackets_length, length-append)

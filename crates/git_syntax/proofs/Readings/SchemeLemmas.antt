@@ -1,6 +1,7 @@
 -- Schemes and their protocols: what the protocol of a scheme can be, and what a URL means by it.
-use Rattle.std.proofs.Common.{◌≡◌, ℕ, Bool, true, false, ◌⊎◌, inl, inr, List, refl, sym, ap, subst, ◌∙◌, codes, bytes_eq, if◌then◌else◌}
-use Rattle.std.proofs.lemmas.Bool.{false≢true, or_cases}
+use Rattle.std.proofs.Common.{◌≡◌, ℕ, Bool, true, false, ◌⊎◌, List, sym, subst, codes, bytes_eq, if◌then◌else◌, arith}
+use Rattle.std.proofs.lemmas.Bool.Decides.{nat_tests}
+use Rattle.std.proofs.lemmas.Bool.{or_cases}
 use Rattle.std.proofs.lemmas.Slice.Eq.{bytes_eq-Decides}
 use Rattle.git_syntax.specs.Value.{Protocol, Location, path_alone}
 use Rattle.git_syntax.specs.Value.Protocol.{file, git, ssh, http, https, ext, helper, helper_url}
@@ -10,14 +11,11 @@ use Rattle.git_syntax.specs.Grammar.{helper_protocol, UrlParts, MeansByProtocol,
 
 -- what holds of both choices holds of the chosen one
 chosen : (P : Protocol → Type 0) (b : Bool) (p q : Protocol) → (b ≡ true → P p) → (b ≡ false → P q) → P (if b then p else q)
-chosen P true p q first second = first refl
-chosen P false p q first second = second refl
+chosen P b p q first second = grind arith
 
 -- what holds of each protocol that the scheme of a URL can have holds of that of a scheme
 pub protocol_cases : (P : Protocol → Type 0) (s : List ℕ) → (is_ssh_scheme s ≡ true → P ssh) → (bytes_eq s (codes "file") ≡ true → P file) → P git → (bytes_eq s (codes "http") ≡ true → P http) → (bytes_eq s (codes "https") ≡ true → P https) → P ext → P (helper_url s) → P (protocol_of s)
-protocol_cases P s of_ssh of_file of_git of_http of_https of_ext other =
-    chosen P (is_ssh_scheme s) _ _ of_ssh (λ e. chosen P (bytes_eq s (codes "file")) _ _ of_file (λ e. chosen P (bytes_eq s (codes "git")) _ _ (λ e. of_git)
-    (λ e. chosen P (bytes_eq s (codes "http")) _ _ of_http (λ e. chosen P (bytes_eq s (codes "https")) _ _ of_https (λ e. chosen P (bytes_eq s (codes "ext")) _ _ (λ e. of_ext) (λ e. other))))))
+protocol_cases P s of_ssh of_file of_git of_http of_https of_ext other = grind arith
 
 -- the same of those of a remote helper
 pub helper_cases : (P : Protocol → Type 0) (name : List ℕ) → (bytes_eq name (codes "ext") ≡ true → P ext) → (bytes_eq name (codes "ext") ≡ false → P (helper name)) → P (helper_protocol name)
@@ -35,40 +33,16 @@ same_transport s name e h = subst IsTransport (sym ((bytes_eq-Decides s name).0 
 
 -- Secure Shell is one by each of its names
 ssh_transport : (s : List ℕ) → is_ssh_scheme s ≡ true → IsTransport s
-ssh_transport s h = elim (or_cases (bytes_eq s (codes "ssh")) _ h) [
-  | inl e ↦ same_transport s (codes "ssh") e (record { no_colon = refl; not_file = refl; not_web = refl })
-  | inr more ↦
-      elim (or_cases (bytes_eq s (codes "ssh+git")) _ more) [
-        | inl e ↦ same_transport s (codes "ssh+git") e (record { no_colon = refl; not_file = refl; not_web = refl })
-        | inr e ↦ same_transport s (codes "git+ssh") e (record { no_colon = refl; not_file = refl; not_web = refl })
-      ]
-]
+ssh_transport s h = grind (arith, nat_tests, same_transport, bytes_eq, or_cases)
 
 -- a scheme whose URLs need a path is one
 pub transport : (s : List ℕ) → requires_path (protocol_of s) ≡ true → IsTransport s
-transport s =
-    chosen (λ p. requires_path p ≡ true → IsTransport s) (is_ssh_scheme s) _ _ (λ e need. ssh_transport s e)
-    (λ other. chosen (λ p. requires_path p ≡ true → IsTransport s) (bytes_eq s (codes "file")) _ _ (λ e need. absurd (false≢true need))
-    (λ other. chosen (λ p. requires_path p ≡ true → IsTransport s) (bytes_eq s (codes "git")) _ _ (λ e need. same_transport s (codes "git") e (record { no_colon = refl; not_file = refl; not_web = refl }))
-    (λ other. chosen (λ p. requires_path p ≡ true → IsTransport s) (bytes_eq s (codes "http")) _ _ (λ e need. absurd (false≢true need))
-    (λ other. chosen (λ p. requires_path p ≡ true → IsTransport s) (bytes_eq s (codes "https")) _ _ (λ e need. absurd (false≢true need))
-    (λ other. chosen (λ p. requires_path p ≡ true → IsTransport s) (bytes_eq s (codes "ext")) _ _ (λ e need. absurd (false≢true need)) (λ other need. absurd (false≢true need)))))))
+transport s h = grind (arith, nat_tests, chosen, same_transport, ssh_transport, bytes_eq)
 
 -- a URL keeps its text as the path where its protocol is `ext`, and else its parts decide
 pub means_cases : (protocol : Protocol) (b : List ℕ) (parts : UrlParts) (v : Location) → MeansAs protocol b parts v → ((protocol ≡ ext) × (v ≡ path_alone ext true b)) ⊎ ((¬ (protocol ≡ ext)) × MeansByProtocol protocol parts v)
-means_cases ext b parts v h = inl (refl, h)
-means_cases file b parts v h = inr (λ e. cc, h)
-means_cases git b parts v h = inr (λ e. cc, h)
-means_cases ssh b parts v h = inr (λ e. cc, h)
-means_cases http b parts v h = inr (λ e. cc, h)
-means_cases https b parts v h = inr (λ e. cc, h)
-means_cases (helper name) b parts v h = inr (λ e. cc, h)
-means_cases (helper_url name) b parts v h = inr (λ e. cc, h)
+means_cases protocol b parts v h = grind arith
 
 -- a location has the protocol of its URL's scheme
 pub means_scheme : (protocol : Protocol) (b : List ℕ) (parts : UrlParts) (v : Location) → MeansAs protocol b parts v → v.scheme ≡ protocol
-means_scheme protocol b parts v h =
-    elim (means_cases protocol b parts v h) [
-      | inl m ↦ ap (λ l. l.scheme) m.1 ∙ sym m.0
-      | inr m ↦ ap (λ l. l.scheme) m.1.value
-    ]
+means_scheme protocol b parts v h = grind arith

@@ -1,12 +1,13 @@
 -- Texts in the scp form: one user and one host in a front, one user and one address in the shape `user@[address]:path`, and which fronts such a text has.
-use Rattle.std.proofs.Common.{◌≡◌, ℕ, ◌==◌, ◌⊎◌, inl, inr, false, List, [], ◌∷◌, ◌++◌, Option, Some, None, sym, ap, subst, ◌∙◌, refl, append_assoc}
-use Rattle.std.proofs.lemmas.Bool.{both_ways, false≢true, eq-eqb}
+use Rattle.std.proofs.Common.{◌≡◌, ℕ, ◌==◌, ◌⊎◌, inl, inr, false, List, [], ◌∷◌, ◌++◌, Option, Some, None, sym, ap, subst, ◌∙◌, refl, append_assoc, arith}
+use Rattle.std.proofs.lemmas.Bool.Decides.{nat_tests}
+use Rattle.std.proofs.lemmas.Bool.{false≢true}
 use Rattle.git_syntax.specs.Bytes.{colon, at_sign, left_bracket, right_bracket, FreeOf, begins_with}
 use Rattle.git_syntax.specs.Escapes.{escaped_percents}
 use Rattle.git_syntax.specs.Hosts.{IsAddressPiece, IsPlainHost, Names}
 use Rattle.git_syntax.specs.Hosts.Mode.{bare}
 use Rattle.git_syntax.specs.Grammar.{ScpFront, AddressedShape, ScpUser, ScpHost}
-use Rattle.git_syntax.proofs.Texts.CutLemmas.{heads, tails, cut_unique, last_cut_unique, free-append, free_parts, free_head_tail, free_or_cut, not_free}
+use Rattle.git_syntax.proofs.Texts.CutLemmas.{tails, cut_unique, last_cut_unique, free-append, free_parts, free_head_tail, free_or_cut, not_free}
 use Rattle.git_syntax.proofs.Addresses.AddressLemmas.{address_free}
 use Rattle.git_syntax.proofs.Texts.EscapeLemmas.{lacks_escaped_percents}
 use Rattle.git_syntax.proofs.Readings.FormLemmas.{address_cut, addressed_joined, addressed_front_free, address_front_free, address_back_free}
@@ -16,14 +17,7 @@ use Rattle.git_syntax.proofs.Readings.ShapeLemmas.{bracketed_joined}
 
 -- a front holds one user and one host free of `@`
 pub scp_user_unique : (front : List ℕ) (user other : Option (List ℕ)) (host second : List ℕ) → FreeOf at_sign host → FreeOf at_sign second → ScpUser front user host → ScpUser front other second → (user ≡ other) × (host ≡ second)
-scp_user_unique front user other host second f g (ScpUser.host_alone e n) (ScpUser.host_alone k m) = (n ∙ sym m, sym e ∙ k)
-scp_user_unique front user other host second f g (ScpUser.host_alone e n) (ScpUser.with_user u k m) =
-    absurd (not_free at_sign u second (subst (λ s. FreeOf at_sign s) (sym e ∙ k) f))
-scp_user_unique front user other host second f g (ScpUser.with_user u e n) (ScpUser.host_alone k m) =
-    absurd (not_free at_sign u host (subst (λ s. FreeOf at_sign s) (sym k ∙ e) g))
-scp_user_unique front user other host second f g (ScpUser.with_user u e n) (ScpUser.with_user y k m) =
-    let pieces = last_cut_unique at_sign u y host second f g (sym e ∙ k) in
-    (n ∙ ap (λ z. Some z) pieces.0 ∙ sym m, pieces.1)
+scp_user_unique front user other host second f g h k = grind (arith, nat_tests, last_cut_unique, not_free)
 
 -- ---- the shape `user@[address]:path`
 
@@ -42,8 +36,7 @@ addressed_unique b user other address second path last h k =
 
 -- a text that begins with a bracket isn't one that doesn't, with something behind it
 pub begins_apart : (x y z : List ℕ) (c : ℕ) → begins_with left_bracket y ≡ false → left_bracket ∷ x ≡ y ++ c ∷ z → (c == left_bracket) ≡ false → ⊥
-begins_apart x [] z c f e other = both_ways (c == left_bracket) other (eq-eqb c left_bracket (sym (heads e)))
-begins_apart x (d ∷ y) z c f e other = both_ways (d == left_bracket) f (eq-eqb d left_bracket (sym (heads e)))
+begins_apart x y z c f e other = grind arith
 
 -- a text that begins with a bracket doesn't pass as one that doesn't
 bracket_first : (x : List ℕ) → begins_with left_bracket (left_bracket ∷ x) ≡ false → ⊥

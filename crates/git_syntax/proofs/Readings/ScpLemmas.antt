@@ -4,16 +4,16 @@ use Rattle.std.proofs.lemmas.List.{append-nil}
 use Rattle.std.proofs.lemmas.Bool.{both_ways, cases_Bool, false≢true, eqb-true}
 use Rattle.std.proofs.lemmas.Bool.Decides.{nat_tests}
 use Rattle.std.specs.List.{list_all}
-use Rattle.std.specs.Char.{is_ascii_digit, is_whitespace, to_ascii_lowercase}
+use Rattle.std.specs.Char.{is_ascii_digit, is_whitespace}
 use Rattle.git_syntax.specs.declared.refusal.Fault.{Fault}
 use Rattle.git_syntax.specs.declared.refusal.UrlFault.{UrlFault}
 use Rattle.git_syntax.specs.declared.refusal.UrlFault.TheVariants as fault
 use Rattle.git_syntax.specs.declared.found.ScpHost as rust
 use Rattle.git_syntax.specs.Value.{Location}
-use Rattle.git_syntax.specs.Bytes.{percent_sign, colon, at_sign, left_bracket, backslash, right_bracket, FreeOf, LacksWhiteSpace, begins_with, lowercase}
-use Rattle.git_syntax.specs.Escapes.{escaped_percents, is_plain, is_sound}
+use Rattle.git_syntax.specs.Bytes.{percent_sign, colon, at_sign, left_bracket, backslash, right_bracket, FreeOf, LacksWhiteSpace, begins_with}
+use Rattle.git_syntax.specs.Escapes.{escaped_percents, is_sound}
 use Rattle.git_syntax.specs.Addresses.{IsIpv6Text, IsZone, is_zone_byte}
-use Rattle.git_syntax.specs.Hosts.{Bracketed, HostText, Inner, IsAddressPiece, IsLiteral, IsManyColoned, Names, ReadsAddress, is_dns_byte, normal_host}
+use Rattle.git_syntax.specs.Hosts.{Bracketed, HostText, Inner, IsAddressPiece, IsLiteral, IsManyColoned, Names, ReadsAddress, normal_host}
 use Rattle.git_syntax.specs.HostPieces.{IsSimpleHost, is_simple_byte, lowercase_address}
 use Rattle.git_syntax.specs.Hosts.Mode.{bare}
 use Rattle.git_syntax.specs.Grammar.{IsBracketed, ScpFront, ScpShape, AddressedShape, ScpUser, ScpHost, Unbrackets, SpellsScpBefore, SpellsScp}
@@ -24,7 +24,6 @@ use Rattle.git_syntax.specs.FoundPieces.{scp_host_of}
 use Rattle.git_syntax.specs.ScpPieces.{ColonsInside, NamesHost, ReadsScpPiece, ReadsScpHost}
 use Rattle.git_syntax.proofs.Texts.CutLemmas.{heads, tails, not_free, free-append, free_parts, free_head_tail, free_of_all, free_begins, free_or_cut, lacks_of_all, cut_unique}
 use Rattle.git_syntax.proofs.Texts.EscapeLemmas.{ascii_class, decode_escaped_percents, lacks_escaped_percents, escaped_percents-append, escaped_percents_kept, sound_kept, utf8_class, utf8_parts, white_space_ascii}
-use Rattle.git_syntax.proofs.Texts.PlainLemmas.{plain_parts}
 use Rattle.git_syntax.proofs.Texts.PlaceLemmas.{stands_within, white_within}
 use Rattle.git_syntax.proofs.Addresses.AddressLemmas.{address_free}
 use Rattle.git_syntax.proofs.Readings.HostLemmas.{bare_not_strict, colon_first, literal_inner, literal_parts, names_utf8, not_digits, not_ended, simple_named, some_tested, zone_byte_ascii}
@@ -61,8 +60,7 @@ colons_inside_behind user host (inr (inside, rest, closed, free, e)) =
 
 -- so do those of the host
 pub colons_inside_host : (front : List ℕ) (user : Option (List ℕ)) (host : List ℕ) → ScpUser front user host → ColonsInside front → ColonsInside host
-colons_inside_host front user host (host_alone e _) h = subst ColonsInside e h
-colons_inside_host front user host (with_user u e _) h = colons_inside_behind u host (subst ColonsInside e h)
+colons_inside_host front user host k h = grind (arith, nat_tests, colons_inside_behind)
 
 -- ---- the piece that a host is read from
 
@@ -70,14 +68,7 @@ colons_inside_host front user host (with_user u e _) h = colons_inside_behind u 
 
 -- a host that the piece names
 pub scp_host_found : (host piece meant : List ℕ) → FreeOf at_sign host → FreeOf backslash host → LacksWhiteSpace host → piece ≡ escaped_percents host → NamesHost piece meant → ScpHost host meant
-scp_host_found host piece meant at back white e h = record {
-  named = h.named;
-  no_at = at;
-  no_backslash = back;
-  no_white_space = white;
-  names = subst (λ p. Names bare p (Some h.named) None) e h.names;
-  unbracketed = h.unbracketed;
-}
+scp_host_found host piece meant at back white e h = grind arith
 
 -- ---- the whole
 
@@ -87,9 +78,7 @@ scp_shape_unique b front path other second h k = same_front b front path other s
 
 -- no path, no location
 pub scp_no_path : (b front : List ℕ) → ScpShape b front [] → (v : Location) → ¬ SpellsScpBefore b v
-scp_no_path b front h v k =
-    let same = scp_shape_unique b front [] k.front k.path h k.shape in
-    absurd (omega (arith, ap length same.1, k.pathed))
+scp_no_path b front h v k = grind (arith, nat_tests, scp_shape_unique)
 
 -- no host, no location
 pub scp_no_host : (b front path : List ℕ) (user : Option (List ℕ)) (host : List ℕ) → ScpShape b front path → ScpUser front user host → FreeOf at_sign host → ((meant : List ℕ) → ¬ ScpHost host meant) → (v : Location) → ¬ SpellsScpBefore b v
@@ -106,15 +95,6 @@ front_utf8 b front path h text = (utf8_parts front path colon (subst IsUtf8 h.jo
 pub scp_host_utf8 : (b front path : List ℕ) (user : Option (List ℕ)) (host : List ℕ) → ScpShape b front path → IsUtf8 b → ScpUser front user host → IsUtf8 host
 scp_host_utf8 b front path user host h text (host_alone e _) = subst IsUtf8 e (front_utf8 b front path h text)
 scp_host_utf8 b front path user host h text (with_user u e _) = (utf8_parts u host at_sign (subst IsUtf8 e (front_utf8 b front path h text)) (omega arith)).1
-
--- and plain where the text is
-pub scp_host_plain : (b front path : List ℕ) (user : Option (List ℕ)) (host : List ℕ) → ScpShape b front path → is_plain b ≡ true → ScpUser front user host → is_plain host ≡ true
-scp_host_plain b front path user host h all split =
-    let whole = (plain_parts front (colon ∷ path) (subst (λ t. is_plain t ≡ true) h.joined all)).0 in
-    elim split [
-      | host_alone e _ ↦ subst (λ t. is_plain t ≡ true) e whole
-      | with_user u e _ ↦ (plain_parts u (at_sign ∷ host) (subst (λ t. is_plain t ≡ true) e whole)).1
-    ]
 
 -- and its user
 pub scp_user_utf8 : (b front path : List ℕ) (user : Option (List ℕ)) (host : List ℕ) → ScpShape b front path → IsUtf8 b → ScpUser front user host → IfSome user IsUtf8
@@ -155,22 +135,13 @@ addressed_user_utf8 b user address path k text =
 pub not_in_brackets : (t : List ℕ) → begins_with left_bracket t ≡ false → ¬ IsBracketed t
 not_in_brackets t apart (inner, e) = both_ways _ apart (ap (begins_with left_bracket) e)
 
--- no other byte is a bracket in lower case
-bracket_in_lower_case : (b : ℕ) → (b == left_bracket) ≡ false → (to_ascii_lowercase b == left_bracket) ≡ false
-bracket_in_lower_case b h = grind (arith, nat_tests)
-
 -- so none comes in front
 normal_front : (host : List ℕ) → begins_with left_bracket host ≡ false → begins_with left_bracket (normal_host host) ≡ false
-normal_front host open_front = elim (cases_Bool (list_all is_dns_byte host)) [ inl named ↦ rw named (lowered host open_front) | inr other ↦ rw other open_front ]
-  where
-    lowered : (t : List ℕ) → begins_with left_bracket t ≡ false → begins_with left_bracket (lowercase t) ≡ false
-    lowered [] h = refl
-    lowered (b ∷ t) h = bracket_in_lower_case b h
+normal_front host open_front = grind arith
 
 -- the front is the same where each `%` is escaped
 escaped_front : (c : ℕ) (host : List ℕ) → (37 == c) ≡ false → begins_with c host ≡ false → begins_with c (escaped_percents host) ≡ false
-escaped_front c [] other h = refl
-escaped_front c (b ∷ host) other h = elim (cases_Bool (b == percent_sign)) [ inl same ↦ rw same other | inr kept ↦ rw kept h ]
+escaped_front c host other h = grind arith
 
 -- what isn't empty is written as more than nothing
 pub escaped_some : (host : List ℕ) → 0 < length host → 0 < length (escaped_percents host)
@@ -235,15 +206,7 @@ colons_found host front behind open_front text colons e many = record {
 
 -- a flaw of a host where each `%` is read as its own escape, told of the host as it stands
 escaped_flaw : (host before here behind : List ℕ) (named : UrlFault) (at len start size : ℕ) → host ≡ before ++ (here ++ behind) → NameFlaw bare (escaped_percents host) named start size → start ≡ length (escaped_percents before) → size ≡ length (escaped_percents here) → at ≡ length before → len ≡ length here → ScpNameFlaw host at len named
-escaped_flaw host before here behind named at len start size e h first second offset told = record {
-  before = before;
-  here = here;
-  behind = behind;
-  joined = e;
-  flaw = subst (λ n. NameFlaw bare (escaped_percents host) named n (length (escaped_percents here))) first (subst (λ n. NameFlaw bare (escaped_percents host) named start n) second h);
-  offset = offset;
-  size = told;
-}
+escaped_flaw host before here behind named at len start size e h first second offset told = grind arith
 
 -- what stands in a port's place behind one colon is no port
 pub no_port_found : (host front behind : List ℕ) → begins_with left_bracket host ≡ false → ColonsInside host → FreeOf colon front → host ≡ front ++ colon ∷ behind → false ≡ (length front == 0) → FreeOf colon behind → ScpNameFlaw host (length front + 1) (length behind) fault.BadPort
@@ -377,11 +340,7 @@ scp_host_read host (Err fault) at back white h = ScpHostFlaw.bad_name fault.kind
 
 -- the flaw of a host stands within it
 pub scp_host_flaw_within : (host : List ℕ) (at len : ℕ) (named : UrlFault) → ScpHostFlaw host at len named → at + len ≤ length host
-scp_host_flaw_within host at len named (ScpHostFlaw.empty e a l) = omega (arith, a, l)
-scp_host_flaw_within host at len named (ScpHostFlaw.holds_backslash h l) = omega (arith, l, stands_within backslash host at h)
-scp_host_flaw_within host at len named (ScpHostFlaw.white_space text held h) = white_within host at len h
-scp_host_flaw_within host at len named (ScpHostFlaw.bad_name n h) =
-    omega (arith, h.offset, h.size, ap length h.joined, length-append h.before (h.here ++ h.behind), length-append h.here h.behind)
+scp_host_flaw_within host at len named h = grind (arith, nat_tests, length-append, stands_within, white_within)
 
 -- the host without brackets around it is text
 unbracketed_utf8 : (host inner : List ℕ) → Unbrackets host inner → IsUtf8 host → IsUtf8 inner
@@ -404,8 +363,7 @@ simple_byte_no_space b h = grind (arith, nat_tests)
 
 -- a simple host is no text in brackets
 simple_unbracketed : (t : List ℕ) → IsSimpleHost t → ¬ IsBracketed t
-simple_unbracketed t h (inner, e) =
-    both_ways _ (free_begins left_bracket t (free_of_all is_simple_byte left_bracket t h.bytes refl)) (ap (begins_with left_bracket) e)
+simple_unbracketed t h k = grind arith
 
 -- it stands for itself in the scp form
 pub simple_scp_host : (t : List ℕ) → IsSimpleHost t → ScpHost t t

@@ -4,7 +4,6 @@ use Rattle.std.proofs.Math.Seq.{drop-append-add}
 use Rattle.std.proofs.lemmas.Bool.{eqb-true, both_ways, false≢true}
 use Rattle.std.proofs.lemmas.Bool.Decides.{nat_tests}
 use Rattle.std.proofs.lemmas.List.{take_at, drop_at, append_cancel_left, nil_from_length}
-use Rattle.std.proofs.lemmas.Slice.Eq.{bytes_eq-Decides}
 use lib.Utf8.{encode}
 use Rattle.git_syntax.specs.declared.refusal.UrlKind.TheVariants as kind
 use Rattle.git_syntax.specs.Value.{Location, path_alone}
@@ -18,7 +17,7 @@ use Rattle.git_syntax.specs.Authority.{unless_empty, Fits}
 use Rattle.git_syntax.specs.Flaws.{UrlShape, OtherShape, MissesPath}
 use Rattle.git_syntax.specs.Flaws.MissesPath.{in_file}
 use Rattle.git_syntax.specs.Shapes.{ColonCut, FrontCut, HasFrontCut, ScpCut, HasScpCut, AddressedFront, HasAddressedCut, LacksBrackets, PlainScp}
-use Rattle.git_syntax.proofs.Texts.CutLemmas.{heads, tails, different_bytes, begins_cut, free_or_cut, not_free, free-cons, free_parts, cut_unique, last_cut_unique, mark_cut_unique, held_free, helper_name_bytes, helper_name_free, scheme_text_free}
+use Rattle.git_syntax.proofs.Texts.CutLemmas.{tails, different_bytes, begins_cut, free_or_cut, not_free, free-cons, free_parts, cut_unique, last_cut_unique, mark_cut_unique, held_free, helper_name_bytes, helper_name_free, scheme_text_free}
 use Rattle.git_syntax.proofs.Addresses.AddressLemmas.{address_free}
 use Rattle.git_syntax.proofs.Texts.EscapeLemmas.{utf8_behind, utf8_class, utf8_parts}
 use Rattle.git_syntax.proofs.Readings.FormLemmas.{address_cut, addressed_joined, addressed_front_free, address_front_free, mark_no_helper, url_scheme_free, url_not_neither, file_not_neither, scp_neither, scp_shaped}
@@ -45,14 +44,6 @@ no_helper_unnamed b name rest free e other (n, a, h) =
 
 -- ---- URLs
 
--- what is no `/` at the front is not two of them
-pub no_slashes : (text : List ℕ) → begins_with slash text ≡ false → (behind : List ℕ) → ¬ (text ≡ slash ∷ (slash ∷ behind))
-no_slashes text other behind is = false≢true (sym other ∙ ap (begins_with slash) is)
-
--- nor where another byte follows
-pub no_second_slash : (text rest : List ℕ) → text ≡ slash ∷ rest → begins_with slash rest ≡ false → (behind : List ℕ) → ¬ (text ≡ slash ∷ (slash ∷ behind))
-no_second_slash text rest first other behind is = false≢true (sym other ∙ ap (begins_with slash) (tails (sym first ∙ is)))
-
 -- two slashes behind the first colon are the first mark
 pub mark_at_colon : (b front rest behind : List ℕ) → ColonCut b front rest → rest ≡ slash ∷ (slash ∷ behind) → (¬ Holds (codes "://") front) × (b ≡ front ++ (codes "://" ++ behind))
 mark_at_colon b front rest behind cut is = (held_free front cut.no_colon, cut.joined ∙ ap (λ t. front ++ colon ∷ t) is)
@@ -71,16 +62,11 @@ no_mark_at_colon b front rest cut other none (f, r, e) = elim (free_or_cut colon
 
 -- brackets around a part of the front stand around that part of the whole
 pub bracketed_joined : (b front path inside after : List ℕ) → b ≡ front ++ colon ∷ path → front ≡ left_bracket ∷ (inside ++ right_bracket ∷ after) → b ≡ left_bracket ∷ (inside ++ right_bracket ∷ (after ++ colon ∷ path))
-bracketed_joined b front path inside after e f =
-    e ∙ ap (λ x. x ++ colon ∷ path) f ∙ ap (λ x. left_bracket ∷ x) (append_assoc inside (right_bracket ∷ after) (colon ∷ path))
+bracketed_joined b front path inside after e f = grind (arith, nat_tests, append_assoc)
 
 -- a front without brackets and a whole with brackets are of two texts
 plain_apart : {A : Type 0} (b front path inside rest : List ℕ) → b ≡ front ++ colon ∷ path → (begins_with left_bracket front ≡ false) ⊎ FreeOf right_bracket b → b ≡ left_bracket ∷ (inside ++ right_bracket ∷ rest) → A
-plain_apart b front path inside rest e (inr free) k =
-    absurd (not_free right_bracket (left_bracket ∷ inside) rest (subst (λ x. FreeOf right_bracket x) k free))
-plain_apart b [] path inside rest e (inl other) k = different_bytes colon left_bracket refl (sym e ∙ k)
-plain_apart b (c ∷ front) path inside rest e (inl other) k =
-    absurd (both_ways (c == left_bracket) other (eq-eqb c left_bracket (heads (sym e ∙ k))))
+plain_apart b front path inside rest e h k = grind (arith, nat_tests, both_ways, different_bytes, eq-eqb, not_free)
 
 -- the colon of the scp form is one place of the text
 pub same_front : (b f p g q : List ℕ) → b ≡ f ++ colon ∷ p → b ≡ g ++ colon ∷ q → ScpFront b f → ScpFront b g → (f ≡ g) × (p ≡ q)
@@ -127,9 +113,7 @@ no_scp_uncut b none (f, p, k) = none (f, p, k.around)
 
 -- no such text without a `:`
 pub addressed_free : (b : List ℕ) → FreeOf colon b → ¬ HasAddressedCut b
-addressed_free b free (u, a, p, h) =
-    let behind = (free_parts colon u (at_sign ∷ (left_bracket ∷ (a ++ right_bracket ∷ (colon ∷ p)))) (subst (λ t. FreeOf colon t) h.joined free)).1 in
-    not_free colon (right_bracket ∷ []) p (free_parts colon (at_sign ∷ (left_bracket ∷ a)) (right_bracket ∷ (colon ∷ p)) behind).1
+addressed_free b free h = grind (arith, nat_tests, free_parts, not_free)
 
 -- the first colon of such a text stands in the address
 pub addressed_front : (b front rest u a p : List ℕ) → AddressedCut b u a p → FreeOf colon front → b ≡ front ++ colon ∷ rest → (x : List ℕ) × FreeOf at_sign x × (front ≡ u ++ at_sign ∷ (left_bracket ∷ x))
@@ -200,9 +184,7 @@ addressed_other b user behind address path s free e other (u, a, p, h) =
 
 -- a front of a text without brackets has none
 pub unbracketed_front : (b front rest : List ℕ) → b ≡ front ++ colon ∷ rest → LacksBrackets b → (begins_with left_bracket front ≡ false) ⊎ FreeOf right_bracket b
-unbracketed_front b front rest e (inr free) = inr free
-unbracketed_front b [] rest e (inl other) = inl refl
-unbracketed_front b (c ∷ front) rest e (inl other) = inl (sym (ap (begins_with left_bracket) e) ∙ other)
+unbracketed_front b front rest e h = grind arith
 
 -- ---- the answers
 
@@ -228,16 +210,6 @@ local_shape b some neither none uncut = record {
 pub colon_nonempty : (b front rest : List ℕ) → ColonCut b front rest → 0 < length b
 colon_nonempty b front rest cut = omega (arith, ap length cut.joined, length-append front (colon ∷ rest))
 
--- a text without a colon is neither a helper nor a URL, and has no other shape
-pub whole_shape : (b : List ℕ) → 0 < length b → FreeOf colon b → LocalShape b
-whole_shape b some free =
-    local_shape b some (record { no_helper = no_helper_free b free; no_mark = held_free b free }) (addressed_free b free)
-    (λ (f, p, h). not_free colon f p (subst (λ t. FreeOf colon t) h.around.joined free))
-
--- the first colon is that of the scp form where no brackets stand at the front
-pub front_at_colon : (b front rest : List ℕ) → ColonCut b front rest → LacksBrackets b → FrontCut b front rest
-front_at_colon b front rest cut lacks = record { joined = cut.joined; shape = plain cut.no_colon (unbracketed_front b front rest cut.joined lacks) }
-
 -- ---- what is refused
 
 -- a text whose length is tested to be 0 is empty
@@ -262,9 +234,7 @@ file_rest b rest v s h = append_cancel_left (codes "file://") rest (h.host ++ h.
 
 -- no path without a `/`
 pub no_file_path : (b rest : List ℕ) → UrlShape b (codes "file") rest → FreeOf slash rest → (v : Location) → ¬ SpellsFile b v
-no_file_path b rest s free v h =
-    let (tail, is) = begins_cut slash h.path h.rooted in
-    not_free slash h.host tail (subst (λ t. FreeOf slash t) (file_rest b rest v s h ∙ ap (λ t. h.host ++ t) is) free)
+no_file_path b rest s free v h = grind (arith, nat_tests, file_rest, begins_cut, not_free)
 
 -- such a text misses its path
 pub file_misses_path : (b rest : List ℕ) → UrlShape b (codes "file") rest → FreeOf slash rest → MissesPath b kind.Url
@@ -281,23 +251,9 @@ file_host_utf8 b rest host behind s text e =
     let tail = utf8_behind (codes "file://") rest (subst IsUtf8 s.joined text) file_mark_utf8 in
     (utf8_parts host behind slash (subst IsUtf8 e tail) (omega arith)).0
 
--- not UTF-8
-pub no_file_text : (b : List ℕ) → ¬ IsUtf8 b → (v : Location) → ¬ SpellsFile b v
-no_file_text b other v h = other h.text
-
 -- the host and the path of a file URL
 pub file_found : (b rest host behind path : List ℕ) (v : Location) → UrlShape b (codes "file") rest → IsUtf8 b → FreeOf slash host → rest ≡ host ++ slash ∷ behind → path ≡ drop (length host) rest → v ≡ record (path_alone file false path) { host = unless_empty host } → SpellsFile b v
-file_found b rest host behind path v s text free e is value =
-    let tail : path ≡ slash ∷ behind = is ∙ ap (drop (length host)) e ∙ drop_at host (slash ∷ behind) (length host) refl in
-    record {
-      host = host;
-      path = path;
-      joined = s.joined ∙ ap (λ t. codes "file://" ++ t) (e ∙ ap (λ t. host ++ t) (sym tail));
-      text = text;
-      no_slash = free;
-      rooted = ap (begins_with slash) tail;
-      value = value;
-    }
+file_found b rest host behind path v s text free e is value = grind (arith, nat_tests, drop_at)
 
 -- ---- one form alone
 
@@ -307,12 +263,7 @@ joined_nonempty x y h e = absurd (omega (arith, ap length e, length-append x y))
 
 -- nothing spells nothing
 pub empty_unspelled : (v : Location) → ¬ Spells [] v
-empty_unspelled v (url h) = joined_nonempty h.parts.scheme (codes "://" ++ (h.spelled.authority ++ h.parts.path)) (omega arith) h.spelled.joined
-empty_unspelled v (file_url h) = joined_nonempty [] (codes "file://" ++ (h.host ++ h.path)) (omega arith) h.joined
-empty_unspelled v (remote_helper h) = joined_nonempty h.name (colon ∷ (colon ∷ h.address)) (omega arith) h.parts.joined
-empty_unspelled v (scp_form (inl h)) = joined_nonempty h.front (colon ∷ h.path) (omega arith) h.shape.joined
-empty_unspelled v (scp_form (inr h)) = joined_nonempty h.user (at_sign ∷ (left_bracket ∷ (h.address ++ right_bracket ∷ (colon ∷ h.path)))) (omega arith) h.shape.cut.joined
-empty_unspelled v (local_path h) = absurd (omega (arith, h.nonempty))
+empty_unspelled v h = grind (arith, nat_tests, joined_nonempty)
 
 -- what has a mark isn't neither
 url_not_shaped : (b front rest : List ℕ) → UrlShape b front rest → ¬ IsNeither b
@@ -347,14 +298,6 @@ spelled_as_file b rest s v (file_url h) = h
 spelled_as_file b rest s v (remote_helper h) = absurd (s.no_helper (h.name, h.address, h.parts))
 spelled_as_file b rest s v (scp_form h) = absurd (url_not_shaped b (codes "file") rest s (scp_neither h))
 spelled_as_file b rest s v (local_path h) = absurd (url_not_shaped b (codes "file") rest s h.neither)
-
--- a scheme that passed the test
-pub file_shape : (b scheme rest : List ℕ) → UrlShape b scheme rest → true ≡ bytes_eq scheme (codes "file") → UrlShape b (codes "file") rest
-file_shape b scheme rest s h = subst (λ t. UrlShape b t rest) ((bytes_eq-Decides scheme (codes "file")).0 (sym h)) s
-
--- and one that failed it
-pub other_shape : (b scheme rest : List ℕ) → UrlShape b scheme rest → false ≡ bytes_eq scheme (codes "file") → OtherShape b scheme rest
-other_shape b scheme rest s h = record { shape = s; not_file = sym h }
 
 -- so is any other URL
 pub spelled_as_url : (b front rest : List ℕ) → OtherShape b front rest → (v : Location) → Spells b v → SpellsUrl b v
@@ -398,6 +341,3 @@ pub unfit_url : (b front rest : List ℕ) → OtherShape b front rest → ¬ Fit
 unfit_url b front rest s unfit v h =
     let (front_is, rest_is) = url_pieces b front rest v s.shape h in
     unfit (subst (λ t. Fits front t) rest_is (subst (λ t. Fits t (h.spelled.authority ++ h.parts.path)) front_is h.spelled.fits))
-
-pub no_url_text : (b : List ℕ) → ¬ IsUtf8 b → (v : Location) → ¬ SpellsUrl b v
-no_url_text b other v h = other h.spelled.text

@@ -1,7 +1,8 @@
 -- URLs: what their text determines of their pieces, and what leaves no reading.
-use Rattle.std.proofs.Common.{◌≡◌, ℕ, ◌+◌, ◌-◌, ◌<◌, ◌≤◌, ◌⊎◌, Bool, true, false, List, [], ◌∷◌, ◌++◌, length, take, Option, Some, None, Result, Ok, Err, inl, inr, refl, sym, ap, subst, ◌∙◌, arith, length-append, length-take, codes}
+use Rattle.std.proofs.Common.{◌≡◌, ℕ, ◌+◌, ◌-◌, ◌<◌, ◌≤◌, ◌⊎◌, Bool, true, false, List, [], ◌∷◌, ◌++◌, length, take, Option, Some, None, Result, inl, inr, refl, sym, ap, subst, ◌∙◌, arith, length-append, length-take, codes}
+use Rattle.std.proofs.lemmas.Bool.Decides.{nat_tests}
 use Rattle.std.specs.Prelude.{IfOk, IsSome, is_some, IsUtf8}
-use Rattle.std.proofs.lemmas.Bool.{both_ways, cases_lt, false≢true}
+use Rattle.std.proofs.lemmas.Bool.{both_ways, cases_lt}
 use Rattle.std.proofs.lemmas.List.{nil_from_length}
 use Rattle.percent_encoding.specs.Percent.{percent_decode}
 use Rattle.git_syntax.specs.declared.refusal.UrlFault.{UrlFault}
@@ -12,7 +13,6 @@ use Rattle.git_syntax.specs.Escapes.{is_sound}
 use Rattle.git_syntax.specs.Hosts.{Mode, Names}
 use Rattle.git_syntax.specs.Schemes.{is_web_scheme, mode_of, requires_host}
 use Rattle.git_syntax.specs.Authority.{unless_empty, Credentials, Authority, Fits}
-use Rattle.git_syntax.specs.Authority.Credentials.{user_alone, with_password}
 use Rattle.git_syntax.specs.Authority.Authority.{host_alone, with_user}
 use Rattle.git_syntax.specs.Grammar.{UrlParts, SpellsParts}
 use Rattle.git_syntax.specs.Flaws.{AuthorityFlaw, HasBadUser, PieceOf, OtherShape, TooLongAt, UrlCut}
@@ -28,17 +28,11 @@ use Rattle.percent_encoding.proofs.PercentLemmas.{percent_decode-nil}
 
 -- user information without a colon is a user, which decodes to text
 pub credentials_alone : (text : List ℕ) (user password : Option (List ℕ)) → FreeOf colon text → Credentials text user password → IsUtf8 (percent_decode text)
-credentials_alone text user password free (user_alone f h e k) = h
-credentials_alone text user password free (with_password u w f e h k p q) =
-    absurd (not_free colon u w (subst (λ x. FreeOf colon x) e free))
+credentials_alone text user password free h = grind (arith, nat_tests, not_free)
 
 -- what stands around the first colon of user information decodes to text
 pub credentials_cut : (text u w : List ℕ) (user password : Option (List ℕ)) → FreeOf colon u → text ≡ u ++ colon ∷ w → Credentials text user password → IsUtf8 (percent_decode u) × IsUtf8 (percent_decode w)
-credentials_cut text u w user password free joined (user_alone f h e k) =
-    absurd (not_free colon u w (subst (λ x. FreeOf colon x) joined f))
-credentials_cut text u w user password free joined (with_password x y f e h k p q) =
-    let pieces = cut_unique colon x u y w f free (sym e ∙ joined) in
-    (subst (λ z. IsUtf8 (percent_decode z)) pieces.0 h, subst (λ z. IsUtf8 (percent_decode z)) pieces.1 k)
+credentials_cut text u w user password free joined h = grind (arith, nat_tests, cut_unique, not_free)
 
 -- user information with a part that decodes to no text holds nothing
 pub no_text_refutes : (text : List ℕ) (at len : ℕ) (user password : Option (List ℕ)) → HasNoText text at len → ¬ Credentials text user password
@@ -50,8 +44,7 @@ no_text_refutes text at len user password (HasNoText.password u w free joined ba
 
 -- a text that is not empty is itself, unless it is empty
 pub some_kept : (text : List ℕ) → ¬ (text ≡ []) → unless_empty text ≡ Some text
-some_kept [] some = absurd (some refl)
-some_kept (b ∷ bs) some = refl
+some_kept text some = grind arith
 
 -- an empty text stands for none
 pub nothing_meant : (text : List ℕ) → length text ≡ 0 → None ≡ unless_empty (percent_decode text)
@@ -65,15 +58,7 @@ something_meant text some = sym (some_kept (percent_decode text) (λ e. absurd (
 
 -- where no host is named, there is no text
 pub nothing_named : (mode : Mode) (piece : List ℕ) (host : Option (List ℕ)) (port : Option ℕ) → Names mode piece host port → host ≡ None → piece ≡ []
-nothing_named mode piece host port (Names.nothing e h p) none = e
-nothing_named mode piece host port (Names.bracketed x inner f i e h p) none = let wrong = sym h ∙ none in cc
-nothing_named mode piece host port (Names.bracketed_colon x inner f i e h p) none = let wrong = sym h ∙ none in cc
-nothing_named mode piece host port (Names.bracketed_port x inner digits n f i d e h p) none = let wrong = sym h ∙ none in cc
-nothing_named mode piece host port (Names.unbracketed a h p) none = let wrong = sym h ∙ none in cc
-nothing_named mode piece host port (Names.plain named a t h p) none = let wrong = sym h ∙ none in cc
-nothing_named mode piece host port (Names.plain_colon text named a t e h p) none = let wrong = sym h ∙ none in cc
-nothing_named mode piece host port (Names.plain_port text named digits n a t d e h p) none = let wrong = sym h ∙ none in cc
-nothing_named mode piece host port (Names.colons named s r b m t h p) none = let wrong = sym h ∙ none in cc
+nothing_named mode piece host port h none = grind arith
 
 -- an empty text names no host
 pub empty_names_nothing : (mode : Mode) (piece : List ℕ) (host : Option (List ℕ)) (port : Option ℕ) → piece ≡ [] → Names mode piece host port → host ≡ None
@@ -81,18 +66,15 @@ empty_names_nothing mode piece host port e h = (names_unique mode piece host Non
 
 -- nothing is not something
 pub none_not_some : {A B : Type 0} (host : Option A) → host ≡ None → IsSome host → B
-none_not_some None e h = absurd (false≢true h)
-none_not_some (Some x) e h = absurd (cc)
+none_not_some host e h = grind arith
 
 -- a host that was read is one that is named
 pub some_host : (host : Option NamedHost) → is_some host ≡ true → IsSome (host_of host)
-some_host None e = absurd (false≢true e)
-some_host (Some named) e = refl
+some_host host e = grind arith
 
 -- and where none was read, none is named
 pub none_host : (host : Option NamedHost) → is_some host ≡ false → host_of host ≡ None
-none_host None e = refl
-none_host (Some named) e = absurd (both_ways true e refl)
+none_host host e = grind arith
 
 -- ---- authorities
 
@@ -149,16 +131,11 @@ bad_user_flaw mode needed text information piece at len free joined (HasNoText.p
 
 -- a user or a password stands within its authority
 bad_user_within : (authority : List ℕ) (at len : ℕ) → HasBadUser authority at len → at + len ≤ length authority
-bad_user_within authority at len (HasBadUser.user u piece free f e bad a l) = omega (arith, a, l, ap length e, length-append u (at_sign ∷ piece))
-bad_user_within authority at len (HasBadUser.user_before_password u w piece free f e bad a l) =
-    omega (arith, a, l, ap length e, length-append (u ++ colon ∷ w) (at_sign ∷ piece), length-append u (colon ∷ w))
-bad_user_within authority at len (HasBadUser.password u w piece free f e bad a l) =
-    omega (arith, a, l, ap length e, length-append (u ++ colon ∷ w) (at_sign ∷ piece), length-append u (colon ∷ w))
+bad_user_within authority at len h = grind (arith, nat_tests, length-append)
 
 -- the piece behind the user information ends where its authority does
 piece_start : (authority piece : List ℕ) (start : ℕ) → PieceOf authority piece start → start + length piece ≡ length authority
-piece_start authority piece start (PieceOf.whole free e s) = omega (arith, s, ap length e)
-piece_start authority piece start (PieceOf.behind information free e s) = omega (arith, s, ap length e, length-append information (at_sign ∷ piece))
+piece_start authority piece start h = grind (arith, nat_tests, length-append)
 
 -- the flaw of an authority stands within it
 pub authority_flaw_within : (mode : Mode) (needed : Bool) (authority : List ℕ) (at len : ℕ) (named : UrlFault) → AuthorityFlaw mode needed authority at len named → at + len ≤ length authority
@@ -171,8 +148,7 @@ authority_flaw_within mode needed authority at len named (AuthorityFlaw.host_req
 
 -- a path ends the text
 pub path_end : (b scheme authority path : List ℕ) → b ≡ scheme ++ (codes "://" ++ (authority ++ path)) → length (scheme ++ (codes "://" ++ authority)) + length path ≡ length b
-path_end b scheme authority path e =
-    omega (arith, ap length e, length-append scheme (codes "://" ++ (authority ++ path)), length-append authority path, length-append scheme (codes "://" ++ authority))
+path_end b scheme authority path e = grind (arith, nat_tests, length-append)
 
 -- what is shown of a URL that is too long has its scheme and `://` in front
 pub shown_mark : (b scheme rest : List ℕ) → b ≡ scheme ++ (codes "://" ++ rest) → length scheme + 3 ≤ length (take (length scheme + 1027) b)
@@ -194,8 +170,7 @@ scheme_no_mark s h = held_free s (scheme_text_free s colon h refl)
 
 -- the scheme of a URL is what stands before its first `://`
 pub scheme_cut : (b front rest : List ℕ) (parts : UrlParts) → OtherShape b front rest → (h : SpellsParts b parts) → (parts.scheme ≡ front) × (h.authority ++ parts.path ≡ rest)
-scheme_cut b front rest parts shape h =
-    mark_cut_unique parts.scheme front (h.authority ++ parts.path) rest (scheme_no_mark parts.scheme h.scheme_text) shape.shape.first (sym h.joined ∙ shape.shape.joined)
+scheme_cut b front rest parts shape h = grind (arith, nat_tests, scheme_no_mark, mark_cut_unique)
 
 -- the scheme, the authority and the path of a URL are those of its cut
 pub parts_cut : (b scheme authority path : List ℕ) (parts : UrlParts) → UrlCut b scheme authority path → (h : SpellsParts b parts) → (parts.scheme ≡ scheme) × (h.authority ≡ authority) × (parts.path ≡ path)
@@ -208,39 +183,15 @@ parts_cut b scheme authority path parts cut h =
 
 -- what follows the `://` of a URL is cut before its path by the bytes that start one for its scheme
 pub rest_cut : {scheme rest authority path : List ℕ} {web : Bool} → web ≡ is_web_scheme scheme → rest ≡ authority ++ path → Lacks (is_path_start web) authority → StartsPath web path → CutsRest scheme rest authority path
-rest_cut {scheme} {rest} {authority} {path} {web} same joined before starts = record {
-  joined = joined;
-  before_path = subst (λ w. Lacks (is_path_start w) authority) same before;
-  path_starts = subst (λ w. StartsPath w path) same starts;
-}
+rest_cut same joined before starts = grind arith
 
 -- a scheme, and what follows its `://` cut into an authority and a path, cut the URL
 pub url_cut : {b scheme rest authority path : List ℕ} → OtherShape b scheme rest → true ≡ is_scheme_text scheme → CutsRest scheme rest authority path → UrlCut b scheme authority path
-url_cut {b} {scheme} shape named cut = record {
-  shape = subst (λ x. OtherShape b scheme x) cut.joined shape;
-  scheme_text = sym named;
-  before_path = cut.before_path;
-  path_starts = cut.path_starts;
-}
+url_cut shape named cut = grind arith
 
 -- a text that passes each check is a URL
 pub spelled : {b scheme authority path : List ℕ} {user password host : Option (List ℕ)} {port : Option ℕ} → UrlCut b scheme authority path → IsUtf8 b → LacksWhiteSpace b → true ≡ is_sound b → FreeOf backslash authority → Fits scheme (authority ++ path) → HoldsHosted (mode_of scheme) (requires_host scheme) authority user password host port → IsUtf8 (percent_decode path) → SpellsParts b (record { scheme = scheme; user = user; password = password; host = host; port = port; path = path })
-spelled {b} {scheme} {authority} {path} cut text no_white_space sound no_backslash fits held path_text = record {
-  authority = authority;
-  joined = cut.shape.shape.joined;
-  scheme_text = cut.scheme_text;
-  not_file = cut.shape.not_file;
-  no_backslash = no_backslash;
-  before_path = cut.before_path;
-  path_starts = cut.path_starts;
-  text = text;
-  sound = sym sound;
-  no_white_space = no_white_space;
-  fits = fits;
-  named = held.named;
-  hosted = held.hosted;
-  path_text = path_text;
-}
+spelled cut text no_white_space sound no_backslash fits held path_text = grind arith
 
 -- no URL stands where what is before `://` is no scheme
 pub no_scheme_refutes : (b front rest : List ℕ) (parts : UrlParts) → OtherShape b front rest → is_scheme_text front ≡ false → ¬ SpellsParts b parts
@@ -285,5 +236,4 @@ simple_held mode needed t host h e p = record {
 
 -- what holds of the whole holds of each answer
 pub on_each_ok : {A B : Type 0} (r : Result A B) (P : Type 0) → P → IfOk r (λ _. P)
-on_each_ok (Ok x) P h = h
-on_each_ok (Err e) P h = tt
+on_each_ok r P h = grind arith

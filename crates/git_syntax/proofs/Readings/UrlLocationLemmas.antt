@@ -1,20 +1,20 @@
 -- The location of a URL: its parts are text, its host without marks, its path, and that it has no other.
 use Rattle.std.proofs.Common.{◌≡◌, ℕ, ◌<◌, true, inl, inr, List, [], ◌∷◌, ◌++◌, length, Option, Some, None, refl, sym, ap, subst, ◌∙◌, arith, codes, append_assoc, lit<, ◌==◌, eq-eqb}
+use Rattle.std.proofs.lemmas.Bool.Decides.{nat_tests}
 use Rattle.std.specs.Prelude.{IfSome, IsUtf8, MatchOption}
 use Rattle.std.specs.Borrow.{Bor}
-use Rattle.std.proofs.lemmas.Bool.{both_ways, false≢true}
+use Rattle.std.proofs.lemmas.Bool.{both_ways}
 use Rattle.std.proofs.lemmas.List.{nil_from_length, append-nil, same_from_push}
 use Rattle.percent_encoding.specs.Percent.{percent_decode}
 use Rattle.percent_encoding.proofs.PercentLemmas.{percent_decode-nil}
 use Rattle.git_syntax.specs.declared.refusal.UrlKind.TheVariants as kind
 use Rattle.git_syntax.specs.Value.{Protocol, Location}
-use Rattle.git_syntax.specs.Value.Protocol.{file, git, ssh, http, https, ext, helper, helper_url}
+use Rattle.git_syntax.specs.Value.Protocol.{ext}
 use Rattle.git_syntax.specs.Bytes.{colon, slash, left_bracket, right_bracket, Lacks, is_path_start, StartsPath}
 use Rattle.git_syntax.specs.Cuts.{StripsLast}
 use Rattle.git_syntax.specs.Schemes.{is_web_scheme, protocol_of, mode_of, requires_path}
 use Rattle.git_syntax.specs.Hosts.{Mode, Names}
-use Rattle.git_syntax.specs.Authority.{unless_empty, user_beside, Credentials, Authority}
-use Rattle.git_syntax.specs.Authority.Credentials.{user_alone, with_password}
+use Rattle.git_syntax.specs.Authority.{Credentials, Authority}
 use Rattle.git_syntax.specs.Authority.Authority.{host_alone, with_user}
 use Rattle.git_syntax.specs.Grammar.{UrlParts, SpellsParts, SpellsUrl, MeansAs, MeansByProtocol, Peels, or_root}
 use Rattle.git_syntax.specs.Flaws.{MissesPath}
@@ -23,19 +23,16 @@ use Rattle.git_syntax.proofs.Texts.CutLemmas.{tails, mark_cut_unique, path_cut_u
 use Rattle.git_syntax.proofs.Texts.EscapeLemmas.{decode_byte, decode_empty, utf8_parts}
 use Rattle.git_syntax.proofs.Readings.HostLemmas.{names_utf8}
 use Rattle.git_syntax.proofs.Readings.UrlLemmas.{scheme_no_mark}
-use Rattle.git_syntax.proofs.Readings.SchemeLemmas.{means_cases}
 
 -- ---- paths
 
 -- `/` stands for an empty path
 pub root_meant : (path : List ℕ) → length path ≡ 0 → percent_decode (slash ∷ []) ≡ or_root (percent_decode path)
-root_meant path empty =
-    decode_byte slash [] refl ∙ ap (λ rest. slash ∷ rest) percent_decode-nil ∙ sym (ap or_root (ap percent_decode (nil_from_length path empty) ∙ percent_decode-nil))
+root_meant path empty = grind (arith, nat_tests, decode_byte, nil_from_length, percent_decode-nil)
 
 -- a path that is not empty stays
 some_rooted : (path : List ℕ) → ¬ (path ≡ []) → path ≡ or_root path
-some_rooted [] some = absurd (some refl)
-some_rooted (b ∷ bs) some = refl
+some_rooted path some = grind arith
 
 -- any other path stands for itself
 pub path_meant : (path : List ℕ) → 0 < length path → percent_decode path ≡ or_root (percent_decode path)
@@ -71,25 +68,13 @@ peels_utf8 {host} {peeled} (Peels.same a b c e) h = subst IsUtf8 (sym e) h
 
 -- ---- texts
 
--- an optional text is text where its text is
-unless_empty_text : (t : List ℕ) → IsUtf8 t → IfSome (unless_empty t) IsUtf8
-unless_empty_text [] h = tt
-unless_empty_text (b ∷ bs) h = h
-
--- the same beside a password
-user_beside_text : (password : Option (List ℕ)) (t : List ℕ) → IsUtf8 t → IfSome (user_beside password t) IsUtf8
-user_beside_text None t h = unless_empty_text t h
-user_beside_text (Some password) t h = h
-
 -- a password is text
 password_text : (text : List ℕ) (user password : Option (List ℕ)) → Credentials text user password → IfSome password IsUtf8
-password_text text user password (user_alone f h e k) = subst (λ p. IfSome p IsUtf8) (sym e) tt
-password_text text user password (with_password u w f e h k p q) = subst (λ p. IfSome p IsUtf8) (sym p) (unless_empty_text (percent_decode w) k)
+password_text text user password h = grind arith
 
 -- a user is text
 user_text : (text : List ℕ) (user password : Option (List ℕ)) → Credentials text user password → IfSome user IsUtf8
-user_text text user password (user_alone f h e k) = subst (λ p. IfSome p IsUtf8) (sym k) (unless_empty_text (percent_decode text) h)
-user_text text user password (with_password u w f e h k p q) = subst (λ p. IfSome p IsUtf8) (sym q) (user_beside_text password (percent_decode u) h)
+user_text text user password h = grind arith
 
 -- a host is text
 host_text : (mode : Mode) (piece : List ℕ) (host : Option (List ℕ)) (port : Option ℕ) → Names mode piece host port → IfSome host IsUtf8
@@ -127,8 +112,7 @@ pieces_unique {b} {p} {q} h k =
 
 -- a location whose protocol needs a path has one in its URL
 means_pathed : (p : Protocol) (b : List ℕ) (parts : UrlParts) (v : Location) → requires_path p ≡ true → MeansAs p b parts v → 0 < length parts.path
-means_pathed p b parts v need h =
-    elim (means_cases p b parts v h) [ inl m ↦ absurd (false≢true (sym (ap requires_path m.0) ∙ need)) | inr m ↦ m.1.pathed need ]
+means_pathed p b parts v need h = grind arith
 
 -- a URL without a path stands for no location where its protocol needs one
 pub no_path_refutes : {b : List ℕ} {parts : UrlParts} → SpellsParts b parts → requires_path (protocol_of parts.scheme) ≡ true → parts.path ≡ [] → (v : Location) → ¬ SpellsUrl b v
@@ -143,21 +127,6 @@ pub path_missed : {b : List ℕ} {parts : UrlParts} → SpellsParts b parts → 
 path_missed {b} {parts} h need empty =
     MissesPath.in_url parts.scheme h.authority need (free_of_lacked (is_path_start (is_web_scheme parts.scheme)) slash h.authority h.before_path refl) (h.joined ∙ ap (λ p. parts.scheme ++ (codes "://" ++ (h.authority ++ p))) empty ∙ ap (λ a. parts.scheme ++ (codes "://" ++ a)) (append-nil h.authority))
 
--- where the protocol is not that of `ext`, the parts decide
-means_as : (p : Protocol) (b : List ℕ) (parts : UrlParts) (v : Location) → ¬ (p ≡ ext) → MeansByProtocol p parts v → MeansAs p b parts v
-means_as ssh b parts v other h = h
-means_as git b parts v other h = h
-means_as http b parts v other h = h
-means_as https b parts v other h = h
-means_as file b parts v other h = h
-means_as ext b parts v other h = absurd (other refl)
-means_as (helper name) b parts v other h = h
-means_as (helper_url name) b parts v other h = h
-
 -- a URL that was read stands for what its parts mean, by the protocol of its scheme
 pub spelled_url : {b : List ℕ} {parts : UrlParts} {p : Protocol} {v : Location} → SpellsParts b parts → p ≡ protocol_of parts.scheme → ¬ (p ≡ ext) → MeansByProtocol p parts v → SpellsUrl b v
-spelled_url {b} {parts} {p} {v} h e other means = record {
-  parts = parts;
-  spelled = h;
-  means = subst (λ q. MeansAs q b parts v) e (means_as p b parts v other means);
-}
+spelled_url h e other means = grind arith

@@ -1,9 +1,8 @@
 -- Refusals: bytes in which a flaw stands spell no location.
-use Rattle.std.proofs.Common.{◌≡◌, ℕ, ◌==◌, Bool, true, false, ◌⊎◌, inl, inr, List, [], ◌∷◌, ◌++◌, length, Option, Some, None, refl, sym, ap, subst, ◌∙◌, arith, length-append, IsUtf8, codes, bytes_eq}
-use Rattle.std.proofs.lemmas.Bool.{both_ways, false≢true, cases_Bool, or_cases, eqb-true}
+use Rattle.std.proofs.Common.{◌≡◌, ℕ, ◌==◌, Bool, true, false, ◌⊎◌, inl, inr, List, [], ◌∷◌, ◌++◌, length, Option, Some, None, refl, sym, ap, subst, ◌∙◌, arith, length-append, IsUtf8, codes}
+use Rattle.std.proofs.lemmas.Bool.{both_ways}
 use Rattle.std.specs.List.{list_any}
 use Rattle.std.proofs.lemmas.List.{append_cancel_left}
-use Rattle.std.proofs.lemmas.Slice.Eq.{bytes_eq-Decides}
 use Rattle.git_syntax.specs.declared.refusal.UrlKind.{UrlKind}
 use Rattle.git_syntax.specs.declared.refusal.UrlKind.TheVariants as kind
 use Rattle.git_syntax.specs.declared.refusal.UrlFault.{UrlFault}
@@ -15,15 +14,15 @@ use Rattle.git_syntax.specs.Escapes.{escaped_percents}
 use Rattle.git_syntax.specs.Hosts.{Mode, Names}
 use Rattle.git_syntax.specs.Hosts.Mode.{bare}
 use Rattle.git_syntax.specs.Schemes.{is_web_scheme, protocol_of, mode_of, requires_host, requires_path}
-use Rattle.git_syntax.specs.Grammar.{IsNeither, ScpShape, AddressedShape, IsScpShaped, ScpHost, SpellsUrl, Spells}
-use Rattle.git_syntax.specs.Flaws.{IsTooLong, MissesPath, HasShape, UrlShape, OtherShape, UrlCut, NameFlaw, PieceOf, HasBadUser, AuthorityFlaw, UrlFlaw, ScpHostFlaw, ScpFlaw, KindFlaw, NamesFlaw}
+use Rattle.git_syntax.specs.Grammar.{ScpShape, AddressedShape, ScpHost, SpellsUrl, Spells}
+use Rattle.git_syntax.specs.Flaws.{IsTooLong, MissesPath, HasShape, OtherShape, UrlCut, NameFlaw, PieceOf, HasBadUser, AuthorityFlaw, UrlFlaw, ScpHostFlaw, ScpFlaw, KindFlaw, NamesFlaw}
 use Rattle.git_syntax.specs.UrlPieces.{HasNoText, IsNoAuthority}
 use Rattle.git_syntax.specs.Refusals.{HasFlaw, Flawless}
 use Rattle.git_syntax.proofs.Texts.CutLemmas.{not_free}
 use Rattle.git_syntax.proofs.Texts.PlaceLemmas.{stands_not_free}
 use Rattle.git_syntax.proofs.Readings.HostLemmas.{flawed_unnamed}
 use Rattle.git_syntax.proofs.Readings.FormLemmas.{address_cut, addressed_joined}
-use Rattle.git_syntax.proofs.Readings.ShapeLemmas.{empty_unspelled, url_shaped, no_file_path, no_file_text, no_url_text, unfit_url, spelled_as_file, spelled_as_url, spelled_as_scp, spelled_as_addressed, url_pieces}
+use Rattle.git_syntax.proofs.Readings.ShapeLemmas.{empty_unspelled, url_shaped, no_file_path, unfit_url, spelled_as_file, spelled_as_url, spelled_as_scp, spelled_as_addressed, url_pieces}
 use Rattle.git_syntax.proofs.Readings.UrlLemmas.{empty_names_nothing, none_not_some, no_name_alone, no_name_behind, no_text_before, no_host_behind, no_host_alone, no_scheme_refutes, bad_path_refutes, parts_cut, no_authority_refutes}
 use Rattle.git_syntax.proofs.Readings.SchemeLemmas.{transport}
 use Rattle.git_syntax.proofs.Readings.UrlLocationLemmas.{no_path_refutes}
@@ -102,9 +101,7 @@ scp_flaw_refutes b named at len v h k =
 
 -- a path that starts with nothing but a `/` is none, or a `/` and what follows
 slash_or_none : (path : List ℕ) → StartsPath false path → (path ≡ []) ⊎ ((rest : List ℕ) × (path ≡ slash ∷ rest))
-slash_or_none path (inl e) = inl e
-slash_or_none [] (inr e) = inl refl
-slash_or_none (b ∷ rest) (inr e) = elim (or_cases (b == slash) false e) [ inl same ↦ inr (rest, ap (λ c. c ∷ rest) (eqb-true b slash same)) | inr wrong ↦ absurd (false≢true wrong) ]
+slash_or_none path h = grind arith
 
 -- no path behind the scheme and the host of a transport of Git's own
 url_misses_path : (b scheme authority : List ℕ) (v : Location) → requires_path (protocol_of scheme) ≡ true → FreeOf slash authority → b ≡ scheme ++ (codes "://" ++ authority) → ¬ Spells b v
@@ -149,20 +146,9 @@ no_path_spelled b k v (MissesPath.behind_address user address shape) s =
 
 -- ---- all errors
 
--- a shape of the scp form is no other form
-shaped_neither : (b : List ℕ) → IsScpShaped b → IsNeither b
-shaped_neither b (inl (front, path, shape)) = shape.neither
-shaped_neither b (inr (user, address, path, shape)) = shape.neither
-
 -- bytes that are no text are no URL, and not of the scp form
 no_text_spelled : (b : List ℕ) (k : UrlKind) (v : Location) → ¬ IsUtf8 b → HasShape b k → ¬ Spells b v
-no_text_spelled b kind.Url v bad (front, rest, shape) s =
-    elim (cases_Bool (bytes_eq front (codes "file"))) [
-      | inl same ↦ no_file_text b bad v (spelled_as_file b rest (subst (λ t. UrlShape b t rest) ((bytes_eq-Decides front (codes "file")).0 same) shape) v s)
-      | inr other ↦ no_url_text b bad v (spelled_as_url b front rest (record { shape = shape; not_file = other }) v s)
-    ]
-no_text_spelled b kind.Scp v bad shape s = elim (spelled_as_scp b (shaped_neither b shape) shape v s) [ inl h ↦ bad h.text | inr h ↦ bad h.text ]
-no_text_spelled b kind.Local v bad shape s = shape
+no_text_spelled b k v bad shape s = grind arith
 
 -- a flawed text of any kind spells nothing
 kind_flaw_refutes : (b : List ℕ) (k : UrlKind) (named : UrlFault) (at len : ℕ) (v : Location) → KindFlaw b k named at len → ¬ Spells b v

@@ -1,5 +1,5 @@
 -- Texts of printable ASCII, and escapes that stand for ASCII.
-use Rattle.std.proofs.Common.{◌≡◌, ◌∙◌, ◌<◌, ◌&&◌, ◌++◌, ◌∷◌, ◌*◌, ◌+◌, ℕ, zero, suc, true, false, List, [], IsAscii, refl, sym, ap, subst, inl, inr, arith}
+use Rattle.std.proofs.Common.{◌≡◌, ◌∙◌, ◌<◌, ◌&&◌, ◌++◌, ◌∷◌, ◌*◌, ◌+◌, ℕ, suc, true, false, List, [], IsAscii, refl, sym, ap, subst, inl, inr, arith}
 use Rattle.std.specs.Prelude.{nat_le}
 use Rattle.std.specs.Char.{is_digit, digit_value, is_whitespace}
 use Rattle.std.specs.Str.{IsUtf8}
@@ -48,8 +48,7 @@ sound_at_cut (b ∷ front) behind free =
 
 -- a byte of ASCII in front
 pub ascii_cons : (b : ℕ) (t : List ℕ) → b < 128 → IsAscii t → IsAscii (b ∷ t)
-ascii_cons b t low h zero = low
-ascii_cons b t low h (suc i) = h i
+ascii_cons b t low h = grind arith
 
 -- an escape whose first digit is below 8 stands for ASCII
 low_escape : (high low : ℕ) → is_digit high 16 ≡ true → is_digit low 16 ≡ true → nat_le 56 high ≡ false → 16 * digit_value high + digit_value low < 128

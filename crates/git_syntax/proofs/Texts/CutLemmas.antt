@@ -1,16 +1,15 @@
 -- Texts cut around a byte or a mark: what the pieces lack, that the text determines them, and what classes of bytes lack.
-use Rattle.std.proofs.Common.{◌≡◌, ℕ, zero, suc, ◌+◌, ◌<◌, ◌≤◌, Bool, true, false, Option, ◌==◌, ◌||◌, ◌⊎◌, inl, inr, List, [], ◌∷◌, ◌++◌, length, take, drop, get_or, refl, sym, ap, subst, ◌∙◌, arith, append_assoc, add-one, eqb, Some, None, bytes_eq}
+use Rattle.std.proofs.Common.{◌≡◌, ℕ, zero, suc, ◌+◌, ◌<◌, ◌≤◌, Bool, true, false, ◌==◌, ◌⊎◌, inl, inr, List, [], ◌∷◌, ◌++◌, length, take, drop, get_or, refl, sym, ap, subst, ◌∙◌, arith, append_assoc, add-one, eqb, Some, None, bytes_eq}
+use Rattle.std.proofs.lemmas.Bool.Decides.{nat_tests}
 use Rattle.std.specs.List.{list_any, list_all, position_or_len}
-use Rattle.std.specs.Char.{is_ascii_digit, is_ascii_uppercase, is_ascii_lowercase, is_ascii_alphabetic, is_ascii_alphanumeric}
 use Rattle.std.proofs.lemmas.List.Sums.{fails_before_first, passes_at_first}
-use Rattle.std.proofs.lemmas.Bool.{both_ways, false≢true, cases_Bool, cases_lt, and_from, or_left, eqb-true, eq-eqb, and_parts, or_parts, or_from, false_from_ne_true}
+use Rattle.std.proofs.lemmas.Bool.{both_ways, cases_Bool, cases_lt, and_from, eqb-true, eq-eqb, and_parts, or_parts, or_from, false_from_ne_true}
 use Rattle.std.proofs.lemmas.Grind.{same_number_lists}
 use Rattle.std.proofs.lemmas.List.{at_drop_more, drop_all, take-append-drop, drop-drop, get_or-take, get_or-drop, get_or-append-add, get_or_append_left, length-take-le, length-take, length-drop, length-append, take_at, append_cancel_left}
 use Rattle.bstr.specs.Find.{OccursAt}
-use Rattle.memchr.specs.Find.{IsFirstByte, IsLastByte, FindsNeedle, is_byte, is_byte3}
-use Rattle.git_syntax.specs.Bytes.{colon, Lacks, FreeOf, Holds, begins_by, begins_with, is_name_byte, is_scheme_mark, is_scheme_text, is_helper_name, is_path_start, StartsPath}
+use Rattle.memchr.specs.Find.{IsFirstByte, IsLastByte, FindsNeedle, is_byte}
+use Rattle.git_syntax.specs.Bytes.{colon, Lacks, FreeOf, Holds, begins_by, begins_with, is_name_byte, is_scheme_text, is_helper_name, is_path_start, StartsPath}
 use Rattle.git_syntax.specs.Cuts.{url_mark}
-use Rattle.std.proofs.Math.Bool.{or-false, or_assoc}
 use Rattle.std.proofs.lemmas.Slice.Eq.{bytes_eq-Decides}
 
 -- ---- heads and tails
@@ -108,8 +107,7 @@ free_head_tail c = lacks_head_tail (λ b. b == c)
 
 -- bytes of a class are free of a byte outside of it
 pub free_of_all : (test : ℕ → Bool) (c : ℕ) (bs : List ℕ) → list_all test bs ≡ true → test c ≡ false → FreeOf c bs
-free_of_all test c bs h k =
-    lacks_of_all test (λ b. b == c) (λ b is. false_from_ne_true (b == c) (λ e. both_ways (test c) k (ap test (sym (eqb-true b c e)) ∙ is))) bs h
+free_of_all test c bs h k = grind (arith, nat_tests, lacks_of_all, both_ways, eqb-true, false_from_ne_true)
 
 -- a text that lacks a class of bytes is free of each of them
 pub free_of_lacked : (test : ℕ → Bool) (c : ℕ) (bs : List ℕ) → Lacks test bs → test c ≡ true → FreeOf c bs
@@ -147,23 +145,19 @@ ends_or_not c (b ∷ t) =
 
 -- a text that begins with a byte is the byte and what follows
 pub begins_cut : (c : ℕ) (bs : List ℕ) → begins_with c bs ≡ true → (rest : List ℕ) × (bs ≡ c ∷ rest)
-begins_cut c [] h = absurd (false≢true h)
-begins_cut c (b ∷ bs) h = (bs, ap (λ d. d ∷ bs) (eqb-true b c h))
+begins_cut c bs h = grind arith
 
 -- a text that is free of a byte doesn't begin with it
 pub free_begins : (c : ℕ) (bs : List ℕ) → FreeOf c bs → begins_with c bs ≡ false
-free_begins c [] h = refl
-free_begins c (b ∷ bs) h = (free_head_tail c b bs h).0
+free_begins c bs h = grind arith
 
 -- how a text begins, so does the whole with another text behind it
 pub begins-append : (c : ℕ) (x y : List ℕ) → 0 < length x → begins_with c (x ++ y) ≡ begins_with c x
-begins-append c [] y some = absurd (omega arith)
-begins-append c (b ∷ x) y some = refl
+begins-append c x y some = grind arith
 
 -- a text with a byte in it is not free of the byte
 pub not_free : (c : ℕ) (x y : List ℕ) → FreeOf c (x ++ c ∷ y) → ⊥
-not_free c x y h =
-    both_ways (c == c) (free_head_tail c c y (free_parts c x (c ∷ y) h).1).0 (eq-eqb c c refl)
+not_free c x y h = grind (arith, nat_tests, free_parts, free_head_tail, both_ways, eq-eqb)
 
 -- ---- cuts at a byte
 
@@ -176,8 +170,7 @@ joined_around c (b ∷ bs) (suc n) l h =
 
 -- the pieces around the first place of a byte
 pub first_found : (c : ℕ) (bs : List ℕ) (n : ℕ) → IsFirstByte (is_byte c) bs (Some n) → FreeOf c (take n bs) × (bs ≡ take n bs ++ c ∷ drop (n + 1) bs)
-first_found c bs n h =
-    (lacks_before (is_byte c) bs n (λ k l. h.0.before k (omega arith) l), joined_around c bs n h.0.high h.1)
+first_found c bs n h = grind (arith, nat_tests, lacks_before, joined_around)
 
 -- a byte that has no first place stands nowhere
 pub none_found : (c : ℕ) (bs : List ℕ) → IsFirstByte (is_byte c) bs None → FreeOf c bs
@@ -206,10 +199,7 @@ occurs_cut hay needle k h =
 
 -- a mark within joined pieces stands at the place where the first piece ends
 pub cut_occurs : (front needle rest : List ℕ) → OccursAt (front ++ (needle ++ rest)) needle (length front)
-cut_occurs front needle rest = record {
-  fits = omega (arith, length-append front (needle ++ rest), length-append needle rest);
-  reads = λ j l. get_or-append-add front (needle ++ rest) j 0 ∙ get_or_append_left needle rest 0 j l;
-}
+cut_occurs front needle rest = grind (arith, nat_tests, get_or-append-add, get_or_append_left, length-append)
 
 -- a mark that stands at no place before k isn't in the text up to k
 pub none_held_before : (hay needle : List ℕ) (k : ℕ) → 0 < length needle → ((j : ℕ) → j < k → ¬ OccursAt hay needle j) → ¬ Holds needle (take k hay)
@@ -233,32 +223,9 @@ no_mark_found bs h = none_held bs url_mark (λ j l. h j (omega arith) l)
 
 -- ---- cuts before a path
 
--- a first place by one test is the first by another that answers alike
-first_alike : (test other : ℕ → Bool) (bs : List ℕ) (found : Option ℕ) → ((b : ℕ) → test b ≡ other b) → IsFirstByte test bs found → IsFirstByte other bs found
-first_alike test other bs None alike h = λ k low high passes. h k low high (alike (get_or bs k 0) ∙ passes)
-first_alike test other bs (Some n) alike h =
-    (record { low = h.0.low; high = h.0.high; before = λ k low high passes. h.0.before k low high (alike (get_or bs k 0) ∙ passes) }, sym (alike (get_or bs n 0)) ∙ h.1)
-
-starts_on_the_web : (web : Bool) → web ≡ true → (b : ℕ) → is_byte3 47 63 35 b ≡ is_path_start web b
-starts_on_the_web true is b = or_assoc (b == 47) (b == 63) (b == 35)
-starts_on_the_web false is b = absurd (false≢true is)
-
-starts_elsewhere : (web : Bool) → web ≡ false → (b : ℕ) → is_byte 47 b ≡ is_path_start web b
-starts_elsewhere true is b = absurd (false≢true (sym is))
-starts_elsewhere false is b = sym (or-false (b == 47))
-
--- the first `/`, `?` or `#` is where a path may first start on the web
-pub web_start : (web : Bool) (bs : List ℕ) (found : Option ℕ) → web ≡ true → IsFirstByte (is_byte3 47 63 35) bs found → IsFirstByte (is_path_start web) bs found
-web_start web bs found is h = first_alike (is_byte3 47 63 35) (is_path_start web) bs found (starts_on_the_web web is) h
-
--- and elsewhere it is the first `/`
-pub other_start : (web : Bool) (bs : List ℕ) (found : Option ℕ) → web ≡ false → IsFirstByte (is_byte 47) bs found → IsFirstByte (is_path_start web) bs found
-other_start web bs found is h = first_alike (is_byte 47) (is_path_start web) bs found (starts_elsewhere web is) h
-
 -- nothing before the first byte that passes does
 lacks_before_first : (test : ℕ → Bool) (xs : List ℕ) → Lacks test (take (position_or_len test xs) xs)
-lacks_before_first test xs =
-    lacks_before test xs (position_or_len test xs) (λ k l e. both_ways (test (get_or xs k 0)) (fails_before_first test xs k 0 l) e)
+lacks_before_first test xs = grind (arith, nat_tests, lacks_before, both_ways, fails_before_first, get_or)
 
 -- a rest that isn't empty begins with its first byte
 begins_at : (test : ℕ → Bool) (xs : List ℕ) (n : ℕ) → n < length xs → begins_by test (drop n xs) ≡ test (get_or xs n 0)
@@ -266,8 +233,7 @@ begins_at test xs n l = at_drop_more (begins_by test) xs n 0 l
 
 -- the first byte that passes begins the rest, if any passes
 begins_at_first : (test : ℕ → Bool) (xs : List ℕ) → (drop (position_or_len test xs) xs ≡ []) ⊎ (begins_by test (drop (position_or_len test xs) xs) ≡ true)
-begins_at_first test xs =
-    elim (cases_lt (position_or_len test xs) (length xs)) [ inl l ↦ inr (begins_at test xs (position_or_len test xs) l ∙ passes_at_first test xs 0 l) | inr l ↦ inl (drop_all (position_or_len test xs) xs l) ]
+begins_at_first test xs = grind (arith, nat_tests, begins_at, cases_lt, drop_all, passes_at_first)
 
 -- the front up to that place, and the rest
 pub cut_at_first : (test : ℕ → Bool) (xs : List ℕ) → (xs ≡ take (position_or_len test xs) xs ++ drop (position_or_len test xs) xs) × Lacks test (take (position_or_len test xs) xs) × ((drop (position_or_len test xs) xs ≡ []) ⊎ (begins_by test (drop (position_or_len test xs) xs) ≡ true))
@@ -275,20 +241,17 @@ cut_at_first test xs = (sym (take-append-drop (position_or_len test xs) xs), lac
 
 -- the same by a first place that was found
 pub cut_at_place : (test : ℕ → Bool) (xs : List ℕ) (n : ℕ) → IsFirstByte test xs (Some n) → (xs ≡ take n xs ++ drop n xs) × Lacks test (take n xs) × ((drop n xs ≡ []) ⊎ (begins_by test (drop n xs) ≡ true))
-cut_at_place test xs n h =
-    (sym (take-append-drop n xs), lacks_before test xs n (λ k l. h.0.before k (omega arith) l), inr (begins_at test xs n h.0.high ∙ h.1))
+cut_at_place test xs n h = grind (arith, nat_tests, lacks_before, begins_at, take-append-drop)
 
 -- where none was found, the whole is the front
 pub cut_at_end : (test : ℕ → Bool) (xs : List ℕ) (n : ℕ) → n ≡ length xs → IsFirstByte test xs None → (xs ≡ take n xs ++ drop n xs) × Lacks test (take n xs) × ((drop n xs ≡ []) ⊎ (begins_by test (drop n xs) ≡ true))
-cut_at_end test xs n all h =
-    (sym (take-append-drop n xs), lacks_before test xs n (λ k l. h k (omega arith) (omega arith)), inl (drop_all n xs (omega arith)))
+cut_at_end test xs n all h = grind (arith, nat_tests, lacks_before, drop_all, take-append-drop)
 
 -- ---- the text determines the pieces
 
 -- a text that is empty or begins with a byte of a class doesn't begin with a byte outside of it
 begins_apart : (test : ℕ → Bool) (d : ℕ) (bs p : List ℕ) → test d ≡ false → (p ≡ []) ⊎ (begins_by test p ≡ true) → p ≡ d ∷ bs → ⊥
-begins_apart test d bs p h (inl e) k = let wrong : [] ≡ d ∷ bs = sym e ∙ k in cc
-begins_apart test d bs p h (inr e) k = both_ways (test d) h (ap (begins_by test) (sym k) ∙ e)
+begins_apart test d bs p h f k = grind arith
 
 -- a front that lacks a class of bytes and a rest that is empty or begins with one of them
 pub class_cut_unique : (test : ℕ → Bool) (a b p q : List ℕ) → Lacks test a → Lacks test b → (p ≡ []) ⊎ (begins_by test p ≡ true) → (q ≡ []) ⊎ (begins_by test q ≡ true) → a ++ p ≡ b ++ q → (a ≡ b) × (p ≡ q)
@@ -357,26 +320,15 @@ mark_cut_unique a b x y f g e = held_cut_unique url_mark no_overlap a b x y f g 
 
 -- the bytes of a helper's name are bytes of a name
 pub helper_name_bytes : (s : List ℕ) → is_helper_name s ≡ true → list_all is_name_byte s ≡ true
-helper_name_bytes [] h = refl
-helper_name_bytes (b ∷ s) h =
-    let parts = and_parts (is_ascii_alphanumeric b) (list_all is_name_byte s) h in
-    and_from (is_name_byte b) (list_all is_name_byte s) (or_left (is_ascii_alphanumeric b) (is_scheme_mark b) parts.0) parts.1
+helper_name_bytes s h = grind arith
 
 -- so it is free of each other byte: of `:`, `/`, `@`, `[` by `refl`
 pub helper_name_free : (s : List ℕ) (c : ℕ) → is_helper_name s ≡ true → is_name_byte c ≡ false → FreeOf c s
 helper_name_free s c h k = free_of_all is_name_byte c s (helper_name_bytes s h) k
 
--- a letter is a letter or a digit
-wider : (digit upper lower : Bool) → (upper || lower) ≡ true → ((digit || upper) || lower) ≡ true
-wider true upper lower h = refl
-wider false upper lower h = h
-
 -- a scheme is the name of a helper
 pub scheme_helper_name : (s : List ℕ) → is_scheme_text s ≡ true → is_helper_name s ≡ true
-scheme_helper_name [] h = h
-scheme_helper_name (b ∷ s) h =
-    let parts = and_parts (is_ascii_alphabetic b) (list_all is_name_byte s) h in
-    and_from (is_ascii_alphanumeric b) (list_all is_name_byte s) (wider (is_ascii_digit b) (is_ascii_uppercase b) (is_ascii_lowercase b) parts.0) parts.1
+scheme_helper_name s h = grind arith
 
 -- a scheme is free of each byte that is no byte of a name
 pub scheme_text_free : (s : List ℕ) (c : ℕ) → is_scheme_text s ≡ true → is_name_byte c ≡ false → FreeOf c s

@@ -1,5 +1,6 @@
 -- Decoding one byte or one character at a time.
-use Rattle.std.proofs.Common.{◌≡◌, ◌∙◌, ◌+◌, ◌-◌, ◌*◌, ◌<◌, ◌≤◌, ◌↔◌, ◌&&◌, ◌∷◌, ◌++◌, ℕ, true, false, List, [], length, take, drop, get_or, IsUtf8, refl, sym, ap, subst, arith}
+use Rattle.std.proofs.Common.{◌≡◌, ◌∙◌, ◌+◌, ◌-◌, ◌*◌, ◌<◌, ◌≤◌, ◌↔◌, ◌∷◌, ◌++◌, ℕ, true, false, List, [], length, take, drop, get_or, IsUtf8, refl, sym, ap, subst, arith}
+use Rattle.std.proofs.lemmas.Bool.Decides.{nat_tests}
 use Rattle.std.specs.Char.{digit_value}
 use Rattle.std.proofs.lemmas.List.{append-nil, drop-drop, length-take, take_all, take_rest}
 use Rattle.std.proofs.lemmas.Str.{IsUtf8-append, IsUtf8-from_ascii, IsUtf8-past_char, encode_ascii}
@@ -15,21 +16,15 @@ use Rattle.std.proofs.lemmas.Str.Ascii.{IsAscii-nil}
 
 -- a `%` with less than two bytes behind it stays
 pub percent_short : (behind : List ℕ) → length behind < 2 → percent_decode (percent_sign ∷ behind) ≡ percent_sign ∷ percent_decode behind
-percent_short [] short = decode_broken percent_sign [] refl
-percent_short (b ∷ []) short = decode_broken percent_sign (b ∷ []) refl
-percent_short (b ∷ c ∷ rest) short = absurd (omega (arith, short))
+percent_short behind short = grind (arith, nat_tests, decode_broken)
 
 -- so does one with no digit behind it
 pub percent_before_none : (behind : List ℕ) → 2 ≤ length behind → is_hexadecimal (get_or behind 0 0) ≡ false → percent_decode (percent_sign ∷ behind) ≡ percent_sign ∷ percent_decode behind
-percent_before_none [] long none = absurd (omega (arith, long))
-percent_before_none (b ∷ []) long none = absurd (omega (arith, long))
-percent_before_none (b ∷ c ∷ rest) long none = decode_broken percent_sign (b ∷ c ∷ rest) (ap (λ first. first && is_hexadecimal c) none)
+percent_before_none behind long none = grind (arith, nat_tests, decode_broken)
 
 -- or with one digit
 pub percent_before_one : (behind : List ℕ) → 2 ≤ length behind → is_hexadecimal (get_or behind 0 0) ≡ true → is_hexadecimal (get_or behind 1 0) ≡ false → percent_decode (percent_sign ∷ behind) ≡ percent_sign ∷ percent_decode behind
-percent_before_one [] long one none = absurd (omega (arith, long))
-percent_before_one (b ∷ []) long one none = absurd (omega (arith, long))
-percent_before_one (b ∷ c ∷ rest) long one none = decode_broken percent_sign (b ∷ c ∷ rest) (ap (λ first. first && is_hexadecimal c) one ∙ none)
+percent_before_one behind long one none = grind (arith, nat_tests, decode_broken)
 
 -- one with two digits stands for their byte
 pub percent_before_two : (behind : List ℕ) (high low : ℕ) → 2 ≤ length behind → is_hexadecimal (get_or behind 0 0) ≡ true → high ≡ digit_value (get_or behind 0 0) → is_hexadecimal (get_or behind 1 0) ≡ true → low ≡ digit_value (get_or behind 1 0)
@@ -52,8 +47,7 @@ nothing_decoded text e = ap percent_decode e ∙ percent_decode-nil
 
 -- of which nothing is left
 pub nothing_left : (text : List ℕ) → text ≡ [] → percent_decode text ≡ drop 1 (percent_decode text)
-nothing_left text e =
-    let none = nothing_decoded text e in none ∙ sym (ap (λ (t : List ℕ). drop 1 t) none)
+nothing_left text e = grind (arith, nat_tests, nothing_decoded)
 
 -- and which is UTF-8
 pub nothing_means_utf8 : (text : List ℕ) → text ≡ [] → IsUtf8 (percent_decode text)

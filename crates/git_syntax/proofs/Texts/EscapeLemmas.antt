@@ -1,13 +1,13 @@
 -- Escaped texts: where they are sound, how they decode in parts, and how they are UTF-8 in parts.
-use Rattle.std.proofs.Common.{◌≡◌, ◌∙◌, ◌↔◌, ◌<◌, ◌≤◌, ◌+◌, ℕ, zero, suc, Bool, true, false, not, ◌&&◌, ◌||◌, ◌==◌, List, [], ◌∷◌, ◌++◌, Option, Some, None, length, take, drop, ◌*◌, ◌/◌, ◌%◌, nat_lt, cond, All, IsAscii, get_or, arith, refl, sym, ap, subst, ⊎_elim, inl, inr}
+use Rattle.std.proofs.Common.{◌≡◌, ◌∙◌, ◌↔◌, ◌<◌, ◌≤◌, ◌+◌, ℕ, zero, suc, Bool, true, false, not, ◌&&◌, ◌||◌, ◌==◌, List, [], ◌∷◌, ◌++◌, Option, Some, None, length, take, drop, ◌*◌, nat_lt, All, IsAscii, get_or, arith, refl, sym, ap, subst, ⊎_elim, inl, inr}
 use Rattle.std.specs.Char.{is_digit, digit_value, is_whitespace, encode_utf8}
 use Rattle.std.specs.Option.{is_some}
-use Rattle.std.specs.Str.{IsUtf8, encode_utf8_all, chars}
-use Rattle.std.proofs.lemmas.Bool.{cond-false, cond_both, cases_Bool, and_parts, and_from, or_parts, or_from, false_from_ne_true, or_cases, or_left, or_right, not-true, both_ways, eqb-true, eqb-false, ltb-true, true≢false, false≢true}
+use Rattle.std.specs.Str.{IsUtf8, encode_utf8_all}
+use Rattle.std.proofs.lemmas.Bool.{cases_Bool, and_parts, and_from, or_parts, or_from, false_from_ne_true, or_cases, or_left, or_right, not-true, both_ways, eqb-true, eqb-false, ltb-true, true≢false, false≢true}
 use Rattle.std.proofs.lemmas.Bool.Decides.{nat_tests}
 use Rattle.std.proofs.lemmas.List.{append_cancel_left, length-take, length-drop, length-append, nil_from_length, take_at, drop_at, get_or_at}
 use Rattle.std.proofs.lemmas.Str.{IsUtf8-append, IsUtf8-past_char, IsUtf8-encode, IsUtf8-take, IsUtf8-drop, IsUtf8-from_ascii, IsCharBoundary-from_take, IsCharBoundary-before_ascii, chars-append, chars-IsAscii}
-use lib.Utf8.{scalar, scalars, scalar_cases}
+use lib.Utf8.{scalar, scalars}
 use Rattle.bstr.specs.Utf8.{Decoded, decoded}
 use Rattle.bstr.proofs.lemmas.PieceLemmas.{decoded_by-cut, piece-bounds}
 use Rattle.bstr.proofs.lemmas.SoundLemmas.{SpellsChar-decoded}
@@ -83,9 +83,7 @@ not_utf8_at_window bs window found whole some char read all = not_utf8 all.0 win
 
 -- a byte that is no `%` begins no escape
 pub sound_kept : (b : ℕ) (bs : List ℕ) → (b == 37) ≡ false → is_sound (b ∷ bs) ≡ is_sound bs
-sound_kept b [] other = grind (arith, nat_tests)
-sound_kept b (c ∷ []) other = grind (arith, nat_tests)
-sound_kept b (c ∷ d ∷ rest) other = cond-false _ _ _ other
+sound_kept b bs other = grind arith
 
 -- a hexadecimal digit is no `%`
 pub digit_not_percent : (b : ℕ) → is_digit b 16 ≡ true → (b == 37) ≡ false
@@ -96,18 +94,11 @@ pub sound_digits : (high low : ℕ) (rest : List ℕ) → is_digit high 16 ≡ t
 sound_digits high low rest h l = sound_kept high (low ∷ rest) (digit_not_percent high h) ∙ sound_kept low rest (digit_not_percent low l)
 
 both_digits : (high low all rest : Bool) → (high ≡ true → low ≡ true → all ≡ rest) → (high && (low && rest)) ≡ ((high && low) && all)
-both_digits true true all rest same = sym (same refl refl)
-both_digits true false all rest same = refl
-both_digits false low all rest same = refl
+both_digits high low all rest same = grind arith
 
 -- a text is sound where its first byte begins no broken escape and the rest is sound
 pub sound_step : (b : ℕ) (bs : List ℕ) → is_sound (b ∷ bs) ≡ ((not (b == 37) || begins_with_digits bs) && is_sound bs)
-sound_step b [] = grind (arith, nat_tests)
-sound_step b (c ∷ []) = grind (arith, nat_tests)
-sound_step b (c ∷ d ∷ rest) = ⊎_elim
-    (λ percent. rw percent (both_digits _ _ _ _ (sound_digits c d rest)))
-    (λ other. rw other refl)
-    (cases_Bool (b == 37))
+sound_step b bs = grind (arith, nat_tests, sound_digits, both_digits, cases_Bool, nat_tests, ⊎_elim)
 
 -- the first byte of a sound text begins no broken escape
 pub sound_head : (b : ℕ) (bs : List ℕ) → is_sound (b ∷ bs) ≡ true → (not (b == 37) || begins_with_digits bs) ≡ true
@@ -122,16 +113,11 @@ pub sound_cons : (b : ℕ) (bs : List ℕ) → (not (b == 37) || begins_with_dig
 sound_cons b bs head rest = sound_step b bs ∙ and_from _ _ head rest
 
 digits-append : (xs ys : List ℕ) → begins_with_digits xs ≡ true → begins_with_digits (xs ++ ys) ≡ true
-digits-append [] ys digits = absurd (false≢true digits)
-digits-append (x ∷ []) ys digits = absurd (false≢true digits)
-digits-append (x ∷ y ∷ xs) ys digits = digits
+digits-append xs ys digits = grind arith
 
 -- two digits before a byte that is none are digits without it
 pub digits_before : (xs ys : List ℕ) (c : ℕ) → is_digit c 16 ≡ false → begins_with_digits (xs ++ c ∷ ys) ≡ true → begins_with_digits xs ≡ true
-digits_before [] [] c other digits = absurd (false≢true digits)
-digits_before [] (y ∷ ys) c other digits = absurd (both_ways _ other (and_parts _ _ digits).0)
-digits_before (x ∷ []) ys c other digits = absurd (both_ways _ other (and_parts _ _ digits).1)
-digits_before (x ∷ y ∷ xs) ys c other digits = digits
+digits_before xs ys c other digits = grind arith
 
 -- sound texts joined are sound
 pub sound-append : (xs ys : List ℕ) → is_sound xs ≡ true → is_sound ys ≡ true → is_sound (xs ++ ys) ≡ true
@@ -150,9 +136,7 @@ sound_parts (x ∷ xs) ys c other sound =
 
 -- the same around a byte that is no hexadecimal digit, left out of both sides
 pub sound_around : (xs ys : List ℕ) (c : ℕ) → is_digit c 16 ≡ false → is_sound (xs ++ c ∷ ys) ≡ true → (is_sound xs ≡ true) × (is_sound ys ≡ true)
-sound_around xs ys c other sound =
-    let parts = sound_parts xs ys c other sound in
-    (parts.0, sound_tail c ys parts.1)
+sound_around xs ys c other sound = grind (arith, nat_tests, sound_tail, sound_parts)
 
 -- a text with no `%` is sound
 pub sound_free : (xs : List ℕ) → FreeOf percent_sign xs → is_sound xs ≡ true
@@ -184,17 +168,10 @@ decode_empty xs none =
 pub decode_escape : (b high low : ℕ) (rest : List ℕ) → (b == 37) ≡ true → is_digit high 16 ≡ true → is_digit low 16 ≡ true → percent_decode (b ∷ high ∷ low ∷ rest) ≡ (16 * digit_value high + digit_value low) ∷ percent_decode rest
 decode_escape b high low rest percent h l = percent_decode_escape b high low rest (eqb-true b 37 percent) (ltb-true _ _ h) (ltb-true _ _ l)
 
-no_digits : (sign high low : Bool) → (high && low) ≡ false → (sign && high && low) ≡ false
-no_digits true high low broken = broken
-no_digits false high low broken = refl
-
 -- a byte with no two digits behind it stays, a `%` too
 pub decode_broken : (b : ℕ) (bs : List ℕ) → begins_with_digits bs ≡ false → percent_decode (b ∷ bs) ≡ b ∷ percent_decode bs
 unfolding percent_decode
-decode_broken b [] broken = refl
-decode_broken b (c ∷ []) broken = refl
-decode_broken b (c ∷ d ∷ rest) broken =
-    cond-false _ _ _ (no_digits (b == 37) (is_digit c 16) (is_digit d 16) broken)
+decode_broken b bs broken = grind arith
 
 kept_in_parts : (b : ℕ) (bs ys : List ℕ) → percent_decode (b ∷ (bs ++ ys)) ≡ b ∷ percent_decode (bs ++ ys) → percent_decode (b ∷ bs) ≡ b ∷ percent_decode bs → percent_decode (bs ++ ys) ≡ percent_decode bs ++ percent_decode ys → percent_decode (b ∷ (bs ++ ys)) ≡ percent_decode (b ∷ bs) ++ percent_decode ys
 kept_in_parts b bs ys whole front rest = whole ∙ ap (λ t. b ∷ t) rest ∙ sym (ap (λ t. t ++ percent_decode ys) front)
@@ -203,9 +180,7 @@ byte_in_parts : (b : ℕ) (bs ys : List ℕ) → (b == 37) ≡ false → percent
 byte_in_parts b bs ys other = kept_in_parts b bs ys (decode_byte b (bs ++ ys) other) (decode_byte b bs other)
 
 escape_in_parts : (b high low : ℕ) (rest ys : List ℕ) → (b == 37) ≡ true → is_digit high 16 ≡ true → is_digit low 16 ≡ true → percent_decode (rest ++ ys) ≡ percent_decode rest ++ percent_decode ys → percent_decode (b ∷ high ∷ low ∷ (rest ++ ys)) ≡ percent_decode (b ∷ high ∷ low ∷ rest) ++ percent_decode ys
-escape_in_parts b high low rest ys percent h l parts =
-    let byte = 16 * digit_value high + digit_value low in
-    decode_escape b high low (rest ++ ys) percent h l ∙ ap (λ t. byte ∷ t) parts ∙ sym (ap (λ t. t ++ percent_decode ys) (decode_escape b high low rest percent h l))
+escape_in_parts b high low rest ys percent h l parts = grind (arith, nat_tests, decode_escape)
 
 -- what follows a sound text is decoded apart from it
 pub decodes_in_parts : (xs ys : List ℕ) → is_sound xs ≡ true → percent_decode (xs ++ ys) ≡ percent_decode xs ++ percent_decode ys
@@ -236,7 +211,7 @@ glyph_is_digit d small = grind (arith, nat_tests)
 
 escape_sound : (b : ℕ) (rest : List ℕ) → is_sound rest ≡ true → is_sound (percent_encode_byte b ++ rest) ≡ true
 unfolding percent_encode_byte
-escape_sound b rest sound = and_from _ _ (glyph_is_digit (b / 16 % 16) (omega arith)) (and_from _ _ (glyph_is_digit (b % 16) (omega arith)) sound)
+escape_sound b rest sound = grind (arith, nat_tests, glyph_is_digit, and_from)
 
 -- what is written by a set that has `%` is sound
 pub encode_sound : (set : AsciiSet) (t : List ℕ) → contains set 37 ≡ true → is_sound (percent_encode set t) ≡ true
@@ -296,10 +271,7 @@ lacks_from_encode test set (b ∷ bs) escaped lacks = ⊎_elim
 
 -- what is written lacks a byte of the set that no escape has
 pub encode_free : (set : AsciiSet) (t : List ℕ) (c : ℕ) → contains set c ≡ true → is_escape_byte c ≡ false → FreeOf c (percent_encode set t)
-encode_free set t c has other =
-    encode_lacks (λ b. b == c) set t
-    (λ b _ kept. false_from_ne_true _ (λ e. both_ways _ kept (ap (contains set) (eqb-true b c e) ∙ has)))
-    (λ b escape. false_from_ne_true _ (λ e. both_ways _ other (sym (ap is_escape_byte (eqb-true b c e)) ∙ escape)))
+encode_free set t c has other = grind (arith, nat_tests, encode_lacks, both_ways, eqb-true, false_from_ne_true)
 
 -- ---- a `%` as its own escape
 
@@ -388,13 +360,11 @@ utf8_joined xs ys c front ascii rest = IsUtf8-append xs (c ∷ ys) front (IsUtf8
 
 -- two parts lack white space where their whole does
 pub white_space_parts : (xs ys : List ℕ) → IsUtf8 xs → LacksWhiteSpace (xs ++ ys) → LacksWhiteSpace xs × LacksWhiteSpace ys
-white_space_parts xs ys front lacks =
-    or_parts _ _ (sym (list_any-append is_whitespace (chars xs) (chars ys)) ∙ sym (ap (list_any is_whitespace) (chars-append xs ys front)) ∙ lacks)
+white_space_parts xs ys front lacks = grind (arith, nat_tests, chars-append, list_any-append, or_parts)
 
 -- texts joined lack white space where both do
 pub white_space-append : (xs ys : List ℕ) → IsUtf8 xs → LacksWhiteSpace xs → LacksWhiteSpace ys → LacksWhiteSpace (xs ++ ys)
-white_space-append xs ys front first second =
-    ap (list_any is_whitespace) (chars-append xs ys front) ∙ list_any-append is_whitespace (chars xs) (chars ys) ∙ or_from _ _ first second
+white_space-append xs ys front first second = grind (arith, nat_tests, chars-append, list_any-append, or_from)
 
 -- the characters of an ASCII text are its bytes
 pub white_space_ascii : (t : List ℕ) → IsAscii t → list_any is_whitespace t ≡ false → LacksWhiteSpace t
@@ -421,21 +391,7 @@ no_line t utf8 lacks =
 -- the bytes of a character fit a byte
 small_encode : (c : ℕ) → scalar c ≡ true → All IsByte (encode_utf8 c)
 unfolding encode_utf8
-small_encode c is =
-    let two = (192 + c / 64) ∷ (128 + c % 64) ∷ [] in
-    let three = (224 + c / 4096) ∷ (128 + (c / 64) % 64) ∷ (128 + c % 64) ∷ [] in
-    let four = (240 + c / 262144) ∷ (128 + (c / 4096) % 64) ∷ (128 + (c / 64) % 64) ∷ (128 + c % 64) ∷ [] in
-    let bound : c < 1114112 = ⊎_elim (λ low. omega arith) (λ high. high.1) (scalar_cases c is) in
-    let last = All-cons IsByte (128 + c % 64) [] (omega arith) (All-nil IsByte) in
-    let last_two = All-cons IsByte (128 + (c / 64) % 64) ((128 + c % 64) ∷ []) (omega arith) last in
-    let last_three = All-cons IsByte (128 + (c / 4096) % 64) ((128 + (c / 64) % 64) ∷ (128 + c % 64) ∷ []) (omega arith) last_two in
-    cond_both (nat_lt c 128) (c ∷ []) (cond (nat_lt c 2048) two (cond (nat_lt c 65536) three four)) (All IsByte)
-    (λ low. All-cons IsByte c [] (omega (arith, ltb-true c 128 low)) (All-nil IsByte))
-    (λ _. cond_both (nat_lt c 2048) two (cond (nat_lt c 65536) three four) (All IsByte)
-    (λ low. All-cons IsByte (192 + c / 64) ((128 + c % 64) ∷ []) (omega (arith, ltb-true c 2048 low)) last)
-    (λ _. cond_both (nat_lt c 65536) three four (All IsByte)
-    (λ low. All-cons IsByte (224 + c / 4096) ((128 + (c / 64) % 64) ∷ (128 + c % 64) ∷ []) (omega (arith, ltb-true c 65536 low)) last_two)
-    (λ _. All-cons IsByte (240 + c / 262144) ((128 + (c / 4096) % 64) ∷ (128 + (c / 64) % 64) ∷ (128 + c % 64) ∷ []) (omega arith) last_three)))
+small_encode c is = grind arith
 
 small_encodes : (cs : List ℕ) → scalars cs ≡ true → All IsByte (encode_utf8_all cs)
 small_encodes [] all = All-nil IsByte

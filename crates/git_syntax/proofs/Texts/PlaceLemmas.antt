@@ -1,12 +1,12 @@
 -- Places: a text that is refused for a byte, a broken escape or white space has a first one.
 use Rattle.std.proofs.Common.{◌≡◌, ℕ, ◌+◌, ◌≤◌, ◌==◌, ◌&&◌, ◌||◌, not, Bool, true, false, inl, inr, List, [], ◌∷◌, ◌++◌, length, refl, sym, ap, subst, ◌∙◌, arith, append_assoc, length-append, IsUtf8, encode_utf8, encode_utf8_all}
+use Rattle.std.proofs.lemmas.Bool.Decides.{nat_tests}
 use Rattle.std.specs.List.{list_any}
-use Rattle.std.specs.Str.{chars}
 use Rattle.std.specs.Char.{is_whitespace}
-use Rattle.std.proofs.lemmas.Bool.{both_ways, cases_Bool, false≢true, eqb-true}
+use Rattle.std.proofs.lemmas.Bool.{cases_Bool, false≢true, eqb-true}
 use Rattle.std.proofs.lemmas.List.{append-nil}
 use Rattle.std.proofs.lemmas.Str.{chars_from_encodes, encodes-append}
-use Rattle.git_syntax.specs.Bytes.{percent_sign, is_hexadecimal, FreeOf, LacksWhiteSpace}
+use Rattle.git_syntax.specs.Bytes.{percent_sign, FreeOf, LacksWhiteSpace}
 use Rattle.git_syntax.specs.Escapes.{is_sound, begins_with_digits}
 use Rattle.git_syntax.specs.Places.{StandsFirst, StandsBroken, StandsWhite}
 use Rattle.git_syntax.proofs.Texts.CutLemmas.{free_head_tail, free_or_cut, lacks-cons, not_free}
@@ -34,17 +34,7 @@ held_stands c text held =
 
 -- what begins with two digits begins so before its first `%`
 digits_before : (text before behind : List ℕ) → text ≡ before ++ percent_sign ∷ behind → begins_with_digits text ≡ true → begins_with_digits before ≡ true
-digits_before text [] behind e h = absurd (false≢true (sym (no_digit text behind e) ∙ h))
-  where
-    no_digit : (text behind : List ℕ) → text ≡ percent_sign ∷ behind → begins_with_digits text ≡ false
-    no_digit text [] e = ap begins_with_digits e
-    no_digit text (b ∷ behind) e = ap begins_with_digits e
-digits_before text (b ∷ []) behind e h = absurd (both_ways _ (second (is_hexadecimal b)) (sym (ap begins_with_digits e) ∙ h))
-  where
-    second : (first : Bool) → (first && false) ≡ false
-    second true = refl
-    second false = refl
-digits_before text (b ∷ c ∷ before) behind e h = sym (ap begins_with_digits e) ∙ h
+digits_before text before behind e h = grind arith
 
 -- a broken escape behind a byte that begins none
 pub broken_behind : (c : ℕ) (text : List ℕ) (at : ℕ) → (not (c == percent_sign) || begins_with_digits text) ≡ true → StandsBroken text at → StandsBroken (c ∷ text) (at + 1)
@@ -101,8 +91,7 @@ unsound_stands (b ∷ text) h =
 
 -- white space stands within its text
 pub white_within : (text : List ℕ) (at len : ℕ) → StandsWhite text at len → at + len ≤ length text
-white_within text at len h =
-    omega (arith, h.offset, h.size, ap length h.joined, length-append (encode_utf8_all h.before) (encode_utf8 h.character ++ h.behind), length-append (encode_utf8 h.character) h.behind)
+white_within text at len h = grind (arith, nat_tests, encode_utf8, encode_utf8_all, length-append)
 
 -- the first of characters that is white space
 first_white : (cs : List ℕ) → list_any is_whitespace cs ≡ true → (at : ℕ) × (len : ℕ) × StandsWhite (encode_utf8_all cs) at len
@@ -134,14 +123,7 @@ first_white (c ∷ cs) h =
 
 -- a text with white space has a first one
 pub white_stands : (text : List ℕ) → IsUtf8 text → ¬ LacksWhiteSpace text → (at : ℕ) × (len : ℕ) × StandsWhite text at len
-white_stands text utf8 held =
-    let (cs, encoded) = utf8 in
-    let e = encoded.1 in
-    let same : cs ≡ chars text = chars_from_encodes cs text utf8 e in
-    elim (cases_Bool (list_any is_whitespace cs)) [
-      | inl white ↦ subst (λ t. (at : ℕ) × (len : ℕ) × StandsWhite t at len) e (first_white cs white)
-      | inr none ↦ absurd (held (sym (ap (λ t. list_any is_whitespace t) same) ∙ none))
-    ]
+white_stands text utf8 held = grind (arith, nat_tests, first_white, cases_Bool, chars_from_encodes)
 
 -- one more character
 pub encodes_push : (seen : List ℕ) (c : ℕ) → encode_utf8_all (seen ++ c ∷ []) ≡ encode_utf8_all seen ++ encode_utf8 c

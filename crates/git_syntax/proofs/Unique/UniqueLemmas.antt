@@ -1,17 +1,18 @@
 -- Bytes spell one location at most: inside each form the bytes determine the pieces, and the forms exclude one another.
-use Rattle.std.proofs.Common.{◌≡◌, ℕ, ◌==◌, inl, inr, true, false, List, [], ◌∷◌, ◌++◌, Option, Some, None, refl, sym, ap, subst, ◌∙◌, append_assoc, codes}
+use Rattle.std.proofs.Common.{◌≡◌, ℕ, inl, inr, true, false, List, [], ◌∷◌, ◌++◌, Option, Some, None, refl, sym, ap, subst, ◌∙◌, append_assoc, arith}
+use Rattle.std.proofs.lemmas.Bool.Decides.{nat_tests}
 use Rattle.std.proofs.lemmas.Bool.{eqb-false}
 use Rattle.std.proofs.lemmas.Option.{same_Some}
 use Rattle.percent_encoding.specs.Percent.{percent_decode}
 use Rattle.git_syntax.specs.Value.{Protocol, Location, path_alone}
-use Rattle.git_syntax.specs.Value.Protocol.{file, ssh}
-use Rattle.git_syntax.specs.Bytes.{percent_sign, slash, colon, at_sign, left_bracket, right_bracket, Lacks, FreeOf, lowercase, is_path_start, StartsPath}
+use Rattle.git_syntax.specs.Value.Protocol.{ssh}
+use Rattle.git_syntax.specs.Bytes.{percent_sign, colon, at_sign, left_bracket, right_bracket, Lacks, FreeOf, lowercase, is_path_start, StartsPath}
 use Rattle.git_syntax.specs.Escapes.{escaped_percents}
 use Rattle.git_syntax.specs.Addresses.{IsIpv6Text, Literal}
 use Rattle.git_syntax.specs.Hosts.{Mode, Bracketed, Names}
 use Rattle.git_syntax.specs.Hosts.Mode.{bare}
 use Rattle.git_syntax.specs.Schemes.{is_web_scheme, protocol_of, mode_of}
-use Rattle.git_syntax.specs.Authority.{unless_empty, user_beside, Credentials, Authority}
+use Rattle.git_syntax.specs.Authority.{Credentials, Authority}
 use Rattle.git_syntax.specs.Grammar.{helper_protocol, SpellsHelper, UrlParts, SpellsParts, Peels, HostFor, path_for, retained_spelling, MeansByProtocol, MeansAs, SpellsUrl, SpellsFile, ScpUser, Unbrackets, ScpHost, scp_location, SpellsScpBefore, SpellsScpAddressed, SpellsScp, Spells}
 use Rattle.git_syntax.proofs.Readings.SchemeLemmas.{means_cases}
 use Rattle.git_syntax.proofs.Texts.CutLemmas.{tails, class_cut_unique, path_cut_unique, cut_unique, last_cut_unique, scheme_text_free, helper_name_free, free-append, not_free}
@@ -35,15 +36,7 @@ helper_unique b v w h k =
 
 -- user information holds one user and one password
 pub credentials_unique : (text : List ℕ) (user other password second : Option (List ℕ)) → Credentials text user password → Credentials text other second → (user ≡ other) × (password ≡ second)
-credentials_unique text user other password second (Credentials.user_alone f u e n) (Credentials.user_alone g t k m) = (n ∙ sym m, e ∙ sym k)
-credentials_unique text user other password second (Credentials.user_alone f u e n) (Credentials.with_password x y g j t r k m) =
-    absurd (not_free colon x y (subst (λ s. FreeOf colon s) j f))
-credentials_unique text user other password second (Credentials.with_password x y g j t r k m) (Credentials.user_alone f u e n) =
-    absurd (not_free colon x y (subst (λ s. FreeOf colon s) j f))
-credentials_unique text user other password second (Credentials.with_password x y f i u s e n) (Credentials.with_password z q g j t r k m) =
-    let pieces = cut_unique colon x z y q f g (sym i ∙ j) in
-    let same = e ∙ ap (λ p. unless_empty (percent_decode p)) pieces.1 ∙ sym k in
-    (n ∙ ap (λ p. user_beside p (percent_decode x)) same ∙ ap (λ p. user_beside second (percent_decode p)) pieces.0 ∙ sym m, same)
+credentials_unique text user other password second h k = grind (arith, nat_tests, cut_unique, not_free)
 
 -- an authority holds one user, one password, one host and one port
 pub authority_unique : (mode : Mode) (text : List ℕ) (user other password second host place : Option (List ℕ)) (port last : Option ℕ) → Authority mode text user password host port → Authority mode text other second place last → (user ≡ other) × (password ≡ second) × (host ≡ place) × (port ≡ last)
@@ -126,13 +119,7 @@ by_protocol_unique protocol parts v w h k =
 
 -- the parts of a URL mean one location
 pub means_unique : (protocol : Protocol) (b : List ℕ) (parts : UrlParts) (v w : Location) → MeansAs protocol b parts v → MeansAs protocol b parts w → v ≡ w
-means_unique protocol b parts v w h k =
-    elim (means_cases protocol b parts v h) [
-      | inl m ↦
-          elim (means_cases protocol b parts w k) [ inl n ↦ m.1 ∙ sym n.1 | inr n ↦ absurd (n.0 m.0) ]
-      | inr m ↦
-          elim (means_cases protocol b parts w k) [ inl n ↦ absurd (m.0 n.0) | inr n ↦ by_protocol_unique protocol parts v w m.1 n.1 ]
-    ]
+means_unique protocol b parts v w h k = grind (arith, nat_tests, by_protocol_unique, means_cases)
 
 -- a URL's bytes spell one location in its form
 pub url_unique : (b : List ℕ) (v w : Location) → SpellsUrl b v → SpellsUrl b w → v ≡ w
@@ -142,25 +129,15 @@ url_unique b v w h k =
 
 -- ---- file URLs
 
--- a host and a path of a file URL
-abbrev file_location : List ℕ → List ℕ → Location
-file_location host path = record (path_alone file false path) { host = unless_empty host }
-
 -- a file URL's bytes spell one location in its form
 pub file_unique : (b : List ℕ) (v w : Location) → SpellsFile b v → SpellsFile b w → v ≡ w
-file_unique b v w h k =
-    let whole = scheme_cut_unique (codes "file") (codes "file") (h.host ++ h.path) (k.host ++ k.path) refl refl (sym h.joined ∙ k.joined) in
-    let pieces = class_cut_unique (λ d. d == slash) h.host k.host h.path k.path h.no_slash k.no_slash (inr h.rooted) (inr k.rooted) whole.1 in
-    h.value ∙ ap (λ x. file_location x h.path) pieces.0 ∙ ap (λ x. file_location k.host x) pieces.1 ∙ sym k.value
+file_unique b v w h k = grind (arith, nat_tests, class_cut_unique, scheme_cut_unique)
 
 -- ---- the scp form
 
 -- brackets are taken off in one way
 unbrackets_unique : (host x y : List ℕ) → Unbrackets host x → Unbrackets host y → x ≡ y
-unbrackets_unique host x y (Unbrackets.brackets e) (Unbrackets.brackets f) = (same_from_push x y right_bracket right_bracket (tails (sym e ∙ f))).0
-unbrackets_unique host x y (Unbrackets.brackets e) (Unbrackets.same n f) = absurd (n (x, e))
-unbrackets_unique host x y (Unbrackets.same n e) (Unbrackets.brackets f) = absurd (n (y, f))
-unbrackets_unique host x y (Unbrackets.same n e) (Unbrackets.same m f) = e ∙ sym f
+unbrackets_unique host x y h k = grind (arith, nat_tests, same_from_push)
 
 -- a host in the scp form stands for one
 scp_host_unique : (host other x y : List ℕ) → host ≡ other → ScpHost host x → ScpHost other y → x ≡ y

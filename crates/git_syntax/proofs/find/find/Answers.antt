@@ -8,9 +8,6 @@ use Rattle.git_syntax.proofs.Readings.ShapeLemmas.{helper_name_utf8}
 use Rattle.git_syntax.proofs.Refused.RefusalLemmas.{refused_unspelled}
 use Rattle.git_syntax.proofs.find.find.Goals as goal
 
-pub returns-in-Empty-clause-refused : goal.returns-in-Empty-clause-refused
-returns-in-Empty-clause-refused c = refused_unspelled c.args.bytes.now refusal.EmptyLocal c.in-Empty.ensures
-
 pub returns-in-Helper-clause-ready : goal.returns-in-Helper-clause-ready
 returns-in-Helper-clause-ready c = helper_name_utf8 c.in-Helper.name.now c.in-Helper.ensures.named
 

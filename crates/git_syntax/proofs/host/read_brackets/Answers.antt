@@ -18,9 +18,6 @@ returns-in-Some-with_rest c =
     bracketed_name (strictness c.args.mode) _ c.args.inner.now c.args.rest.now (meant_host c.in-Some.host) (Some (named_text c.in-Some-with_rest.named)) c.in-Some-with_rest.named.port
     c.requires refl c.in-Some.ensures c.in-Some-with_rest.ensures
 
-pub overflow_sub-result : goal.overflow_sub-result
-overflow_sub-result c = omega (arith, ap length c.in-None.ensures.2)
-
 pub returns-in-None : goal.returns-in-None
 returns-in-None c =
     no_port_behind (strictness c.args.mode) _ c.args.inner.now c.args.rest.now c.in-None.ensures.0 _ c.requires refl c.in-None.ensures.2 c.in-None.ensures.1 (omega (arith, ap length c.in-None.ensures.2))

@@ -9,9 +9,6 @@ use Rattle.git_syntax.proofs.Texts.EscapeLemmas.{sound_free}
 use Rattle.git_syntax.proofs.Texts.PlaceLemmas.{broken_first, broken_later}
 use Rattle.git_syntax.proofs.places.broken_escape.Goals as goal
 
-pub loop-behind-init : goal.loop-behind-init
-loop-behind-init c = record { unsound = c.requires; further = λ at place h e. subst (λ n. StandsBroken c.args.bytes.now n) (omega (arith, e)) h; within = omega arith }
-
 pub returns-then-not-begins_with_digits : goal.returns-then-not-begins_with_digits
 returns-then-not-begins_with_digits c =
     let front = c.in-Some.field-0-0.now in

@@ -18,21 +18,6 @@ loop-at-preserved c =
       omega (arith, further, offset, ap length (encodes_push seen c.in-Some.character), length-append (encode_utf8_all seen) (encode_utf8 c.in-Some.character)),
     )
 
-pub returns-then-is_whitespace-clause-place : goal.returns-then-is_whitespace-clause-place
-returns-then-is_whitespace-clause-place c =
-    let (seen, none, whole, offset) = c.loop-at.invariant in
-    let (at, rest, further) = c.in-Some.ensures.steps in
-    record {
-      before = seen;
-      character = c.in-Some.character;
-      behind = char_indices_rest c.next.new.self;
-      first = none;
-      white = sym c.if-is_whitespace.ensures;
-      joined = whole ∙ ap (λ t. encode_utf8_all seen ++ t) rest;
-      offset = at ∙ offset;
-      size = c.len_utf8.ensures.len;
-    }
-
 pub returns-clause-place : goal.returns-clause-place
 returns-clause-place c =
     let (seen, none, whole, offset) = c.loop-at.invariant in

@@ -1,6 +1,5 @@
 -- What is found of `user@[address]:path`, and what is refused.
-use Rattle.std.proofs.Common.{refl, inr, sym, ap, subst, Some, IsUtf8}
-use Rattle.std.proofs.lemmas.Bool.{false≢true}
+use Rattle.std.proofs.Common.{refl, sym, ap, subst, Some, IsUtf8}
 use Rattle.git_syntax.specs.Addresses.{Literal}
 use Rattle.git_syntax.specs.Bytes.{lowercase}
 use Rattle.git_syntax.specs.Grammar.{AddressedShape, scp_location}
@@ -11,12 +10,6 @@ use Rattle.git_syntax.proofs.Readings.ShapeLemmas.{nil_tested}
 use Rattle.git_syntax.proofs.Readings.RoomLemmas.{address_within}
 use Rattle.git_syntax.proofs.Readings.ScpLemmas.{addressed_user_utf8}
 use Rattle.git_syntax.proofs.scp.find_addressed.Goals as goal
-
-pub no_text-requires-clause-text : goal.no_text-requires-clause-text
-no_text-requires-clause-text c = λ h. false≢true (c.if-not-is_text.ensures.1 h)
-
-pub no_text-requires-clause-shape : goal.no_text-requires-clause-shape
-no_text-requires-clause-shape c = inr (c.args.user.now, c.args.address.now, c.args.path.now, c.requires)
 
 pub no_path-requires : goal.no_path-requires
 no_path-requires c =

@@ -1,7 +1,6 @@
 -- The host is read as one in which each `%` is escaped.
 use Rattle.std.proofs.Common.{refl, sym, subst}
 use Rattle.std.proofs.lemmas.Bool.{false≢true}
-use Rattle.git_syntax.specs.Bytes.{LacksWhiteSpace}
 use Rattle.git_syntax.specs.Flaws.{ScpHostFlaw}
 use Rattle.git_syntax.specs.Places.{StandsWhite}
 use Rattle.git_syntax.specs.ScpPieces.{ReadsScpPiece}
@@ -15,12 +14,6 @@ returns-then-is_simple_host-clause-read c = simple_scp_host c.args.host.now (c.i
 pub returns-then-not-has_no_white_space-clause-read : goal.returns-then-not-has_no_white_space-clause-read
 returns-then-not-has_no_white_space-clause-read c =
     rw c.white_space.ensures.kind (ScpHostFlaw.white_space c.requires.text (λ lacks. false≢true (c.if-not-has_no_white_space.ensures.1 lacks)) (subst (λ t. StandsWhite t c.white_space.result.at c.white_space.result.len) c.as_text.ensures c.white_space.ensures.place))
-
-pub white_space-requires : goal.white_space-requires
-white_space-requires c = λ lacks. false≢true (c.if-not-has_no_white_space.ensures.1 (subst LacksWhiteSpace c.as_text.ensures lacks))
-
-pub first_byte-requires : goal.first_byte-requires
-first_byte-requires c = λ free. false≢true (c.if-not-is_free_of.ensures.1 free)
 
 pub returns-then-not-is_free_of-clause-read : goal.returns-then-not-is_free_of-clause-read
 returns-then-not-is_free_of-clause-read c = ScpHostFlaw.holds_backslash c.first_byte.ensures refl

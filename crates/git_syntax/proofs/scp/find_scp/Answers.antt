@@ -1,29 +1,18 @@
 -- What is found of the scp form, and what is refused.
-use Rattle.std.proofs.Common.{refl, inl, sym, subst, ◌∙◌, arith}
+use Rattle.std.proofs.Common.{refl, subst, arith}
 use Rattle.std.specs.Option.{option_copied}
-use Rattle.std.proofs.lemmas.Bool.{false≢true}
 use Rattle.git_syntax.specs.FoundPieces.{scp_host_of}
 use Rattle.git_syntax.specs.Grammar.{ScpShape}
 use Rattle.git_syntax.specs.Flaws.MissesPath.{in_scp}
 use Rattle.git_syntax.proofs.Readings.HostLemmas.{some_tested}
 use Rattle.git_syntax.proofs.Readings.ShapeLemmas.{nil_tested}
-use Rattle.git_syntax.proofs.Readings.RoomLemmas.{scp_user_length, scp_host_within}
-use Rattle.git_syntax.proofs.Readings.ScpLemmas.{scp_host_flaw_within, scp_host_plain, scp_host_utf8, scp_user_utf8, scp_meant_utf8, colons_inside_front, colons_inside_host}
+use Rattle.git_syntax.proofs.Readings.RoomLemmas.{scp_user_length}
+use Rattle.git_syntax.proofs.Readings.ScpLemmas.{scp_host_flaw_within, scp_host_utf8, scp_user_utf8, scp_meant_utf8, colons_inside_front, colons_inside_host}
 use Rattle.git_syntax.proofs.scp.find_scp.Goals as goal
-
-pub no_text-requires-clause-text : goal.no_text-requires-clause-text
-no_text-requires-clause-text c = λ h. false≢true (c.if-not-is_utf8.ensures.1 h)
-
-pub no_text-requires-clause-shape : goal.no_text-requires-clause-shape
-no_text-requires-clause-shape c = inl (c.args.front.now, c.args.path.now, c.requires.shape)
 
 pub no_path-requires : goal.no_path-requires
 no_path-requires c =
     in_scp c.args.front.now (subst (λ p. ScpShape c.args.input.now c.args.front.now p) (nil_tested c.args.path.now c.if-is_empty.ensures) c.requires.shape)
-
-pub find_host-requires-clause-plain : goal.find_host-requires-clause-plain
-find_host-requires-clause-plain c = λ yes.
-    scp_host_plain c.args.input.now c.args.front.now c.args.path.now _ c.cut_front_user.result.1.now c.requires.shape (sym c.is_plain-plain.ensures ∙ yes) c.cut_front_user.ensures.split
 
 pub find_host-requires-clause-text : goal.find_host-requires-clause-text
 find_host-requires-clause-text c =
@@ -70,12 +59,6 @@ returns-in-Err-clause-flaw c = record {
   offset = omega (arith, scp_user_length c.cut_front_user.ensures.split);
 }
 
-pub overflow_sub-result : goal.overflow_sub-result
-overflow_sub-result c = omega (arith, scp_user_length c.cut_front_user.ensures.split)
-
 pub overflow_add-result : goal.overflow_add-result
 overflow_add-result c =
     omega (arith, scp_user_length c.cut_front_user.ensures.split, scp_host_flaw_within c.cut_front_user.result.1.now c.in-Err.fault.at c.in-Err.fault.len c.in-Err.fault.kind c.in-Err.ensures.read)
-
-pub returns-in-Ok-clause-room : goal.returns-in-Ok-clause-room
-returns-in-Ok-clause-room c = omega (arith, c.in-Ok.ensures.within, scp_host_within c.args.path.now c.requires.shape.joined c.cut_front_user.ensures.split)

@@ -1,6 +1,5 @@
 -- A simple host is the whole authority.
-use Rattle.std.proofs.Common.{refl, inl, inr, ◌⊎◌}
-use Rattle.std.proofs.lemmas.Bool.{false≢true}
+use Rattle.std.proofs.Common.{refl, inr, ◌⊎◌}
 use Rattle.std.proofs.lemmas.Result.{IfErr-weaker}
 use Rattle.git_syntax.specs.Bytes.{FreeOf, backslash}
 use Rattle.git_syntax.specs.Flaws.{AuthorityFlaw}
@@ -15,14 +14,8 @@ returns-in-Some-clause-read c = simple_held (strictness c.args.mode) c.args.need
 pub returns-in-Some-clause-clean : goal.returns-in-Some-clause-clean
 returns-in-Some-clause-clean c = simple_clean c.args.authority.now c.in-Some.ensures.simple
 
-pub returns-then-not-is_free_of-clause-refused : goal.returns-then-not-is_free_of-clause-refused
-returns-then-not-is_free_of-clause-refused c = inl (λ h. false≢true (c.if-not-is_free_of.ensures.1 h))
-
 pub returns-then-not-is_free_of-clause-flaw : goal.returns-then-not-is_free_of-clause-flaw
 returns-then-not-is_free_of-clause-flaw c = AuthorityFlaw.holds_backslash c.first_byte.ensures refl
-
-pub first_byte-requires : goal.first_byte-requires
-first_byte-requires c = λ h. false≢true (c.if-not-is_free_of.ensures.1 h)
 
 pub returns-clause-clean : goal.returns-clause-clean
 returns-clause-clean c = on_each_ok c.read_marked.result (FreeOf backslash c.args.authority.now) (c.if-not-is_free_of.ensures.0 refl)

@@ -1,11 +1,10 @@
 -- User information, and a host and a port, are what stands around the last `@`.
-use Rattle.std.proofs.Common.{◌∷◌, ◌++◌, refl, ap, ◌∙◌, arith, length, length-append}
+use Rattle.std.proofs.Common.{◌∷◌, ◌++◌, refl, ap, ◌∙◌}
 use Rattle.std.proofs.lemmas.Result.{err_from_is_err_and}
 use Rattle.git_syntax.specs.Bytes.{at_sign}
-use Rattle.git_syntax.specs.HostPieces.{host_of, strictness}
+use Rattle.git_syntax.specs.HostPieces.{host_of}
 use Rattle.git_syntax.specs.Authority.Authority.{with_user}
 use Rattle.git_syntax.specs.Flaws.{AuthorityFlaw, PieceOf}
-use Rattle.git_syntax.proofs.Readings.HostLemmas.{name_flaw_within}
 use Rattle.git_syntax.proofs.Readings.UrlLemmas.{nothing_named, no_name_behind, no_text_before, no_host_behind, bad_user_flaw}
 use Rattle.git_syntax.proofs.simple_url.read_marked.Goals as goal
 
@@ -34,10 +33,6 @@ pub returns-in-Ok-None-clause-flaw : goal.returns-in-Ok-None-clause-flaw
 returns-in-Ok-None-clause-flaw c =
     let empty = nothing_named _ c.in-Some.piece.now _ _ c.in-Ok-None.ensures.named (ap host_of c.in-Ok-None.field-0-is) in
     AuthorityFlaw.no_host c.in-Some.information.now (c.in-Some.ensures.1 ∙ ap (λ p. c.in-Some.information.now ++ at_sign ∷ p) empty) refl refl
-
-pub overflow_add-result-in-Err : goal.overflow_add-result-in-Err
-overflow_add-result-in-Err c =
-    omega (arith, name_flaw_within (strictness c.args.mode) c.in-Some.piece.now c.in-Err.fault.kind c.in-Err.fault.at c.in-Err.fault.len c.in-Err.ensures.flaw, ap length c.in-Some.ensures.1, length-append c.in-Some.information.now (at_sign ∷ c.in-Some.piece.now))
 
 pub returns-in-Err-clause-refused : goal.returns-in-Err-clause-refused
 returns-in-Err-clause-refused c = no_name_behind _ c.args.needed _ c.in-Some.information.now c.in-Some.piece.now c.in-Some.ensures.0 c.in-Some.ensures.1 c.in-Err.ensures.unnamed

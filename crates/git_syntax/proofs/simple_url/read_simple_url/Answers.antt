@@ -1,32 +1,16 @@
 -- The URL is cut before its path, and each check that fails has its flaw.
-use Rattle.std.proofs.Common.{◌++◌, refl, sym, ap, subst, ◌∙◌, arith, codes, length, length-append}
+use Rattle.std.proofs.Common.{◌++◌, refl, sym, ap, subst, arith, codes, length, length-append}
 use Rattle.std.proofs.lemmas.Bool.{false≢true}
-use Rattle.git_syntax.specs.Authority.{Fits}
 use Rattle.git_syntax.specs.Flaws.{UrlFlaw}
-use Rattle.git_syntax.specs.Escapes.{is_sound}
 use Rattle.git_syntax.specs.Places.{StandsBroken}
 use Rattle.git_syntax.specs.HostPieces.{strictness}
 use Rattle.git_syntax.proofs.Texts.LookLemmas.{known_path}
-use Rattle.git_syntax.proofs.Readings.UrlLemmas.{authority_flaw_within, path_end, rest_cut, url_cut, spelled, no_scheme_refutes, bad_path_refutes, authority_refutes}
+use Rattle.git_syntax.proofs.Readings.UrlLemmas.{authority_flaw_within, path_end, rest_cut, url_cut, no_scheme_refutes, bad_path_refutes, authority_refutes}
 use Rattle.git_syntax.proofs.simple_url.read_simple_url.Goals as goal
-
-pub returns-then-not-has_no_white_space-clause-refused : goal.returns-then-not-has_no_white_space-clause-refused
-returns-then-not-has_no_white_space-clause-refused c =
-    λ parts h. false≢true (c.if-not-has_no_white_space.ensures.1 h.no_white_space)
 
 pub returns-then-not-has_no_white_space-clause-flaw : goal.returns-then-not-has_no_white_space-clause-flaw
 returns-then-not-has_no_white_space-clause-flaw c =
     rw c.white_space.ensures.kind (UrlFlaw.white_space c.args.scheme.now c.args.rest.now c.requires.shape c.utf8.text (λ h. false≢true (c.if-not-has_no_white_space.ensures.1 h)) c.white_space.ensures.place)
-
-pub white_space-requires : goal.white_space-requires
-white_space-requires c = λ h. false≢true (c.if-not-has_no_white_space.ensures.1 h)
-
-pub broken_escape-requires : goal.broken_escape-requires
-broken_escape-requires c = ap is_sound c.as_bytes.ensures.value ∙ sym c.if-not-has_sound_escapes.ensures
-
-pub returns-then-not-has_sound_escapes-clause-refused : goal.returns-then-not-has_sound_escapes-clause-refused
-returns-then-not-has_sound_escapes-clause-refused c =
-    λ parts h. false≢true (c.if-not-has_sound_escapes.ensures ∙ h.sound)
 
 pub returns-then-not-has_sound_escapes-clause-flaw : goal.returns-then-not-has_sound_escapes-clause-flaw
 returns-then-not-has_sound_escapes-clause-flaw c =
@@ -55,10 +39,6 @@ returns-then-not-means_text-clause-flaw c =
     let whole = path_end c.args.text.now c.args.scheme.now c.cut_before_path.result.0.now c.cut_before_path.result.1.now cut.shape.shape.joined in
     UrlFlaw.bad_path _ _ _ cut (λ h. false≢true (c.if-not-means_text.ensures.1 h)) (omega (arith, whole)) refl
 
-pub overflow_sub-result : goal.overflow_sub-result
-overflow_sub-result c =
-    omega (arith, ap length c.requires.shape.shape.joined, length-append c.args.scheme.now (codes "://" ++ c.args.rest.now), ap length c.cut_before_path.ensures.joined, length-append c.cut_before_path.result.0.now c.cut_before_path.result.1.now)
-
 pub overflow_add-result-in-Err : goal.overflow_add-result-in-Err
 overflow_add-result-in-Err c =
     let within = authority_flaw_within (strictness c.args.rules.mode) c.args.rules.needs_host c.cut_before_path.result.0.now c.in-Err.fault.at c.in-Err.fault.len c.in-Err.fault.kind c.in-Err.ensures.flaw in
@@ -73,14 +53,6 @@ pub returns-in-Err-clause-flaw : goal.returns-in-Err-clause-flaw
 returns-in-Err-clause-flaw c =
     let cut = url_cut c.requires.shape c.if-not-is_scheme_text.ensures (rest_cut c.requires.rules.web c.cut_before_path.ensures.joined c.cut_before_path.ensures.front c.cut_before_path.ensures.rest) in
     UrlFlaw.bad_authority _ _ _ _ c.in-Err.fault.at cut (rw (c.requires.rules.mode, c.requires.rules.host) at c.in-Err.ensures.flaw) refl
-
-pub returns-in-Ok-clause-read : goal.returns-in-Ok-clause-read
-returns-in-Ok-clause-read c =
-    let cut = url_cut c.requires.shape c.if-not-is_scheme_text.ensures (rest_cut c.requires.rules.web c.cut_before_path.ensures.joined c.cut_before_path.ensures.front c.cut_before_path.ensures.rest) in
-    let sound = c.if-not-has_sound_escapes.ensures in
-    let fits = subst (λ rest. Fits c.args.scheme.now rest) c.cut_before_path.ensures.joined c.requires.fits in
-    let held = rw (c.requires.rules.mode, c.requires.rules.host) at c.in-Ok.ensures.read in
-    rw (c.parsed.ensures.scheme, c.parsed.ensures.user, c.parsed.ensures.password, c.parsed.ensures.host, c.parsed.ensures.path) (spelled cut c.utf8.text (c.if-not-has_no_white_space.ensures.0 refl) sound c.in-Ok.ensures.clean fits held (c.if-not-means_text.ensures.0 refl))
 
 pub holds_escape-requires : goal.holds_escape-requires
 holds_escape-requires c =
