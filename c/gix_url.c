@@ -23,6 +23,10 @@ typedef struct told {
     size_t shown, total;
 } told;
 
+typedef struct place {
+    size_t at, len;
+} place;
+
 typedef struct seen {
     uint8_t user, host;
     bool path, is_root, is_spelled, has_port;
@@ -40,6 +44,7 @@ typedef struct given {
 } given;
 
 uint32_t gix_url_c_read(const char *, size_t, made *, char *, size_t, told *);
+void gix_url_c_place(const char *, size_t, place *);
 uint32_t gix_url_c_from_parts(const given *, made *, char *, size_t, told *);
 uint32_t gix_url_c_is_settled(const given *, bool *);
 uint32_t gix_url_c_agrees_with_git(const given *, bool *);
@@ -120,6 +125,21 @@ static void tell(uint32_t error, const told *told, gix_url_problem *problem) {
     problem->total = told->total;
 }
 
+/* Tells where in an input the fault is that it is refused for. */
+static void locate(const char *input, size_t len, gix_url_error error, gix_url_problem *problem) {
+    if (!problem || error < GIX_URL_MISSING_PATH || error > GIX_URL_BAD_URL) return;
+    place place = {0};
+    gix_url_c_place(input, len, &place);
+    problem->at = place.at;
+    problem->len = place.len;
+}
+
+/* A pointer is null that may not be, of which there is no more to tell. */
+static gix_url_error null_pointer(gix_url_problem *problem) {
+    if (problem) memset(problem, 0, sizeof *problem);
+    return GIX_URL_NULL;
+}
+
 /* Hands out what was made in the room, or tells the error. */
 static gix_url_error hand_out(uint32_t error, const made *made, const char *room, gix_url *url, size_t *needed,
                               const told *told, gix_url_problem *problem) {
@@ -132,18 +152,20 @@ static gix_url_error hand_out(uint32_t error, const made *made, const char *room
 
 gix_url_error gix_url_parse(const char *input, size_t len, char *room, size_t room_len, gix_url *url, size_t *needed,
                             gix_url_problem *problem) {
-    if (!url) return GIX_URL_NULL;
+    if (!url) return null_pointer(problem);
     if (!input) input = nowhere, len = 0;
     if (!room) room = nowhere, room_len = 0;
     made made = {0};
     told told = {0};
-    uint32_t error = gix_url_c_read(input, len, &made, room, room_len, &told);
-    return hand_out(error, &made, room, url, needed, &told, problem);
+    uint32_t read = gix_url_c_read(input, len, &made, room, room_len, &told);
+    gix_url_error error = hand_out(read, &made, room, url, needed, &told, problem);
+    locate(input, len, error, problem);
+    return error;
 }
 
 gix_url_error gix_url_from_parts(const gix_url *parts, char *room, size_t room_len, gix_url *url, size_t *needed,
                                  gix_url_problem *problem) {
-    if (!parts || !url) return GIX_URL_NULL;
+    if (!parts || !url) return null_pointer(problem);
     if (!room) room = nowhere, room_len = 0;
     made made = {0};
     told told = {0};
@@ -165,7 +187,7 @@ gix_url_error gix_url_agrees_with_git(const gix_url *url, bool *agrees) {
 }
 
 gix_url_error gix_url_write(const gix_url *url, char *room, size_t room_len, size_t *len, gix_url_problem *problem) {
-    if (!url || !len) return GIX_URL_NULL;
+    if (!url || !len) return null_pointer(problem);
     if (!room) room = nowhere, room_len = 0;
     told told = {0};
     given given = given_of(url);
@@ -175,7 +197,7 @@ gix_url_error gix_url_write(const gix_url *url, char *room, size_t room_len, siz
 }
 
 gix_url_error gix_url_display(const gix_url *url, char *room, size_t room_len, size_t *len, gix_url_problem *problem) {
-    if (!url || !len) return GIX_URL_NULL;
+    if (!url || !len) return null_pointer(problem);
     if (!room) room = nowhere, room_len = 0;
     told told = {0};
     given given = given_of(url);
@@ -221,6 +243,61 @@ gix_url_error gix_url_path_query_fragment(const gix_url *url, char *room, size_t
     components->query = next_part(&at, parted.bytes - parted.path - parted.fragment, parted.has_query);
     components->pair_count = parted.pairs;
     return GIX_URL_OK;
+}
+
+const char *gix_url_version(void) { return GIX_URL_VERSION; }
+
+/* The words that say something of a text that was taken for this form. */
+#define OF_FORM(form, words)                                  \
+    ((form) == GIX_URL_KIND_URL     ? "the URL " words        \
+     : (form) == GIX_URL_KIND_SCP   ? "the scp form " words   \
+     : (form) == GIX_URL_KIND_LOCAL ? "the local path " words \
+                                    : "the location " words)
+
+static const char *bad_url_words(gix_url_kind kind, gix_url_fault fault) {
+    switch (fault) {
+    case GIX_URL_FAULT_NONE: break;
+    case GIX_URL_NO_SCHEME: return OF_FORM(kind, "has no valid scheme");
+    case GIX_URL_BAD_PORT: return OF_FORM(kind, "has an invalid port");
+    case GIX_URL_BAD_CHARACTER: return OF_FORM(kind, "has a character or an escape that is not allowed");
+    case GIX_URL_HOST_REQUIRED: return OF_FORM(kind, "has no host where one is required");
+    }
+    return OF_FORM(kind, "is not valid");
+}
+
+#define UNWRITABLE "the location can't be written"
+
+static const char *unwritable_words(gix_url_write_fault fault) {
+    switch (fault) {
+    case GIX_URL_WRITE_FAULT_NONE: break;
+    case GIX_URL_WRITE_HELPER_NAME: return UNWRITABLE ": the remote helper has no valid name";
+    case GIX_URL_WRITE_HELPER_PARTS:
+        return UNWRITABLE ": a remote helper comes with a user, a password, a host or a port";
+    case GIX_URL_WRITE_RELATIVE_SSH:
+        return UNWRITABLE ": a relative path of Secure Shell comes without a host, or with a password or a port";
+    case GIX_URL_WRITE_USER_WITHOUT_HOST: return UNWRITABLE ": a user comes without a host";
+    }
+    return UNWRITABLE;
+}
+
+const char *gix_url_error_words(gix_url_error error, const gix_url_problem *problem) {
+    static const gix_url_problem no_problem;
+    if (!problem) problem = &no_problem;
+    switch (error) {
+    case GIX_URL_OK: return "no error";
+    case GIX_URL_MEMORY: return "out of memory";
+    case GIX_URL_EMPTY_LOCAL: return "the location is empty";
+    case GIX_URL_MISSING_PATH: return OF_FORM(problem->kind, "has no path");
+    case GIX_URL_NOT_UTF8: return OF_FORM(problem->kind, "is not UTF-8");
+    case GIX_URL_TOO_LONG: return "the scheme or the authority of the URL is longer than 1024 bytes";
+    case GIX_URL_BAD_URL: return bad_url_words(problem->kind, problem->fault);
+    case GIX_URL_HELPER_NAME: return "the remote helper has no valid name";
+    case GIX_URL_UNWRITABLE: return unwritable_words(problem->write_fault);
+    case GIX_URL_NO_LOCATION: return "the struct holds no location";
+    case GIX_URL_NO_ROOM: return "the room is too small for the answer";
+    case GIX_URL_NULL: return "a pointer is null that may not be";
+    }
+    return "an unknown error";
 }
 
 const char *gix_url_error_name(gix_url_error error) {

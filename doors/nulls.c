@@ -92,7 +92,7 @@ typedef struct answer {
 
 /* The same with this pointer null, in room of this size. */
 static answer answer_with(int call, answer wanted, size_t room, int null) {
-    if (null & calls[call].wants) wanted.error = GIX_URL_NULL;
+    if (null & calls[call].wants) wanted = (answer){.error = GIX_URL_NULL};
     else if (null == SUBJECT) wanted = (answer){.error = GIX_URL_EMPTY_LOCAL};
     else if (wanted.error == GIX_URL_OK && (room < wanted.len || (null == ROOM && wanted.len) || (null == PAIRS && wanted.count)))
         wanted.error = GIX_URL_NO_ROOM;
@@ -101,7 +101,7 @@ static answer answer_with(int call, answer wanted, size_t room, int null) {
 
 /* Stores what is to be stored beside the answer itself. */
 static void store(int call, const answer *answer, int null, places *to) {
-    int stored = answer->error == GIX_URL_NULL ? 0 : calls[call].takes & ~null;
+    int stored = calls[call].takes & ~null;
     if (stored & PROBLEM) memcpy(&to->problem, &answer->problem, sizeof to->problem);
     if (answer->error != GIX_URL_OK && answer->error != GIX_URL_NO_ROOM) return;
     if (stored & LENGTH) to->len = answer->len;
@@ -147,9 +147,9 @@ static const struct {
     {TEXT("a\0b"), {.len = 3}},
     {TEXT("http://u:secret@h/a?b=c#d"), {.len = 16}},
     {TEXT(""), {GIX_URL_EMPTY_LOCAL, {0}, 0, 0}},
-    {TEXT("http://h:x/"), {GIX_URL_BAD_URL, {.kind = GIX_URL_KIND_URL, .fault = GIX_URL_BAD_PORT}, 0, 0}},
-    {TEXT("ssh://h"), {GIX_URL_MISSING_PATH, {.kind = GIX_URL_KIND_URL}, 0, 0}},
-    {TEXT("http://h/\xff"), {GIX_URL_NOT_UTF8, {.kind = GIX_URL_KIND_URL}, 0, 0}},
+    {TEXT("http://h:x/"), {GIX_URL_BAD_URL, {.kind = GIX_URL_KIND_URL, .fault = GIX_URL_BAD_PORT, .at = 9, .len = 1}, 0, 0}},
+    {TEXT("ssh://h"), {GIX_URL_MISSING_PATH, {.kind = GIX_URL_KIND_URL, .at = 7}, 0, 0}},
+    {TEXT("http://h/\xff"), {GIX_URL_NOT_UTF8, {.kind = GIX_URL_KIND_URL, .at = 9}, 0, 0}},
 };
 
 #define NO_LOCATION {GIX_URL_NO_LOCATION, {0}, 0, 0}
@@ -230,7 +230,7 @@ static void of_long_parts(void) {
         }
 }
 
-/* A text that is too long tells how much of it is shown, and its length. */
+/* A text that is too long tells how much of it is shown, its length, and what of it is too long. */
 static void of_length(void) {
     static char input[2000], room[8192];
     gix_url url;
@@ -239,6 +239,7 @@ static void of_length(void) {
     memcpy(input, "http://", 7);
     HOLDS(gix_url_parse(input, sizeof input, room, sizeof room, &url, NULL, &problem) == GIX_URL_TOO_LONG);
     HOLDS(problem.shown == 1031 && problem.total == 2000 && problem.kind == GIX_URL_KIND_NONE);
+    HOLDS(problem.at == 7 && problem.len == 1024);
 }
 
 /* Of a null pointer no length counts; a struct without parts is the file URL of an empty path. */
@@ -285,6 +286,20 @@ static void of_names(void) {
     HOLDS(strcmp(gix_url_error_name(GIX_URL_NO_LOCATION), "NoLocation") == 0 && strcmp(gix_url_error_name((gix_url_error)55), "?") == 0);
     HOLDS(strcmp(gix_url_fault_name((gix_url_fault)9), "?") == 0 && strcmp(gix_url_kind_name((gix_url_kind)9), "?") == 0);
     HOLDS(!gix_url_scheme_text(NULL).at);
+    HOLDS(strcmp(gix_url_version(), "0.40.1") == 0 && strcmp(gix_url_version(), GIX_URL_VERSION) == 0);
+}
+
+/* Each error says something to people, with no problem too, and no two say the same. */
+static void of_words(void) {
+    static const gix_url_error errors[] = {
+        GIX_URL_OK, GIX_URL_MEMORY, GIX_URL_EMPTY_LOCAL, GIX_URL_MISSING_PATH, GIX_URL_NOT_UTF8, GIX_URL_TOO_LONG, GIX_URL_BAD_URL,
+        GIX_URL_HELPER_NAME, GIX_URL_UNWRITABLE, GIX_URL_NO_LOCATION, GIX_URL_NO_ROOM, GIX_URL_NULL, (gix_url_error)55};
+    const gix_url_problem strange = {.kind = (gix_url_kind)9, .fault = (gix_url_fault)9, .write_fault = (gix_url_write_fault)9};
+    for (size_t i = 0; i < sizeof errors / sizeof *errors; i++) {
+        const char *words = gix_url_error_words(errors[i], NULL);
+        HOLDS(*words && strcmp(words, gix_url_error_words(errors[i], &strange)) == 0);
+        for (size_t j = 0; j < i; j++) HOLDS(strcmp(words, gix_url_error_words(errors[j], NULL)) != 0);
+    }
 }
 
 int main(void) {
@@ -295,5 +310,6 @@ int main(void) {
     of_nothing();
     of_spellings();
     of_names();
+    of_words();
     return 0;
 }

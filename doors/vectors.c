@@ -142,6 +142,14 @@ static void tell_url(line *out, const gix_url *url) {
     put_word(out, "}");
 }
 
+/* Tells where in a text the fault of an error is. */
+static void tell_place(line *out, gix_url_error error, const gix_url_problem *problem) {
+    if (error < GIX_URL_MISSING_PATH || error > GIX_URL_BAD_URL) return;
+    put_word(out, ",\"at\":"), put_number(out, problem->at);
+    if (error != GIX_URL_TOO_LONG && error != GIX_URL_BAD_URL) return;
+    put_word(out, ",\"len\":"), put_number(out, problem->len);
+}
+
 /* Tells an error by its names. Of a text that is too long the front is told that is fit to be shown. */
 static void tell_error(line *out, gix_url_error error, const gix_url_problem *problem, gix_url_text refused) {
     put_word(out, "{\"error\":\""), put_word(out, gix_url_error_name(error));
@@ -154,6 +162,7 @@ static void tell_error(line *out, gix_url_error error, const gix_url_problem *pr
         put_member(out, "kept", (gix_url_text){refused.at, problem->shown});
         put_word(out, ",\"total\":"), put_number(out, problem->total);
     }
+    tell_place(out, error, problem);
     put_word(out, "}");
 }
 
@@ -174,6 +183,18 @@ static gix_url_text written(const gix_url *url, gix_url_error *error, gix_url_pr
     return text;
 }
 
+/* Takes over where the fault is in the text of parts that were refused, which is read for it. */
+static void place_in(gix_url_text text, gix_url_error error, gix_url_problem *problem) {
+    gix_url url;
+    gix_url_error again;
+    gix_url_problem read;
+    HOLDS(problem->at == 0 && problem->len == 0);
+    if (!text.at) return;
+    char *room = read_input(text, &url, &again, &read);
+    HOLDS(!room && again == error && read.fault == problem->fault && read.kind == problem->kind);
+    *problem = read;
+}
+
 static void from_parts(line *out, const order *order) {
     gix_url url, parts = location(order, "record");
     gix_url_error error;
@@ -181,7 +202,7 @@ static void from_parts(line *out, const order *order) {
     gix_url_text text = written(&parts, &error, &problem);
     char *room = make_parts(&parts, &url, &error, &problem);
     if (error == GIX_URL_OK) tell_url(out, &url);
-    else tell_error(out, error, &problem, text);
+    else place_in(text, error, &problem), tell_error(out, error, &problem, text);
     free(room);
     free((char *)text.at);
 }
@@ -288,6 +309,41 @@ static void over_url(line *out, gix_url_text call, const order *order) {
     free(room);
 }
 
+/* The error of these names, and what they tell of it. */
+static gix_url_error named_error(gix_url_text names, gix_url_problem *problem) {
+    gix_url_error error = GIX_URL_OK;
+    const char *end = names.at + names.len;
+    for (const char *at = names.at; at < end;) {
+        const char *space = memchr(at, ' ', (size_t)(end - at));
+        gix_url_text word = {at, (size_t)((space ? space : end) - at)};
+        for (int i = 1; i < 128; i++) {
+            if (at == names.at && is_word(word, gix_url_error_name((gix_url_error)i))) error = (gix_url_error)i;
+            if (at == names.at) continue;
+            if (is_word(word, gix_url_kind_name((gix_url_kind)i))) problem->kind = (gix_url_kind)i;
+            if (is_word(word, gix_url_fault_name((gix_url_fault)i))) problem->fault = (gix_url_fault)i;
+            if (is_word(word, gix_url_write_fault_name((gix_url_write_fault)i))) problem->write_fault = (gix_url_write_fault)i;
+        }
+        at = space ? space + 1 : end;
+    }
+    return error;
+}
+
+/* The words of the error that a text is refused with, or of the error of these names; the length of a text that is too
+ * long, which the library says too, is told beside them. */
+static void fmt_error(line *out, const order *order) {
+    gix_url url;
+    gix_url_problem problem = {.total = 2016};
+    gix_url_error error;
+    gix_url_text names = value(order, "error.error");
+    char *room = NULL;
+    if (names.at) error = named_error(names, &problem);
+    else room = read_input(value(order, "text"), &url, &error, &problem);
+    put_word(out, "{\"shown\":\""), put_word(out, gix_url_error_words(error, &problem));
+    if (error == GIX_URL_TOO_LONG) put_word(out, ", in a text of "), put_number(out, problem.total), put_word(out, " bytes");
+    put_word(out, "\"}");
+    free(room);
+}
+
 static void scheme_text(line *out, gix_url_text told) {
     gix_url url;
     memset(&url, 0, sizeof url);
@@ -299,6 +355,7 @@ static void carry_out(line *out, const order *order) {
     gix_url_text call = value(order, "call");
     if (is_word(call, "parse::parse")) parse(out, value(order, "text"));
     else if (is_word(call, "Url::from_parts")) from_parts(out, order);
+    else if (is_word(call, "Error:fmt")) fmt_error(out, order);
     else if (is_word(call, "Scheme::as_str")) scheme_text(out, value(order, "scheme"));
     else over_url(out, call, order);
 }

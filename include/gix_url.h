@@ -1,7 +1,7 @@
 /* Git locations: remote helpers (name::address), URLs, the scp form (user@host:path) and local paths, read, written and
  * told apart by the library gix_url, whose answers are proved.
  *
- * Link libgix_url.a, which scripts/doors builds, and nothing else but the C library.
+ * Link libgix_url, which scripts/doors builds and installs, and nothing else but the C library.
  *
  * A location is a plain struct of parts, and each part is a pointer and a length in bytes. Parts may hold any bytes,
  * byte 0 among them, and don't end in one. Nothing here has to be freed: what a call answers goes into room that
@@ -19,10 +19,9 @@
  *
  *   GIX_URL_OK       the answer, all of it, and a problem that is all 0
  *   GIX_URL_NO_ROOM  the lengths that are needed (needed, needed_pairs, len), and a problem that is all 0
- *   GIX_URL_NULL     nothing; the problem is as it was
- *   any other error  the problem, and nothing else
+ *   any other error  the problem, which for GIX_URL_NULL is all 0, and nothing else
  *
- * All else keeps each byte that it held: the room, pairs, url, settled, agrees, len, seen, components, needed and
+ * So a problem is set by each call that is handed one, whatever it returns. All else keeps each byte that it held: the room, pairs, url, settled, agrees, len, seen, components, needed and
  * needed_pairs. So a call that fails leaves no part of a location in the room, and no password. On GIX_URL_OK the bytes of
  * the room behind the answer are kept. */
 #ifndef GIX_URL_H
@@ -35,6 +34,15 @@
 #ifdef __cplusplus
 extern "C" {
 #endif
+
+/* The version of this header. */
+#define GIX_URL_VERSION_MAJOR 0
+#define GIX_URL_VERSION_MINOR 40
+#define GIX_URL_VERSION_PATCH 1
+#define GIX_URL_VERSION "0.40.1"
+
+/* The version of the library that is linked, as GIX_URL_VERSION: the text ends in a byte 0 and stays for good. */
+const char *gix_url_version(void);
 
 /* What a call answers. */
 typedef enum gix_url_error {
@@ -87,6 +95,8 @@ typedef struct gix_url_problem {
     gix_url_write_fault write_fault; /* UNWRITABLE */
     size_t shown;                    /* TOO_LONG: how many bytes of the input's front are fit to be shown */
     size_t total;                    /* TOO_LONG: the length of the input */
+    size_t at;  /* of gix_url_parse, but for EMPTY_LOCAL: how many bytes of the input stand before what is wrong */
+    size_t len; /* TOO_LONG, BAD_URL, as at: the length of what is wrong, in bytes; 0 where something is missing */
 } gix_url_problem;
 
 /* What a location is reached by. */
@@ -213,6 +223,11 @@ typedef struct gix_url_components {
 gix_url_error gix_url_path_query_fragment(const gix_url *url, char *room, size_t room_len, gix_url_pair *pairs,
                                           size_t pair_room, gix_url_components *components, size_t *needed,
                                           size_t *needed_pairs);
+
+/* What an error says to people, in the library's words: "the URL has an invalid port". The problem may be null, or tell
+ * nothing of the error: then the words say less. They show no byte of what was refused, end in a byte 0 and stay for good.
+ * Of GIX_URL_TOO_LONG the library's own words end in ", in a text of N bytes", where N is total of the problem. */
+const char *gix_url_error_words(gix_url_error error, const gix_url_problem *problem);
 
 /* The name of an error, a fault or a form, as EmptyLocal, BadPort or Scp; a number that stands for none is named "?". The
  * names end in a byte 0 and stay for good. */

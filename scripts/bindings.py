@@ -1,13 +1,14 @@
-"""Who carries out the orders of `scripts/vectors`: the program `answers`, or the binding for C or for Rust, by a small
-program in that language, `doors/vectors.c` or the example `vectors` of the crate.
+"""Who carries out the orders of `scripts/vectors`: the program `answers`, or the binding for C, for Python or for Rust, by a
+small program in that language, `doors/vectors.c`, `doors/vectors.py` or the example `vectors` of the crate.
 
 A binding takes an order as one line of members `name=value`, parted by tabs, so that its program needs no reader of
 JSON. A location made of parts is flat, as `url.host=h`. `\\x` with two digits is a control character, a backslash or a
 byte that is no part of UTF-8. The outcome is told in JSON as by `answers`, but for bytes past ASCII, each of which is
 told as U+EF00 with the byte added; so outcomes are compared by the bytes that their texts stand for.
 
-Neither binding tells whether a name or a value of a query is owned: `{"owned": text}` is compared as the text. An error
-of C keeps no bytes, so `kept` is left out, but for a text that is too long, of which it tells how much is to be shown.
+No binding tells whether a name or a value of a query is owned: `{"owned": text}` is compared as the text. An error
+of C keeps no bytes, so `kept` is left out, but for a text that is too long, of which it tells how much is to be shown; so it is in Python, which
+stands on C.
 No binding tells where in a text the fault stands: `at` and `len` of an error are left out, and so they are of what
 `Debug` shows of it (`PLACES`).
 """
@@ -20,15 +21,15 @@ from kit import ROOT, program
 
 FOLDER = f"{ROOT}/out/doors"
 
-# Calls that both bindings have, and those that one of them has.
-BOTH = {
-    "parse::parse", "Scheme::as_str", "Url::agrees_with_git", "Url::from_parts", "Url::host", "Url::host_argument_safe",
+# Calls that all bindings have, and those that not all of them have.
+ALL = {
+    "parse::parse", "Error:fmt", "Scheme::as_str", "Url::agrees_with_git", "Url::from_parts", "Url::host", "Url::host_argument_safe",
     "Url::host_as_argument", "Url::is_settled", "Url::original_path", "Url::password", "Url::path_argument_safe",
     "Url::path_is_root", "Url::path_query_fragment", "Url::port_or_default", "Url::to_bstring", "Url::user",
     "Url::user_argument_safe", "Url::user_as_argument", "Url:fmt"}
 ONLY_C = {"Url::text_len"}
 ONLY_RUST = {
-    "Error:fmt", "PathComponents::clone", "PathComponents:Eq", "Scheme::clone", "Scheme::from_text", "Scheme:Ord",
+    "PathComponents::clone", "PathComponents:Eq", "Scheme::clone", "Scheme::from_text", "Scheme:Ord",
     "Scheme:fmt", "Url::clone", "Url::default_in", "Url::from_bytes", "Url::from_text", "Url::set_password",
     "Url::set_user", "Url::with_request_alternate_form", "Url::write_to", "Url:Ord", "UrlFault:fmt", "UrlKind:fmt",
     "WriteFault:fmt"}
@@ -130,13 +131,14 @@ class Binding(Answers):
 
 
 class C(Binding):
-    name, calls = "c", BOTH | ONLY_C
+    name, calls = "c", ALL | ONLY_C
 
     def makes(self, row):
-        """All but other styles than the plain one, and parts that are a record of the older form: C restores parts."""
-        url = row.members.get("url")
+        """All but other styles than the plain one, parts that are a record of the older form, as C restores parts, and an
+        error that C doesn't have."""
+        url, error = row.members.get("url"), row.members.get("error", {})
         is_older = isinstance(url, dict) and "spelling" in url and url["spelling"] == url.get("path", "")
-        return super().makes(row) and row.members.get("style") is None and not is_older
+        return super().makes(row) and row.members.get("style") is None and not is_older and error.get("error") not in FOREIGN
 
     def tells(self, name, outcome):
         return super().tells(name, outcome) and (name != "kept" or "total" in outcome)
@@ -148,8 +150,22 @@ class C(Binding):
         return file
 
 
+class Python(C):
+    """The module over the shared library of `scripts/doors`, or the one that the environment names."""
+
+    name = "python"
+
+    def makes(self, row):
+        """What C makes, but for an error that no call returned."""
+        return super().makes(row) and "error" not in row.members
+
+    def command(self):
+        os.environ.setdefault("GIX_URL_LIBRARY", f"{FOLDER}/lib/libgix_url.so.1")
+        return f"{ROOT}/doors/vectors.py"
+
+
 class Rust(Binding):
-    name, calls = "rust", BOTH | ONLY_RUST
+    name, calls = "rust", ALL | ONLY_RUST
 
     def makes(self, row):
         """All but a location with a spelling, and an error that the crate doesn't have."""
@@ -165,4 +181,4 @@ class Rust(Binding):
         return f"{folder}/debug/examples/vectors"
 
 
-WHO = {it.name: it for it in (Answers(), C(), Rust())}
+WHO = {it.name: it for it in (Answers(), C(), Python(), Rust())}

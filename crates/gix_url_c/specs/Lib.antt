@@ -4,4 +4,5 @@ pub mod Left
 pub mod Handed
 pub mod Answers
 pub mod Looks
+pub mod Place
 pub mod Parted

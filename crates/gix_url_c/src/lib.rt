@@ -16,6 +16,7 @@ pub mod given;
 pub mod handed;
 pub mod looking;
 pub mod part;
+pub mod place;
 pub mod reading;
 mod room;
 pub mod writing;

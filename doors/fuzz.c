@@ -1,0 +1,230 @@
+/* Makes every call of gix_url.h over what a fuzzer hands in, and looks at what each promises: LLVMFuzzerTestOneInput is
+ * called by libFuzzer, or by doors/fuzz_driver.c. scripts/fuzz builds and runs it.
+ *
+ * The first byte says what the others are: a text, or a location, whose parts are slices of the same bytes, which overlap.
+ * Rooms end at memory that can't be touched, and are just large enough, one byte short and of no bytes at all. */
+#include "told.h"
+
+#include <pthread.h>
+#include <string.h>
+
+enum { THREADS = 4, THREADED = 64 };
+
+/* The next byte of what was handed in; 0 behind its end. */
+static uint8_t next(gix_url_text *from) {
+    if (from->len == 0) return 0;
+    from->len--;
+    return (uint8_t)*from->at++;
+}
+
+/* A location of slices of the bytes; a part that isn't there has a length all the same. */
+static gix_url parts_of(gix_url_text *from) {
+    gix_url url;
+    memset(&url, 0, sizeof url);
+    gix_url_text *parts[] = {&url.name, &url.user, &url.password, &url.host, &url.path, &url.spelling};
+    uint8_t cuts[2 * 6], flags;
+    url.scheme = (gix_url_scheme)(next(from) % 9);
+    flags = next(from);
+    url.alternative = flags & 64;
+    url.has_port = flags & 128;
+    url.port = (uint16_t)(next(from) << 8 | next(from));
+    for (size_t i = 0; i < sizeof cuts; i++) cuts[i] = next(from);
+    for (size_t i = 0; i < 6; i++) {
+        size_t at = cuts[2 * i] % (from->len + 1);
+        bool is_there = flags >> i & 1;
+        *parts[i] = (gix_url_text){is_there ? from->at + at : NULL, is_there ? cuts[2 * i + 1] % (from->len - at + 1) : SIZE_MAX};
+    }
+    return url;
+}
+
+static bool is_blank(const char *bytes, size_t len) {
+    for (size_t i = 0; i < len; i++)
+        if ((uint8_t)bytes[i] != 0xA5) return false;
+    return true;
+}
+
+static bool has_no_problem(const gix_url_problem *problem) {
+    static const gix_url_problem none;
+    return memcmp(problem, &none, sizeof none) == 0;
+}
+
+/* A problem is that of its error, and all 0 where there is none. */
+static void is_problem_of(gix_url_error error, const gix_url_problem *problem) {
+    const char *words = gix_url_error_words(error, problem);
+    HOLDS(*words && strcmp(gix_url_error_name(error), "?") != 0);
+    HOLDS(strcmp(gix_url_kind_name(problem->kind), "?") != 0 && strcmp(gix_url_fault_name(problem->fault), "?") != 0);
+    HOLDS(strcmp(gix_url_write_fault_name(problem->write_fault), "?") != 0);
+    HOLDS((error == GIX_URL_BAD_URL) == (problem->fault != 0));
+    HOLDS((error == GIX_URL_UNWRITABLE) == (problem->write_fault != 0));
+    HOLDS((error == GIX_URL_TOO_LONG) == (problem->total != 0) && problem->shown <= problem->total);
+    if (error == GIX_URL_OK || error == GIX_URL_NO_ROOM || error == GIX_URL_NO_LOCATION) HOLDS(has_no_problem(problem));
+}
+
+/* The text that a call puts, in room that is one byte short, which keeps its bytes, and in room that is just large enough.
+ * It is to be freed. */
+static char *put_of(putter *call, const gix_url *url, size_t *len) {
+    gix_url_problem problem;
+    size_t again = 77;
+    gix_url_error error = call(url, NULL, SIZE_MAX, len, &problem);
+    is_problem_of(error, &problem);
+    if (error != GIX_URL_NO_ROOM) {
+        HOLDS(call(url, NULL, 0, &again, NULL) == error && again == 77);
+        return NULL;
+    }
+    char *room = at_wall(1, NULL, *len - 1);
+    memset(room, 0xA5, *len - 1);
+    HOLDS(call(url, room, *len - 1, &again, &problem) == GIX_URL_NO_ROOM && again == *len);
+    HOLDS(is_blank(room, *len - 1) && has_no_problem(&problem));
+    room = at_wall(1, NULL, *len);
+    HOLDS(call(url, room, *len, &again, &problem) == GIX_URL_OK && again == *len && has_no_problem(&problem));
+    char *text = malloc(*len);
+    HOLDS(text);
+    memcpy(text, room, *len);
+    return text;
+}
+
+/* A settled location is read and written the same again, and made of its own parts. */
+static void comes_back(const gix_url *url, const char *text, size_t len) {
+    gix_url again, made = *url;
+    gix_url_error error;
+    gix_url_problem problem;
+    size_t len_again = 0;
+    char *room = read_input((gix_url_text){text, len}, &again, &error, &problem);
+    HOLDS(error == GIX_URL_OK && has_same_fields(url, &again));
+    char *text_again = put_of(gix_url_write, &again, &len_again);
+    HOLDS(len_again == len && memcmp(text, text_again, len) == 0);
+    free(text_again);
+    free(room);
+    room = malloc(GIX_URL_ROOM(len));
+    /* The parts and the answer are the same struct. */
+    HOLDS(room && gix_url_from_parts(&made, room, GIX_URL_ROOM(len), &made, NULL, &problem) == GIX_URL_OK);
+    HOLDS(has_same_fields(url, &made) && has_no_problem(&problem));
+    free(room);
+}
+
+/* No call takes a struct that holds no location, and none stores anything. */
+static void is_no_location(const gix_url *url) {
+    gix_url made;
+    gix_url_problem problem;
+    gix_url_seen seen;
+    gix_url_components parts;
+    bool is;
+    size_t len;
+    HOLDS(gix_url_agrees_with_git(url, &is) == GIX_URL_NO_LOCATION && gix_url_look(url, &seen) == GIX_URL_NO_LOCATION);
+    HOLDS(gix_url_write(url, NULL, 9, &len, &problem) == GIX_URL_NO_LOCATION && has_no_problem(&problem));
+    HOLDS(gix_url_display(url, NULL, 9, &len, &problem) == GIX_URL_NO_LOCATION && has_no_problem(&problem));
+    HOLDS(gix_url_from_parts(url, NULL, 9, &made, &len, &problem) == GIX_URL_NO_LOCATION && has_no_problem(&problem));
+    HOLDS(gix_url_path_query_fragment(url, NULL, 9, NULL, 9, &parts, &len, &len) == GIX_URL_NO_LOCATION);
+}
+
+/* A usable part doesn't begin with -, and a dangerous one does. */
+static void is_judged(gix_url_argument judged, gix_url_text part) {
+    bool is_option = part.at && part.len && *part.at == '-';
+    HOLDS(judged == (part.at ? is_option ? GIX_URL_DANGEROUS : GIX_URL_USABLE : GIX_URL_ABSENT));
+}
+
+static void is_seen(const gix_url *url) {
+    gix_url_seen seen;
+    HOLDS(gix_url_look(url, &seen) == GIX_URL_OK);
+    is_judged(seen.user, url->user);
+    is_judged(seen.host, url->host);
+    HOLDS(!url->has_port || (seen.has_port && seen.port == url->port));
+    HOLDS(is_same(seen.original_path, url->spelling) || seen.original_path.len == (url->path.at ? url->path.len : 0));
+}
+
+/* All that is asked of a location. */
+static void is_answered(const gix_url *url) {
+    bool settled, agrees;
+    size_t len = 0, shown_len = 0;
+    gix_url_components parts;
+    gix_url_error error = gix_url_is_settled(url, &settled);
+    HOLDS(error == GIX_URL_OK || error == GIX_URL_NO_LOCATION);
+    if (error == GIX_URL_NO_LOCATION) {
+        is_no_location(url);
+        return;
+    }
+    HOLDS(gix_url_agrees_with_git(url, &agrees) == GIX_URL_OK && (settled || !agrees));
+    is_seen(url);
+    char *text = put_of(gix_url_write, url, &len);
+    char *shown = put_of(gix_url_display, url, &shown_len);
+    HOLDS(!text == !shown && (text || !settled));
+    if (settled) comes_back(url, text, len);
+    free(shown);
+    free(text);
+    free(components_of(url, &parts));
+    gix_url_pair pair;
+    HOLDS(gix_url_path_query_fragment(url, NULL, SIZE_MAX, &pair, SIZE_MAX, &parts, NULL, &len) != GIX_URL_OK || len == 0);
+}
+
+static void is_made(const gix_url *parts) {
+    gix_url url;
+    gix_url_error error;
+    gix_url_problem problem;
+    char *room = make_parts(parts, &url, &error, &problem);
+    is_problem_of(error, &problem);
+    if (error == GIX_URL_OK) is_answered(&url);
+    free(room);
+}
+
+static void is_read(gix_url_text input) {
+    gix_url url;
+    gix_url_error error;
+    gix_url_problem problem;
+    char *room = read_input(input, &url, &error, &problem);
+    is_problem_of(error, &problem);
+    if (error == GIX_URL_OK) is_answered(&url);
+    free(room);
+}
+
+/* What one thread reads and writes. */
+typedef struct work {
+    gix_url_text input;
+    gix_url_error error;
+    char *room, *text;
+    size_t len;
+} work;
+
+static void *works(void *of) {
+    work *work = of;
+    gix_url url;
+    size_t room = GIX_URL_ROOM(work->input.len);
+    work->room = malloc(room);
+    work->error = gix_url_parse(work->input.at, work->input.len, work->room, room, &url, NULL, NULL);
+    if (work->error != GIX_URL_OK || gix_url_write(&url, NULL, 0, &work->len, NULL) != GIX_URL_NO_ROOM) return NULL;
+    work->text = malloc(work->len);
+    gix_url_write(&url, work->text, work->len, &work->len, NULL);
+    return NULL;
+}
+
+/* Threads that read the same bytes answer the same. */
+static void is_threaded(gix_url_text input) {
+    pthread_t threads[THREADS];
+    work works_of[THREADS];
+    for (size_t i = 0; i < THREADS; i++) {
+        works_of[i] = (work){.input = input};
+        HOLDS(pthread_create(&threads[i], NULL, works, &works_of[i]) == 0);
+    }
+    for (size_t i = 0; i < THREADS; i++) {
+        const work *one = &works_of[i], *first = works_of;
+        HOLDS(pthread_join(threads[i], NULL) == 0);
+        HOLDS(one->error == first->error && one->len == first->len && !one->text == !first->text);
+        HOLDS(!one->text || memcmp(one->text, first->text, one->len) == 0);
+    }
+    for (size_t i = 0; i < THREADS; i++) free(works_of[i].room), free(works_of[i].text);
+}
+
+int LLVMFuzzerTestOneInput(const uint8_t *data, size_t len);
+int LLVMFuzzerTestOneInput(const uint8_t *data, size_t len) {
+    gix_url_text input = {(const char *)data, len};
+    about(input);
+    uint8_t kind = next(&input);
+    if (kind & 1) {
+        gix_url url = parts_of(&input);
+        is_answered(&url);
+        is_made(&url);
+    } else {
+        is_read(input);
+        if (kind % THREADED == 0) is_threaded(input);
+    }
+    return 0;
+}

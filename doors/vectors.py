@@ -1,0 +1,147 @@
+#!/usr/bin/env python3
+"""Carries out the orders of the standard input, a line each, by the module gix_url, and tells how each call ended, in a line
+of JSON, as the program `answers` does. scripts/bindings.py writes orders and says how they are written."""
+import json
+import os
+import re
+import sys
+
+sys.dont_write_bytecode = True
+sys.path.insert(0, f"{os.path.dirname(os.path.realpath(__file__))}/../python")
+import gix_url
+
+SCHEMES = {"File": 0, "Git": 1, "Ssh": 2, "Http": 3, "Https": 4, "Ext": 5, "Helper": 6, "HelperUrl": 7}
+NAMES = {number: name for name, number in SCHEMES.items()}
+
+
+def unescaped(value):
+    """The bytes of a value: `\\x` with two digits is a byte."""
+    return re.sub(rb"\\x(..)", lambda it: bytes([int(it[1], 16)]), value)
+
+
+def order_of(line):
+    members = (it.partition(b"=") for it in line.split(b"\t"))
+    return {name.decode(): unescaped(value) for name, _, value in members}
+
+
+def location(order, whole):
+    """The location of the parts of an order that begin so, as they are."""
+    part = {name.removeprefix(whole): it for name, it in order.items() if name.startswith(whole)}
+    scheme, space, name = part["scheme"].decode().partition(" ")
+    texts = {it: part[it].decode() for it in ("user", "password", "host") if it in part}
+    port = int(part["port"]) if "port" in part else None
+    more = {"path": part.get("path", b""), "spelling": part.get("spelling"), "alternative": part.get("alternative") == b"true"}
+    return gix_url.Url(gix_url.Scheme(SCHEMES[scheme]), name if space else None, port=port, **texts, **more)
+
+
+def told(value):
+    """A value as it is told: each byte past ASCII as U+EF00 with the byte added, and nothing where there is none."""
+    if isinstance(value, str):
+        value = value.encode()
+    return "".join(chr(it if it < 128 else 0xEF00 + it) for it in value) if isinstance(value, bytes) else value
+
+
+def told_url(url):
+    spelling = url.look().original_path
+    name = NAMES[url.scheme] + (f" {told(url.name)}" if url.name is not None else "")
+    parts = {"user": url.user, "password": url.password, "host": url.host, "port": url.port, "alternative": url.alternative or None, "path": url.path}
+    parts["spelling"] = spelling if spelling != url.path else None
+    return {"scheme": name, **{it: told(part) for it, part in parts.items() if part is not None}}
+
+
+def told_error(error, refused=b""):
+    told_ = {"error": " ".join(it for it in (error.name, error.fault, error.write_fault, error.kind) if it)}
+    return {**told_, "kept": told(refused[: error.shown]), "total": error.total} if error.total else told_
+
+
+def judged(argument, text):
+    return [None, {"usable": told(text)}, {"dangerous": told(text)}][argument]
+
+
+def usable(argument, text):
+    return told(text) if argument == gix_url.Argument.USABLE else None
+
+
+def components(url):
+    parts = url.components()
+    query = None if parts.query is None else [[told(name), told(value)] for name, value in parts.query]
+    members = {"path": told(parts.path), "query": query, "fragment": told(parts.fragment)}
+    return {name: it for name, it in members.items() if it is not None}
+
+
+def shown(url):
+    try:
+        return {"shown": told(str(url))}
+    except gix_url.Error:
+        return {"shown": "", "failed": True}
+
+
+# What each call over a location tells.
+CALLS = {
+    "Url::agrees_with_git": lambda url: url.agrees_with_git(),
+    "Url::host": lambda url: told(url.host),
+    "Url::host_argument_safe": lambda url: usable(url.look().host, url.host),
+    "Url::host_as_argument": lambda url: judged(url.look().host, url.host),
+    "Url::is_settled": lambda url: url.is_settled(),
+    "Url::original_path": lambda url: told(url.look().original_path),
+    "Url::password": lambda url: told(url.password),
+    "Url::path_argument_safe": lambda url: told(url.path) if url.look().path_is_usable else None,
+    "Url::path_is_root": lambda url: url.look().path_is_root,
+    "Url::path_query_fragment": components,
+    "Url::port_or_default": lambda url: url.look().port,
+    "Url::to_bstring": lambda url: told(bytes(url)),
+    "Url::text_len": lambda url: len(bytes(url)),
+    "Url::user": lambda url: told(url.user),
+    "Url::user_argument_safe": lambda url: usable(url.look().user, url.user),
+    "Url::user_as_argument": lambda url: judged(url.look().user, url.user),
+    "Url:fmt": shown,
+}
+
+
+def written(url):
+    """The text that making a location of parts may refuse."""
+    try:
+        return bytes(url)
+    except gix_url.Error:
+        return b""
+
+
+def outcome(order):
+    call = order["call"].decode()
+    if call == "Scheme::as_str":
+        return told(location({"scheme": order["scheme"]}, "").scheme_text())
+    if call == "Url::from_parts":
+        parts = location(order, "record.")
+        try:
+            return told_url(gix_url.from_parts(parts))
+        except gix_url.Error as error:
+            return told_error(error, written(parts))
+    if call == "Error:fmt":
+        return words(order["text"])
+    try:
+        text = order.get("text", order.get("url"))
+        url = location(order, "url.") if text is None else gix_url.parse(text)
+    except gix_url.Error as error:
+        return told_error(error, text) if call == "parse::parse" else {"halt": "not prepared"}
+    try:
+        return told_url(url) if call == "parse::parse" else CALLS[call](url)
+    except gix_url.Error as error:
+        return told_error(error)
+
+
+def words(text):
+    """What the error says that a text is refused with: the library adds the length of one that is too long."""
+    try:
+        gix_url.parse(text)
+    except gix_url.Error as error:
+        return {"shown": str(error) + (f", in a text of {error.total} bytes" if error.total else "")}
+    return None
+
+
+def main():
+    for line in sys.stdin.buffer:
+        print(json.dumps(outcome(order_of(line.rstrip(b"\n")))))
+
+
+if __name__ == "__main__":
+    main()

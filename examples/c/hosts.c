@@ -1,0 +1,30 @@
+/* Says where each remote of the standard input leads: its host and port, or why it is refused.
+ *
+ *   cc hosts.c $(pkg-config --cflags --libs gix_url) -o hosts && ./hosts <../remotes */
+#include <gix_url.h>
+#include <stdio.h>
+#include <string.h>
+
+static void lead(const gix_url *url) {
+    gix_url_seen seen;
+    if (!url->host.at)
+        printf("this machine\n");
+    else if (gix_url_look(url, &seen) == GIX_URL_OK && seen.has_port)
+        printf("%.*s %d\n", (int)url->host.len, url->host.at, seen.port);
+    else
+        printf("%.*s\n", (int)url->host.len, url->host.at);
+}
+
+int main(void) {
+    char line[4096], room[GIX_URL_ROOM(sizeof line)];
+    while (fgets(line, sizeof line, stdin)) {
+        gix_url url;
+        gix_url_problem problem;
+        gix_url_error error = gix_url_parse(line, strcspn(line, "\n"), room, sizeof room, &url, NULL, &problem);
+        if (error == GIX_URL_OK)
+            lead(&url);
+        else /* The words show no byte of the text, which may hold a password. */
+            printf("refused: %s\n", gix_url_error_words(error, &problem));
+    }
+    return 0;
+}
