@@ -50,8 +50,14 @@ def told_url(url):
 
 
 def told_error(error, refused=b""):
-    told_ = {"error": " ".join(it for it in (error.name, error.fault, error.write_fault, error.kind) if it)}
-    return {**told_, "kept": told(refused[: error.shown]), "total": error.total} if error.total else told_
+    members = {"error": " ".join(it for it in (error.name, error.fault, error.write_fault, error.kind) if it)}
+    if error.name == "TooLong":
+        members.update(kept=told(refused[: error.shown]), total=error.total)
+    if error.name in ("MissingPath", "NotUtf8", "TooLong", "BadUrl"):
+        members["at"] = error.at
+    if error.name in ("TooLong", "BadUrl"):
+        members["len"] = error.len
+    return members
 
 
 def judged(argument, text):
@@ -98,12 +104,14 @@ CALLS = {
 }
 
 
-def written(url):
-    """The text that making a location of parts may refuse."""
+def refused_parts(parts, error):
+    """The error for which parts are refused; where the fault is in their text, reading that tells."""
     try:
-        return bytes(url)
-    except gix_url.Error:
-        return b""
+        text = bytes(parts)
+        gix_url.parse(text)
+    except gix_url.Error as again:
+        return told_error(error) if again.name == "Unwritable" else told_error(again, text)
+    return {"halt": "the text of the parts is no fault"}
 
 
 def outcome(order):
@@ -115,7 +123,7 @@ def outcome(order):
         try:
             return told_url(gix_url.from_parts(parts))
         except gix_url.Error as error:
-            return told_error(error, written(parts))
+            return refused_parts(parts, error)
     if call == "Error:fmt":
         return words(order["text"])
     try:

@@ -31,7 +31,7 @@ def _struct(**fields):
 
 # The structs of gix_url.h.
 _Text = _struct(at=ctypes.c_void_p, len=_size)
-_Problem = _struct(kind=_int, fault=_int, write_fault=_int, shown=_size, total=_size)
+_Problem = _struct(kind=_int, fault=_int, write_fault=_int, shown=_size, total=_size, at=_size, len=_size)
 _Url = _struct(scheme=_int, name=_Text, user=_Text, password=_Text, host=_Text, alternative=_bool, has_port=_bool, port=_port, path=_Text, spelling=_Text)
 _Seen = _struct(user=_int, host=_int, path_is_usable=_bool, path_is_root=_bool, original_path=_Text, has_port=_bool, port=_port)
 _Components = _struct(path=_Text, fragment=_Text, query=_Text, pair_count=_size)
@@ -54,7 +54,7 @@ class Argument(enum.IntEnum):
 
 
 class Error(ValueError):
-    """What a call is refused for, by its names, None where it has none. It shows no byte of what was refused."""
+    """What a call is refused for, by its names, and where in a text that is: it shows no byte of what was refused."""
 
     def __init__(self, error, problem):
         super().__init__(_library.gix_url_error_words(error, _ref(problem)).decode())
@@ -62,7 +62,7 @@ class Error(ValueError):
         for member in ("kind", "fault", "write_fault"):
             number, name_of = getattr(problem, member), getattr(_library, f"gix_url_{member}_name")
             setattr(self, member, name_of(number).decode() if number else None)
-        self.shown, self.total = problem.shown, problem.total
+        self.shown, self.total, self.at, self.len = problem.shown, problem.total, problem.at, problem.len
 
 
 class Seen(typing.NamedTuple):

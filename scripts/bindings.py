@@ -9,7 +9,7 @@ told as U+EF00 with the byte added; so outcomes are compared by the bytes that t
 No binding tells whether a name or a value of a query is owned: `{"owned": text}` is compared as the text. An error
 of C keeps no bytes, so `kept` is left out, but for a text that is too long, of which it tells how much is to be shown; so it is in Python, which
 stands on C.
-No binding tells where in a text the fault stands: `at` and `len` of an error are left out, and so they are of what
+Rust doesn't tell where in a text the fault stands: `at` and `len` of an error are left out, and so they are of what
 `Debug` shows of it (`PLACES`).
 """
 import os
@@ -37,7 +37,7 @@ ONLY_RUST = {
 MEMBERS = {
     "call", "text", "url", "other", "record", "scheme", "user", "password", "alternative", "style", "kind", "fault",
     "error"}
-# Members of an error that no binding tells, and how `Debug` shows them.
+# Members of an error that Rust doesn't tell, and how `Debug` shows them.
 PLACES = {"at", "len"}
 SHOWN_PLACES = re.compile(r", (?:at|len): \d+|\n    (?:at|len): \d+,")
 # Errors of calls that no binding has.
@@ -141,7 +141,7 @@ class C(Binding):
         return super().makes(row) and row.members.get("style") is None and not is_older and error.get("error") not in FOREIGN
 
     def tells(self, name, outcome):
-        return super().tells(name, outcome) and (name != "kept" or "total" in outcome)
+        return name != "kept" or "total" in outcome
 
     def build(self):
         file = f"{FOLDER}/vectors"
