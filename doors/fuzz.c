@@ -172,6 +172,7 @@ static void is_read(gix_url_text input) {
     gix_url_problem problem;
     char *room = read_input(input, &url, &error, &problem);
     is_problem_of(error, &problem);
+    HOLDS(problem.at <= input.len && problem.len <= input.len - problem.at);
     if (error == GIX_URL_OK) is_answered(&url);
     free(room);
 }

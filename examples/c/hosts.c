@@ -24,7 +24,7 @@ int main(void) {
         if (error == GIX_URL_OK)
             lead(&url);
         else /* The words show no byte of the text, which may hold a password. */
-            printf("refused: %s\n", gix_url_error_words(error, &problem));
+            printf("refused at byte %zu: %s\n", problem.at, gix_url_error_words(error, &problem));
     }
     return 0;
 }
