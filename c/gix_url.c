@@ -62,6 +62,9 @@ static gix_url_text text_of(const char *at, size_t len, bool is_there) {
     return text;
 }
 
+/* The part itself, with no length where it isn't there. */
+static gix_url_text part_of(gix_url_text part) { return text_of(part.at, part.len, part.at != NULL); }
+
 /* The bytes of a part; none where it isn't there, whatever its length. */
 static gix_url_text bytes_of(gix_url_text text) {
     gix_url_text none = {nowhere, 0};
@@ -217,7 +220,7 @@ gix_url_error gix_url_look(const gix_url *url, gix_url_seen *answer) {
     answer->host = (gix_url_argument)seen.host;
     answer->path_is_usable = seen.path;
     answer->path_is_root = seen.is_root;
-    answer->original_path = seen.is_spelled ? url->spelling : url->path;
+    answer->original_path = part_of(seen.is_spelled ? url->spelling : url->path);
     answer->has_port = seen.has_port;
     answer->port = seen.port;
     return GIX_URL_OK;
@@ -354,5 +357,5 @@ gix_url_text gix_url_scheme_text(const gix_url *url) {
     static const char *const names[] = {"file", "git", "ssh", "http", "https", "ext"};
     if (!url) return text_of(NULL, 0, false);
     if ((unsigned)url->scheme < 6) return text_of(names[url->scheme], strlen(names[url->scheme]), true);
-    return url->name;
+    return part_of(url->name);
 }

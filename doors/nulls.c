@@ -255,8 +255,9 @@ static void of_nothing(void) {
     HOLDS(gix_url_parse(NULL, 5, NULL, 5, &read, NULL, NULL) == GIX_URL_EMPTY_LOCAL);
     HOLDS(gix_url_parse("/a", 0, room, sizeof room, &read, NULL, NULL) == GIX_URL_EMPTY_LOCAL);
     HOLDS(gix_url_write(&url, NULL, 0, &len, NULL) == GIX_URL_NO_ROOM && len == strlen("file://"));
-    HOLDS(gix_url_look(&url, &seen) == GIX_URL_OK && seen.user == GIX_URL_ABSENT && !seen.has_port && !seen.path_is_usable);
+    HOLDS(gix_url_look(&url, &seen) == GIX_URL_OK && !seen.original_path.at && seen.original_path.len == 0 && seen.user == GIX_URL_ABSENT && !seen.has_port && !seen.path_is_usable);
     HOLDS(gix_url_path_query_fragment(&url, NULL, 0, NULL, 9, &parts, &len, &pairs) == GIX_URL_OK && len == 0 && pairs == 0);
+    HOLDS(gix_url_scheme_text(&(gix_url){.scheme = GIX_URL_HELPER, .name = no}).len == 0);
     HOLDS(!parts.query.at && !parts.fragment.at && parts.path.at && parts.path.len == 0);
     url.scheme = GIX_URL_SSH, url.user = text("u"), url.path = text("/p");
     HOLDS(gix_url_is_settled(&url, &is) == GIX_URL_OK && !is);

@@ -49,7 +49,9 @@ void put_number(line *out, size_t number) {
 }
 
 bool is_same(gix_url_text one, gix_url_text other) {
-    return !one.at == !other.at && one.len == other.len && (one.len == 0 || memcmp(one.at, other.at, one.len) == 0);
+    /* Of what isn't there no length counts. */
+    if (!one.at || !other.at) return !one.at && !other.at;
+    return one.len == other.len && memcmp(one.at, other.at, one.len) == 0;
 }
 
 bool has_same_fields(const gix_url *one, const gix_url *other) {
