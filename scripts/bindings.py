@@ -25,14 +25,15 @@ FOLDER = f"{ROOT}/out/doors"
 ALL = {
     "parse::parse", "Error:fmt", "Scheme::as_str", "Url::agrees_with_git", "Url::from_parts", "Url::host", "Url::host_argument_safe",
     "Url::host_as_argument", "Url::is_settled", "Url::original_path", "Url::password", "Url::path_argument_safe",
-    "Url::path_is_root", "Url::path_query_fragment", "Url::port_or_default", "Url::to_bstring", "Url::user",
+    "Url::path_is_root", "Url::path_query_fragment", "Url::port_or_default", "Url::text_len", "Url::to_bstring", "Url::user",
     "Url::user_argument_safe", "Url::user_as_argument", "Url:fmt"}
-ONLY_C = {"Url::text_len"}
 ONLY_RUST = {
-    "PathComponents::clone", "PathComponents:Eq", "Scheme::clone", "Scheme::from_text", "Scheme:Ord",
-    "Scheme:fmt", "Url::clone", "Url::default_in", "Url::from_bytes", "Url::from_text", "Url::set_password",
-    "Url::set_user", "Url::with_request_alternate_form", "Url::write_to", "Url:Ord", "UrlFault:fmt", "UrlKind:fmt",
-    "WriteFault:fmt"}
+    "ForUser::clone", "ForUser:Ord", "ForUser:into", "PathComponents::clone", "PathComponents:Eq",
+    "Scheme::clone", "Scheme::default_port", "Scheme::from_text", "Scheme:Ord", "Scheme:fmt", "Url::clone",
+    "Url::default_in", "Url::from_bytes", "Url::from_parts_unchecked", "Url::from_text", "Url::reread",
+    "Url::set_password", "Url::set_user", "Url::with_request_alternate_form", "Url::write_to",
+    "Url:Ord", "UrlFault:fmt", "UrlKind:fmt", "WriteFault:fmt", "expand_path::for_shell", "expand_path::parse",
+    "expand_path::with", "ipv6::is_ipv6"}
 # Members that an order for a binding may have.
 MEMBERS = {
     "call", "text", "url", "other", "record", "scheme", "user", "password", "alternative", "style", "kind", "fault",
@@ -40,8 +41,11 @@ MEMBERS = {
 # Members of an error that Rust doesn't tell, and how `Debug` shows them.
 PLACES = {"at", "len"}
 SHOWN_PLACES = re.compile(r", (?:at|len): \d+|\n    (?:at|len): \d+,")
-# Errors of calls that no binding has.
-FOREIGN = {"NoHome", "PathNotUtf8", "Unresolved"}
+# Members that an order for Rust may have as well.
+MEMBERS_RUST = {"path", "home"}
+# Errors of calls that C doesn't have, and one that Rust doesn't have either: a path is any bytes there.
+FOREIGN_C = {"NoHome", "PathNotUtf8", "Unresolved"}
+FOREIGN_RUST = {"PathNotUtf8"}
 # The bytes past ASCII, by the characters that they are told as, and as Python has them.
 LONE = {0xEF00 + byte: 0xDC00 + byte for byte in range(0x80, 0x100)}
 
@@ -100,8 +104,10 @@ class Binding(Answers):
     def has(self, row):
         return row.members["call"] in self.calls
 
+    members = MEMBERS
+
     def makes(self, row):
-        return MEMBERS.issuperset(row.members)
+        return self.members.issuperset(row.members)
 
     def order(self, row):
         return "\t".join(flat(row.members))
@@ -131,14 +137,14 @@ class Binding(Answers):
 
 
 class C(Binding):
-    name, calls = "c", ALL | ONLY_C
+    name, calls = "c", ALL
 
     def makes(self, row):
         """All but other styles than the plain one, parts that are a record of the older form, as C restores parts, and an
         error that C doesn't have."""
         url, error = row.members.get("url"), row.members.get("error", {})
         is_older = isinstance(url, dict) and "spelling" in url and url["spelling"] == url.get("path", "")
-        return super().makes(row) and row.members.get("style") is None and not is_older and error.get("error") not in FOREIGN
+        return super().makes(row) and row.members.get("style") is None and not is_older and error.get("error") not in FOREIGN_C
 
     def tells(self, name, outcome):
         return name != "kept" or "total" in outcome
@@ -165,13 +171,14 @@ class Python(C):
 
 
 class Rust(Binding):
-    name, calls = "rust", ALL | ONLY_RUST
+    name, calls, members = "rust", ALL | ONLY_RUST, MEMBERS | MEMBERS_RUST
 
     def makes(self, row):
-        """All but a location with a spelling, and an error that the crate doesn't have."""
+        """All but a location with a spelling, an error that the crate doesn't have, and a path that it takes as it is."""
         parts = [it for it in map(row.members.get, ("url", "other", "error")) if isinstance(it, dict)]
-        is_foreign = any(it.get("spelling") is not None or it.get("error") in FOREIGN for it in parts)
-        return super().makes(row) and not is_foreign
+        is_foreign = any(it.get("spelling") is not None or it.get("error") in FOREIGN_RUST for it in parts)
+        is_refused = row.expected == [{"error": "PathNotUtf8"}, 0]
+        return super().makes(row) and not is_foreign and not is_refused
 
     def build(self):
         folder = f"{FOLDER}/cargo"

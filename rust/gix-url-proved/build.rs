@@ -1,10 +1,35 @@
-//! Links `libgix_url.a`, which `scripts/doors` builds: in `out/doors` of the repository, or in `GIX_URL_LIB`.
+//! Links `libgix_url.a`, which `scripts/doors` builds: in the folder that `GIX_URL_LIB` names, or in `out/doors` of the
+//! repository, or beside the manifest.
+
+use std::path::{Path, PathBuf};
+use std::process::exit;
+
+/// The folders in which the library may be.
+fn folders() -> Vec<PathBuf> {
+    if let Some(named) = std::env::var_os("GIX_URL_LIB") {
+        return vec![named.into()];
+    }
+    let here = std::env::var_os("CARGO_MANIFEST_DIR").expect("cargo names the folder of the crate");
+    vec![Path::new(&here).join("../../out/doors"), here.into()]
+}
 
 fn main() {
     println!("cargo:rerun-if-env-changed=GIX_URL_LIB");
-    let here = std::env::var("CARGO_MANIFEST_DIR").expect("cargo tells the folder of the crate");
-    let folder = std::env::var("GIX_URL_LIB").unwrap_or(format!("{here}/../../out/doors"));
-    println!("cargo:rerun-if-changed={folder}/libgix_url.a");
-    println!("cargo:rustc-link-search=native={folder}");
+    // Documentation is built without the library.
+    if std::env::var_os("DOCS_RS").is_some() {
+        return;
+    }
+    let folders = folders();
+    for folder in &folders {
+        println!("cargo:rerun-if-changed={}", folder.join("libgix_url.a").display());
+    }
+    let Some(folder) = folders.iter().find(|folder| folder.join("libgix_url.a").is_file()) else {
+        eprintln!(
+            "libgix_url.a is not in {}: build it with scripts/doors, or name its folder in GIX_URL_LIB",
+            folders[0].display()
+        );
+        exit(1);
+    };
+    println!("cargo:rustc-link-search=native={}", folder.display());
     println!("cargo:rustc-link-lib=static=gix_url");
 }

@@ -27,7 +27,7 @@ fn judged(judged: ArgumentSafety<'_>) -> &'static str {
 
 /// The path, the names and values of the query and the fragment, in one text.
 fn components(parts: PathComponents<'_>) -> Vec<u8> {
-    let mut told = parts.path.into_owned();
+    let mut told = parts.path.to_vec();
     if let Some(query) = parts.query {
         told.extend_from_slice(b" ?");
         for (name, value) in query {
@@ -40,7 +40,7 @@ fn components(parts: PathComponents<'_>) -> Vec<u8> {
     }
     if let Some(fragment) = parts.fragment {
         told.extend_from_slice(b" #");
-        told.extend_from_slice(&fragment);
+        told.extend_from_slice(fragment);
     }
     told
 }

@@ -1,7 +1,11 @@
 //! Carries out the orders of the standard input, a line each, by the calls of the crate, and tells how each call ended,
 //! in a line of JSON, as the program `answers` does. `scripts/bindings.py` writes orders and says how they are written.
 
+use gix_url_proved::bstr::BString;
+use gix_url_proved::expand_path::{self, ForUser};
+use gix_url_proved::ipv6::is_ipv6;
 use gix_url_proved::parse::{parse, Error, UrlFault, UrlKind, WriteFault};
+use gix_url_proved::testing::TestUrlExtension;
 use gix_url_proved::{ArgumentSafety, PathComponents, Scheme, Url};
 use std::collections::BTreeMap;
 use std::fmt::{Debug, Display, Write};
@@ -66,14 +70,14 @@ impl Order {
         url.host = self.text(&part("host"));
         url.port = self.text(&part("port")).map(|port| port.parse().expect("a port"));
         url.serialize_alternative_form = self.bytes(&part("alternative")) == b"true";
-        url.path = self.bytes(&part("path")).to_vec();
+        url.path = self.bytes(&part("path")).into();
         Some(url)
     }
 
     /// The error that a text is refused with, or the error of these names, which keeps these bytes.
     fn error(&self) -> Option<Error> {
         let Some(names) = self.text("error.error") else { return parse(self.bytes("text")).err() };
-        let kept = self.bytes("error.kept").to_vec();
+        let kept = BString::from(self.bytes("error.kept"));
         Some(match names.split(' ').collect::<Vec<&str>>().as_slice() {
             ["Memory"] => Error::Memory,
             ["EmptyLocal"] => Error::EmptyLocal,
@@ -83,6 +87,8 @@ impl Order {
             ["BadUrl", fault, name] => Error::BadUrl { kind: kind(name)?, fault: url_fault(fault)?, input: kept },
             ["HelperName"] => Error::HelperName { name: kept },
             ["Unwritable", fault] => Error::Unwritable(write_fault(fault)?),
+            ["NoHome"] => Error::NoHome(user(self, "error.user").unwrap_or(ForUser::Name(BString::default()))),
+            ["Unresolved"] => Error::Unresolved,
             _ => return None,
         })
     }
@@ -166,8 +172,18 @@ fn told_error(error: &Error) -> String {
         Error::BadUrl { kind, fault, input } => (format!("BadUrl {fault:?} {kind:?}"), Some(input), None),
         Error::HelperName { name } => ("HelperName".to_owned(), Some(name), None),
         Error::Unwritable(fault) => (format!("Unwritable {fault:?}"), None, None),
+        Error::NoHome(user) => {
+            return object([("error", Some(quoted("NoHome"))), ("user", Some(told_user(user)))]);
+        }
+        Error::Unresolved => ("Unresolved".to_owned(), None, None),
     };
     object([("error", Some(quoted(name))), ("kept", kept.map(quoted)), ("total", total.map(usize::to_string))])
+}
+
+/// A user by the sign of a home folder, with the name behind it.
+fn told_user(user: &ForUser) -> String {
+    let name = Option::<BString>::from(user.clone()).unwrap_or_default();
+    quoted([b"~", name.as_slice()].concat())
 }
 
 fn told_answer(answer: Result<Url, Error>) -> String {
@@ -184,11 +200,13 @@ fn told_judged(judged: ArgumentSafety<'_>) -> String {
 
 fn told_components(parts: &PathComponents<'_>) -> String {
     let query = parts.query.as_ref().map(|pairs| {
-        let pairs: Vec<String> =
-            pairs.iter().map(|(name, value)| format!("[{},{}]", quoted(name), quoted(value))).collect();
+        let pairs: Vec<String> = pairs
+            .iter()
+            .map(|(name, value)| format!("[{},{}]", quoted(name.as_ref()), quoted(value.as_ref())))
+            .collect();
         format!("[{}]", pairs.join(","))
     });
-    object([("path", Some(quoted(&parts.path))), ("query", query), ("fragment", parts.fragment.as_ref().map(quoted))])
+    object([("path", Some(quoted(parts.path))), ("query", query), ("fragment", parts.fragment.as_ref().map(quoted))])
 }
 
 /// A writer that takes one byte a call.
@@ -207,10 +225,13 @@ impl io::Write for Sips {
 }
 
 /// What is written of a location, and why nothing is.
-fn write(url: &Url) -> (Vec<u8>, Option<Error>) {
+fn write(url: &Url) -> (BString, Option<Error>) {
     let mut written = Sips::default();
     let error = url.write_to(&mut written).err();
-    (written.0, error.map(|error| *error.into_inner().expect("no text").downcast().expect("an error of the crate")))
+    (
+        written.0.into(),
+        error.map(|error| *error.into_inner().expect("no text").downcast().expect("an error of the crate")),
+    )
 }
 
 fn told_written(url: &Url) -> String {
@@ -226,7 +247,7 @@ fn told_text(url: &Url) -> String {
             quoted(text)
         }
         Err(error) => {
-            assert_eq!(write(url), (Vec::new(), Some(error.clone())));
+            assert_eq!(write(url), (BString::default(), Some(error.clone())));
             told_error(&error)
         }
     }
@@ -281,6 +302,10 @@ fn look(order: &Order, call: &str, url: &Url) -> Option<String> {
         "Url::write_to" => told_written(url),
         "Url:fmt" => told_shown(url, &order.text("style").unwrap_or_default()),
         "Url::is_settled" => url.is_settled().to_string(),
+        "Url::text_len" => {
+            url.text_len().map_or_else(|fault| told_error(&Error::Unwritable(fault)), |length| length.to_string())
+        }
+        "Url::reread" => told_answer(url.reread()),
         "Url::agrees_with_git" => url.agrees_with_git().to_string(),
         "Url::path_query_fragment" => told_components(&url.path_query_fragment()),
         "PathComponents::clone" => told_components(&url.path_query_fragment().clone()),
@@ -313,6 +338,7 @@ fn over_scheme(order: &Order, call: &str, scheme: &Scheme) -> Option<String> {
     Some(match call {
         "Scheme::clone" => told_scheme(&scheme.clone()),
         "Scheme::as_str" => quoted(scheme.as_str()),
+        "Scheme::default_port" => or_null(scheme.default_port().map(|port| port.to_string())),
         "Scheme:fmt" => told_shown(scheme, &order.text("style").unwrap_or_default()),
         "Scheme:Ord" => told_order(scheme, &self::scheme(&order.text("other")?)),
         _ => return None,
@@ -329,6 +355,8 @@ fn over_others(order: &Order, call: &str) -> Option<String> {
         "Url::from_text" => told_answer(Url::try_from(utf8(text).as_str())),
         "Scheme::from_text" => told_scheme(&Scheme::from(utf8(text).as_str())),
         "Url::from_parts" => told_answer(from_parts(order.parts("record")?)),
+        "Url::from_parts_unchecked" => told_url(&unchecked(order.parts("record")?)),
+        "ipv6::is_ipv6" => is_ipv6(&utf8(text)).to_string(),
         "Url::default_in" => told_url(&Url::default()),
         "Error:fmt" => told_shown(&order.error()?, &style),
         "UrlKind:fmt" => told_shown(&kind(&name("kind"))?, &style),
@@ -342,6 +370,44 @@ fn from_parts(it: Url) -> Result<Url, Error> {
     Url::from_parts(it.scheme, it.user, it.password, it.host, it.port, it.path, it.serialize_alternative_form)
 }
 
+fn unchecked(it: Url) -> Url {
+    Url::from_parts_unchecked(it.scheme, it.user, it.password, it.host, it.port, it.path, it.serialize_alternative_form)
+}
+
+/// The user of a member: `~`, and the name behind it.
+fn user(order: &Order, name: &str) -> Option<ForUser> {
+    let name = order.0.get(name)?.strip_prefix(b"~").expect("a user begins with the sign of a home folder");
+    Some(if name.is_empty() { ForUser::Current } else { ForUser::Name(name.into()) })
+}
+
+/// Calls over a path in a home folder, or over the user of one.
+fn over_homes(order: &Order, call: &str) -> Option<String> {
+    let (text, path) = (order.bytes("text"), order.bytes("path"));
+    Some(match call {
+        "expand_path::parse" => {
+            let (user, below) = expand_path::parse(text.into()).expect("each path is parted");
+            format!("[{},{}]", or_null(user.as_ref().map(told_user)), quoted(below))
+        }
+        "expand_path::for_shell" => quoted(expand_path::for_shell(text.into())),
+        "expand_path::with" => told_with(order, path),
+        "ForUser::clone" => told_user(&user(order, "user")?.clone()),
+        "ForUser:into" => or_null(Option::<BString>::from(user(order, "user")?).map(quoted)),
+        "ForUser:Ord" => told_order(&user(order, "user")?, &user(order, "other")?),
+        _ => return None,
+    })
+}
+
+/// Where a path lies in the home folder that is the answer of a closure, and how often that was called.
+fn told_with(order: &Order, path: &[u8]) -> String {
+    let mut asked = 0;
+    let answer = expand_path::with(user(order, "user").as_ref(), path.into(), |_| {
+        asked += 1;
+        order.text("home").map(Into::into)
+    });
+    let told = answer.map_or_else(|error| told_error(&error), |path| quoted(path.as_os_str().as_encoded_bytes()));
+    format!("[{told},{asked}]")
+}
+
 /// Makes the call of an order, by what it is over.
 fn carry_out(order: &Order) -> Option<String> {
     let call = order.text("call")?;
@@ -350,7 +416,7 @@ fn carry_out(order: &Order) -> Option<String> {
     }
     match order.text("scheme") {
         Some(told) => over_scheme(order, &call, &scheme(&told)),
-        None => over_others(order, &call),
+        None => over_homes(order, &call).or_else(|| over_others(order, &call)),
     }
 }
 

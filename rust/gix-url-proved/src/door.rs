@@ -3,17 +3,25 @@
 //! Each declaration says what `crates/gix_url_c/src` exports: a slice is a pointer that isn't null and a length, and what
 //! an answer is stored in lies apart from what is read. Each call hands over slices and structs that live until it
 //! returns, and the library keeps no pointer. What comes back is numbers, and bytes in room of ours, of which no more is
-//! looked at than the library says it filled.
+//! looked at than the library says it filled. Room is on the stack where that is enough, so a question takes no memory.
 
+use crate::bstr::{BStr, BString};
 use crate::parse::{Error, UrlFault, UrlKind, WriteFault};
-use crate::{ArgumentSafety, Scheme, Url};
+use crate::{ArgumentSafety, PathComponents, QueryPair, Scheme, Url};
+use std::borrow::Cow;
 use std::marker::PhantomData;
+use std::mem::MaybeUninit;
 
 const OK: u32 = 0;
 const NO_ROOM: u32 = 102;
-/// What room holds before a call. A debug build looks for it behind each error, and there it is a byte that is rarely
-/// written.
-const BLANK: u8 = if cfg!(debug_assertions) { 0xA5 } else { 0 };
+/// What room holds before a call in a debug build, which looks for it behind each error: a byte that is rarely written.
+const BLANK: u8 = 0xA5;
+/// How many bytes of room there are on the stack.
+const NEAR: usize = 1024;
+/// How many lengths of names and values there is room for on the stack.
+const NEAR_LENGTHS: usize = 32;
+/// How many separators of empty fields are looked behind for a name that is lent.
+const EMPTY_FIELDS: usize = 8;
 
 /// What of a location is a number.
 #[repr(C)]
@@ -62,13 +70,6 @@ struct Parted {
     fragment: usize,
     pairs: usize,
     bytes: usize,
-}
-
-/// Components, by their bytes.
-pub(crate) struct Parts {
-    pub(crate) path: Vec<u8>,
-    pub(crate) query: Option<Vec<(Vec<u8>, Vec<u8>)>>,
-    pub(crate) fragment: Option<Vec<u8>>,
 }
 
 /// A slice, as the library takes it.
@@ -134,8 +135,24 @@ impl<'a> Given<'a> {
             password: text(&url.password),
             host: text(&url.host),
             path: Bytes::of(&url.path),
-            spelling: Bytes::of(url.spelling.as_deref().unwrap_or(&[])),
+            spelling: Bytes::of(url.spelling.as_ref().map_or(&[], |spelling| spelling.as_slice())),
         }
+    }
+
+    /// How many bytes the parts have.
+    fn bytes(&self) -> usize {
+        [self.name, self.user, self.password, self.host, self.path].iter().map(|part| part.len).sum::<usize>()
+            + self.spelling.len
+    }
+
+    /// The location without all that has no say in its components.
+    fn path_of(url: &'a Url) -> Given<'a> {
+        let mut given = Given::of(url);
+        let is_web = matches!(url.scheme, Scheme::Http | Scheme::Https);
+        given.front = Front { scheme: if is_web { given.front.scheme } else { 0 }, ..Front::default() };
+        given.front.has_spelling = url.spelling.is_some();
+        let none = Bytes::of(&[]);
+        Given { name: none, user: none, password: none, host: none, ..given }
     }
 }
 
@@ -176,21 +193,62 @@ fn scheme(number: u8, name: String) -> Scheme {
     }
 }
 
-/// Calls with room, and once more with as much as is needed where it was too little. The call answers its number and how
-/// many bytes it needs; an error, other than that there is too little room, leaves the room as it was.
-fn with_room(ample: usize, mut call: impl FnMut(&mut [u8]) -> (u32, usize)) -> (u32, Vec<u8>) {
-    let mut room = vec![BLANK; ample];
-    let (mut code, mut needed) = call(&mut room);
+/// Makes a call that fills the front of the room. It answers its number and how many bytes it needs; an error leaves the
+/// room as it was.
+fn fill(room: &mut [MaybeUninit<u8>], call: &mut impl FnMut(*mut u8, usize) -> (u32, usize)) -> (u32, usize) {
+    if cfg!(debug_assertions) {
+        room.fill(MaybeUninit::new(BLANK));
+    }
+    let (code, needed) = call(room.as_mut_ptr().cast(), room.len());
+    if cfg!(debug_assertions) && code != OK {
+        // SAFETY: all of the room was filled above.
+        let is_blank = room.iter().all(|byte| unsafe { byte.assume_init() } == BLANK);
+        assert!(is_blank, "error {code} leaves something in the room");
+    }
+    (code, needed)
+}
+
+/// Fills memory with what a call answers, and once more with as much as is needed where it was too little.
+fn filled(ample: usize, mut call: impl FnMut(*mut u8, usize) -> (u32, usize)) -> (u32, Vec<u8>) {
+    let mut bytes = Vec::with_capacity(ample);
+    let (mut code, mut needed) = fill(bytes.spare_capacity_mut(), &mut call);
     if code == NO_ROOM {
-        room = vec![BLANK; needed];
-        (code, needed) = call(&mut room);
+        bytes.reserve_exact(needed);
+        (code, needed) = fill(bytes.spare_capacity_mut(), &mut call);
     }
     if code == OK {
-        room.truncate(needed);
-    } else {
-        debug_assert!(room.iter().all(|byte| *byte == BLANK), "error {code} leaves something in the room");
+        assert!(needed <= bytes.capacity(), "the library fills no more than the room");
+        // SAFETY: with no error the library has filled as many bytes as it says.
+        unsafe { bytes.set_len(needed) };
     }
-    (code, room)
+    (code, bytes)
+}
+
+/// Room for what a call answers: on the stack, and in memory where that is too little.
+struct Room {
+    near: [MaybeUninit<u8>; NEAR],
+    far: Vec<u8>,
+}
+
+impl Room {
+    fn new() -> Room {
+        Room { near: [MaybeUninit::uninit(); NEAR], far: Vec::new() }
+    }
+
+    /// Fills the room with what a call answers, of which so many bytes are ample.
+    fn filled(&mut self, ample: usize, mut call: impl FnMut(*mut u8, usize) -> (u32, usize)) -> (u32, &[u8]) {
+        if ample <= NEAR {
+            let (code, needed) = fill(&mut self.near, &mut call);
+            if code != NO_ROOM {
+                let answer = &self.near[..if code == OK { needed } else { 0 }];
+                // SAFETY: with no error the library has filled as many bytes as it says, and else there are none.
+                return (code, unsafe { std::slice::from_raw_parts(answer.as_ptr().cast(), answer.len()) });
+            }
+        }
+        let code;
+        (code, self.far) = filled(ample, call);
+        (code, &self.far)
+    }
 }
 
 /// The front of the bytes, which are left with the rest.
@@ -213,8 +271,8 @@ fn located(made: &Made, mut bytes: &[u8]) -> Url {
     let user = optional(made.user, front.has_user).map(text);
     let password = optional(made.password, front.has_password).map(text);
     let host = optional(made.host, front.has_host).map(text);
-    let path = optional(made.path, true).unwrap_or_default().to_vec();
-    let spelling = optional(made.spelling, front.has_spelling).map(<[u8]>::to_vec);
+    let path = optional(made.path, true).unwrap_or_default().into();
+    let spelling = optional(made.spelling, front.has_spelling).map(BString::from);
     Url {
         scheme: scheme(front.scheme, name),
         user,
@@ -259,7 +317,7 @@ fn write_fault(number: u8) -> WriteFault {
 }
 
 /// The error of this number; `input` is the text that was refused, and `name` that of a remote helper.
-fn error(code: u32, told: &Problem, input: impl FnOnce() -> Vec<u8>, name: &[u8]) -> Error {
+fn error(code: u32, told: &Problem, input: impl FnOnce() -> BString, name: &[u8]) -> Error {
     match code {
         1 => Error::Memory,
         2 => Error::EmptyLocal,
@@ -271,7 +329,7 @@ fn error(code: u32, told: &Problem, input: impl FnOnce() -> Vec<u8>, name: &[u8]
             Error::TooLong { shown, total: told.total }
         }
         6 => Error::BadUrl { kind: kind(told.kind), fault: url_fault(told.fault), input: input() },
-        7 => Error::HelperName { name: name.to_vec() },
+        7 => Error::HelperName { name: name.into() },
         8 => Error::Unwritable(write_fault(told.fault)),
         _ => unreachable!("every value of this crate is a location"),
     }
@@ -279,30 +337,28 @@ fn error(code: u32, told: &Problem, input: impl FnOnce() -> Vec<u8>, name: &[u8]
 
 /// What the bytes are read as.
 pub(crate) fn read(input: &[u8]) -> Result<Url, Error> {
-    let (mut made, mut told) = (Made::default(), Problem::default());
-    let (code, bytes) = with_room(2 * input.len() + 32, |room| {
-        // SAFETY: as in `call`.
-        let code =
-            unsafe { gix_url_c_read(input.as_ptr(), input.len(), &mut made, room.as_mut_ptr(), room.len(), &mut told) };
+    let (mut made, mut told, mut room) = (Made::default(), Problem::default(), Room::new());
+    let (code, bytes) = room.filled(2 * input.len() + 32, |room, len| {
+        let code = call!(gix_url_c_read, input.as_ptr(), input.len(), &mut made, room, len, &mut told);
         (code, bytes_of(&made))
     });
     match code {
-        OK => Ok(located(&made, &bytes)),
-        _ => Err(error(code, &told, || input.to_vec(), &[])),
+        OK => Ok(located(&made, bytes)),
+        _ => Err(error(code, &told, || input.into(), &[])),
     }
 }
 
 /// What the text of these parts means.
 pub(crate) fn from_parts(parts: &Url) -> Result<Url, Error> {
     let given = Given::of(parts);
-    let (mut made, mut told) = (Made::default(), Problem::default());
-    let (code, bytes) = with_room(256, |room| {
-        let code = call!(gix_url_c_from_parts, &given, &mut made, room.as_mut_ptr(), room.len(), &mut told);
+    let (mut made, mut told, mut room) = (Made::default(), Problem::default(), Room::new());
+    let (code, bytes) = room.filled(NEAR, |room, len| {
+        let code = call!(gix_url_c_from_parts, &given, &mut made, room, len, &mut told);
         (code, bytes_of(&made))
     });
     match code {
-        OK => Ok(located(&made, &bytes)),
-        _ => Err(error(code, &told, || write(parts).unwrap_or_default(), number(&parts.scheme).1)),
+        OK => Ok(located(&made, bytes)),
+        _ => Err(error(code, &told, || write(parts).unwrap_or_default().into(), number(&parts.scheme).1)),
     }
 }
 
@@ -329,29 +385,38 @@ fn all_answered(code: u32) {
 pub(crate) fn write(url: &Url) -> Result<Vec<u8>, Error> {
     let given = Given::of(url);
     let mut told = Problem::default();
-    let (code, bytes) = with_room(256, |room| {
+    let (code, bytes) = filled(given.bytes() + 32, |room, room_len| {
         let mut len = 0;
-        let code = call!(gix_url_c_write, &given, room.as_mut_ptr(), room.len(), &mut len, &mut told);
+        let code = call!(gix_url_c_write, &given, room, room_len, &mut len, &mut told);
         (code, len)
     });
     match code {
         OK => Ok(bytes),
-        _ => Err(error(code, &told, Vec::new, &[])),
+        _ => Err(error(code, &told, BString::default, &[])),
     }
 }
 
-/// What the location is shown as.
-pub(crate) fn display(url: &Url) -> Result<Vec<u8>, Error> {
+/// The length of the text of the location, which an empty room tells.
+pub(crate) fn text_len(url: &Url) -> Result<usize, WriteFault> {
+    let (mut len, mut told) = (0, Problem::default());
+    match call!(gix_url_c_write, &Given::of(url), [].as_mut_ptr(), 0, &mut len, &mut told) {
+        OK | NO_ROOM => Ok(len),
+        _ => Err(write_fault(told.fault)),
+    }
+}
+
+/// Hands over what the location is shown as.
+pub(crate) fn display<T>(url: &Url, show: impl FnOnce(&[u8]) -> T) -> Result<T, Error> {
     let given = Given::of(url);
-    let mut told = Problem::default();
-    let (code, bytes) = with_room(256, |room| {
+    let (mut told, mut room) = (Problem::default(), Room::new());
+    let (code, bytes) = room.filled(given.bytes() + 32, |room, room_len| {
         let mut len = 0;
-        let code = call!(gix_url_c_display, &given, room.as_mut_ptr(), room.len(), &mut len, &mut told);
+        let code = call!(gix_url_c_display, &given, room, room_len, &mut len, &mut told);
         (code, len)
     });
     match code {
-        OK => Ok(bytes),
-        _ => Err(error(code, &told, Vec::new, &[])),
+        OK => Ok(show(bytes)),
+        _ => Err(error(code, &told, BString::default, &[])),
     }
 }
 
@@ -386,36 +451,55 @@ pub(crate) fn port_or_default(scheme: &Scheme, port: Option<u16>) -> Option<u16>
     u16::try_from(told).ok()
 }
 
-/// Takes the path of the location apart.
-pub(crate) fn components(url: &Url) -> Result<Parts, Error> {
-    let given = Given::of(url);
-    let mut told = Parted::default();
-    let mut lengths = vec![0; 2 * url.path.iter().filter(|byte| **byte == b'&').count() + 2];
-    let (code, room) = with_room(url.path.len() + 1, |room| {
-        let code = call!(
-            gix_url_c_components,
-            &given,
-            &mut told,
-            room.as_mut_ptr(),
-            room.len(),
-            lengths.as_mut_ptr(),
-            lengths.len()
-        );
-        if code == NO_ROOM {
-            lengths.resize(2 * told.pairs, 0);
-        }
+/// Takes the path of the location apart. What the library copies into room is found again in the path, and lent.
+pub(crate) fn components(url: &Url) -> Result<PathComponents<'_>, Error> {
+    let given = Given::path_of(url);
+    let (mut told, mut room) = (Parted::default(), Room::new());
+    let (mut near, mut far) = ([0; NEAR_LENGTHS], vec![0; 0]);
+    let (code, bytes) = room.filled(url.path.len() + 1, |room, len| {
+        far.resize(if told.pairs > NEAR_LENGTHS / 2 { 2 * told.pairs } else { 0 }, 0);
+        let lengths = if far.is_empty() { &mut near[..] } else { &mut far };
+        let code = call!(gix_url_c_components, &given, &mut told, room, len, lengths.as_mut_ptr(), lengths.len());
         (code, told.bytes)
     });
-    if code != OK {
-        return Err(error(code, &Problem::default(), Vec::new, &[]));
+    match code {
+        OK => Ok(lent(&url.path, &told, bytes, if far.is_empty() { &near } else { &far })),
+        _ => Err(error(code, &Problem::default(), BString::default, &[])),
     }
-    let mut bytes = room.as_slice();
-    let path = next(&mut bytes, told.path).to_vec();
-    let fragment = Some(next(&mut bytes, told.fragment).to_vec()).filter(|_| told.has_fragment);
-    let mut pairs = Vec::with_capacity(told.pairs);
-    for pair in lengths[..2 * told.pairs].chunks_exact(2) {
-        let name = next(&mut bytes, pair[0]).to_vec();
-        pairs.push((name, next(&mut bytes, pair[1]).to_vec()));
+}
+
+/// The components that stand in these bytes, as far as they can be, lent by the path that they are of.
+fn lent<'a>(whole: &'a [u8], told: &Parted, mut bytes: &[u8], lengths: &[usize]) -> PathComponents<'a> {
+    // The path of a location that has none is not a part of it, and is `/`.
+    let path = if whole.starts_with(next(&mut bytes, told.path)) { &whole[..told.path] } else { b"/" };
+    next(&mut bytes, told.fragment);
+    let (query, fragment) = whole.split_at(whole.len() - told.fragment);
+    let mut query = query.get(told.path..).unwrap_or(query);
+    let mut part = |len| lent_part(&mut query, next(&mut bytes, len));
+    let pair = |pair: &[usize]| -> QueryPair<'a> { (part(pair[0]), part(pair[1])) };
+    PathComponents {
+        path: path.into(),
+        query: told.has_query.then(|| lengths[..2 * told.pairs].chunks_exact(2).map(pair).collect()),
+        fragment: told.has_fragment.then(|| fragment.into()),
     }
-    Ok(Parts { path, query: Some(pairs).filter(|_| told.has_query), fragment })
+}
+
+/// A name or a value, lent where it stands a few separators further on in the query, which then goes on behind it.
+fn lent_part<'a>(query: &mut &'a [u8], part: &[u8]) -> Cow<'a, BStr> {
+    let is_same = |(raw, byte): (&u8, &u8)| raw == byte || (*raw, *byte) == (b'+', b' ');
+    let place = (0..=EMPTY_FIELDS).find_map(|skipped| {
+        let place = query.get(skipped..skipped + part.len())?;
+        place.iter().zip(part).all(is_same).then_some((skipped, place))
+    });
+    match place {
+        Some((skipped, place)) => {
+            *query = &query[skipped + part.len()..];
+            if place == part {
+                Cow::Borrowed(place.into())
+            } else {
+                Cow::Owned(part.into())
+            }
+        }
+        None => Cow::Owned(part.into()),
+    }
 }

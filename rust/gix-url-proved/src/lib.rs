@@ -1,22 +1,46 @@
 //! Git locations: remote helpers, URLs, the scp form and local paths, read, written and told apart.
 //!
-//! The surface is that of `gix-url` 0.40.1 as far as the standard library has its types: bytes are `&[u8]` and `Vec<u8>`.
-//! The answers come from the library `gix_url`, whose code is proved, by the static library that is linked in; what is
-//! here turns values into pointers and lengths and back. All `unsafe` code stands in the module `door`.
+//! The surface is that of `gix-url` 0.40.1, by the same names, so that a program changes the line that names its
+//! dependency and little else; `docs/FROM_RUST.md` of the repository has each line that changes. The answers come from the
+//! library `gix_url`, whose code is proved, by the static library that is linked in; what is here turns values into
+//! pointers and lengths and back. All `unsafe` code is in the module `door`, and in the byte strings that stand in for
+//! those of the crate `bstr` without the feature `bstr`.
 //!
 //! ```
-//! let url = gix_url_proved::parse(b"ssh://git@example.com/gitoxide")?;
+//! let url = gix_url_proved::parse("ssh://git@example.com/gitoxide")?;
 //! assert_eq!(url.host(), Some("example.com"));
+//! assert_eq!(url.path, "/gitoxide");
 //! assert!(url.is_settled());
 //! # Ok::<(), gix_url_proved::parse::Error>(())
 //! ```
+//!
+//! # Features
+//!
+//! - `bstr`, on by default: paths and texts are the `BString` and `BStr` of the crate `bstr`. Without it they are types of
+//!   this crate's own module [`bstr`](mod@bstr), which have the same names and traits.
+//! - `serde`: [`Url`], [`Scheme`] and [`expand_path::ForUser`] are serialized and deserialized, in the format of `gix-url`.
+//! - `compare`: `cargo test` compares with `gix-url` itself, where that is installed.
 
+#[cfg(feature = "bstr")]
+pub use ::bstr;
+#[cfg(not(feature = "bstr"))]
+#[path = "bytes.rs"]
+pub mod bstr;
+
+mod convert;
+mod disk;
 mod door;
+pub mod expand_path;
+pub mod ipv6;
 mod logs;
 pub mod parse;
 mod scheme;
+#[cfg(feature = "serde")]
+mod stored;
+pub mod testing;
 mod url;
 
+pub use expand_path::expand_path;
 pub use parse::parse;
 pub use scheme::Scheme;
 pub use url::{ArgumentSafety, PathComponents, QueryPair, Url};

@@ -4,6 +4,7 @@
 //! bytes. Otherwise the shape is the one that a derive gives, with bytes as a text. Nothing else is hidden: a secret may
 //! also stand where the grammar puts no password, as the user of `https://token@h/p`, and a log shows it there.
 
+use crate::expand_path::ForUser;
 use crate::parse::Error;
 use crate::Url;
 use std::fmt::{self, Write};
@@ -19,7 +20,7 @@ impl fmt::Debug for Url {
             .field("serialize_alternative_form", &self.serialize_alternative_form)
             .field("port", &self.port)
             .field("path", &Text(&self.path))
-            .field("spelling", &self.spelling.as_deref().map(Text))
+            .field("spelling", &self.spelling.as_ref().map(|spelling| Text(spelling)))
             .finish()
     }
 }
@@ -28,7 +29,7 @@ impl fmt::Debug for Error {
     /// Shows the fields, with the length of a text in place of its bytes.
     ///
     /// ```
-    /// let error = gix_url_proved::parse(b"ssh://user:secret@h:99999/p").unwrap_err();
+    /// let error = gix_url_proved::parse("ssh://user:secret@h:99999/p").unwrap_err();
     /// assert_eq!(format!("{error:?}"), "BadUrl { kind: Url, fault: BadPort, input: 27 bytes }");
     /// ```
     fn fmt(&self, f: &mut fmt::Formatter<'_>) -> fmt::Result {
@@ -52,6 +53,8 @@ impl fmt::Debug for Error {
                 .finish(),
             Error::HelperName { name } => f.debug_struct("HelperName").field("name", &Length::of(name)).finish(),
             Error::Unwritable(fault) => f.debug_tuple("Unwritable").field(fault).finish(),
+            Error::NoHome(user) => f.debug_tuple("NoHome").field(&Hidden(user)).finish(),
+            Error::Unresolved => f.write_str("Unresolved"),
         }
     }
 }
@@ -71,8 +74,20 @@ impl fmt::Debug for Length {
     }
 }
 
+/// A user without the bytes of the name.
+struct Hidden<'a>(&'a ForUser);
+
+impl fmt::Debug for Hidden<'_> {
+    fn fmt(&self, f: &mut fmt::Formatter<'_>) -> fmt::Result {
+        match self.0 {
+            ForUser::Current => f.write_str("Current"),
+            ForUser::Name(name) => f.debug_tuple("Name").field(&Length::of(name)).finish(),
+        }
+    }
+}
+
 /// Bytes as a text in quotes, with an escape for what doesn't print and for each byte that is part of no character.
-struct Text<'a>(&'a [u8]);
+pub(crate) struct Text<'a>(pub(crate) &'a [u8]);
 
 impl fmt::Debug for Text<'_> {
     fn fmt(&self, f: &mut fmt::Formatter<'_>) -> fmt::Result {

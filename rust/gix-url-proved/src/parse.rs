@@ -1,16 +1,20 @@
 //! Reading, and what a text or a value is refused for.
 
+use crate::bstr::BString;
 use crate::door;
+use crate::expand_path::ForUser;
 use crate::Url;
 use std::fmt;
 
-/// The one location that the bytes spell.
+/// The one location that the bytes spell, which may come as a text, as bytes or as a byte string. It allocates the parts,
+/// and what the library needs to read.
 ///
 /// ```
 /// use gix_url_proved::{Scheme, parse};
 ///
-/// let url = parse(b"git@host:path/to/repo")?;
-/// assert_eq!((url.scheme.clone(), url.path.as_slice()), (Scheme::Ssh, b"path/to/repo".as_slice()));
+/// let url = parse("git@host:path/to/repo")?;
+/// assert_eq!(url.scheme, Scheme::Ssh);
+/// assert_eq!(url.path, "path/to/repo");
 /// assert!(parse(b"http://").is_err());
 /// # Ok::<(), parse::Error>(())
 /// ```
@@ -18,8 +22,8 @@ use std::fmt;
 /// # Errors
 ///
 /// Exactly where the bytes spell no location; the error names a flaw that stands in them.
-pub fn parse(input: &[u8]) -> Result<Url, Error> {
-    door::read(input)
+pub fn parse(input: impl AsRef<[u8]>) -> Result<Url, Error> {
+    door::read(input.as_ref())
 }
 
 /// The form that a text was taken for.
@@ -72,19 +76,19 @@ pub enum Error {
         /// The form that the text was taken for.
         kind: UrlKind,
         /// The text.
-        input: Vec<u8>,
+        input: BString,
     },
     /// The text is not UTF-8.
     NotUtf8 {
         /// The form that the text was taken for.
         kind: UrlKind,
         /// The text.
-        input: Vec<u8>,
+        input: BString,
     },
     /// The scheme or the authority is too long.
     TooLong {
         /// The front of the text.
-        shown: Vec<u8>,
+        shown: BString,
         /// The length of the text, in bytes.
         total: usize,
     },
@@ -95,15 +99,19 @@ pub enum Error {
         /// What is wrong.
         fault: UrlFault,
         /// The text.
-        input: Vec<u8>,
+        input: BString,
     },
     /// The name of a remote helper is no such name.
     HelperName {
         /// The name.
-        name: Vec<u8>,
+        name: BString,
     },
     /// The location has no text.
     Unwritable(WriteFault),
+    /// There is no home folder for the user: of the module [`expand_path`](mod@crate::expand_path) alone.
+    NoHome(ForUser),
+    /// The path has no resolution on this file system: of [`Url::canonicalize`] alone.
+    Unresolved,
 }
 
 impl fmt::Display for UrlKind {
@@ -156,6 +164,8 @@ impl fmt::Display for Error {
             Error::BadUrl { kind, fault, .. } => write!(f, "the {kind} has {fault}"),
             Error::HelperName { .. } => f.write_str("the remote helper has no valid name"),
             Error::Unwritable(fault) => write!(f, "the location can't be written: {fault}"),
+            Error::NoHome(_) => f.write_str("no home folder is known for the user"),
+            Error::Unresolved => f.write_str("the path can't be resolved"),
         }
     }
 }

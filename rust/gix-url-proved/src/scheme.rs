@@ -1,5 +1,6 @@
 //! What a location is reached by.
 
+use crate::door;
 use std::fmt;
 
 /// What a location is reached by.
@@ -11,6 +12,7 @@ use std::fmt;
 /// assert_eq!(Scheme::from("ftp").as_str(), "ftp");
 /// ```
 #[derive(Clone, Debug, PartialEq, Eq, PartialOrd, Ord, Hash)]
+#[cfg_attr(feature = "serde", derive(serde::Serialize, serde::Deserialize))]
 pub enum Scheme {
     /// A path of the local file system, or a `file` URL.
     File,
@@ -42,6 +44,19 @@ impl Scheme {
             Scheme::Ext => "ext",
             Scheme::Helper(name) | Scheme::HelperUrl(name) => name,
         }
+    }
+
+    /// The port that the scheme stands for: 80 for HTTP, 443 where it is encrypted, 22 for Secure Shell, 9418 for Git's own
+    /// protocol, and none for any other.
+    ///
+    /// ```
+    /// use gix_url_proved::Scheme;
+    ///
+    /// assert_eq!(Scheme::Git.default_port(), Some(9418));
+    /// assert_eq!(Scheme::File.default_port(), None);
+    /// ```
+    pub fn default_port(&self) -> Option<u16> {
+        door::port_or_default(self, None)
     }
 }
 

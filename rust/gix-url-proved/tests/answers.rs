@@ -54,7 +54,7 @@ fn comes_back(url: &Url) {
         all.clone_from(url);
         (all.scheme, all.user, all.password, all.host, all.serialize_alternative_form, all.port, all.path)
     };
-    let again = parse(&url.to_bstring()).unwrap();
+    let again = parse(url.to_bstring()).unwrap();
     assert_eq!(fields(&again), fields(url));
     let mut parts = Url::default();
     (parts.scheme, parts.user, parts.password, parts.host, parts.serialize_alternative_form, parts.port, parts.path) =
@@ -92,7 +92,7 @@ fn errors_keep_what_was_refused() {
     let input = b"http://h:x/".as_slice();
     assert!(matches!(parse(input), Err(Error::BadUrl { input: kept, .. }) if kept == input));
     let long = [b"http://".as_slice(), &[b'a'; 1993]].concat();
-    let shown = long[..1031].to_vec();
+    let shown = long[..1031].into();
     assert_eq!(parse(&long), Err(Error::TooLong { shown, total: 2000 }));
     assert_eq!(parse(b"http://user:secret@h:x/").unwrap_err().to_string(), "the URL has an invalid port");
 }
@@ -125,7 +125,7 @@ fn order_is_that_of_the_fields() {
 #[test]
 fn a_spelling_that_became_the_path_lapses() {
     let mut url = parse(b"http://h/a%20b").unwrap();
-    url.path = b"/a%20b".to_vec();
-    assert_eq!(url.original_path(), b"/a%20b");
-    assert_eq!(url.to_bstring(), b"http://h/a%2520b");
+    url.path = "/a%20b".into();
+    assert_eq!(url.original_path(), "/a%20b");
+    assert_eq!(url.to_bstring(), "http://h/a%2520b");
 }

@@ -1,0 +1,7 @@
+//! Stands for the crate `bstr` in builds inside of this repository, which need no registry: the byte strings that
+//! `gix-url-proved` has of its own.
+
+#[path = "../../gix-url-proved/src/bytes.rs"]
+mod bytes;
+
+pub use bytes::*;

@@ -1,0 +1,108 @@
+//! Asks `gix-url` and `gix-url-proved` the same questions about the same texts, and prints each text of which they tell
+//! different things: `compare COUNT FILE..` takes the lines of the files, and so many texts that are changed from them by
+//! chance. Its status is 1 where there is a difference, but for the form `user@[address]:path`, which is counted.
+
+use std::{env, fs, process};
+
+/// What one of the two crates tells of a text: the same code for both, as for any program that changes its dependency.
+macro_rules! told_by {
+    ($name:ident) => {
+        mod $name {
+            use bstr::ByteSlice;
+            use $name::{PathComponents, Url};
+
+            /// All that the calls of the crate answer of a text; none where it is refused.
+            pub fn told(text: &[u8]) -> Option<String> {
+                let url = Url::from_bytes(text.as_bstr()).ok()?;
+                Some([fields(&url), answers(&url), components(&url)].join("\n"))
+            }
+
+            fn fields(url: &Url) -> String {
+                let flag = url.serialize_alternative_form;
+                let (user, password, host) = (url.user(), url.password(), url.host());
+                format!("{:?} {user:?} {password:?} {host:?} {flag} {:?} {:?}", url.scheme, url.port, url.path)
+            }
+
+            fn answers(url: &Url) -> String {
+                let safe = (url.user_argument_safe(), url.host_argument_safe(), url.path_argument_safe());
+                let path = (url.original_path(), url.path_is_root());
+                let port = (url.port_or_default(), url.scheme.default_port(), url.scheme.as_str());
+                format!("{safe:?} {path:?} {port:?} {:?} {url}", url.to_bstring())
+            }
+
+            fn components(url: &Url) -> String {
+                let PathComponents { path, query, fragment } = url.path_query_fragment();
+                format!("{path:?} {query:?} {fragment:?}")
+            }
+        }
+    };
+}
+
+told_by!(gix_url);
+told_by!(gix_url_proved);
+
+/// Numbers by chance, the same in each run.
+struct Chance(u64);
+
+impl Chance {
+    fn below(&mut self, bound: usize) -> usize {
+        self.0 ^= self.0 << 13;
+        self.0 ^= self.0 >> 7;
+        self.0 ^= self.0 << 17;
+        (self.0 % bound as u64) as usize
+    }
+
+    /// The text with one to four changes: a byte that is taken out, another one, or a piece that means something.
+    fn changed(&mut self, text: &[u8]) -> Vec<u8> {
+        const PIECES: [&str; 24] = [
+            ":", "/", "@", "[", "]", "%", "%2", "%20", "%ff", "?", "#", "&", "=", "+", "::", "://", "~", "-", "\\",
+            " ", "ö", "[::1]", ":0", ":65536",
+        ];
+        let mut text = text.to_vec();
+        for _ in 0..=self.below(4) {
+            let at = self.below(text.len() + 1);
+            match self.below(3) {
+                0 if at < text.len() => drop(text.remove(at)),
+                1 if at < text.len() => text[at] = self.below(256) as u8,
+                _ => drop(text.splice(at..at, PIECES[self.below(PIECES.len())].bytes())),
+            }
+        }
+        text
+    }
+}
+
+/// Whether the text is of the one form that is known to be read by `gix-url-proved` alone.
+fn is_known(text: &[u8]) -> bool {
+    ::gix_url_proved::parse(text).is_ok_and(|url| {
+        url.serialize_alternative_form && url.user().is_some() && url.host().is_some_and(|host| host.contains(':'))
+    })
+}
+
+fn main() {
+    let mut words = env::args().skip(1);
+    let count: usize = words.next().expect("compare COUNT FILE..").parse().expect("a number of texts");
+    let files: Vec<Vec<u8>> =
+        words.map(|file| fs::read(&file).unwrap_or_else(|error| panic!("{file}: {error}"))).collect();
+    let lines: Vec<&[u8]> = files.iter().flat_map(|file| file.split(|byte| *byte == b'\n')).collect();
+    let mut chance = Chance(0x9E37_79B9_7F4A_7C15);
+    let changed = (0..count).map(|_| {
+        let line = lines[chance.below(lines.len())];
+        chance.changed(line)
+    });
+    let (mut asked, mut known, mut different) = (0, 0, 0);
+    for text in lines.iter().map(|line| line.to_vec()).chain(changed) {
+        asked += 1;
+        let (theirs, ours) = (gix_url::told(&text), gix_url_proved::told(&text));
+        if theirs == ours {
+            continue;
+        }
+        if theirs.is_none() && is_known(&text) {
+            known += 1;
+            continue;
+        }
+        different += 1;
+        println!("{}\n  gix-url: {theirs:?}\n  here:    {ours:?}", text.escape_ascii());
+    }
+    println!("{asked} texts, {different} differences, {known} of the form user@[address]:path");
+    process::exit(i32::from(different > 0));
+}

@@ -1,0 +1,120 @@
+//! Paths in somebody's home folder, as `/~user/repo`: whose folder, what a shell takes for it, and where it lies.
+
+use crate::bstr::{BStr, BString};
+use crate::parse::Error;
+use std::ffi::OsStr;
+use std::fmt;
+use std::os::unix::ffi::OsStrExt;
+use std::path::{Path, PathBuf};
+
+/// Whose home folder is meant.
+#[derive(Clone, PartialEq, Eq, PartialOrd, Ord, Hash)]
+#[cfg_attr(feature = "serde", derive(serde::Serialize, serde::Deserialize))]
+pub enum ForUser {
+    /// That of the current user: `~`.
+    Current,
+    /// That of the user of this name: `~name`.
+    Name(#[cfg_attr(feature = "serde", serde(with = "crate::stored"))] BString),
+}
+
+impl From<ForUser> for Option<BString> {
+    fn from(user: ForUser) -> Option<BString> {
+        match user {
+            ForUser::Current => None,
+            ForUser::Name(name) => Some(name),
+        }
+    }
+}
+
+impl fmt::Debug for ForUser {
+    fn fmt(&self, f: &mut fmt::Formatter<'_>) -> fmt::Result {
+        match self {
+            ForUser::Current => f.write_str("Current"),
+            ForUser::Name(name) => f.debug_tuple("Name").field(&crate::logs::Text(name)).finish(),
+        }
+    }
+}
+
+/// The user whose home folder the path means, and the path below it. A path that doesn't begin with `/~` means none, and
+/// is copied. What stands behind the user is shown with U+FFFD in place of what is not UTF-8.
+///
+/// ```
+/// use gix_url_proved::expand_path::{self, ForUser};
+///
+/// assert_eq!(expand_path::parse("/~user/repo".into())?, (Some(ForUser::Name("user".into())), "/repo".into()));
+/// assert_eq!(expand_path::parse("/~/repo".into())?, (Some(ForUser::Current), "/repo".into()));
+/// # Ok::<(), gix_url_proved::parse::Error>(())
+/// ```
+///
+/// # Errors
+///
+/// None: the result is that of `gix-url`.
+pub fn parse(path: &BStr) -> Result<(Option<ForUser>, BString), Error> {
+    let Some(rest) = path.strip_prefix(b"/~") else { return Ok((None, path.to_owned())) };
+    let (name, below) = match rest.iter().position(|byte| *byte == b'/') {
+        Some(slash) => rest.split_at(slash),
+        None => (rest, b"/".as_slice()),
+    };
+    let user = if name.is_empty() { ForUser::Current } else { ForUser::Name(name.into()) };
+    Ok((Some(user), String::from_utf8_lossy(below).into_owned().into()))
+}
+
+/// The path as a shell takes it: `~user/repo` for `/~user/repo`. Any other path is handed back.
+///
+/// ```
+/// use gix_url_proved::expand_path;
+///
+/// assert_eq!(expand_path::for_shell("/~user/repo".into()), "~user/repo");
+/// ```
+pub fn for_shell(path: BString) -> BString {
+    match parse(path.as_slice().into()) {
+        Ok((Some(user), below)) => {
+            let name = Option::<BString>::from(user).unwrap_or_default();
+            [b"~", name.as_slice(), below.as_slice()].concat().into()
+        }
+        _ => path,
+    }
+}
+
+/// Where the path lies in the home folder that the closure answers for this user; the path itself without a user, and
+/// the closure isn't called then.
+///
+/// ```
+/// use gix_url_proved::expand_path::{self, ForUser};
+///
+/// let path = expand_path::with(Some(&ForUser::Current), "/repo".into(), |_| Some("/home/byron".into()))?;
+/// assert_eq!(path.to_str(), Some("/home/byron/repo"));
+/// # Ok::<(), gix_url_proved::parse::Error>(())
+/// ```
+///
+/// # Errors
+///
+/// [`Error::NoHome`] where the closure answers none.
+pub fn with(
+    user: Option<&ForUser>,
+    path: &BStr,
+    home_for_user: impl FnOnce(&ForUser) -> Option<PathBuf>,
+) -> Result<PathBuf, Error> {
+    let path = Path::new(OsStr::from_bytes(path));
+    let Some(user) = user else { return Ok(path.to_owned()) };
+    let home = home_for_user(user).ok_or_else(|| Error::NoHome(user.clone()))?;
+    Ok(home.join(path.components().skip(1).collect::<PathBuf>()))
+}
+
+/// Where the path lies in the home folder of this user: [`with`] the current user's home folder as the environment has
+/// it, and for a name the folder of that name beside it.
+///
+/// # Errors
+///
+/// [`Error::NoHome`] where the environment has no home folder, or there is none beside it.
+pub fn expand_path(user: Option<&ForUser>, path: &BStr) -> Result<PathBuf, Error> {
+    with(user, path, |user| {
+        // It was deprecated for what it did on Windows.
+        #[allow(deprecated)]
+        let home = std::env::home_dir()?;
+        match user {
+            ForUser::Current => Some(home),
+            ForUser::Name(name) => Some(home.parent()?.join(String::from_utf8_lossy(name).as_ref())),
+        }
+    })
+}

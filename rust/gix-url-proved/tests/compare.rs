@@ -1,0 +1,37 @@
+//! The same questions to `gix-url` 0.40.1 and to this crate, by the program `rust/compare` of the repository, where
+//! `gix-url` is installed: `cargo test --features compare`. Where it isn't, that is said, and nothing is compared.
+//!
+//! The program is built in the folder `GIX_URL_COMPARE_IN`, or in that of temporary files, since inside of the repository
+//! other crates stand for those of a registry. A `.cargo/config.toml` of that folder may name a source.
+#![cfg(feature = "compare")]
+
+use std::env;
+use std::path::PathBuf;
+use std::process::{Command, Output};
+
+/// How many texts are changed by chance and compared.
+const CHANGED: &str = "200000";
+
+fn cargo(words: &[&str]) -> Output {
+    let folder = env::var_os("GIX_URL_COMPARE_IN").map_or_else(env::temp_dir, PathBuf::from);
+    let mut command = Command::new(env!("CARGO"));
+    command.args(words).current_dir(folder).output().expect("cargo can be called")
+}
+
+#[test]
+fn answers_are_those_of_gix_url() {
+    let repository = concat!(env!("CARGO_MANIFEST_DIR"), "/../..");
+    let manifest = format!("{repository}/rust/compare/Cargo.toml");
+    let found = cargo(&["tree", "--offline", "--manifest-path", &manifest]);
+    if !found.status.success() {
+        eprintln!("skipped: gix-url 0.40.1 is not installed\n{}", String::from_utf8_lossy(&found.stderr));
+        return;
+    }
+    let (short, remotes) =
+        (format!("{repository}/crates/locations/stdin"), format!("{repository}/crates/url_bench/remotes.txt"));
+    let program = ["run", "--offline", "--quiet", "--release", "--manifest-path", &manifest, "--"];
+    let ran = cargo(&[&program[..], &[CHANGED, &short, &remotes]].concat());
+    let said = String::from_utf8_lossy(&ran.stdout);
+    assert!(ran.status.success(), "{said}{}", String::from_utf8_lossy(&ran.stderr));
+    println!("{said}");
+}
