@@ -1,8 +1,28 @@
 //! Asks `gix-url` and `gix-url-proved` the same questions about the same texts, and prints each text of which they tell
 //! different things: `compare COUNT FILE..` takes the lines of the files, and so many texts that are changed from them by
 //! chance. Its status is 1 where there is a difference, but for the form `user@[address]:path`, which is counted.
+//!
+//! `compare price PASSES` prints how many nanoseconds each call of both takes a line of the standard input.
+
+#[path = "../../gix-url-proved/examples/price/calls.rs"]
+mod calls;
 
 use std::{env, fs, process};
+
+/// What both crates take for the same calls.
+mod price {
+    crate::calls::priced_by!(gix_url);
+    crate::calls::priced_by!(gix_url_proved);
+
+    /// Prints the nanoseconds of each call by both, and the ratio.
+    pub fn print(passes: usize) {
+        let lines = crate::calls::lines();
+        let (theirs, ours) = (gix_url::prices(&lines, passes), gix_url_proved::prices(&lines, passes));
+        for ((call, theirs), (_, ours)) in theirs.into_iter().zip(ours) {
+            println!("{call} | {theirs:.1} | {ours:.1} | {:.2}", ours / theirs);
+        }
+    }
+}
 
 /// What one of the two crates tells of a text: the same code for both, as for any program that changes its dependency.
 macro_rules! told_by {
@@ -80,7 +100,11 @@ fn is_known(text: &[u8]) -> bool {
 
 fn main() {
     let mut words = env::args().skip(1);
-    let count: usize = words.next().expect("compare COUNT FILE..").parse().expect("a number of texts");
+    let first = words.next().expect("compare COUNT FILE.. or compare price PASSES");
+    if first == "price" {
+        return price::print(words.next().map_or(20, |word| word.parse().expect("a number of passes")));
+    }
+    let count: usize = first.parse().expect("a number of texts");
     let files: Vec<Vec<u8>> =
         words.map(|file| fs::read(&file).unwrap_or_else(|error| panic!("{file}: {error}"))).collect();
     let lines: Vec<&[u8]> = files.iter().flat_map(|file| file.split(|byte| *byte == b'\n')).collect();

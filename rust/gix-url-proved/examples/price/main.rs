@@ -1,0 +1,14 @@
+//! Prints how many nanoseconds each call takes a line of the standard input: `price PASSES`, over lines as those of
+//! `crates/url_bench/remotes.txt`. `rust/compare` does the same with `gix-url` beside it.
+
+mod calls;
+
+fn main() {
+    let passes = std::env::args().nth(1).map_or(20, |word| word.parse().expect("a number of passes"));
+    let lines = calls::lines();
+    for (call, nanoseconds) in gix_url_proved::prices(&lines, passes) {
+        println!("{call} | {nanoseconds:.1}");
+    }
+}
+
+calls::priced_by!(gix_url_proved);
