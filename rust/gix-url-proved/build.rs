@@ -14,7 +14,7 @@ fn folders() -> Vec<PathBuf> {
 }
 
 fn main() {
-    println!("cargo:rerun-if-env-changed=GIX_URL_LIB");
+    println!("cargo:rerun-if-env-changed=GIX_URL_LIB\ncargo:rerun-if-env-changed=DOCS_RS");
     // Documentation is built without the library.
     if std::env::var_os("DOCS_RS").is_some() {
         return;

@@ -388,7 +388,7 @@ fn over_homes(order: &Order, call: &str) -> Option<String> {
             let (user, below) = expand_path::parse(text.into()).expect("each path is parted");
             format!("[{},{}]", or_null(user.as_ref().map(told_user)), quoted(below))
         }
-        "expand_path::for_shell" => quoted(expand_path::for_shell(text.into())),
+        "expand_path::for_shell" => quoted(expand_path::for_shell(path.into())),
         "expand_path::with" => told_with(order, path),
         "ForUser::clone" => told_user(&user(order, "user")?.clone()),
         "ForUser:into" => or_null(Option::<BString>::from(user(order, "user")?).map(quoted)),
