@@ -106,7 +106,6 @@ unsafe extern "C" {
     fn gix_url_c_is_settled(given: &Given, settled: &mut bool) -> u32;
     fn gix_url_c_agrees_with_git(given: &Given, agrees: &mut bool) -> u32;
     fn gix_url_c_write(given: &Given, room: *mut u8, room_len: usize, len: &mut usize, told: &mut Problem) -> u32;
-    fn gix_url_c_display(given: &Given, room: *mut u8, room_len: usize, len: &mut usize, told: &mut Problem) -> u32;
     fn gix_url_c_components(given: &Given, told: &mut Parted, room: *mut u8, room_len: usize, lengths: *mut usize, lengths_len: usize) -> u32;
     fn gix_url_c_argument(is_there: bool, text: *const u8, len: usize) -> u32;
     fn gix_url_c_path_argument(path: *const u8, len: usize) -> u32;
@@ -147,12 +146,11 @@ impl<'a> Given<'a> {
 
     /// The location without all that has no say in its components.
     fn path_of(url: &'a Url) -> Given<'a> {
-        let mut given = Given::of(url);
-        let is_web = matches!(url.scheme, Scheme::Http | Scheme::Https);
-        given.front = Front { scheme: if is_web { given.front.scheme } else { 0 }, ..Front::default() };
-        given.front.has_spelling = url.spelling.is_some();
+        let given = Given::of(url);
+        let (scheme, has_spelling) = (given.front.scheme, given.front.has_spelling);
         let none = Bytes::of(&[]);
-        Given { name: none, user: none, password: none, host: none, ..given }
+        let front = Front { scheme, has_spelling, ..Front::default() };
+        Given { front, name: none, user: none, password: none, host: none, ..given }
     }
 }
 
@@ -405,13 +403,16 @@ pub(crate) fn text_len(url: &Url) -> Result<usize, WriteFault> {
     }
 }
 
-/// Hands over what the location is shown as.
+/// Hands over what the location is shown as: the text that it has with another password, if it has one.
 pub(crate) fn display<T>(url: &Url, show: impl FnOnce(&[u8]) -> T) -> Result<T, Error> {
-    let given = Given::of(url);
+    let mut given = Given::of(url);
+    if url.password.is_some() {
+        given.password = Bytes::of(b"redacted");
+    }
     let (mut told, mut room) = (Problem::default(), Room::new());
     let (code, bytes) = room.filled(given.bytes() + 32, |room, room_len| {
         let mut len = 0;
-        let code = call!(gix_url_c_display, &given, room, room_len, &mut len, &mut told);
+        let code = call!(gix_url_c_write, &given, room, room_len, &mut len, &mut told);
         (code, len)
     });
     match code {

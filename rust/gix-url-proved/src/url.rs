@@ -227,8 +227,18 @@ impl Url {
     /// assert_eq!(parts.fragment.unwrap(), "top");
     /// # Ok::<(), gix_url_proved::parse::Error>(())
     /// ```
+    ///
+    /// # Panics
+    ///
+    /// Where there is a query or a fragment and memory is refused.
     pub fn path_query_fragment(&self) -> PathComponents<'_> {
-        unless_memory(door::components(self))
+        // Without these bytes there is nothing to take apart, whatever the spelling is.
+        let is_web = matches!(self.scheme, Scheme::Http | Scheme::Https);
+        if is_web && self.path.iter().any(|byte| matches!(byte, b'?' | b'#')) {
+            return unless_memory(door::components(self));
+        }
+        let path = if is_web && self.path.is_empty() { b"/" } else { self.path.as_slice() };
+        PathComponents { path: path.into(), query: None, fragment: None }
     }
 
     /// Whether the location's text is read as the same public fields and is written the same again.
@@ -389,7 +399,10 @@ impl fmt::Display for Url {
     /// Shows the text with `redacted` in place of the field `password`; a secret in another field is shown. It fails where
     /// there is no text.
     fn fmt(&self, f: &mut fmt::Formatter<'_>) -> fmt::Result {
-        let show = |shown: &[u8]| f.write_str(&String::from_utf8_lossy(shown));
+        let show = |shown: &[u8]| match std::str::from_utf8(shown) {
+            Ok(text) => f.write_str(text),
+            Err(_) => f.write_str(&String::from_utf8_lossy(shown)),
+        };
         door::display(self, show).map_err(|_| fmt::Error)?
     }
 }
