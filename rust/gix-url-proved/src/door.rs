@@ -403,20 +403,29 @@ pub(crate) fn text_len(url: &Url) -> Result<usize, WriteFault> {
     }
 }
 
+/// Hands over the text of the location, without memory where it is short.
+pub(crate) fn with_text<T>(url: &Url, take: impl FnOnce(&[u8]) -> T) -> Result<T, Error> {
+    with_text_of(&Given::of(url), take)
+}
+
 /// Hands over what the location is shown as: the text that it has with another password, if it has one.
-pub(crate) fn display<T>(url: &Url, show: impl FnOnce(&[u8]) -> T) -> Result<T, Error> {
+pub(crate) fn display<T>(url: &Url, take: impl FnOnce(&[u8]) -> T) -> Result<T, Error> {
     let mut given = Given::of(url);
     if url.password.is_some() {
         given.password = Bytes::of(b"redacted");
     }
+    with_text_of(&given, take)
+}
+
+fn with_text_of<T>(given: &Given<'_>, take: impl FnOnce(&[u8]) -> T) -> Result<T, Error> {
     let (mut told, mut room) = (Problem::default(), Room::new());
     let (code, bytes) = room.filled(given.bytes() + 32, |room, room_len| {
         let mut len = 0;
-        let code = call!(gix_url_c_write, &given, room, room_len, &mut len, &mut told);
+        let code = call!(gix_url_c_write, given, room, room_len, &mut len, &mut told);
         (code, len)
     });
     match code {
-        OK => Ok(show(bytes)),
+        OK => Ok(take(bytes)),
         _ => Err(error(code, &told, BString::default, &[])),
     }
 }

@@ -291,8 +291,8 @@ impl Url {
     ///
     /// Those of the writer; and of kind `InvalidInput`, before any byte is written, where the location has no text.
     pub fn write_to(&self, out: &mut dyn io::Write) -> io::Result<()> {
-        let text = door::write(self).map_err(|error| io::Error::new(io::ErrorKind::InvalidInput, error))?;
-        out.write_all(&text)
+        door::with_text(self, |text| out.write_all(text))
+            .unwrap_or_else(|error| Err(io::Error::new(io::ErrorKind::InvalidInput, error)))
     }
 
     /// The text of the location.
