@@ -163,17 +163,21 @@ macro_rules! call {
     };
 }
 
-/// The number of a scheme, and the name that it holds.
+/// The number of a scheme, and the name that it holds: each by itself, so that a number takes no jump.
 fn number(scheme: &Scheme) -> (u8, &[u8]) {
+    let number = match scheme {
+        Scheme::File => 0,
+        Scheme::Git => 1,
+        Scheme::Ssh => 2,
+        Scheme::Http => 3,
+        Scheme::Https => 4,
+        Scheme::Ext => 5,
+        Scheme::Helper(_) => 6,
+        Scheme::HelperUrl(_) => 7,
+    };
     match scheme {
-        Scheme::File => (0, b""),
-        Scheme::Git => (1, b""),
-        Scheme::Ssh => (2, b""),
-        Scheme::Http => (3, b""),
-        Scheme::Https => (4, b""),
-        Scheme::Ext => (5, b""),
-        Scheme::Helper(name) => (6, name.as_bytes()),
-        Scheme::HelperUrl(name) => (7, name.as_bytes()),
+        Scheme::Helper(name) | Scheme::HelperUrl(name) => (number, name.as_bytes()),
+        _ => (number, b""),
     }
 }
 
