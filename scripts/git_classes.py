@@ -170,6 +170,11 @@ def brackets_of_git(case):
     return {"host"} if case.is_cut_otherwise and case.protocol == "git" and (case.ours.host or b"").startswith(b"[") else ()
 
 
+def is_same_place(case):
+    """Whether both sides read the same place: a host of `git://` is compared without the brackets around it."""
+    return not case.differing or case.differing == {"host"} and case.protocol == "git" and case.ours.host == b"[" + (case.git.host or b"") + b"]"
+
+
 def colon_of_host(case):
     return {"host"} if case.is_cut_otherwise and (case.ours.host or b"").endswith(b":") else ()
 
@@ -244,10 +249,15 @@ def is_careful(case, is_same):
     It is what `Url::agrees_with_git` asks of a text that is written as it was read. `is_same` says that the text is settled
     and is what `to_bstring` writes.
     """
-    if not is_same or re.search(rb"\Arsync:|[\[\]\0]", case.text) or case.ours.protocol.startswith("helper "):
+    if not is_same or case.text.startswith(b"rsync:") or case.ours.protocol.startswith("helper "):
         return False
     _, user, password, host, _, path = case.ours
-    if b"%" in (case.authority or b"") or re.search(rb"[\[\]\0]", path):
+    named, authority = host or b"", case.authority or b""
+    address = re.fullmatch(rb"\[(.*)\]", named, re.S) if case.ours.protocol == "git" else None
+    if address:
+        # Git decodes the brackets and the colons, which are written as escapes, and takes the brackets off.
+        named, authority = address[1], re.sub(rb"\A%5B([^/]*)%5D", lambda it: it[1].replace(b"%3A", b":"), authority)
+    if b"%" in authority or re.search(rb"[\[\]\0]", b"".join([user or b"", named, path])):
         return False
     is_known = password is None and not any((it or b"").startswith(b"-") for it in (user, host, path))
     if case.ours.protocol == "ssh":

@@ -662,14 +662,20 @@ def agrees_with_git(v):
     return agrees_over_web(v) if v.scheme in HTTP_SCHEMES else agrees_by_transport(v)
 
 
+def without_brackets(host):
+    """A host as Git reads it: without the brackets around an address, which are written as escapes for `git://`."""
+    return host[1:-1] if host is not None and is_bracketed_address(host) else host
+
+
 def agrees_by_transport(v):
     kind = v.scheme[0]
     if kind not in ("Ssh", "Git", "File") or not settled(v) or v.password is not None:
         return False
     if any(it is not None and it.startswith(b"-") for it in (v.user, v.host, v.path)):
         return False
-    t = text(v)
-    if t.startswith(b"rsync:") or any(it in t or it in v.path for it in (b"\0", b"[", b"]")):
+    host = without_brackets(v.host)
+    t = text(v._replace(host=host))
+    if t.startswith(b"rsync:") or any(it in part for it in (b"\0", b"[", b"]") for part in (v.user or b"", host or b"", v.path)):
         return False
     if not v.flag and b"%" in (t if kind == "File" else t.split(b"/")[2]):
         return False
@@ -694,9 +700,12 @@ def is_plain_name(host):
     return all(b in PLAIN_HOST for b in host) and all(label[:1].islower() for label in labels)
 
 
+def is_bracketed_address(host):
+    return host[:1] == b"[" and host[-1:] == b"]" and ip6(host[1:-1]) and is_lower(host[1:-1])
+
+
 def is_unambiguous_host(host):
-    in_brackets = host[:1] == b"[" and host[-1:] == b"]" and ip6(host[1:-1]) and is_lower(host[1:-1])
-    return is_plain_name(host) or is_ip4(host) or in_brackets
+    return is_plain_name(host) or is_ip4(host) or is_bracketed_address(host)
 
 
 def has_dot_segment(path):
