@@ -170,7 +170,8 @@ gix_url_error gix_url_is_settled(const gix_url *url, bool *settled);
  *
  * The answer is no for what Git hands to another remote helper, for an empty user of Secure Shell, for a local path that
  * begins with ~, for what isn't settled, and for some texts that Git reads alike: but for HTTP, among them those with
- * brackets or an escape before the path; docs/GIT.md has the cases. */
+ * an escape before the path, or with brackets that aren't around an address; docs/GIT.md has the cases. The brackets
+ * around an address don't count: of git://[::1]/p the host here is [::1], and Git connects to ::1. */
 gix_url_error gix_url_agrees_with_git(const gix_url *url, bool *agrees);
 
 /* Puts the text of the location into the room, and stores its length, on GIX_URL_NO_ROOM too: SIZE_MAX where that is

@@ -179,7 +179,7 @@ pub fn law_stripped()
 /// Git reads the same place.
 ///
 /// - `alike`: a location that [`Url::agrees_with_git`](gix_url::Url::agrees_with_git) accepts has a text, and Git reads in
-///   it the location's own protocol, user, host, port and path. So where credentials are picked by the host that is
+///   it the location's own protocol, user, host, port and path; of `git://` the host without brackets around it. So where credentials are picked by the host that is
 ///   read here, and the text is then handed to Git, Git reads that host. Over HTTP two readers do: Git's credential code,
 ///   which asks helpers for a password, reads the location's own protocol, user, password, host and port, and its path
 ///   without the slashes around it; and a reader of URIs, which opens the connection, reads components that decode to the

@@ -8,8 +8,9 @@ ghost use Rattle.git_location.specs.GitClass.{AgreesWithGit};
 use crate::location::Url;
 
 impl Url {
-    /// Whether Git reads this very place in the text of the location: the same protocol, user, host, port and path. It
-    /// takes no memory.
+    /// Whether Git reads this very place in the text of the location: the same protocol, user, host, port and path. The
+    /// brackets around an address of IPv6 don't count: of `git://[::1]/p` the host here is `[::1]`, and Git connects to
+    /// `::1`. It takes no memory.
     ///
     /// Hand Git the text that [`Url::to_bstring`] writes, and not another one that was read as the location: of
     /// `ssh://@h/p`, which is written as `ssh://h/p`, the answer is yes, and Git would give Secure Shell the word `@h`, which
@@ -31,8 +32,8 @@ impl Url {
     /// The answer is no for what Git hands to another remote helper, for an empty user of Secure Shell (`@h:p`), for a local
     /// path that begins with `~`, where `git fetch` and `git push` open a home folder's path and `git clone` this one, and
     /// for what comes from an unsettled location. It is no for some texts that Git reads alike, too: but for HTTP, with an
-    /// escape before the path, or with brackets, those of an address among them; with a host that begins with `-`, of `git://` or behind a user
-    /// (`u@-h:p`); and with a `~` behind the one that begins the path (`ssh://h/~~a`).
+    /// escape before the path, or with brackets that aren't around an address; with a host that begins with `-`, of
+    /// `git://` or behind a user (`u@-h:p`); and with a `~` behind the one that begins the path (`ssh://h/~~a`).
     ///
     /// ```
     /// /// The text for Git, if Git reads the same place in it.

@@ -266,7 +266,8 @@ impl Url {
     ///
     /// The answer is no for what Git hands to another remote helper, for an empty user of Secure Shell, for a local path
     /// that begins with `~`, and for what isn't settled. It is no for some texts that Git reads alike: but for HTTP, among
-    /// them those with brackets or an escape before the path.
+    /// them those with an escape before the path, or with brackets that aren't around an address. The brackets around an
+    /// address don't count: of `git://[::1]/p` the host here is `[::1]`, and Git connects to `::1`.
     ///
     /// ```
     /// use gix_url_proved::{parse, Url};
