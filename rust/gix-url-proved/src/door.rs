@@ -20,7 +20,8 @@ const BLANK: u8 = 0xA5;
 const NEAR: usize = 1024;
 /// How many lengths of names and values there is room for on the stack.
 const NEAR_LENGTHS: usize = 32;
-/// How many separators of empty fields are looked behind for a name that is lent.
+/// How many separators of empty fields are looked behind for a name that begins as one: the search takes no longer than the
+/// query is.
 const EMPTY_FIELDS: usize = 8;
 
 /// What of a location is a number.
@@ -498,10 +499,11 @@ fn lent<'a>(whole: &'a [u8], told: &Parted, mut bytes: &[u8], lengths: &[usize])
     }
 }
 
-/// A name or a value, lent where it stands a few separators further on in the query, which then goes on behind it.
+/// A name or a value, lent where it stands behind separators in the query, which then goes on behind it.
 fn lent_part<'a>(query: &mut &'a [u8], part: &[u8]) -> Cow<'a, BStr> {
     let is_same = |(raw, byte): (&u8, &u8)| raw == byte || (*raw, *byte) == (b'+', b' ');
-    let place = (0..=EMPTY_FIELDS).find_map(|skipped| {
+    let separators = if part.first() == Some(&b'&') { EMPTY_FIELDS } else { query.len() };
+    let place = (0..=separators).find_map(|skipped| {
         let place = query.get(skipped..skipped + part.len())?;
         place.iter().zip(part).all(is_same).then_some((skipped, place))
     });

@@ -57,8 +57,8 @@ pub enum ArgumentSafety<'a> {
 pub type QueryPair<'a> = (Cow<'a, BStr>, Cow<'a, BStr>);
 
 /// The path of a location with the query and the fragment that stand in it, decoded where the spelling has escapes. All is
-/// borrowed from the location, but names and values with a `+` that is a space; and some behind many empty fields, and
-/// those of long queries, may be owned as well.
+/// borrowed from the location, but names and values with a `+` that is a space; and maybe a name that begins with an escaped
+/// `&`, behind more than eight empty fields.
 #[derive(Clone, Debug, PartialEq, Eq)]
 pub struct PathComponents<'a> {
     /// The path before the query and the fragment.

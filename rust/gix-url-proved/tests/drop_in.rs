@@ -249,7 +249,7 @@ fn url_path_query_fragment_borrows_from_the_location() -> Result {
     fn path(url: &Url) -> &BStr {
         url.path_query_fragment().path
     }
-    let url = gix_url::parse("https://host/repo?a+b=c&&d=e#f")?;
+    let url = gix_url::parse("https://host/repo?a+b=c&&&&&&&&&&&&d=e#f")?;
     assert_eq!(path(&url), "/repo");
     let parts = url.path_query_fragment();
     let query = parts.query.clone().unwrap();
