@@ -1,14 +1,14 @@
-//! The calls of the static library: the only `unsafe` code.
+//! The calls of the static library: the only `unsafe` code, but for byte strings where they are this crate's own.
 //!
 //! Each declaration says what `crates/gix_url_c/src` exports: a slice is a pointer that isn't null and a length, and what
 //! an answer is stored in lies apart from what is read. Each call hands over slices and structs that live until it
 //! returns, and the library keeps no pointer. What comes back is numbers, and bytes in room of ours, of which no more is
 //! looked at than the library says it filled. Room is on the stack where that is enough, so a question takes no memory.
 
-use crate::bstr::{BStr, BString};
+use crate::bstr::BString;
+use crate::lent::lent;
 use crate::parse::{Error, UrlFault, UrlKind, WriteFault};
-use crate::{ArgumentSafety, PathComponents, QueryPair, Scheme, Url};
-use std::borrow::Cow;
+use crate::{ArgumentSafety, PathComponents, Scheme, Url};
 use std::marker::PhantomData;
 use std::mem::MaybeUninit;
 
@@ -20,9 +20,6 @@ const BLANK: u8 = 0xA5;
 const NEAR: usize = 1024;
 /// How many lengths of names and values there is room for on the stack.
 const NEAR_LENGTHS: usize = 32;
-/// How many separators of empty fields are looked behind for a name that begins as one: the search takes no longer than the
-/// query is.
-const EMPTY_FIELDS: usize = 8;
 
 /// What of a location is a number.
 #[repr(C)]
@@ -64,12 +61,12 @@ struct Problem {
 /// The numbers of components.
 #[repr(C)]
 #[derive(Clone, Copy, Default)]
-struct Parted {
-    has_query: bool,
-    has_fragment: bool,
-    path: usize,
-    fragment: usize,
-    pairs: usize,
+pub(crate) struct Parted {
+    pub(crate) has_query: bool,
+    pub(crate) has_fragment: bool,
+    pub(crate) path: usize,
+    pub(crate) fragment: usize,
+    pub(crate) pairs: usize,
     bytes: usize,
 }
 
@@ -255,7 +252,7 @@ impl Room {
 }
 
 /// The front of the bytes, which are left with the rest.
-fn next<'a>(bytes: &mut &'a [u8], len: usize) -> &'a [u8] {
+pub(crate) fn next<'a>(bytes: &mut &'a [u8], len: usize) -> &'a [u8] {
     let (front, rest) = bytes.split_at(len);
     *bytes = rest;
     front
@@ -368,20 +365,19 @@ pub(crate) fn from_parts(parts: &Url) -> Result<Url, Error> {
 /// Whether the location is settled.
 pub(crate) fn is_settled(url: &Url) -> bool {
     let mut settled = false;
-    all_answered(call!(gix_url_c_is_settled, &Given::of(url), &mut settled));
-    settled
+    is_answered(call!(gix_url_c_is_settled, &Given::of(url), &mut settled)) && settled
 }
 
 /// Whether Git reads the same place in the text of the location.
 pub(crate) fn agrees_with_git(url: &Url) -> bool {
     let mut agrees = false;
-    all_answered(call!(gix_url_c_agrees_with_git, &Given::of(url), &mut agrees));
-    agrees
+    is_answered(call!(gix_url_c_agrees_with_git, &Given::of(url), &mut agrees)) && agrees
 }
 
-/// Sees that a call was answered that has no error but that what it is given is no location.
-fn all_answered(code: u32) {
-    assert!(code == OK, "every value of this crate is a location");
+/// Whether a call was answered that has no error but that what it is given is no location: every value here is one.
+fn is_answered(code: u32) -> bool {
+    debug_assert!(code == OK, "every value of this crate is a location");
+    code == OK
 }
 
 /// The text of the location.
@@ -480,42 +476,5 @@ pub(crate) fn components(url: &Url) -> Result<PathComponents<'_>, Error> {
     match code {
         OK => Ok(lent(&url.path, &told, bytes, if far.is_empty() { &near } else { &far })),
         _ => Err(error(code, &Problem::default(), BString::default, &[])),
-    }
-}
-
-/// The components that stand in these bytes, as far as they can be, lent by the path that they are of.
-fn lent<'a>(whole: &'a [u8], told: &Parted, mut bytes: &[u8], lengths: &[usize]) -> PathComponents<'a> {
-    // The path of a location that has none is not a part of it, and is `/`.
-    let path = if whole.starts_with(next(&mut bytes, told.path)) { &whole[..told.path] } else { b"/" };
-    next(&mut bytes, told.fragment);
-    let (query, fragment) = whole.split_at(whole.len() - told.fragment);
-    let mut query = query.get(told.path..).unwrap_or(query);
-    let mut part = |len| lent_part(&mut query, next(&mut bytes, len));
-    let pair = |pair: &[usize]| -> QueryPair<'a> { (part(pair[0]), part(pair[1])) };
-    PathComponents {
-        path: path.into(),
-        query: told.has_query.then(|| lengths[..2 * told.pairs].chunks_exact(2).map(pair).collect()),
-        fragment: told.has_fragment.then(|| fragment.into()),
-    }
-}
-
-/// A name or a value, lent where it stands behind separators in the query, which then goes on behind it.
-fn lent_part<'a>(query: &mut &'a [u8], part: &[u8]) -> Cow<'a, BStr> {
-    let is_same = |(raw, byte): (&u8, &u8)| raw == byte || (*raw, *byte) == (b'+', b' ');
-    let separators = if part.first() == Some(&b'&') { EMPTY_FIELDS } else { query.len() };
-    let place = (0..=separators).find_map(|skipped| {
-        let place = query.get(skipped..skipped + part.len())?;
-        place.iter().zip(part).all(is_same).then_some((skipped, place))
-    });
-    match place {
-        Some((skipped, place)) => {
-            *query = &query[skipped + part.len()..];
-            if place == part {
-                Cow::Borrowed(place.into())
-            } else {
-                Cow::Owned(part.into())
-            }
-        }
-        None => Cow::Owned(part.into()),
     }
 }

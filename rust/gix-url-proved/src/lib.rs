@@ -32,6 +32,7 @@ mod disk;
 mod door;
 pub mod expand_path;
 pub mod ipv6;
+mod lent;
 mod logs;
 pub mod parse;
 mod scheme;
