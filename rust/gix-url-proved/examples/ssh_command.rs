@@ -1,0 +1,28 @@
+//! Says how each remote of the standard input is called by Secure Shell, and refuses what may be taken for an option.
+//!
+//! `cargo run --example ssh_command <../../examples/remotes`
+
+use gix_url_proved::{parse, ArgumentSafety, Scheme, Url};
+use std::io::{self, BufRead};
+
+fn command(url: &Url) -> String {
+    let (Scheme::Ssh, Some(port)) = (&url.scheme, url.port_or_default()) else {
+        return "not by Secure Shell".to_owned();
+    };
+    match (url.user_as_argument(), url.host_argument_safe()) {
+        (ArgumentSafety::Dangerous(_), _) | (_, None) => "no host or user that is safe to hand to a command".to_owned(),
+        (ArgumentSafety::Usable(user), Some(host)) => format!("ssh -p {port} {user}@{host}"),
+        (ArgumentSafety::Absent, Some(host)) => format!("ssh -p {port} {host}"),
+    }
+}
+
+fn main() -> io::Result<()> {
+    for line in io::stdin().lock().split(b'\n') {
+        // Of a location that isn't settled, Git would read another host in its text.
+        match parse(line?).ok().filter(Url::is_settled) {
+            Some(url) => println!("{}", command(&url)),
+            None => println!("no location to rely on"),
+        }
+    }
+    Ok(())
+}
