@@ -67,6 +67,10 @@ static char *put_of(putter *call, const gix_url *url, size_t *len) {
     size_t again = 77;
     gix_url_error error = call(url, NULL, SIZE_MAX, len, &problem);
     is_problem_of(error, &problem);
+    if (error == GIX_URL_OK) {
+        HOLDS(*len == 0);
+        return calloc(1, 1);
+    }
     if (error != GIX_URL_NO_ROOM) {
         HOLDS(call(url, NULL, 0, &again, NULL) == error && again == 77);
         return NULL;
