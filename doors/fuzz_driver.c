@@ -17,10 +17,11 @@ static uint64_t chance(uint64_t below) {
     return state % below;
 }
 
-/* The lines of the standard input, each behind a byte 0. */
+/* The lines of the standard input, as many as there is room for, each behind a byte 0. */
 static void read_seeds(void) {
     char line[LONGEST - 1];
-    while (count < SEEDS && fgets(line, sizeof line, stdin)) {
+    while (fgets(line, sizeof line, stdin)) {
+        if (count == SEEDS) continue;
         lens[count] = 1 + strcspn(line, "\n");
         memcpy(seeds[count] + 1, line, lens[count] - 1);
         count++;

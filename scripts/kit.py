@@ -10,8 +10,9 @@ import subprocess
 import sys
 
 ROOT = os.path.dirname(os.path.dirname(os.path.realpath(__file__)))
-# What the gate built of the sources whose number stands beside it.
+# What the gate built of the sources whose number stands beside it, and what scripts/bundle packed, by the same rule.
 BUILT = f"{ROOT}/out/built"
+PACKED = f"{ROOT}/dist/built"
 
 
 @functools.cache
@@ -119,20 +120,26 @@ def keep_built(root, number):
     shutil.rmtree(BUILT, ignore_errors=True)
     os.makedirs(BUILT)
     for name in os.listdir(f"{root}/crates"):
-        for file in (name, f"lib{name}.a"):
+        for file in (name, f"{name}.o", f"lib{name}.a"):
             if os.path.isfile(f"{root}/crates/{name}/out/{file}"):
                 shutil.copy2(f"{root}/crates/{name}/out/{file}", f"{BUILT}/{file}")
     with open(f"{BUILT}/sources", "w", encoding="utf-8") as it:
         it.write(number)
 
 
-def kept(file):
-    """The program or static library that the gate built of these very sources; None where there is none."""
-    try:
-        with open(f"{BUILT}/sources", encoding="utf-8") as it:
-            return f"{BUILT}/{file}" if it.read() == sources() and os.path.isfile(f"{BUILT}/{file}") else None
-    except OSError:
-        return None
+def kept(file, folders=(BUILT, PACKED)):
+    """The program or static library that was built of these very sources, by the gate or before it was packed; None where
+    there is none. What was packed is left alone where the environment says to prove."""
+    for folder in folders:
+        if folder == PACKED and os.environ.get("GIX_URL_PROVE"):
+            continue
+        try:
+            with open(f"{folder}/sources", encoding="utf-8") as it:
+                if it.read() == sources() and os.path.isfile(f"{folder}/{file}"):
+                    return f"{folder}/{file}"
+        except OSError:
+            pass
+    return None
 
 
 def built(name, *words):
