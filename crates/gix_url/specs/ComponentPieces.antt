@@ -101,12 +101,17 @@ ends_in before (b ∷ bs) = ends_in (b == ampersand) bs
 abbrev pub field_count : List ℕ → ℕ
 field_count text = length (filter is_field (slice_split (λ b. b == ampersand) text))
 
--- the name and the value of a field stand behind those that were there, unless it is empty
+-- the name and the value of a field stand behind those that were there
+abbrev pub AddsLent : Bool → List ℕ → List (QueryText × QueryText) → List (QueryText × QueryText)
+    → Type 0
+AddsLent escaped field old new = (pair : QueryText × QueryText) × LendsPair escaped field pair
+    × (new ≡ old ++ pair ∷ [])
+
+-- they do, unless the field is empty
 abbrev pub AddsPair : Bool → List ℕ → List (QueryText × QueryText) → List (QueryText × QueryText)
     → Type 0
 AddsPair escaped [] old new = new ≡ old
-AddsPair escaped (b ∷ bs) old new = (pair : QueryText × QueryText) × LendsPair escaped (b ∷ bs) pair
-    × (new ≡ old ++ pair ∷ [])
+AddsPair escaped (b ∷ bs) old new = AddsLent escaped (b ∷ bs) old new
 
 -- ---- the whole
 

@@ -1,10 +1,10 @@
 -- Pieces of a text around a delimiter stand for the pieces of what the text stands for.
-use Rattle.std.proofs.Common.{◌≡◌, ◌∙◌, ◌≤◌, ◌+◌, ◌*◌, ℕ, Bool, true, false, ◌==◌, List, [], ◌∷◌, ◌++◌, length, take, drop, refl, sym, ap, ⊎_elim, arith, append_assoc, if◌then◌else◌}
+use Rattle.std.proofs.Common.{◌≡◌, ◌∙◌, ◌≤◌, ◌<◌, ◌+◌, ◌*◌, ℕ, Bool, true, false, ◌==◌, List, [], ◌∷◌, ◌++◌, length, take, drop, refl, sym, ap, ⊎_elim, arith, append_assoc, eq-eqb, if◌then◌else◌}
 use Rattle.std.specs.Char.{is_digit, digit_value}
 use Rattle.std.proofs.lemmas.Bool.{cases_Bool, and_parts, false_from_ne_true, both_ways}
 use Rattle.std.proofs.lemmas.List.{take_at, drop_at, length-append, map-append}
 use Rattle.percent_encoding.specs.Percent.{percent_decode}
-use Rattle.percent_encoding.proofs.PercentLemmas.{percent_decode-nil}
+use Rattle.percent_encoding.proofs.PercentLemmas.{percent_decode-nil, percent_decode_not_percent}
 use Rattle.git_syntax.specs.Bytes.{plus_sign, FreeOf, space}
 use Rattle.git_syntax.specs.Escapes.{begins_with_digits}
 use Rattle.git_laws.specs.Components.{with_spaces}
@@ -48,6 +48,32 @@ decode_around (b ∷ high ∷ low ∷ rest) ys c parts = ⊎_elim
     (cases_Bool (begins_with_digits (high ∷ low ∷ rest))))
     (λ other. other_around b (high ∷ low ∷ rest) ys c other (decode_around (high ∷ low ∷ rest) ys c parts))
     (cases_Bool (b == 37))
+
+-- a byte that begins no escape decodes to one byte: another than `%`
+pub decoded_other : (b : ℕ) (bs : List ℕ) → (b ≡ 37 → ⊥) → length (percent_decode (b ∷ bs)) ≡ length (percent_decode bs) + 1
+decoded_other b bs other =
+    let one = ap length (percent_decode_not_percent b bs other) in
+    omega (arith, one)
+
+-- or one without two digits behind it
+pub decoded_broken : (b : ℕ) (bs : List ℕ) → begins_with_digits bs ≡ false → length (percent_decode (b ∷ bs)) ≡ length (percent_decode bs) + 1
+decoded_broken b bs broken =
+    let one = ap length (decode_broken b bs broken) in
+    omega (arith, one)
+
+-- so does an escape, with its digits
+pub decoded_escape : (b : ℕ) (bs : List ℕ) → b ≡ 37 → begins_with_digits bs ≡ true → length (percent_decode (b ∷ bs)) ≡ length (percent_decode (drop 2 bs)) + 1
+decoded_escape b [] percent digits = absurd (cc)
+decoded_escape b (c ∷ []) percent digits = absurd (cc)
+decoded_escape b (high ∷ low ∷ rest) percent digits =
+    let (h, l) = and_parts (is_digit high 16) (is_digit low 16) digits in
+    let one = ap length (decode_escape b high low rest (eq-eqb b 37 percent) h l) in
+    omega (arith, one)
+
+-- nothing decodes to nothing
+pub decoded_none : (bs : List ℕ) → length bs < 1 → length (percent_decode bs) ≡ 0
+decoded_none [] short = ap length percent_decode-nil
+decoded_none (b ∷ bs) short = absurd (omega (arith, short))
 
 -- ---- what pieces stand for
 

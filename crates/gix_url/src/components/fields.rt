@@ -5,7 +5,7 @@
 
 ghost use Rattle.std.specs.Prelude.{◌≡◌, ◌==◌, ◌+◌, ◌≤◌, ◌<◌, ◌++◌, [], ◌∷◌, IfOk, IsTrue, OnOk, false, length, vec_capacity, vec_len};
 ghost use Rattle.git_syntax.specs.Bytes.{FreeOf, ampersand, plus_sign};
-ghost use Rattle.gix_url.specs.ComponentPieces.{AddsPair, LendsFields, begun_by, begun_in, ends_in, field_count, one_field};
+ghost use Rattle.gix_url.specs.ComponentPieces.{AddsLent, AddsPair, LendsFields, begun_by, begun_in, ends_in, field_count, one_field};
 
 use super::QueryText;
 use crate::components::cuts::Spelled;
@@ -93,6 +93,23 @@ fn push_field<'a>(
         push_within(pairs, lent_pair(field));
         return Ok(());
     }
+    push_made(alloc, pairs, field)
+}
+
+/// Puts the name and the value of a field behind the pairs, for which there is room. It stands apart, so that the walk over
+/// the fields doesn't have the memory of its results to clear.
+#[inline(never)]
+fn push_made<'a>(
+    alloc: Global,
+    pairs: &mut Vec<(QueryText<'a>, QueryText<'a>)>,
+    field: Spelled<'a>,
+) -> Result<(), AllocError>
+    requires { vec_len pairs.old < vec_capacity pairs.old }
+    ensures pairs { OnOk result
+        (AddsLent field.entry.escaped field.entry.text.now pairs.old.items pairs.new.items) }
+    ensures len { OnOk result (vec_len pairs.new ≡ vec_len pairs.old + 1) }
+    ensures capacity { vec_capacity pairs.old ≤ vec_capacity pairs.new }
+{
     let pair = lend_pair(alloc, field)?;
     push_within(pairs, pair);
     Ok(())

@@ -10,7 +10,7 @@ ghost use Rattle.git_syntax.specs.Cuts.{CutsAt};
 use git_syntax::bytes::cut;
 
 /// How many bytes are looked at one by one.
-const NEAR: usize = 4;
+const NEAR: usize = 8;
 
 /// What stands before and behind the first `c`.
 #[inline(always)]

@@ -1,11 +1,13 @@
--- As many bytes as were counted have been decoded.
-use Rattle.std.proofs.Common.{◌≡◌, ◌++◌, length}
+-- What was counted and what the rest decodes to make the whole, and no more was counted than there are bytes.
+use Rattle.std.proofs.Common.{◌≡◌, ◌≤◌, ◌+◌, length}
 use Rattle.percent_encoding.specs.Percent.{percent_decode}
-use Rattle.percent_encoding.specs.Iter.{decoded_bytes}
 use Rattle.gix_url.proofs.components.measure.decoded_len.Given as goal
 
-abbrev pub invariant-loop-byte : goal.invariant-loop-byte
-invariant-loop-byte l = record {
-  counted : l.len ≡ length l.yielded;
-  whole : percent_decode l.text ≡ l.yielded ++ decoded_bytes l._byte-iterator;
+abbrev pub invariant-loop-rest : goal.invariant-loop-rest
+invariant-loop-rest l = record {
+  counted : l.len + length (percent_decode l.rest) ≡ length (percent_decode l.text);
+  small : l.len + length l.rest ≤ length l.text;
 }
+
+abbrev pub decreases-loop-rest : goal.decreases-loop-rest
+decreases-loop-rest l = length l.rest
