@@ -27,13 +27,9 @@ address_byte_ascii b h = grind (arith, nat_tests)
 bytes_joined : (s t : List ℕ) → list_all is_address_byte s ≡ true → list_all is_address_byte t ≡ true → list_all is_address_byte (s ++ t) ≡ true
 bytes_joined s t h k = list_all-append is_address_byte s t ∙ and_from _ _ h k
 
--- a hexadecimal digit is such a byte
-hexadecimal_byte : (b : ℕ) → is_hexadecimal b ≡ true → is_address_byte b ≡ true
-hexadecimal_byte b h = let class : is_ascii_hexdigit b ≡ true = grind (arith, nat_tests) in rw class refl
-
--- and so are those of a text
+-- hexadecimal digits are such bytes
 hexdigits_bytes : (g : List ℕ) → list_all is_hexadecimal g ≡ true → list_all is_address_byte g ≡ true
-hexdigits_bytes g h = all_weaker is_hexadecimal is_address_byte hexadecimal_byte g h
+hexdigits_bytes g h = grind (arith, nat_tests, all_weaker)
 
 -- digits of a radix pass a test that each of them passes
 pub digits_pass : (radix : ℕ) (test : ℕ → Bool) → ((b : ℕ) → digit_value b < radix → test b ≡ true) → (ds : List ℕ) → AllDigits radix ds → list_all test ds ≡ true
@@ -129,13 +125,9 @@ all_lowercase class stays (b ∷ bs) h =
     let parts = and_parts (class b) (list_all class bs) h in
     and_from _ _ (stays b parts.0) (all_lowercase class stays bs parts.1)
 
--- a hexadecimal digit stays one
-hexdigit_lowercase : (b : ℕ) → is_hexadecimal b ≡ true → is_hexadecimal (to_ascii_lowercase b) ≡ true
-hexdigit_lowercase b h = grind (arith, nat_tests)
-
--- so does a group
+-- a group stays one
 group_lowercase : (g : List ℕ) → IsGroup g → IsGroup (lowercase g)
-group_lowercase g h = grind (arith, nat_tests, all_lowercase, hexdigit_lowercase, length-map)
+group_lowercase g h = grind (arith, nat_tests, all_lowercase, length-map)
 
 -- and items with what they count for
 items_lowercase : (ending : Bool) (items : List (List ℕ)) (n : ℕ) → AreItems ending items n → AreItems ending (map lowercase items) n

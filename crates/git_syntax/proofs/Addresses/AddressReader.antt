@@ -1,9 +1,8 @@
 -- std's relation between a text and the IPv6 address that it writes, against the definition of an IPv6 text.
-use Rattle.std.proofs.Common.{◌≡◌, ℕ, ◌+◌, ◌<◌, Bool, true, false, List, [], ◌∷◌, ◌++◌, length, replicate, ◌-◌, decimal, Ok, Err, Result, IsTrue, ◌↔◌, refl, sym, ap, ◌∙◌, subst, inl, inr, append_assoc, append-nil, arith}
+use Rattle.std.proofs.Common.{◌≡◌, ℕ, ◌+◌, Bool, true, false, List, [], ◌∷◌, ◌++◌, length, replicate, ◌-◌, decimal, Ok, Err, Result, IsTrue, ◌↔◌, refl, sym, ap, ◌∙◌, subst, inl, inr, append_assoc, append-nil, arith}
 use Rattle.std.proofs.lemmas.Bool.{false≢true}
 use Rattle.std.proofs.lemmas.Bool.Decides.{nat_tests}
 use Rattle.std.specs.List.{join_with_byte}
-use Rattle.std.specs.Char.{digit_value}
 use Rattle.std.specs.Str.Parse.{digits_value}
 use Rattle.std.specs.Net.Addr.{segments_of, ipv4_octets}
 use Rattle.std.specs.Net.Grammar as std
@@ -11,25 +10,17 @@ use Rattle.std.specs.Net.Text.{dotted_text}
 use Rattle.std.specs.Result.{is_ok}
 use Rattle.std.specs.declared.net.ipv4_addr.Ipv4Addr.{Ipv4Addr}
 use Rattle.std.specs.declared.net.ipv6_addr.Ipv6Addr.{Ipv6Addr}
-use Rattle.git_syntax.specs.Bytes.{colon, dot, is_hexadecimal}
+use Rattle.git_syntax.specs.Bytes.{colon, dot}
 use Rattle.git_syntax.specs.Addresses.{IsGroup, IsIpv4Text, AreItems, IsIpv6Text}
 use Rattle.git_syntax.proofs.Addresses.AddressLemmas.{digits_pass, passing_digits}
 
--- a hexadecimal digit by its class is one by its value
-digit_by_value : (b : ℕ) → is_hexadecimal b ≡ true → digit_value b < 16
-digit_by_value b h = grind (arith, nat_tests)
-
--- and the other way round
-digit_by_class : (b : ℕ) → digit_value b < 16 → is_hexadecimal b ≡ true
-digit_by_class b h = grind (arith, nat_tests)
-
 -- a group writes the value of its digits
 group_written : (g : List ℕ) → IsGroup g → std.IsGroup g (digits_value 16 g)
-group_written g h = (((h.0, passing_digits 16 is_hexadecimal digit_by_value g h.2), refl), h.1)
+group_written g h = grind (arith, nat_tests, passing_digits)
 
 -- what writes a segment is a group
 group_read : (g : List ℕ) (s : ℕ) → std.IsGroup g s → IsGroup g
-group_read g s h = (h.0.0.0, h.1, digits_pass 16 is_hexadecimal digit_by_class g h.0.0.1)
+group_read g s h = grind (arith, nat_tests, digits_pass)
 
 -- four numbers joined by dots, with the dots apart
 dotted_parts : (a b c d : ℕ) → dotted_text a b c d ≡ decimal a ++ dot ∷ (decimal b ++ dot ∷ (decimal c ++ dot ∷ decimal d))

@@ -1,6 +1,6 @@
 -- The test for IPv6 texts decides the definition, and answers rows of it by computing.
 use Rattle.std.proofs.Common.{◌≡◌, ℕ, zero, suc, ◌-◌, ◌^◌, ◌<◌, ◌≤◌, Bool, true, false, ◌&&◌, ◌||◌, List, [], ◌∷◌, ◌++◌, length, get_or, refl, sym, ap, subst, ◌∙◌, arith, add-one}
-use Rattle.std.specs.Prelude.{not, ◌==◌, ◌⊎◌, ◌↔◌, IsTrue, decimal}
+use Rattle.std.specs.Prelude.{not, ◌==◌, ◌↔◌, IsTrue, decimal}
 use mathlib.Core.Logic.{inl, inr, ⊎_elim}
 use Rattle.std.specs.Char.{digit_value, is_ascii_digit}
 use Rattle.std.specs.List.{join_with_byte}
@@ -194,10 +194,6 @@ items_to ending (t ∷ u ∷ us) n (g, suc m, are, count) =
 full_from : (t : List ℕ) → is_full_address t ≡ true → IsFullAddress t
 full_from t e = let found = items_from true 8 t e in record { items = found.0; eight = found.1; joined = found.2 }
 
--- the same, back
-full_to : (t : List ℕ) → IsFullAddress t → is_full_address t ≡ true
-full_to t h = subst (λ x. is_full_address x ≡ true) (sym h.joined) (items_to true h.items 8 h.eight)
-
 -- the groups behind `::`, of which so many are left
 abbrev back_test : ℕ → List ℕ → Bool
 back_test m y = any_up_to (λ n. are_items true n y) (7 - m)
@@ -255,7 +251,7 @@ ipv6_text_from t e = grind (arith, nat_tests, full_from, short_from, or_cases)
 -- an IPv6 text passes
 pub ipv6_text_to : (t : List ℕ) → IsIpv6Text t → is_ipv6_text t ≡ true
 unfolding is_ipv6_text
-ipv6_text_to t h = grind (arith, nat_tests, full_to, short_to, or_left, or_right)
+ipv6_text_to t h = grind (arith, nat_tests, short_to, or_left, or_right, items_to)
 
 -- what is no IPv6 text fails
 pub ipv6_text_fails : (t : List ℕ) → ¬ IsIpv6Text t → is_ipv6_text t ≡ false

@@ -9,7 +9,7 @@ use Rattle.git_syntax.specs.Value.{Protocol}
 use Rattle.git_syntax.specs.Value.Protocol.{file, git, ssh, http, https, ext, helper, helper_url}
 use Rattle.git_syntax.specs.Bytes.{colon, left_bracket, right_bracket, begins_with}
 use Rattle.git_syntax.specs.Schemes.{protocol_of, requires_path}
-use Rattle.git_syntax.specs.Grammar.{UrlParts, SpellsParts, SpellsUrl, Peels, HostFor, MeansByProtocol}
+use Rattle.git_syntax.specs.Grammar.{UrlParts, SpellsParts, SpellsUrl, Peels, MeansByProtocol}
 use Rattle.git_syntax.specs.FoundPieces.{front_of, colon_dropped, peeled, host_for, url_location}
 use Rattle.git_syntax.proofs.Texts.CutLemmas.{heads, tails}
 use Rattle.git_syntax.proofs.Readings.UrlLocationLemmas.{peels_utf8, spelled_url}
@@ -72,13 +72,9 @@ peels_bracket behind (Some whole) None e closed =
     kept_bracket behind (λ front k. both_ways (58 == 93) refl (eq-eqb 58 93 (same_from_push whole front colon right_bracket (sym e ∙ k)).1))
     (λ front k. closed front (same_from_push whole (front ++ right_bracket ∷ []) colon colon (sym e ∙ k ∙ sym (append_assoc front (right_bracket ∷ []) (colon ∷ [])))).0)
 
--- a host without a bracket in front is in no brackets
-unbracketed : (host behind : List ℕ) → begins_with left_bracket host ≡ false → ¬ (host ≡ left_bracket ∷ behind)
-unbracketed host behind open_front e = both_ways _ open_front (ap (begins_with left_bracket) e)
-
--- such a host
+-- a host without a bracket in front is in no brackets, so it is taken without the colon behind it
 peels_open : (host : List ℕ) (front : Option (List ℕ)) → begins_with left_bracket host ≡ false → TellsFront colon host front → Peels host (colon_dropped host front)
-peels_open host front open_front e = grind (arith, nat_tests, unbracketed, both_ways, cases_Bool, same_from_push)
+peels_open host front open_front e = grind (arith, nat_tests, both_ways, cases_Bool, same_from_push)
 
 -- Secure Shell takes this host out of each
 pub peels : (host : List ℕ) → Peels host (peeled host)
@@ -89,10 +85,6 @@ peels (b ∷ bs) =
       | inl bracket ↦
           rw bracket (subst (λ c. Peels (c ∷ bs) (unwrap_or (front_of right_bracket (unwrap_or (front_of colon bs) bs)) (c ∷ bs))) (sym (eqb-true b left_bracket bracket)) (peels_bracket bs (front_of colon bs) (front_of right_bracket (unwrap_or (front_of colon bs) bs)) (front_told colon bs) (front_told right_bracket (unwrap_or (front_of colon bs) bs))))
     ]
-
--- a location has this host for the host that its URL names
-pub hosted : (protocol : Protocol) (named : Option (List ℕ)) → HostFor protocol named (host_for protocol named)
-hosted protocol named = grind (arith, nat_tests, peels)
 
 -- which is text where that is
 pub host_utf8 : (protocol : Protocol) (named : Option (List ℕ)) → IfSome named IsUtf8 → IfSome (host_for protocol named) IsUtf8
@@ -110,7 +102,7 @@ host_utf8 (helper_url name) named h = h
 
 -- the parts of a URL mean this location by a protocol
 pub means_location : (protocol : Protocol) (parts : UrlParts) → (requires_path protocol ≡ true → 0 < length parts.path) → MeansByProtocol protocol parts (url_location protocol parts)
-means_location protocol parts pathed = record { host = host_for protocol parts.host; pathed = pathed; hosted = hosted protocol parts.host; value = refl }
+means_location protocol parts pathed = grind (arith, nat_tests, peels)
 
 -- a URL spells it, but for one of the helper `ext`
 pub found_url : {b : List ℕ} {parts : UrlParts} → SpellsParts b parts → ¬ (protocol_of parts.scheme ≡ ext) → (requires_path (protocol_of parts.scheme) ≡ true → 0 < length parts.path) → SpellsUrl b (url_location (protocol_of parts.scheme) parts)

@@ -44,10 +44,6 @@ loose_not_bare e = cc
 
 -- ---- ports
 
--- decimal digits hold no colon
-digits_free : (text : List ℕ) → IsDigits text → FreeOf colon text
-digits_free text h = free_of_all is_ascii_digit colon text h.1 refl
-
 -- a text of decimal digits, as std tells them
 digits_model : IsNumeralModel (λ ds. list_all is_ascii_digit ds ≡ true) (digits_value 10)
 digits_model = numerals_by_value (λ ds. list_all is_ascii_digit ds ≡ true) (search rules)
@@ -134,7 +130,7 @@ host_text_unique loose t m n h k = h.1 ∙ sym k.1
 
 -- a port's place follows
 follows_place : {mode : Mode} {base rest : List ℕ} {host : Option (List ℕ)} {port : Option ℕ} → Follows mode base rest host port → IsPortPlace rest
-follows_place h = grind (arith, nat_tests, digits_free)
+follows_place h = grind (arith, nat_tests, free_of_all)
 
 -- what follows a host tells what is added to it, and the port
 follows_unique : {mode : Mode} {rest : List ℕ} (base other : List ℕ) (host second : Option (List ℕ)) (port last : Option ℕ) → base ≡ other → Follows mode base rest host port → Follows mode other rest second last → (host ≡ second) × (port ≡ last)
@@ -389,39 +385,24 @@ flawed_unnamed mode piece fault.HostRequired at len h host port n = h
 
 -- ---- the places of flaws
 
--- a bad port stands within its piece
-bad_port_within : (mode : Mode) (piece : List ℕ) (at len : ℕ) → HasBadPort mode piece at len → at + len ≤ length piece
-bad_port_within mode piece at len h = grind (arith, nat_tests, length-append)
-
--- so does a bad host
+-- a bad host stands within its piece
 bad_host_within : (mode : Mode) (piece : List ℕ) (at len : ℕ) → HasBadHost mode piece at len → at + len ≤ length piece
 bad_host_within mode piece at len h = grind (arith, nat_tests, length-append)
 
 -- the flaw of a piece stands within it
 pub name_flaw_within : (mode : Mode) (piece : List ℕ) (named : UrlFault) (at len : ℕ) → NameFlaw mode piece named at len → at + len ≤ length piece
-name_flaw_within mode piece fault.BadPort at len h = bad_port_within mode piece at len h
-name_flaw_within mode piece fault.BadCharacter at len h = bad_host_within mode piece at len h
-name_flaw_within mode piece fault.NoScheme at len h = absurd h
-name_flaw_within mode piece fault.HostRequired at len h = absurd h
+name_flaw_within mode piece named at len h = grind (arith, nat_tests, bad_host_within, length-append)
 
 -- ---- ASCII and UTF-8
 
--- decimal digits are ASCII
-digit_ascii : (b : ℕ) → is_ascii_digit b ≡ true → b < 128
-digit_ascii b h = grind (arith, nat_tests)
-
 pub digits_utf8 : (bs : List ℕ) → list_all is_ascii_digit bs ≡ true → IsUtf8 bs
-digits_utf8 bs h = utf8_class is_ascii_digit digit_ascii bs h
+digits_utf8 bs h = grind (arith, nat_tests, utf8_class)
 
 -- ---- decoding behind an address
 
--- what holds no `%` stays, with another text behind it
-decoded_behind : (a rest : List ℕ) → FreeOf percent_sign a → percent_decode (a ++ rest) ≡ a ++ percent_decode rest
-decoded_behind a rest h = decodes_in_parts a rest (sound_free a h) ∙ ap (λ front. front ++ percent_decode rest) (decode_kept a h)
-
--- and `%25` behind it is a `%`, with another text behind that
+-- what holds no `%` stays, and `%25` behind it is a `%`, with another text behind that
 zone_decoded : (a z : List ℕ) → FreeOf percent_sign a → percent_decode (a ++ percent_sign ∷ (50 ∷ (53 ∷ z))) ≡ a ++ percent_sign ∷ percent_decode z
-zone_decoded a z h = grind (arith, nat_tests, decoded_behind, percent_decode_escape)
+zone_decoded a z h = grind (arith, nat_tests, percent_decode_escape, decode_kept, decodes_in_parts, sound_free)
 
 -- a literal is decoded before or after it is lowercased
 literal_decoded : (t n : List ℕ) → Literal t n → percent_decode n ≡ lowercase_address (percent_decode t)
@@ -535,13 +516,9 @@ no_port_behind mode behind x rest digits len free e f none size =
 
 -- ---- hosts are text
 
--- a byte of a domain name stays one in lower case
-dns_byte_lowercase : (b : ℕ) → is_dns_byte b ≡ true → is_dns_byte (to_ascii_lowercase b) ≡ true
-dns_byte_lowercase b h = grind (arith, nat_tests)
-
--- so do those of a text
+-- the bytes of a domain name stay such in lower case
 pub dns_lowercase : (bs : List ℕ) → list_all is_dns_byte bs ≡ true → list_all is_dns_byte (lowercase bs) ≡ true
-dns_lowercase bs h = all_lowercase is_dns_byte dns_byte_lowercase bs h
+dns_lowercase bs h = grind (arith, nat_tests, all_lowercase)
 
 -- a byte that looks like a part of a domain name is ASCII
 dns_byte_ascii : (b : ℕ) → is_dns_byte b ≡ true → b < 128

@@ -197,13 +197,9 @@ fits_from_test scheme rest known short =
       ];
     }
 
--- and only there
-test_from_fits : (scheme rest : List ℕ) → Fits scheme rest → is_rest_short (is_web_scheme scheme) rest ≡ true
-test_from_fits scheme rest fits = grind (arith, nat_tests, slashes_left_out, start_by_limit)
-
--- so the test decides
+-- the test decides
 pub fits_tested : (scheme rest : List ℕ) → length scheme ≤ 1024 → (is_rest_short (is_web_scheme scheme) rest ≡ true) ↔ Fits scheme rest
-fits_tested scheme rest known = (λ short. fits_from_test scheme rest known short, λ fits. test_from_fits scheme rest fits)
+fits_tested scheme rest known = grind (arith, nat_tests, fits_from_test, slashes_left_out, start_by_limit)
 
 -- of a text that isn't short as a whole, the walk decides
 pub long_tested : (web : Bool) (rest : List ℕ) → 1024 < length rest → is_rest_short web rest ≡ is_in_time web Slashes rest

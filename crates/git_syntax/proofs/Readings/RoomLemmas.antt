@@ -18,7 +18,7 @@ use Rattle.git_syntax.specs.declared.host.NamedHost.{NamedHost}
 use Rattle.git_syntax.specs.declared.host.HostPiece.{HostPiece}
 use Rattle.git_syntax.specs.declared.host.HostPiece.TheVariants.{Simple, Address, Kept, Decoded, Literal, DecodedLiteral, Bracketed}
 use Rattle.git_syntax.specs.HostPieces.{in_brackets, is_bracketed, lowercase_address, meant_host, named_text, normal_case, slice_text, unescaped_host}
-use Rattle.git_syntax.specs.Authority.{Authority, Credentials, unless_empty, user_beside}
+use Rattle.git_syntax.specs.Authority.{Authority, Credentials, user_beside}
 use Rattle.git_syntax.specs.Grammar.{AddressedCut, ScpUser, SpellsParts, UrlParts}
 use Rattle.git_syntax.specs.FoundPieces.{optional_length, parts_length}
 use Rattle.git_syntax.proofs.Texts.CutLemmas.{heads, tails}
@@ -132,20 +132,13 @@ names_length {mode} {piece} {host} (Names.colons named s r b m t is p) = omega (
 
 -- ---- user information and authorities
 
--- a text is as long where it is none for being empty
-unless_empty_length : (t : List ℕ) → optional_length (unless_empty t) ≡ length t
-unless_empty_length t = grind arith
-
--- and beside a password
+-- a user beside a password is as long as it is alone
 user_beside_length : (password : Option (List ℕ)) (user : List ℕ) → optional_length (user_beside password user) ≡ length user
 user_beside_length password user = grind arith
 
 -- a user and a password are no longer than the user information that holds them
 credentials_length : {text : List ℕ} {user password : Option (List ℕ)} → Credentials text user password → optional_length user + optional_length password ≤ length text
-credentials_length {text} {user} {password} (Credentials.user_alone f u p e) =
-    omega (arith, ap optional_length p, ap optional_length e, unless_empty_length (percent_decode text), (length-percent_decode text).0)
-credentials_length {text} {user} {password} (Credentials.with_password u w f e a b p q) =
-    omega (arith, ap optional_length p, ap optional_length q, unless_empty_length (percent_decode w), user_beside_length password (percent_decode u), (length-percent_decode u).0, (length-percent_decode w).0, ap length e, length-append u (colon ∷ w))
+credentials_length h = grind (arith, nat_tests, user_beside_length, length-append, length-percent_decode)
 
 -- nor are they and the host longer than the authority
 authority_length : {mode : Mode} {text : List ℕ} {user password host : Option (List ℕ)} {port : Option ℕ} → Authority mode text user password host port → optional_length user + optional_length password + optional_length host ≤ length text

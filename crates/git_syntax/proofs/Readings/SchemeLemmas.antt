@@ -31,13 +31,9 @@ pub record IsTransport (scheme : List ℕ) : Type 0 where
 same_transport : (s name : List ℕ) → bytes_eq s name ≡ true → IsTransport name → IsTransport s
 same_transport s name e h = subst IsTransport (sym ((bytes_eq-Decides s name).0 e)) h
 
--- Secure Shell is one by each of its names
-ssh_transport : (s : List ℕ) → is_ssh_scheme s ≡ true → IsTransport s
-ssh_transport s h = grind (arith, nat_tests, same_transport, bytes_eq, or_cases)
-
 -- a scheme whose URLs need a path is one
 pub transport : (s : List ℕ) → requires_path (protocol_of s) ≡ true → IsTransport s
-transport s h = grind (arith, nat_tests, chosen, same_transport, ssh_transport, bytes_eq)
+transport s h = grind (arith, nat_tests, chosen, same_transport, bytes_eq, or_cases)
 
 -- a URL keeps its text as the path where its protocol is `ext`, and else its parts decide
 pub means_cases : (protocol : Protocol) (b : List ℕ) (parts : UrlParts) (v : Location) → MeansAs protocol b parts v → ((protocol ≡ ext) × (v ≡ path_alone ext true b)) ⊎ ((¬ (protocol ≡ ext)) × MeansByProtocol protocol parts v)

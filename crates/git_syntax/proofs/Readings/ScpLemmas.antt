@@ -135,7 +135,7 @@ addressed_user_utf8 b user address path k text =
 pub not_in_brackets : (t : List ℕ) → begins_with left_bracket t ≡ false → ¬ IsBracketed t
 not_in_brackets t apart (inner, e) = both_ways _ apart (ap (begins_with left_bracket) e)
 
--- so none comes in front
+-- in lower case none comes in front
 normal_front : (host : List ℕ) → begins_with left_bracket host ≡ false → begins_with left_bracket (normal_host host) ≡ false
 normal_front host open_front = grind arith
 

@@ -228,13 +228,9 @@ helper_name_utf8 name h = utf8_class is_name_byte name_byte_ascii name (helper_n
 
 -- ---- file URLs
 
--- what stands behind `file://` is a host and a path
-file_rest : (b rest : List ℕ) (v : Location) → UrlShape b (codes "file") rest → (h : SpellsFile b v) → rest ≡ h.host ++ h.path
-file_rest b rest v s h = append_cancel_left (codes "file://") rest (h.host ++ h.path) (sym s.joined ∙ h.joined)
-
 -- no path without a `/`
 pub no_file_path : (b rest : List ℕ) → UrlShape b (codes "file") rest → FreeOf slash rest → (v : Location) → ¬ SpellsFile b v
-no_file_path b rest s free v h = grind (arith, nat_tests, file_rest, begins_cut, not_free)
+no_file_path b rest s free v h = grind (arith, nat_tests, begins_cut, not_free, append_cancel_left)
 
 -- such a text misses its path
 pub file_misses_path : (b rest : List ℕ) → UrlShape b (codes "file") rest → FreeOf slash rest → MissesPath b kind.Url

@@ -30,17 +30,9 @@ use Rattle.percent_encoding.proofs.PercentLemmas.{percent_decode-nil}
 pub credentials_alone : (text : List ℕ) (user password : Option (List ℕ)) → FreeOf colon text → Credentials text user password → IsUtf8 (percent_decode text)
 credentials_alone text user password free h = grind (arith, nat_tests, not_free)
 
--- what stands around the first colon of user information decodes to text
-pub credentials_cut : (text u w : List ℕ) (user password : Option (List ℕ)) → FreeOf colon u → text ≡ u ++ colon ∷ w → Credentials text user password → IsUtf8 (percent_decode u) × IsUtf8 (percent_decode w)
-credentials_cut text u w user password free joined h = grind (arith, nat_tests, cut_unique, not_free)
-
 -- user information with a part that decodes to no text holds nothing
 pub no_text_refutes : (text : List ℕ) (at len : ℕ) (user password : Option (List ℕ)) → HasNoText text at len → ¬ Credentials text user password
-no_text_refutes text at len user password (HasNoText.user free bad _ _) h = bad (credentials_alone text user password free h)
-no_text_refutes text at len user password (HasNoText.user_before_password u w free joined bad _ _) h =
-    bad (credentials_cut text u w user password free joined h).0
-no_text_refutes text at len user password (HasNoText.password u w free joined bad _ _) h =
-    bad (credentials_cut text u w user password free joined h).1
+no_text_refutes text at len user password k h = grind (arith, nat_tests, credentials_alone, cut_unique, not_free)
 
 -- a text that is not empty is itself, unless it is empty
 pub some_kept : (text : List ℕ) → ¬ (text ≡ []) → unless_empty text ≡ Some text

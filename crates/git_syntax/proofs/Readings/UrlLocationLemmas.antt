@@ -30,13 +30,9 @@ use Rattle.git_syntax.proofs.Readings.UrlLemmas.{scheme_no_mark}
 pub root_meant : (path : List ℕ) → length path ≡ 0 → percent_decode (slash ∷ []) ≡ or_root (percent_decode path)
 root_meant path empty = grind (arith, nat_tests, decode_byte, nil_from_length, percent_decode-nil)
 
--- a path that is not empty stays
-some_rooted : (path : List ℕ) → ¬ (path ≡ []) → path ≡ or_root path
-some_rooted path some = grind arith
-
 -- any other path stands for itself
 pub path_meant : (path : List ℕ) → 0 < length path → percent_decode path ≡ or_root (percent_decode path)
-path_meant path some = some_rooted (percent_decode path) (λ e. absurd (omega (arith, ap length (decode_empty path e))))
+path_meant path some = grind (arith, nat_tests, decode_empty)
 
 -- ---- hosts
 

@@ -89,16 +89,9 @@ sound_kept b bs other = grind arith
 pub digit_not_percent : (b : ℕ) → is_digit b 16 ≡ true → (b == 37) ≡ false
 digit_not_percent b digit = grind (arith, nat_tests)
 
--- two digits don't matter to what follows them
-pub sound_digits : (high low : ℕ) (rest : List ℕ) → is_digit high 16 ≡ true → is_digit low 16 ≡ true → is_sound (high ∷ low ∷ rest) ≡ is_sound rest
-sound_digits high low rest h l = sound_kept high (low ∷ rest) (digit_not_percent high h) ∙ sound_kept low rest (digit_not_percent low l)
-
-both_digits : (high low all rest : Bool) → (high ≡ true → low ≡ true → all ≡ rest) → (high && (low && rest)) ≡ ((high && low) && all)
-both_digits high low all rest same = grind arith
-
 -- a text is sound where its first byte begins no broken escape and the rest is sound
 pub sound_step : (b : ℕ) (bs : List ℕ) → is_sound (b ∷ bs) ≡ ((not (b == 37) || begins_with_digits bs) && is_sound bs)
-sound_step b bs = grind (arith, nat_tests, sound_digits, both_digits, cases_Bool, nat_tests, ⊎_elim)
+sound_step b bs = grind (arith, nat_tests)
 
 -- the first byte of a sound text begins no broken escape
 pub sound_head : (b : ℕ) (bs : List ℕ) → is_sound (b ∷ bs) ≡ true → (not (b == 37) || begins_with_digits bs) ≡ true
@@ -173,11 +166,8 @@ pub decode_broken : (b : ℕ) (bs : List ℕ) → begins_with_digits bs ≡ fals
 unfolding percent_decode
 decode_broken b bs broken = grind arith
 
-kept_in_parts : (b : ℕ) (bs ys : List ℕ) → percent_decode (b ∷ (bs ++ ys)) ≡ b ∷ percent_decode (bs ++ ys) → percent_decode (b ∷ bs) ≡ b ∷ percent_decode bs → percent_decode (bs ++ ys) ≡ percent_decode bs ++ percent_decode ys → percent_decode (b ∷ (bs ++ ys)) ≡ percent_decode (b ∷ bs) ++ percent_decode ys
-kept_in_parts b bs ys whole front rest = whole ∙ ap (λ t. b ∷ t) rest ∙ sym (ap (λ t. t ++ percent_decode ys) front)
-
 byte_in_parts : (b : ℕ) (bs ys : List ℕ) → (b == 37) ≡ false → percent_decode (bs ++ ys) ≡ percent_decode bs ++ percent_decode ys → percent_decode (b ∷ (bs ++ ys)) ≡ percent_decode (b ∷ bs) ++ percent_decode ys
-byte_in_parts b bs ys other = kept_in_parts b bs ys (decode_byte b (bs ++ ys) other) (decode_byte b bs other)
+byte_in_parts b bs ys other h = grind (arith, nat_tests, decode_byte)
 
 escape_in_parts : (b high low : ℕ) (rest ys : List ℕ) → (b == 37) ≡ true → is_digit high 16 ≡ true → is_digit low 16 ≡ true → percent_decode (rest ++ ys) ≡ percent_decode rest ++ percent_decode ys → percent_decode (b ∷ high ∷ low ∷ (rest ++ ys)) ≡ percent_decode (b ∷ high ∷ low ∷ rest) ++ percent_decode ys
 escape_in_parts b high low rest ys percent h l parts = grind (arith, nat_tests, decode_escape)

@@ -1,6 +1,5 @@
 -- Plain texts: printable ASCII without `%`. What the other looks at a text would tell of them.
-use Rattle.std.proofs.Common.{◌≡◌, ◌∙◌, ◌<◌, ◌++◌, ℕ, true, false, List, refl, sym, subst, arith}
-use Rattle.std.specs.Char.{is_whitespace}
+use Rattle.std.proofs.Common.{◌≡◌, ◌∙◌, ◌<◌, ◌++◌, ℕ, true, List, refl, sym, arith}
 use Rattle.std.specs.Str.{IsUtf8}
 use Rattle.std.proofs.lemmas.Bool.{and_parts}
 use Rattle.std.proofs.lemmas.Bool.Decides.{nat_tests}
@@ -15,18 +14,13 @@ use Rattle.git_syntax.proofs.Texts.EscapeLemmas.{ascii_class, utf8_class, white_
 plain_ascii : (b : ℕ) → is_plain_byte b ≡ true → b < 128
 plain_ascii b plain = grind (arith, nat_tests)
 
--- and no white space
-plain_no_space : (b : ℕ) → is_plain_byte b ≡ true → is_whitespace b ≡ false
-plain_no_space b plain = grind (arith, nat_tests)
-
 -- a plain text is UTF-8
 pub plain_utf8 : (t : List ℕ) → is_plain t ≡ true → IsUtf8 t
 plain_utf8 t plain = utf8_class is_plain_byte plain_ascii t plain
 
 -- it holds no white space
 pub plain_white_space : (t : List ℕ) → is_plain t ≡ true → LacksWhiteSpace t
-plain_white_space t plain =
-    white_space_ascii t (ascii_class is_plain_byte plain_ascii t plain) (lacks_of_all is_plain_byte is_whitespace plain_no_space t plain)
+plain_white_space t plain = grind (arith, nat_tests, plain_ascii, ascii_class, lacks_of_all, white_space_ascii)
 
 -- it is free of `%`
 pub plain_free : (t : List ℕ) → is_plain t ≡ true → FreeOf percent_sign t
@@ -36,13 +30,9 @@ plain_free t plain = free_of_all is_plain_byte percent_sign t plain refl
 pub plain_sound : (t : List ℕ) → is_plain t ≡ true → is_sound t ≡ true
 plain_sound t plain = sound_free t (plain_free t plain)
 
--- and stands for itself
-pub plain_decoded : (t : List ℕ) → is_plain t ≡ true → percent_decode t ≡ t
-plain_decoded t plain = decode_kept t (plain_free t plain)
-
--- so what it stands for is UTF-8
+-- it stands for itself, so what it stands for is UTF-8
 pub plain_means_utf8 : (t : List ℕ) → is_plain t ≡ true → IsUtf8 (percent_decode t)
-plain_means_utf8 t plain = subst IsUtf8 (sym (plain_decoded t plain)) (plain_utf8 t plain)
+plain_means_utf8 t plain = grind (arith, nat_tests, plain_utf8, plain_free, decode_kept)
 
 -- the pieces of a plain text are plain
 pub plain_parts : (x y : List ℕ) → is_plain (x ++ y) ≡ true → (is_plain x ≡ true) × (is_plain y ≡ true)

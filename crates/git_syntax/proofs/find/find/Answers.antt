@@ -3,7 +3,6 @@ use Rattle.std.proofs.lemmas.Result.{IfErr-weaker}
 use Rattle.git_syntax.specs.Flaws.{NamesFlaw}
 use Rattle.git_syntax.specs.Grammar.{Spells}
 use Rattle.git_syntax.specs.Value.{Location}
-use Rattle.git_syntax.specs.declared.refusal.Refusal.TheVariants as refusal
 use Rattle.git_syntax.proofs.Readings.ShapeLemmas.{helper_name_utf8}
 use Rattle.git_syntax.proofs.Refused.RefusalLemmas.{refused_unspelled}
 use Rattle.git_syntax.proofs.find.find.Goals as goal
