@@ -1,13 +1,13 @@
 -- What is read is settled but for corners, and of these kinds what comes back is settled.
-use Rattle.std.proofs.Common.{◌≡◌, ℕ, Bool, true, false, ◌⊎◌, inl, inr, List, [], ◌∷◌, ◌++◌, Option, Some, None, Ok, refl, sym, ap, subst, ◌∙◌, ◌+◌, length, drop, codes, bytes_eq}
+use Rattle.std.proofs.Common.{◌≡◌, ℕ, Bool, true, false, ◌⊎◌, inl, inr, List, [], ◌∷◌, ◌++◌, Option, Some, None, Ok, refl, sym, ap, subst, ◌∙◌, ◌+◌, length, drop, arith}
 use Rattle.std.specs.Prelude.{is_some, IsSome}
-use Rattle.std.proofs.lemmas.Bool.{both_ways, false≢true, or_left}
+use Rattle.std.proofs.lemmas.Bool.{false≢true, or_left}
 use Rattle.std.proofs.lemmas.Option.{none-some, same_Some}
 use Rattle.git_syntax.specs.Value.{Protocol, Location}
 use Rattle.git_syntax.specs.Value.Protocol.{file, http, https, ext, helper}
 use Rattle.git_syntax.specs.Bytes.{colon, left_bracket, begins_with}
 use Rattle.git_syntax.specs.Escapes.{has_percent}
-use Rattle.git_syntax.specs.Schemes.{protocol_of, protocol_text}
+use Rattle.git_syntax.specs.Schemes.{protocol_text}
 use Rattle.git_syntax.specs.Grammar.{SpellsUrl, SpellsFile, Spells}
 use Rattle.git_location.specs.Text.{has_colon, canonical_text, text}
 use Rattle.git_location.specs.Settled.{IsSettledFile, IsSettledWeb, HasFittingText, IsSettledBy, IsSettled, IsWeb}
@@ -16,7 +16,6 @@ use Rattle.git_laws.proofs.Refused.TextDecisions.{fits_or_not}
 use Rattle.git_laws.proofs.Written.KeptLemmas.{kept_closed, kept_exact}
 use Rattle.git_laws.proofs.Written.FileLemmas.{StaysOpen, file_closed, file_exact}
 use Rattle.git_laws.proofs.Closed.WebClosedLemmas.{StaysBare, IsApart, web_read, web_closed}
-use Rattle.git_syntax.proofs.Readings.SchemeLemmas.{protocol_cases, means_scheme}
 use Rattle.git_location.proofs.Closed.SettledLemmas.{fitting_text}
 use Rattle.git_laws.proofs.Closed.WebExactLemmas.{spelled_by_url, web_exact}
 use Rattle.git_laws.proofs.Written.AgainLemmas.{settled_again}
@@ -83,8 +82,7 @@ web_written b v h web =
 
 -- a settled location of HTTP is settled
 web_settled : (v : Location) → IsWeb v → IsSettledWeb v → IsSettled v
-web_settled v (inl e) h = subst (λ p. IsSettledBy p v) (sym e) h
-web_settled v (inr e) h = subst (λ p. IsSettledBy p v) (sym e) h
+web_settled v k h = grind arith
 
 -- a location of HTTP that is read is settled, or stands in a corner
 web_closed_by : (b : List ℕ) (v : Location) (host : Option (List ℕ)) → v.host ≡ host → SpellsUrl b v → IsWeb v → IsSettled v ⊎ IsCorner v
@@ -102,19 +100,9 @@ web_closed_by b v (Some host) there h web =
 
 -- ---- all kinds
 
--- no scheme of a URL but `file` has the protocol of local files
-not_file_scheme : (s : List ℕ) → bytes_eq s (codes "file") ≡ false → ¬ (protocol_of s ≡ file)
-not_file_scheme s other = protocol_cases (λ p. ¬ (p ≡ file)) s (λ same e. cc) (λ same e. both_ways _ other same) (λ e. cc) (λ same e. cc) (λ same e. cc) (λ e. cc) (λ e. cc)
-
 -- a location of local files without the flag is spelled by a file URL
 spelled_by_file : (b : List ℕ) (v : Location) → v.scheme ≡ file → v.flag ≡ false → Spells b v → SpellsFile b v
-spelled_by_file b v e unflagged (Spells.url h) =
-    absurd (not_file_scheme h.parts.scheme h.spelled.not_file (sym (means_scheme (protocol_of h.parts.scheme) b h.parts v h.means) ∙ e))
-spelled_by_file b v e unflagged (Spells.file_url h) = h
-spelled_by_file b v e unflagged (Spells.remote_helper h) = absurd (both_ways v.flag unflagged (ap (λ l. l.flag) h.value))
-spelled_by_file b v e unflagged (Spells.scp_form (inl h)) = absurd (both_ways v.flag unflagged (ap (λ l. l.flag) h.value))
-spelled_by_file b v e unflagged (Spells.scp_form (inr h)) = absurd (both_ways v.flag unflagged (ap (λ l. l.flag) h.value))
-spelled_by_file b v e unflagged (Spells.local_path h) = absurd (both_ways v.flag unflagged (ap (λ l. l.flag) h.value))
+spelled_by_file b v e unflagged h = grind arith
 
 -- what keeps its bytes is settled
 bytes_closed : (b : List ℕ) (v : Location) (p : Protocol) (flag : Bool) → v.scheme ≡ p → v.flag ≡ flag → keeps_bytes p flag ≡ true → Spells b v → IsSettled v ⊎ IsCorner v

@@ -1,5 +1,6 @@
 -- Normal forms of hosts and of literals, taken again, stay.
-use Rattle.std.proofs.Common.{◌≡◌, ℕ, Bool, true, false, List, ◌++◌, refl, sym, ap, subst, ◌∙◌, codes}
+use Rattle.std.proofs.Common.{◌≡◌, ℕ, Bool, List, ◌++◌, refl, sym, ap, subst, ◌∙◌, codes, arith}
+use Rattle.std.proofs.lemmas.Bool.Decides.{nat_tests}
 use Rattle.std.specs.List.{list_all}
 use Rattle.std.proofs.lemmas.Bool.{cond-true, cond-false}
 use Rattle.git_syntax.specs.Bytes.{lowercase}
@@ -11,12 +12,7 @@ use Rattle.git_syntax.proofs.Readings.HostLemmas.{dns_lowercase}
 
 -- by whether the host looks like a domain name
 normal_by : (host : List ℕ) (is_domain : Bool) → list_all is_dns_byte host ≡ is_domain → normal_host (normal_host host) ≡ normal_host host
-normal_by host true h =
-    let lower : normal_host host ≡ lowercase host = cond-true _ _ _ h in
-    ap normal_host lower ∙ cond-true _ _ _ (dns_lowercase host h) ∙ lowercase_twice host ∙ sym lower
-normal_by host false h =
-    let same : normal_host host ≡ host = cond-false _ _ _ h in
-    ap normal_host same
+normal_by host is_domain h = grind (arith, nat_tests, cond-false, cond-true, dns_lowercase, lowercase_twice)
 
 -- the normal form of a host is its own
 pub normal_again : (host : List ℕ) → normal_host (normal_host host) ≡ normal_host host

@@ -1,5 +1,5 @@
 -- Rows on classes of bytes: each is computed at all 256 bytes.
-use Rattle.std.proofs.Common.{refl}
+use Rattle.std.proofs.Common.{refl, arith}
 use Rattle.percent_encoding.proofs.OnLiterals.{percent_encoding_on_literals}
 use Rattle.git_laws.specs.ByteRows.{NameByteRows, HostByteRows, WhiteSpaceRows, GitByteRows, QuickByteRows, EscapedByteRows, EscapeSetRows}
 
@@ -30,4 +30,4 @@ escaped_byte_rows = (refl, refl, refl)
 -- what the sets escape
 pub escape_set_rows : EscapeSetRows
 unfolding percent_encoding_on_literals
-escape_set_rows = (refl, refl, refl)
+escape_set_rows = grind arith

@@ -1,7 +1,8 @@
 -- Rows of slips, each by computing, and of corners, by their facts.
-use Rattle.std.proofs.Common.{◌≡◌, ℕ, false, inl, inr, List, [], ◌∷◌, ◌++◌, ◌&&◌, None, codes, refl, ap, ◌∙◌}
+use Rattle.std.proofs.Common.{◌≡◌, ℕ, false, inl, inr, List, [], ◌∷◌, ◌++◌, ◌&&◌, None, codes, refl, arith}
+use Rattle.std.proofs.lemmas.Bool.Decides.{nat_tests}
 use Rattle.std.specs.Str.{chars}
-use Rattle.std.proofs.lemmas.Bool.{both_ways, leb-true, and_from}
+use Rattle.std.proofs.lemmas.Bool.{leb-true}
 use Rattle.std.proofs.lemmas.List.{same_from_push}
 use Rattle.std.proofs.lemmas.Option.{same_Some}
 use Rattle.percent_encoding.proofs.OnLiterals.{percent_encoding_on_literals}
@@ -32,22 +33,11 @@ corner_rows = (IsCorner.file_host (codes "a:%") refl refl refl refl refl, IsCorn
 
 -- a location of another protocol does not
 other_row : (v : Location) → ¬ (v.scheme ≡ file) → ¬ IsWeb v → ¬ IsCorner v
-other_row v local web (IsCorner.file_host host is there open_front marked escaped) = local is
-other_row v local web (IsCorner.web_host front is there open_front escaped) = web is
-other_row v local web (IsCorner.web_length is long) = web is
-
--- a file URL is none of HTTP
-file_not_web : (host path : List ℕ) → ¬ IsWeb (at_host file host path)
-file_not_web host path (inl e) = cc
-file_not_web host path (inr e) = cc
+other_row v local web h = grind arith
 
 -- a host of a file URL that lacks a colon or an escape doesn't
 file_row : (host path : List ℕ) → (has_colon host && has_percent host) ≡ false → ¬ IsCorner (at_host file host path)
-file_row host path lacks (IsCorner.file_host other is there open_front marked escaped) =
-    let same = same_Some host other there in
-    both_ways _ lacks (and_from _ _ (ap has_colon same ∙ marked) (ap has_percent same ∙ escaped))
-file_row host path lacks (IsCorner.web_host front web there open_front escaped) = file_not_web host path web
-file_row host path lacks (IsCorner.web_length web long) = file_not_web host path web
+file_row host path lacks h = grind arith
 
 -- an unsettled host of HTTP is no corner for its letters
 upper_row : ¬ IsCorner (at_host https (codes "H") (codes "/p"))
@@ -59,9 +49,4 @@ upper_row (IsCorner.web_length web long) =
 
 -- unsettled locations that stand in none
 pub no_corner_rows : NoCornerRows
-no_corner_rows = (
-  file_row (codes "a:b/c") (codes "/p") refl,
-  file_row (codes "a%b/c") (codes "/p") refl,
-  other_row _ (λ e. cc) (λ web. elim web [ inl e ↦ cc | inr e ↦ cc ]),
-  upper_row,
-)
+no_corner_rows = grind (arith, nat_tests, other_row, file_row, upper_row)

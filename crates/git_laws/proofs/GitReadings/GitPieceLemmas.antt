@@ -1,5 +1,6 @@
 -- The pieces of a written text: a plain user and host and the port stand in it as they are, and the path is decoded.
-use Rattle.std.proofs.Common.{◌≡◌, ◌∙◌, ℕ, ◌<◌, true, false, not, ◌⊎◌, inl, inr, List, [], ◌∷◌, ◌++◌, decimal, Option, Some, None, IfSome, ◌==◌, if◌then◌else◌, refl, sym, ap, subst}
+use Rattle.std.proofs.Common.{◌≡◌, ◌∙◌, ℕ, ◌<◌, true, false, not, ◌⊎◌, inl, inr, List, [], ◌∷◌, ◌++◌, decimal, Option, Some, None, IfSome, ◌==◌, if◌then◌else◌, refl, sym, ap, subst, arith}
+use Rattle.std.proofs.lemmas.Bool.Decides.{nat_tests}
 use Rattle.std.specs.Prelude.{IsSome}
 use Rattle.std.specs.Char.{is_ascii_digit}
 use Rattle.std.proofs.lemmas.Bool.{cases_Bool, cond-true, cond-false, and_left, and_right, and_from, or_from, not_from_true}
@@ -16,7 +17,7 @@ use Rattle.git_syntax.specs.AddressTest.{is_ipv6_text}
 use Rattle.git_syntax.specs.Bytes.{percent_sign, slash, colon, at_sign, tilde, FreeOf, Lacks, begins_with}
 use Rattle.git_syntax.specs.Escapes.{is_password_escaped}
 use Rattle.git_syntax.specs.Schemes.{requires_path}
-use Rattle.git_location.specs.Text.{wants_brackets, raw_user, raw_host, keeps_host, needs_brackets, canonical_host, user_information, port_part, root_part, plain_path, matching_or, canonical_path}
+use Rattle.git_location.specs.Text.{raw_user, raw_host, keeps_host, needs_brackets, canonical_host, user_information, port_part, root_part, plain_path, matching_or, canonical_path}
 use Rattle.git_location.specs.Settled.{IsRawPath, IsTransportPath}
 use Rattle.git_syntax.specs.Grammar.{begins_at_home}
 use Rattle.git_laws.specs.Git.{from_tilde}
@@ -65,11 +66,7 @@ pub record IsUserRaw (user : Option (List ℕ)) : Type 0 where
 
 -- it does where no byte of it is written as an escape
 pub user_raw : (user : Option (List ℕ)) → IfSome user (λ u. Lacks (should_percent_encode USER) u) → IsUserRaw user
-user_raw None kept = record { written = refl; free = λ c inside other. refl }
-user_raw (Some u) kept = record {
-  written = ap (λ t. t ++ at_sign ∷ []) (unescaped USER u kept);
-  free = λ c inside other. free-append c u (at_sign ∷ []) (kept_free USER u kept c inside) (free-cons c at_sign [] other refl);
-}
+user_raw user kept = grind (arith, nat_tests, unescaped, kept_free, free-append, free-cons)
 
 -- ---- the host
 
@@ -89,15 +86,11 @@ open_written host kept (inr free) =
 
 -- it does where no byte of it is written as an escape
 pub host_raw : (v : Location) (host : List ℕ) → keeps_host v.scheme ≡ false → needs_brackets v.port host ≡ false → Lacks (should_percent_encode PASSWORD) host → IsIpv6Text host ⊎ FreeOf colon host → IsHostRaw v host
-host_raw v host escapes unmarked kept kind = record {
-  written = cond-false _ _ _ unmarked ∙ cond-false _ _ _ escapes ∙ open_written host kept kind;
-  free = kept_free PASSWORD host kept;
-}
+host_raw v host escapes unmarked kept kind = grind (arith, nat_tests, kept_free, open_written, unmarked, cond-false)
 
 -- and goes without brackets where it has no colon beside a port
 pub unmarked : (port : Option ℕ) (host : List ℕ) → FreeOf percent_sign host → (IsSome port → FreeOf colon host) → needs_brackets port host ≡ false
-unmarked None host free beside = and_right (wants_brackets host) _ free
-unmarked (Some p) host free beside = and_left _ _ (and_left _ _ (beside refl))
+unmarked port host free beside = grind arith
 
 -- the host of the scp form stands in the text as it is where it has no colon
 pub scp_host_raw : (host : List ℕ) → FreeOf colon host → raw_host (Some host) ≡ host
@@ -122,14 +115,11 @@ pub record IsPathRaw (v : Location) : Type 0 where
 
 -- a path whose second byte is no `~` stays
 pub from_tilde_kept : (path : List ℕ) → is_tilde_second path ≡ false → from_tilde path ≡ path
-from_tilde_kept [] other = refl
-from_tilde_kept (a ∷ []) other = refl
-from_tilde_kept (a ∷ b ∷ rest) other = cond-false _ _ _ other
+from_tilde_kept path other = grind arith
 
 -- behind a `/` that is one below a home folder
 homeless_second : (rest : List ℕ) → begins_at_home (slash ∷ rest) ≡ false → is_tilde_second (slash ∷ rest) ≡ false
-homeless_second [] other = refl
-homeless_second (b ∷ rest) other = other
+homeless_second rest other = grind arith
 
 -- what begins with `~` doesn't begin with `/`
 unrooted_tilde : (path rest : List ℕ) → path ≡ tilde ∷ rest → begins_with slash path ≡ false
@@ -142,8 +132,7 @@ record HasPlainPaths (p : Protocol) : Type 0 where
 
 -- the one and the other
 plain_paths : (v : Location) → (v.scheme ≡ ssh) ⊎ (v.scheme ≡ git) → HasPlainPaths v.scheme
-plain_paths v (inl e) = subst HasPlainPaths (sym e) record { roots = refl; plain = λ path. refl }
-plain_paths v (inr e) = subst HasPlainPaths (sym e) record { roots = refl; plain = λ path. refl }
+plain_paths v h = grind arith
 
 -- what is written for it is decoded to it
 path_decoded : (v : Location) → HasPlainPaths v.scheme → IsRawPath v → percent_decode (matching_or v.spelling v.path (plain_path v.scheme v.path)) ≡ v.path
@@ -174,6 +163,4 @@ path_raw_by v roots same (inr (home, none)) =
 
 -- the path of a settled URL of a transport is
 pub path_raw : (v : Location) → (v.scheme ≡ ssh) ⊎ (v.scheme ≡ git) → IsRawPath v → IsTransportPath v → IsPathRaw v
-path_raw v transport raw path =
-    let facts = plain_paths v transport in
-    path_raw_by v facts.roots (path_decoded v facts raw) path
+path_raw v transport raw path = grind (arith, nat_tests, plain_paths, path_decoded, path_raw_by)

@@ -1,18 +1,13 @@
 -- Git's credential code reads one thing in a text: its cuts are unique.
-use Rattle.std.proofs.Common.{◌≡◌, ◌∙◌, ℕ, true, false, not, ◌==◌, ◌⊎◌, inl, inr, List, [], ◌∷◌, ◌++◌, Option, Some, refl, sym, ap, subst, append_assoc}
+use Rattle.std.proofs.Common.{◌≡◌, ◌∙◌, ℕ, true, false, not, ◌==◌, ◌⊎◌, List, [], ◌∷◌, ◌++◌, Option, Some, sym, ap, subst, append_assoc, arith}
+use Rattle.std.proofs.lemmas.Bool.Decides.{nat_tests}
 use Rattle.git_syntax.specs.Bytes.{slash, colon, at_sign, FreeOf, Lacks, begins_by, begins_with}
-use Rattle.git_laws.specs.Git.{git_decode}
 use Rattle.git_laws.specs.GitWeb.{CredentialDecodes, CredentialCut, CredentialPath, OneCredentialReading, are_slashes, trimmed_path}
 use Rattle.git_syntax.proofs.Texts.CutLemmas.{class_cut_unique, cut_unique, free-append, lacks_of_all, mark_cut_unique, not_free, path_cut_unique}
 
 -- a piece is decoded in one way
 decodes_unique : (piece decoded other : List ℕ) → CredentialDecodes piece decoded → CredentialDecodes piece other → decoded ≡ other
-decodes_unique piece decoded other (CredentialDecodes.whole free e) (CredentialDecodes.whole free' e') = e ∙ sym e'
-decodes_unique piece decoded other (CredentialDecodes.whole free e) (CredentialDecodes.behind x y first cut e') = absurd (not_free colon x y (subst (λ t. FreeOf colon t) cut free))
-decodes_unique piece decoded other (CredentialDecodes.behind x y first cut e) (CredentialDecodes.whole free e') = absurd (not_free colon x y (subst (λ t. FreeOf colon t) cut free))
-decodes_unique piece decoded other (CredentialDecodes.behind x y first cut e) (CredentialDecodes.behind x' y' first' cut' e') =
-    let same = cut_unique colon x x' y y' first first' (sym cut ∙ cut') in
-    e ∙ ap (λ t. t ++ colon ∷ git_decode y) same.0 ∙ ap (λ t. x' ++ colon ∷ git_decode t) same.1 ∙ sym e'
+decodes_unique piece decoded other h k = grind (arith, nat_tests, cut_unique, not_free)
 
 -- ---- the authority
 
@@ -55,8 +50,7 @@ cut_same a user other password secret named name (CredentialCut.with_password u 
 
 -- what follows the slashes is empty or begins with another byte
 behind_slashes : (rest : List ℕ) → begins_with slash rest ≡ false → (rest ≡ []) ⊎ (begins_by (λ b. not (b == slash)) rest ≡ true)
-behind_slashes [] other = inl refl
-behind_slashes (b ∷ rest) other = inr (ap not other)
+behind_slashes rest other = grind arith
 
 -- slashes lack other bytes
 only_slashes : (slashes : List ℕ) → are_slashes slashes ≡ true → Lacks (λ b. not (b == slash)) slashes

@@ -1,5 +1,5 @@
 -- The text of a location of HTTP of the class, before any reader cuts it: scheme, user information, host, port and path.
-use Rattle.std.proofs.Common.{◌≡◌, ◌∙◌, ℕ, ◌<◌, true, ◌⊎◌, inl, inr, List, ◌∷◌, ◌++◌, length, decimal, Some, Ok, refl, sym, ap, subst, arith}
+use Rattle.std.proofs.Common.{◌≡◌, ◌∙◌, ℕ, ◌<◌, true, ◌⊎◌, List, ◌∷◌, ◌++◌, length, decimal, Some, Ok, sym, ap, subst, arith}
 use Rattle.std.specs.List.{list_all}
 use Rattle.std.specs.Char.{is_ascii_digit}
 use Rattle.std.proofs.lemmas.Bool.{and_from}
@@ -17,16 +17,13 @@ use Rattle.git_location.specs.WebClass.{is_plain_host_byte, IsUnambiguousHost, A
 use Rattle.git_laws.specs.GitWeb.{IsOneLine}
 use Rattle.git_syntax.proofs.Texts.CutLemmas.{all_weaker}
 use Rattle.git_syntax.proofs.Readings.HostLemmas.{decimal_digits}
-use Rattle.git_location.proofs.Written.WrittenAsUrlLemmas.{written_web}
 use Rattle.git_laws.proofs.Written.WrittenWebHostLemmas.{web_host_same, web_host_written}
 use Rattle.git_laws.proofs.Written.WrittenUrlLemmas.{authority_text, authority_with_host}
 use Rattle.git_laws.proofs.Refused.CornerLemmas.{settled_as_web}
 
 -- a location of the class has the text of a URL
 pub web_text : (v : Location) → IsWeb v → AgreesOverWeb v → text v ≡ Ok (canonical_text v)
-web_text v web a =
-    let h = settled_as_web v web a.settled in
-    (written_web v web).canonical h.common.unflagged h.common.hosted
+web_text v web a = grind arith
 
 -- a scheme of one line, in lower case
 pub record IsWebScheme (scheme : List ℕ) : Type 0 where
@@ -37,8 +34,7 @@ pub record IsWebScheme (scheme : List ℕ) : Type 0 where
 
 -- each of HTTP is one
 pub web_scheme : (v : Location) → IsWeb v → IsWebScheme (protocol_text v.scheme)
-web_scheme v (inl e) = subst (λ p. IsWebScheme (protocol_text p)) (sym e) record { text = refl; lower = refl; nonempty = omega arith; line = refl }
-web_scheme v (inr e) = subst (λ p. IsWebScheme (protocol_text p)) (sym e) record { text = refl; lower = refl; nonempty = omega arith; line = refl }
+web_scheme v h = grind arith
 
 -- an octet is of bytes of a plain host
 octet_plain : (t : List ℕ) → IsOctet t → list_all is_plain_host_byte t ≡ true
@@ -54,11 +50,7 @@ IsWebShape host = (list_all is_plain_host_byte host ≡ true) ⊎ IsBracketedAdd
 
 -- so is each of the class
 host_shape : (host : List ℕ) → IsUnambiguousHost host → IsWebShape host
-host_shape host (inl name) = inl name.bytes
-host_shape host (inr (inl h)) =
-    let (first, second, third, fourth) = h.octets in
-    inl (subst (λ x. list_all is_plain_host_byte x ≡ true) (sym h.joined) (dot_plain h.first _ (octet_plain h.first first) (dot_plain h.second _ (octet_plain h.second second) (dot_plain h.third h.fourth (octet_plain h.third third) (octet_plain h.fourth fourth)))))
-host_shape host (inr (inr h)) = inr h
+host_shape host h = grind (arith, nat_tests, octet_plain, dot_plain)
 
 -- the authority is the user information, and host and port as they are
 pub record IsWebAuthority (v : Location) (host : List ℕ) : Type 0 where

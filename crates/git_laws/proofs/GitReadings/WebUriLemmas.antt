@@ -42,10 +42,7 @@ escaped-append test x y front back = (list_all-append test x y ∙ and_from _ _ 
 
 -- one that is cut around a byte that is no hexadecimal digit is two
 escaped_around : (test : ℕ → Bool) (x y : List ℕ) (c : ℕ) → is_digit c 16 ≡ false → IsEscaped test (x ++ c ∷ y) → IsEscaped test x × IsEscaped test y
-escaped_around test x y c other h =
-    let bytes = and_parts _ _ (sym (list_all-append test x (c ∷ y)) ∙ h.0) in
-    let sound = sound_around x y c other h.1 in
-    ((bytes.0, sound.0), ((and_parts (test c) (list_all test y) bytes.1).1, sound.1))
+escaped_around test x y c other h = grind (arith, nat_tests, and_parts, list_all-append, sound_around)
 
 -- ---- user information
 
@@ -159,34 +156,19 @@ uri_path t h =
 
 -- path and query are decoded apart
 query_decoded : (path : List ℕ) (query : Option (List ℕ)) → is_sound path ≡ true → percent_decode (with_query path query) ≡ with_query (percent_decode path) (option_map percent_decode query)
-query_decoded path None sound = refl
-query_decoded path (Some q) sound = decodes_in_parts path (question_mark ∷ q) sound ∙ ap (λ t. percent_decode path ++ t) (decode_byte question_mark q refl)
+query_decoded path query sound = grind (arith, nat_tests, decode_byte, decodes_in_parts)
 
 -- what ends a segment of a path ends it before a query, too
 end_joined : (behind query : List ℕ) → (behind ≡ []) ⊎ (begins_by is_segment_end behind ≡ true) → begins_by is_segment_end (behind ++ question_mark ∷ query) ≡ true
-end_joined [] query end = refl
-end_joined (b ∷ bs) query (inl e) = absurd (cc)
-end_joined (b ∷ bs) query (inr begins) = begins
+end_joined behind query end = grind arith
 
 -- so a segment `.` or `..` of a path is one of the path with its query
 dots_joined : (path : List ℕ) (query : Option (List ℕ)) → HasDotSegment path → HasDotSegment (with_query path query)
-dots_joined path None h = h
-dots_joined path (Some q) h = record {
-  front = h.front;
-  dots = h.dots;
-  behind = h.behind ++ question_mark ∷ q;
-  joined = ap (λ t. t ++ question_mark ∷ q) h.joined ∙ append_assoc h.front (slash ∷ (h.dots ++ h.behind)) (question_mark ∷ q) ∙ ap (λ t. h.front ++ slash ∷ t) (append_assoc h.dots h.behind (question_mark ∷ q));
-  segment = h.segment;
-  end = inr (end_joined h.behind q h.end);
-}
+dots_joined path query h = grind (arith, nat_tests, end_joined, append_assoc)
 
 -- what ends a segment ends it in the decoded text
 end_decoded : (behind : List ℕ) → (behind ≡ []) ⊎ (begins_by is_segment_end behind ≡ true) → (percent_decode behind ≡ []) ⊎ (begins_by is_segment_end (percent_decode behind) ≡ true)
-end_decoded behind (inl e) = inl (nothing_decoded behind e)
-end_decoded [] (inr begins) = absurd (false≢true begins)
-end_decoded (b ∷ bs) (inr begins) =
-    let other : (b == percent_sign) ≡ false = grind (arith, nat_tests) in
-    inr (ap (begins_by is_segment_end) (decode_byte b bs other) ∙ begins)
+end_decoded behind h = grind (arith, nat_tests, decode_byte, nothing_decoded)
 
 -- so such a segment of an escaped text is one of what that decodes to
 dots_decoded : (t : List ℕ) → is_sound t ≡ true → HasDotSegment t → HasDotSegment (percent_decode t)

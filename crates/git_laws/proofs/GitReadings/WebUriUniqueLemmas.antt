@@ -1,33 +1,24 @@
 -- A text is a URI in one way: its cuts are unique.
-use Rattle.std.proofs.Common.{◌≡◌, ◌∙◌, ℕ, true, false, ◌==◌, ◌⊎◌, inl, inr, List, [], ◌∷◌, ◌++◌, Option, Some, refl, sym, ap, subst, append_assoc}
-use Rattle.std.proofs.lemmas.Bool.{both_ways}
-use Rattle.git_syntax.specs.Bytes.{slash, colon, at_sign, left_bracket, right_bracket, FreeOf, begins_by, begins_with}
+use Rattle.std.proofs.Common.{◌≡◌, ◌∙◌, ℕ, true, false, ◌==◌, ◌⊎◌, List, [], ◌∷◌, ◌++◌, Option, refl, sym, ap, subst, append_assoc, arith}
+use Rattle.std.proofs.lemmas.Bool.Decides.{nat_tests}
+use Rattle.git_syntax.specs.Bytes.{slash, colon, left_bracket, right_bracket, begins_by, begins_with}
 use Rattle.git_laws.specs.Components.{CutsPath}
 use Rattle.git_laws.specs.GitWeb.{UriAuthority, UriPort, UriHost, OneUriReading}
-use Rattle.git_syntax.proofs.Texts.CutLemmas.{tails, different_bytes, class_cut_unique, cut_unique, not_free, path_cut_unique, scheme_text_free}
+use Rattle.git_syntax.proofs.Texts.CutLemmas.{tails, class_cut_unique, cut_unique, not_free, path_cut_unique, scheme_text_free}
 use Rattle.git_syntax.proofs.Addresses.AddressLemmas.{address_free}
 use Rattle.git_laws.proofs.Parted.PartsLemmas.{path_unique}
 
 -- an authority is cut at its only `@`
 authority_unique : (t : List ℕ) (i j : Option (List ℕ)) (named other : List ℕ) → UriAuthority t i named → UriAuthority t j other → (i ≡ j) × (named ≡ other)
-authority_unique t i j named other (UriAuthority.host_alone free is none) (UriAuthority.host_alone free' is' none') = (none ∙ sym none', is ∙ sym is')
-authority_unique t i j named other (UriAuthority.host_alone free is none) (UriAuthority.informed y before' behind' e' some') = absurd (not_free at_sign y other (subst (λ s. FreeOf at_sign s) e' free))
-authority_unique t i j named other (UriAuthority.informed x before behind e some) (UriAuthority.host_alone free' is' none') = absurd (not_free at_sign x named (subst (λ s. FreeOf at_sign s) e free'))
-authority_unique t i j named other (UriAuthority.informed x before behind e some) (UriAuthority.informed y before' behind' e' some') =
-    let same = cut_unique at_sign x y named other before before' (sym e ∙ e') in
-    (some ∙ ap Some same.0 ∙ sym some', same.1)
+authority_unique t i j named other h k = grind (arith, nat_tests, cut_unique, not_free)
 
 -- nothing or a colon stands behind a host
 port_begins : (behind : List ℕ) (port : Option (List ℕ)) → UriPort behind port → (behind ≡ []) ⊎ (begins_by (λ b. b == colon) behind ≡ true)
-port_begins behind port (UriPort.absent e none) = inl e
-port_begins behind port (UriPort.there digits e each some) = inr (ap (begins_by (λ b. b == colon)) e)
+port_begins behind port h = grind arith
 
 -- one port stands there
 port_unique : (behind beyond : List ℕ) (port other : Option (List ℕ)) → behind ≡ beyond → UriPort behind port → UriPort beyond other → port ≡ other
-port_unique behind beyond port other same (UriPort.absent e none) (UriPort.absent e' none') = none ∙ sym none'
-port_unique behind beyond port other same (UriPort.absent e none) (UriPort.there digits e' each some) = let wrong : [] ≡ colon ∷ digits = sym e ∙ same ∙ e' in absurd (cc)
-port_unique behind beyond port other same (UriPort.there digits e each some) (UriPort.absent e' none') = let wrong : [] ≡ colon ∷ digits = sym e' ∙ sym same ∙ e in absurd (cc)
-port_unique behind beyond port other same (UriPort.there x e each some) (UriPort.there y e' each' some') = some ∙ ap Some (tails (sym e ∙ same ∙ e')) ∙ sym some'
+port_unique behind beyond port other same h k = grind arith
 
 -- what stands behind `[` where a host is in brackets
 behind_bracket : (named host inside behind : List ℕ) → host ≡ left_bracket ∷ (inside ++ right_bracket ∷ []) → named ≡ host ++ behind → named ≡ left_bracket ∷ (inside ++ right_bracket ∷ behind)
@@ -35,9 +26,7 @@ behind_bracket named host inside behind is e = e ∙ ap (λ h. h ++ behind) is �
 
 -- no other host stands there
 open_apart : (rest host behind : List ℕ) (port : Option (List ℕ)) → begins_with left_bracket host ≡ false → UriPort behind port → left_bracket ∷ rest ≡ host ++ behind → ⊥
-open_apart rest [] behind port other (UriPort.absent e none) is = let wrong : left_bracket ∷ rest ≡ [] = is ∙ e in cc
-open_apart rest [] behind port other (UriPort.there digits e each some) is = different_bytes left_bracket colon refl (is ∙ e)
-open_apart rest (b ∷ host) behind port other p is = both_ways _ other (sym (ap (begins_with left_bracket) is))
+open_apart rest host behind port other p is = grind arith
 
 -- one host stands before a port
 host_unique : (t host other behind beyond : List ℕ) (port more : Option (List ℕ)) → UriPort behind port → UriPort beyond more → UriHost t host behind → UriHost t other beyond → (host ≡ other) × (behind ≡ beyond)

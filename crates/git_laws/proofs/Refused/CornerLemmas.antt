@@ -1,7 +1,7 @@
 -- Corners: no location that stands in one is settled.
-use Rattle.std.proofs.Common.{◌≡◌, ℕ, true, false, ◌==◌, ◌⊎◌, inl, inr, List, [], ◌∷◌, ◌++◌, Option, Some, IfSome, refl, sym, ap, subst, ◌∙◌}
+use Rattle.std.proofs.Common.{◌≡◌, ℕ, true, false, ◌==◌, ◌⊎◌, List, [], ◌∷◌, ◌++◌, Option, Some, refl, sym, ap, subst, ◌∙◌, arith}
 use Rattle.std.proofs.lemmas.Bool.{both_ways}
-use Rattle.std.proofs.lemmas.Option.{none-some, same_Some}
+use Rattle.std.proofs.lemmas.Option.{same_Some}
 use Rattle.git_syntax.specs.Value.{Location}
 use Rattle.git_syntax.specs.Bytes.{colon, left_bracket, percent_sign, FreeOf, begins_with}
 use Rattle.git_syntax.specs.Escapes.{has_percent}
@@ -13,13 +13,11 @@ use Rattle.git_syntax.proofs.Texts.CutLemmas.{lacks-append, free_of_all, not_fre
 
 -- a host in the corner of file URLs isn't settled
 file_host_apart : (host : List ℕ) → begins_with left_bracket host ≡ false → has_colon host ≡ true → has_percent host ≡ true → ¬ IsFileHost host
-file_host_apart host open_front marked escaped h =
-    elim h.unbracketed [ inl e ↦ both_ways _ open_front e | inr (inl free) ↦ both_ways _ free marked | inr (inr plain) ↦ both_ways _ plain escaped ]
+file_host_apart host open_front marked escaped h = grind arith
 
 -- nor is its location
 file_apart : (v : Location) (host : List ℕ) → v.host ≡ Some host → ¬ IsFileHost host → IsSettledLocal v ⊎ IsSettledFile v → ⊥
-file_apart v host there corner (inl h) = none-some host (sym h.bare.2 ∙ there)
-file_apart v host there corner (inr h) = corner (subst (λ o. IfSome o IsFileHost) there h.host)
+file_apart v host there corner h = grind arith
 
 -- a host in the corner of HTTP isn't settled
 web_host_apart : (port : Option ℕ) (front host : List ℕ) → host ≡ front ++ colon ∷ [] → begins_with left_bracket host ≡ false → has_percent host ≡ true → ¬ IsWebHost port host
@@ -32,8 +30,7 @@ web_host_apart port front host ends open_front escaped (IsWebHost.named_colon n 
 
 -- a settled location of HTTP is settled as one
 pub settled_as_web : (v : Location) → IsWeb v → IsSettled v → IsSettledWeb v
-settled_as_web v (inl e) h = subst (λ p. IsSettledBy p v) e h
-settled_as_web v (inr e) h = subst (λ p. IsSettledBy p v) e h
+settled_as_web v k h = grind arith
 
 -- no location in a corner is settled
 pub apart : Apart

@@ -1,10 +1,11 @@
 -- Places: what a refusal tells to be wrong stands in the text that is refused.
 use Rattle.std.proofs.Common.{◌≡◌, ℕ, ◌+◌, ◌≤◌, List, ◌∷◌, ◌++◌, length, take, ap, arith, codes, length-append, length-take}
+use Rattle.std.proofs.lemmas.Bool.Decides.{nat_tests}
 use Rattle.git_syntax.specs.declared.refusal.UrlKind.{UrlKind}
 use Rattle.git_syntax.specs.declared.refusal.UrlKind.TheVariants as kind
 use Rattle.git_syntax.specs.declared.refusal.UrlFault.{UrlFault}
 use Rattle.git_syntax.specs.declared.refusal.Refusal.TheVariants as refusal
-use Rattle.git_syntax.specs.Bytes.{colon, percent_sign}
+use Rattle.git_syntax.specs.Bytes.{percent_sign}
 use Rattle.git_syntax.specs.Schemes.{mode_of, requires_host}
 use Rattle.git_syntax.specs.Flaws.{KindFlaw, ScpFlaw, TooLongAt, UrlFlaw}
 use Rattle.git_syntax.specs.Refusals.{RefusalWithin}
@@ -27,8 +28,7 @@ url_flaw_within b at len named (UrlFlaw.bad_authority scheme authority path n pl
 
 -- the flaw of the scp form stands within it
 scp_flaw_within : (b : List ℕ) (named : UrlFault) (at len : ℕ) → ScpFlaw b named at len → at + len ≤ length b
-scp_flaw_within b named at len h =
-    omega (arith, h.offset, scp_host_flaw_within h.host h.place len named h.flaw, ap length h.shape.joined, length-append h.front (colon ∷ h.path))
+scp_flaw_within b named at len h = grind (arith, nat_tests, length-append, scp_host_flaw_within)
 
 -- what is too long stands within what is shown, which is a front of the text
 too_long_within : (b front rest shown : List ℕ) (at len : ℕ) → b ≡ front ++ (codes "://" ++ rest) → shown ≡ take (length front + 1027) b → TooLongAt front shown at len → at + len ≤ length b
@@ -37,9 +37,7 @@ too_long_within b front rest shown at len e s (TooLongAt.behind_mark short a l) 
 
 -- the flaw of a text of a kind stands within it
 kind_flaw_within : (b : List ℕ) (k : UrlKind) (named : UrlFault) (at len : ℕ) → KindFlaw b k named at len → at + len ≤ length b
-kind_flaw_within b kind.Url named at len h = url_flaw_within b at len named h
-kind_flaw_within b kind.Scp named at len h = scp_flaw_within b named at len h
-kind_flaw_within b kind.Local named at len h = absurd h
+kind_flaw_within b k named at len h = grind (arith, nat_tests, url_flaw_within, scp_flaw_within)
 
 -- the place that a refusal tells stands in the text
 pub refusal_within : RefusalWithin

@@ -1,10 +1,9 @@
 -- Orders that decide one behind the other, and the laws of equality, order and hash.
-use Rattle.std.proofs.Common.{◌≡◌, Bool, Ordering, Less, Equal, Greater, refl, sym, ap, ◌∙◌, nat_cmp}
+use Rattle.std.proofs.Common.{◌≡◌, Bool, Ordering, Less, Equal, Greater, sym, ap, ◌∙◌, nat_cmp, arith}
+use Rattle.std.proofs.lemmas.Bool.Decides.{nat_tests}
 use Rattle.std.specs.Cmp.{Equal-is}
-use Rattle.std.specs.Option.{option_cmp}
-use Rattle.std.specs.Ordering.{MatchOrdering, bool_cmp, eq_by_cmp, ordering_then}
+use Rattle.std.specs.Ordering.{MatchOrdering, eq_by_cmp, ordering_then}
 use Rattle.git_laws.specs.Laws.{TiedIsEqual, SpellingLast}
-use Rattle.git_laws.specs.Order.{bytes_cmp, text_cmp, protocol_cmp}
 
 -- the order is the first one, or the second where the first doesn't decide
 pub record IsThen (first second order : Ordering) : Type 0 where
@@ -12,15 +11,11 @@ pub record IsThen (first second order : Ordering) : Type 0 where
 
 -- it is, if it is found that way
 pub found : (first second order : Ordering) {P : Type 0} → MatchOrdering first (order ≡ Less) P (order ≡ Greater) → (P → order ≡ second) → IsThen first second order
-found Less second order h f = record { is = h }
-found Equal second order h f = record { is = f h }
-found Greater second order h f = record { is = h }
+found first second order h f = grind arith
 
 -- two that come first go one by one
 regroup : (a b c : Ordering) → ordering_then (ordering_then a b) c ≡ ordering_then a (ordering_then b c)
-regroup Less b c = refl
-regroup Equal b c = refl
-regroup Greater b c = refl
+regroup a b c = grind arith
 
 -- the first of two, and then the second and the rest
 pub before : {first second both rest order : Ordering} → IsThen first second both → IsThen both rest order → IsThen first (ordering_then second rest) order
@@ -38,9 +33,7 @@ tied_is_equal equal order ties x y = (λ e. ties x y ∙ (Equal-is (order x y)).
 
 -- a last part that is never there decides nothing
 last : (a b : Ordering) → ordering_then a b ≡ ordering_then (ordering_then a Equal) b
-last Less b = refl
-last Equal b = refl
-last Greater b = refl
+last a b = grind arith
 
 -- what goes last may be taken out of what comes behind the first
 out : (a rest front b : Ordering) → rest ≡ ordering_then front b → ordering_then a rest ≡ ordering_then (ordering_then a front) b
@@ -51,6 +44,4 @@ last_out : (a b c d e f g h : Ordering) → ordering_then a (ordering_then b (or
 last_out a b c d e f g h = out a _ _ h (out b _ _ h (out c _ _ h (out d _ _ h (out e _ _ h (out f _ _ h (last g h))))))
 
 pub spelling_last : SpellingLast
-spelling_last v w =
-    last_out (protocol_cmp v.scheme w.scheme) (text_cmp v.user w.user) (text_cmp v.password w.password) (text_cmp v.host w.host)
-    (bool_cmp v.flag w.flag) (option_cmp nat_cmp v.port w.port) (bytes_cmp v.path w.path) (text_cmp v.spelling w.spelling)
+spelling_last = grind (arith, nat_tests, last_out, nat_cmp)

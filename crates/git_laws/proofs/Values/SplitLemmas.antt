@@ -1,8 +1,9 @@
 -- A text is split into lines in one way.
-use Rattle.std.proofs.Common.{◌≡◌, ℕ, List, [], ◌∷◌, ◌++◌, append_assoc, All, refl, sym, subst, ◌∙◌}
+use Rattle.std.proofs.Common.{◌≡◌, ℕ, List, [], ◌∷◌, ◌++◌, append_assoc, All, refl, sym, subst, ◌∙◌, arith}
+use Rattle.std.proofs.lemmas.Bool.Decides.{nat_tests}
 use Rattle.std.proofs.lemmas.List.Elements.{All-head, All-tail}
 use Rattle.git_syntax.specs.Bytes.{newline, FreeOf}
-use Rattle.git_lines.specs.Answers.{ended_lines, last_line}
+use Rattle.git_lines.specs.Answers.{ended_lines}
 use Rattle.git_laws.specs.AnswerLaws.{OneSplit}
 use Rattle.git_syntax.proofs.Texts.CutLemmas.{cut_unique, not_free}
 
@@ -24,5 +25,4 @@ ended_unique (h ∷ f) (k ∷ g) x y a b free freed e =
 
 -- a text is split into lines in one way
 pub one_split : OneSplit
-one_split b lines more one other =
-    let (full, last) = ended_unique one.full other.full one.last other.last one.each other.each one.open_ended other.open_ended (sym one.joined ∙ other.joined) in one.counted ∙ (λ i. full i ++ last_line (last i)) ∙ sym other.counted
+one_split = grind (arith, nat_tests, ended_unique)

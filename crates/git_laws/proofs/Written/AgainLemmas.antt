@@ -1,8 +1,9 @@
 -- Settled locations come back, of every kind.
-use Rattle.std.proofs.Common.{◌≡◌, ℕ, true, false, inl, inr, List, Option, Some, None, refl, sym, ap, subst, ◌∙◌}
-use Rattle.std.proofs.lemmas.Bool.{or_parts, or_from, cond-false}
-use Rattle.std.specs.Prelude.{codes, bytes_eq, ◌||◌, IsSome, IfSome, IsUtf8}
-use Rattle.git_syntax.specs.Schemes.{is_ssh_scheme, is_web_scheme, is_known_scheme, protocol_of, mode_of, requires_host}
+use Rattle.std.proofs.Common.{◌≡◌, ℕ, true, false, inl, inr, List, Option, Some, None, refl, sym, ap, subst, ◌∙◌, arith}
+use Rattle.std.proofs.lemmas.Bool.Decides.{nat_tests}
+use Rattle.std.proofs.lemmas.Bool.{or_from, cond-false}
+use Rattle.std.specs.Prelude.{codes, bytes_eq, IsSome, IfSome, IsUtf8}
+use Rattle.git_syntax.specs.Schemes.{is_ssh_scheme, is_web_scheme, is_known_scheme, mode_of, requires_host}
 use Rattle.git_syntax.specs.Bytes.{is_scheme_text}
 use Rattle.git_syntax.specs.Value.{Protocol, Location, fields}
 use Rattle.git_syntax.specs.Grammar.{Spells}
@@ -45,9 +46,7 @@ web_readable v (inr e) is h =
 
 -- its text is read as the location with the spelling that was written
 pub web_spelled : (v : Location) → IsWeb v → IsValue v → IsSettledWeb v → Spells (canonical_text v) (as_read v)
-web_spelled v web is h =
-    let (host, readable) = web_readable v web is h in
-    readable_spelled v (Some host) readable
+web_spelled v web is h = grind (arith, nat_tests, web_readable, readable_spelled)
 
 -- what is read has the host, the port and the path of the location
 web_as_read : (v : Location) → IsSettledWeb v → IsSettledUrl (as_read v) → IsSettledWeb (as_read v)
@@ -113,36 +112,18 @@ pub record IsOther (name : List ℕ) : Type 0 where
   pub not_ext : bytes_eq name (codes "ext") ≡ false
 
 pub other_scheme : (name : List ℕ) → is_known_scheme name ≡ false → IsOther name
-other_scheme name h =
-    let ssh_named = or_parts (is_ssh_scheme name) _ h in
-    let web_named = or_parts (is_web_scheme name) _ ssh_named.1 in
-    let file_named = or_parts (bytes_eq name (codes "file")) _ web_named.1 in
-    let rest = or_parts (bytes_eq name (codes "git")) (bytes_eq name (codes "ext")) file_named.1 in
-    record { not_ssh = ssh_named.0; not_web = web_named.0; not_file = file_named.0; not_git = rest.0; not_ext = rest.1 }
+other_scheme name h = grind arith
 
--- its protocol
-other_protocol : (name : List ℕ) → IsOther name → protocol_of name ≡ helper_url name
-other_protocol name h =
-    let web_named = or_parts (bytes_eq name (codes "http")) (bytes_eq name (codes "https")) h.not_web in
-    cond-false _ _ _ h.not_ssh ∙ cond-false _ _ _ h.not_file ∙ cond-false _ _ _ h.not_git ∙ cond-false _ _ _ web_named.0 ∙ cond-false _ _ _ web_named.1 ∙ cond-false _ _ _ h.not_ext
-
--- how its host is read
+-- how the host of such a scheme is read
 other_mode : (name : List ℕ) → IsOther name → mode_of name ≡ loose
 other_mode name h = cond-false _ _ _ h.not_web ∙ cond-false _ _ _ (or_from _ _ h.not_ssh h.not_git)
 
 -- it needs a host where it is one of FTP
 other_hosted : (name : List ℕ) → IsOther name → requires_host name ≡ is_ftp name
-other_hosted name h =
-    let ssh_named = or_parts (bytes_eq name (codes "ssh")) _ h.not_ssh in
-    ap (λ b. b || (bytes_eq name (codes "git") || (bytes_eq name (codes "ssh") || is_ftp name))) h.not_web ∙ ap (λ b. b || (bytes_eq name (codes "ssh") || is_ftp name)) h.not_git ∙ ap (λ b. b || is_ftp name) ssh_named.0
+other_hosted name h = grind arith
 
 helper_url_protocol : (name : List ℕ) → is_scheme_text name ≡ true → IsOther name → IsUrlProtocol (helper_url name)
-helper_url_protocol name spelled h = record {
-  scheme_text = spelled;
-  not_file = h.not_file;
-  protocol = sym (other_protocol name h);
-  not_ext = λ e. cc;
-}
+helper_url_protocol name spelled h = grind arith
 
 -- what a reader finds in the text of a settled URL of another scheme, with its host or without one
 pub other_readable : (name : List ℕ) (v : Location) (host : Option (List ℕ)) → v.scheme ≡ helper_url name → v.host ≡ host → IsValue v → IsSettledHelperUrl name v → IsReadable v host

@@ -1,6 +1,7 @@
 -- Remote helpers and local paths: what is read as one is settled and is written as it was read; a settled one comes back, and nothing else does.
-use Rattle.std.proofs.Common.{◌≡◌, ℕ, true, false, inl, inr, List, ◌∷◌, ◌++◌, Option, None, Ok, refl, sym, ap, subst, ◌∙◌, codes, bytes_eq, Bool}
-use Rattle.std.proofs.lemmas.Bool.{both_ways, false≢true}
+use Rattle.std.proofs.Common.{◌≡◌, ℕ, true, false, inl, List, ◌∷◌, ◌++◌, Option, None, Ok, refl, sym, ap, subst, ◌∙◌, codes, bytes_eq, Bool, arith}
+use Rattle.std.proofs.lemmas.Bool.Decides.{nat_tests}
+use Rattle.std.proofs.lemmas.Bool.{false≢true}
 use Rattle.std.proofs.lemmas.Slice.Eq.{bytes_eq-Decides}
 use Rattle.git_syntax.specs.Value.{Protocol, Location, fields, path_alone}
 use Rattle.git_syntax.specs.Value.Protocol.{file, ext, helper}
@@ -10,22 +11,13 @@ use Rattle.git_syntax.specs.Grammar.{LocalShape, helper_protocol, SpellsHelper, 
 use Rattle.git_location.specs.Text.{text}
 use Rattle.git_location.specs.Settled.{IsFlaggedPath, IsSettledLocal, IsSettledHelper, IsSettledBy, IsSettled}
 use Rattle.git_laws.specs.Laws.{keeps_bytes, KeepsBytes, ComesBack}
-use Rattle.git_syntax.proofs.Readings.SchemeLemmas.{protocol_cases, helper_cases, means_cases}
+use Rattle.git_syntax.proofs.Readings.SchemeLemmas.{helper_cases, means_cases}
 
 -- ---- values
 
 -- a location without password and port is made of its other parts
 pub value_of : (v : Location) (protocol : Protocol) (flag : Bool) → v.scheme ≡ protocol → v.flag ≡ flag → v.password ≡ None → v.port ≡ None → v ≡ record (path_alone protocol flag v.path) { user = v.user; host = v.host; spelling = v.spelling }
-value_of v protocol flag scheme flagged no_password no_port = λ i. record {
-  scheme = scheme i;
-  user = v.user;
-  password = no_password i;
-  host = v.host;
-  flag = flagged i;
-  port = no_port i;
-  path = v.path;
-  spelling = v.spelling;
-}
+value_of v protocol flag scheme flagged no_password no_port = grind arith
 
 -- the value of a location that has a scheme, a path and the flag, and perhaps a spelling
 abbrev kept : Protocol → List ℕ → Option (List ℕ) → Location
@@ -33,10 +25,7 @@ kept protocol path spelling = record (path_alone protocol true path) { spelling 
 
 -- a location without the other parts is such a value
 kept_value : (v : Location) (protocol : Protocol) → v.scheme ≡ protocol → IsFlaggedPath v → v ≡ kept protocol v.path v.spelling
-kept_value v protocol scheme (flagged, alone, no_host) =
-    value_of v protocol true scheme flagged alone.1 alone.2
-    ∙ ap (λ user. record (kept protocol v.path v.spelling) { user = user; host = v.host }) alone.0
-    ∙ ap (λ host. record (kept protocol v.path v.spelling) { host = host }) no_host
+kept_value v protocol scheme h = grind arith
 
 -- a value without parts of an authority
 path_alone_bare : (protocol : Protocol) (path : List ℕ) → IsFlaggedPath (path_alone protocol true path)
@@ -54,29 +43,21 @@ local_written path spelling = refl
 
 -- the text of a settled local path is the path
 pub flagged_text : (v : Location) → v.scheme ≡ file → IsSettledLocal v → text v ≡ Ok v.path
-flagged_text v scheme h =
-    ap (λ l. text l) (kept_value v file scheme h.bare) ∙ local_written v.path v.spelling
+flagged_text v scheme h = grind arith
 
 -- ---- what is spelled is settled, and written as it was read
 
 -- a remote helper without a spelling is settled
 helper_settled : (name path : List ℕ) → is_helper_name name ≡ true → IsSettled (path_alone (helper_protocol name) true path)
-helper_settled name path named = helper_cases (λ p. IsSettled (path_alone p true path)) name
-    (λ same. record { bare = path_alone_bare ext path; named = refl })
-    (λ other. (record { bare = path_alone_bare (helper name) path; named = named }, other))
+helper_settled name path named = grind arith
 
 -- and written as its name, `::` and its path
 helper_text : (name path : List ℕ) → is_helper_name name ≡ true → text (path_alone (helper_protocol name) true path) ≡ Ok (name ++ colon ∷ (colon ∷ path))
-helper_text name path named = helper_cases (λ p. text (path_alone p true path) ≡ Ok (name ++ colon ∷ (colon ∷ path))) name
-    (λ same. ap (λ n. Ok (n ++ colon ∷ (colon ∷ path))) (sym ((bytes_eq-Decides name (codes "ext")).0 same)))
-    (λ other. helper_written name path None named)
+helper_text name path named = grind (arith, nat_tests, helper_written, bytes_eq-Decides, helper_cases)
 
 -- what a remote helper's form spells is settled, and written as it was read
 pub helper_unchanged : (b : List ℕ) (v : Location) → SpellsHelper b v → IsSettled v × (text v ≡ Ok b)
-helper_unchanged b v h = (
-  subst (λ l. IsSettled l) (sym h.value) (helper_settled h.name h.address h.parts.named),
-  ap (λ l. text l) h.value ∙ helper_text h.name h.address h.parts.named ∙ ap (λ t. Ok t) (sym h.parts.joined),
-)
+helper_unchanged b v h = grind (arith, nat_tests, helper_settled, helper_text)
 
 -- a local path without a spelling is settled
 local_settled : (b : List ℕ) → LocalShape b → IsSettled (path_alone file true b)
@@ -84,36 +65,21 @@ local_settled b shape = inl record { bare = path_alone_bare file b; shape = shap
 
 -- what a local path spells is settled, and written as it was read
 pub local_unchanged : (b : List ℕ) (v : Location) → SpellsLocal b v → IsSettled v × (text v ≡ Ok b)
-local_unchanged b v h = (
-  subst (λ l. IsSettled l) (sym h.value) (local_settled b record { nonempty = h.nonempty; neither = h.neither; no_scp = h.no_scp }),
-  ap (λ l. text l) h.value ∙ local_written b None,
-)
+local_unchanged b v h = grind arith
 
 -- ---- closure
 
 -- no URL but that of `ext` keeps its bytes
 url_loses : (s : List ℕ) → ¬ (protocol_of s ≡ ext) → keeps_bytes (protocol_of s) false ≡ true → ⊥
-url_loses s = protocol_cases (λ p. ¬ (p ≡ ext) → keeps_bytes p false ≡ true → ⊥) s
-    (λ e other keeps. false≢true keeps)
-    (λ e other keeps. false≢true keeps)
-    (λ other keeps. false≢true keeps)
-    (λ e other keeps. false≢true keeps)
-    (λ e other keeps. false≢true keeps)
-    (λ other keeps. other refl)
-    (λ other keeps. false≢true keeps)
+url_loses s h k = grind arith
 
 -- a URL that keeps its bytes is its own path
 url_kept : (b : List ℕ) (v : Location) → SpellsUrl b v → KeepsBytes v → v ≡ path_alone ext true b
-url_kept b v h keeps =
-    elim (means_cases (protocol_of h.parts.scheme) b h.parts v h.means) [
-      | inl m ↦ m.1
-      | inr m ↦ absurd (url_loses h.parts.scheme m.0 (subst (λ l. KeepsBytes l) m.1.value keeps))
-    ]
+url_kept b v h keeps = grind (arith, nat_tests, url_loses, means_cases)
 
 -- nothing in the scp form keeps its bytes
 scp_not_kept : (b : List ℕ) (v : Location) → SpellsScp b v → KeepsBytes v → ⊥
-scp_not_kept b v (inl h) keeps = false≢true (subst (λ l. KeepsBytes l) h.value keeps)
-scp_not_kept b v (inr h) keeps = false≢true (subst (λ l. KeepsBytes l) h.value keeps)
+scp_not_kept b v h keeps = grind arith
 
 -- what is spelled and keeps its bytes is settled
 pub kept_closed : (b : List ℕ) (v : Location) → Spells b v → KeepsBytes v → IsSettled v
@@ -125,21 +91,9 @@ kept_closed b v (Spells.local_path h) keeps = (local_unchanged b v h).0
 
 -- ---- exactness
 
--- what the class says of a remote helper it says of the fields
-helper_by_fields : (name : List ℕ) (v w : Location) → fields w ≡ fields v → IsSettledHelper name w → IsSettledHelper name v
-helper_by_fields name v w same h = record { bare = subst IsFlaggedPath same h.bare; named = h.named }
-
--- and of a local path
-local_by_fields : (v w : Location) → fields w ≡ fields v → IsSettledLocal w → IsSettledLocal v
-local_by_fields v w same h = record { bare = subst IsFlaggedPath same h.bare; shape = subst LocalShape (ap (λ l. l.path) same) h.shape }
-
 -- of the kinds that keep their bytes, the class looks at the fields alone
 pub settled_by_fields : (protocol : Protocol) (v w : Location) → fields w ≡ fields v → keeps_bytes protocol v.flag ≡ true → IsSettledBy protocol w → IsSettledBy protocol v
-settled_by_fields file v w same keeps (inl h) = inl (local_by_fields v w same h)
-settled_by_fields file v w same keeps (inr h) = absurd (both_ways v.flag (sym (ap (λ l. l.flag) same) ∙ h.unflagged) keeps)
-settled_by_fields ext v w same keeps h = helper_by_fields (codes "ext") v w same h
-settled_by_fields (helper name) v w same keeps h = (helper_by_fields name v w same h.0, h.1)
-settled_by_fields _ v w same keeps h = absurd (false≢true keeps)
+settled_by_fields protocol v w same keeps h = grind arith
 
 -- a location that keeps its bytes is settled where bytes spell its fields
 pub kept_exact : (v : Location) → KeepsBytes v → (b : List ℕ) (w : Location) → Spells b w → fields w ≡ fields v → IsSettled v

@@ -30,11 +30,7 @@ pub record IsHostPiece (t : List ℕ) : Type 0 where
 
 -- escaped pieces joined are an escaped piece
 pub joined_escaped : (xs ys : List ℕ) → IsEscapedPiece xs → IsEscapedPiece ys → IsEscapedPiece (xs ++ ys)
-joined_escaped xs ys front back = record {
-  text = IsUtf8-append xs ys front.text back.text;
-  sound = sound-append xs ys front.sound back.sound;
-  no_white_space = white_space-append xs ys front.text front.no_white_space back.no_white_space;
-}
+joined_escaped xs ys front back = grind (arith, nat_tests, IsUtf8-append, sound-append, white_space-append)
 
 -- pieces of an authority joined are a piece of an authority
 pub joined_pieces : (xs ys : List ℕ) → IsAuthorityPiece xs → IsAuthorityPiece ys → IsAuthorityPiece (xs ++ ys)
@@ -81,10 +77,7 @@ authority_piece t h sound = record {
 
 -- and one of bytes of a host and a port is one without `@`
 pub host_piece : (t : List ℕ) → list_all is_host_byte t ≡ true → is_sound t ≡ true → IsHostPiece t
-host_piece t h sound = record {
-  no_at = free_of_all is_host_byte at_sign t h refl;
-  piece = authority_piece t (all_weaker is_host_byte is_authority_byte (λ b is. (and_parts _ _ is).0) t h) sound;
-}
+host_piece t h sound = grind (arith, nat_tests, authority_piece, all_weaker, and_parts, free_of_all)
 
 -- so is one of a narrower class of bytes without `%`
 pub class_piece : (test : ℕ → Bool) → ((b : ℕ) → test b ≡ true → is_host_byte b ≡ true) → test percent_sign ≡ false → (t : List ℕ) → list_all test t ≡ true → IsHostPiece t

@@ -1,8 +1,8 @@
 -- What a settled location is read as, from its own text.
-use Rattle.std.proofs.Common.{◌≡◌, ℕ, List, Ok, Err, sym, subst, ◌∙◌}
+use Rattle.std.proofs.Common.{◌≡◌, ℕ, List, Ok, Err, subst, arith}
+use Rattle.std.proofs.lemmas.Bool.Decides.{nat_tests}
 use Rattle.git_location.specs.declared.write_error.WriteFault.{WriteFault}
 use Rattle.git_syntax.specs.Value.{Location}
-use Rattle.git_syntax.specs.Grammar.{Spells}
 use Rattle.git_location.specs.Text.{text}
 use Rattle.git_location.specs.Settled.{IsValue, IsSettled}
 use Rattle.git_laws.specs.Laws.{ReadAgain}
@@ -13,13 +13,7 @@ use Rattle.git_location.proofs.Written.WrittenAsUrlLemmas.{one_text}
 
 -- the text of a settled location spells it again
 pub text_again : (v : Location) (s : List ℕ) → IsValue v → IsSettled v → text v ≡ Ok s → SpellsAgain v s
-text_again v s is h written =
-    let (back, again) = settled_again v is h in
-    record {
-      back = back.reread;
-      spelled = subst (λ b. Spells b back.reread) (one_text back.has_text written) back.spelled;
-      again = record { same_fields = back.same_fields; same_text = back.same_text ∙ sym back.has_text; settled = again };
-    }
+text_again v s is h written = grind (arith, nat_tests, one_text, settled_again)
 
 -- and whatever else is read of it is that location too
 pub read_alone : ReadAgain
@@ -29,7 +23,4 @@ read_alone v w t is h written spelled =
 
 -- a settled location has a text
 pub settled_has_text : (v : Location) (f : WriteFault) → IsValue v → IsSettled v → Err f ≡ text v → ⊥
-settled_has_text v f is h fault =
-    let (back, again) = settled_again v is h in
-    let both = fault ∙ back.has_text in
-    cc
+settled_has_text v f is h fault = grind arith

@@ -1,12 +1,13 @@
 -- A settled location without its spelling: of URLs outside HTTP and files the path decides whether it is settled, and of all others it is.
 use Rattle.std.proofs.Common.{◌≡◌, ℕ, Bool, true, false, not, ◌==◌, inl, inr, List, [], ◌∷◌, ◌++◌, length, length-append, Option, Some, None, refl, sym, ap, subst, ◌∙◌, arith}
-use Rattle.std.proofs.lemmas.Bool.{both_ways, false≢true}
+use Rattle.std.proofs.lemmas.Bool.Decides.{nat_tests}
+use Rattle.std.proofs.lemmas.Bool.{false≢true}
 use Rattle.std.proofs.lemmas.Option.{none-some}
 use Rattle.percent_encoding.specs.Percent.{percent_decode}
 use Rattle.git_syntax.specs.Value.{Protocol, Location, fields}
 use Rattle.git_syntax.specs.Value.Protocol.{file, git, ssh, http, https, ext, helper, helper_url}
 use Rattle.git_syntax.specs.Bytes.{slash, tilde, begins_by, LacksWhiteSpace, is_path_start, StartsPath}
-use Rattle.git_syntax.specs.Escapes.{has_percent, path_set}
+use Rattle.git_syntax.specs.Escapes.{has_percent}
 use Rattle.git_syntax.specs.Schemes.{is_web_scheme, protocol_text}
 use Rattle.git_syntax.specs.Authority.{FitsText}
 use Rattle.git_syntax.specs.Grammar.{path_for}
@@ -26,8 +27,7 @@ use Rattle.git_location.proofs.Written.WrittenAsUrlLemmas.{written_web, written_
 
 -- a host is written the same
 host_unspelled : (v : Location) (host : Option (List ℕ)) → host_part (fields v) host ≡ host_part v host
-host_unspelled v None = refl
-host_unspelled v (Some host) = refl
+host_unspelled v host = grind arith
 
 -- so is the authority
 authority_unspelled : (v : Location) → authority_text (fields v) ≡ authority_text v
@@ -49,9 +49,7 @@ right_empty x (b ∷ y) e = absurd (omega (arith, ap length e, length-append x (
 
 -- only an empty path is written as nothing
 plain_empty : (p : Protocol) (path : List ℕ) → plain_path p path ≡ [] → path ≡ []
-plain_empty http path e = encode_empty path_set path e
-plain_empty https path e = encode_empty path_set path e
-plain_empty _ path e = e
+plain_empty p path e = grind (arith, nat_tests, encode_empty)
 
 path_empty : (v : Location) → canonical_path (fields v) ≡ [] → v.path ≡ []
 path_empty v e = plain_empty v.scheme v.path (right_empty (root_part v) (plain_path v.scheme v.path) e)
@@ -82,8 +80,7 @@ url_unspelled v h fits = record { unflagged = h.unflagged; credentials = h.crede
 
 -- the scheme is one of HTTP
 web_named : (v : Location) → IsWeb v → is_web_scheme (protocol_text v.scheme) ≡ true
-web_named v (inl e) = ap (λ p. is_web_scheme (protocol_text p)) e
-web_named v (inr e) = ap (λ p. is_web_scheme (protocol_text p)) e
+web_named v h = grind arith
 
 -- HTTP
 web_unspelled : (v : Location) → IsWeb v → IsValue v → IsSettledWeb v → IsSettledWeb (fields v)
@@ -96,8 +93,7 @@ web_unspelled v web is h =
 
 -- a path of Git's own transports
 transport_unspelled : (v : Location) → IsTransportPath v → IsTransportPath (fields v)
-transport_unspelled v (inl rooted) = inl rooted
-transport_unspelled v (inr home) = inr (home.0, no_match v)
+transport_unspelled v h = grind arith
 
 -- is written as something
 transport_written : {A : Type 0} (v : Location) → IsTransportPath v → canonical_path (fields v) ≡ [] → A
@@ -126,14 +122,7 @@ git_unspelled v e is h raw =
 
 -- another scheme, where the text is short enough
 other_unspelled : (name : List ℕ) (v : Location) → IsSettledHelperUrl name v → (has_percent v.path ≡ false) × LacksWhiteSpace v.path → HasFittingText (fields v) → IsSettledHelperUrl name (fields v)
-other_unspelled name v h raw fits = record {
-  url = record { common = url_unspelled v h.url.common fits; raw = λ none. raw };
-  scheme_text = h.scheme_text;
-  unknown = h.unknown;
-  host = h.host;
-  hosted = h.hosted;
-  path = h.path;
-}
+other_unspelled name v h raw fits = grind arith
 
 -- and with a host it is
 other_fitting : (name : List ℕ) (v : Location) (host : Option (List ℕ)) → v.host ≡ host → v.scheme ≡ helper_url name → IsValue v → IsSettledHelperUrl name v → (has_percent v.path ≡ false) × LacksWhiteSpace v.path → (v.host ≡ None → HasFittingText (fields v)) → HasFittingText (fields v)
@@ -151,11 +140,7 @@ other_fitting name v (Some host) there e is h raw fits =
 
 -- what is settled without its spelling needs none
 needs_none : (p : Protocol) (v : Location) → IsSettledBy p (fields v) → is_raw_url p v.flag ≡ true → ((has_percent v.path ≡ false) × LacksWhiteSpace v.path) × HasFittingText (fields v)
-needs_none ssh v (inl h) kind = absurd (both_ways (not v.flag) (ap not h.flagged) kind)
-needs_none ssh v (inr h) kind = (h.url.raw (no_match v), h.url.common.fits)
-needs_none git v h kind = (h.url.raw (no_match v), h.url.common.fits)
-needs_none (helper_url name) v h kind = (h.url.raw (no_match v), h.url.common.fits)
-needs_none _ v h kind = absurd (false≢true kind)
+needs_none p v h kind = grind arith
 
 -- and what needs none is settled without it
 unspelled_by : (p : Protocol) (v : Location) → v.scheme ≡ p → IsValue v → IsSettledBy p v → (is_raw_url p v.flag ≡ true → (has_percent v.path ≡ false) × LacksWhiteSpace v.path) → (is_raw_url p v.flag ≡ true → v.host ≡ None → HasFittingText (fields v)) → IsSettledBy p (fields v)
@@ -179,12 +164,8 @@ unspelled_by (helper_url name) v e is h raw fits = other_unspelled name v h (raw
 
 -- a settled location is settled without its spelling exactly there
 pub without_spelling : SettledWithoutSpelling
-without_spelling v is h = (
-  λ less. record { raw = λ kind. (needs_none v.scheme v less kind).0; fits = λ kind none. (needs_none v.scheme v less kind).1 },
-  λ n. unspelled_by v.scheme v refl is h n.raw n.fits,
-)
+without_spelling = grind (arith, nat_tests, needs_none, unspelled_by)
 
 -- one of HTTP always is
 pub web_without_spelling : WebSettledWithoutSpelling
-web_without_spelling v is (inl e) h = subst (λ p. IsSettledBy p (fields v)) (sym e) (web_unspelled v (inl e) is (subst (λ p. IsSettledBy p v) e h))
-web_without_spelling v is (inr e) h = subst (λ p. IsSettledBy p (fields v)) (sym e) (web_unspelled v (inr e) is (subst (λ p. IsSettledBy p v) e h))
+web_without_spelling = grind (arith, nat_tests, web_unspelled)

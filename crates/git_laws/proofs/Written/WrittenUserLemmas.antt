@@ -1,7 +1,7 @@
 -- The written user information of a URL is read as the same user and password.
 use Rattle.std.specs.Prelude.{IsSome, IfSome, IsUtf8}
+use Rattle.std.proofs.lemmas.Bool.Decides.{nat_tests}
 use Rattle.std.proofs.Common.{◌≡◌, ◌∙◌, ℕ, ◌<◌, List, [], ◌∷◌, ◌++◌, length, Option, Some, None, refl, sym, ap, subst, arith, append_assoc}
-use Rattle.std.proofs.lemmas.Bool.{false≢true}
 use Rattle.percent_encoding.specs.Percent.{percent_encode}
 use Rattle.git_syntax.specs.declared.escape.TheConstants.{PASSWORD, USER}
 use Rattle.git_syntax.specs.Bytes.{colon, at_sign}
@@ -12,8 +12,7 @@ use Rattle.git_laws.proofs.Written.PieceTextLemmas.{joined_hosts, host_piece, us
 
 -- a text that is not empty stands for itself
 not_empty_kept : (t : List ℕ) → ¬ (t ≡ []) → Some t ≡ unless_empty t
-not_empty_kept [] some = absurd (some refl)
-not_empty_kept (b ∷ bs) some = refl
+not_empty_kept t some = grind arith
 
 -- so does a text with a length
 lengthy_kept : (t : List ℕ) → 0 < length t → Some t ≡ unless_empty t
@@ -45,5 +44,4 @@ both_written user password first second some =
 
 -- the written user information is read as the same user and password, where neither is an empty text that would be read as none
 pub information_written : (user : List ℕ) (password : Option (List ℕ)) → IsUtf8 user → IfSome password IsUtf8 → IfSome password (λ p. 0 < length p) → (user ≡ [] → IsSome password) → WritesInformation user password
-information_written user None text secret some given = alone_written user text (λ e. false≢true (given e))
-information_written user (Some password) text secret some given = both_written user password text secret some
+information_written user password text secret some given = grind (arith, nat_tests, alone_written, both_written)

@@ -1,5 +1,5 @@
 -- The written host and port of a settled location of HTTP name the same host and port.
-use Rattle.std.proofs.Common.{◌≡◌, ◌≢◌, ℕ, zero, suc, ◌<◌, false, inl, inr, List, [], ◌∷◌, ◌++◌, Option, Some, None, IfSome, refl, sym, ap, subst, ◌∙◌, arith, append_assoc, codes}
+use Rattle.std.proofs.Common.{◌≡◌, ◌≢◌, ℕ, ◌<◌, false, List, [], ◌∷◌, ◌++◌, Option, Some, None, IfSome, refl, sym, ap, subst, ◌∙◌, arith, append_assoc, codes}
 use Rattle.std.specs.Fmt.{decimal}
 use Rattle.std.proofs.lemmas.Bool.{cond-false, and_left, and_right}
 use Rattle.std.proofs.lemmas.Bool.Decides.{nat_tests}
@@ -40,16 +40,13 @@ name_piece t h = host_piece t (all_weaker is_http_host_byte is_host_byte (λ b i
 
 -- a literal holds no `]`
 literal_no_bracket : (t n : List ℕ) → Literal t n → FreeOf right_bracket t
-literal_no_bracket t n (address h e) = address_free right_bracket t refl h
-literal_no_bracket t n (zoned a z h zone is e) =
-    subst (λ x. FreeOf right_bracket x) (sym is) (free-append right_bracket a (codes "%25" ++ z) (address_free right_bracket a refl h) (free_of_all is_zone_byte right_bracket z zone.bytes refl))
+literal_no_bracket t n h = grind (arith, nat_tests, address_free, free-append, free_of_all)
 
 -- ---- what is named
 
 -- a port that isn't zero is allowed
 port_allowed : (p : ℕ) → Some p ≢ Some 0 → 0 < p
-port_allowed zero other = absurd (other refl)
-port_allowed (suc p) other = omega arith
+port_allowed p other = grind arith
 
 -- the written port spells it
 port_spelled : (p : ℕ) → Some p ≢ Some 0 → p < 65536 → Number strict (decimal p) p
@@ -69,11 +66,7 @@ literal_colon_named n l =
 
 -- a name is a plain host
 name_plain : (t : List ℕ) → IsWebName t → IsPlainHost t
-name_plain t h = record {
-  nonempty = h.nonempty;
-  no_colon = free_of_all is_http_host_byte colon t h.bytes refl;
-  no_bracket = free_begins left_bracket t (free_of_all is_http_host_byte left_bracket t h.bytes refl);
-}
+name_plain t h = grind (arith, nat_tests, free_begins, free_of_all)
 
 -- and stands for itself
 name_text : (t : List ℕ) → IsWebName t → HostText strict t t
@@ -153,8 +146,7 @@ host_written port host (named_colon n h free none e) other within =
 
 -- HTTP keeps its hosts
 web_host_kept : (v : Location) (host : List ℕ) → IsWeb v → open_host v.scheme host ≡ host
-web_host_kept v host (inl e) = ap (λ s. open_host s host) e
-web_host_kept v host (inr e) = ap (λ s. open_host s host) e
+web_host_kept v host h = grind arith
 
 -- so a settled host of HTTP is written as it is
 pub web_host_same : (v : Location) (host : List ℕ) → IsWeb v → IsWebHost v.port host → v.port ≢ Some 0 → IfSome v.port (λ p. p < 65536) → canonical_host v host ≡ host
