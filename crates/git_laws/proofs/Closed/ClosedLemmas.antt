@@ -10,13 +10,13 @@ use Rattle.git_syntax.specs.Escapes.{has_percent}
 use Rattle.git_syntax.specs.Schemes.{protocol_text}
 use Rattle.git_syntax.specs.Grammar.{SpellsUrl, SpellsFile, Spells}
 use Rattle.git_location.specs.Text.{has_colon, canonical_text, text}
-use Rattle.git_location.specs.Settled.{IsSettledFile, IsSettledWeb, HasFittingText, IsSettledBy, IsSettled, IsWeb}
+use Rattle.git_location.specs.Settled.{IsSettledFile, HasFittingText, IsSettledBy, IsSettled, IsWeb}
 use Rattle.git_laws.specs.Laws.{keeps_bytes, ComesBack, is_closed, IsCorner, Closed, Exact}
 use Rattle.git_laws.proofs.Refused.TextDecisions.{fits_or_not}
 use Rattle.git_laws.proofs.Written.KeptLemmas.{kept_closed, kept_exact}
 use Rattle.git_laws.proofs.Written.FileLemmas.{StaysOpen, file_closed, file_exact}
 use Rattle.git_laws.proofs.Closed.WebClosedLemmas.{StaysBare, IsApart, web_read, web_closed}
-use Rattle.git_location.proofs.Closed.SettledLemmas.{fitting_text}
+use Rattle.git_location.proofs.Closed.SettledLemmas.{fitting_text, web_settled}
 use Rattle.git_laws.proofs.Closed.WebExactLemmas.{spelled_by_url, web_exact}
 use Rattle.git_laws.proofs.Written.AgainLemmas.{settled_again}
 use Rattle.git_syntax.proofs.Texts.CutLemmas.{ends_or_not}
@@ -79,10 +79,6 @@ web_written b v h web =
     let (is_web, value) = web_read b v h web in
     let hosted : IsSome v.host = subst (λ l. IsSome l.host) (sym value) (h.spelled.hosted (or_left _ _ is_web)) in
     (hosted, (written_web v web).canonical (ap (λ l. l.flag) value) (λ given. hosted, λ given. hosted))
-
--- a settled location of HTTP is settled
-web_settled : (v : Location) → IsWeb v → IsSettledWeb v → IsSettled v
-web_settled v k h = grind arith
 
 -- a location of HTTP that is read is settled, or stands in a corner
 web_closed_by : (b : List ℕ) (v : Location) (host : Option (List ℕ)) → v.host ≡ host → SpellsUrl b v → IsWeb v → IsSettled v ⊎ IsCorner v

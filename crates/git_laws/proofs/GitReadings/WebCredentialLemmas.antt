@@ -23,9 +23,10 @@ use Rattle.git_syntax.proofs.Readings.HostLemmas.{decimal_digits}
 use Rattle.git_laws.proofs.Written.PieceTextLemmas.{password_decoded, password_piece, user_decoded, user_no_colon, user_piece}
 use Rattle.git_laws.proofs.Written.WrittenPathLemmas.{starts_alike, web_path_writing}
 use Rattle.git_laws.proofs.Written.WrittenUrlLemmas.{authority_text, canonical_cut}
-use Rattle.git_laws.proofs.Refused.CornerLemmas.{settled_as_web}
+use Rattle.git_location.proofs.Closed.SettledLemmas.{settled_as_web}
+use Rattle.git_location.proofs.Closed.WebClassLemmas.{IsWebShape}
 use Rattle.git_laws.proofs.GitReadings.GitCutLemmas.{git_decode_kept}
-use Rattle.git_laws.proofs.GitReadings.WebTextLemmas.{IsWebShape, web_authority, web_scheme}
+use Rattle.git_laws.proofs.GitReadings.WebTextLemmas.{web_authority, web_scheme}
 
 -- ---- decoding
 

@@ -1,25 +1,19 @@
 -- The text of a location of HTTP of the class, before any reader cuts it: scheme, user information, host, port and path.
-use Rattle.std.proofs.Common.{◌≡◌, ◌∙◌, ℕ, ◌<◌, true, ◌⊎◌, List, ◌∷◌, ◌++◌, length, decimal, Some, Ok, sym, ap, subst, arith}
-use Rattle.std.specs.List.{list_all}
-use Rattle.std.specs.Char.{is_ascii_digit}
-use Rattle.std.proofs.lemmas.Bool.{and_from}
-use Rattle.std.proofs.lemmas.Bool.Decides.{nat_tests}
-use Rattle.std.proofs.lemmas.List.Folds.{list_all-append}
+use Rattle.std.proofs.Common.{◌≡◌, ◌∙◌, ℕ, ◌<◌, true, List, ◌++◌, length, Some, Ok, refl, sym, ap, subst, arith}
 use Rattle.std.proofs.lemmas.Option.{same_Some}
 use Rattle.git_syntax.specs.Value.{Location}
-use Rattle.git_syntax.specs.Bytes.{dot, at_sign, Lacks, FreeOf, IsLowercase, is_scheme_text, is_path_start}
-use Rattle.git_syntax.specs.Addresses.{IsOctet}
+use Rattle.git_syntax.specs.Bytes.{at_sign, Lacks, FreeOf, IsLowercase, is_scheme_text, is_path_start}
 use Rattle.git_syntax.specs.Hosts.Mode.{strict}
 use Rattle.git_syntax.specs.Schemes.{protocol_text}
 use Rattle.git_location.specs.Text.{user_information, host_part, port_part, canonical_text, text}
-use Rattle.git_location.specs.Settled.{IsValue, IsBracketedAddress, IsWeb, IsWebHost}
-use Rattle.git_location.specs.WebClass.{is_plain_host_byte, IsUnambiguousHost, AgreesOverWeb}
+use Rattle.git_location.specs.Settled.{IsValue, IsWeb, IsWebHost}
+use Rattle.git_location.specs.WebClass.{IsUnambiguousHost, AgreesOverWeb}
 use Rattle.git_laws.specs.GitWeb.{IsOneLine}
-use Rattle.git_syntax.proofs.Texts.CutLemmas.{all_weaker}
-use Rattle.git_syntax.proofs.Readings.HostLemmas.{decimal_digits}
+use Rattle.git_location.proofs.Written.WrittenAsUrlLemmas.{written_web}
 use Rattle.git_laws.proofs.Written.WrittenWebHostLemmas.{web_host_same, web_host_written}
 use Rattle.git_laws.proofs.Written.WrittenUrlLemmas.{authority_text, authority_with_host}
-use Rattle.git_laws.proofs.Refused.CornerLemmas.{settled_as_web}
+use Rattle.git_location.proofs.Closed.SettledLemmas.{settled_as_web}
+use Rattle.git_location.proofs.Closed.WebClassLemmas.{IsWebShape, host_shape}
 
 -- a location of the class has the text of a URL
 pub web_text : (v : Location) → IsWeb v → AgreesOverWeb v → text v ≡ Ok (canonical_text v)
@@ -35,22 +29,6 @@ pub record IsWebScheme (scheme : List ℕ) : Type 0 where
 -- each of HTTP is one
 pub web_scheme : (v : Location) → IsWeb v → IsWebScheme (protocol_text v.scheme)
 web_scheme v h = grind arith
-
--- an octet is of bytes of a plain host
-octet_plain : (t : List ℕ) → IsOctet t → list_all is_plain_host_byte t ≡ true
-octet_plain t (n, small, e) = subst (λ x. list_all is_plain_host_byte x ≡ true) (sym e) (all_weaker is_ascii_digit is_plain_host_byte (λ b is. grind (arith, nat_tests)) (decimal n) (decimal_digits n (omega arith)).1)
-
--- and so are two such texts around a `.`
-dot_plain : (x y : List ℕ) → list_all is_plain_host_byte x ≡ true → list_all is_plain_host_byte y ≡ true → list_all is_plain_host_byte (x ++ dot ∷ y) ≡ true
-dot_plain x y h k = list_all-append is_plain_host_byte x (dot ∷ y) ∙ and_from _ _ h k
-
--- a host is of bytes of a plain host, or an address in brackets
-abbrev pub IsWebShape : List ℕ → Type 0
-IsWebShape host = (list_all is_plain_host_byte host ≡ true) ⊎ IsBracketedAddress host
-
--- so is each of the class
-host_shape : (host : List ℕ) → IsUnambiguousHost host → IsWebShape host
-host_shape host h = grind (arith, nat_tests, octet_plain, dot_plain)
 
 -- the authority is the user information, and host and port as they are
 pub record IsWebAuthority (v : Location) (host : List ℕ) : Type 0 where

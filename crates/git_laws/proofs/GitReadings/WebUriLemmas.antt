@@ -5,9 +5,8 @@ use Rattle.std.specs.Char.{to_ascii_lowercase, is_digit}
 use Rattle.std.proofs.lemmas.Bool.{agree_below_at, and_from, and_parts, both_ways, false_from_ne_true, false≢true, or_left}
 use Rattle.std.proofs.lemmas.Bool.Decides.{nat_tests}
 use Rattle.std.proofs.lemmas.List.{map-append}
-use Rattle.std.proofs.lemmas.List.Elements.{All-weaker}
-use Rattle.std.proofs.lemmas.List.Folds.{list_all-append, map_fixed}
-use Rattle.std.proofs.lemmas.List.Sums.{AllPass-from_list_all, list_all-from_AllPass}
+use Rattle.std.proofs.lemmas.List.Folds.{list_all-append}
+use Rattle.std.proofs.lemmas.List.Sums.{list_all-from_AllPass}
 use Rattle.percent_encoding.specs.declared.ascii_set.AsciiSet.{AsciiSet}
 use Rattle.percent_encoding.specs.AsciiSet.{contains, should_percent_encode}
 use Rattle.percent_encoding.specs.Percent.{percent_decode, percent_encode}
@@ -31,7 +30,8 @@ use Rattle.git_syntax.proofs.Readings.HostLemmas.{decimal_digits}
 use Rattle.git_laws.proofs.Written.PieceTextLemmas.{user_piece, password_piece, user_no_colon, user_decoded, password_decoded}
 use Rattle.git_laws.proofs.Written.WrittenPathLemmas.{starts_alike, web_path_writing}
 use Rattle.git_laws.proofs.Written.WrittenUrlLemmas.{authority_text, canonical_cut}
-use Rattle.git_laws.proofs.Refused.CornerLemmas.{settled_as_web}
+use Rattle.git_location.proofs.Closed.SettledLemmas.{settled_as_web}
+use Rattle.git_location.proofs.Closed.WebClassLemmas.{plain_lowercase}
 use Rattle.git_laws.proofs.GitReadings.WebTextLemmas.{web_authority, web_scheme}
 
 -- ---- escaped texts
@@ -115,7 +115,7 @@ record IsUriHost (host : List ℕ) : Type 0 where
 plain_host : (host : List ℕ) → list_all is_plain_host_byte host ≡ true → IsUriHost host
 plain_host host h = record {
   bytes = inr (all_weaker is_plain_host_byte is_host_byte (λ b is. grind (arith, nat_tests)) host h, sound_free host (free_of_all is_plain_host_byte percent_sign host h refl));
-  lower = map_fixed to_ascii_lowercase host (All-weaker (λ b. is_plain_host_byte b ≡ true) (λ b. to_ascii_lowercase b ≡ b) (λ b is. grind (arith, nat_tests)) host (AllPass-from_list_all is_plain_host_byte host h));
+  lower = plain_lowercase host h;
   read = λ behind. UriHost.unbracketed (free_of_all is_plain_host_byte colon host h refl) (free_begins left_bracket host (free_of_all is_plain_host_byte left_bracket host h refl)) refl;
 }
 

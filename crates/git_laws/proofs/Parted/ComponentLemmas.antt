@@ -1,5 +1,5 @@
 -- What is read of a settled location of HTTP has the same components.
-use Rattle.std.proofs.Common.{◌≡◌, ℕ, ◌<◌, Bool, true, false, not, ◌&&◌, ◌==◌, ◌↔◌, inl, inr, List, [], ◌∷◌, ◌++◌, map, Option, Some, None, Ok, IsUtf8, IfSome, option_map, if◌then◌else◌, All, refl, sym, ap, subst, ◌∙◌, ⊎_elim, arith}
+use Rattle.std.proofs.Common.{◌≡◌, ℕ, ◌<◌, Bool, true, false, ◌==◌, ◌↔◌, inl, inr, List, [], ◌∷◌, ◌++◌, map, Option, Some, None, Ok, IsUtf8, IfSome, option_map, if◌then◌else◌, All, refl, sym, ap, subst, ◌∙◌, ⊎_elim, arith}
 use Rattle.std.specs.List.{list_any, join_with_byte}
 use Rattle.std.proofs.lemmas.Bool.{cond-true, cond-false, cases_Bool, both_ways, false≢true, or_parts, eqb-true, false_from_ne_true}
 use Rattle.std.proofs.lemmas.Bool.Decides.{nat_tests}
@@ -12,13 +12,12 @@ use Rattle.percent_encoding.specs.Percent.{percent_decode, percent_encode, perce
 use Rattle.percent_encoding.proofs.AsciiSetLemmas.{outside_from_kept, kept_from_outside}
 use Rattle.percent_encoding.proofs.PercentLemmas.{IsEscapeByte, All-percent_encode_byte, percent_encode_escaped, percent_encode_kept, percent_decode-nil, percent_decode-percent_encode_byte, round_trip, percent_encode-append, percent_encode-nil}
 use Rattle.git_syntax.specs.declared.escape.TheConstants.{PATH}
-use Rattle.git_syntax.specs.Bytes.{number_sign, percent_sign, plus_sign, slash, question_mark, FreeOf, begins_with, space, ampersand, equals_sign}
+use Rattle.git_syntax.specs.Bytes.{number_sign, percent_sign, plus_sign, question_mark, FreeOf, space, ampersand, equals_sign}
 use Rattle.git_syntax.specs.Escapes.{has_percent, is_path_escaped, matches}
 use Rattle.git_syntax.specs.Value.{Location}
-use Rattle.git_syntax.specs.Schemes.{requires_path}
 use Rattle.git_syntax.specs.Grammar.{or_root, retained_spelling, Spells}
 use Rattle.git_laws.specs.Components.{Components, stands_for, CutsText, CutsPath, CutsFields, SplitsField, with_spaces, term_of, PairsOf, QueryOf, WebParts, PartsBy, PartsOf}
-use Rattle.git_location.specs.Text.{plain_path, matching_or, canonical_path, canonical_text, text, original_path}
+use Rattle.git_location.specs.Text.{matching_or, canonical_path, canonical_text, text, original_path}
 use Rattle.git_location.specs.Settled.{IsSettledUrl, IsWeb, HasFairSpelling}
 use Rattle.git_laws.proofs.Written.WrittenPieces.{as_read}
 use Rattle.git_laws.specs.Laws.{SameComponents}
@@ -28,8 +27,9 @@ use Rattle.git_syntax.proofs.Texts.EscapeSets.{path_holds}
 use Rattle.git_laws.proofs.Closed.WebClosedLemmas.{spelled_as}
 use Rattle.git_syntax.proofs.Unique.UniqueLemmas.{spells_unique}
 use Rattle.git_laws.proofs.Written.AgainLemmas.{web_spelled}
-use Rattle.git_laws.proofs.Refused.CornerLemmas.{settled_as_web}
 use Rattle.git_location.proofs.Written.WrittenAsUrlLemmas.{one_text, written_web}
+use Rattle.git_location.proofs.Closed.SettledLemmas.{settled_as_web}
+use Rattle.git_location.proofs.Closed.WebClassLemmas.{web_path}
 
 -- every number of the text is a byte
 abbrev IsBytes : List ℕ → Type 0
@@ -402,11 +402,6 @@ matched (Some s) path other h = (s, refl, (bytes_eq-Decides (percent_decode s) p
 pub unmatched : (spelling : Option (List ℕ)) (path other : List ℕ) → matches spelling path ≡ false → matching_or spelling path other ≡ other
 unmatched None path other h = refl
 unmatched (Some s) path other h = cond-false _ _ _ h
-
--- the written path of a location of HTTP is the spelling that matches, and else the encoded path
-web_path : (v : Location) → IsWeb v → canonical_path v ≡ matching_or v.spelling v.path (percent_encode PATH v.path)
-web_path v (inl e) = ap (λ p. (if requires_path p && not (begins_with slash v.path) then slash ∷ [] else []) ++ matching_or v.spelling v.path (plain_path p v.path)) e
-web_path v (inr e) = ap (λ p. (if requires_path p && not (begins_with slash v.path) then slash ∷ [] else []) ++ matching_or v.spelling v.path (plain_path p v.path)) e
 
 -- where the spelling matches, it is read again
 spelled_again : (v : Location) → IsWeb v → HasFairSpelling v → matches v.spelling v.path ≡ true → retained_spelling (canonical_path v) ≡ v.spelling

@@ -7,9 +7,10 @@ use Rattle.git_syntax.specs.Bytes.{colon, left_bracket, percent_sign, FreeOf, be
 use Rattle.git_syntax.specs.Escapes.{has_percent}
 use Rattle.git_syntax.specs.Hosts.{is_http_host_byte}
 use Rattle.git_location.specs.Text.{has_colon}
-use Rattle.git_location.specs.Settled.{IsFileHost, IsSettledFile, IsSettledLocal, IsWebHost, IsSettledWeb, IsSettledBy, IsSettled, IsWeb}
+use Rattle.git_location.specs.Settled.{IsFileHost, IsSettledFile, IsSettledLocal, IsWebHost, IsSettledBy}
 use Rattle.git_laws.specs.Laws.{IsCorner, Apart}
 use Rattle.git_syntax.proofs.Texts.CutLemmas.{lacks-append, free_of_all, not_free}
+use Rattle.git_location.proofs.Closed.SettledLemmas.{settled_as_web}
 
 -- a host in the corner of file URLs isn't settled
 file_host_apart : (host : List ℕ) → begins_with left_bracket host ≡ false → has_colon host ≡ true → has_percent host ≡ true → ¬ IsFileHost host
@@ -27,10 +28,6 @@ web_host_apart port front host ends open_front escaped (IsWebHost.named h) =
     not_free colon front [] (subst (λ t. FreeOf colon t) ends (free_of_all is_http_host_byte colon host h.bytes refl))
 web_host_apart port front host ends open_front escaped (IsWebHost.named_colon n h plain p e) =
     both_ways _ (ap has_percent e ∙ lacks-append (λ b. b == percent_sign) n (colon ∷ []) plain refl) escaped
-
--- a settled location of HTTP is settled as one
-pub settled_as_web : (v : Location) → IsWeb v → IsSettled v → IsSettledWeb v
-settled_as_web v k h = grind arith
 
 -- no location in a corner is settled
 pub apart : Apart
