@@ -1,12 +1,11 @@
 -- What a written-out text holds and what it doesn't, by searching it.
-use Rattle.std.proofs.Common.{◌≡◌, ℕ, Bool, true, false, nat_le, ◌&&◌, ◌||◌, ◌==◌, inl, inr, List, [], ◌∷◌, ◌++◌, length, codes, refl, sym, ap, subst, ◌∙◌, eqb}
-use Rattle.std.proofs.lemmas.Bool.{both_ways, false≢true, and_from, eq-eqb, leb-true, or_left, or_right}
-use Rattle.git_syntax.specs.Bytes.{slash, colon, at_sign, left_bracket, Lacks, FreeOf, Holds, begins_by, begins_with, is_helper_name, is_path_start, StartsPath}
+use Rattle.std.proofs.Common.{◌≡◌, ℕ, Bool, true, false, nat_le, ◌&&◌, ◌||◌, ◌==◌, List, [], ◌∷◌, ◌++◌, length, refl, sym, ap, ◌∙◌, eqb}
+use Rattle.std.proofs.lemmas.Bool.{both_ways, and_from, eq-eqb, leb-true, or_left, or_right}
+use Rattle.git_syntax.specs.Bytes.{colon, Lacks, FreeOf, Holds, begins_by, begins_with, is_helper_name, is_path_start, StartsPath}
 use Rattle.git_syntax.specs.Schemes.{is_web_scheme}
 use Rattle.git_syntax.specs.Authority.{without_white_space, is_any_slash, IsWithinLimit, Fits}
-use Rattle.git_syntax.specs.Grammar.{HasHelperForm, ScpFront, IsNeither, ScpShape, IsScpShaped}
-use Rattle.git_syntax.proofs.Texts.CutLemmas.{cut_unique, not_free, helper_name_free}
-use Rattle.git_syntax.proofs.Readings.ShapeLemmas.{no_helper_free, addressed_free}
+use Rattle.git_syntax.specs.Grammar.{HasHelperForm}
+use Rattle.git_syntax.proofs.Texts.CutLemmas.{cut_unique, helper_name_free}
 
 -- different bytes are not equal
 pub other_byte : {A : Type 0} (a b : ℕ) → eqb a b ≡ false → a ≡ b → A
