@@ -9,7 +9,6 @@ use Rattle.git_location.specs.Text.{user_information, host_part, port_part, cano
 use Rattle.git_location.specs.Settled.{IsValue, IsWeb, IsWebHost}
 use Rattle.git_location.specs.WebClass.{IsUnambiguousHost, AgreesOverWeb}
 use Rattle.git_laws.specs.GitWeb.{IsOneLine}
-use Rattle.git_location.proofs.Written.WrittenAsUrlLemmas.{written_web}
 use Rattle.git_laws.proofs.Written.WrittenWebHostLemmas.{web_host_same, web_host_written}
 use Rattle.git_laws.proofs.Written.WrittenUrlLemmas.{authority_text, authority_with_host}
 use Rattle.git_location.proofs.Closed.SettledLemmas.{settled_as_web}
