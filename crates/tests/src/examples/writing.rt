@@ -92,7 +92,8 @@ fn what_comes_back_is_stored(rt: HostRuntime) -> Result<(), Fail> {
         ("ssh://u:p@h/p", None),
         ("https://h/p", Some("https://h/p")),
         ("https://127.1/p", None),
-        ("ssh://[::1]:22/p", None),
+        ("ssh://[::1]:22/p", Some("ssh://[::1]:22/p")),
+        ("git://[::1]/p", Some("git://%5B%3A%3A1%5D/p")),
         ("ssh://@h/p", Some("ssh://h/p")),
     ] {
         let url = Url::from_text(rt.alloc(), text)?;
