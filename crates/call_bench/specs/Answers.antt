@@ -1,9 +1,10 @@
 -- What the exports return: numbers, which are told by what they say of a location.
-use Rattle.std.specs.Prelude.{◌≡◌, ◌<◌, ℕ, List, length, None, Some, Ok}
+use Rattle.std.specs.Prelude.{◌≡◌, ◌<◌, ℕ, List, Option, IsUtf8, codes, length, None, Some, Ok}
 use Rattle.gix_url.specs.Components.{Components, PartsOf}
 use Rattle.gix_url.specs.Display.{display}
 use Rattle.gix_url.specs.FromParts.{MadeOf}
 use Rattle.gix_url.specs.Grammar.{Spells}
+use Rattle.gix_url.specs.Homes.{HomeUser, SplitsHome, Expands}
 use Rattle.gix_url.specs.Records.{migrated}
 use Rattle.gix_url.specs.Stored.{recorded_location}
 use Rattle.gix_url.specs.Text.{text}
@@ -31,6 +32,16 @@ IsShownLength v n = (t : List ℕ) → display v ≡ Some t → length t ≡ n
 -- the length of the path among its components
 abbrev pub IsComponentLength : Location → ℕ → Type 0
 IsComponentLength v n = (c : Components) × PartsOf v c × (length c.path ≡ n)
+
+-- the length of a path that is text, expanded by the home folder `/home/ann` of the current user
+abbrev pub IsExpansionLength : Option HomeUser → List ℕ → ℕ → Type 0
+IsExpansionLength user path n = IsUtf8 path → (whole : List ℕ)
+    × Expands (Some (codes "/home/ann")) user path (Some whole) × (length whole ≡ n)
+
+-- the same of its path, behind what begins it in a home folder
+abbrev pub IsExpandedLength : Location → ℕ → Type 0
+IsExpandedLength v n = (user : Option HomeUser) × (rest : List ℕ) × SplitsHome v.path user rest
+    × IsExpansionLength user rest n
 
 -- the length of the path that is read in its text
 abbrev pub IsRereadLength : Location → ℕ → Type 0

@@ -3,15 +3,20 @@
 //! None is compiled into its caller: the count begins where it is entered and ends where it is left. What the call
 //! makes is dropped there, so that it counts too.
 
-ghost use Rattle.std.specs.Prelude.{◌≡◌, ◌<◌, ◌↔◌, ◌++◌, ℕ, List, IfSome, IsTrue, Ok, fold, string_bytes};
+ghost use Rattle.std.specs.Prelude.{◌≡◌, ◌<◌, ◌↔◌, ◌++◌, ℕ, List, IfSome, IsTrue, Ok, fold, option_map, string_bytes};
 ghost use Rattle.std.specs.Hash.DefaultHasher.{finish, initial, write};
+ghost use Rattle.std.specs.Option.{option_copied};
+ghost use Rattle.bstr.specs.BStr.{bstr_bytes};
+ghost use Rattle.gix_url.specs.HomeReadings.{user_of};
 ghost use Rattle.gix_url.specs.GitClass.{AgreesWithGit};
 ghost use Rattle.gix_url.specs.Order.{fed_location, location_cmp, location_eq};
 ghost use Rattle.gix_url.specs.Settled.{IsSettled};
 ghost use Rattle.gix_url.specs.Text as spec;
-ghost use Rattle.call_bench.specs.Answers.{IsCompact, IsCompactLength, IsComponentLength, IsMadeLength, IsPathLength, IsRereadLength, IsRestoredLength, IsShownLength, IsTextLength};
+ghost use Rattle.call_bench.specs.Answers.{IsCompact, IsCompactLength, IsComponentLength, IsExpandedLength, IsExpansionLength, IsMadeLength, IsPathLength, IsRereadLength, IsRestoredLength, IsShownLength, IsTextLength};
 
+use bstr::BStr;
 use gix_url::Url;
+use gix_url::expand_path::{self, ForUser};
 use gix_url::stored::StoredUrl;
 use std::alloc::Global;
 use std::cmp::Ordering;
@@ -82,6 +87,28 @@ pub fn path_query_fragment(alloc: Global, url: &Url) -> usize
 {
     match url.path_query_fragment(alloc) {
         Ok(parts) => parts.path.as_bytes().len(),
+        Err(_) => 0,
+    }
+}
+
+/// The length of the path, expanded by the home folder `/home/ann` of the current user; 0 where it isn't.
+#[inline(never)]
+pub fn expand_path(alloc: Global, url: &Url) -> usize
+    ensures { 0 < result → IsExpandedLength url.now result }
+{
+    match expand_path::parse(alloc, url.path.as_bstr()) {
+        Ok((user, rest)) => expanded(alloc, user.as_ref(), rest.as_bstr()),
+        Err(_) => 0,
+    }
+}
+
+/// The length of the path of this user, expanded so.
+fn expanded(alloc: Global, user: Option<&ForUser>, path: BStr<'_>) -> usize
+    ensures { 0 < result → IsExpansionLength (option_map user_of (option_copied user.entry))
+        (bstr_bytes path.entry) result }
+{
+    match expand_path::expand_path(alloc, user, path, Some("/home/ann")) {
+        Ok(text) => text.len(),
         Err(_) => 0,
     }
 }

@@ -14,7 +14,7 @@ ghost use Rattle.gix_url.specs.Grammar.{Spells};
 ghost use Rattle.gix_url.specs.Order.{fed_location, location_cmp, location_eq};
 ghost use Rattle.gix_url.specs.Settled.{IsSettled};
 ghost use Rattle.gix_url.specs.Value.{Location};
-ghost use Rattle.call_bench.specs.Answers.{IsCompactLength, IsComponentLength, IsMadeLength, IsPathLength, IsRereadLength, IsRestoredLength, IsShownLength, IsTextLength, SaysOf};
+ghost use Rattle.call_bench.specs.Answers.{IsCompactLength, IsComponentLength, IsExpandedLength, IsMadeLength, IsPathLength, IsRereadLength, IsRestoredLength, IsShownLength, IsTextLength, SaysOf};
 
 mod counted;
 
@@ -111,6 +111,17 @@ pub extern "C" fn call_bench_path_query_fragment(alloc: Global, bytes: &[u8]) ->
 {
     match Url::from_bytes(alloc, BStr::new(bytes)) {
         Ok(url) => counted::path_query_fragment(alloc, &url),
+        Err(_) => 0,
+    }
+}
+
+/// The length of the path of the location, expanded by a home folder.
+#[unsafe(no_mangle)]
+pub extern "C" fn call_bench_expand_path(alloc: Global, bytes: &[u8]) -> usize
+    ensures { SaysOf IsExpandedLength bytes.now result }
+{
+    match Url::from_bytes(alloc, BStr::new(bytes)) {
+        Ok(url) => counted::expand_path(alloc, &url),
         Err(_) => 0,
     }
 }
