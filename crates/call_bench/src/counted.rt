@@ -12,7 +12,7 @@ ghost use Rattle.gix_url.specs.GitClass.{AgreesWithGit};
 ghost use Rattle.gix_url.specs.Order.{fed_location, location_cmp, location_eq};
 ghost use Rattle.gix_url.specs.Settled.{IsSettled};
 ghost use Rattle.gix_url.specs.Text as spec;
-ghost use Rattle.call_bench.specs.Answers.{IsCompact, IsCompactLength, IsComponentLength, IsExpandedLength, IsExpansionLength, IsMadeLength, IsPathLength, IsRereadLength, IsRestoredLength, IsShownLength, IsTextLength};
+ghost use Rattle.call_bench.specs.Answers.{IsCompact, IsCompactLength, IsComponentLength, IsExpansionLength, IsMadeLength, IsPathLength, IsRereadLength, IsRestoredLength, IsShownLength, IsTextLength};
 
 use bstr::BStr;
 use gix_url::Url;
@@ -91,19 +91,9 @@ pub fn path_query_fragment(alloc: Global, url: &Url) -> usize
     }
 }
 
-/// The length of the path, expanded by the home folder `/home/ann` of the current user; 0 where it isn't.
+/// The length of the path of this user, expanded by the home folder `/home/ann` of the current user; 0 where it isn't.
 #[inline(never)]
-pub fn expand_path(alloc: Global, url: &Url) -> usize
-    ensures { 0 < result → IsExpandedLength url.now result }
-{
-    match expand_path::parse(alloc, url.path.as_bstr()) {
-        Ok((user, rest)) => expanded(alloc, user.as_ref(), rest.as_bstr()),
-        Err(_) => 0,
-    }
-}
-
-/// The length of the path of this user, expanded so.
-fn expanded(alloc: Global, user: Option<&ForUser>, path: BStr<'_>) -> usize
+pub fn expand_path(alloc: Global, user: Option<&ForUser>, path: BStr<'_>) -> usize
     ensures { 0 < result → IsExpansionLength (option_map user_of (option_copied user.entry))
         (bstr_bytes path.entry) result }
 {

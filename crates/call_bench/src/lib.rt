@@ -19,7 +19,7 @@ ghost use Rattle.call_bench.specs.Answers.{IsCompactLength, IsComponentLength, I
 mod counted;
 
 use bstr::BStr;
-use gix_url::{ParseError, Refusal, Url, UrlRef};
+use gix_url::{ParseError, Refusal, Url, UrlRef, expand_path};
 use std::alloc::Global;
 use std::cmp::Ordering;
 
@@ -121,7 +121,17 @@ pub extern "C" fn call_bench_expand_path(alloc: Global, bytes: &[u8]) -> usize
     ensures { SaysOf IsExpandedLength bytes.now result }
 {
     match Url::from_bytes(alloc, BStr::new(bytes)) {
-        Ok(url) => counted::expand_path(alloc, &url),
+        Ok(url) => expanded(alloc, &url),
+        Err(_) => 0,
+    }
+}
+
+/// The same of a location, whose path is cut first.
+fn expanded(alloc: Global, url: &Url) -> usize
+    ensures { 0 < result → IsExpandedLength url.now result }
+{
+    match expand_path::parse(alloc, url.path.as_bstr()) {
+        Ok((user, rest)) => counted::expand_path(alloc, user.as_ref(), rest.as_bstr()),
         Err(_) => 0,
     }
 }
