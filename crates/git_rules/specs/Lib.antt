@@ -1,0 +1,7 @@
+-- What a user reads.
+pub mod Config
+pub mod Rewrites
+pub mod Normal
+pub mod Patterns
+pub mod Protocols
+pub mod SecureShell

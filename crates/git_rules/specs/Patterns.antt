@@ -1,0 +1,1 @@
+-- Patterns of places, and the best of those that match.

@@ -1,0 +1,1 @@
+-- Which transports may be used.

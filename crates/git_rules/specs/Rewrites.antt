@@ -1,0 +1,1 @@
+-- Locations that a configuration rewrites.

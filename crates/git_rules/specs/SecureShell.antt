@@ -1,0 +1,1 @@
+-- The words with which Git runs Secure Shell.

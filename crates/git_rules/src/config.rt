@@ -1,0 +1,1 @@
+//! The entries of a configuration, as `git config --list -z` writes them.

@@ -1,0 +1,1 @@
+//! Locations rewritten as by `url.<base>.insteadOf` and `pushInsteadOf`.
