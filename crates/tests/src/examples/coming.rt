@@ -1,4 +1,4 @@
-//! Uses of the Rust crate as they are written here: those of `docs/COMING_FROM_GIX_URL.md`.
+//! Uses of the Rust crate as they are written here, those of `docs/DIFFERENCES.md` among them.
 
 use bstr::{BStr, BString};
 use gix_url::{Error, Url, UrlFault, expand_path};
