@@ -2,7 +2,7 @@
 import os
 import re
 
-from rooms import methods, modules, targets
+from module_map import methods, modules, targets
 
 
 def uses_of(folder):

@@ -1,13 +1,16 @@
-"""Which room of a layer of the library uses which, and which lemmas are cited out of their topic: read from the files, and
-held against what `docs/ARCHITECTURE.md` says of it.
+#!/usr/bin/env python3
+"""A map of the library, read from its files: the modules of each layer, what each uses and what its head says; the
+definitions; and the topics of lemmas.
 
-usage: scripts/rooms.py      prints what each table should say of who uses what
+usage: scripts/module_map.py [LAYER ..]      prints the map, of the layers that are named or of all
 
-A room is a module with all that stands below it. It uses another where one of its files names it in a `use`, or calls a
-method that the other gives a location. What it uses of `std` isn't told, and of another crate no more than its name. A
-room at the root is said to use rooms at the root, one inside another its neighbours too.
+A module is taken with all below it. It uses another where one of its files names it in a `use`, or calls a method that the
+other gives a location. What it uses of `std` isn't listed, and of another crate no more than its name. For a module at the
+root the modules at the root are listed, for one inside another its neighbours too. `scripts/documents` asks for
+`faults()`: heads that name what their module doesn't use.
 """
 import glob
+import itertools
 import os
 import re
 import sys
@@ -25,7 +28,7 @@ def read(file):
     """The head of a file, and its code without comments and without what is said for the prover."""
     with open(file, encoding="utf-8") as it:
         text = it.read()
-    return " ".join(re.findall(r"(?m)^//! ?(.*)$", text)), re.sub(r"(?m)^ *(//|ghost ).*$", "", text)
+    return re.sub(r" +", " ", " ".join(re.findall(r"(?m)^//! ?(.*)$", text))), re.sub(r"(?m)^ *(//|ghost ).*$", "", text)
 
 
 def sources_of(layer):
@@ -112,7 +115,7 @@ def untrue_heads(layer):
 
 def cited():
     """The files of lemmas of each topic that are cited outside of it, in whatever layers it has files."""
-    found = {os.path.basename(it.rstrip("/")): set() for layer in LAYERS for it in glob.glob(f"{ROOT}/crates/{layer}/proofs/[A-Z]*/")}
+    found = {}
     cites = re.compile(rf"(?:Rattle\.({'|'.join(LAYERS)})\.|crate::)proofs(?:\.|::)([A-Z]\w*)(?:\.|::)(\w+)")
     for layer in LAYERS:
         for file in (it for part in ("src", "specs", "proofs") for it in glob.glob(f"{ROOT}/crates/{layer}/{part}/**/*.*t", recursive=True)):
@@ -123,45 +126,52 @@ def cited():
     return found
 
 
-def rows(title):
-    """The rows of the table under a title: the names in their first and in their last cells."""
-    with open(f"{ROOT}/docs/ARCHITECTURE.md", encoding="utf-8") as it:
-        table = it.read().partition(f"\n## {title}\n")[2].partition("\n## ")[0]
-    for line in table.split("\n"):
-        cells = [it.strip() for it in line.strip("|").split("|")]
-        if len(cells) == 3 and cells[0].startswith("`"):
-            yield re.findall(r"`([\w:]+)`", cells[0]), {*re.findall(r"`(\w+)`", cells[2])}
-
-
-def table_faults(title, found):
-    """Where a table says otherwise than the files, and what at the root it leaves out."""
-    told = set()
-    for names, said in rows(title):
-        told |= {*names}
-        wanted = set().union(*(found.get(it, set()) for it in names)) - {it.rpartition("::")[2] for it in names}
-        if said != wanted:
-            yield f"docs/ARCHITECTURE.md: the row of {' and '.join(names)} should say: {', '.join(f'`{it}`' for it in sorted(wanted)) or 'nothing'}"
-    for name in sorted({it for it in found if "::" not in it} - told):
-        yield f"docs/ARCHITECTURE.md: {title} leaves out {name}"
-    for name in sorted(told - {*found}):
-        yield f"docs/ARCHITECTURE.md: {title} tells of {name}, which isn't there"
-
-
 def faults():
-    """Where the tables of modules and of lemmas, and the heads of modules, say otherwise than the files."""
+    """Where the heads of modules say otherwise than the files."""
     for layer in LAYERS:
         yield from untrue_heads(layer)
-        yield from table_faults(f"Modules of `{layer}`", uses(layer))
-    yield from table_faults("Proofs (`proofs/`)", cited())
 
 
-def main():
-    for title, found in [*((f"Modules of `{it}`", uses(it)) for it in LAYERS), ("Proofs (`proofs/`)", cited())]:
-        print(f"## {title}\n")
-        for name, used in found.items():
-            print(f"| `{name}` | {', '.join(f'`{it}`' for it in sorted(used))} |")
-        print()
+def heading(file):
+    """The comment that a file of definitions or lemmas begins with."""
+    with open(file, encoding="utf-8") as it:
+        lines = itertools.takewhile(lambda line: line.startswith("--"), it)
+        return " ".join(line.removeprefix("--").strip() for line in lines)
+
+
+def listed(layer, part):
+    """The files that the `Lib.antt` of a folder lists, in its order."""
+    with open(f"{ROOT}/crates/{layer}/{part}/Lib.antt", encoding="utf-8") as it:
+        return re.findall(r"(?m)^(?:pub )?mod (\w+)", it.read())
+
+
+def modules_map(layer):
+    """A line for each module: its name, what its head says, and what it uses."""
+    known, found = modules(sources_of(layer)), uses(layer)
+    for path, file in sorted(known.items()):
+        used = ", ".join(f"`{it}`" for it in sorted(found["::".join(path)]))
+        yield f"| `{'::'.join(path)}` | {read(file)[0]} | {used} |"
+
+
+def layer_map(layer):
+    """The map of a layer: its modules, its definitions and its topics of lemmas."""
+    outside = cited()
+    yield f"# {layer}\n\n| Module | What its head says | Uses |\n|---|---|---|"
+    yield from modules_map(layer)
+    yield "\n| Definitions | |\n|---|---|"
+    yield from (f"| `{it}` | {heading(f'{ROOT}/crates/{layer}/specs/{it}.antt')} |" for it in listed(layer, "specs"))
+    yield "\n| Lemmas | | Cited by other topics |\n|---|---|---|"
+    for topic in listed(layer, "proofs"):
+        files = {os.path.basename(it).removesuffix(".antt") for it in glob.glob(f"{ROOT}/crates/{layer}/proofs/{topic}/*.antt")}
+        names = ", ".join(f"`{it}`" for it in sorted(outside.get(topic, set()) & files))
+        yield f"| `{topic}` | {heading(f'{ROOT}/crates/{layer}/proofs/{topic}.antt')} | {names} |"
+    yield ""
+
+
+def main(layers):
+    for layer in layers or LAYERS:
+        print("\n".join(layer_map(layer)))
 
 
 if __name__ == "__main__":
-    main()
+    main(sys.argv[1:])
