@@ -1,0 +1,184 @@
+#!/usr/bin/env python3
+"""Draws the pictures of the documents: a railroad diagram for each row of the grammar in docs/GRAMMAR.md, and a location cut
+into its fields.
+
+usage: scripts/pictures.py      writes docs/pictures/*.svg
+
+A row is `name = terms`: a quoted text is itself, a word is another row or a set of bytes, `[x]` may be missing, `{x}` occurs
+any number of times, `(x | y)` is one of them. `scripts/documents` asks for `faults()`: pictures that are not current.
+"""
+import os
+import re
+import sys
+from html import escape
+
+sys.dont_write_bytecode = True
+from kit import ROOT
+
+FOLDER = f"{ROOT}/docs/pictures"
+TOKEN = re.compile(r'\s*("[^"]*"|[\w-]+|[\[\](){}|])')
+# Columns of a character, the height of a row, the space around a box, and the radius of a curve.
+COLUMN, HEIGHT, GAP, CURVE = 8, 22, 10, 8
+STYLE = (
+    "svg{font:14px monospace;color-scheme:light dark}"
+    "path{fill:none;stroke:#777;stroke-width:1.5}"
+    "rect{fill:#eef3fb;stroke:#4a6fa5}rect.text{fill:#fdf3e1;stroke:#b07d2b}"
+    "text{fill:#222;text-anchor:middle;dominant-baseline:central}"
+    "@media(prefers-color-scheme:dark){rect{fill:#1d2a3f}rect.text{fill:#3a2e14}text{fill:#eee}}"
+)
+
+
+class Box:
+    """A text in a box. Like each part of a diagram it has a width, and how far it reaches above and below its line."""
+
+    def __init__(self, word):
+        self.is_text, self.word = word.startswith('"'), word.strip('"')
+        self.width, self.up, self.down = COLUMN * len(self.word) + 2 * GAP, HEIGHT // 2, HEIGHT // 2
+
+    def draw(self, x, y):
+        kind = ' class="text"' if self.is_text else ' rx="10"'
+        yield f'<rect x="{x}" y="{y - self.up}" width="{self.width}" height="{HEIGHT}"{kind}/>'
+        yield f'<text x="{x + self.width / 2:g}" y="{y}">{escape(self.word)}</text>'
+
+
+class Line:
+    """Nothing: the line alone."""
+
+    width = up = down = 0
+
+    def draw(self, x, y):
+        yield from ()
+
+
+class Sequence:
+    def __init__(self, parts):
+        self.parts = parts
+        self.width = sum(it.width for it in parts) + GAP * max(len(parts) - 1, 0)
+        self.up, self.down = (max((getattr(it, side) for it in parts), default=0) for side in ("up", "down"))
+
+    def draw(self, x, y):
+        for number, part in enumerate(self.parts):
+            if number:
+                yield f'<path d="M{x} {y}h{GAP}"/>'
+                x += GAP
+            yield from part.draw(x, y)
+            x += part.width
+
+
+class Choice:
+    """One of several, the first on the line and each other one below it."""
+
+    def __init__(self, parts):
+        self.parts = parts
+        self.width = max(it.width for it in parts) + 4 * CURVE
+        self.up = parts[0].up
+        self.down = parts[0].down + sum(GAP + max(it.up, CURVE) + it.down for it in parts[1:])
+
+    def draw(self, x, y):
+        below = y
+        for number, part in enumerate(self.parts):
+            if number:
+                below += self.parts[number - 1].down + GAP + max(part.up, CURVE)
+            start, inner = x + 2 * CURVE, self.width - 4 * CURVE
+            if below == y:
+                yield f'<path d="M{x} {y}h{2 * CURVE}"/><path d="M{start + part.width} {y}H{x + self.width}"/>'
+            else:
+                turn, back = f"q{CURVE} 0 {CURVE} {CURVE}", f"q0 {CURVE} {CURVE} {CURVE}"
+                yield f'<path d="M{x} {y}{turn}V{below - CURVE}{back}"/>'
+                yield f'<path d="M{start + part.width} {below}H{start + inner}q{CURVE} 0 {CURVE} -{CURVE}V{y + CURVE}q0 -{CURVE} {CURVE} -{CURVE}"/>'
+            yield from part.draw(start, below)
+
+
+class Repeat:
+    """Any number of times, with the way back below."""
+
+    def __init__(self, part):
+        self.part, self.width, self.up, self.down = part, part.width + 4 * CURVE, part.up, part.down + GAP + CURVE
+
+    def draw(self, x, y):
+        below, start = y + self.down, x + 2 * CURVE
+        yield f'<path d="M{x} {y}h{2 * CURVE}M{start + self.part.width} {y}h{2 * CURVE}"/>'
+        yield from self.part.draw(start, y)
+        yield f'<path d="M{start + self.part.width} {y}q{CURVE} 0 {CURVE} {CURVE}V{below - CURVE}q0 {CURVE} -{CURVE} {CURVE}H{start}q-{CURVE} 0 -{CURVE} -{CURVE}V{y + CURVE}q0 -{CURVE} {CURVE} -{CURVE}"/>'
+
+
+def parsed(tokens, closing=None):
+    """The terms up to a closing bracket, taken off the front of the tokens."""
+    choices, terms = [], []
+    while tokens and tokens[0] != closing:
+        token = tokens.pop(0)
+        if token == "|":
+            choices.append(Sequence(terms))
+            terms = []
+        elif token in "[{(":
+            inside = parsed(tokens, {"[": "]", "{": "}", "(": ")"}[token])
+            tokens.pop(0)
+            terms.append({"[": lambda it: Choice([Line(), it]), "{": lambda it: Choice([Line(), Repeat(it)]), "(": lambda it: it}[token](inside))
+        else:
+            terms.append(Box(token))
+    return Choice([*choices, Sequence(terms)]) if choices else Sequence(terms)
+
+
+def framed(width, height, marks):
+    return f'<svg xmlns="http://www.w3.org/2000/svg" width="{width:g}" height="{height:g}" viewBox="0 0 {width:g} {height:g}">\n<style>{STYLE}</style>\n' + "\n".join(marks) + "\n</svg>\n"
+
+
+def diagram(terms):
+    part = parsed(TOKEN.findall(terms))
+    width, height, y = part.width + 4 * GAP, part.up + part.down + 2 * GAP, part.up + GAP
+    ends = f'<path d="M{GAP} {y - 6}v12M{GAP} {y}h{GAP}M{2 * GAP + part.width} {y}h{GAP}M{3 * GAP + part.width} {y - 6}v12"/>'
+    return framed(width, height, [ends, *part.draw(2 * GAP, y)])
+
+
+def rows():
+    """The rows of the grammar, by their names."""
+    with open(f"{ROOT}/docs/GRAMMAR.md", encoding="utf-8") as it:
+        block = re.search(r"(?ms)^```text\n(helper = .*?)^```$", it.read())[1]
+    return dict(re.findall(r"(?m)^([\w-]+) += (.*)$", block))
+
+
+# A location, each field with its name, its colour in light, and what stands between.
+FIELDS = (("ssh", "scheme", "#8e44ad"), ("://", "", ""), ("git", "user", "#c0392b"), ("@", "", ""), ("example.com", "host", "#1f6fb2"),
+          (":", "", ""), ("2222", "port", "#b9770e"), ("/group/repo.git", "path", "#1e8449"))
+
+
+def location():
+    """A location cut into its coloured fields, with their names below."""
+    marks, x = [], 2 * GAP
+    for text, name, colour in FIELDS:
+        width = 12 * len(text)
+        fill = f' style="fill:{colour}"' if colour else ""
+        marks.append(f'<text x="{x + width / 2:g}" y="24" textLength="{width}" font-size="20"{fill}>{escape(text)}</text>')
+        if name:
+            marks.append(f'<path d="M{x + 1} 42h{width - 2}" style="stroke:{colour};stroke-width:3"/><text x="{x + width / 2:g}" y="58"{fill}>{name}</text>')
+        x += width
+    return framed(x + 2 * GAP, 74, marks)
+
+
+def pictures():
+    return {"location": location(), **{name: diagram(terms) for name, terms in rows().items()}}
+
+
+def faults():
+    """Which pictures aren't what this script draws, and which nothing shows."""
+    wanted = {f"{name}.svg": text for name, text in pictures().items()}
+    for name in sorted({*wanted, *(os.listdir(FOLDER) if os.path.isdir(FOLDER) else [])}):
+        path = f"{FOLDER}/{name}"
+        if name.endswith(".svg"):
+            stored = None
+            if os.path.exists(path):
+                with open(path, encoding="utf-8") as it:
+                    stored = it.read()
+            if stored != wanted.get(name):
+                yield f"docs/pictures/{name} isn't what scripts/pictures.py draws"
+
+
+def main():
+    os.makedirs(FOLDER, exist_ok=True)
+    for name, text in pictures().items():
+        with open(f"{FOLDER}/{name}.svg", "w", encoding="utf-8") as it:
+            it.write(text)
+
+
+if __name__ == "__main__":
+    main()
