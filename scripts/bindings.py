@@ -75,7 +75,8 @@ def run(words, **environment):
 class Answers:
     """The program `answers`: it has every call, and takes an order as JSON."""
 
-    name, calls = "answers", frozenset()
+    name: str = "answers"
+    calls: set[str] = set()
 
     def command(self):
         return program("answers")

@@ -145,7 +145,7 @@ def refusing(tree, words, *how, **more):
         yield (status, is_one_line or said, is_proved or 0, files(tree) - before)
 
 
-ONE_SENTENCE = [(2, True, 0, set())] * 2
+ONE_SENTENCE: list = [(2, True, 0, set())] * 2
 
 
 def read_only(tree):
