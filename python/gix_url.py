@@ -133,7 +133,7 @@ class Url:
             _check(_library.gix_url_path_query_fragment(*given))
             room, lengths = room or (ctypes.c_char * (needed.value + 1))(), lengths or (_size * (2 * count.value + 1))()
         query, cut, at = _bytes(parts.query), [], 0
-        for length in lengths[: 2 * parts.pair_count]:
+        for length in list(lengths or ())[: 2 * parts.pair_count]:
             cut.append(query[at : at + length])
             at += length
         pairs = None if query is None else list(zip(cut[::2], cut[1::2]))
