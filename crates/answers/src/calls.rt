@@ -1,6 +1,6 @@
 //! The table of calls, a line each, by what they are over.
 //!
-//! The names are those of the public functions of the library; behind a single colon stands what a trait gives. Each
+//! The names are those of the public functions of the library; behind a single colon is what a trait gives. Each
 //! function makes what its calls are over, and then makes the call, unless the order ends there.
 
 use crate::halt::Halt;
@@ -44,7 +44,7 @@ pub fn make(alloc: Global, order: &Order<'_>, out: &mut Out) -> Result<(), Halt>
     }
 }
 
-/// Whether a call is over an error, which may be told by the text that is refused with it.
+/// Whether a call is over an error, which may be reported by the text that is refused with it.
 fn is_over_error(name: &str) -> bool {
     name == "Error:fmt" || name == "Error::is_memory"
 }
@@ -79,7 +79,7 @@ fn over_room(alloc: Global, order: Order<'_>, text: &[u8], out: &mut Out) -> Res
     outcome
 }
 
-/// Reads a text into a room, and tells the location or shows the error.
+/// Reads a text into a room, and reports the location or shows the error.
 fn read_in(order: Order<'_>, text: &[u8], room: &mut [u8], out: &mut Out) -> Result<(), Halt> {
     match order.call() {
         "UrlRef::parse_in" => told(out, UrlRef::parse_in(text, room)),
@@ -272,7 +272,7 @@ fn fill_or_cut(alloc: Global, order: Order<'_>, url: &Url, out: &mut Out) -> Res
     }
 }
 
-/// Puts a location into room that holds these bytes, and tells what the call answers and what the room holds
+/// Puts a location into room that holds these bytes, and reports what the call answers and what the room holds
 /// then.
 fn fill(alloc: Global, order: Order<'_>, url: &UrlRef<'_>, out: &mut Out) -> Result<(), Halt> {
     let mut room = order.bytes(alloc, "room")?;
@@ -300,13 +300,13 @@ fn write_borrowed(url: &UrlRef<'_>, out: &mut Out) -> Result<(), Halt> {
     end_written(outcome, out)
 }
 
-/// Tells what stands before a text that is written.
+/// Reports what is before a text that is written.
 fn begin_written(out: &mut Out) -> Result<(), Halt> {
     tell_name(out, "{", "written")?;
     Ok(out.write_all(b"\"")?)
 }
 
-/// Tells what stands behind it, and the fault where there is no text.
+/// Reports what is behind it, and the fault where there is no text.
 fn end_written(outcome: Result<(), WriteError>, out: &mut Out) -> Result<(), Halt> {
     out.write_all(b"\"")?;
     match outcome {
@@ -442,7 +442,7 @@ fn times(path: &BString, asked: &str) -> u8 {
     }
 }
 
-/// Canonicalizes a location in its place, and tells how often its path was asked for.
+/// Canonicalizes a location in its place, and reports how often its path was asked for.
 fn canonicalize(
     mut url: Url,
     path: &BString,
@@ -457,7 +457,7 @@ fn canonicalize(
     told(out, ((outcome, asked), url))
 }
 
-/// Canonicalizes a copy of a location, and tells how often its path was asked for.
+/// Canonicalizes a copy of a location, and reports how often its path was asked for.
 fn canonicalized(
     alloc: Global,
     url: Url,
@@ -491,7 +491,7 @@ fn over_record(alloc: Global, order: Order<'_>, out: &mut Out) -> Result<(), Hal
     }
 }
 
-/// Tells the text of a record in JSON.
+/// Reports the text of a record in JSON.
 fn to_json(alloc: Global, record: StoredUrl, out: &mut Out) -> Result<(), Halt> {
     let json = serde_json::to_string(alloc, &record);
     drop(record);
@@ -556,7 +556,7 @@ fn show_record(alloc: Global, order: Order<'_>, json: &str, out: &mut Out) -> Re
     shown
 }
 
-/// Restores the location of a text of JSON, and tells the JSON that is stored of it.
+/// Restores the location of a text of JSON, and reports the JSON that is stored of it.
 fn again(alloc: Global, json: &str, out: &mut Out) -> Result<(), Halt> {
     match of_json(alloc, json) {
         Err(error) => told(out, Err::<(), serde_json::Error>(error)),
@@ -567,7 +567,7 @@ fn again(alloc: Global, json: &str, out: &mut Out) -> Result<(), Halt> {
     }
 }
 
-/// Tells the JSON that is stored of a location.
+/// Reports the JSON that is stored of a location.
 fn store(alloc: Global, url: Url, out: &mut Out) -> Result<(), Halt> {
     let stored = url.to_stored(alloc);
     drop(url);
@@ -660,7 +660,7 @@ fn over_home(
     }
 }
 
-/// Expands a path, and tells how often the home folder of the user was asked for; of another one it would be a hundred.
+/// Expands a path, and reports how often the home folder of the user was asked for; of another one it would be a hundred.
 fn expand_with(
     alloc: Global,
     user: &Option<ForUser>,

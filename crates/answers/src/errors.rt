@@ -19,7 +19,7 @@ impl Tell for Error {
     }
 }
 
-/// Tells the name of an error of reading, with the form and the fault, and the text that it keeps.
+/// Reports the name of an error of reading, with the form and the fault, and the text that it keeps.
 fn tell_fields(out: &mut Out, error: &Error) -> io::Result<()> {
     match error {
         Error::MissingPath { kind, input, .. } => {
@@ -70,12 +70,12 @@ fn tell_len(out: &mut Out, len: usize) -> io::Result<()> {
     write!(out, ",\"len\":{len}")
 }
 
-/// Tells the bytes that an error keeps.
+/// Reports the bytes that an error keeps.
 fn tell_kept(out: &mut Out, bytes: &BString) -> io::Result<()> {
     tell_member(out, "kept", &Some(bytes.as_bstr()))
 }
 
-/// Tells the name of any other error, and the name of the helper or the user.
+/// Reports the name of any other error, and the name of the helper or the user.
 fn tell_other(out: &mut Out, error: &Error) -> io::Result<()> {
     match error {
         Error::HelperName { name } => {
@@ -106,7 +106,7 @@ impl Tell for ParseError<'_> {
     }
 }
 
-/// Tells the name of a refusal, with the form and the fault, and the front that it shows.
+/// Reports the name of a refusal, with the form and the fault, and the front that it shows.
 fn tell_refusal(out: &mut Out, refusal: &Refusal<'_>) -> io::Result<()> {
     match refusal {
         Refusal::EmptyLocal => out.write_all(b"EmptyLocal\""),

@@ -19,7 +19,7 @@ pub enum Halt {
 }
 
 impl Halt {
-    /// The words that are told in place of an outcome.
+    /// The words that are reported in place of an outcome.
     pub fn words(self) -> &'static str {
         match self {
             Halt::Unread => "no order",

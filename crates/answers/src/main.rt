@@ -1,4 +1,4 @@
-//! Makes calls of the library and tells how each ended: what `scripts/vectors` asks for the rows of `vectors/`.
+//! Makes calls of the library and reports how each ended: what `scripts/vectors` asks for the rows of `vectors/`.
 //!
 //! Each line of the standard input is an order, one call as JSON, and is answered by one line of JSON. `order` reads
 //! orders, `made` makes what calls are over, `calls` is the table of calls, `tell` and `parts` tell outcomes.

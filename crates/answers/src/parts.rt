@@ -30,14 +30,14 @@ impl Tell for SchemeRef<'_> {
     }
 }
 
-/// Tells a name behind a word, as one text.
+/// Reports a name behind a word, as one text.
 fn tell_named(out: &mut Out, word: &str, name: &[u8]) -> io::Result<()> {
     write!(out, "\"{word}")?;
     crate::bytes::write_inside(out, name)?;
     out.write_all(b"\"")
 }
 
-/// Tells the parts of a location or a record, but its path and its spelling: the texts are user, password and host.
+/// Reports the parts of a location or a record, but its path and its spelling: the texts are user, password and host.
 fn tell_front(
     out: &mut Out,
     scheme: SchemeRef<'_>,
@@ -55,7 +55,7 @@ fn tell_front(
     tell_member(out, "alternative", &alternative.then_some(true))
 }
 
-/// Tells a path, and its spelling if it has one, and ends the parts.
+/// Reports a path, and its spelling if it has one, and ends the parts.
 fn tell_path(out: &mut Out, path: &[u8], spelling: Option<&[u8]>) -> io::Result<()> {
     tell_member(out, "path", &Some(BStr::new(path)))?;
     if let Some(spelling) = spelling {
@@ -138,7 +138,7 @@ impl Tell for ArgumentSafety<'_> {
     }
 }
 
-/// Tells what a text is to a command.
+/// Reports what a text is to a command.
 fn tell_judged(out: &mut Out, word: &str, text: &str) -> io::Result<()> {
     tell_name(out, "{", word)?;
     text.tell(out)?;
@@ -170,7 +170,7 @@ impl Tell for PathComponents<'_> {
     }
 }
 
-/// Tells the names and the values of a query.
+/// Reports the names and the values of a query.
 fn tell_fields(out: &mut Out, fields: &[(QueryText<'_>, QueryText<'_>)]) -> io::Result<()> {
     tell_name(out, ",", "query")?;
     let mut before = "[";

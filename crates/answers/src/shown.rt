@@ -1,4 +1,4 @@
-//! What is shown of values, as JSON: `shown`, and `failed` where the formatter was told so.
+//! What is shown of values, as JSON: `shown`, and `failed` where the formatter failed.
 
 use crate::bytes::write_inside;
 use crate::halt::Halt;
@@ -6,7 +6,7 @@ use crate::tell::Out;
 use std::fmt::{self, Write};
 use std::io;
 
-/// A formatter that tells what it is handed as the inside of a text of JSON.
+/// A formatter that reports what it gets as the inside of a text of JSON.
 #[derive(Drop)]
 struct Inside<'a> {
     out: &'a mut Out,
@@ -18,7 +18,7 @@ impl Write for Inside<'_> {
     }
 }
 
-/// Tells what is shown of a value in a style, and whether that failed.
+/// Reports what is shown of a value in a style, and whether that failed.
 pub fn show<T: fmt::Display + fmt::Debug>(
     out: &mut Out,
     style: &str,
@@ -29,21 +29,21 @@ pub fn show<T: fmt::Display + fmt::Debug>(
     end_shown(out, shown)
 }
 
-/// Tells what `Display` shows of a value, and whether that failed.
+/// Reports what `Display` shows of a value, and whether that failed.
 pub fn show_display<T: fmt::Display>(out: &mut Out, value: &T) -> Result<(), Halt> {
     io::Write::write_all(out, b"{\"shown\":\"")?;
     let shown = write!(Inside { out }, "{value}");
     end_shown(out, shown)
 }
 
-/// Tells what `Debug` shows of a value, and whether that failed.
+/// Reports what `Debug` shows of a value, and whether that failed.
 pub fn show_debug<T: fmt::Debug>(out: &mut Out, value: &T) -> Result<(), Halt> {
     io::Write::write_all(out, b"{\"shown\":\"")?;
     let shown = write!(Inside { out }, "{value:?}");
     end_shown(out, shown)
 }
 
-/// Ends what is told of a value that was shown.
+/// Ends what is reported of a value that was shown.
 fn end_shown(out: &mut Out, shown: fmt::Result) -> Result<(), Halt> {
     let end: &[u8] = if shown.is_ok() {
         b"\"}"

@@ -7,23 +7,23 @@ use bstr::{BStr, BString};
 use std::cmp::Ordering;
 use std::io::{self, BufWriter, Stdout, Write};
 
-/// Where outcomes are told.
+/// Where outcomes are reported.
 pub type Out = BufWriter<Stdout>;
 
 /// What can be the outcome of a call.
 pub trait Tell {
-    /// Tells the value as JSON.
+    /// Reports the value as JSON.
     fn tell(&self, out: &mut Out) -> io::Result<()>;
 }
 
-/// Tells a value that is owned, and drops it.
+/// Reports a value that is owned, and drops it.
 pub fn told<T: Tell + Drop>(out: &mut Out, value: T) -> Result<(), Halt> {
     let told = value.tell(out);
     drop(value);
     Ok(told?)
 }
 
-/// Tells a value that is lent.
+/// Reports a value that is lent.
 pub fn lent<T: Tell>(out: &mut Out, value: &T) -> Result<(), Halt> {
     Ok(value.tell(out)?)
 }
@@ -117,7 +117,7 @@ impl<A: Tell, B: Tell> Tell for (A, B) {
     }
 }
 
-/// Tells two values, one behind the other.
+/// Reports two values, one behind the other.
 pub fn tell_pair<A: Tell, B: Tell>(out: &mut Out, one: &A, other: &B) -> io::Result<()> {
     out.write_all(b"[")?;
     one.tell(out)?;
@@ -126,12 +126,12 @@ pub fn tell_pair<A: Tell, B: Tell>(out: &mut Out, one: &A, other: &B) -> io::Res
     out.write_all(b"]")
 }
 
-/// Tells the name of a member of an object, and what stands before it: `{` or `,`.
+/// Reports the name of a member of an object, and what is before it: `{` or `,`.
 pub fn tell_name(out: &mut Out, before: &str, name: &str) -> io::Result<()> {
     write!(out, "{before}\"{name}\":")
 }
 
-/// Tells a further member of an object, if there is a value for it.
+/// Reports a further member of an object, if there is a value for it.
 pub fn tell_member<T: Tell>(out: &mut Out, name: &str, value: &Option<T>) -> io::Result<()> {
     match value {
         None => Ok(()),
@@ -142,10 +142,10 @@ pub fn tell_member<T: Tell>(out: &mut Out, name: &str, value: &Option<T>) -> io:
     }
 }
 
-/// A writer that tells what it takes as the inside of a text of JSON.
+/// A writer that reports what it takes as the inside of a text of JSON.
 #[derive(Drop)]
 pub struct Taking<'a> {
-    /// Where that is told.
+    /// Where that is reported.
     pub out: &'a mut Out,
 }
 

@@ -1,5 +1,5 @@
--- What is told of a location that isn't read as it is: a public field by its name, as it is and as it is read. Nothing
--- is told of a password but that there is one.
+-- What is reported of a location that isn't read as it is: a public field by its name, as it is and as it is read. Nothing
+-- is reported of a password but that there is one.
 use Rattle.std.specs.Prelude.{◌≡◌, ℕ, Bool, true, false, List, ◌++◌, codes, decimal, bytes_eq, Option, Some, None, option_map, Ok, string_bytes, if◌then◌else◌}
 use Rattle.gix_url.specs.Value.{Protocol, Location}
 use Rattle.gix_url.specs.Value.Protocol.{file, git, ssh, http, https, ext, helper, helper_url}
@@ -21,7 +21,7 @@ is_helper ext = true
 is_helper (helper name) = true
 is_helper (helper_url name) = false
 
--- the words for a protocol: a remote helper is told as one
+-- the words for a protocol: a remote helper is reported as one
 abbrev pub scheme_words : Protocol → List ℕ
 scheme_words p = if is_helper p then codes "helper " ++ protocol_text p else protocol_text p
 
@@ -30,7 +30,7 @@ abbrev pub flag_word : Bool → List ℕ
 flag_word true = codes "true"
 flag_word false = codes "false"
 
--- what is told of the public field of this name, if there is one: its text, where there is something to tell
+-- what is reported of the public field of this name, if there is one: its text, where there is something to tell
 abbrev pub field_text : List ℕ → Location → Option (Option (List ℕ))
 field_text name v =
     if bytes_eq name (codes "scheme") then Some (Some (scheme_words v.scheme))

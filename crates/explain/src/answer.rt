@@ -148,7 +148,7 @@ fn one_part(alloc: Global, url: &Url, part: Part) -> Result<(String, bool), Allo
     Ok((only::line(alloc, url, part)?, url.is_settled()))
 }
 
-/// The answer as one line of JSON. Each part of an answer has a JSON, so it fails for want of memory alone.
+/// The answer as one line of JSON. Each part of an answer has a JSON, so it fails only where memory is refused.
 fn json(alloc: Global, answer: &Answer<'_, '_>) -> Result<String, AllocError> {
     match serde_json::to_string(alloc, answer) {
         Ok(mut line) => {

@@ -109,7 +109,7 @@ fn host_and_port(named: &[u8]) -> Option<(&[u8], Option<u16>)> {
     }
 }
 
-/// The path and the query before any fragment. No control character may stand in any of them.
+/// The path and the query before any fragment. No control character may be in any of them.
 fn path_and_query(rest: &[u8]) -> Option<(&[u8], &[u8])> {
     if has_control(rest) {
         return None;

@@ -2,7 +2,7 @@
 //!
 //! It reads the text again by `Url::reread` and looks for the first of the public fields, in declared order, that is
 //! another one. Its contract, memory permitting: there is an answer exactly where the location isn't settled, and a
-//! difference names a public field and tells it of the location and of the one that its text spells, a password as the
+//! difference names a public field and reports it of the location and of the one that its text spells, a password as the
 //! word `redacted`. That the field is the first, and the words, are no part of it.
 
 ghost use Rattle.std.specs.Prelude.{◌≡◌, ◌↔◌, IfOk, IfSome, IsNone, decimal, option_map, string_bytes};
@@ -64,7 +64,7 @@ impl Reread {
         }
     }
 
-    /// What is told where the text is read as this location.
+    /// What is reported where the text is read as this location.
     fn another(alloc: Global, url: &Url, other: &Url) -> Result<Reread, AllocError>
         ensures { IfOk result (λ it. IfSome it.difference (TellsField url.now other.now)) }
     {
@@ -76,7 +76,7 @@ impl Reread {
         })
     }
 
-    /// What is told where the text is refused so, unless it is memory that was wanting.
+    /// What is reported where the text is refused so, unless it is memory that was refused.
     fn refused(alloc: Global, error: &Error) -> Result<Reread, AllocError>
         ensures { IfOk result (λ it. IsNone it.difference) }
     {

@@ -181,7 +181,7 @@ fn is_name_byte(byte: u8) -> bool {
     byte.is_ascii_alphanumeric() || byte == b'+' || byte == b'-' || byte == b'.'
 }
 
-/// Whether a colon stands in the text before any `/`.
+/// Whether a colon is in the text before any `/`.
 fn is_remote(text: &[u8]) -> bool {
     match cut(text, b':') {
         Some((front, _)) => !front.contains(&b'/'),
@@ -223,7 +223,7 @@ fn secure<'a>(
     })
 }
 
-/// What Git's own protocol reaches: it has no user, and no end of a line may stand in its place and its path.
+/// What Git's own protocol reaches: it has no user, and no end of a line may be in its place and its path.
 fn own<'a>(
     place: &'a [u8],
     path: &'a [u8],
@@ -242,7 +242,7 @@ fn own<'a>(
     })
 }
 
-/// The word and the port for Secure Shell: where no port stood behind the host, one may stand in what was in its brackets.
+/// The word and the port for Secure Shell: where no port was behind the host, one may be in what was in its brackets.
 fn secure_port(named: &[u8], found: Option<u16>) -> (&[u8], Option<u16>) {
     if found.is_some() {
         return (named, found);
@@ -281,7 +281,7 @@ fn from_tilde(path: &[u8]) -> &[u8] {
 
 // ---- ports
 
-/// The host of a place without its brackets, and the port behind it; what else stands behind a `]` is dropped.
+/// The host of a place without its brackets, and the port behind it; what else is behind a `]` is dropped.
 fn host_and_port<'a>(
     place: &'a [u8],
     named: &'a mut Vec<u8>,
@@ -295,7 +295,7 @@ fn host_and_port<'a>(
     Ok((named.as_slice(), before_port(found.behind).1))
 }
 
-/// What stands before a port, and the port: the first colon alone may mark one.
+/// What is before a port, and the port: the first colon alone may mark one.
 fn before_port(text: &[u8]) -> (&[u8], Option<u16>) {
     match cut(text, b':') {
         Some((front, [])) => (front, None),
@@ -347,7 +347,7 @@ pub fn digits_port(digits: &[u8]) -> Option<u16> {
 
 // ---- brackets
 
-/// A host in brackets: what stands before them, in them and behind them.
+/// A host in brackets: what is before them, in them and behind them.
 #[derive(Clone, Copy)]
 struct Bracketed<'a> {
     front: &'a [u8],
@@ -368,7 +368,7 @@ fn in_brackets(text: &[u8]) -> Option<Bracketed<'_>>
     })
 }
 
-/// What stands before a bracket that opens a host and behind it: it is behind the first `@` that stands before one, or
+/// What is before a bracket that opens a host and behind it: it is behind the first `@` that is before one, or
 /// else at the front.
 fn opened_host(text: &[u8]) -> Option<(&[u8], &[u8])>
     ensures { IfSome result (λ it. length it.1.now < length text.now) }
@@ -454,7 +454,7 @@ pub fn digit(byte: u8) -> Option<u8>
     }
 }
 
-/// What stands before and behind the first byte.
+/// What is before and behind the first byte.
 fn cut(text: &[u8], byte: u8) -> Option<(&[u8], &[u8])>
     ensures { IfSome result (λ it. length it.1.now < length text.now) }
 {
@@ -462,13 +462,13 @@ fn cut(text: &[u8], byte: u8) -> Option<(&[u8], &[u8])>
     Some((text.split_at(at).0, text.split_at(at + 1).1))
 }
 
-/// What stands before and behind the last byte.
+/// What is before and behind the last byte.
 fn last_cut(text: &[u8], byte: u8) -> Option<(&[u8], &[u8])> {
     let at = text.rfind_byte(byte)?;
     Some((text.split_at(at).0, text.split_at(at + 1).1))
 }
 
-/// What stands before and behind the first `://`.
+/// What is before and behind the first `://`.
 fn cut_at_mark(text: &[u8]) -> Option<(&[u8], &[u8])> {
     let at = text.find(b"://")?;
     Some((text.split_at(at).0, text.split_at(at + 3).1))

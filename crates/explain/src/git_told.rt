@@ -1,7 +1,7 @@
 //! What Git reads in the own text of a location, where the library doesn't promise that it is the same.
 //!
-//! It uses `git` for the reading, `web` for what is in doubt of HTTP, and the public calls of `gix_url`. Its contract: no field is told of a location that has
-//! a password, which Git reads as a part of another one. The stored run shows what it tells, and `scripts/hostile people`
+//! It uses `git` for the reading, `web` for what is in doubt of HTTP, and the public calls of `gix_url`. Its contract: no field is reported of a location that has
+//! a password, which Git reads as a part of another one. The stored run shows what it reports, and `scripts/hostile people`
 //! its words.
 
 ghost use Rattle.std.specs.Prelude.{◌≡◌, IfOk, IfSome, IsSome, None};
@@ -30,7 +30,7 @@ pub struct GitReads {
     pub path: Option<String>,
     /// Whether all of these are the location's own, which no promise covers.
     pub same: bool,
-    /// Why none of these is told.
+    /// Why none of these is reported.
     pub why: Option<&'static str>,
     /// The same in words.
     #[serde(skip)]
@@ -38,7 +38,7 @@ pub struct GitReads {
 }
 
 impl GitReads {
-    /// What Git reads in the text of the location: nothing is told where that is known to be the same, where the text is
+    /// What Git reads in the text of the location: nothing is reported where that is known to be the same, where the text is
     /// for a remote helper by its scheme, and where there is no text.
     pub fn of(alloc: Global, url: &Url) -> Result<Option<GitReads>, AllocError>
         ensures hidden { IfOk result (λ reads. IfSome reads (λ it.
@@ -80,7 +80,7 @@ impl GitReads {
     }
 }
 
-/// What is told of a reading.
+/// What is reported of a reading.
 fn told(alloc: Global, url: &Url, found: &GitReading<'_>) -> Result<GitReads, AllocError> {
     let names = both(lossy(alloc, found.user)?, lossy(alloc, found.host))?;
     let parts = both(names, lossy(alloc, Some(found.path)))?;
@@ -97,7 +97,7 @@ fn told(alloc: Global, url: &Url, found: &GitReading<'_>) -> Result<GitReads, Al
     })
 }
 
-/// What is told where no field is.
+/// What is reported where no field is.
 fn without_fields(words: String, why: &'static str) -> GitReads
     ensures { (result.user ≡ None) × (result.host ≡ None) × (result.path ≡ None) }
 {
@@ -113,7 +113,7 @@ fn without_fields(words: String, why: &'static str) -> GitReads
     }
 }
 
-/// What is told of a text that holds a password.
+/// What is reported of a text that holds a password.
 fn withheld(alloc: Global) -> Result<GitReads, AllocError>
     ensures { IfOk result (λ it. (it.user ≡ None) × (it.host ≡ None) × (it.path ≡ None)) }
 {
@@ -124,7 +124,7 @@ fn withheld(alloc: Global) -> Result<GitReads, AllocError>
     Ok(without_fields(words, "Password"))
 }
 
-/// What is told of a text in which Git reads no place, unless it is memory that was wanting.
+/// What is reported of a text in which Git reads no place, unless it is memory that was refused.
 fn unread(alloc: Global, text: &[u8], why: Unread) -> Result<GitReads, AllocError>
     ensures { IfOk result (λ it. (it.user ≡ None) × (it.host ≡ None) × (it.path ≡ None)) }
 {
@@ -143,7 +143,7 @@ fn unread(alloc: Global, text: &[u8], why: Unread) -> Result<GitReads, AllocErro
     Ok(without_fields(String::from_str(alloc, words)?, name))
 }
 
-/// What is told of a text of HTTP in which the readers may read different places.
+/// What is reported of a text of HTTP in which the readers may read different places.
 fn in_doubt(alloc: Global, doubt: Doubt) -> Result<GitReads, AllocError>
     ensures { IfOk result (λ it. (it.user ≡ None) × (it.host ≡ None) × (it.path ≡ None)) }
 {
@@ -151,7 +151,7 @@ fn in_doubt(alloc: Global, doubt: Doubt) -> Result<GitReads, AllocError>
     Ok(without_fields(words, doubt.name()))
 }
 
-/// What is told of a local path that begins with `~`.
+/// What is reported of a local path that begins with `~`.
 fn in_two_places(alloc: Global, text: &[u8]) -> Result<GitReads, AllocError>
     ensures { IfOk result (λ it. (it.user ≡ None) × (it.host ≡ None) × (it.path ≡ None)) }
 {
@@ -309,7 +309,7 @@ fn port_difference(
     }
 }
 
-/// Appends what stands before a field: a comma, unless it is the first.
+/// Appends what is before a field: a comma, unless it is the first.
 fn begin(out: &mut String) -> Result<(), AllocError> {
     out.push_str(if out.as_str() == "reads" { " " } else { ", " })
 }

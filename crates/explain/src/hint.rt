@@ -235,7 +235,7 @@ impl<'b> Reading<'b> {
     }
 }
 
-/// What stands before the first mark, or all where there is none.
+/// What is before the first mark, or all where there is none.
 fn before<'a>(bytes: &'a [u8], mark: &[u8]) -> &'a [u8] {
     match bytes.split_once_str(mark) {
         Some((front, _)) => front,
@@ -243,7 +243,7 @@ fn before<'a>(bytes: &'a [u8], mark: &[u8]) -> &'a [u8] {
     }
 }
 
-/// What stands behind the last mark, or all where there is none.
+/// What is behind the last mark, or all where there is none.
 fn behind<'a>(bytes: &'a [u8], mark: &[u8]) -> &'a [u8] {
     match bytes.rsplit_once_str(mark) {
         Some((_, rest)) => rest,
@@ -279,7 +279,7 @@ fn begins_with_drive(line: &[u8]) -> bool {
     }
 }
 
-/// Whether the scheme is one of Git's but for its capitals.
+/// Whether the scheme is one of Git's except for its capitals.
 fn has_capital_scheme(line: &[u8]) -> bool {
     let Some((scheme, _)) = line.split_once_str(b"://") else {
         return false;
@@ -291,7 +291,7 @@ fn has_capital_scheme(line: &[u8]) -> bool {
             .any(|name| scheme.eq_ignore_ascii_case(name))
 }
 
-/// Whether the same quotes stand at both ends, or angle brackets.
+/// Whether the same quotes are at both ends, or angle brackets.
 fn is_quoted(line: &[u8]) -> bool {
     matches!(
         line,
@@ -343,7 +343,7 @@ fn is_user(user: &[u8]) -> bool {
             || matches!(byte, b'_' | b'.' | b'-'))
 }
 
-/// What stands below `tree` or `blob` in a path of GitHub, behind an owner and a repository.
+/// What is below `tree` or `blob` in a path of GitHub, behind an owner and a repository.
 fn is_page_of_github(path: &[u8]) -> Option<&[u8]> {
     let (owner, rest) = path.strip_prefix(b"/")?.split_once_str(b"/")?;
     let (repository, rest) = rest.split_once_str(b"/")?;

@@ -63,7 +63,7 @@ pub fn located<'a>(line: &'a [u8], fields: &Fields<'_>) -> Option<Cut<'a>> {
     }
 }
 
-/// The pieces of a line that is refused: what stands between the first `:` behind its first `://` and its last `@` may
+/// The pieces of a line that is refused: what is between the first `:` behind its first `://` and its last `@` may
 /// be a password.
 pub fn refused(line: &[u8]) -> Cut<'_> {
     match around_secret(line) {
@@ -103,7 +103,7 @@ enum Spelling {
     Number,
 }
 
-/// How a character is spelled that stands in these bytes; U+FFFD also stands for bytes that are no character.
+/// How a character is spelled that is in these bytes; U+FFFD also stands for bytes that are no character.
 fn spelled(character: char, bytes: &[u8]) -> Spelling {
     match character {
         '\0' => Spelling::Short("\\0"),

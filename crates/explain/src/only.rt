@@ -101,7 +101,7 @@ fn fragment(alloc: Global, out: &mut String, url: &Url) -> Result<(), AllocError
     fragment
 }
 
-/// Path, query and fragment. The call fails for want of memory alone.
+/// Path, query and fragment. The call fails only where memory is refused.
 fn components(alloc: Global, url: &Url) -> Result<PathComponents<'_>, AllocError> {
     url.path_query_fragment(alloc).map_err(no_memory)
 }

@@ -46,7 +46,7 @@ struct Region {
     len: usize,
 }
 
-/// What stands before each line.
+/// What is before each line.
 const INDENT: &str = "    ";
 /// The most columns of a line that is shown whole.
 const WIDEST: usize = 200;
@@ -106,7 +106,7 @@ fn write_names(out: &mut String, spans: &[Span; PIECES]) -> Result<(), AllocErro
     names(out, spans)
 }
 
-/// Appends the line, and says where its named pieces stand.
+/// Appends the line, and says where its named pieces are.
 fn write_pieces(
     out: &mut String,
     cut: &Cut<'_>,
@@ -128,7 +128,7 @@ fn write_pieces(
     out.push('\n')
 }
 
-/// Where a piece stands that has a name.
+/// The place of a piece that has a name.
 fn span_of(piece: &Piece<'_>, from: usize, columns: usize) -> Span {
     match name(piece.part()) {
         Some(name) => Span {
@@ -255,7 +255,7 @@ fn names(out: &mut String, spans: &[Span; PIECES]) -> Result<(), AllocError> {
     Ok(())
 }
 
-/// Appends a row of names, with a `|` for each that stands below it.
+/// Appends a row of names, with a `|` for each that is below it.
 fn names_in(
     out: &mut String,
     spans: &[Span; PIECES],
@@ -275,7 +275,7 @@ fn names_in(
     out.push('\n')
 }
 
-/// The row in which each name stands, from the last one on.
+/// The row in which each name is, from the last one on.
 fn rows_of(spans: &[Span; PIECES]) -> [usize; PIECES] {
     let mut rows = [0; PIECES];
     let mut taken = [usize::MAX; PIECES];

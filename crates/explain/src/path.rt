@@ -1,6 +1,6 @@
 //! What the path of a location means: its components, the home folder that it begins in, and what a shell takes.
 //!
-//! It uses the public calls of `gix_url`, and has no contract but that it can't abort. Bytes that are no UTF-8 are told
+//! It uses the public calls of `gix_url`, and has no contract but that it can't abort. Bytes that are no UTF-8 are reported
 //! as U+FFFD.
 
 use crate::told::both;
@@ -11,7 +11,7 @@ use serde::Serialize;
 use std::alloc::{AllocError, Global};
 use std::borrow::CowStr;
 
-/// What is told of the path of a location.
+/// What is reported of the path of a location.
 #[derive(Drop)]
 pub struct Meaning<'a> {
     pub components: Components<'a>,
@@ -56,7 +56,7 @@ pub struct Home {
     pub below: String,
 }
 
-/// The calls below fail for want of memory alone.
+/// The calls below fail only where memory is refused.
 pub fn no_memory(error: Error) -> AllocError {
     drop(error);
     AllocError
@@ -75,7 +75,7 @@ fn components_of<'a>(alloc: Global, url: &'a Url) -> Result<Components<'a>, Allo
     components
 }
 
-/// What is told of path, query and fragment.
+/// What is reported of path, query and fragment.
 fn told_components<'a>(
     alloc: Global,
     parts: &PathComponents<'a>,
@@ -155,7 +155,7 @@ fn path_with_slash(alloc: Global, url: &Url) -> Result<BString, AllocError> {
     Ok(path)
 }
 
-/// What is told of a home folder and the path below it.
+/// What is reported of a home folder and the path below it.
 fn told_home(
     alloc: Global,
     user: &Option<ForUser>,

@@ -500,7 +500,7 @@ fn in_host(web: bool, piece: Piece<'_>) -> Option<Place>
     }
 }
 
-/// Whether the first byte of a piece is a colon, or more than one colon stands in it.
+/// Whether the first byte of a piece is a colon, or more than one colon is in it.
 fn has_odd_colons(piece: &[u8]) -> bool {
     match piece.find_byte(b':') {
         Some(0) => true,
@@ -588,7 +588,7 @@ fn is_zone(zone: Piece<'_>) -> bool {
         && undecodable(zone).is_none()
 }
 
-/// Whether the byte may stand in a zone.
+/// Whether the byte may be in a zone.
 fn is_zone_byte(byte: u8) -> bool {
     byte.is_ascii_alphanumeric() || b"-._~%".contains(&byte)
 }
@@ -746,7 +746,7 @@ fn white_space_len(rest: &[u8]) -> usize {
     }
 }
 
-/// Whether the first byte may stand in the host of HTTP.
+/// Whether the first byte may be in the host of HTTP.
 fn starts_with_host_byte(rest: &[u8]) -> bool {
     match rest {
         [first, ..] => first.is_ascii_alphanumeric() || b"-._~!$&'()*+,;=%".contains(first),
@@ -754,7 +754,7 @@ fn starts_with_host_byte(rest: &[u8]) -> bool {
     }
 }
 
-/// Whether the first byte may stand in a scheme, behind its first letter.
+/// Whether the first byte may be in a scheme, behind its first letter.
 fn starts_with_scheme_byte(rest: &[u8]) -> bool {
     match rest {
         [first, ..] => first.is_ascii_alphanumeric() || b"+-.".contains(first),

@@ -13,9 +13,9 @@ use std::alloc::{AllocError, Global};
 pub struct Refusal {
     /// The name of the error.
     pub error: &'static str,
-    /// The form that the text was taken for, where the error tells it.
+    /// The form that the text was taken for, where the error reports it.
     pub kind: Option<&'static str>,
-    /// The name of what is wrong, where the error tells it.
+    /// The name of what is wrong, where the error reports it.
     pub fault: Option<&'static str>,
     /// The first byte of the line that is wrong, or where something is missing. A text that is no line has no place.
     pub at: Option<usize>,

@@ -1,4 +1,4 @@
-//! Answers laid out for people: a heading, and a row for each thing that is told.
+//! Answers laid out for people: a heading, and a row for each thing that is reported.
 //!
 //! Texts are in quotes with their control characters escaped, each byte in one way, so that no line of input can speak
 //! to a terminal. It uses what `told`, `danger`, `refusal` and `hint` found, and has no contract: `scripts/hostile people`

@@ -1,7 +1,7 @@
 //! A line cut into pieces, each of which has a name: what people are shown of how a location is read.
 //!
 //! It looks for the marks of the grammar and holds each piece against the field that the library reads: a cut is
-//! handed on only where every piece stands for its field. It uses the crates `bstr` and `percent_encoding` and nothing
+//! passed on only where every piece stands for its field. It uses the crates `bstr` and `percent_encoding` and nothing
 //! of this program, asks for no memory, and has no contract but that it can't abort. What a password is can't be had of
 //! a piece: outside of this module the word stands for it.
 
@@ -22,7 +22,7 @@ pub enum Part {
     Fragment,
     /// The name of a remote helper.
     Helper,
-    /// What a remote helper is handed.
+    /// What a remote helper gets.
     Address,
     /// What parts the others, as `://`.
     Mark,
@@ -108,7 +108,7 @@ impl<'a> Cut<'a> {
         Cut { pieces }
     }
 
-    /// A refused line around what may be a password: what stands before `://`, from there to the `:` before it, the
+    /// A refused line around what may be a password: what is before `://`, from there to the `:` before it, the
     /// secret, and what follows the `@` behind it.
     pub fn around_secret(
         front: &'a [u8],
@@ -192,7 +192,7 @@ fn split_scp_address<'a>(line: &'a [u8], fields: &Fields<'_>) -> Option<Cut<'a>>
     scp_cut(user, place, path, fields)
 }
 
-/// What stands before and behind the colon of the scp form: the first one, or in a text that begins with a bracket the
+/// What is before and behind the colon of the scp form: the first one, or in a text that begins with a bracket the
 /// first one behind the bracket that closes.
 fn scp_halves(line: &[u8]) -> Option<(&[u8], &[u8])> {
     if !line.starts_with(b"[") {
@@ -321,7 +321,7 @@ enum Spelling {
     Escaped,
 }
 
-/// What stands before a host, and what follows it.
+/// What is before a host, and what follows it.
 #[derive(Clone, Copy)]
 struct UserText<'a> {
     user: &'a [u8],
@@ -502,7 +502,7 @@ fn stands_for_scheme(text: &[u8], scheme: &[u8]) -> bool {
     text == scheme || (is_of_ssh && scheme == b"ssh".as_slice())
 }
 
-/// Whether a piece is spelled for the field, of which there is none where nothing stands.
+/// Whether a piece is spelled for the field, of which there is none where nothing is.
 fn stands_for(piece: &[u8], field: Option<&[u8]>, spelling: Spelling) -> bool {
     match field {
         None => piece.is_empty(),

@@ -1,8 +1,8 @@
-//! What is told of a location: its form, its parts, what its path means, and what it may be used for.
+//! What is reported of a location: its form, its parts, what its path means, and what it may be used for.
 //!
 //! It uses the public calls of `gix_url`, `path` for what the path means, `git_told` for what Git reads, and `difference`
-//! for a location that isn't settled. Its contract: where there is a password `redacted` is told, and whether a location is settled and agrees with
-//! Git as the definitions of the library have it. Bytes that are no UTF-8 are told as U+FFFD.
+//! for a location that isn't settled. Its contract: where there is a password `redacted` is reported, and whether a location is settled and agrees with
+//! Git as the definitions of the library have it. Bytes that are no UTF-8 are reported as U+FFFD.
 
 ghost use Rattle.std.specs.Prelude.{◌≡◌, ◌↔◌, IfOk, IsTrue, codes, option_map};
 ghost use Rattle.gix_url.specs.GitClass.{AgreesWithGit};
@@ -22,7 +22,7 @@ use std::alloc::{AllocError, Global};
 use std::borrow::CowStr;
 use std::fmt;
 
-/// What is told of a location.
+/// What is reported of a location.
 #[derive(Drop, Serialize)]
 pub struct Told<'a> {
     /// The form that it is written in.
@@ -41,7 +41,7 @@ pub struct Told<'a> {
     pub port_or_default: Option<u16>,
     /// The path, decoded.
     pub path: CowStr<'a>,
-    /// Whether the path is told byte for byte.
+    /// Whether the path is reported byte for byte.
     pub path_is_utf8: bool,
     /// The path as it was spelled.
     pub original_path: CowStr<'a>,
@@ -51,7 +51,7 @@ pub struct Told<'a> {
     pub home: Option<Home>,
     /// The path as a shell takes it, on a system of files.
     pub shell_path: Option<String>,
-    /// Whether parts may be handed to a command.
+    /// Whether parts may be given to a command.
     pub arguments: Arguments,
     /// The text, with `redacted` in place of the field `password`.
     pub text: Option<String>,
@@ -104,7 +104,7 @@ impl fmt::Display for Form {
 }
 
 impl<'a> Told<'a> {
-    /// What is told of this location.
+    /// What is reported of this location.
     pub fn of(alloc: Global, url: &'a Url) -> Result<Told<'a>, AllocError>
         ensures hidden { IfOk result (λ told. option_map (λ word. word.now) told.password
             ≡ option_map (λ _. codes "redacted") url.now.password) }
@@ -125,7 +125,7 @@ impl<'a> Told<'a> {
         Ok(Told::put_together(url, texts, meaning, reads, reread))
     }
 
-    /// What is told of this location, with what was made of it.
+    /// What is reported of this location, with what was made of it.
     fn put_together(
         url: &'a Url,
         texts: Texts<'a>,
@@ -205,7 +205,7 @@ fn in_text_of_web(
     )
 }
 
-/// The texts that are told of a location.
+/// The texts that are reported of a location.
 #[derive(Drop)]
 struct Texts<'a> {
     path: CowStr<'a>,
@@ -227,7 +227,7 @@ impl<'a> Texts<'a> {
     }
 }
 
-/// Both of two things, unless memory was wanting for the second.
+/// Both of two things, unless memory was refused for the second.
 pub(crate) fn both<A: Drop, B: Drop>(
     first: A,
     second: Result<B, AllocError>,

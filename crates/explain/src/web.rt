@@ -260,7 +260,7 @@ fn of_path(path: &[u8], written: &[u8]) -> Option<Doubt> {
     first_of(found.as_slice())
 }
 
-/// Whether what stands between two slashes is `.` or `..`, as far as a `?` in it.
+/// Whether what is between two slashes is `.` or `..`, as far as a `?` in it.
 fn is_dots(segment: &[u8]) -> bool {
     matches!(
         segment,

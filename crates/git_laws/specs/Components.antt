@@ -21,12 +21,12 @@ stands_for v piece = if matches v.spelling v.path then percent_decode piece else
 
 -- ---- the cuts
 
--- a text is cut at its first c: what stands before it, and what stands behind it, where there is one
+-- a text is cut at its first c: what is before it, and what is behind it, where there is one
 abbrev pub CutsText : ℕ → List ℕ → List ℕ → Option (List ℕ) → Type 0
 CutsText c text front None = FreeOf c text × (front ≡ text)
 CutsText c text front (Some behind) = FreeOf c front × (text ≡ front ++ c ∷ behind)
 
--- a fragment stands behind the first `#`, and before that a front, with or without a query behind its first `?`
+-- a fragment is behind the first `#`, and before that a front, with or without a query behind its first `?`
 abbrev pub CutsPath : List ℕ → List ℕ → Option (List ℕ) → Option (List ℕ) → Type 0
 CutsPath text front query fragment = (middle : List ℕ) × CutsText number_sign text middle fragment
     × CutsText question_mark middle front query

@@ -57,7 +57,7 @@ git_decode (b ∷ high ∷ low ∷ rest) =
 abbrev pub host_mark : List ℕ
 host_mark = codes "@["
 
--- a bracket opens a host: behind the first `@` that stands before one, or else at the front
+-- a bracket opens a host: behind the first `@` that is before one, or else at the front
 pub data OpensHost (t front rest : List ℕ) : Type 0 where
   behind_at : (user : List ℕ) → ¬ Holds host_mark user → front ≡ user ++ at_sign ∷ []
       → t ≡ user ++ (host_mark ++ rest) → OpensHost t front rest
@@ -74,7 +74,7 @@ pub data LacksHostBrackets (t : List ℕ) : Type 0 where
   unclosed : (front rest : List ℕ) → OpensHost t front rest → FreeOf right_bracket rest
       → LacksHostBrackets t
 
--- the text without what Git passes over to find the host's end: what stands before the closing `]`
+-- the text without what Git passes over to find the host's end: what is before the closing `]`
 pub data HostEnd (t passed rest : List ℕ) : Type 0 where
   brackets : (front inside behind : List ℕ) → InBrackets t front inside behind
       → passed ≡ front ++ left_bracket ∷ inside → rest ≡ right_bracket ∷ behind
@@ -120,7 +120,7 @@ abbrev pub git_port : List ℕ → Option ℕ
 git_port [] = None
 git_port (b ∷ bs) = if is_c_space b then git_port bs else signed_port (b ∷ bs)
 
--- what stands before a port, and the port: the first colon alone may mark one
+-- what is before a port, and the port: the first colon alone may mark one
 pub data BeforePort (t front : List ℕ) (port : Option ℕ) : Type 0 where
   marked : (digits : List ℕ) (number : ℕ) → FreeOf colon front → t ≡ front ++ colon ∷ digits
       → git_port digits ≡ Some number → port ≡ Some number → BeforePort t front port
@@ -129,7 +129,7 @@ pub data BeforePort (t front : List ℕ) (port : Option ℕ) : Type 0 where
       → 0 < length other → git_port other ≡ None → front ≡ t → port ≡ None → BeforePort t front port
   no_colon : FreeOf colon t → front ≡ t → port ≡ None → BeforePort t front port
 
--- the place's host without its brackets, and the port behind it; what else stands behind a `]` is dropped
+-- the place's host without its brackets, and the port behind it; what else is behind a `]` is dropped
 pub data HostAndPort (place host : List ℕ) (port : Option ℕ) : Type 0 where
   brackets : (front inside behind dropped : List ℕ) → InBrackets place front inside behind
       → host ≡ front ++ inside → BeforePort behind dropped port → HostAndPort place host port
@@ -143,7 +143,7 @@ from_tilde [] = []
 from_tilde (a ∷ []) = a ∷ []
 from_tilde (a ∷ b ∷ rest) = if b == tilde then b ∷ rest else a ∷ b ∷ rest
 
--- where no port stood behind the host, one may stand in what was in its brackets
+-- where no port was behind the host, one may be in what was in its brackets
 pub data SecurePort (named : List ℕ) (found : Option ℕ) (word : List ℕ)
     (port : Option ℕ) : Type 0 where
   behind : (number : ℕ) → found ≡ Some number → word ≡ named → port ≡ found
@@ -203,7 +203,7 @@ pub record ReachesGit (place path : List ℕ) (reading : GitReading) : Type 0 wh
 
 -- ---- texts
 
--- the text is a URL of a transport, and this stands behind its `://`, decoded
+-- the text is a URL of a transport, and this is behind its `://`, decoded
 pub record OwnUrl (protocol : Protocol) (t rest : List ℕ) : Type 0 where
   pub scheme : List ℕ
   pub spelled : List ℕ
@@ -218,7 +218,7 @@ pub record IsNoUrl (t : List ℕ) : Type 0 where
   pub no_empty_helper : (rest : List ℕ) → ¬ (t ≡ codes "::" ++ rest)
   pub no_rsync : (rest : List ℕ) → ¬ (t ≡ codes "rsync:" ++ rest)
 
--- a colon stands in the text before any `/`
+-- a colon is in the text before any `/`
 pub record IsRemote (t : List ℕ) : Type 0 where
   pub front : List ℕ
   pub rest : List ℕ

@@ -54,7 +54,7 @@ SameComponents = (v w : Location) (t : List ℕ) → IsValue v → IsWeb v → I
 
 -- ---- closure
 
--- the protocols of which all that is read is settled, but for corners
+-- the protocols of which all that is read is settled, except for corners
 abbrev pub is_closed : Protocol → Bool
 is_closed git = false
 is_closed ssh = false
@@ -74,7 +74,7 @@ pub data IsCorner (v : Location) : Type 0 where
   -- a location of HTTP whose text is too long
   web_length : IsWeb v → ¬ HasFittingText v → IsCorner v
 
--- what is spelled is settled, or stands in a corner
+-- what is spelled is settled, or is in a corner
 abbrev pub Closed : Type 0
 Closed = (b : List ℕ) (v : Location) → Spells b v → is_closed v.scheme ≡ true
     → IsSettled v ⊎ IsCorner v

@@ -10,7 +10,7 @@ use mathlib.Core.Bool.{beq}
 use Rattle.git_syntax.specs.Value.{Protocol, Location}
 use Rattle.git_syntax.specs.Value.Protocol.{file, git, ssh, http, https, ext, helper, helper_url}
 
--- where a protocol stands among the kinds of them, as they are declared
+-- where a protocol is among the kinds of them, as they are declared
 abbrev pub rank : Protocol → ℕ
 rank file = 0
 rank git = 1

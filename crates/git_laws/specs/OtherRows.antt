@@ -23,12 +23,12 @@ SlipRows =
 
 -- ---- corners
 
--- locations that stand in a corner
+-- locations that are in a corner
 abbrev pub CornerRows : Type 0
 CornerRows = IsCorner (at_host file (codes "a:%") (codes "/p"))
     × IsCorner (at_host http (codes "h%41:") (codes "/p"))
 
--- unsettled locations that stand in none
+-- unsettled locations that are in none
 abbrev pub NoCornerRows : Type 0
 NoCornerRows =
     ¬ IsCorner (at_host file (codes "a:b/c") (codes "/p"))

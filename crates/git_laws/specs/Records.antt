@@ -1,5 +1,5 @@
 -- Stored locations. A record of the legacy form has the spelling of the path in place of the path as well, and is
--- migrated: its path is decoded, and spelled anew.
+-- migrated: its path is decoded, and spelled again.
 use Rattle.std.specs.Prelude.{◌≡◌, ℕ, ◌+◌, ◌<◌, ◌≤◌, Bool, true, false, ◌&&◌, ◌||◌, ◌==◌, nat_lt, ◌↔◌, List, [], ◌∷◌, ◌++◌, bytes_eq, length, All, Option, Some, None, if◌then◌else◌}
 use Rattle.percent_encoding.specs.Percent.{percent_encode_byte, percent_decode}
 use Rattle.git_syntax.specs.Value.{Location}
@@ -12,7 +12,7 @@ use Rattle.git_syntax.specs.Escapes.{begins_with_digits, is_path_escaped}
 abbrev pub written_in_path : ℕ → List ℕ
 written_in_path b = if is_path_escaped b || nat_lt 127 b then percent_encode_byte b else b ∷ []
 
--- the byte is a `%`, and two hexadecimal digits stand behind it
+-- the byte is a `%`, and two hexadecimal digits are behind it
 abbrev pub begins_escape : ℕ → List ℕ → Bool
 begins_escape b behind = b == percent_sign && begins_with_digits behind
 

@@ -1,7 +1,7 @@
 //! Laws of the library, over the definitions of its contracts alone.
 //!
 //! The functions have no code and answer nothing: the contract of each is its laws. (`law_value` looks at the fields of
-//! a location, and changes nothing.) Those that are named here from other modules stand beside what they are laws of.
+//! a location, and changes nothing.) Those that are named here from other modules are beside what they are laws of.
 //! Users rely on them together with the contracts of `parse`, of the writer, of the settled test and of `lines`, which
 //! name the same definitions.
 
@@ -74,7 +74,7 @@ pub fn law_stored()
 
 /// What is read is settled, and the settled class is exact: of local files, HTTP, `ext` and remote helpers.
 ///
-/// - `closed`: a location of these kinds is settled if any bytes spell it, but for three corners: a host of a file URL
+/// - `closed`: a location of these kinds is settled if any bytes spell it, except for three corners: a host of a file URL
 ///   with `:` and `%`, a host of HTTP with `%` and a `:` at its end (both only where it doesn't begin with `[`), and a
 ///   location of HTTP whose text is too long to be read again. Who only reads meets no other unsettled one.
 /// - `apart`: no location in a corner is settled, so what is read is one or the other.
@@ -138,7 +138,7 @@ pub fn law_scheme_order()
 /// A line is answered by a line.
 ///
 /// - `one_line`: the answer to a line without byte 10 is one text without it, and byte 10. A settled location's text
-///   holds none, though its path or its user may: where it is written raw it stood in the line, and else it is escaped
+///   holds none, though its path or its user may: where it is written raw it was in the line, and else it is escaped
 ///   or the location isn't settled.
 /// - `line_for_line`: so what [`run`](git_lines::lines::run) writes splits at byte 10 into as many lines as its input does,
 ///   each the answer to the one at its place. Who pairs them takes no answer for that to another line.
@@ -149,7 +149,7 @@ pub fn law_lines()
     ensures one_split { OneSplit }
 {}
 
-/// What the path of a location is made of is determined, and equality tells it apart.
+/// What the path of a location is made of is determined, and equality distinguishes it.
 ///
 /// - `one`: each location has a path, a query and a fragment by the definition, and no two values of them. So what
 ///   `path_query_fragment` answers is said by the location alone.
@@ -180,7 +180,7 @@ pub fn law_stripped()
 ///
 /// - `alike`: a location that [`Url::agrees_with_git`](gix_url::Url::agrees_with_git) accepts has a text, and Git reads in
 ///   it the location's own protocol, user, host, port and path; of `git://` the host without brackets around it. So where credentials are picked by the host that is
-///   read here, and the text is then handed to Git, Git reads that host. Over HTTP two readers do: Git's credential code,
+///   read here, and the text is then given to Git, Git reads that host. Over HTTP two readers do: Git's credential code,
 ///   which asks helpers for a password, reads the location's own protocol, user, password, host and port, and its path
 ///   without the slashes around it; and a reader of URIs, which opens the connection, reads components that decode to the
 ///   location's own parts, without a fragment, and finds nothing to change in them. So a helper is asked for the host that

@@ -34,7 +34,7 @@ pub record SplitsLines (b : List ℕ) (lines : List (List ℕ)) : Type 0 where
   pub joined : b ≡ ended_lines full ++ last
   pub counted : lines ≡ full ++ last_line last
 
--- no line of the text is longer than this: nothing that stands in it without a line end is
+-- no line of the text is longer than this: nothing that is in it without a line end is
 abbrev pub HasLinesWithin : ℕ → List ℕ → Type 0
 HasLinesWithin most b = (before line behind : List ℕ) → FreeOf newline line
     → b ≡ before ++ (line ++ behind) → length line ≤ most
@@ -58,7 +58,7 @@ refusal_name (refusal.BadUrl kind named at len) = codes "BadUrl " ++ fault_name 
 abbrev pub told_line : List ℕ → List ℕ → List ℕ
 told_line word of_what = word ++ (tab ∷ (of_what ++ newline ∷ []))
 
--- what is told of a location, and whether it is settled
+-- what is reported of a location, and whether it is settled
 pub data IsTold (v : Location) (answer : List ℕ) (good : Bool) : Type 0 where
   -- a settled location: its text
   settled : (t : List ℕ) → text v ≡ Ok t → IsSettled v → answer ≡ told_line (codes "settled") t
@@ -74,9 +74,9 @@ pub data IsTold (v : Location) (answer : List ℕ) (good : Bool) : Type 0 where
 
 -- the answer to a line, and whether the line is settled
 pub data IsAnswer (line answer : List ℕ) (good : Bool) : Type 0 where
-  -- what is told of the one location that it spells
+  -- what is reported of the one location that it spells
   told : (v : Location) → Spells line v → IsTold v answer good → IsAnswer line answer good
-  -- a refusal whose flaw stands in it, so that it spells none (`RefusalExclusive`)
+  -- a refusal whose flaw is in it, so that it spells none (`RefusalExclusive`)
   refused : (r : Refusal) → NamesFlaw line r → answer ≡ told_line (codes "refused") (refusal_name r)
       → good ≡ false → IsAnswer line answer good
 
@@ -114,24 +114,24 @@ IsBeforeWriting run.Memory = Unit {0}
 IsBeforeWriting (run.Read e) = Unit {0}
 IsBeforeWriting (run.Write e) = ⊥
 
--- the call appended the answer to the line, and told whether it is settled, or memory was wanting
+-- the call appended the answer to the line, and told whether it is settled, or memory was refused
 abbrev pub AppendsAnswer : List ℕ → List ℕ → List ℕ → Result Bool RunError → Type 0
 AppendsAnswer line old new (Ok good) = (answer : List ℕ) × IsAnswer line answer good
     × (new ≡ old ++ answer)
 AppendsAnswer line old new (Err fault) = fault ≡ run.Memory
 
--- the call appended what is told of the location, and told whether it is settled, or memory was wanting
+-- the call appended what is reported of the location, and told whether it is settled, or memory was refused
 abbrev pub Tells : Location → List ℕ → List ℕ → Result Bool RunError → Type 0
 Tells v old new (Ok good) = (answer : List ℕ) × IsTold v answer good × (new ≡ old ++ answer)
 Tells v old new (Err fault) = fault ≡ run.Memory
 
--- the call appended the answer to a line that is refused so, or memory was wanting
+-- the call appended the answer to a line that is refused so, or memory was refused
 abbrev pub TellsRefusal : Refusal → List ℕ → List ℕ → Result Bool RunError → Type 0
 TellsRefusal r old new (Ok good) = (good ≡ false)
     × (new ≡ old ++ told_line (codes "refused") (refusal_name r))
 TellsRefusal r old new (Err fault) = fault ≡ run.Memory
 
--- the call appended these bytes, or memory was wanting
+-- the call appended these bytes, or memory was refused
 abbrev pub Puts : List ℕ → List ℕ → List ℕ → Result (Unit {0}) RunError → Type 0
 Puts bytes old new (Ok u) = new ≡ old ++ bytes
 Puts bytes old new (Err fault) = fault ≡ run.Memory

@@ -134,7 +134,7 @@ fn read_all<R: Read>(alloc: Global, input: &mut R) -> Result<Vec<u8>, RunError>
 }
 
 /// All bytes of a reader, or none where it hasn't ended after the most reads, each of which gave a byte at least. No
-/// clause outside can say so: what a reader of any type fails by is open, so nothing tells its faults from giving up.
+/// clause outside can say so: what a reader of any type fails by is open, so nothing distinguishes its faults from giving up.
 fn read_to_end<R: Read>(alloc: Global, input: &mut R) -> Result<Option<Vec<u8>>, RunError>
     ensures bytes { IfOk result
         (λ found. IfSome found (λ all. IfSome (R.remaining input.old) (λ b. all.items ≡ b))) }
@@ -211,7 +211,7 @@ fn answer(line: &[u8], room: &mut [u8], out: &mut Vec<u8>) -> Result<bool, RunEr
     }
 }
 
-/// Appends what is told of a location, and says whether it is settled. Its text is laid out once.
+/// Appends what is reported of a location, and says whether it is settled. Its text is laid out once.
 fn tell(url: UrlRef<'_>, out: &mut Vec<u8>) -> Result<bool, RunError>
     ensures { Tells url.entry out.old.items out.new.items result }
 {

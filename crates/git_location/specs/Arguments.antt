@@ -1,8 +1,8 @@
--- What may be handed to a command as an argument: a part that can't be taken for one of the command's options.
+-- What may be given to a command as an argument: a part that can't be taken for one of the command's options.
 use Rattle.std.specs.Prelude.{◌≡◌, ℕ, Bool, false, not, ◌&&◌, ◌==◌, List, [], ◌∷◌, Option, Some, None, if◌then◌else◌}
 use Rattle.git_syntax.specs.Bytes.{hyphen, slash, begins_with}
 
--- what a part is to a command line: there is none, it may be handed over, or it may be taken for an option
+-- what a part is to a command line: there is none, it may be passed, or it may be taken for an option
 pub data Judgement : Type 0 where
   absent : Judgement
   usable : List ℕ → Judgement
@@ -27,12 +27,12 @@ usable_text absent = None
 usable_text (usable text) = Some text
 usable_text (dangerous text) = None
 
--- a path that may be handed over: `/`, and behind it nothing or another byte than `-`
+-- a path that may be passed: `/`, and behind it nothing or another byte than `-`
 abbrev pub is_path_argument : List ℕ → Bool
 is_path_argument [] = false
 is_path_argument (b ∷ bs) = (b == slash) && not (is_option_like bs)
 
--- the path, whole, where it may be handed over
+-- the path, whole, where it may be passed
 abbrev pub path_argument : List ℕ → Option (List ℕ)
 path_argument path = if is_path_argument path then Some path else None
 

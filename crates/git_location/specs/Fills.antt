@@ -7,7 +7,7 @@ use Rattle.std.proofs.Common.{sym, ap, ◌∙◌, arith, append_assoc, append-ni
 use Rattle.git_location.specs.declared.write_error.WriteFault.{WriteFault}
 use Rattle.git_location.specs.declared.writer.fill.Filled.{Filled}
 
--- the text stands at the front of the room, if it fits, and the rest is as it was; where it doesn't fit, or
+-- the text is at the front of the room, if it fits, and the rest is as it was; where it doesn't fit, or
 -- there is none, all of the room is
 abbrev pub Placed : Result (List ℕ) WriteFault → List ℕ → List ℕ → Type 0
 Placed (Ok t) old new =

@@ -14,7 +14,7 @@ use Rattle.git_location.specs.Settled.{IsSettled}
 use Rattle.git_syntax.specs.Flaws.{NamesFlaw}
 
 -- the bytes spell a location, and the room is shorter than they are; or they spell none, and the flaw that the refusal
--- names stands in them
+-- names is in them
 abbrev pub RefusesIn : List ℕ → ℕ → ParseError → Type 0
 RefusesIn b room unread.NoRoom = ((v : Location) × Spells b v) × (room < length b)
 RefusesIn b room (unread.Refused why) = ((v : Location) → ¬ Spells b v) × NamesFlaw b why

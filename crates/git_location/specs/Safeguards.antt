@@ -16,7 +16,7 @@ abbrev pub UsableIsNoOption : Type 0
 UsableIsNoOption = (part : Option (List ℕ)) (text : List ℕ) → judgement_of part ≡ usable text
     → (part ≡ Some text) × (is_option_like text ≡ false)
 
--- the path that is handed over doesn't begin with `-`, and is the path itself
+-- the path that is passed on doesn't begin with `-`, and is the path itself
 abbrev pub PathIsNoOption : Type 0
 PathIsNoOption = (path text : List ℕ) → path_argument path ≡ Some text
     → (path ≡ text) × (is_option_like text ≡ false)

@@ -1,4 +1,4 @@
--- What the tests of the settled class tell of hosts and of texts on the way.
+-- What the tests of the settled class report of hosts and of texts on the way.
 use Rattle.std.specs.Prelude.{◌≡◌, ℕ, ◌+◌, false, ◌⊎◌, List, [], ◌∷◌, ◌++◌, length, drop, Option, MatchOption, Ok}
 use Rattle.std.specs.Borrow.{Bor}
 use Rattle.git_syntax.specs.Value.{Location}
@@ -19,7 +19,7 @@ abbrev pub IsBracketedLiteral : List ℕ → Type 0
 IsBracketedLiteral host = (n : List ℕ) × Literal n n
     × (host ≡ left_bracket ∷ (n ++ right_bracket ∷ []))
 
--- what stands between brackets, or none where the text isn't in brackets
+-- what is between brackets, or none where the text isn't in brackets
 abbrev pub StripsBrackets : List ℕ → Option (Bor (List ℕ)) → Type 0
 StripsBrackets host r = MatchOption r
     ((inner : List ℕ) → ¬ (host ≡ left_bracket ∷ (inner ++ right_bracket ∷ [])))

@@ -1,5 +1,5 @@
 -- What a place is after it took a text, for each sink, and that two texts taken are one: a formatter, and the walk of the
--- length test. What stands behind the text is any, so that texts join without counting.
+-- length test. What is behind the text is any, so that texts join without counting.
 use Rattle.std.specs.Prelude.{◌≡◌, ℕ, List, [], ◌∷◌, ◌++◌, refl}
 use Rattle.std.proofs.Common.{sym, ap, subst, ◌∙◌, append_assoc}
 use Rattle.std.specs.List.{FoldsTo}

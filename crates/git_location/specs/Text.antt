@@ -72,7 +72,7 @@ helper_text v = protocol_text v.scheme ++ (colon ∷ (colon ∷ v.path))
 abbrev pub has_colon : List ℕ → Bool
 has_colon text = list_any (λ b. b == colon) text
 
--- colons stand in the host, and no bracket at its front
+-- colons are in the host, and no bracket at its front
 abbrev pub wants_brackets : List ℕ → Bool
 wants_brackets host = has_colon host && not (begins_with left_bracket host)
 
@@ -115,7 +115,7 @@ keeps_host http = true
 keeps_host https = true
 keeps_host _ = false
 
--- a host outside brackets: as it is, or escaped, but for the colons of an address
+-- a host outside brackets: as it is, or escaped, except for the colons of an address
 abbrev pub open_host : Protocol → List ℕ → List ℕ
 open_host protocol host = if keeps_host protocol then host
     else (if is_ipv6_text host then percent_encode password_set host
@@ -150,7 +150,7 @@ plain_path http path = percent_encode path_set path
 plain_path https path = percent_encode path_set path
 plain_path _ path = path
 
--- the spelling where it matches the path, and else what stands in for it
+-- the spelling where it matches the path, and else what replaces it
 abbrev pub matching_or : Option (List ℕ) → List ℕ → List ℕ → List ℕ
 matching_or None path other = other
 matching_or (Some spelling) path other = if matches (Some spelling) path then spelling else other

@@ -1,9 +1,9 @@
-//! Which parts of a location may be handed to a command as arguments.
+//! Which parts of a location may be given to a command as arguments.
 //!
 //! A user, a host or a path that begins with `-` is taken for an option by the command that gets it, and options can
 //! run programs: `ssh://-oProxyCommand=..@host/repo` is such an attempt. It uses `bytes`, looks at fields and takes no
 //! memory. Its contract: each answer is the judgement of the definitions, and no text that begins with `-` is ever
-//! handed out as usable.
+//! returned as usable.
 
 ghost use Rattle.std.specs.Prelude.{◌≡◌, Some, IfSome, false, option_map};
 ghost use Rattle.bstr.specs.BStr.{bstr_bytes};
@@ -158,10 +158,10 @@ fn usable(part: ArgumentSafety<'_>) -> Option<&str>
     }
 }
 
-/// No text that may be taken for an option is handed out as an argument.
+/// No text that may be taken for an option is returned as an argument.
 ///
 /// - `usable`: what is judged usable is the part itself, and doesn't begin with `-`.
-/// - `path`: the path that is handed out is the location's own, and doesn't begin with `-`.
+/// - `path`: the path that is returned is the location's own, and doesn't begin with `-`.
 ///
 /// Users who choose a transport by [`ArgumentSafety`] know by this law that a command gets no option from a location.
 pub fn law_arguments()

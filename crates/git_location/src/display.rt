@@ -4,7 +4,7 @@
 //! the location's own, whatever width, precision and flags are asked for, so that two locations that differ in nothing
 //! but their passwords look alike; where there is no text it fails, and nothing is shown. It takes no memory.
 //!
-//! What a formatter was handed before it failed is in no contract: `fmt::Write` says what a call of a writer did only
+//! What a formatter was given before it failed is in no contract: `fmt::Write` says what a call of a writer did only
 //! where it returned `Ok`, so no clause can speak of the others. Tests show that it is a front of the right text.
 
 ghost use Rattle.std.specs.Prelude.{◌≡◌, None, IsErr, option_map};

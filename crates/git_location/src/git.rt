@@ -140,7 +140,7 @@ fn has_plain_parts(url: &UrlRef<'_>) -> bool
         && !holds_contested(url.path)
 }
 
-/// Whether the user or host, where there is one, stands in the text as it is, without a byte by which Git cuts it.
+/// Whether the user or host, where there is one, is in the text as it is, without a byte by which Git cuts it.
 fn is_plain_part(part: Option<&str>, is_no_url: bool, escaped: AsciiSet) -> bool
     ensures { IsTrue result
         ↔ IfSome (option_map (λ t. t.now) part.entry) (IsPlainPart is_no_url escaped) }
@@ -170,7 +170,7 @@ fn has_plain_host(url: &UrlRef<'_>) -> bool
     }
 }
 
-/// Whether the location is one of `git://`, and a bracket stands at the front of this host.
+/// Whether the location is one of `git://`, and a bracket is at the front of this host.
 fn is_bracketed_of_git(url: &UrlRef<'_>, host: &str) -> bool
     ensures { IsTrue result ↔ IsBracketedOfGit url.now host.now }
 {
@@ -184,7 +184,7 @@ fn is_contested(byte: u8) -> bool
     byte == 0 || byte == b'[' || byte == b']'
 }
 
-/// Whether such a byte stands in the text.
+/// Whether such a byte is in the text.
 fn holds_contested(text: &[u8]) -> bool
     ensures { result ≡ list_any is_contested text.now }
 {

@@ -2,7 +2,7 @@
 //!
 //! It uses `git_syntax::find`, which finds slices of the text, and `lend`, which makes the location of them. Its contract:
 //! the answer is the one location that the definitions spell with the bytes, a refusal comes only where they spell none,
-//! and what a refusal names stands in the bytes.
+//! and what a refusal names is in the bytes.
 
 ghost use Rattle.std.specs.Prelude.{length};
 ghost use Rattle.git_location.specs.Readings.{ReadsIn};
@@ -21,7 +21,7 @@ impl<'a> UrlRef<'a> {
     ///
     /// # Errors
     ///
-    /// [`ParseError::Refused`] where the bytes spell no location, with a flaw that stands in them, and
+    /// [`ParseError::Refused`] where the bytes spell no location, with a flaw that is in them, and
     /// [`ParseError::NoRoom`] where they spell one and the room is shorter than they are.
     ///
     /// ```

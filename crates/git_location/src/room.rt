@@ -88,7 +88,7 @@ fn named_in<'a>(host: NamedHost<'a>, room: &'a mut [u8]) -> (&'a [u8], &'a mut [
     (text, left)
 }
 
-/// The slice of a host, where it is the host's text as it stands.
+/// The slice of a host, where it is the host's text as it is.
 #[inline(always)]
 fn own_slice(host: NamedHost<'_>) -> Option<&[u8]>
     ensures { IfSome result (λ text. text.now ≡ named_text host.entry) }

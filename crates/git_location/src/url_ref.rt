@@ -11,7 +11,7 @@ use std::marker::Model;
 /// A Git location whose parts are borrowed, from a [`Url`] or from texts that a program has.
 ///
 /// Contracts see the same value in it as in a `Url`: eight parts, the retained spelling of its path among
-/// them. The fields are those of `Url`, and may be put together by hand; [`UrlRef::is_settled`] tells whether
+/// them. The fields are those of `Url`, and may be put together by hand; [`UrlRef::is_settled`] reports whether
 /// the location comes back from its own text. It owns nothing: making one, writing it and asking it takes no
 /// memory. `Display` shows `redacted` in place of the field `password`, as that of `Url` does; it has no `Debug`.
 ///

@@ -150,7 +150,7 @@ impl<'a> UrlRef<'a> {
         place(&self.canonical_pieces(self.password, &mut digits), room)
     }
 
-    /// The pieces of the text, or why there is none. The digits of the port stand in the buffer.
+    /// The pieces of the text, or why there is none. The digits of the port are in the buffer.
     pub fn own_pieces<'b>(&'b self, digits: &'b mut Buffer) -> Result<Pieces<'b>, WriteFault>
         ensures { text_of_pieces result ≡ text self.now }
     {

@@ -54,7 +54,7 @@ IsWithinLimit front [] whole = length whole ≤ 1024
 IsWithinLimit front (b ∷ back) whole = length front ≤ 1024
 
 -- a scheme and what follows its `://` are short enough: white space is taken out, slashes are skipped, and
--- what then stands before the first path start counts
+-- what then is before the first path start counts
 pub record Fits (scheme rest : List ℕ) : Type 0 where
   pub slashes : List ℕ
   pub front : List ℕ

@@ -111,7 +111,7 @@ begins_by test (b ∷ bs) = test b
 abbrev pub begins_with : ℕ → List ℕ → Bool
 begins_with c bs = begins_by (λ b. b == c) bs
 
--- the mark stands somewhere in the text
+-- the mark is somewhere in the text
 abbrev pub Holds : List ℕ → List ℕ → Type 0
 Holds mark bs = (front : List ℕ) × (rest : List ℕ) × (bs ≡ front ++ (mark ++ rest))
 

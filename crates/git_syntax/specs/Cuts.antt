@@ -15,7 +15,7 @@ CutsAt c b r = MatchOption r (FreeOf c b) (λ p. FreeOf c p.0.now × (b ≡ p.0.
 abbrev pub CutsAtLast : ℕ → List ℕ → Option (Bor (List ℕ) × Bor (List ℕ)) → Type 0
 CutsAtLast c b r = MatchOption r (FreeOf c b) (λ p. FreeOf c p.1.now × (b ≡ p.0.now ++ c ∷ p.1.now))
 
--- the pieces around the first `://`, or none where it stands nowhere
+-- the pieces around the first `://`, or none where it is nowhere
 abbrev pub CutsAtMark : List ℕ → Option (Bor (List ℕ) × Bor (List ℕ)) → Type 0
 CutsAtMark b r = MatchOption r (¬ Holds url_mark b)
     (λ p. (¬ Holds url_mark p.0.now) × (b ≡ p.0.now ++ (url_mark ++ p.1.now)))
@@ -24,7 +24,7 @@ CutsAtMark b r = MatchOption r (¬ Holds url_mark b)
 abbrev pub StripsFirst : ℕ → List ℕ → Option (Bor (List ℕ)) → Type 0
 StripsFirst c b r = MatchOption r (begins_with c b ≡ false) (λ rest. b ≡ c ∷ rest.now)
 
--- what stands before a last c, or none where the last byte is no c
+-- what is before a last c, or none where the last byte is no c
 abbrev pub StripsLast : ℕ → List ℕ → Option (Bor (List ℕ)) → Type 0
 StripsLast c b r = MatchOption r ((front : List ℕ) → ¬ (b ≡ front ++ c ∷ []))
     (λ front. b ≡ front.now ++ c ∷ [])

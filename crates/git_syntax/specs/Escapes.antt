@@ -32,7 +32,7 @@ abbrev pub matches : Option (List ℕ) → List ℕ → Bool
 matches None path = false
 matches (Some spelling) path = bytes_eq (percent_decode spelling) path
 
--- `%` stands somewhere in the text
+-- `%` is somewhere in the text
 abbrev pub has_percent : List ℕ → Bool
 has_percent bs = list_any (λ b. b == percent_sign) bs
 
@@ -44,7 +44,7 @@ is_printable_byte b = nat_lt space b && nat_lt b delete
 abbrev pub is_printable : List ℕ → Bool
 is_printable bs = list_all is_printable_byte bs
 
--- a printable byte of ASCII but for `%`
+-- a printable byte of ASCII except for `%`
 abbrev pub is_plain_byte : ℕ → Bool
 is_plain_byte b = nat_lt space b && (nat_lt b delete && not (b == percent_sign))
 

@@ -1,4 +1,4 @@
--- Flaws: what stands in a text that is refused. Each error names one, and the flaw that it names stands there. A flaw has
+-- Flaws: what is in a text that is refused. Each error names one, and the flaw that it names is there. A flaw has
 -- its place: it is the `len` bytes behind the first `at`.
 use Rattle.std.specs.Prelude.{◌≡◌, ℕ, ◌+◌, ◌<◌, ◌≤◌, Bool, true, false, ◌⊎◌, List, [], ◌∷◌, ◌++◌, length, take, codes, bytes_eq, Option, IsUtf8}
 use Rattle.std.specs.Str.{IsValidUpTo}
@@ -24,7 +24,7 @@ use Rattle.git_syntax.specs.Grammar.{HasHelperForm, ScpShape, AddressedShape, Is
 abbrev pub IsNoPort : Mode → List ℕ → Type 0
 IsNoPort mode text = (0 < length text) × ((port : ℕ) → ¬ Number mode text port)
 
--- something stands in a port's place that is no port: all that follows the colon
+-- something is in a port's place that is no port: all that follows the colon
 pub data HasBadPort (mode : Mode) (piece : List ℕ) (at len : ℕ) : Type 0 where
   -- behind a host outside brackets
   plain : (text digits : List ℕ) → IsPlainHost text → FreeOf colon digits
@@ -86,7 +86,7 @@ NameFlaw mode piece fault.HostRequired at len = ⊥
 
 -- ---- authorities
 
--- the piece of an authority behind the user information, of which so many bytes stand before it
+-- the piece of an authority behind the user information, of which so many bytes are before it
 pub data PieceOf (authority piece : List ℕ) (start : ℕ) : Type 0 where
   whole : FreeOf at_sign authority → piece ≡ authority → start ≡ 0 → PieceOf authority piece start
   behind : (information : List ℕ) → FreeOf at_sign piece
@@ -99,11 +99,11 @@ pub data HasBadUser (authority : List ℕ) (at len : ℕ) : Type 0 where
   user : (u piece : List ℕ) → FreeOf at_sign piece → FreeOf colon u
       → authority ≡ u ++ at_sign ∷ piece → ¬ IsUtf8 (percent_decode u)
       → at ≡ 0 → len ≡ length u → HasBadUser authority at len
-  -- what stands before its first colon is
+  -- what is before its first colon is
   user_before_password : (u w piece : List ℕ) → FreeOf at_sign piece → FreeOf colon u
       → authority ≡ (u ++ colon ∷ w) ++ at_sign ∷ piece → ¬ IsUtf8 (percent_decode u)
       → at ≡ 0 → len ≡ length u → HasBadUser authority at len
-  -- what stands behind that colon is the password
+  -- what is behind that colon is the password
   password : (u w piece : List ℕ) → FreeOf at_sign piece → FreeOf colon u
       → authority ≡ (u ++ colon ∷ w) ++ at_sign ∷ piece → ¬ IsUtf8 (percent_decode w)
       → at ≡ length u + 1 → len ≡ length w → HasBadUser authority at len
@@ -121,7 +121,7 @@ pub data AuthorityFlaw (mode : Mode) (needed : Bool) (authority : List ℕ) (at 
   bad_name : (piece : List ℕ) (named : UrlFault) (start place : ℕ)
       → PieceOf authority piece start → NameFlaw mode piece named place len
       → at ≡ start + place → AuthorityFlaw mode needed authority at len named
-  -- user information without a host, which would stand at the end
+  -- user information without a host, which would be at the end
   no_host : (information : List ℕ) → authority ≡ information ++ at_sign ∷ []
       → at ≡ length authority → len ≡ 0
       → AuthorityFlaw mode needed authority at len fault.BadCharacter
@@ -131,7 +131,7 @@ pub data AuthorityFlaw (mode : Mode) (needed : Bool) (authority : List ℕ) (at 
 
 -- ---- URLs
 
--- the text has the shape of a URL: it is no remote helper, and this stands before and behind its first `://`
+-- the text has the shape of a URL: it is no remote helper, and this is before and behind its first `://`
 pub record UrlShape (b front rest : List ℕ) : Type 0 where
   pub no_helper : ¬ HasHelperForm b
   pub first : ¬ Holds (codes "://") front
@@ -151,7 +151,7 @@ pub record UrlCut (b scheme authority path : List ℕ) : Type 0 where
 
 -- what is wrong with a URL, and where
 pub data UrlFlaw (b : List ℕ) (at len : ℕ) : UrlFault → Type 0 where
-  -- what stands before `://` is no scheme
+  -- what is before `://` is no scheme
   no_scheme : (front rest : List ℕ) → OtherShape b front rest → is_scheme_text front ≡ false
       → at ≡ 0 → len ≡ length front → UrlFlaw b at len fault.NoScheme
   -- white space, or a `%` that begins no escape
@@ -214,13 +214,13 @@ pub record ScpFlaw (b : List ℕ) (named : UrlFault) (at len : ℕ) : Type 0 whe
 
 -- a path is missing
 pub data MissesPath (b : List ℕ) : UrlKind → Type 0 where
-  -- no `/` stands behind the mark of a file URL
+  -- no `/` is behind the mark of a file URL
   in_file : (host : List ℕ) → FreeOf slash host → b ≡ codes "file://" ++ host
       → MissesPath b kind.Url
   -- nor behind that of a URL of Git's own transports
   in_url : (scheme authority : List ℕ) → requires_path (protocol_of scheme) ≡ true
       → FreeOf slash authority → b ≡ scheme ++ (codes "://" ++ authority) → MissesPath b kind.Url
-  -- nothing stands behind the colon of the scp form
+  -- nothing is behind the colon of the scp form
   in_scp : (front : List ℕ) → ScpShape b front [] → MissesPath b kind.Scp
   -- nor behind an address between brackets
   behind_address : (user address : List ℕ) → AddressedShape b user address []
@@ -254,8 +254,8 @@ KindFlaw b kind.Url named at len = UrlFlaw b at len named
 KindFlaw b kind.Scp named at len = ScpFlaw b named at len
 KindFlaw b kind.Local named at len = ⊥
 
--- the flaw that the refusal names stands in the bytes, at the place that it tells: a missing path would stand at the end,
--- and what is no UTF-8 is told by its first byte
+-- the flaw that the refusal names is in the bytes, at the place that it tells: a missing path would be at the end,
+-- and what is no UTF-8 is reported by its first byte
 abbrev pub NamesFlaw : List ℕ → Refusal → Type 0
 NamesFlaw b refusal.EmptyLocal = b ≡ []
 NamesFlaw b (refusal.MissingPath kind at) = MissesPath b kind × (at ≡ length b)

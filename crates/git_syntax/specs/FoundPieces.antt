@@ -23,7 +23,7 @@ use Rattle.git_syntax.specs.Grammar.{UrlParts, helper_protocol, path_for, retain
 
 -- ---- the host that Secure Shell takes
 
--- what stands before a last c, where the text ends in one
+-- what is before a last c, where the text ends in one
 abbrev pub front_of : ℕ → List ℕ → Option (List ℕ)
 front_of c [] = None
 front_of c (b ∷ []) = if b == c then Some [] else None

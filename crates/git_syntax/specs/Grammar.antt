@@ -74,7 +74,7 @@ abbrev pub IsBracketedColon : List ℕ → Type 0
 IsBracketedColon text = (inner : List ℕ)
     × (text ≡ left_bracket ∷ (inner ++ right_bracket ∷ (colon ∷ [])))
 
--- the text is free of `:`, but for one at its end, and has no bracket at its front
+-- the text is free of `:`, except for one at its end, and has no bracket at its front
 abbrev pub EndsInColon : List ℕ → Type 0
 EndsInColon text = (front : List ℕ) × FreeOf colon front × (begins_with left_bracket front ≡ false)
     × (text ≡ front ++ colon ∷ [])
@@ -145,7 +145,7 @@ MeansAs https b parts v = MeansByProtocol https parts v
 MeansAs (helper name) b parts v = MeansByProtocol (helper name) parts v
 MeansAs (helper_url name) b parts v = MeansByProtocol (helper_url name) parts v
 
--- a URL, but for those of the scheme `file`
+-- a URL, except for those of the scheme `file`
 pub record SpellsUrl (b : List ℕ) (v : Location) : Type 0 where
   pub parts : UrlParts
   pub spelled : SpellsParts b parts
@@ -163,7 +163,7 @@ pub record SpellsFile (b : List ℕ) (v : Location) : Type 0 where
 
 -- ---- the scp form (git-clone, "GIT URLS")
 
--- a front before a colon that may be a user and a host: it is free of `:`, or its colons stand between brackets
+-- a front before a colon that may be a user and a host: it is free of `:`, or its colons are between brackets
 pub data ScpFront (b front : List ℕ) : Type 0 where
   plain : FreeOf colon front → (begins_with left_bracket front ≡ false) ⊎ FreeOf right_bracket b
       → ScpFront b front

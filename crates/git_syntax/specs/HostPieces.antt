@@ -1,4 +1,4 @@
--- What the slices stand for that the reader of hosts answers, and what it tells of them.
+-- What the slices stand for that the reader of hosts answers, and what it reports of them.
 use Rattle.std.specs.Prelude.{◌≡◌, ◌<◌, ℕ, Bool, true, false, ◌||◌, ◌==◌, ◌⊎◌, List, [], ◌∷◌, ◌++◌, length, Option, Some, None, codes, option_map, Result, MatchResult, if◌then◌else◌}
 use Rattle.std.specs.List.{list_all}
 use Rattle.std.specs.Char.{is_ascii_digit, is_ascii_lowercase, to_ascii_lowercase}
@@ -80,7 +80,7 @@ normal_case (Literal text) host = lowercase_address host
 normal_case (DecodedLiteral text) host = lowercase_address host
 normal_case (Bracketed text) host = host
 
--- brackets stand around the host
+-- brackets are around the host
 abbrev pub is_bracketed : HostPiece → Bool
 is_bracketed (Simple text) = false
 is_bracketed (Address text) = false
@@ -112,7 +112,7 @@ EndsHost rest = (rest ≡ []) ⊎ (begins_with colon rest ≡ true)
 abbrev pub IsEscapedZone : List ℕ → Type 0
 IsEscapedZone text = (zone : List ℕ) × IsZone zone × (text ≡ codes "25" ++ zone)
 
--- what the host of a literal holds, which is decoded but for HTTP
+-- what the host of a literal holds, which is decoded except for HTTP
 abbrev pub shown_literal : Mode → List ℕ → List ℕ
 shown_literal strict text = lowercase_address text
 shown_literal bare text = lowercase_address (percent_decode text)

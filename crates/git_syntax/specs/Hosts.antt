@@ -1,4 +1,4 @@
--- Hosts and ports: what may stand behind the user information of an authority, in three modes of strictness.
+-- Hosts and ports: what may be behind the user information of an authority, in three modes of strictness.
 use Rattle.std.specs.Prelude.{◌≡◌, ℕ, ◌<◌, ◌≤◌, Bool, true, false, ◌||◌, nat_le, ◌&&◌, ◌⊎◌, List, [], ◌∷◌, ◌++◌, length, codes, Option, Some, None, IsUtf8, if◌then◌else◌}
 use Rattle.std.specs.List.{list_all}
 use Rattle.std.specs.Char.{is_ascii_alphanumeric, is_ascii_digit}
@@ -18,7 +18,7 @@ abbrev pub is_dns_byte : ℕ → Bool
 is_dns_byte b = is_ascii_alphanumeric b || is_one_of (codes "-._*") b
 
 -- a byte that the host of an HTTP location may hold: a letter, a digit or one of `-._~!$&'()*+,;=%`, of which those from
--- `$` to `.` stand side by side
+-- `$` to `.` are side by side
 abbrev pub is_http_host_byte : ℕ → Bool
 is_http_host_byte b = is_ascii_alphanumeric b
     || ((nat_le dollar_sign b && nat_le b dot) || is_one_of (codes "!;=_~") b)
@@ -90,7 +90,7 @@ pub record IsPlainHost (text : List ℕ) : Type 0 where
   pub no_colon : FreeOf colon text
   pub no_bracket : begins_with left_bracket text ≡ false
 
--- what stands behind the user information names a host and a port
+-- what is behind the user information names a host and a port
 pub data Names (mode : Mode) (piece : List ℕ) (host : Option (List ℕ))
     (port : Option ℕ) : Type 0 where
   -- nothing

@@ -9,7 +9,7 @@ use Rattle.git_syntax.specs.Escapes.{is_plain, is_printable, is_sound}
 abbrev pub begins_high : List ℕ → Bool
 begins_high text = begins_by (λ b. nat_le 56 b) text
 
--- such a byte stands behind some `%`
+-- such a byte is behind some `%`
 abbrev pub has_high_escape : List ℕ → Bool
 has_high_escape [] = false
 has_high_escape (b ∷ bs) = (b == percent_sign && begins_high bs) || has_high_escape bs

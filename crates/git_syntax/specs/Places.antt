@@ -1,11 +1,11 @@
--- Places in texts: where a byte, a broken escape or white space stands first.
+-- Places in texts: where a byte, a broken escape or white space is first.
 use Rattle.std.specs.Prelude.{◌≡◌, ℕ, true, false, List, ◌∷◌, ◌++◌, length, encode_utf8, encode_utf8_all}
 use Rattle.std.specs.List.{list_any}
 use Rattle.std.specs.Char.{is_whitespace}
 use Rattle.git_syntax.specs.Bytes.{percent_sign, FreeOf}
 use Rattle.git_syntax.specs.Escapes.{is_sound, begins_with_digits}
 
--- the first c of the text stands behind its first `at` bytes
+-- the first c of the text is behind its first `at` bytes
 pub record StandsFirst (c : ℕ) (text : List ℕ) (at : ℕ) : Type 0 where
   pub before : List ℕ
   pub behind : List ℕ
@@ -13,7 +13,7 @@ pub record StandsFirst (c : ℕ) (text : List ℕ) (at : ℕ) : Type 0 where
   pub joined : text ≡ before ++ c ∷ behind
   pub offset : at ≡ length before
 
--- the first `%` that no two hexadecimal digits follow stands behind the first `at` bytes
+-- the first `%` that no two hexadecimal digits follow is behind the first `at` bytes
 pub record StandsBroken (text : List ℕ) (at : ℕ) : Type 0 where
   pub before : List ℕ
   pub behind : List ℕ

@@ -20,11 +20,11 @@ place_end (refusal.NotUtf8 kind at) = at + 1
 place_end (refusal.TooLong shown total at len) = at + len
 place_end (refusal.BadUrl kind named at len) = at + len
 
--- that place stands in the text
+-- that place is in the text
 abbrev pub RefusalWithin : Type 0
 RefusalWithin = (b : List ℕ) (r : Refusal) → NamesFlaw b r → place_end r ≤ length b
 
--- a flaw stands in the bytes, at some place: one of those that errors name, without the copy that an error holds
+-- a flaw is in the bytes, at some place: one of those that errors name, without the copy that an error holds
 pub data HasFlaw (b : List ℕ) : Type 0 where
   empty : b ≡ [] → HasFlaw b
   no_path : (taken_for : UrlKind) → MissesPath b taken_for → HasFlaw b
@@ -33,10 +33,10 @@ pub data HasFlaw (b : List ℕ) : Type 0 where
   bad_url : (taken_for : UrlKind) (named : UrlFault) (at len : ℕ)
       → KindFlaw b taken_for named at len → HasFlaw b
 
--- no flaw stands in bytes that spell a location
+-- no flaw is in bytes that spell a location
 abbrev pub Flawless : Type 0
 Flawless = (b : List ℕ) (v : Location) → Spells b v → ¬ HasFlaw b
 
--- bytes spell a location, or a flaw stands in them
+-- bytes spell a location, or a flaw is in them
 abbrev pub Decided : Type 0
 Decided = (b : List ℕ) → ((v : Location) × Spells b v) ⊎ HasFlaw b

@@ -17,7 +17,7 @@ pub record CutsUser (front : List ℕ) (user : Option (Bor (List ℕ))) (host : 
   pub split : ScpUser front (option_copied user) host
   pub no_at : FreeOf at_sign host
 
--- each colon of the text stands before its first closing bracket
+-- each colon of the text is before its first closing bracket
 abbrev pub ColonsInside : List ℕ → Type 0
 ColonsInside text = FreeOf colon text
     ⊎ ((inside : List ℕ) × (rest : List ℕ) × FreeOf right_bracket inside × FreeOf colon rest

@@ -20,11 +20,11 @@ pub record FrontCut (b front path : List ℕ) : Type 0 where
   pub joined : b ≡ front ++ colon ∷ path
   pub shape : ScpFront b front
 
--- such a colon stands in the text
+-- such a colon is in the text
 abbrev pub HasFrontCut : List ℕ → Type 0
 HasFrontCut b = (front : List ℕ) × (path : List ℕ) × FrontCut b front path
 
--- no bracket stands at the front of the text, or none closes it
+-- no bracket is at the front of the text, or none closes it
 abbrev pub LacksBrackets : List ℕ → Type 0
 LacksBrackets b = (begins_with left_bracket b ≡ false) ⊎ FreeOf right_bracket b
 
@@ -33,7 +33,7 @@ pub record ScpCut (b front path : List ℕ) : Type 0 where
   pub around : FrontCut b front path
   pub no_slash : FreeOf slash front
 
--- such a colon stands in the text before any `/`
+-- such a colon is in the text before any `/`
 abbrev pub HasScpCut : List ℕ → Type 0
 HasScpCut b = (front : List ℕ) × (path : List ℕ) × ScpCut b front path
 
@@ -42,11 +42,11 @@ abbrev pub HasAddressedCut : List ℕ → Type 0
 HasAddressedCut b = (user : List ℕ) × (address : List ℕ) × (path : List ℕ)
     × AddressedCut b user address path
 
--- a user, `@[` and what stands behind it
+-- a user, `@[` and what is behind it
 abbrev pub addressed_text : List ℕ → List ℕ → List ℕ
 addressed_text user behind = user ++ at_sign ∷ (left_bracket ∷ behind)
 
--- the user, and what stands behind its `@[`, of all such pieces that the text may have
+-- the user, and what is behind its `@[`, of all such pieces that the text may have
 pub record AddressedFront (b user behind : List ℕ) : Type 0 where
   pub joined : b ≡ user ++ at_sign ∷ (left_bracket ∷ behind)
   pub no_colon : FreeOf colon user

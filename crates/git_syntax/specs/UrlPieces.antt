@@ -1,4 +1,4 @@
--- What the slices stand for that the reader of URLs answers, and what it tells of them.
+-- What the slices stand for that the reader of URLs answers, and what it reports of them.
 use Rattle.std.specs.Prelude.{◌≡◌, ℕ, ◌+◌, Bool, true, ◌⊎◌, List, [], ◌∷◌, ◌++◌, length, Option, option_map, IfSome, IsSome, IsUtf8, Result, MatchResult}
 use Rattle.std.specs.Borrow.{Bor}
 use Rattle.percent_encoding.specs.Percent.{percent_decode}

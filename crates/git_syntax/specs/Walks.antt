@@ -13,7 +13,7 @@ use Rattle.git_syntax.specs.Schemes.{is_web_scheme}
 abbrev pub is_skipped : ℕ → Bool
 is_skipped b = is_any_slash b || is_ascii_whitespace b
 
--- what stands behind the slashes at the front
+-- what is behind the slashes at the front
 abbrev pub without_slashes : List ℕ → List ℕ
 without_slashes [] = []
 without_slashes (b ∷ bs) = if is_any_slash b then without_slashes bs else b ∷ bs

@@ -1,7 +1,7 @@
 //! Cuts of a text around a byte or a mark, tests of its bytes, and bytes put where there is room.
 //!
 //! It stands on the searches of `bstr` and `memchr`, asks for no memory and uses nothing else of this crate. What a cut
-//! answers is told as a concatenation: the pieces joined are the text, and one of them is free of what was
+//! answers is reported as a concatenation: the pieces joined are the text, and one of them is free of what was
 //! searched for, so that no caller sees an index.
 
 ghost use Rattle.std.specs.Prelude.{◌≡◌, ◌↔◌, ◌+◌, ◌≤◌, ◌++◌, IsTrue, length, take, vec_capacity, vec_len};
@@ -13,7 +13,7 @@ ghost use Rattle.git_syntax.specs.Cuts.{CutsAt, CutsAtLast, CutsAtMark, StripsFi
 use bstr::ByteSlice;
 use memchr::memchr3;
 
-/// What stands before and behind the first `c`.
+/// What is before and behind the first `c`.
 pub fn cut(bytes: &[u8], c: u8) -> Option<(&[u8], &[u8])>
     ensures { CutsAt c bytes.now result }
 {
@@ -21,7 +21,7 @@ pub fn cut(bytes: &[u8], c: u8) -> Option<(&[u8], &[u8])>
     Some((bytes.split_at(at).0, bytes.split_at(at + 1).1))
 }
 
-/// What stands before and behind the last `c`.
+/// What is before and behind the last `c`.
 pub fn last_cut(bytes: &[u8], c: u8) -> Option<(&[u8], &[u8])>
     ensures { CutsAtLast c bytes.now result }
 {
@@ -29,7 +29,7 @@ pub fn last_cut(bytes: &[u8], c: u8) -> Option<(&[u8], &[u8])>
     Some((bytes.split_at(at).0, bytes.split_at(at + 1).1))
 }
 
-/// What stands before and behind the first `://`.
+/// What is before and behind the first `://`.
 pub fn cut_at_mark(bytes: &[u8]) -> Option<(&[u8], &[u8])>
     ensures { CutsAtMark bytes.now result }
 {
@@ -47,7 +47,7 @@ pub fn after(bytes: &[u8], c: u8) -> Option<&[u8]>
     }
 }
 
-/// What stands before a last byte `c`.
+/// What is before a last byte `c`.
 pub fn before(bytes: &[u8], c: u8) -> Option<&[u8]>
     ensures { StripsLast c bytes.now result }
 {

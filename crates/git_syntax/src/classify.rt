@@ -66,7 +66,7 @@ fn classify_whole(bytes: &[u8]) -> Shape<'_>
     }
 }
 
-/// The form of a text, by what stands before and behind its first colon.
+/// The form of a text, by what is before and behind its first colon.
 fn classify_cut<'a>(bytes: &'a [u8], front: &'a [u8], rest: &'a [u8]) -> Shape<'a>
     requires { ColonCut bytes.now front.now rest.now }
     ensures { Classifies bytes.now result }
@@ -80,7 +80,7 @@ fn classify_cut<'a>(bytes: &'a [u8], front: &'a [u8], rest: &'a [u8]) -> Shape<'
     }
 }
 
-/// The address of a remote helper, where this stands before and behind the first colon.
+/// The address of a remote helper, where this is before and behind the first colon.
 fn helper_address<'a>(name: &[u8], rest: &'a [u8]) -> Option<&'a [u8]>
     requires { FreeOf colon name.now }
     ensures { MatchOption result (¬ HasHelperForm (name.now ++ colon ∷ rest.now))
@@ -110,7 +110,7 @@ fn classify_other<'a>(bytes: &'a [u8], front: &'a [u8], rest: &'a [u8]) -> Shape
     }
 }
 
-/// What stands before and behind the first `://`: mostly the first colon begins it, or no other colon does.
+/// What is before and behind the first `://`: mostly the first colon begins it, or no other colon does.
 fn cut_url<'a>(bytes: &'a [u8], front: &'a [u8], rest: &'a [u8]) -> Option<(&'a [u8], &'a [u8])>
     requires { ColonCut bytes.now front.now rest.now }
     ensures { CutsAtMark bytes.now result }
@@ -175,7 +175,7 @@ struct AddressedPieces<'a> {
     path: &'a [u8],
 }
 
-/// The pieces of `user@[address]:path`, where this stands before the first colon.
+/// The pieces of `user@[address]:path`, where this is before the first colon.
 fn cut_addressed<'a>(bytes: &'a [u8], front: &'a [u8]) -> Option<AddressedPieces<'a>>
     requires { IsColonFront bytes.now front.now }
     ensures { MatchOption result (¬ HasAddressedCut bytes.now)
@@ -187,7 +187,7 @@ fn cut_addressed<'a>(bytes: &'a [u8], front: &'a [u8]) -> Option<AddressedPieces
     }
 }
 
-/// The only user that such a text may have, and what stands behind its `@[`.
+/// The only user that such a text may have, and what is behind its `@[`.
 #[derive(Clone, Copy)]
 struct UserCut<'a> {
     user: &'a [u8],
@@ -241,7 +241,7 @@ fn cut_address<'a>(user: &'a [u8], behind: &'a [u8]) -> Option<AddressedPieces<'
     }
 }
 
-/// What stands before and behind the colon of the scp form.
+/// What is before and behind the colon of the scp form.
 fn cut_scp<'a>(bytes: &'a [u8], front: &'a [u8], rest: &'a [u8]) -> Option<(&'a [u8], &'a [u8])>
     requires { ColonCut bytes.now front.now rest.now }
     ensures { MatchOption result (¬ HasScpCut bytes.now) (λ p. ScpCut bytes.now p.0.now p.1.now) }
@@ -258,7 +258,7 @@ fn cut_scp<'a>(bytes: &'a [u8], front: &'a [u8], rest: &'a [u8]) -> Option<(&'a 
     }
 }
 
-/// What stands before and behind the first colon, or the first behind a closing bracket, where the text begins with
+/// What is before and behind the first colon, or the first behind a closing bracket, where the text begins with
 /// an opening one.
 fn cut_front<'a>(bytes: &'a [u8], front: &'a [u8], rest: &'a [u8]) -> Option<(&'a [u8], &'a [u8])>
     requires { ColonCut bytes.now front.now rest.now }
@@ -271,7 +271,7 @@ fn cut_front<'a>(bytes: &'a [u8], front: &'a [u8], rest: &'a [u8]) -> Option<(&'
     }
 }
 
-/// What stands before and behind the first colon behind brackets at the front.
+/// What is before and behind the first colon behind brackets at the front.
 fn cut_behind<'a>(
     bytes: &'a [u8],
     inside: &'a [u8],
@@ -288,7 +288,7 @@ fn cut_behind<'a>(
     }
 }
 
-/// What stands between brackets at the front, and behind them.
+/// What is between brackets at the front, and behind them.
 fn cut_brackets(bytes: &[u8]) -> Option<(&[u8], &[u8])>
     ensures { MatchOption result (LacksBrackets bytes.now)
         (λ p. FreeOf right_bracket p.0.now

@@ -56,7 +56,7 @@ pub const USER: AsciiSet = ascii_set!(PASSWORD.add(b':'));
 /// - `password`: in a password, those and `#`, `/`, `?`, `@`, `[`, `\`, `]`, `^` and `|`.
 /// - `user`: in a user, those and `:`.
 ///
-/// Users who compare written texts know by this law which bytes of a part stand in them as they are.
+/// Users who compare written texts know by this law which bytes of a part are in them as they are.
 pub fn law_sets()
     ensures path { PathSet }
     ensures password { PasswordSet }
@@ -94,7 +94,7 @@ fn is_hexadecimal(byte: u8) -> bool
     digit(byte).is_some()
 }
 
-/// Whether `%` stands somewhere in the text.
+/// Whether `%` is somewhere in the text.
 pub fn has_percent(text: &[u8]) -> bool
     ensures { result ≡ spec.has_percent text.now }
 {
@@ -125,7 +125,7 @@ pub(crate) fn begins_high(text: &[u8]) -> bool
     }
 }
 
-/// Whether the decoding of the text is UTF-8, in which mostly ASCII stands.
+/// Whether the decoding of the text is UTF-8, in which mostly ASCII is.
 pub(crate) fn decoding_is_utf8(text: &[u8]) -> bool
     ensures { IsTrue result ↔ IsUtf8 (percent.percent_decode text.now) }
 {

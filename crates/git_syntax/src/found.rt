@@ -33,7 +33,7 @@ pub enum Found<'a> {
         rules: Rules,
         url: ParsedUrl<'a>,
     },
-    /// The scp form: the user stays as it is, and so does the path, but for a `/` before a `~`.
+    /// The scp form: the user stays as it is, and so does the path, except for a `/` before a `~`.
     Scp {
         user: Option<&'a [u8]>,
         host: ScpHost<'a>,
@@ -44,10 +44,10 @@ pub enum Found<'a> {
 /// The host of the scp form, without brackets around it. A `%` in it stands for itself.
 #[derive(Clone, Copy)]
 pub enum ScpHost<'a> {
-    /// An IPv6 text, perhaps with a `%` and a zone: what stands before the `%` is lowercased.
+    /// An IPv6 text, perhaps with a `%` and a zone: what is before the `%` is lowercased.
     Literal(&'a [u8]),
     /// A host outside brackets: it is lowercased where it looks like a domain name.
     Name(&'a [u8]),
-    /// A simple host, or any other text that stood between brackets: it stays as it is.
+    /// A simple host, or any other text that was between brackets: it stays as it is.
     Kept(&'a [u8]),
 }

@@ -2,7 +2,7 @@
 //!
 //! It may use `bytes`, `escape` and `ipv6`. Inside: `port` reads what follows a host, `bytes` tests the bytes of
 //! hosts and zones, `build` makes the text of a host. Its contract: a host and a port are read exactly where the
-//! definitions name them, as slices of the piece, and each refusal has its flaw. It takes no memory but for the text
+//! definitions name them, as slices of the piece, and each refusal has its flaw. It takes no memory except for the text
 //! of a host, when that is built.
 
 ghost use Rattle.std.specs.Prelude.{◌≡◌, ℕ, IsUtf8, ◌<◌, ◌↔◌, ◌++◌, ◌∷◌, List, Option, None, IsTrue, IfOk, IfErr, IfSome, MatchOption, false, length};
@@ -34,7 +34,7 @@ pub(crate) enum Mode {
     Loose,
 }
 
-/// The text of a host as it stands in the input, with what has to be done to it.
+/// The text of a host as it is in the input, with what has to be done to it.
 #[derive(Clone, Copy)]
 pub enum HostPiece<'a> {
     /// A host of lower-case letters, digits, `-` and `.`: it stands for itself in every mode.
@@ -126,7 +126,7 @@ fn read_some(mode: Mode, piece: &[u8]) -> Result<NamedHost<'_>, Fault>
     }
 }
 
-/// Reads what stands behind an opening bracket.
+/// Reads what is behind an opening bracket.
 fn read_bracketed(mode: Mode, behind: &[u8]) -> Result<NamedHost<'_>, Fault>
     ensures { ReadsName (strictness mode) (left_bracket ∷ behind.now) result }
 {
@@ -140,7 +140,7 @@ fn read_bracketed(mode: Mode, behind: &[u8]) -> Result<NamedHost<'_>, Fault>
     }
 }
 
-/// Reads what stands between brackets, and behind them.
+/// Reads what is between brackets, and behind them.
 fn read_brackets<'a>(mode: Mode, inner: &'a [u8], rest: &'a [u8]) -> Result<NamedHost<'a>, Fault>
     requires { FreeOf right_bracket inner.now }
     ensures { ReadsName (strictness mode)
@@ -323,7 +323,7 @@ fn read_inner(mode: Mode, text: &[u8]) -> Option<HostPiece<'_>>
     read_no_literal(mode, text)
 }
 
-/// The piece of a literal, which is decoded but for HTTP.
+/// The piece of a literal, which is decoded except for HTTP.
 fn literal(mode: Mode, text: &[u8]) -> HostPiece<'_>
     ensures { meant_host result ≡ in_brackets (shown_literal (strictness mode) text.now) }
 {

@@ -1,7 +1,7 @@
 //! The length test of URLs.
 //!
 //! It uses the tests of `bytes` and `scheme`, and asks for no memory. A walk takes what follows the `://` of a URL in any
-//! number of pieces, so that a text can be measured that stands nowhere as a whole, and looks at no byte once nothing
+//! number of pieces, so that a text can be measured that is nowhere as a whole, and looks at no byte once nothing
 //! changes its outcome. Its contract: what follows the pieces has the outcome that it has behind them, and the outcome is
 //! the one that the definition of the length test says. A text that isn't longer than the limit is short without a walk.
 
@@ -50,7 +50,7 @@ impl Stage {
     }
 }
 
-/// The stage behind these bytes, before which only such stand as are skipped.
+/// The stage behind these bytes, before which only such are as are skipped.
 fn past_slashes(web: bool, bytes: &[u8]) -> Stage
     ensures { (behind : List ℕ)
         → is_in_time web result behind ≡ is_in_time web Stage.Slashes (bytes.now ++ behind) }

@@ -1,4 +1,4 @@
-//! A look at a whole text: what is known of its bytes, decided once and handed on.
+//! A look at a whole text: what is known of its bytes, decided once and passed on.
 //!
 //! It may use `bytes`, `escape` and `text`. Its contract: what is said of a text holds of it. It takes no memory.
 

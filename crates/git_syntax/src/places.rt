@@ -1,7 +1,7 @@
-//! Where a fault stands in a text: the first byte of a kind, broken escape or white space.
+//! Where a fault is in a text: the first byte of a kind, broken escape or white space.
 //!
 //! It may use `bytes` and `escape`. Each function is called where a text is refused, and only there: it looks again for
-//! what its caller knows to stand in the text. Its contract: there it stands. It takes no memory.
+//! what its caller knows to be in the text. Its contract: there it is. It takes no memory.
 
 ghost use Rattle.std.specs.Prelude.{◌≡◌, IsUtf8, false};
 ghost use Rattle.std.specs.Str.{IsValidUpTo};
@@ -13,7 +13,7 @@ use crate::bytes::cut;
 use crate::escape::begins_with_digits;
 use crate::refusal::{Fault, UrlFault};
 
-/// How many bytes stand before the first `c`.
+/// How many bytes are before the first `c`.
 pub fn first_byte(bytes: &[u8], c: u8) -> usize
     requires { ¬ FreeOf c bytes.now }
     ensures { StandsFirst c bytes.now result }
@@ -24,7 +24,7 @@ pub fn first_byte(bytes: &[u8], c: u8) -> usize
     }
 }
 
-/// How many bytes stand before the first `%` without two hexadecimal digits behind it.
+/// How many bytes are before the first `%` without two hexadecimal digits behind it.
 pub(crate) fn broken_escape(bytes: &[u8]) -> usize
     requires { spec.is_sound bytes.now ≡ false }
     ensures { StandsBroken bytes.now result }
@@ -39,7 +39,7 @@ pub(crate) fn broken_escape(bytes: &[u8]) -> usize
     0
 }
 
-/// How many bytes stand before the first that is not UTF-8.
+/// How many bytes are before the first that is not UTF-8.
 pub(crate) fn not_utf8(bytes: &[u8]) -> usize
     requires { ¬ IsUtf8 bytes.now }
     ensures { IsValidUpTo bytes.now result }

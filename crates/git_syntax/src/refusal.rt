@@ -1,6 +1,6 @@
 //! Refusals: why a text spells no location, the form that it was taken for, and what is wrong with it.
 //!
-//! What these tell of a text are numbers, names and a slice of it, so making one takes no memory. `words` says them to
+//! What these report of a text are numbers, names and a slice of it, so making one takes no memory. `words` says them to
 //! people, and `debug` to logs.
 
 use thiserror::Error;
@@ -20,7 +20,7 @@ use thiserror::Error;
 /// ```
 #[derive(Clone, Copy, Debug, PartialEq, Eq)]
 pub enum UrlKind {
-    /// A URL: `://` stands in it.
+    /// A URL: `://` is in it.
     Url,
     /// The form `user@host:path` of `scp`.
     Scp,
@@ -43,11 +43,11 @@ pub enum UrlKind {
 /// ```
 #[derive(Clone, Copy, Debug, PartialEq, Eq)]
 pub enum UrlFault {
-    /// What stands before `://` is no scheme.
+    /// What is before `://` is no scheme.
     NoScheme,
-    /// What stands in a port's place is no port.
+    /// What is in a port's place is no port.
     BadPort,
-    /// A byte or a character stands where it is not allowed, or an escape is broken or stands for no text.
+    /// A byte or a character is where it is not allowed, or an escape is broken or stands for no text.
     BadCharacter,
     /// The scheme, or the scp form, needs a host.
     HostRequired,
@@ -58,14 +58,14 @@ pub enum UrlFault {
 pub struct Fault {
     /// What is wrong.
     pub kind: UrlFault,
-    /// How many bytes stand before what is wrong.
+    /// How many bytes are before what is wrong.
     pub at: usize,
     /// The length of what is wrong, in bytes.
     pub len: usize,
 }
 
 /// Why a text spells no location, and where: `len` bytes of the text are wrong, behind its first `at`. It borrows from the
-/// text, which isn't told with it but for a front.
+/// text, which isn't told with it except for a front.
 ///
 /// The place is what is there and should not be: the character that is white space, the `%` of a broken escape, the first
 /// backslash of an authority, the user, the password or the path that decodes to no text, the host that is none, or all of a
@@ -96,7 +96,7 @@ pub enum Refusal<'a> {
     MissingPath {
         /// The form that the text was taken for.
         kind: UrlKind,
-        /// Where the path would stand: the length of the text.
+        /// Where the path would be: the length of the text.
         at: usize,
     },
     /// The text is not UTF-8.
@@ -104,7 +104,7 @@ pub enum Refusal<'a> {
     NotUtf8 {
         /// The form that the text was taken for.
         kind: UrlKind,
-        /// How many bytes stand before the first that is not UTF-8.
+        /// How many bytes are before the first that is not UTF-8.
         at: usize,
     },
     /// The scheme or the authority is too long.
@@ -114,7 +114,7 @@ pub enum Refusal<'a> {
         shown: &'a [u8],
         /// The length of the text, in bytes.
         total: usize,
-        /// How many bytes stand before what is too long: none before a scheme, else the scheme and `://`.
+        /// How many bytes are before what is too long: none before a scheme, else the scheme and `://`.
         at: usize,
         /// The length of what is too long, in bytes: of the scheme, else of what is shown behind `://`.
         len: usize,
@@ -126,7 +126,7 @@ pub enum Refusal<'a> {
         kind: UrlKind,
         /// What is wrong.
         fault: UrlFault,
-        /// How many bytes stand before what is wrong.
+        /// How many bytes are before what is wrong.
         at: usize,
         /// The length of what is wrong, in bytes. It is 0 where something is missing.
         len: usize,

@@ -1,4 +1,4 @@
-//! What the scheme of a URL says of the rest of it. It is decided once, and handed on.
+//! What the scheme of a URL says of the rest of it. It is decided once, and passed on.
 //!
 //! It may use `scheme` and the modes of `host`, and asks for no memory. Its contract: each rule is the definition's,
 //! for the text of the scheme.
@@ -22,7 +22,7 @@ pub struct Rules {
     pub(crate) needs_host: bool,
     /// Whether it is HTTP's: a path may begin with `?` and `#` too, and an empty one is the root.
     pub web: bool,
-    /// Whether it needs a path, in which a home folder stands without the `/` before it.
+    /// Whether it needs a path, in which a home folder is without the `/` before it.
     pub needs_path: bool,
 }
 

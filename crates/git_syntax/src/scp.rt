@@ -167,7 +167,7 @@ fn has_no_white_space(plain: bool, text: &[u8]) -> bool
     plain || lacks_white_space(as_text(text))
 }
 
-/// Finds a host that has no bracket in front. Where it holds a colon, a bracket stands behind that, so that no port
+/// Finds a host that has no bracket in front. Where it holds a colon, a bracket is behind that, so that no port
 /// follows.
 fn find_name(host: &[u8]) -> Result<ScpHost<'_>, Fault>
     requires some { 0 < length host.now }

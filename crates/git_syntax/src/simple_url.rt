@@ -206,7 +206,7 @@ fn read_authority(mode: Mode, needed: bool, authority: &[u8]) -> Result<Authorit
     read_marked(mode, needed, authority)
 }
 
-/// Reads an authority in which marks may stand.
+/// Reads an authority in which marks may be.
 fn read_marked(mode: Mode, needed: bool, authority: &[u8]) -> Result<AuthorityParts<'_>, Fault>
     ensures read { IfOk result (λ parts. HoldsParts (strictness mode) needed authority.now parts) }
     ensures refused { IfErr result (λ fault. IsNoAuthority (strictness mode) needed authority.now) }

@@ -2,7 +2,7 @@
 //!
 //! It may use `bytes`, `rules`, `length`, `look`, `text`, `simple_url`, `found` and the errors. Its contract: the slices of a
 //! location are found exactly where the definitions spell one, and each refusal has its flaw. It takes no memory. The
-//! scheme is looked at once, here, and what it says of the rest is handed on.
+//! scheme is looked at once, here, and what it says of the rest is passed on.
 
 ghost use Rattle.std.specs.Prelude.{◌≡◌, ◌+◌, ◌<◌, ◌≤◌, ◌↔◌, IfErr, IfOk, IsTrue, codes, length, take};
 ghost use Rattle.git_syntax.specs.Authority.{Fits};

@@ -1,4 +1,4 @@
--- What the rooms that hand out components tell of each other's answers: which piece each was cut out as.
+-- What the rooms that return components report of each other's answers: which piece each was cut out as.
 use Rattle.std.specs.Prelude.{◌≡◌, ℕ, Bool, true, false, ◌==◌, ◌+◌, List, [], ◌∷◌, ◌++◌, Option, Some, None, MatchOption, option_map, length, filter}
 use Rattle.std.specs.List.{slice_split}
 use Rattle.bstr.specs.BStr.{bstr_bytes}
@@ -40,7 +40,7 @@ CutsOff c whole front (Some behind) = CutsAround c whole front behind
 
 -- ---- the query
 
--- a name or a value is what its piece stands for, lent where no raw `+` stands in it
+-- a name or a value is what its piece stands for, lent where no raw `+` is in it
 abbrev pub LendsTerm : Bool → List ℕ → QueryText → Type 0
 LendsTerm escaped piece (Borrowed text) = FreeOf plus_sign piece
     × (bstr_bytes text ≡ meant_by escaped piece)
@@ -101,7 +101,7 @@ ends_in before (b ∷ bs) = ends_in (b == ampersand) bs
 abbrev pub field_count : List ℕ → ℕ
 field_count text = length (filter is_field (slice_split (λ b. b == ampersand) text))
 
--- the name and the value of a field stand behind those that were there
+-- the name and the value of a field are behind those that were there
 abbrev pub AddsLent : Bool → List ℕ → List (QueryText × QueryText) → List (QueryText × QueryText)
     → Type 0
 AddsLent escaped field old new = (pair : QueryText × QueryText) × LendsPair escaped field pair

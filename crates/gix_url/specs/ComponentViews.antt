@@ -1,4 +1,4 @@
--- What contracts see of the components that the code hands out: their bytes, and what of them is lent.
+-- What contracts see of the components that the code returns: their bytes, and what of them is lent.
 use Rattle.std.specs.Prelude.{◌≡◌, ℕ, Bool, true, false, List, [], ◌∷◌, map, Option, Some, None, option_map}
 use Rattle.bstr.specs.BStr.{bstr_bytes}
 use Rattle.bstr.specs.Owned.{bstring_bytes}
@@ -32,7 +32,7 @@ pair_lent pair = (is_borrowed pair.0, is_borrowed pair.1)
 abbrev pub what_is_lent : PathComponents → Option (List (Bool × Bool))
 what_is_lent parts = option_map (λ pairs. map pair_lent pairs.items) parts.query
 
--- the components that were handed out
+-- the components that were returned
 abbrev pub components : PathComponents → Components
 components parts = record {
   path = bstr_bytes parts.path;
@@ -40,8 +40,8 @@ components parts = record {
   fragment = option_map bstr_bytes parts.fragment;
 }
 
--- a name or a value of the query: a text of its own exactly where a raw `+` stands in the piece that it was cut out as,
--- and else lent, so that its bytes stand in the path
+-- a name or a value of the query: a text of its own exactly where a raw `+` is in the piece that it was cut out as,
+-- and else lent, so that its bytes are in the path
 abbrev pub LentTerm : Location → List ℕ → QueryText → Type 0
 LentTerm v piece (Borrowed text) = FreeOf plus_sign piece × Holds (bstr_bytes text) v.path
 LentTerm v piece (Owned text) = ¬ FreeOf plus_sign piece
@@ -66,7 +66,7 @@ pub record LentFields (v : Location) (pairs : List (QueryText × QueryText)) : T
   pub split : CutsFields query fields
   pub lent : LentPairs v fields pairs
 
--- those that were handed out, if any were
+-- those that were returned, if any were
 abbrev pub LentQuery : Location → Option (List (QueryText × QueryText)) → Type 0
 LentQuery v None = Unit {0}
 LentQuery v (Some pairs) = LentFields v pairs

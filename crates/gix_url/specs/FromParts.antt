@@ -56,7 +56,7 @@ ReadsKept given b (Ok v) = (read : Location) × Reads b (Ok read)
     × (v ≡ keeping given.scheme given.path read)
 ReadsKept given b (Err e) = Reads b (Err e)
 
--- what making a location of settled parts answers: them as they are, or want of memory
+-- what making a location of settled parts answers: them as they are, or lack of memory
 abbrev pub GivesBack : Location → Result Location Error → Type 0
 GivesBack given (Ok v) = v ≡ given
 GivesBack given (Err e) = e ≡ error.Memory

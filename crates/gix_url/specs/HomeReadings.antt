@@ -30,7 +30,7 @@ abbrev pub CutsHome : List ℕ → Option (Bor (List ℕ) × Bor (List ℕ)) →
 CutsHome path r = MatchOption r (begins_at_home path ≡ false)
     (λ p. FreeOf slash p.0.now × HomePath path p.0.now p.1.now)
 
--- the first segment of a text, and what stands behind the `/` that ends it, if one does
+-- the first segment of a text, and what is behind the `/` that ends it, if one does
 abbrev pub CutsSegment : List ℕ → Bor (List ℕ) → Option (Bor (List ℕ)) → Type 0
 CutsSegment text segment behind =
     FreeOf slash segment.now

@@ -18,7 +18,7 @@ pub mod OtherRows
 -- What serves the proofs of this crate and of those above it alone.
 pub mod Meanings
 pub mod ComponentPieces
--- What stands in the layers below, under the names by which users of this crate know it.
+-- What is in the layers below, under the names by which users of this crate know it.
 pub use Rattle.git_syntax.specs.Value
 pub use Rattle.git_syntax.specs.Bytes
 pub use Rattle.git_syntax.specs.Escapes

@@ -19,7 +19,7 @@ IsPiece piece = FreeOf slash piece × (counts piece ≡ true)
 abbrev pub behind_slashes : List (List ℕ) → List ℕ
 behind_slashes segments = flat_map (λ segment. slash ∷ segment) segments
 
--- segments that don't count, each behind a `/`: what may stand between two pieces, and behind the last
+-- segments that don't count, each behind a `/`: what may be between two pieces, and behind the last
 abbrev pub IsIdle : List ℕ → Type 0
 IsIdle text = (segments : List (List ℕ)) × (list_any counts segments ≡ false)
     × (text ≡ behind_slashes segments)
@@ -55,9 +55,9 @@ pub data Opens (folder ready : List ℕ) : Type 0 where
 
 -- a path joined to a folder
 pub data Joins (folder path whole : List ℕ) : Type 0 where
-  -- a path that begins with `/` stands alone
+  -- a path that begins with `/` is alone
   alone : begins_with slash path ≡ true → whole ≡ path → Joins folder path whole
-  -- any other stands in the folder
+  -- any other is in the folder
   within : begins_with slash path ≡ false → (ready : List ℕ) → Opens folder ready
       → whole ≡ ready ++ path → Joins folder path whole
 
@@ -67,7 +67,7 @@ LiesBelow folder path whole = (rest : List ℕ) × WithoutFirst path rest × Joi
 
 -- ---- parents
 
--- the text ends in a piece, which stands behind a `/` or is the first segment
+-- the text ends in a piece, which is behind a `/` or is the first segment
 pub data EndsInPiece (text : List ℕ) : Type 0 where
   last_piece : (front piece : List ℕ) → IsPiece piece → text ≡ front ++ slash ∷ piece
       → EndsInPiece text
@@ -75,12 +75,12 @@ pub data EndsInPiece (text : List ℕ) : Type 0 where
 
 -- the parent of a text: the front that ends with the last piece but one, or what stands for it
 pub data IsParent (text : List ℕ) (parent : Option (List ℕ)) : Type 0 where
-  -- another piece stands before the last
+  -- another piece is before the last
   above_last : (front gap piece tail : List ℕ) → EndsInPiece front → IsIdle gap → IsPiece piece
       → IsIdle tail
       → text ≡ front ++ (gap ++ (slash ∷ (piece ++ tail))) → parent ≡ Some front
       → IsParent text parent
-  -- the only piece stands in the root
+  -- the only piece is in the root
   in_root : (gap piece tail : List ℕ) → IsIdle gap → IsPiece piece → IsIdle tail
       → text ≡ gap ++ (slash ∷ (piece ++ tail)) → parent ≡ Some (slash ∷ []) → IsParent text parent
   -- the only piece is the first segment

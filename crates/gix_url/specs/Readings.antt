@@ -24,19 +24,19 @@ pub record Reads (b : List ℕ) (result : Result Location Error) : Type 0 where
   pub found : IfOk result (Spells b)
   -- or an error, and then they spell none, unless memory ran out
   pub refused : IfErr result (Refuses b)
-  -- the flaw that the error names stands in them
+  -- the flaw that the error names is in them
   pub flaw : IfErr result (Flaw b)
   -- the empty text is refused as such
   pub empty : b ≡ [] → result ≡ Err error.EmptyLocal
   -- where they spell a location it is answered, unless memory ran out
   pub answered : (v : Location) → Spells b v → (result ≡ Ok v) ⊎ (result ≡ Err error.Memory)
 
--- what writing a settled location into memory answers: its text, or want of memory
+-- what writing a settled location into memory answers: its text, or lack of memory
 abbrev pub WritesAgain : Location → Result BString Error → Type 0
 WritesAgain v (Ok s) = SpellsAgain v (bstring_bytes s)
 WritesAgain v (Err e) = e ≡ error.Memory
 
--- what reading a settled location's text answers: the location again, or want of memory
+-- what reading a settled location's text answers: the location again, or lack of memory
 abbrev pub ReadsAgain : Location → Result Location Error → Type 0
 ReadsAgain v (Ok again) = IsAgain v again
 ReadsAgain v (Err e) = e ≡ error.Memory

@@ -7,6 +7,6 @@ use Rattle.git_syntax.specs.Grammar.{Spells}
 use Rattle.gix_url.specs.Flaws.{Flaw}
 pub use Rattle.git_syntax.specs.Refusals.{RefusalExclusive, place_end, RefusalWithin, HasFlaw, Flawless, Decided}
 
--- no location is spelled by bytes in which the flaw of an error stands; want of memory is no flaw of them
+-- no location is spelled by bytes in which the flaw of an error is; lack of memory is no flaw of them
 abbrev pub Exclusive : Type 0
 Exclusive = (b : List ℕ) (e : Error) (v : Location) → e ≢ error.Memory → Flaw b e → ¬ Spells b v

@@ -1,4 +1,4 @@
-//! Which parts of a location may be handed to a command as arguments: the judgement of the borrowed location.
+//! Which parts of a location may be given to a command as arguments: the judgement of the borrowed location.
 //!
 //! It uses `location`, and takes no memory.
 
@@ -47,7 +47,7 @@ impl Url {
 
     /// The user, where there is one that doesn't begin with `-`. It takes no memory.
     ///
-    /// `None` also stands for no user at all: [`Url::user_as_argument`] tells the two apart.
+    /// `None` also stands for no user at all: [`Url::user_as_argument`] distinguishes the two.
     ///
     /// ```
     /// fn user_or_git(url: &Url) -> &str {
@@ -64,7 +64,7 @@ impl Url {
 
     /// The host, where there is one that doesn't begin with `-`. It takes no memory.
     ///
-    /// `None` also stands for no host at all: [`Url::host_as_argument`] tells the two apart.
+    /// `None` also stands for no host at all: [`Url::host_as_argument`] distinguishes the two.
     ///
     /// ```
     /// fn can_connect(url: &Url) -> bool {
@@ -81,7 +81,7 @@ impl Url {
 
     /// The whole path, where it begins with `/` and the byte behind that isn't `-`. It takes no memory.
     ///
-    /// A path that begins with `~` or is relative is not handed out. `/` alone is. The path is decoded, may be any bytes,
+    /// A path that begins with `~` or is relative is not returned. `/` alone is. The path is decoded, may be any bytes,
     /// and is not quoted for a shell.
     ///
     /// ```

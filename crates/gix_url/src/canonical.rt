@@ -1,6 +1,6 @@
 //! Canonical paths: a local location with its path resolved.
 //!
-//! It uses `location`, `copy` and `error`. What resolves a path is handed in as a closure. Its contract: the path of a
+//! It uses `location`, `copy` and `error`. What resolves a path is given as a closure. Its contract: the path of a
 //! local location becomes what the closure answers, and nothing else changes; after an error nothing did, and which
 //! errors come where is said.
 

@@ -2,7 +2,7 @@
 //!
 //! It may use `home`, `location`, `scheme`, `url_ref`, the spelling that `writer` finds to match, and the rooms
 //! below: `cuts` cuts a text together with what it stands for, `measure` counts that, `fields` goes over the
-//! fields of a query, and `lend` hands out their names and values. Its contract: the answer is what the
+//! fields of a query, and `lend` returns their names and values. Its contract: the answer is what the
 //! definitions cut out of the path, for every location. Pieces are cut first and stand for bytes after,
 //! whatever is escaped in them. Memory is asked for once for the list of a query's names and values, where
 //! there is one to hold, and once for each of them that has a raw `+`.
@@ -31,7 +31,7 @@ use git_syntax::home::or_root;
 use git_syntax::scheme::SchemeRef;
 use std::alloc::{AllocError, Global};
 
-/// The path of a location with the query and the fragment that stand in it, as they are meant: escapes stand for
+/// The path of a location with the query and the fragment that are in it, as they are meant: escapes stand for
 /// their bytes, where the location's spelling has them. It is what [`Url::path_query_fragment`] answers.
 ///
 /// ```
@@ -58,9 +58,9 @@ pub struct PathComponents<'a> {
 /// ```
 #[derive(Debug, Drop)]
 pub enum QueryText<'a> {
-    /// A part of the location's path, as it stands there.
+    /// A part of the location's path, as it is there.
     Borrowed(BStr<'a>),
-    /// A text of its own: a raw `+` stood in it, which means a space.
+    /// A text of its own: a raw `+` was in it, which means a space.
     Owned(BString),
 }
 
@@ -74,7 +74,7 @@ impl Url {
     /// the original path is no spelling, as in a path that a program assigned, an escape stands for itself. A raw `+`
     /// in a name or a value is a space, as in forms of HTML. An empty path is `/`.
     ///
-    /// Nothing is checked beyond that: a name may come twice, `..` may stand in the path, and any byte may stand
+    /// Nothing is checked beyond that: a name may come twice, `..` may be in the path, and any byte may be
     /// anywhere.
     ///
     /// The parts are lent from the location. Memory is asked for once for the list of names and values, where there

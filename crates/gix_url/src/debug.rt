@@ -1,10 +1,10 @@
 //! What a log may hold of a location and of an error: `Debug`, without the field `password` and without refused texts.
 //!
-//! It uses the word of Display for what stands in place of a password. A location shows every part but that field; an
+//! It uses the word of Display for what is in place of a password. A location shows every part but that field; an
 //! error shows the length of a text that was refused, and never its bytes. Otherwise the shape is the one that a
 //! derive gives. It takes no memory. The builders of std have no contract, so what they write is shown by tests.
 //!
-//! Nothing else is hidden. A secret may also stand where the grammar puts no password, and a log shows it there: as the
+//! Nothing else is hidden. A secret may also be where the grammar puts no password, and a log shows it there: as the
 //! user of `https://token@h/p`; in the host of `file://u:secret@h/p`, which is `u:secret@h`; in the path of
 //! `u:secret@h:p`, which is `secret@h:p` on the host `u`; in the path of `https://h/?token=secret`, and with escapes in
 //! the retained spelling too; in a local path and in the address of a remote helper.
@@ -60,7 +60,7 @@ impl fmt::Debug for Error {
     }
 }
 
-/// Shows the fields of an error that tells where a text is wrong; of any other error nothing.
+/// Shows the fields of an error that reports where a text is wrong; of any other error nothing.
 fn show_refused<W: fmt::Write>(error: &Error, f: &mut fmt::Formatter<W>) -> fmt::Result {
     match error {
         Error::MissingPath { kind, input, at } => f

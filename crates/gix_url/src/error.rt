@@ -1,7 +1,7 @@
 //! The errors of the library: what a text or a value is refused for.
 //!
 //! No call answers an error whose contract doesn't name it. The words of an error hold no byte of the text that was
-//! refused, in which a password may stand; those of `TooLong` tell its length.
+//! refused, in which a password may be; those of `TooLong` report its length.
 
 ghost use Rattle.std.specs.Prelude.{◌≡◌, ◌↔◌, IsTrue};
 
@@ -17,7 +17,7 @@ use thiserror::Error;
 /// `Display` says it in words, `Debug` by its fields. Neither shows bytes of a text that was refused, which may hold a
 /// password: `Debug` shows their length, and the user of `NoHome` as it is. Who wants the bytes finds them in the fields.
 ///
-/// The errors of reading tell where the text is wrong, as a [`Refusal`](crate::Refusal) does: `len` bytes of it, behind its
+/// The errors of reading report where the text is wrong, as a [`Refusal`](crate::Refusal) does: `len` bytes of it, behind its
 /// first `at`.
 ///
 /// ```
@@ -41,7 +41,7 @@ pub enum Error {
         kind: UrlKind,
         /// The text.
         input: BString,
-        /// Where the path would stand: the length of the text.
+        /// Where the path would be: the length of the text.
         at: usize,
     },
     /// The text is not UTF-8.
@@ -51,7 +51,7 @@ pub enum Error {
         kind: UrlKind,
         /// The text.
         input: BString,
-        /// How many bytes of it stand before the first that is not UTF-8.
+        /// How many bytes of it are before the first that is not UTF-8.
         at: usize,
     },
     /// The scheme or the authority is too long.
@@ -61,7 +61,7 @@ pub enum Error {
         shown: BString,
         /// The length of the text, in bytes.
         total: usize,
-        /// How many bytes stand before what is too long: none before a scheme, else the scheme and `://`.
+        /// How many bytes are before what is too long: none before a scheme, else the scheme and `://`.
         at: usize,
         /// The length of what is too long, in bytes: of the scheme, else of what is shown behind `://`.
         len: usize,
@@ -75,7 +75,7 @@ pub enum Error {
         fault: UrlFault,
         /// The text.
         input: BString,
-        /// How many bytes of it stand before what is wrong.
+        /// How many bytes of it are before what is wrong.
         at: usize,
         /// The length of what is wrong, in bytes. It is 0 where something is missing.
         len: usize,

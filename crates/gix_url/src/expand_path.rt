@@ -1,6 +1,6 @@
 //! Home folders: whose folder a path means, and where the path lies then.
 //!
-//! It uses `error`. What the world knows of home folders is handed in: by a closure or as a text. Its contracts are the
+//! It uses `error`. What the world knows of home folders is given: by a closure or as a text. Its contracts are the
 //! definitions of home folders and of paths as text; besides them only memory can be wanting.
 
 ghost use Rattle.std.specs.Prelude.{◌≡◌, Err, IfErr, IfOk, IfSome, IsOk, IsUtf8, None, Ok, Some, false, option_map, string_bytes};
@@ -94,7 +94,7 @@ pub fn parse(alloc: Global, path: BStr<'_>) -> Result<(Option<ForUser>, BString)
 
 /// The path as a shell takes it: `~name/rest` in place of `/~name/rest`.
 ///
-/// A path that doesn't begin with `/~` is handed back as it is, and takes no memory.
+/// A path that doesn't begin with `/~` is returned as it is, and takes no memory.
 ///
 /// Nothing is quoted: a shell has still to be kept from reading more than a path into it.
 ///
@@ -103,7 +103,7 @@ pub fn parse(alloc: Global, path: BStr<'_>) -> Result<(Option<ForUser>, BString)
 /// [`Error::Memory`], where the path of a user can't be written.
 ///
 /// ```
-/// /// The path of a location, to be handed to a shell on its host.
+/// /// The path of a location, to be given to a shell on its host.
 /// fn remote_path(alloc: Global, url: Url) -> Result<BString, Error> {
 ///     for_shell(alloc, url.path)
 /// }

@@ -43,7 +43,7 @@ impl Url {
     ///
     /// [`Error::HelperName`] exactly for a remote helper by a name that no helper can have, with that name. Else
     /// [`Error::Unwritable`] exactly where the parts have no text. Both ask for no memory. Where the text spells no
-    /// location, what it is refused with, which tells of the text. [`Error::Memory`] where memory is refused, and for
+    /// location, what it is refused with, which reports on the text. [`Error::Memory`] where memory is refused, and for
     /// settled parts no other.
     #[allow(clippy::too_many_arguments)]
     pub fn from_parts(
@@ -96,7 +96,7 @@ fn checked(scheme: Scheme) -> Result<Scheme, Error>
     }
 }
 
-/// The error that tells the name of a remote helper.
+/// The error that reports the name of a remote helper.
 fn invalid(name: String) -> Error
     ensures { TellsName (string_bytes name) result }
 {

@@ -31,7 +31,7 @@ impl Url {
     ///
     /// The answer is no for what Git hands to another remote helper, for an empty user of Secure Shell (`@h:p`), for a local
     /// path that begins with `~`, where `git fetch` and `git push` open a home folder's path and `git clone` this one, and
-    /// for what comes from an unsettled location. It is no for some texts that Git reads alike, too: but for HTTP, with an
+    /// for what comes from an unsettled location. It is no for some texts that Git reads alike, too: except for HTTP, with an
     /// escape before the path, or with brackets that aren't around an address; with a host that begins with `-`, of
     /// `git://` or behind a user (`u@-h:p`); and with a `~` behind the one that begins the path (`ssh://h/~~a`).
     ///

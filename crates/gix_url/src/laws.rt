@@ -1,7 +1,7 @@
 //! Laws of the library, over the definitions of its contracts alone.
 //!
 //! The functions have no code and answer nothing: the contract of each is its laws. (`law_value` looks at the fields of
-//! a location, and changes nothing.) Most stand in `git_laws`, and some beside what they are laws of; here are those that
+//! a location, and changes nothing.) Most are in `git_laws`, and some beside what they are laws of; here are those that
 //! speak of errors that own a text. Users rely on them together with the contracts of `parse`, of the writer, of the
 //! settled test and of `lines`, which name the same definitions.
 
@@ -34,14 +34,14 @@ pub fn law_readers()
 
 /// A refusal is final: what its error names leaves nothing to read.
 ///
-/// - `exclusive`: bytes in which the flaw of an error stands spell no location, whichever error it is but want of memory.
+/// - `exclusive`: bytes in which the flaw of an error is spell no location, whichever error it is but lack of memory.
 ///   So no reader that keeps to these definitions takes what [`parse`](crate::parse::parse) refuses.
 /// - `refusal`: so it is with the flaw of a [`Refusal`](crate::Refusal), which reading into a room names, and the answer to
 ///   a line.
-/// - `within`: the place that a refusal tells stands in its text, so the text can be cut there.
-/// - `flawless`: no flaw stands in bytes that spell a location, whether or not there is an error that holds a copy of
+/// - `within`: the place that a refusal tells is in its text, so the text can be cut there.
+/// - `flawless`: no flaw is in bytes that spell a location, whether or not there is an error that holds a copy of
 ///   them.
-/// - `decided`: bytes spell a location, or one of these flaws stands in them. There is no third case, and by `flawless`
+/// - `decided`: bytes spell a location, or one of these flaws is in them. There is no third case, and by `flawless`
 ///   none is both: what a text lacks to be read, an error can name.
 pub fn law_refusals()
     ensures exclusive { Exclusive }

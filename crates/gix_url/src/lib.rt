@@ -2,9 +2,9 @@
 //!
 //! [`parse::parse`] reads bytes and [`Url::from_text`] text; [`Url::write_to`] and [`Url::to_bstring`] write a
 //! location, and one that [`Url::is_settled`] accepts comes back with the same public fields and the same text.
-//! [`Url::user_as_argument`] and its like tell which parts a command may get.
+//! [`Url::user_as_argument`] and its like report which parts a command may get.
 //!
-//! What owns bytes stands here. What only looks at a location is defined on [`UrlRef`], in the crate `git_location`, and
+//! What owns bytes is here. What only looks at a location is defined on [`UrlRef`], in the crate `git_location`, and
 //! what finds the parts of a text in `git_syntax`; this crate passes on all that users name.
 //!
 //! ```

@@ -18,7 +18,7 @@ use std::marker::Model;
 ///
 /// The fields may be changed by hand. A location may have no text then, or one that is read as something else:
 /// [`Url::is_settled`] tells. `Debug` and `Display` show `redacted` in place of the field `password`, and hide nothing
-/// else: a secret that stands in a path or a query, or in the user's place, is shown.
+/// else: a secret that is in a path or a query, or in the user's place, is shown.
 ///
 /// ```
 /// /// Whether a command of Secure Shell needs the option for a port.
@@ -36,7 +36,7 @@ pub struct Url {
     /// The password, decoded. It is not written without a user.
     pub password: Option<String>,
     /// The host. It may be empty, and may begin with `-`: hand it to a command by [`Url::host_as_argument`]. Secure
-    /// Shell has an IPv6 text without its brackets, other schemes with them where the text had them. A `:` can stand at
+    /// Shell has an IPv6 text without its brackets, other schemes with them where the text had them. A `:` can be at
     /// its end, where the text had one without a port.
     pub host: Option<String>,
     /// Whether the form that is no URL is asked for: `host:path` of Secure Shell, or a path of local files. With a
@@ -47,7 +47,7 @@ pub struct Url {
     pub port: Option<u16>,
     /// The path, decoded. It may be any bytes, and may begin with `-`. The path of an HTTP location holds its query and its
     /// fragment too, where a decoded `?` or `#` looks like one that separates them: [`Url::path_query_fragment`] tells them
-    /// apart. A home folder of Secure Shell and Git stands at its front without a `/`, as in `~user/repo`.
+    /// apart. A home folder of Secure Shell and Git is at its front without a `/`, as in `~user/repo`.
     pub path: BString,
     /// The escaped spelling of the path, where the text had one. It counts while it still stands for the path.
     pub(crate) spelling: Option<BString>,

@@ -207,7 +207,7 @@ fn spelling(url: &Url) -> Option<&[u8]>
     }
 }
 
-/// Where the scheme stands among the kinds of them, as they are declared.
+/// Where the scheme is among the kinds of them, as they are declared.
 fn rank(scheme: &Scheme) -> u8
     ensures { result ≡ rank (protocol scheme.now) }
 {

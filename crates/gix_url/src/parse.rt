@@ -2,7 +2,7 @@
 //!
 //! It uses `git_syntax::find`, which finds the slices of a text, and here `build`, which copies them, and `refusal`, which
 //! makes an error of a refusal. Its contract: the answer is the one location that the definitions spell with the bytes, a
-//! refusal comes only where they spell none, and what a refusal names stands in the bytes.
+//! refusal comes only where they spell none, and what a refusal names is in the bytes.
 
 ghost use Rattle.std.specs.Prelude.{◌≡◌, [], Err, IfErr, IfOk};
 ghost use Rattle.bstr.specs.BStr.{bstr_bytes};
@@ -28,7 +28,7 @@ use std::alloc::Global;
 /// The one location that the bytes spell.
 ///
 /// They are a remote helper's address (`name::address`), a URL, the scp form (`user@host:path`) or a local path.
-/// Where they spell no location, the error names a flaw that stands in them. `docs/GRAMMAR.md` says which texts are
+/// Where they spell no location, the error names a flaw that is in them. `docs/GRAMMAR.md` says which texts are
 /// which, after gitremote-helpers, git-clone's "GIT URLS" and RFC 3986.
 ///
 /// Memory is asked for to copy each part. On a refusal it is asked for to copy the bytes into the error, of a text that
@@ -37,7 +37,7 @@ use std::alloc::Global;
 /// # Errors
 ///
 /// [`Error::EmptyLocal`], [`Error::MissingPath`], [`Error::NotUtf8`], [`Error::TooLong`] and [`Error::BadUrl`], each where
-/// what it names stands in the bytes. [`Error::Memory`] where memory is refused.
+/// what it names is in the bytes. [`Error::Memory`] where memory is refused.
 ///
 /// ```
 /// /// Whether bytes that somebody sent spell a location; where memory is refused there is no answer.

@@ -142,7 +142,7 @@ impl Url {
         self.spelling.is_some()
     }
 
-    /// Stores another user, or none, and hands back the one before. It takes no memory; no other part changes.
+    /// Stores another user, or none, and returns the one before. It takes no memory; no other part changes.
     ///
     /// The location may have no text from then on: a user without a host has none.
     ///
@@ -159,7 +159,7 @@ impl Url {
         mem::replace(&mut self.user, user)
     }
 
-    /// Stores another password, or none, and hands back the one before. It takes no memory; no other part changes.
+    /// Stores another password, or none, and returns the one before. It takes no memory; no other part changes.
     ///
     /// A password without a user is not written.
     ///

@@ -169,7 +169,7 @@ impl Url {
         }
     }
 
-    /// The location with its path taken for a spelled one: decoded, and spelled anew.
+    /// The location with its path taken for a spelled one: decoded, and spelled again.
     fn migrated(self, alloc: Global) -> Result<Url, Error>
         ensures migrated { IfOk result (λ url. url ≡ from_legacy self) }
         ensures memory { IfErr result (λ e. e ≡ Error.Memory) }

@@ -1,4 +1,4 @@
--- What the calls answer: which answer of the library was told, and how.
+-- What the calls answer: which answer of the library was reported, and how.
 use Rattle.std.specs.Prelude.{◌≡◌, ℕ, ◌-◌, ◌^◌, min, Bool, IsTrue, ◌↔◌, List, length, Option, Some, None, Result, Ok, Err}
 use Rattle.gix_url.specs.declared.error.Error.{Error}
 use Rattle.git_location.specs.declared.write_error.WriteFault.{WriteFault}
@@ -14,45 +14,45 @@ use Rattle.gix_url_c.specs.declared.handed.Made.{Made}
 use Rattle.gix_url_c.specs.Codes.{ok, unwritable, error_code, problem_of, problem_numbered, write_fault_number}
 use Rattle.gix_url_c.specs.Handed.{HandsOut, Puts}
 
--- an answer is told: a location handed out, or an error by its numbers
+-- an answer is reported: a location returned, or an error by its numbers
 abbrev pub Tells : Result Location Error → Made → List ℕ → List ℕ → Problem → ℕ → Type 0
 Tells (Ok v) made old new problem code = HandsOut v made old new code
 Tells (Err e) made old new problem code = (code ≡ error_code e) × (problem ≡ problem_of e)
 
--- what reading the bytes answers is told
+-- what reading the bytes answers is reported
 abbrev pub TellsRead : List ℕ → Made → List ℕ → List ℕ → Problem → ℕ → Type 0
 TellsRead input made old new problem code = (answer : Result Location Error) × Reads input answer × Tells answer made old new problem code
 
--- what making a location of parts answers is told
+-- what making a location of parts answers is reported
 abbrev pub TellsMade : Location → Made → List ℕ → List ℕ → Problem → ℕ → Type 0
 TellsMade parts made old new problem code = (answer : Result Location Error) × MadeOf parts answer × Tells answer made old new problem code
 
--- whether the location is settled is told
+-- whether the location is settled is reported
 abbrev pub TellsSettled : Location → Bool → ℕ → Type 0
 TellsSettled v settled code = (code ≡ ok) × (IsTrue settled ↔ IsSettled v)
 
--- whether the location is of the class in whose texts Git reads the same place is told
+-- whether the location is of the class in whose texts Git reads the same place is reported
 abbrev pub TellsAgreement : Location → Bool → ℕ → Type 0
 TellsAgreement v agrees code = (code ≡ ok) × (IsTrue agrees ↔ AgreesWithGit v)
 
--- a fault of writing is told
+-- a fault of writing is reported
 abbrev pub TellsFault : WriteFault → Problem → ℕ → Type 0
 TellsFault f problem code = (code ≡ unwritable) × (problem ≡ problem_numbered 0 (write_fault_number f) 0 0)
 
--- a text is told
+-- a text is reported
 abbrev pub PutsText : List ℕ → List ℕ → List ℕ → ℕ → ℕ → Type 0
 PutsText t old new len code = (len ≡ length t) × Puts t old new code
 
--- a length as it is told: of one that is no number of C's the largest such number, and no room is so large
+-- a length as it is reported: of one that is no number of C's the largest such number, and no room is so large
 abbrev pub told_length : ℕ → ℕ
 told_length n = min n (2 ^ 64 - 1)
 
--- a text is told, or the fault for which there is none
+-- a text is reported, or the fault for which there is none
 abbrev pub TellsText : Result (List ℕ) WriteFault → List ℕ → List ℕ → ℕ → Problem → ℕ → Type 0
 TellsText (Ok t) old new len problem code = (len ≡ told_length (length t)) × Puts t old new code
 TellsText (Err f) old new len problem code = TellsFault f problem code
 
--- what the location is shown as is told, or the fault for which it has no text
+-- what the location is shown as is reported, or the fault for which it has no text
 abbrev pub TellsShown : Option (List ℕ) → Result (List ℕ) WriteFault → List ℕ → List ℕ → ℕ → Problem → ℕ → Type 0
 TellsShown (Some shown) r old new len problem code = PutsText shown old new len code
 TellsShown None r old new len problem code = (f : WriteFault) × (r ≡ Err f) × TellsFault f problem code

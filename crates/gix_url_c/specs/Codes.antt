@@ -1,4 +1,4 @@
--- The numbers by which C is told what a call answers.
+-- The numbers by which C gets what a call returns.
 use Rattle.std.specs.Prelude.{◌≡◌, ℕ, ◌⊎◌, Bool, not, nat_lt, ◌&&◌, length}
 use Rattle.bstr.specs.Owned.{bstring_bytes}
 use Rattle.git_syntax.specs.declared.refusal.UrlKind.{UrlKind}
@@ -65,15 +65,15 @@ write_fault_number unwritten.HelperParts = 2
 write_fault_number unwritten.RelativeSsh = 3
 write_fault_number unwritten.UserWithoutHost = 4
 
--- what is told of an error beside its number
+-- what is reported of an error beside its number
 abbrev pub problem_numbered : ℕ → ℕ → ℕ → ℕ → Problem
 problem_numbered kind fault shown total = record { kind = kind; fault = fault; shown = shown; total = total }
 
--- what is told where there is no more to tell than the number
+-- what is reported where there is no more to tell than the number
 abbrev pub no_problem : Problem
 no_problem = problem_numbered 0 0 0 0
 
--- what is told of an error: the form, the fault, the length of the front that it shows, and that of the whole
+-- what is reported of an error: the form, the fault, the length of the front that it shows, and that of the whole
 abbrev pub problem_of : Error → Problem
 problem_of error.Memory = no_problem
 problem_of error.EmptyLocal = no_problem
@@ -87,7 +87,7 @@ problem_of (error.NoHome user) = no_problem
 problem_of error.PathNotUtf8 = no_problem
 problem_of error.Unresolved = no_problem
 
--- the number is that of an error of reading or of writing, of which more may be told
+-- the number is that of an error of reading or of writing, of which more may be reported
 abbrev pub has_problem : ℕ → Bool
 has_problem code = nat_lt memory code && not (nat_lt unwritable code)
 
@@ -95,6 +95,6 @@ has_problem code = nat_lt memory code && not (nat_lt unwritable code)
 abbrev pub UnlessMemory : ℕ → Type 0 → Type 0
 UnlessMemory code holds = (code ≡ memory) ⊎ holds
 
--- what was given is no location, and it is told; or else it is one, and this holds
+-- what was given is no location, and it is reported; or else it is one, and this holds
 abbrev pub UnlessNone : ℕ → Type 0 → Type 0 → Type 0
 UnlessNone code none holds = ((code ≡ no_location) × none) ⊎ ((¬ none) × holds)

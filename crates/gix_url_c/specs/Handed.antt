@@ -72,13 +72,13 @@ made_of v = record {
 abbrev pub bytes_of : Location → List ℕ
 bytes_of v = ((((protocol_name v.scheme ++ or_nothing v.user) ++ or_nothing v.password) ++ or_nothing v.host) ++ v.path) ++ or_nothing v.spelling
 
--- the bytes stand at the front of the room and the rest of it is as it was; or they don't fit, and all of it is
+-- the bytes are at the front of the room and the rest of it is as it was; or they don't fit, and all of it is
 abbrev pub Puts : List ℕ → List ℕ → List ℕ → ℕ → Type 0
 Puts bytes old new code =
     MatchBool (nat_lt (length old) (length bytes))
     ((code ≡ no_room) × (new ≡ old))
     ((code ≡ ok) × (new ≡ bytes ++ drop (length bytes) old))
 
--- the location is handed out
+-- the location is returned
 abbrev pub HandsOut : Location → Made → List ℕ → List ℕ → ℕ → Type 0
 HandsOut v made old new code = (made ≡ made_of v) × Puts (bytes_of v) old new code

@@ -11,6 +11,6 @@ LeavesRoom code old new = ¬ (code ≡ ok) → new ≡ old
 abbrev pub LeavesLengths : {A : Type 0} → ℕ → A → A → Type 0
 LeavesLengths code old new = ¬ (code ≡ ok) → ¬ (code ≡ no_room) → new ≡ old
 
--- unless there is more to tell of the error, the problem is this one
+-- unless there is more to report of the error, the problem is this one
 abbrev pub LeavesProblem : ℕ → Problem → Problem → Type 0
 LeavesProblem code old new = has_problem code ≡ false → new ≡ old

@@ -1,4 +1,4 @@
--- What C is told of a location that no memory is wanted for.
+-- What C gets of a location without any memory.
 use Rattle.std.specs.Prelude.{◌≡◌, ℕ, Bool, true, false, Option, Some, None, IsTrue, ◌↔◌, [], ◌∷◌, if◌then◌else◌}
 use Rattle.std.specs.Option.{option_or}
 use Rattle.gix_url.specs.Value.{Location}
@@ -32,7 +32,7 @@ pub record Looks (v : Location) (seen : Seen) : Type 0 where
   -- what its user and its host are to a command line
   pub user : seen.user ≡ judgement_number (judgement_of v.user)
   pub host : seen.host ≡ judgement_number (judgement_of v.host)
-  -- whether its path may be handed to a command
+  -- whether its path may be given to a command
   pub path : seen.path ≡ is_path_argument v.path
   -- whether its path is `/`
   pub root : IsTrue seen.is_root ↔ (v.path ≡ slash ∷ [])

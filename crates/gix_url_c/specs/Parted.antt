@@ -44,14 +44,14 @@ parted c = record {
   bytes = length (component_bytes c);
 }
 
--- both lists stand at the fronts of their rooms, or one of them doesn't fit and both rooms are as they were
+-- both lists are at the fronts of their rooms, or one of them doesn't fit and both rooms are as they were
 abbrev pub PutsBoth : List ℕ → List ℕ → List ℕ → List ℕ → List ℕ → List ℕ → ℕ → Type 0
 PutsBoth bytes lengths old_room new_room old_lengths new_lengths code =
     MatchBool (nat_lt (length old_room) (length bytes) || nat_lt (length old_lengths) (length lengths))
     ((code ≡ no_room) × (new_room ≡ old_room) × (new_lengths ≡ old_lengths))
     ((code ≡ ok) × (new_room ≡ bytes ++ drop (length bytes) old_room) × (new_lengths ≡ lengths ++ drop (length lengths) old_lengths))
 
--- the components of the location are told
+-- the components of the location are reported
 abbrev pub TellsParts : Location → Parted → List ℕ → List ℕ → List ℕ → List ℕ → ℕ → Type 0
 TellsParts v told old_room new_room old_lengths new_lengths code =
     (c : Components) × PartsOf v c × (told ≡ parted c)

@@ -1,4 +1,4 @@
--- Where in a refused text the fault is told to be.
+-- Where in a refused text the fault is reported to be.
 use Rattle.std.specs.Prelude.{◌≡◌, ℕ, List, Result, Ok, Err}
 use Rattle.git_syntax.specs.declared.refusal.Refusal.TheVariants as refusal
 use Rattle.git_location.specs.declared.parse_error.ParseError.{ParseError}
@@ -21,6 +21,6 @@ place_of (Err (unread.Refused (refusal.NotUtf8 kind at))) = place_at at 0
 place_of (Err (unread.Refused (refusal.TooLong shown total at len))) = place_at at len
 place_of (Err (unread.Refused (refusal.BadUrl kind fault at len))) = place_at at len
 
--- the place of what reading the bytes without room answers is told
+-- the place of what reading the bytes without room answers is reported
 abbrev pub TellsPlace : List ℕ → Place → Type 0
 TellsPlace b place = (answer : Result Location ParseError) × ReadsIn b 0 answer × (place ≡ place_of answer)

@@ -61,7 +61,7 @@ pub fn asked(rt: &(impl Env + AllocGlobal + Print + Eprint)) -> Result<Labels, u
     labels
 }
 
-/// Whether nothing stands behind the program's name. It takes no memory.
+/// Whether nothing is behind the program's name. It takes no memory.
 fn is_bare(rt: &impl Env) -> bool {
     matches!(rt.arg(1, &mut [0; 1]), Err(FillError::NotPresent))
 }

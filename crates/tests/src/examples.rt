@@ -1,6 +1,6 @@
-//! The examples of the documents and of the doc comments, each as it stands there, and tests that run them.
+//! The examples of the documents and of the doc comments, each as it is there, and tests that run them.
 //!
-//! `scripts/documents` refuses a block of code in a document that stands in no such file; those of `docs/CALLING.md`
+//! `scripts/documents` refuses a block of code in a document that is in no such file; those of `docs/CALLING.md`
 //! are in `crates/user_proofs`.
 
 mod borrowed;

@@ -1,4 +1,4 @@
-//! Boxes of what tests own: a function that owns a box drops it by one call, whatever stands in it.
+//! Boxes of what tests own: a function that owns a box drops it by one call, whatever is in it.
 
 use gix_url::Url;
 use std::alloc::Global;

@@ -79,7 +79,7 @@ fn ssh_arguments(url: &Url) -> Option<(&str, BStr<'_>)>
 }
 
 /// What the text of a location is read as, if the location is settled: its public fields and its text are those of
-/// the location, and nothing but memory can be wanting.
+/// the location, and the only possible error is `Memory`.
 fn read_back(alloc: Global, url: &Url) -> Result<Option<Url>, Error>
     ensures found { IfOk result (λ back. IsSettled url.now → IsSome back) }
     ensures again { IfOk result (λ back. IfSome back (IsAgain url.now)) }

@@ -14,7 +14,7 @@ use std::process::Abort;
 use std::test::Fail;
 
 /// The text of a location without its password, if that is read as just that: nothing but the password is another, and
-/// nothing but memory can be wanting.
+/// the only possible error is `Memory`.
 fn without_password(alloc: Global, mut url: Url) -> Result<Option<BString>, Error>
     ensures kept { IfOk result (λ new. IfSome new (λ t. SpellsAgain (record url { password = None }) (bstring_bytes t))) }
     ensures memory { IfErr result (λ e. e ≡ error.Memory) }

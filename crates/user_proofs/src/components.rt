@@ -24,7 +24,7 @@ fn are_made_alike(alloc: Global, one: &Url, other: &Url) -> Result<bool, Error>
 }
 
 /// Whether the path of a location is made of the same once its text was read again: for a settled location of HTTP it
-/// is, and nothing but memory can be wanting.
+/// is, and the only possible error is `Memory`.
 fn keeps_components(alloc: Global, url: &Url) -> Result<bool, Error>
     ensures kept { IfOk result (λ kept. IsWeb url.now → IsSettled url.now → kept ≡ true) }
     ensures memory { IsSettled url.now → IfErr result (λ e. e ≡ error.Memory) }

@@ -17,7 +17,7 @@ use std::process::Abort;
 use std::test::Fail;
 
 /// The location, stored and restored: what was read from a text comes back as it was, the retained spelling included,
-/// and nothing but memory can be wanting.
+/// and the only possible error is `Memory`.
 fn kept(alloc: Global, url: &Url) -> Result<Url, Error>
     ensures same { IfOk result (λ back. (b : List ℕ) → Spells b url.now → back ≡ url.now) }
     ensures memory { IfErr result (λ e. e ≡ error.Memory) }

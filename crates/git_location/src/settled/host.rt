@@ -54,7 +54,7 @@ fn is_bracketed_literal(host: &[u8]) -> bool
     }
 }
 
-/// What stands between a first `[` and a last `]`.
+/// What is between a first `[` and a last `]`.
 fn in_brackets(host: &[u8]) -> Option<&[u8]>
     ensures { StripsBrackets host.now result }
 {

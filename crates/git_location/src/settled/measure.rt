@@ -1,4 +1,4 @@
-//! The length test of a text that stands nowhere as a whole: a walk past its pieces.
+//! The length test of a text that is nowhere as a whole: a walk past its pieces.
 //!
 //! It uses the walk of `length`, the pieces of the writer and `value`. Its contract: the answer is yes exactly where
 //! the text of the location is short enough. The lengths of the parts decide for nearly all. It takes no memory.
@@ -104,7 +104,7 @@ fn are_short(scheme: &[u8], pieces: &Pieces<'_>) -> bool
     scheme.len() <= LIMIT && is_rest_short(scheme, pieces)
 }
 
-/// Whether what stands behind the scheme is short enough. Where it has no more bytes than the limit, none need be
+/// Whether what is behind the scheme is short enough. Where it has no more bytes than the limit, none need be
 /// looked at.
 fn is_rest_short(scheme: &[u8], pieces: &Pieces<'_>) -> bool
     ensures { result ≡ is_rest_short (spec.is_web_scheme scheme.now)

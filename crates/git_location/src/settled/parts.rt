@@ -49,7 +49,7 @@ pub(crate) fn begins_with_slashes(text: &[u8]) -> bool
     }
 }
 
-/// Whether `://` stands nowhere in the text. Few texts hold a colon.
+/// Whether `://` is nowhere in the text. Few texts hold a colon.
 pub(crate) fn lacks_mark(text: &[u8]) -> bool
     ensures { IsTrue result ↔ ¬ Holds (codes "://") text.now }
 {

@@ -1,4 +1,4 @@
-//! The settled URLs, but for those of files.
+//! The settled URLs, except for those of files.
 //!
 //! It uses `host`, `measure`, `parts`, `bytes`, `escape`, `home`, `scheme` and `text`. Its contract: the answer is yes exactly
 //! for those that the definitions settle. It takes no memory.

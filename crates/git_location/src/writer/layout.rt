@@ -1,4 +1,4 @@
-//! The layout of a text: which pieces stand in it, in which order.
+//! The layout of a text: which pieces are in it, in which order.
 //!
 //! It uses `bytes`, `escape` and `ipv6`, and the forms and pieces of this module's siblings. Its contract: the
 //! pieces of a location make up its text, and a fault is the location's own. It takes no memory.
@@ -21,7 +21,7 @@ use itoa::Buffer;
 
 impl<'a> UrlRef<'a> {
     /// The pieces of the text that the location has with this password in place of its own, or why it has none.
-    /// The digits of the port stand in the buffer.
+    /// The digits of the port are in the buffer.
     pub fn pieces<'b>(
         &'b self,
         password: Option<&'b str>,
@@ -227,7 +227,7 @@ fn port_digits<'a>(port: Option<u16>, digits: &'a mut Buffer) -> Option<&'a str>
     }
 }
 
-/// A host outside brackets: as it is, or escaped, but for the colons of an address.
+/// A host outside brackets: as it is, or escaped, except for the colons of an address.
 #[inline(always)]
 fn open_host<'a>(scheme: SchemeRef<'_>, host: &'a str) -> Piece<'a>
     ensures { piece_text result ≡ spec.open_host (lent_protocol scheme.entry) host.now }
@@ -242,7 +242,7 @@ fn open_host<'a>(scheme: SchemeRef<'_>, host: &'a str) -> Piece<'a>
     }
 }
 
-/// A host outside brackets as most schemes have it: escaped, but for the colons of an address.
+/// A host outside brackets as most schemes have it: escaped, except for the colons of an address.
 #[inline(never)]
 fn escaped_host(host: &str) -> Piece<'_>
     ensures { piece_text result ≡ spec.open_host ssh host.now }
@@ -268,7 +268,7 @@ fn wants_brackets(host: &[u8]) -> bool
     has_colon(host) && !bytes::starts_with_byte(host, b'[')
 }
 
-/// Whether `:` stands somewhere in the host.
+/// Whether `:` is somewhere in the host.
 fn has_colon(host: &[u8]) -> bool
     ensures { result ≡ spec.has_colon host.now }
 {

@@ -78,7 +78,7 @@ pub struct Pieces<'a> {
     pub user: UserPieces<'a>,
     /// The host.
     pub host: HostPieces<'a>,
-    /// The digits of the port, which stand behind a colon.
+    /// The digits of the port, which are behind a colon.
     pub port: Option<&'a str>,
     /// The path.
     pub path: PathPieces<'a>,
@@ -350,7 +350,7 @@ pub(crate) fn count_escaped(text: &[u8], set: AsciiSet) -> usize
         .count()
 }
 
-/// How many times `%` stands in the text.
+/// How many times `%` is in the text.
 fn count_percents(text: &[u8]) -> usize
     ensures { result ≡ count_by (λ b. b == percent_sign) text.now }
 {

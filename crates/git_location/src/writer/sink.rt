@@ -69,7 +69,7 @@ pub fn put_percents<T, S: Sink<T>>(place: &mut T, text: &str) -> Result<(), S::F
     S::put(place, rest)
 }
 
-/// What stands before and behind the first `%`.
+/// What is before and behind the first `%`.
 fn cut_at_percent(text: &str) -> Option<(&str, &str)>
     ensures { CutsAt percent_sign text.now result }
 {

@@ -73,7 +73,7 @@ fn write_piece(room: &mut [u8], piece: HostPiece<'_>) -> usize
     size + 2
 }
 
-/// Whether brackets stand around the host.
+/// Whether brackets are around the host.
 fn is_bracketed(piece: HostPiece<'_>) -> bool
     ensures { result ≡ is_bracketed piece.entry }
 {
@@ -132,7 +132,7 @@ pub fn normalize(host: &mut [u8])
     }
 }
 
-/// Lowercases what stands before the first `%`, or all where there is none.
+/// Lowercases what is before the first `%`, or all where there is none.
 pub fn lowercase_address(literal: &mut [u8])
     ensures { literal.new ≡ lowercase_address literal.old }
 {
@@ -140,7 +140,7 @@ pub fn lowercase_address(literal: &mut [u8])
     literal[..end].make_ascii_lowercase();
 }
 
-/// How many bytes stand before the first `%`.
+/// How many bytes are before the first `%`.
 fn address_len(literal: &[u8]) -> usize
     ensures within { result ≤ length literal.now }
     ensures cut { lowercase_address literal.now ≡ lowercase (take result literal.now)

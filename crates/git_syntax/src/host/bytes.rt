@@ -14,7 +14,7 @@ use crate::bytes::{after, cut};
 use crate::escape::{decodes_to_utf8, is_sound};
 use crate::ipv6::is_address;
 
-/// Whether each byte may stand in the host of an HTTP location.
+/// Whether each byte may be in the host of an HTTP location.
 pub fn are_http_host_bytes(text: &[u8]) -> bool
     ensures { result ≡ list_all spec.is_http_host_byte text.now }
 {
@@ -63,7 +63,7 @@ pub(super) fn is_literal(text: &[u8]) -> bool
     }
 }
 
-/// Whether the text is `25`, as it stands behind a `%`, and a zone.
+/// Whether the text is `25`, as it is behind a `%`, and a zone.
 pub fn is_escaped_zone(text: &[u8]) -> bool
     ensures { IsTrue result ↔ IsEscapedZone text.now }
 {
@@ -83,7 +83,7 @@ fn is_zone(text: &[u8]) -> bool
     !text.is_empty() && is_sound(text) && are_zone_bytes(text) && decodes_to_utf8(text)
 }
 
-/// Whether each byte may stand in a zone.
+/// Whether each byte may be in a zone.
 pub(crate) fn are_zone_bytes(text: &[u8]) -> bool
     ensures { result ≡ list_all address.is_zone_byte text.now }
 {

@@ -1,7 +1,7 @@
 //! What follows a host: nothing, a colon that stays with it, or a colon and a port.
 //!
 //! It may use `bytes` and `text`, and asks for no memory. Its contract: a port is read exactly where the definitions
-//! have one, and a host is told together with what follows it.
+//! have one, and a host is reported together with what follows it.
 
 ghost use Rattle.std.specs.Prelude.{◌≡◌, ◌↔◌, ◌∷◌, ℕ, IsTrue, MatchOption, Some};
 ghost use Rattle.std.specs.Char.{is_ascii_digit};

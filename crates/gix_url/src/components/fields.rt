@@ -70,7 +70,7 @@ fn lend_raw<'a>(
 }
 
 /// Puts the name and the value of the field behind the pairs, for which there is room, unless it is empty. Where it is
-/// known that no `+` stands in the field, it is not searched for one.
+/// known that no `+` is in the field, it is not searched for one.
 #[inline(always)]
 fn push_field<'a>(
     alloc: Global,
@@ -96,7 +96,7 @@ fn push_field<'a>(
     push_made(alloc, pairs, field)
 }
 
-/// Puts the name and the value of a field behind the pairs, for which there is room. It stands apart, so that the walk over
+/// Puts the name and the value of a field behind the pairs, for which there is room. It is apart, so that the walk over
 /// the fields doesn't have the memory of its results to clear.
 #[inline(never)]
 fn push_made<'a>(
@@ -115,7 +115,7 @@ fn push_made<'a>(
     Ok(())
 }
 
-/// Whether no `+` stands in the field, where that may be known.
+/// Whether no `+` is in the field, where that may be known.
 #[inline(always)]
 fn lacks_plus(field: &[u8], known: bool) -> bool
     requires { IsTrue known → FreeOf plus_sign field.now }

@@ -1,4 +1,4 @@
-//! Names and values of a query: lent as they stand in the path, or made where a raw `+` means a space.
+//! Names and values of a query: lent as they are in the path, or made where a raw `+` means a space.
 //!
 //! It uses `cuts` and the tests of `bytes`. Its contract: a name or a value is what its piece stands for, with each
 //! raw `+` a space, and memory is asked for only where there is one, and then once.
@@ -15,7 +15,7 @@ use bstr::{BStr, BString};
 use git_syntax::bytes::{append_within, is_free_of};
 use std::alloc::{AllocError, Global};
 
-/// The name and the value of a field, lent as they stand in the path.
+/// The name and the value of a field, lent as they are in the path.
 #[inline(always)]
 pub(super) fn lent_pair<'a>(field: Spelled<'a>) -> (QueryText<'a>, QueryText<'a>)
     requires { FreeOf plus_sign field.text.now }
@@ -28,7 +28,7 @@ pub(super) fn lent_pair<'a>(field: Spelled<'a>) -> (QueryText<'a>, QueryText<'a>
     )
 }
 
-/// The name and the value of a field, each lent where no raw `+` stands in it.
+/// The name and the value of a field, each lent where no raw `+` is in it.
 pub(super) fn lend_pair<'a>(
     alloc: Global,
     field: Spelled<'a>,

@@ -34,7 +34,7 @@ fn decoded_len(text: &[u8]) -> usize
     len
 }
 
-/// What stands behind a byte, and behind its digits where it begins an escape.
+/// What is behind a byte, and behind its digits where it begins an escape.
 #[inline(always)]
 fn behind_unit(first: u8, behind: &[u8]) -> &[u8]
     ensures decoded { length (percent_decode (first ∷ behind.now)) ≡ length (percent_decode result.now) + 1 }

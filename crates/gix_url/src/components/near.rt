@@ -12,7 +12,7 @@ use git_syntax::bytes::cut;
 /// How many bytes are looked at one by one.
 const NEAR: usize = 8;
 
-/// What stands before and behind the first `c`.
+/// What is before and behind the first `c`.
 #[inline(always)]
 pub(super) fn cut_near(bytes: &[u8], c: u8) -> Option<(&[u8], &[u8])>
     ensures { CutsAt c bytes.now result }

@@ -14,21 +14,21 @@ ghost use Rattle.gix_url.specs.Paths.{IsParent, Joins, LiesBelow, Opens, Without
 use git_syntax::bytes::{before, starts_with_byte};
 use std::alloc::AllocError;
 
-/// What stands before and behind the first `/`.
+/// What is before and behind the first `/`.
 fn first_slash(text: &str) -> Option<(&str, &str)>
     ensures { CutsAt slash text.now result }
 {
     text.split_once('/')
 }
 
-/// What stands before and behind the last `/`.
+/// What is before and behind the last `/`.
 fn last_slash(text: &str) -> Option<(&str, &str)>
     ensures { CutsAtLast slash text.now result }
 {
     text.rsplit_once('/')
 }
 
-/// The first segment, and what stands behind the `/` that ends it, if one does.
+/// The first segment, and what is behind the `/` that ends it, if one does.
 fn first_segment(text: &str) -> (&str, Option<&str>)
     ensures { CutsSegment text.now result.0 result.1 }
 {

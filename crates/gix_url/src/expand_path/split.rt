@@ -1,6 +1,6 @@
 //! The home split: whose home folder a path begins in, and what lies below it.
 //!
-//! It uses `bytes`. Its contract: the name and the rest, as they stand in the path.
+//! It uses `bytes`. Its contract: the name and the rest, as they are in the path.
 
 ghost use Rattle.std.specs.Prelude.{◌≡◌, ◌∷◌, Some, IfOk};
 ghost use Rattle.bstr.specs.Owned.{bstring_bytes};

@@ -1,4 +1,4 @@
-//! Examples of parts: looked at, exchanged, and handed to commands.
+//! Examples of parts: looked at, exchanged, and given to commands.
 
 use bstr::{BStr, BString};
 use gix_url::{ArgumentSafety, Error, Url};
@@ -51,7 +51,7 @@ fn as_path(alloc: Global) -> Result<BString, Error> {
     url.to_bstring(alloc) // `/path`
 }
 
-/// A user that may not be handed to a command.
+/// A user that may not be given to a command.
 #[derive(Clone, Copy, Debug)]
 struct Refused;
 

@@ -31,7 +31,7 @@ fn is_own(alloc: Global, path: BStr<'_>) -> Result<bool, Error> {
     Ok(user == Some(ForUser::Current))
 }
 
-/// The path of a location, to be handed to a shell on its host.
+/// The path of a location, to be given to a shell on its host.
 fn remote_path(alloc: Global, url: Url) -> Result<BString, Error> {
     for_shell(alloc, url.path)
 }

@@ -42,7 +42,7 @@ fn a_reader_fails_at_each_call(rt: HostRuntime) -> Result<(), Fail> {
 #[test]
 fn a_byte_a_call_is_answered(rt: HostRuntime) -> Result<(), Fail> {
     let mut out = FailingWriter::new(rt.alloc(), 1, ANSWER.len(), None);
-    // The last call tells that the input ends.
+    // The last call reports that the input ends.
     let mut input = reader(INPUT.len() + 1, FAULTS[0]);
     let is_settled = run(rt.alloc(), &mut input, &mut out)?;
     assert!(rt; !is_settled);

@@ -46,7 +46,7 @@ fn location(alloc: Global, mut number: usize) -> Result<Url, Fail> {
     Ok(url)
 }
 
-/// What a formatter was handed that fails behind so many calls, in one of six ways to ask, and whether it was told that
+/// What a formatter was given that fails behind so many calls, in one of six ways to ask, and whether it was asked that
 /// this is all.
 fn shown(alloc: Global, url: &Url, way: usize, calls: usize) -> (String, bool) {
     let kept = String::new(alloc);

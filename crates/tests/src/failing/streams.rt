@@ -118,7 +118,7 @@ impl Write for FailingWriter {
     }
 }
 
-/// A formatter that keeps what it is handed, also by the call at which it fails.
+/// A formatter that keeps what it gets, also by the call at which it fails.
 #[derive(Drop)]
 pub struct FailingFormatter {
     pub kept: String,
