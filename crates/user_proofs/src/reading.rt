@@ -31,8 +31,8 @@ fn is_location(alloc: Global, bytes: &[u8]) -> Result<bool, Error>
     }
 }
 
-/// What is read of the text of a location. Of a settled one it has the same public fields, and nothing but memory can be
-/// wanting.
+/// What is read of the text of a location. Of a settled one it has the same public fields, and the only
+/// possible error is `Memory`.
 fn through_text(alloc: Global, url: &Url) -> Result<Url, Error>
     ensures same { IsSettled url.now → IfOk result (λ read. fields read ≡ fields url.now) }
     ensures memory { IsSettled url.now → IfErr result (λ e. e ≡ error.Memory) }
