@@ -1,1 +1,51 @@
--- The entries of a configuration.
+-- The entries of a configuration: what contracts see of one, and the text that Git writes for it.
+use Rattle.std.specs.Prelude.{◌≡◌, ℕ, List, [], ◌∷◌, ◌++◌, Option, Some, None}
+use Rattle.git_syntax.specs.Bytes.{FreeOf, dot, newline, lowercase}
+
+-- an entry as plain values: `section.subsection.name` and its value, and at which byte of the text it begins
+pub record ConfigEntry : Type 0 where
+  pub section : List ℕ
+  pub subsection : Option (List ℕ)
+  pub name : List ℕ
+  pub value : Option (List ℕ)
+  pub at : ℕ
+
+-- the two texts are the same without letter case, as ASCII has it
+abbrev pub IsSameWord : List ℕ → List ℕ → Type 0
+IsSameWord a b = lowercase a ≡ lowercase b
+
+-- the entry is of the section, without letter case
+abbrev pub IsOfSection : List ℕ → ConfigEntry → Type 0
+IsOfSection word e = IsSameWord e.section word
+
+-- the entry has the name, without letter case
+abbrev pub HasName : List ℕ → ConfigEntry → Type 0
+HasName word e = IsSameWord e.name word
+
+-- what a key holds behind its first dot: the subsection, if there is one, and the name
+abbrev pub name_text : Option (List ℕ) → List ℕ → List ℕ
+name_text None name = name
+name_text (Some subsection) name = subsection ++ dot ∷ name
+
+-- the key of an entry
+abbrev pub key_text : ConfigEntry → List ℕ
+key_text e = e.section ++ dot ∷ name_text e.subsection e.name
+
+-- what follows a key: nothing, or a line feed and the value
+abbrev pub value_text : Option (List ℕ) → List ℕ
+value_text None = []
+value_text (Some value) = newline ∷ value
+
+-- the entry as Git writes it, without the byte 0 behind it
+abbrev pub entry_text : ConfigEntry → List ℕ
+entry_text e = key_text e ++ value_text e.value
+
+-- the section and the name are not empty and hold no dot, and the key holds no line feed: what makes an entry's text
+-- the text of no other
+abbrev pub IsWellFormed : ConfigEntry → Type 0
+IsWellFormed e =
+    FreeOf dot e.section × (¬ (e.section ≡ [])) × FreeOf dot e.name × (¬ (e.name ≡ [])) × FreeOf newline (key_text e)
+
+-- the line holds this entry
+abbrev pub SpellsEntry : List ℕ → ConfigEntry → Type 0
+SpellsEntry line e = IsWellFormed e × (line ≡ entry_text e)

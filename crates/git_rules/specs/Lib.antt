@@ -1,5 +1,6 @@
 -- What a user reads.
 pub mod Config
+pub mod ConfigView
 pub mod Rewrites
 pub mod Normal
 pub mod Patterns
