@@ -27,25 +27,24 @@ abbrev pub name_text : Option (List ℕ) → List ℕ → List ℕ
 name_text None name = name
 name_text (Some subsection) name = subsection ++ dot ∷ name
 
--- the key of an entry
-abbrev pub key_text : ConfigEntry → List ℕ
-key_text e = e.section ++ dot ∷ name_text e.subsection e.name
+-- the key of a section, a subsection and a name
+abbrev pub key_text : List ℕ → Option (List ℕ) → List ℕ → List ℕ
+key_text section subsection name = section ++ dot ∷ name_text subsection name
+
+-- the section and the name are not empty and hold no dot
+abbrev pub IsKey : List ℕ → List ℕ → Type 0
+IsKey section name = FreeOf dot section × (¬ (section ≡ [])) × FreeOf dot name × (¬ (name ≡ []))
+
+-- the key is made of these: a section, a subsection and a name
+abbrev pub SpellsKey : List ℕ → List ℕ → Option (List ℕ) → List ℕ → Type 0
+SpellsKey key section subsection name = IsKey section name × (key ≡ key_text section subsection name)
 
 -- what follows a key: nothing, or a line feed and the value
 abbrev pub value_text : Option (List ℕ) → List ℕ
 value_text None = []
 value_text (Some value) = newline ∷ value
 
--- the entry as Git writes it, without the byte 0 behind it
-abbrev pub entry_text : ConfigEntry → List ℕ
-entry_text e = key_text e ++ value_text e.value
-
--- the section and the name are not empty and hold no dot, and the key holds no line feed: what makes an entry's text
--- the text of no other
-abbrev pub IsWellFormed : ConfigEntry → Type 0
-IsWellFormed e =
-    FreeOf dot e.section × (¬ (e.section ≡ [])) × FreeOf dot e.name × (¬ (e.name ≡ [])) × FreeOf newline (key_text e)
-
--- the line holds this entry
+-- the line holds this entry: a key without a line feed, and what follows it
 abbrev pub SpellsEntry : List ℕ → ConfigEntry → Type 0
-SpellsEntry line e = IsWellFormed e × (line ≡ entry_text e)
+SpellsEntry line e = (key : List ℕ) × FreeOf newline key × SpellsKey key e.section e.subsection e.name
+    × (line ≡ key ++ value_text e.value)

@@ -1,6 +1,8 @@
 -- What a user reads.
 pub mod Config
 pub mod ConfigView
+pub mod ConfigItems
+pub mod ConfigReader
 pub mod Rewrites
 pub mod Normal
 pub mod Patterns

@@ -3,15 +3,26 @@
 //! It uses the cuts of `git_syntax`. Its contract: an entry is one value of five parts, and what is read is told as a
 //! concatenation: the texts of the entries, each with the byte 0 behind it, are the text.
 
-ghost use Rattle.std.specs.Prelude.{◌≡◌, ◌↔◌, ◌++◌, IsTrue};
+ghost use Rattle.std.specs.Prelude.{◌≡◌, ◌==◌, ◌↔◌, ◌++◌, ◌∷◌, [], IfOk, IsTrue, OnOk, count_by};
 ghost use Rattle.git_rules.specs.Config.{HasName, IsOfSection, IsSameWord};
+ghost use Rattle.git_rules.specs.ConfigItems.{CutsKey, CutsName, CutsValue, HasEntries, MeansItem, entries_of, start};
 
+use git_syntax::bytes::{cut, last_cut};
+use std::alloc::{AllocError, Global};
 use std::marker::Model;
+use thiserror::Error;
 
 /// An entry of a configuration: `section.subsection.name` and its value. Its parts are slices of the text that was read,
 /// and owning none of them it takes no memory.
 ///
 /// The fields may be put together by hand. Contracts see the five of them as plain values.
+///
+/// ```
+/// /// Whether an entry is `url.<base>.insteadOf`.
+/// fn is_rewrite(entry: &Entry<'_>) -> bool {
+///     entry.is_section("url") && entry.is_name("insteadof") && entry.subsection.is_some()
+/// }
+/// ```
 #[derive(Drop)]
 pub struct Entry<'a> {
     /// What the key holds before its first dot. Git writes it in lower case; [`Entry::is_section`] compares it without
@@ -42,6 +53,7 @@ impl<'a> Model for Entry<'a> {
 
 impl Entry<'_> {
     /// Whether the entry is of the section, without letter case (ASCII), as Git compares sections. It takes no memory.
+    /// [`Entry`] has an example.
     pub fn is_section(&self, section: &str) -> bool
         ensures { IsTrue result ↔ IsOfSection section.now self.now }
     {
@@ -49,6 +61,7 @@ impl Entry<'_> {
     }
 
     /// Whether the entry has the name, without letter case (ASCII), as Git compares names. It takes no memory.
+    /// [`Entry`] has an example.
     pub fn is_name(&self, name: &str) -> bool
         ensures { IsTrue result ↔ HasName name.now self.now }
     {
@@ -61,4 +74,202 @@ fn is_same_word(a: &[u8], b: &[u8]) -> bool
     ensures { IsTrue result ↔ IsSameWord a.now b.now }
 {
     a.eq_ignore_ascii_case(b)
+}
+
+/// Why what is read is not an entry, and at which byte of the text it begins. [`Reader`] has an example.
+#[derive(Clone, Copy, Debug, Drop, PartialEq, Eq, Error)]
+pub enum EntryError {
+    /// The key has no section or no name: it has no dot, begins with one or ends in one. The next entry is read on.
+    #[error("the key at byte {at} has no section or no name")]
+    NoKey {
+        /// The byte offset of the key in the text.
+        at: usize,
+    },
+    /// The text ends without the byte 0 that ends an entry: it isn't whole, and its last entry may be cut off.
+    #[error("the entry at byte {at} has no end")]
+    NoEnd {
+        /// The byte offset of the entry in the text.
+        at: usize,
+    },
+}
+
+/// Reads the entries of a text in turn, and what isn't one. It takes no memory.
+///
+/// Each entry ends in a byte 0. Its key ends before its first line feed, and the value is all that follows it; without a
+/// line feed there is no value. Where an entry can't be understood the item is an [`EntryError`], and the reader goes on
+/// behind it.
+///
+/// ```
+/// /// At which bytes of a configuration something stands that is no entry.
+/// fn bad_places(alloc: Global, text: &[u8]) -> Result<Vec<usize>, AllocError> {
+///     let mut places = Vec::new(alloc);
+///     for item in Reader::new(text) {
+///         match item {
+///             Ok(_) => {}
+///             Err(EntryError::NoKey { at } | EntryError::NoEnd { at }) => places.push(at)?,
+///         }
+///     }
+///     Ok(places)
+/// }
+/// ```
+#[derive(Drop)]
+pub struct Reader<'a> {
+    text: &'a [u8],
+    rest: &'a [u8],
+}
+
+impl<'a> Model for Reader<'a> {
+    ghost use Rattle.git_rules.specs.ConfigItems.{Place};
+
+    ghost Value = { Place };
+
+    ghost use Rattle.git_rules.specs.ConfigReader.{IsWithin, place};
+
+    ghost view = { place };
+
+    ghost invariant = { IsWithin };
+}
+
+impl<'a> Reader<'a> {
+    /// A reader of the text that `git config --list -z` writes. [`Reader`] has an example.
+    pub fn new(text: &'a [u8]) -> Reader<'a>
+        ensures { result ≡ start text.now }
+    {
+        Reader { text, rest: text }
+    }
+}
+
+impl<'a> Iterator for Reader<'a> {
+    ghost use Rattle.std.specs.Prelude.{length};
+    ghost use Rattle.std.specs.Iterator.{at_most};
+    ghost use Rattle.git_rules.specs.ConfigItems.{GivesItem};
+
+    type Item = Result<Entry<'a>, EntryError>;
+
+    ghost next_gives = { GivesItem };
+
+    ghost remaining = { λ from. at_most (length from.rest) };
+
+    fn next(&mut self) -> Option<Result<Entry<'a>, EntryError>> {
+        if self.rest.is_empty() {
+            return None;
+        }
+        let at = self.text.len() - self.rest.len();
+        match cut(self.rest, 0) {
+            Some((line, behind)) => {
+                self.rest = behind;
+                Some(read_line(line, at))
+            }
+            None => {
+                self.rest = self.rest.split_at(self.rest.len()).1;
+                Some(Err(EntryError::NoEnd { at }))
+            }
+        }
+    }
+}
+
+/// The entry that a line spells, where one is spelled. The line begins at this byte of the text.
+fn read_line(line: &[u8], at: usize) -> Result<Entry<'_>, EntryError>
+    ensures { MeansItem at line.now result }
+{
+    let (key, value) = cut_value(line);
+    match read_key(key) {
+        Some((section, subsection, name)) => Ok(Entry {
+            section,
+            subsection,
+            name,
+            value,
+            at,
+        }),
+        None => Err(EntryError::NoKey { at }),
+    }
+}
+
+/// The key of a line, and its value where there is one.
+fn cut_value(line: &[u8]) -> (&[u8], Option<&[u8]>)
+    ensures { CutsValue line.now result }
+{
+    match cut(line, b'\n') {
+        Some((key, value)) => (key, Some(value)),
+        None => (line, None),
+    }
+}
+
+/// The section, the subsection and the name of a key.
+fn read_key(key: &[u8]) -> Option<(&[u8], Option<&[u8]>, &[u8])>
+    ensures { CutsKey key.now result }
+{
+    let (section, behind) = cut(key, b'.')?;
+    let (subsection, name) = cut_name(behind);
+    if section.is_empty() {
+        return None;
+    }
+    if name.is_empty() {
+        return None;
+    }
+    Some((section, subsection, name))
+}
+
+/// The subsection, if there is one, and the name that a key holds behind its first dot.
+fn cut_name(behind: &[u8]) -> (Option<&[u8]>, &[u8])
+    ensures { CutsName behind.now result }
+{
+    match last_cut(behind, b'.') {
+        Some((subsection, name)) => (Some(subsection), name),
+        None => (None, behind),
+    }
+}
+
+/// The entries of a text that `git config --list -z` writes, in its order. What isn't an entry is left out: a [`Reader`]
+/// reports it, with its place, and reads on.
+///
+/// Memory is asked for once, for as many entries as there are bytes 0 in the text. The entries borrow from the text.
+///
+/// ```
+/// /// The last value of `http.proxy`, which is the one that Git takes.
+/// fn proxy(alloc: Global, text: &[u8]) -> Result<Option<&[u8]>, AllocError> {
+///     let mut found = None;
+///     for entry in &config::entries(alloc, text)? {
+///         if entry.is_section("http") && entry.subsection.is_none() && entry.is_name("proxy") {
+///             found = entry.value;
+///         }
+///     }
+///     Ok(found)
+/// }
+/// ```
+///
+/// # Errors
+///
+/// `AllocError` where memory is refused, and no other.
+pub fn entries(alloc: Global, text: &[u8]) -> Result<Vec<Entry<'_>>, AllocError>
+    ensures { IfOk result (λ found. HasEntries text.now found.items) }
+{
+    let mut found = Vec::with_capacity(alloc, count_ends(text))?;
+    for item in Reader::new(text) {
+        keep(&mut found, item)?;
+    }
+    Ok(found)
+}
+
+/// Keeps an item that is an entry.
+fn keep<'a>(
+    found: &mut Vec<Entry<'a>>,
+    item: Result<Entry<'a>, EntryError>,
+) -> Result<(), AllocError>
+    ensures { OnOk result (found.new.items ≡ found.old.items ++ entries_of (item.entry ∷ [])) }
+{
+    match item {
+        Ok(entry) => {
+            found.push(entry)?;
+            Ok(())
+        }
+        Err(_) => Ok(()),
+    }
+}
+
+/// How many entries end in the text.
+fn count_ends(text: &[u8]) -> usize
+    ensures { result ≡ count_by (λ b. b == 0) text.now }
+{
+    text.iter().filter(|byte| **byte == 0).count()
 }

@@ -1,0 +1,3 @@
+-- Keys, lines and the items that are read.
+pub mod KeyLemmas
+pub mod ItemLemmas
