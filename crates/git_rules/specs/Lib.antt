@@ -5,6 +5,7 @@ pub mod ConfigItems
 pub mod ConfigReader
 pub mod Rewrites
 pub mod Normal
+pub mod NormalView
 pub mod Patterns
 pub mod Protocols
 pub mod SecureShell

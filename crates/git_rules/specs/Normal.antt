@@ -1,1 +1,179 @@
--- The normal form of a URL.
+-- The normal form of a URL, by which Git compares the places of `http.<url>.*` and `credential.<url>.*` (git-config(1)).
+use Rattle.std.specs.Prelude.{◌≡◌, ℕ, ◌+◌, ◌*◌, Bool, true, false, ◌&&◌, ◌||◌, ◌==◌, nat_le, ◌⊎◌, List, [], ◌∷◌, ◌++◌, map, codes, bytes_eq, Option, Some, None, option_and_then, if◌then◌else◌}
+use Rattle.std.specs.List.{list_all, slice_split}
+use Rattle.std.specs.Char.{is_ascii_alphanumeric, digit_value}
+use Rattle.percent_encoding.specs.Percent.{percent_encode_byte}
+use Rattle.git_syntax.specs.Bytes.{space, slash, colon, question_mark, number_sign, at_sign, percent_sign, right_bracket, delete, Lacks, FreeOf, begins_by, lowercase, is_scheme_text, is_path_start, StartsPath, is_one_of}
+use Rattle.git_syntax.specs.Escapes.{is_sound}
+use Rattle.git_syntax.specs.Grammar.{or_root}
+use Rattle.git_syntax.specs.Hosts.{Number}
+use Rattle.git_syntax.specs.Hosts.Mode.{strict}
+
+-- a URL in its normal form, as far as it is compared: no port is the scheme's own one or none, and the path has its query
+-- and its fragment
+pub record NormalPlace : Type 0 where
+  pub scheme : List ℕ
+  pub user : Option (List ℕ)
+  pub host : List ℕ
+  pub port : Option ℕ
+  pub path : List ℕ
+
+-- ---- escapes
+
+-- a byte that is always written as an escape: a control, the space, one past ASCII, or one of these
+abbrev pub is_unsafe : ℕ → Bool
+is_unsafe b = nat_le b space || nat_le delete b || is_one_of (codes "<>\"%{}|\\^`") b
+
+-- a delimiter (RFC 3986, `reserved`), whose escape stays one
+abbrev pub is_reserved : ℕ → Bool
+is_reserved b = is_one_of (codes ":/?#[]@!$&'()*+,;=") b
+
+-- what a byte becomes that isn't escaped
+abbrev pub normal_byte : ℕ → List ℕ
+normal_byte b = if is_unsafe b then percent_encode_byte b else b ∷ []
+
+-- what the escape of a byte becomes
+abbrev pub normal_escape : ℕ → List ℕ
+normal_escape b = if is_unsafe b || is_reserved b then percent_encode_byte b else b ∷ []
+
+-- the byte of two hexadecimal digits
+abbrev pub escaped_byte : ℕ → ℕ → ℕ
+escaped_byte high low = digit_value high * 16 + digit_value low
+
+-- a text whose escapes are sound, with each byte and each escape in its normal form
+unfoldable pub normal_text : List ℕ → List ℕ
+normal_text [] = []
+normal_text (b ∷ []) = normal_byte b
+normal_text (b ∷ c ∷ []) = normal_byte b ++ normal_byte c
+normal_text (b ∷ high ∷ low ∷ rest) =
+    if b == percent_sign then normal_escape (escaped_byte high low) ++ normal_text rest
+    else normal_byte b ++ normal_text (high ∷ low ∷ rest)
+
+-- ---- user information
+
+-- the user of the user information: what precedes its first `:`, or all of it
+abbrev pub IsUserOf : List ℕ → List ℕ → Type 0
+IsUserOf info user = (FreeOf colon info × (user ≡ info))
+    ⊎ ((password : List ℕ) × FreeOf colon user × (info ≡ user ++ colon ∷ password))
+
+-- ---- hosts and ports
+
+-- a byte of a host: a letter, a digit or one of `.-_[:]`, and where stars are allowed `*`
+abbrev pub is_host_byte : Bool → ℕ → Bool
+is_host_byte globs b = is_ascii_alphanumeric b || is_one_of (codes ".-_[:]") b || (globs && is_one_of (codes "*") b)
+
+-- a text is cut into a name and the text of a port at its last `:`, if no `]` follows that
+pub data CutsPort (text : List ℕ) (name : List ℕ) (port : List ℕ) : Type 0 where
+  no_colon : FreeOf colon text → name ≡ text → port ≡ [] → CutsPort text name port
+  in_brackets : (front : List ℕ) (back : List ℕ) → text ≡ front ++ colon ∷ back → FreeOf colon back
+      → ¬ FreeOf right_bracket back → name ≡ text → port ≡ [] → CutsPort text name port
+  at_colon : text ≡ name ++ colon ∷ port → FreeOf colon port → FreeOf right_bracket port
+      → CutsPort text name port
+
+-- no host begins the text: it is empty or begins with `:`
+abbrev pub lacks_host : List ℕ → Bool
+lacks_host [] = true
+lacks_host (b ∷ bs) = b == colon
+
+-- the host in lower case. It may be missing in a URL of `file` alone, without a port, and what precedes a last colon then
+-- doesn't count
+pub data HostFor (scheme : List ℕ) (text : List ℕ) (name : List ℕ) (port : List ℕ) (host : List ℕ) : Type 0 where
+  named : lacks_host text ≡ false → host ≡ lowercase name → HostFor scheme text name port host
+  missing : lacks_host text ≡ true → scheme ≡ codes "file" → port ≡ [] → host ≡ []
+      → HostFor scheme text name port host
+
+-- the port is the scheme's own one
+abbrev pub is_own_port : List ℕ → ℕ → Bool
+is_own_port scheme port = (bytes_eq scheme (codes "http") && port == 80)
+    || (bytes_eq scheme (codes "https") && port == 443)
+
+-- the text of a port: empty, or the digits of a number from 1 to 65,535
+abbrev pub PortFor : List ℕ → List ℕ → Option ℕ → Type 0
+PortFor scheme text port = ((text ≡ []) × (port ≡ None))
+    ⊎ ((p : ℕ) × Number strict text p × (port ≡ (if is_own_port scheme p then None else Some p)))
+
+-- the text is a host and perhaps a port
+pub record HostPort (globs : Bool) (scheme text host : List ℕ) (port : Option ℕ) : Type 0 where
+  pub name : List ℕ
+  pub digits : List ℕ
+  pub cut : CutsPort text name digits
+  pub bytes : list_all (is_host_byte globs) name ≡ true
+  pub host_form : HostFor scheme text name digits host
+  pub port_form : PortFor scheme digits port
+
+-- the text is an authority: a host and perhaps a port, behind the user information that ends at the first `@`
+pub data NormalAuthority (globs : Bool) (scheme : List ℕ) (text : List ℕ) (user : Option (List ℕ)) (host : List ℕ)
+    (port : Option ℕ) : Type 0 where
+  alone : FreeOf at_sign text → user ≡ None → HostPort globs scheme text host port
+      → NormalAuthority globs scheme text user host port
+  with_user : (info : List ℕ) (rest : List ℕ) (name : List ℕ) → FreeOf at_sign info
+      → text ≡ info ++ at_sign ∷ rest → is_sound info ≡ true → IsUserOf info name
+      → user ≡ Some (normal_text name) → HostPort globs scheme rest host port
+      → NormalAuthority globs scheme text user host port
+
+-- ---- paths
+
+-- a stack of segments, the last on top, as a path: each behind a `/`
+abbrev pub stacked_path : List (List ℕ) → List ℕ
+stacked_path [] = []
+stacked_path (top ∷ below) = stacked_path below ++ slash ∷ top
+
+-- a stack without its top, if it has one
+abbrev pub without_top : List (List ℕ) → Option (List (List ℕ))
+without_top [] = None
+without_top (top ∷ below) = Some below
+
+-- a segment is read: `.` leaves the stack as it is, `..` takes its top off, any other goes on top of it
+abbrev pub put_segment : List (List ℕ) → List ℕ → Option (List (List ℕ))
+put_segment stack segment = if bytes_eq segment (codes ".") then Some stack
+    else if bytes_eq segment (codes "..") then without_top stack
+    else Some (segment ∷ stack)
+
+-- the segments are read one after the other, on top of a stack; there is no outcome where a `..` finds none before it
+abbrev pub put_segments : List (List ℕ) → List (List ℕ) → Option (List (List ℕ))
+put_segments [] stack = Some stack
+put_segments (segment ∷ rest) stack = option_and_then (λ left. put_segments rest left) (put_segment stack segment)
+
+-- a query or a fragment begins at the byte
+abbrev pub is_rest_start : ℕ → Bool
+is_rest_start b = b == question_mark || b == number_sign
+
+-- a text without a first `/`
+abbrev pub unrooted : List ℕ → List ℕ
+unrooted [] = []
+unrooted (b ∷ bs) = if b == slash then bs else b ∷ bs
+
+-- the segments of a text, each in its normal form
+abbrev pub normal_segments : List ℕ → List (List ℕ)
+normal_segments text = map normal_text (slice_split (λ b. b == slash) text)
+
+-- what follows the authority becomes the path: its segments without `.` and `..` behind a `/`, then query and fragment
+pub record NormalPath (behind path : List ℕ) : Type 0 where
+  pub segments : List ℕ
+  pub rest : List ℕ
+  pub stack : List (List ℕ)
+  pub joined : unrooted behind ≡ segments ++ rest
+  pub before_rest : Lacks is_rest_start segments
+  pub rest_starts : (rest ≡ []) ⊎ (begins_by is_rest_start rest ≡ true)
+  pub sound : is_sound behind ≡ true
+  pub put : put_segments (normal_segments segments) [] ≡ Some stack
+  pub form : path ≡ or_root (stacked_path stack) ++ normal_text rest
+
+-- ---- URLs
+
+-- the text is a URL: a scheme, `://`, an authority, and what follows that from the first `/`, `?` or `#` on
+pub record UrlCut (text scheme authority behind : List ℕ) : Type 0 where
+  pub joined : text ≡ scheme ++ (codes "://" ++ (authority ++ behind))
+  pub scheme_text : is_scheme_text scheme ≡ true
+  pub before_path : Lacks (is_path_start true) authority
+  pub path_starts : StartsPath true behind
+
+-- the text has the normal form; a host may hold `*` where stars are allowed, as in a pattern
+pub record IsNormalOf (globs : Bool) (text : List ℕ) (n : NormalPlace) : Type 0 where
+  pub scheme : List ℕ
+  pub authority : List ℕ
+  pub behind : List ℕ
+  pub cut : UrlCut text scheme authority behind
+  pub scheme_form : n.scheme ≡ lowercase scheme
+  pub authority_form : NormalAuthority globs (lowercase scheme) authority n.user n.host n.port
+  pub path_form : NormalPath behind n.path
