@@ -6,6 +6,7 @@ pub mod ConfigReader
 pub mod Rewrites
 pub mod Normal
 pub mod NormalView
+pub mod NormalPieces
 pub mod Patterns
 pub mod Protocols
 pub mod SecureShell

@@ -20,21 +20,25 @@ pub record NormalPlace : Type 0 where
 
 -- ---- escapes
 
--- a byte that is always written as an escape: a control, the space, one past ASCII, or one of these
+-- a printable byte that is always written as an escape
+abbrev pub is_unsafe_mark : ℕ → Bool
+is_unsafe_mark b = is_one_of (codes "<>\"%{}|\\^`") b
+
+-- a byte that is always written as an escape: a control, the space, one past ASCII, or such a mark
 abbrev pub is_unsafe : ℕ → Bool
-is_unsafe b = nat_le b space || nat_le delete b || is_one_of (codes "<>\"%{}|\\^`") b
+is_unsafe b = nat_le b space || (nat_le delete b || is_unsafe_mark b)
+
+-- a delimiter of parts of a component (RFC 3986, `sub-delims`)
+abbrev pub is_sub_delimiter : ℕ → Bool
+is_sub_delimiter b = is_one_of (codes "!$&'()*+,;=") b
 
 -- a delimiter (RFC 3986, `reserved`), whose escape stays one
 abbrev pub is_reserved : ℕ → Bool
-is_reserved b = is_one_of (codes ":/?#[]@!$&'()*+,;=") b
+is_reserved b = is_one_of (codes ":/?#[]@") b || is_sub_delimiter b
 
--- what a byte becomes that isn't escaped
-abbrev pub normal_byte : ℕ → List ℕ
-normal_byte b = if is_unsafe b then percent_encode_byte b else b ∷ []
-
--- what the escape of a byte becomes
-abbrev pub normal_escape : ℕ → List ℕ
-normal_escape b = if is_unsafe b || is_reserved b then percent_encode_byte b else b ∷ []
+-- what a byte becomes, which may have come as an escape: an escape where it is unsafe, or a delimiter that came as one
+abbrev pub normal_byte : Bool → ℕ → List ℕ
+normal_byte escaped b = if is_unsafe b || (escaped && is_reserved b) then percent_encode_byte b else b ∷ []
 
 -- the byte of two hexadecimal digits
 abbrev pub escaped_byte : ℕ → ℕ → ℕ
@@ -43,11 +47,11 @@ escaped_byte high low = digit_value high * 16 + digit_value low
 -- a text whose escapes are sound, with each byte and each escape in its normal form
 unfoldable pub normal_text : List ℕ → List ℕ
 normal_text [] = []
-normal_text (b ∷ []) = normal_byte b
-normal_text (b ∷ c ∷ []) = normal_byte b ++ normal_byte c
+normal_text (b ∷ []) = normal_byte false b
+normal_text (b ∷ c ∷ []) = normal_byte false b ++ normal_byte false c
 normal_text (b ∷ high ∷ low ∷ rest) =
-    if b == percent_sign then normal_escape (escaped_byte high low) ++ normal_text rest
-    else normal_byte b ++ normal_text (high ∷ low ∷ rest)
+    if b == percent_sign then normal_byte true (escaped_byte high low) ++ normal_text rest
+    else normal_byte false b ++ normal_text (high ∷ low ∷ rest)
 
 -- ---- user information
 

@@ -4,6 +4,8 @@
 //! Git compares the places of `http.<url>.*` and `credential.<url>.*`. It takes no memory: what has other bytes than the
 //! text is written into a room that the caller lends.
 
+mod escapes;
+
 use std::marker::Model;
 
 /// A URL in its normal form, as far as Git compares it, in slices of the text and of a room.

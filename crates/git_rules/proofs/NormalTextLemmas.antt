@@ -1,0 +1,78 @@
+-- The normal form of a text, one byte or one escape after the other.
+use Rattle.std.proofs.Common.{◌≡◌, ◌∙◌, ◌+◌, ◌-◌, ◌*◌, ◌≤◌, ◌∷◌, ◌++◌, ℕ, Bool, true, false, ◌&&◌, ◌==◌, List, [], length, take, drop, get_or, refl, sym, ap, arith}
+use Rattle.std.proofs.lemmas.Bool.{and_parts}
+use Rattle.std.proofs.lemmas.Bool.Decides.{nat_tests}
+use Rattle.std.proofs.lemmas.List.{append-nil, take_rest, append_assoc, length-append}
+use Rattle.std.specs.Char.{digit_value}
+use Rattle.percent_encoding.specs.Percent.{percent_encode_byte}
+use Rattle.git_syntax.specs.Bytes.{is_hexadecimal, percent_sign}
+use Rattle.git_syntax.specs.Escapes.{is_sound}
+use Rattle.git_syntax.proofs.Texts.EscapeLemmas.{sound_tail}
+use Rattle.git_rules.specs.Normal.{normal_byte, normal_text, escaped_byte}
+use Rattle.git_rules.specs.NormalPieces.{SplitsNormal}
+
+-- the escape of a byte is three bytes
+pub length-encode_byte : (b : ℕ) → length (percent_encode_byte b) ≡ 3
+unfolding percent_encode_byte
+length-encode_byte b = refl
+
+-- a byte that is no `%` is written by itself
+pub normal_kept : (b : ℕ) (rest : List ℕ) → (b == percent_sign) ≡ false → normal_text (b ∷ rest) ≡ normal_byte false b ++ normal_text rest
+unfolding normal_text
+normal_kept b [] other = sym (append-nil (normal_byte false b))
+normal_kept b (c ∷ []) other = refl
+normal_kept b (c ∷ d ∷ rest) other = grind arith
+
+-- an escape becomes the normal form of its byte
+pub normal_escape : (high low : ℕ) (rest : List ℕ) → normal_text (percent_sign ∷ high ∷ low ∷ rest) ≡ normal_byte true (escaped_byte high low) ++ normal_text rest
+unfolding normal_text
+normal_escape high low rest = refl
+
+-- a first byte that is no `%`
+pub splits_kept : (text behind : List ℕ) (b : ℕ) → text ≡ b ∷ behind → (b == percent_sign) ≡ false → is_sound text ≡ true → SplitsNormal text b false behind
+splits_kept text behind b e other sound = record {
+  joined = ap normal_text e ∙ normal_kept b behind other;
+  sound = sound_tail b behind (sym (ap is_sound e) ∙ sound);
+  shorter = omega (arith, ap length e);
+}
+
+-- a sound escape has two digits
+pub sound_escape : (high low : ℕ) (rest : List ℕ) → is_sound (percent_sign ∷ high ∷ low ∷ rest) ≡ true → (is_hexadecimal high ≡ true) × (is_hexadecimal low ≡ true) × (is_sound rest ≡ true)
+sound_escape high low rest sound =
+    let one = and_parts (is_hexadecimal high) (is_hexadecimal low && is_sound rest) sound in
+    let two = and_parts (is_hexadecimal low) (is_sound rest) one.1 in
+    (one.0, two.0, two.1)
+
+-- what follows a `%` of a sound text has two bytes
+pub sound_long : (behind : List ℕ) → is_sound (percent_sign ∷ behind) ≡ true → 2 ≤ length behind
+sound_long [] sound = grind (arith, nat_tests)
+sound_long (b ∷ []) sound = grind (arith, nat_tests)
+sound_long (b ∷ c ∷ rest) sound = omega arith
+
+-- they are digits
+pub sound_digits : (behind : List ℕ) → is_sound (percent_sign ∷ behind) ≡ true → (is_hexadecimal (get_or behind 0 0) ≡ true) × (is_hexadecimal (get_or behind 1 0) ≡ true)
+sound_digits [] sound = absurd (let long = sound_long [] sound in omega (arith, long))
+sound_digits (b ∷ []) sound = absurd (let long = sound_long (b ∷ []) sound in omega (arith, long))
+sound_digits (b ∷ c ∷ rest) sound = let parts = sound_escape b c rest sound in (parts.0, parts.1)
+
+-- the escape that a sound text begins with
+pub splits_escape : (behind : List ℕ) (high low : ℕ) → is_sound (percent_sign ∷ behind) ≡ true → high ≡ digit_value (get_or behind 0 0) → low ≡ digit_value (get_or behind 1 0)
+    → SplitsNormal (percent_sign ∷ behind) (high * 16 + low) true (take (length behind - 2) (drop 2 behind))
+splits_escape [] high low sound one two = absurd (let long = sound_long [] sound in omega (arith, long))
+splits_escape (b ∷ []) high low sound one two = absurd (let long = sound_long (b ∷ []) sound in omega (arith, long))
+splits_escape (b ∷ c ∷ rest) high low sound one two =
+    let left = take_rest (b ∷ c ∷ rest) 2 in
+    let value : escaped_byte b c ≡ high * 16 + low = omega (arith, one, two) in record {
+      joined = normal_escape b c rest ∙ ap (λ byte. normal_byte true byte ++ normal_text rest) value ∙ ap (λ r. normal_byte true (high * 16 + low) ++ normal_text r) (sym left);
+      sound = ap is_sound left ∙ (sound_escape b c rest sound).2;
+      shorter = omega (arith, ap length left);
+    }
+
+-- where nothing is left, all is written
+pub all_normal : (done front rest text : List ℕ) → done ++ normal_text rest ≡ front ++ normal_text text → rest ≡ [] → done ≡ front ++ normal_text text
+unfolding normal_text
+all_normal done front rest text joined e = sym (append-nil done) ∙ sym (ap (λ left. done ++ normal_text left) e) ∙ joined
+
+-- how long the escape of a byte makes a text
+pub escaped_length : (text : List ℕ) (b : ℕ) → text ≡ percent_encode_byte b → length text ≡ 3
+escaped_length text b e = ap length e ∙ length-encode_byte b

@@ -1,0 +1,153 @@
+//! The normal form of escapes: each byte that must be escaped is, in upper case, and no other but for delimiters.
+//!
+//! It uses the bytes and escapes of `git_syntax` and of the crate `percent_encoding`. Its contract: what is written into the
+//! front of a room is the normal form of a text whose escapes are sound.
+
+ghost use Rattle.std.specs.Prelude.{◌≡◌, ◌∷◌, ◌+◌, ◌*◌, ◌++◌, ◌<◌, ◌≤◌, MatchOption, length, take, true, []};
+ghost use Rattle.std.specs.Char.{digit_value};
+ghost use Rattle.git_syntax.specs.Bytes.{is_hexadecimal, percent_sign};
+ghost use Rattle.git_syntax.specs.Escapes.{is_sound};
+ghost use Rattle.git_rules.specs.Normal as spec;
+ghost use Rattle.git_rules.specs.NormalPieces.{SplitsNormal};
+
+use percent_encoding::percent_encode_byte;
+
+/// The normal form of a text, in the front of the room, and the room behind it.
+pub(super) fn normal_in<'a>(text: &[u8], room: &'a mut [u8]) -> (&'a [u8], &'a mut [u8])
+    requires sound { is_sound text.now ≡ true }
+    requires room { 3 * length text.now ≤ length room.old }
+    ensures text { result.0.now ≡ spec.normal_text text.now }
+    ensures left { length room.old ≤ length result.1.now + 3 * length text.now }
+{
+    let size = put_normal(room, 0, text);
+    let (form, left) = room.split_at_mut(size);
+    (form, left)
+}
+
+/// Writes the normal form of a text into the room behind its first bytes, and returns where it ends.
+pub(super) fn put_normal(room: &mut [u8], start: usize, text: &[u8]) -> usize
+    requires sound { is_sound text.now ≡ true }
+    requires room { start + 3 * length text.now ≤ length room.old }
+    ensures bytes { take result room.new ≡ take start room.old ++ spec.normal_text text.now }
+    ensures least { start ≤ result }
+    ensures most { result ≤ start + 3 * length text.now }
+{
+    let mut at = start;
+    let mut rest = text;
+    while let Some((byte, escaped, behind)) = split_normal(rest) {
+        at = put_byte(room, at, byte, escaped);
+        rest = behind;
+    }
+    at
+}
+
+/// The first byte of a text, whether it came as an escape, and what follows it.
+fn split_normal(text: &[u8]) -> Option<(u8, bool, &[u8])>
+    requires { is_sound text.now ≡ true }
+    ensures { MatchOption result (text.now ≡ []) (λ p. SplitsNormal text.now p.0 p.1 p.2.now) }
+{
+    let (first, behind) = text.split_first()?;
+    if *first == b'%' {
+        let (byte, rest) = split_digits(behind);
+        return Some((byte, true, rest));
+    }
+    Some((*first, false, behind))
+}
+
+/// The byte of the two digits that follow a `%`, and what follows them.
+fn split_digits(behind: &[u8]) -> (u8, &[u8])
+    requires { is_sound (percent_sign ∷ behind.now) ≡ true }
+    ensures { SplitsNormal (percent_sign ∷ behind.now) result.0 true result.1.now }
+{
+    match behind {
+        [high, low, rest @ ..] => (digit(*high) * 16 + digit(*low), rest),
+        _ => unreachable!(),
+    }
+}
+
+/// The value of a hexadecimal digit, of either case.
+fn digit(byte: u8) -> u8
+    requires { is_hexadecimal byte ≡ true }
+    ensures value { result ≡ digit_value byte }
+    ensures small { result < 16 }
+{
+    match byte {
+        b'0'..=b'9' => byte - b'0',
+        b'A'..=b'F' => byte - b'A' + 10,
+        b'a'..=b'f' => byte - b'a' + 10,
+        _ => unreachable!(),
+    }
+}
+
+/// Writes the normal form of a byte into the room behind its first bytes, and returns where it ends.
+fn put_byte(room: &mut [u8], at: usize, byte: u8, escaped: bool) -> usize
+    requires { at + 3 ≤ length room.old }
+    ensures bytes { take result room.new ≡ take at room.old ++ spec.normal_byte escaped byte }
+    ensures least { at ≤ result }
+    ensures most { result ≤ at + 3 }
+{
+    if is_unsafe(byte) || (escaped && is_reserved(byte)) {
+        put(room, at, percent_encode_byte(byte).as_bytes())
+    } else {
+        put(room, at, &[byte])
+    }
+}
+
+/// Writes the bytes into the room behind its first bytes, and returns where they end.
+pub(super) fn put(room: &mut [u8], at: usize, bytes: &[u8]) -> usize
+    requires { at + length bytes.now ≤ length room.old }
+    ensures end { result ≡ at + length bytes.now }
+    ensures bytes { take result room.new ≡ take at room.old ++ bytes.now }
+{
+    let end = at + bytes.len();
+    room[at..end].copy_from_slice(bytes);
+    end
+}
+
+/// Whether a byte is always escaped.
+fn is_unsafe(byte: u8) -> bool
+    ensures { result ≡ spec.is_unsafe byte }
+{
+    byte <= b' ' || 127 <= byte || is_unsafe_mark(byte)
+}
+
+/// Whether a printable byte is always escaped.
+fn is_unsafe_mark(byte: u8) -> bool
+    ensures { result ≡ spec.is_unsafe_mark byte }
+{
+    matches!(
+        byte,
+        b'<' | b'>' | b'"' | b'%' | b'{' | b'}' | b'|' | b'\\' | b'^' | b'`'
+    )
+}
+
+/// Whether a byte is a delimiter, whose escape stays one.
+fn is_reserved(byte: u8) -> bool
+    ensures { result ≡ spec.is_reserved byte }
+{
+    byte == b':'
+        || byte == b'/'
+        || byte == b'?'
+        || byte == b'#'
+        || byte == b'['
+        || byte == b']'
+        || byte == b'@'
+        || is_sub_delimiter(byte)
+}
+
+/// Whether a byte is a delimiter of parts of a component.
+fn is_sub_delimiter(byte: u8) -> bool
+    ensures { result ≡ spec.is_sub_delimiter byte }
+{
+    byte == b'!'
+        || byte == b'$'
+        || byte == b'&'
+        || byte == b'\''
+        || byte == b'('
+        || byte == b')'
+        || byte == b'*'
+        || byte == b'+'
+        || byte == b','
+        || byte == b';'
+        || byte == b'='
+}
