@@ -2,3 +2,6 @@
 pub mod PathLemmas
 pub mod LabelLemmas
 pub mod RankLemmas
+pub mod HostLemmas
+pub mod PlaceLemmas
+pub mod PickedLemmas

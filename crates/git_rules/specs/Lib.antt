@@ -8,5 +8,6 @@ pub mod Normal
 pub mod NormalView
 pub mod NormalPieces
 pub mod Patterns
+pub mod PatternLaws
 pub mod Protocols
 pub mod SecureShell

@@ -1,5 +1,5 @@
 -- Patterns of places, and the best of those that match.
-use Rattle.std.specs.Prelude.{◌≡◌, ℕ, ◌+◌, ◌<◌, Bool, true, false, ◌==◌, ◌⊎◌, List, [], ◌∷◌, ◌++◌, length, All, Option, Some, None, is_some, if◌then◌else◌}
+use Rattle.std.specs.Prelude.{◌≡◌, ℕ, ◌+◌, ◌<◌, ◌==◌, ◌⊎◌, List, [], ◌∷◌, ◌++◌, length, All, Option, Some, None, is_some, if◌then◌else◌}
 use Rattle.git_syntax.specs.Bytes.{dot, slash}
 use Rattle.git_rules.specs.declared.pattern.Rank.{Rank}
 use Rattle.git_rules.specs.Normal.{NormalPlace}

@@ -1,6 +1,7 @@
 //! Patterns of places, as in `credential.<url>.*` and `http.<url>.*`, and the best of those that match.
 
 ghost use Rattle.std.specs.Prelude.{◌≡◌, ◌<◌, ◌↔◌, ◌∷◌, ◌++◌, ℕ, List, [], IsTrue, MatchOption, length, option_map};
+ghost use Rattle.git_rules.specs.PatternLaws.{PickedGoesToOwn};
 ghost use Rattle.git_rules.specs.Patterns as spec;
 ghost use Rattle.git_rules.specs.Patterns.{HasRank, IsBelow, IsBest, IsBetter, IsLower, Matches, MatchesHost, MatchesLabel, MatchesPath, MatchesUser, RanksFor, labels_of, rank_of};
 
@@ -207,3 +208,8 @@ fn behind<'a>(front: &[u8], text: &'a [u8]) -> Option<&'a [u8]>
 {
     text.strip_prefix(front)
 }
+
+/// What a pattern picks goes nowhere else.
+pub fn law_picked()
+    ensures { PickedGoesToOwn }
+{}

@@ -1,5 +1,5 @@
 -- The labels of a host: cut at its first `.`, and left alone.
-use Rattle.std.proofs.Common.{◌≡◌, ℕ, ◌<◌, ◌==◌, ◌↔◌, List, [], ◌∷◌, ◌++◌, length, refl, sym, ap, ◌∙◌, arith, length-append, Bool, true, false, Option, Some, None, MatchOption, IsTrue, Bor, subst, inl, inr}
+use Rattle.std.proofs.Common.{◌≡◌, ℕ, ◌<◌, ◌==◌, ◌↔◌, List, [], ◌∷◌, ◌++◌, length, refl, sym, ap, ◌∙◌, arith, length-append, Bool, Option, Some, None, MatchOption, IsTrue, Bor, subst, inl, inr}
 use Rattle.std.proofs.lemmas.Bool.{cases_Bool}
 use Rattle.git_syntax.specs.Bytes.{dot, FreeOf}
 use Rattle.git_syntax.proofs.Texts.CutLemmas.{free_head_tail}
@@ -27,7 +27,7 @@ in_first_label_some b [] e = cc
 in_first_label_some b (label ∷ labels) e = cc
 
 -- a host that isn't empty has a label
-labels_some : (b : ℕ) (bs : List ℕ) → labels_of (b ∷ bs) ≡ [] → ⊥
+pub labels_some : (b : ℕ) (bs : List ℕ) → labels_of (b ∷ bs) ≡ [] → ⊥
 labels_some b bs e =
     elim (cases_Bool (b == dot)) [
       | inl same ↦ let one = rw same at e in cc

@@ -1,0 +1,52 @@
+-- The law on patterns: what a pattern without `*` picks for a text goes to the scheme, the host and the port of the pattern.
+use Rattle.std.specs.Prelude.{◌≡◌, ℕ, false, ◌⊎◌, List, [], ◌∷◌, ◌++◌, decimal, Option, Some, None, option_map, Ok}
+use Rattle.git_syntax.specs.Value.{Location}
+use Rattle.git_syntax.specs.Bytes.{dot, FreeOf}
+use Rattle.git_syntax.specs.Schemes.{default_port_of, protocol_of}
+use Rattle.git_location.specs.Text.{port_part, text}
+use Rattle.git_location.specs.Settled.{IsValue, IsWeb}
+use Rattle.git_location.specs.GitClass.{AgreesWithGit}
+use Rattle.git_laws.specs.GitWeb.{CredentialReading, CredentialReads, UriReading, UriReads}
+use Rattle.git_rules.specs.Normal.{NormalPlace, IsNormalOf}
+use Rattle.git_rules.specs.Patterns.{asterisk, Matches}
+
+-- the host is the pattern's own, but for a `.` at the end of one of them, which Git passes over; a name with it is the same
+-- name, as it is written from the root of all names (RFC 1034, section 3.1)
+abbrev pub IsOwnHost : List ℕ → List ℕ → Type 0
+IsOwnHost own host = (host ≡ own) ⊎ ((own ≡ host ++ dot ∷ []) ⊎ (host ≡ own ++ dot ∷ []))
+
+-- the port that is reached: the one that is there, else the one of the scheme
+abbrev pub reached_port : List ℕ → Option ℕ → Option ℕ
+reached_port scheme (Some port) = Some port
+reached_port scheme None = default_port_of (protocol_of scheme)
+
+-- the scheme, the host and the port are the pattern's own
+pub record IsOwnOf (pattern : NormalPlace) (scheme host : List ℕ) (port : Option ℕ) : Type 0 where
+  pub own_scheme : scheme ≡ pattern.scheme
+  pub own_host : IsOwnHost pattern.host host
+  pub own_port : reached_port scheme port ≡ reached_port pattern.scheme pattern.port
+
+-- what helpers are asked for is the pattern's own; the port is a part of the host there
+pub record AsksForOwn (pattern : NormalPlace) (r : CredentialReading) : Type 0 where
+  pub host : List ℕ
+  pub port : Option ℕ
+  pub joined : r.host ≡ host ++ port_part port
+  pub own : IsOwnOf pattern r.protocol host port
+
+-- what is connected to is the pattern's own
+pub record ConnectsToOwn (pattern : NormalPlace) (r : UriReading) : Type 0 where
+  pub port : Option ℕ
+  pub digits : r.port ≡ option_map decimal port
+  pub own : IsOwnOf pattern r.scheme r.host port
+
+-- Git's credential code and a reader of URIs read the pattern's own scheme, host and port in the text
+pub record ReachesOwn (t : List ℕ) (pattern : NormalPlace) : Type 0 where
+  pub asked : (r : CredentialReading) → CredentialReads t r → AsksForOwn pattern r
+  pub reached : (r : UriReading) → UriReads t r → ConnectsToOwn pattern r
+
+-- so it is with the text of each location of HTTP of the class, and a pattern without `*` in its host that stands for it
+abbrev pub PickedGoesToOwn : Type 0
+PickedGoesToOwn = (v : Location) (t : List ℕ) (place pattern : NormalPlace)
+    → IsValue v → IsWeb v → AgreesWithGit v → text v ≡ Ok t
+    → IsNormalOf false t place → Matches pattern place → FreeOf asterisk pattern.host
+    → ReachesOwn t pattern
