@@ -3,5 +3,6 @@ pub mod PathLemmas
 pub mod LabelLemmas
 pub mod RankLemmas
 pub mod HostLemmas
+pub mod NormalUniqueLemmas
 pub mod PlaceLemmas
 pub mod PickedLemmas

@@ -1,5 +1,5 @@
 -- The law on patterns: what a pattern without `*` picks for a text goes to the scheme, the host and the port of the pattern.
-use Rattle.std.specs.Prelude.{◌≡◌, ℕ, false, ◌⊎◌, List, [], ◌∷◌, ◌++◌, decimal, Option, Some, None, option_map, Ok}
+use Rattle.std.specs.Prelude.{◌≡◌, ℕ, Bool, false, ◌⊎◌, List, [], ◌∷◌, ◌++◌, decimal, Option, Some, None, option_map, Ok}
 use Rattle.git_syntax.specs.Value.{Location}
 use Rattle.git_syntax.specs.Bytes.{dot, FreeOf}
 use Rattle.git_syntax.specs.Schemes.{default_port_of, protocol_of}
@@ -50,3 +50,8 @@ PickedGoesToOwn = (v : Location) (t : List ℕ) (place pattern : NormalPlace)
     → IsValue v → IsWeb v → AgreesWithGit v → text v ≡ Ok t
     → IsNormalOf false t place → Matches pattern place → FreeOf asterisk pattern.host
     → ReachesOwn t pattern
+
+-- a text has one normal form
+abbrev pub OneNormalForm : Type 0
+OneNormalForm = (globs : Bool) (t : List ℕ) (n m : NormalPlace) → IsNormalOf globs t n → IsNormalOf globs t m
+    → n ≡ m

@@ -1,7 +1,7 @@
 //! Patterns of places, as in `credential.<url>.*` and `http.<url>.*`, and the best of those that match.
 
 ghost use Rattle.std.specs.Prelude.{◌≡◌, ◌<◌, ◌↔◌, ◌∷◌, ◌++◌, ℕ, List, [], IsTrue, MatchOption, length, option_map};
-ghost use Rattle.git_rules.specs.PatternLaws.{PickedGoesToOwn};
+ghost use Rattle.git_rules.specs.PatternLaws.{OneNormalForm, PickedGoesToOwn};
 ghost use Rattle.git_rules.specs.Patterns as spec;
 ghost use Rattle.git_rules.specs.Patterns.{HasRank, IsBelow, IsBest, IsBetter, IsLower, Matches, MatchesHost, MatchesLabel, MatchesPath, MatchesUser, RanksFor, labels_of, rank_of};
 
@@ -209,7 +209,16 @@ fn behind<'a>(front: &[u8], text: &'a [u8]) -> Option<&'a [u8]>
     text.strip_prefix(front)
 }
 
-/// What a pattern picks goes nowhere else.
-pub fn law_picked()
-    ensures { PickedGoesToOwn }
+/// What a pattern picks goes to the place of the pattern, and to no other.
+///
+/// - `picked`: let a pattern without `*` in its host stand for the normal form of the text of a location of HTTP that
+///   [`UrlRef::agrees_with_git`](git_location::url_ref::UrlRef::agrees_with_git) accepts. Then what Git's credential code
+///   reads in that text, and what a reader of URIs as libcurl reads in it, has the scheme, the host and the port of the
+///   pattern. The host may lack a `.` at its end that the pattern has, or have one that it lacks: Git passes over it, and
+///   the name is the same. So a credential that is picked by the pattern, for a text that is then handed to Git, goes
+///   nowhere else.
+/// - `one`: a text has one normal form, so whoever reads it by the definition reads that.
+pub fn law_patterns()
+    ensures picked { PickedGoesToOwn }
+    ensures one { OneNormalForm }
 {}

@@ -1,0 +1,7 @@
+-- Each law is a lemma.
+use Rattle.git_rules.proofs.Matched.NormalUniqueLemmas.{one_normal}
+use Rattle.git_rules.proofs.Matched.PickedLemmas.{picked_own}
+use Rattle.git_rules.proofs.pattern.law_patterns.Goals as goal
+
+pub returns : goal.returns
+returns c = record { picked = picked_own; one = one_normal }

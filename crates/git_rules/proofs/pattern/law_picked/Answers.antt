@@ -1,6 +1,0 @@
--- The law is a lemma.
-use Rattle.git_rules.proofs.Matched.PickedLemmas.{picked_own}
-use Rattle.git_rules.proofs.pattern.law_picked.Goals as goal
-
-pub returns : goal.returns
-returns c = picked_own
