@@ -1,3 +1,4 @@
 pub mod Entries
 pub mod NormalTextLemmas
 pub mod Matched
+pub mod Numbers

@@ -9,5 +9,6 @@ pub mod NormalView
 pub mod NormalPieces
 pub mod Patterns
 pub mod PatternLaws
+pub mod Booleans
 pub mod Protocols
 pub mod SecureShell

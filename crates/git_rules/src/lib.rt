@@ -4,6 +4,7 @@
 //! file and runs no program: the configuration is the text that `git config --list -z` writes.
 #![tactic(auto)]
 
+pub mod boolean;
 pub mod config;
 pub mod normal;
 pub mod pattern;
