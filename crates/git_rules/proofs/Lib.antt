@@ -2,3 +2,4 @@ pub mod Entries
 pub mod NormalTextLemmas
 pub mod Matched
 pub mod Numbers
+pub mod Allowed

@@ -10,5 +10,7 @@ pub mod NormalPieces
 pub mod Patterns
 pub mod PatternLaws
 pub mod Booleans
+pub mod Policies
+pub mod PolicyView
 pub mod Protocols
 pub mod SecureShell

@@ -1,1 +1,101 @@
--- Which transports may be used.
+-- Which transports may be used: by the configuration, two environment variables and the defaults of Git.
+use Rattle.std.specs.Prelude.{◌≡◌, ℕ, Bool, true, false, ◌||◌, ◌==◌, ◌⊎◌, bytes_eq, codes, List, ◌∷◌, ◌++◌, Option, Some, None, All, if◌then◌else◌}
+use Rattle.std.specs.List.{list_any, slice_split}
+use Rattle.git_syntax.specs.Bytes.{colon}
+use Rattle.git_rules.specs.Config.{ConfigEntry, HasName, IsOfSection}
+use Rattle.git_rules.specs.Booleans.{boolean_of, is_word}
+use Rattle.git_rules.specs.declared.protocols.Allowance.{Allowance}
+use Rattle.git_rules.specs.declared.protocols.Allowance.TheVariants as allowance
+use Rattle.git_rules.specs.declared.protocols.Reason.{Reason}
+use Rattle.git_rules.specs.declared.protocols.Reason.TheVariants as reason
+use Rattle.git_rules.specs.declared.protocols.Permission.{Permission}
+use Rattle.git_rules.specs.declared.protocols.Permission.TheVariants as permission
+use Rattle.git_rules.specs.Policies.{Policy}
+
+-- the key of the entry is `protocol.allow`, or with a name `protocol.<name>.allow`
+abbrev pub SetsAllow : Option (List ℕ) → ConfigEntry → Type 0
+SetsAllow name e = IsOfSection (codes "protocol") e × HasName (codes "allow") e × (e.subsection ≡ name)
+
+-- the last of the entries that has the property, or that there is none: no entry behind it has the property
+abbrev pub IsLastOf : (ConfigEntry → Type 0) → List ConfigEntry → Option ConfigEntry → Type 0
+IsLastOf P entries None = All (λ e. ¬ P e) entries
+IsLastOf P entries (Some last) = (before : List ConfigEntry) × (after : List ConfigEntry)
+    × (entries ≡ before ++ last ∷ after) × P last × All (λ e. ¬ P e) after
+
+-- the entry that counts for a transport: the last one of its own, else the last one of all transports
+abbrev pub Counts : List ConfigEntry → List ℕ → Option ConfigEntry → Type 0
+Counts entries name None =
+    IsLastOf (SetsAllow (Some name)) entries None × IsLastOf (SetsAllow None) entries None
+Counts entries name (Some e) = IsLastOf (SetsAllow (Some name)) entries (Some e)
+    ⊎ (IsLastOf (SetsAllow (Some name)) entries None × IsLastOf (SetsAllow None) entries (Some e))
+
+-- the name is one of those in the list, which has a colon between two
+abbrev pub is_listed : List ℕ → List ℕ → Bool
+is_listed list name = list_any (λ piece. bytes_eq piece name) (slice_split (λ b. b == colon) list)
+
+-- what the value of an entry says, where Git understands it
+abbrev pub allowance_of : Option (List ℕ) → Option Allowance
+allowance_of None = None
+allowance_of (Some text) = if is_word text (codes "always") then Some allowance.Always
+    else (if is_word text (codes "user") then Some allowance.User
+    else (if is_word text (codes "never") then Some allowance.Never else None))
+
+-- the transports that are always allowed where nothing is configured
+abbrev pub is_trusted : List ℕ → Bool
+is_trusted name = bytes_eq name (codes "http") || (bytes_eq name (codes "https")
+    || (bytes_eq name (codes "git") || bytes_eq name (codes "ssh")))
+
+-- what holds where nothing is configured
+abbrev pub default_allowance : List ℕ → Allowance
+default_allowance name = if is_trusted name then allowance.Always
+    else (if bytes_eq name (codes "ext") then allowance.Never else allowance.User)
+
+-- the location comes from the user, by the value of `GIT_PROTOCOL_FROM_USER`, where Git understands it
+abbrev pub is_from_user : Option (List ℕ) → Option Bool
+is_from_user None = Some true
+is_from_user (Some text) = boolean_of text
+
+-- allowed or refused as the test says, which Git may not understand
+abbrev pub by_test : Reason → Option Bool → Permission
+by_test by (Some true) = permission.Allowed by
+by_test by (Some false) = permission.Refused by
+by_test by None = permission.UnknownFromUser
+
+-- what an allowance comes to
+abbrev pub under : Allowance → Reason → Option (List ℕ) → Permission
+under allowance.Always by from_user = permission.Allowed by
+under allowance.User by from_user = by_test by (is_from_user from_user)
+under allowance.Never by from_user = permission.Refused by
+
+-- what the allowance of the entry at this place comes to
+abbrev pub by_value : Option Allowance → ℕ → Option (List ℕ) → Permission
+by_value None at from_user = permission.UnknownAllowance at
+by_value (Some allowance) at from_user = under allowance (reason.Entry at) from_user
+
+-- by the entry that counts, else by what holds where nothing is configured
+abbrev pub by_entry : List ℕ → Option ConfigEntry → Option (List ℕ) → Permission
+by_entry name None from_user = under (default_allowance name) reason.Default from_user
+by_entry name (Some e) from_user = by_value (allowance_of e.value) e.at from_user
+
+-- by the list, which leaves nothing else to ask
+abbrev pub by_list : List ℕ → List ℕ → Permission
+by_list list name = by_test reason.AllowList (Some (is_listed list name))
+
+-- by the list where there is one, and else by the entry that counts
+abbrev pub DecidesBy : Option (List ℕ) → Policy → List ℕ → Permission → Type 0
+DecidesBy (Some list) policy name r = r ≡ by_list list name
+DecidesBy None policy name r = (chosen : Option ConfigEntry)
+    × Counts policy.entries name chosen × (r ≡ by_entry name chosen policy.from_user)
+
+-- what Git does about the transport of this name
+abbrev pub Decides : Policy → List ℕ → Permission → Type 0
+Decides policy name r = DecidesBy policy.allow_list policy name r
+
+-- the transport may be used
+abbrev pub IsAllowed : Permission → Type 0
+IsAllowed r = (by : Reason) × (r ≡ permission.Allowed by)
+
+-- Git does one thing about a transport, whatever decides
+abbrev pub OnePermission : Type 0
+OnePermission = (policy : Policy) (name : List ℕ) (r s : Permission)
+    → Decides policy name r → Decides policy name s → r ≡ s

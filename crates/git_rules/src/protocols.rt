@@ -1,1 +1,319 @@
 //! Which transports may be used, and which one a location takes.
+//!
+//! It uses the entries of `config`, over which it decides as they are, without a copy, and the boolean values of `boolean`.
+//! Its contract: the decision is that of Git 2.39, by the list, the last entry of a key or the default, and names what
+//! decided; where Git stops, so does the decision, at the same fault. It reads no environment and takes no memory.
+
+ghost use Rattle.std.specs.Prelude.{◌≡◌, ◌↔◌, IsTrue, option_map};
+ghost use Rattle.git_syntax.specs.Schemes.{protocol_text};
+ghost use Rattle.git_rules.specs.Protocols.{Counts, Decides, IsAllowed, IsLastOf, OnePermission, SetsAllow, allowance_of, by_entry, by_list, by_test, by_value, default_allowance, is_from_user, is_listed, is_trusted, under};
+
+use crate::boolean::{is_word, read_boolean};
+use crate::config::Entry;
+use git_location::url_ref::UrlRef;
+use git_syntax::bytes::cut;
+use std::marker::Model;
+
+/// The name of the transport that Git takes for the location, or of the remote helper that it runs: `ssh`, `git`, `file`,
+/// `http`, `https`, `ext`, or the name of another helper.
+///
+/// It is what Git looks up in `protocol.<name>.allow` and `GIT_ALLOW_PROTOCOL`, and depends on the scheme alone: it is
+/// `ssh` for `git+ssh://` and the scp form, `file` for paths, and `SSH` for `SSH://`, which Git hands to a helper of that
+/// name. Git refuses each text that begins with `rsync:`, but not `rsync::`, before it looks for a transport; such a
+/// location has a name here all the same: `rsync` as a URL, `ssh` in scp form. `remote.<name>.vcs` is not looked at. It
+/// takes no memory.
+///
+/// ```
+/// fn is_secure_shell(url: &UrlRef<'_>) -> bool {
+///     transport(url) == "ssh" // of `git@host:repo` and `ssh://host/repo`
+/// }
+/// ```
+pub fn transport<'a>(url: &UrlRef<'a>) -> &'a str
+    ensures { result.now ≡ protocol_text url.now.scheme }
+{
+    url.scheme.as_str()
+}
+
+/// What decides which transports may be used: a configuration, and two variables of the environment.
+///
+/// The caller reads the variables and puts their values in. It owns nothing and takes no memory.
+///
+/// ```
+/// /// Whether a location that the user didn't type may be fetched from.
+/// fn may_follow(url: &UrlRef<'_>, entries: &[Entry<'_>]) -> bool {
+///     let protocols = Protocols {
+///         entries,
+///         allow_list: None,
+///         from_user: Some(b"0"),
+///     };
+///     protocols.permission(transport(url)).is_allowed() // of `ssh://host/repo`, but not of `/repo` and `ext::sh`
+/// }
+/// ```
+#[derive(Drop)]
+pub struct Protocols<'a> {
+    /// The entries of the configuration, in their order. Those of other keys count for nothing.
+    pub entries: &'a [Entry<'a>],
+    /// The value of `GIT_ALLOW_PROTOCOL`: names with a colon between two. None where it isn't set; the empty text is a list
+    /// of the empty name.
+    pub allow_list: Option<&'a [u8]>,
+    /// The value of `GIT_PROTOCOL_FROM_USER`, a boolean value. None where it isn't set, which is as true.
+    pub from_user: Option<&'a [u8]>,
+}
+
+impl<'a> Model for Protocols<'a> {
+    ghost use Rattle.git_rules.specs.Policies.{Policy};
+
+    ghost Value = { Policy };
+
+    ghost use Rattle.git_rules.specs.PolicyView.{policy};
+
+    ghost view = { policy };
+}
+
+/// What Git does about a transport, and by what.
+#[derive(Clone, Copy, Debug, PartialEq, Eq)]
+pub enum Permission {
+    /// Git uses it.
+    Allowed(Reason),
+    /// Git refuses it.
+    Refused(Reason),
+    /// Git stops: the entry that counts has no value, or another than `always`, `user` and `never`.
+    UnknownAllowance {
+        /// The place of the entry: its field `at`.
+        at: usize,
+    },
+    /// Git stops: the value of `GIT_PROTOCOL_FROM_USER`, which it needs, is no boolean value.
+    UnknownFromUser,
+}
+
+/// By what a transport is allowed or refused.
+#[derive(Clone, Copy, Debug, PartialEq, Eq)]
+pub enum Reason {
+    /// The list of `GIT_ALLOW_PROTOCOL`.
+    AllowList,
+    /// The last entry of `protocol.<name>.allow`, or of `protocol.allow` where there is none.
+    Entry {
+        /// The place of the entry: its field `at`.
+        at: usize,
+    },
+    /// What Git does where nothing is configured.
+    Default,
+}
+
+/// What an entry says of transports.
+#[derive(Clone, Copy)]
+enum Allowance {
+    /// They are allowed.
+    Always,
+    /// They are allowed for locations that come from the user.
+    User,
+    /// They are refused.
+    Never,
+}
+
+impl Permission {
+    /// Whether Git uses the transport. Where Git stops, it doesn't.
+    ///
+    /// ```
+    /// fn is_helper_allowed(protocols: &Protocols<'_>) -> bool {
+    ///     protocols.permission("ext").is_allowed()
+    /// }
+    /// ```
+    pub fn is_allowed(self) -> bool
+        ensures { IsTrue result ↔ IsAllowed self }
+    {
+        matches!(self, Permission::Allowed(_))
+    }
+}
+
+impl Protocols<'_> {
+    /// What Git 2.39 does about a transport, by its name, which [`transport`] returns for a location.
+    ///
+    /// 1. If `GIT_ALLOW_PROTOCOL` is set, it allows the names in it and refuses all others.
+    /// 2. Otherwise the last entry of `protocol.<name>.allow` decides, or if there is none the last one of
+    ///    `protocol.allow`, by its value: `always`, `never` or `user`, without letter case (ASCII).
+    /// 3. Otherwise `http`, `https`, `git` and `ssh` are as with `always`, `ext` as with `never`, and all others, `file`
+    ///    among them, as with `user`.
+    ///
+    /// With `user`, the transport is allowed if `GIT_PROTOCOL_FROM_USER` is true or not set. Names are compared with letter
+    /// case. A value that Git can't understand is reported where Git stops for it, which is where it needs it: the value of
+    /// an entry if that entry decides, and `GIT_PROTOCOL_FROM_USER` with `user`. It looks at each entry twice at most, and
+    /// takes no memory. The rules are those of git(1) and of `protocol.allow` in git-config(1).
+    ///
+    /// Git's helper for HTTP asks again, for `http`, `https`, `ftp` and `ftps`: whether it may use them, and whether it may
+    /// follow redirections to them, as if `GIT_PROTOCOL_FROM_USER` were false. So it may stop for the entry of one of the
+    /// others even if the transport is allowed.
+    ///
+    /// ```
+    /// fn refusal_place(protocols: &Protocols<'_>, name: &str) -> Option<usize> {
+    ///     match protocols.permission(name) {
+    ///         Permission::Refused(Reason::Entry { at }) => Some(at),
+    ///         _ => None,
+    ///     }
+    /// }
+    /// ```
+    pub fn permission(&self, name: &str) -> Permission
+        ensures { Decides self.now name.now result }
+    {
+        match self.allow_list {
+            Some(list) => by_list(list, name),
+            None => by_entry(name, counting(self.entries, name), self.from_user),
+        }
+    }
+}
+
+/// Whether the list allows the name.
+fn by_list(list: &[u8], name: &str) -> Permission
+    ensures { result ≡ by_list list.now name.now }
+{
+    by_test(Reason::AllowList, Some(is_listed(list, name.as_bytes())))
+}
+
+/// Whether the name is one of those in the list.
+fn is_listed(list: &[u8], name: &[u8]) -> bool
+    ensures { result ≡ is_listed list.now name.now }
+{
+    let mut rest = list;
+    while let Some((piece, behind)) = cut(rest, b':') {
+        if piece == name {
+            return true;
+        }
+        rest = behind;
+    }
+    rest == name
+}
+
+/// The entry that counts for a transport.
+fn counting<'a>(entries: &'a [Entry<'a>], name: &str) -> Option<&'a Entry<'a>>
+    ensures { Counts entries.now name.now (option_map (λ e. e.now) result) }
+{
+    match last_allow(entries, Some(name)) {
+        Some(entry) => Some(entry),
+        None => last_allow(entries, None),
+    }
+}
+
+/// The last entry of `protocol.<name>.allow`, or without a name of `protocol.allow`.
+fn last_allow<'a>(entries: &'a [Entry<'a>], name: Option<&str>) -> Option<&'a Entry<'a>>
+    ensures { IsLastOf (SetsAllow (option_map (λ t. t.now) name.entry)) entries.now (option_map (λ e. e.now) result) }
+{
+    let mut front = entries;
+    while let [rest @ .., last] = front {
+        if sets_allow(last, name) {
+            return Some(last);
+        }
+        front = rest;
+    }
+    None
+}
+
+/// Whether the key of the entry is `protocol.<name>.allow`, or without a name `protocol.allow`.
+fn sets_allow(entry: &Entry<'_>, name: Option<&str>) -> bool
+    ensures { IsTrue result ↔ SetsAllow (option_map (λ t. t.now) name.entry) entry.now }
+{
+    entry.is_section("protocol") && entry.is_name("allow") && is_same(entry.subsection, name)
+}
+
+/// Whether both are absent, or the same.
+fn is_same(subsection: Option<&[u8]>, name: Option<&str>) -> bool
+    ensures { IsTrue result ↔ (option_map (λ t. t.now) subsection.entry ≡ option_map (λ t. t.now) name.entry) }
+{
+    match (subsection, name) {
+        (None, None) => true,
+        (Some(subsection), Some(name)) => subsection == name.as_bytes(),
+        (None, Some(_)) | (Some(_), None) => false,
+    }
+}
+
+/// What the entry that counts says of the transport, or the default.
+fn by_entry(name: &str, entry: Option<&Entry<'_>>, from_user: Option<&[u8]>) -> Permission
+    ensures { result ≡ by_entry name.now (option_map (λ e. e.now) entry.entry) (option_map (λ t. t.now) from_user.entry) }
+{
+    match entry {
+        None => under(default_allowance(name), Reason::Default, from_user),
+        Some(entry) => by_value(read_allowance(entry.value), entry.at, from_user),
+    }
+}
+
+/// What the value of the entry at this place comes to.
+fn by_value(allowance: Option<Allowance>, at: usize, from_user: Option<&[u8]>) -> Permission
+    ensures { result ≡ by_value allowance at (option_map (λ t. t.now) from_user.entry) }
+{
+    match allowance {
+        None => Permission::UnknownAllowance { at },
+        Some(allowance) => under(allowance, Reason::Entry { at }, from_user),
+    }
+}
+
+/// What an allowance comes to.
+fn under(allowance: Allowance, by: Reason, from_user: Option<&[u8]>) -> Permission
+    ensures { result ≡ under allowance by (option_map (λ t. t.now) from_user.entry) }
+{
+    match allowance {
+        Allowance::Always => Permission::Allowed(by),
+        Allowance::User => by_test(by, read_from_user(from_user)),
+        Allowance::Never => Permission::Refused(by),
+    }
+}
+
+/// Allowed or refused as the test says, which Git may not understand.
+fn by_test(by: Reason, test: Option<bool>) -> Permission
+    ensures { result ≡ by_test by test }
+{
+    match test {
+        Some(true) => Permission::Allowed(by),
+        Some(false) => Permission::Refused(by),
+        None => Permission::UnknownFromUser,
+    }
+}
+
+/// Whether the location comes from the user, by the value of `GIT_PROTOCOL_FROM_USER`.
+fn read_from_user(value: Option<&[u8]>) -> Option<bool>
+    ensures { result ≡ is_from_user (option_map (λ t. t.now) value.entry) }
+{
+    match value {
+        None => Some(true),
+        Some(text) => read_boolean(text),
+    }
+}
+
+/// What the value of an entry says.
+fn read_allowance(value: Option<&[u8]>) -> Option<Allowance>
+    ensures { result ≡ allowance_of (option_map (λ t. t.now) value.entry) }
+{
+    let text = value?;
+    if is_word(text, "always") {
+        Some(Allowance::Always)
+    } else if is_word(text, "user") {
+        Some(Allowance::User)
+    } else if is_word(text, "never") {
+        Some(Allowance::Never)
+    } else {
+        None
+    }
+}
+
+/// What holds where nothing is configured.
+fn default_allowance(name: &str) -> Allowance
+    ensures { result ≡ default_allowance name.now }
+{
+    if is_trusted(name) {
+        Allowance::Always
+    } else if name == "ext" {
+        Allowance::Never
+    } else {
+        Allowance::User
+    }
+}
+
+/// Whether the transport is always allowed where nothing is configured.
+fn is_trusted(name: &str) -> bool
+    ensures { result ≡ is_trusted name.now }
+{
+    name == "http" || name == "https" || name == "git" || name == "ssh"
+}
+
+/// Git decides in one way: whatever it does about a transport is what [`Protocols::permission`] returns.
+pub fn law_permission()
+    ensures { OnePermission }
+{}
