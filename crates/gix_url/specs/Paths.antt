@@ -1,5 +1,5 @@
 -- Paths as text: segments with a `/` between each two, the pieces among them, and what lies above and below.
-use Rattle.std.specs.Prelude.{◌≡◌, ℕ, ◌<◌, Bool, true, false, not, ◌==◌, List, [], ◌∷◌, ◌++◌, length, flat_map, Option, Some, None}
+use Rattle.std.specs.Prelude.{◌≡◌, ℕ, ◌<◌, ◌≤◌, Bool, true, false, not, ◌==◌, List, [], ◌∷◌, ◌++◌, length, flat_map, slice_index, Option, Some, None}
 use Rattle.std.specs.List.{list_any, join_with_byte}
 use Rattle.git_syntax.specs.Bytes.{dot, slash, FreeOf, begins_with}
 
@@ -88,3 +88,9 @@ pub data IsParent (text : List ℕ) (parent : Option (List ℕ)) : Type 0 where
       → text ≡ first ++ tail → parent ≡ Some [] → IsParent text parent
   -- there is no piece
   above_none : IsIdle text → parent ≡ None → IsParent text parent
+
+-- ---- bytes
+
+-- each byte from i up to j is ASCII
+abbrev pub IsAsciiBetween : List ℕ → ℕ → ℕ → Type 0
+IsAsciiBetween text i j = (k : ℕ) → i ≤ k → k < j → slice_index text k < 128

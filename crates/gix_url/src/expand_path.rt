@@ -17,6 +17,7 @@ ghost use Rattle.gix_url.specs.HomeReadings.{AnswersExpanded, Expansion, IsUnexp
 mod order;
 mod paths;
 mod split;
+mod text;
 
 use crate::error::Error;
 pub use crate::home_user::ForUser;
@@ -24,6 +25,7 @@ use bstr::{BStr, BString, ByteSlice};
 use paths::{parent, push_below, push_path};
 use split::{cut_home, path_below, user_named};
 use std::alloc::{AllocError, Global};
+use text::path_text;
 
 impl ForUser {
     /// An equal user. It asks for memory once for a name that isn't empty, and not at all for the current user.
@@ -174,7 +176,7 @@ pub fn with<F: FnOnce(&ForUser) -> Option<String> + Drop>(
     ensures refused { IfErr result
         (IsUnexpanded (option_map user_of (option_copied user.entry)) (bstr_bytes path.entry)) }
 {
-    let Ok(text) = path.as_bytes().to_str() else {
+    let Some(text) = path_text(path.as_bytes()) else {
         return Err(Error::PathNotUtf8);
     };
     match user {
@@ -217,7 +219,7 @@ pub fn expand_path(
     ensures refused { IfErr result
         (IsUnexpanded (option_map user_of (option_copied user.entry)) (bstr_bytes path.entry)) }
 {
-    let Ok(path) = path.as_bytes().to_str() else {
+    let Some(path) = path_text(path.as_bytes()) else {
         return Err(Error::PathNotUtf8);
     };
     match user {
