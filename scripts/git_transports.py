@@ -73,7 +73,8 @@ def answers_of(ask, room, environment, words, each=1, answers=1):
             raise ValueError("not each text is answered")
         return found[:-1]
 
-    parts = [words[at : at + 200] for at in range(0, len(words), 200)]
+    size = 200 // each * each
+    parts = [words[at : at + size] for at in range(0, len(words), size)]
     with ThreadPoolExecutor(os.cpu_count()) as lanes:
         return [it for found in lanes.map(said, parts) for it in found]
 
