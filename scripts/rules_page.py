@@ -1,0 +1,84 @@
+"""The rows of `docs/RULES.md`: each class has one, with the number that was counted, and its examples are in that class."""
+import re
+
+import git_classes
+import oracle
+import rules_credential
+import rules_rewrite
+import rules_ssh
+from kit import ROOT
+from rules_asked import Entry
+
+PAGE, OTHER = "docs/RULES.md", "docs/GIT.md"
+# A class with its number, and the cells behind it; a class may have more rows, which name it in the first one alone.
+ROW = re.compile(r"^\| (?:`([a-z0-9-]+)` \(([0-9,]+).*?\) )?\| (.*) \|$", re.M)
+CODE = re.compile(r"`([^`]*)`")
+# The class for which another variant is asked than `ssh`.
+OF_SIMPLE = "port-of-simple"
+
+
+def read(name):
+    with open(f"{ROOT}/{name}", encoding="utf-8") as it:
+        return it.read()
+
+
+def rows_of(page):
+    """The rows of classes: the name, the number or None, and the cells."""
+    name = None
+    for found in ROW.finditer(page):
+        name = found[1] or name
+        if found[1] or name and found[0].startswith("| |"):
+            yield name, found[2] and int(found[2].replace(",", "")), found[3].split(" | ")
+
+
+def class_faults():
+    """The classes without a row in the documents, and the rows that aren't of a class."""
+    own, other = {name for name, _, _ in rows_of(read(PAGE))}, set(re.findall(r"^\| `([a-z0-9-]+)` \(", read(OTHER), re.M))
+    classes = {*rules_rewrite.CLASSES, *rules_credential.CLASSES, *rules_ssh.REASONS, *rules_ssh.OF_WORDS}
+    yield from (f"{PAGE} has no row for the class {it}" for it in sorted(classes - own))
+    yield from (f"{PAGE} has a row for {it}, which isn't a class" for it in sorted(own - classes))
+    yield from (f"{OTHER} has no row for the class {it}" for it in sorted({*git_classes.CLASSES} - other))
+
+
+def number_faults(counts):
+    """The classes of which another number was counted than the page has."""
+    for name, number, _ in rows_of(read(PAGE)):
+        if number is not None and number != counts[name]:
+            yield f"{PAGE} has {number:,} of {name}, and {counts[name]:,} were counted"
+
+
+def credential_examples():
+    """The examples of classes of credentials: the class, the entry, the URL, and whether Git takes the entry."""
+    for name, _, cells in rows_of(read(PAGE)):
+        if name in rules_credential.CLASSES:
+            # An entry for nothing at all is the word `empty`.
+            entries = [*CODE.findall(cells[0]), *([""] if "empty" in cells[0] else [])]
+            yield from ((name, one.encode(), url.encode(), cells[2].startswith("applies")) for one in entries for url in CODE.findall(cells[1]))
+
+
+def credential_faults():
+    """The examples of credentials that Git or the rule for `http.<url>.*` take otherwise."""
+    examples = [*credential_examples()]
+    entries = [[Entry(b"credential", place, b"helper", rules_credential.REPORT % 0)] for _, place, _, _ in examples]
+    cases = rules_credential.cases_of([(one, [url]) for one, (_, _, url, _) in zip(entries, examples)])
+    for (name, place, url, is_taken), case in zip(examples, cases):
+        by_git = case.asked[0] == [0]
+        found = [*rules_credential.by_url([case])]
+        if by_git != is_taken or found != [(url, place, name, is_taken)]:
+            yield f"{PAGE}: {place.decode()} and {url.decode()} are an example of {found}, and not of {name}"
+
+
+def word_faults():
+    """The examples of words for Secure Shell that are in another class."""
+    texts = [(name, CODE.findall(cells[0])[0].encode()) for name, _, cells in rows_of(read(PAGE)) if name in (*rules_ssh.REASONS, *rules_ssh.OF_WORDS)]
+    runs = [rules_ssh.Run("simple" if name == OF_SIMPLE else "ssh", 2, rules_ssh.SERVICES[0]) for name, _ in texts]
+    for (name, text), case in zip(texts, rules_ssh.ask([(text, run) for (_, text), run in zip(texts, runs)])):
+        location = oracle.spells(text)
+        found = None if rules_ssh.is_alike(case, location) else rules_ssh.class_of_words(case, location)
+        if found != name:
+            yield f"{PAGE}: {text.decode()} is an example of {found}, and not of {name}"
+
+
+def page_faults():
+    """What is wrong with the page's classes and examples."""
+    return [*class_faults(), *credential_faults(), *word_faults()]
