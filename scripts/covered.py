@@ -4,7 +4,7 @@ import itertools
 import os
 import re
 
-from kit import LAYERS, LIBRARY, ROOT
+from kit import LAYERS, LIBRARIES, LIBRARY, ROOT, stands_on
 from module_map import paths_of
 
 CALLS = f"{ROOT}/crates/answers/src/calls.rt"
@@ -52,14 +52,15 @@ def passed_on():
 def passed_calls():
     """The contracts of the calls that come with what the library passes on."""
     passed, below = passed_on(), {}
-    for layer in LAYERS[:-1]:
+    for layer in stands_on(LIBRARY)[:-1]:
         below.update(contracts_of(layer))
     return {it: below[it] for it in below if passed & {*it.split("::")}}
 
 
 def contracts():
-    """The contract of each public call of the library, by its name: of its own, and of those that it passes on."""
-    return {**{name: it for name, it in passed_calls().items() if name not in OF_LAYERS}, **contracts_of(LIBRARY)}
+    """The contract of each public call of the libraries, by its name: of their own, and of those that are passed on."""
+    found = {name: it for name, it in passed_calls().items() if name not in OF_LAYERS}
+    return {**found, **{name: it for library in LIBRARIES for name, it in contracts_of(library).items()}}
 
 
 def program_calls():

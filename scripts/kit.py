@@ -30,9 +30,11 @@ def stands_on(name):
     return [*dict.fromkeys([*found, name])]
 
 
-# The library, and its layers: the crates that it stands on, lowest first, and itself.
+# The library, and what Git does with a location by its configuration, which is used beside it; and their layers: the crates
+# that they stand on, lowest first, and themselves.
 LIBRARY = "gix_url"
-LAYERS = stands_on(LIBRARY)
+LIBRARIES = (LIBRARY, "git_rules")
+LAYERS = list(dict.fromkeys(it for name in LIBRARIES for it in stands_on(name)))
 
 
 class Slots:
