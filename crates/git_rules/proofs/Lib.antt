@@ -3,3 +3,4 @@ pub mod NormalTextLemmas
 pub mod Matched
 pub mod Numbers
 pub mod Allowed
+pub mod Shell

@@ -13,4 +13,8 @@ pub mod Booleans
 pub mod Policies
 pub mod PolicyView
 pub mod Protocols
+pub mod ShellWords
 pub mod SecureShell
+pub mod SecureLaws
+pub mod SshAnswers
+pub mod SshCommand

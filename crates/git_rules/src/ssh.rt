@@ -1,1 +1,426 @@
 //! The words with which Git runs Secure Shell for a location.
+//!
+//! It uses borrowed locations. `ssh_command` decides whether there is a command, and takes no memory. Inside: `checks` refuses
+//! the parts that make none, and `words` writes the words of one. It runs no program. Its contract: the words are those of the
+//! definitions (`specs/SecureShell.antt`), no word of a location is taken for an option, a shell reads the service and the
+//! path in the remote command (`specs/ShellWords.antt`), and where Git reads the same place in the location's text the words
+//! are Git's own (`law_git_words`).
+
+ghost use Rattle.std.specs.Prelude.{◌≡◌, ◌<◌, IfErr, IfOk, IfSome, None, Some, map, option_map};
+ghost use Rattle.bstr.specs.Owned.{bstring_bytes};
+ghost use Rattle.git_rules.specs.SecureShell as spec;
+ghost use Rattle.git_rules.specs.SecureLaws.{GivesOwnWords};
+ghost use Rattle.git_rules.specs.SshAnswers as answer;
+
+mod checks;
+mod words;
+
+use bstr::BString;
+use checks::{check_destination, check_path, check_port};
+use git_laws::laws::law_git;
+use git_location::url_ref::UrlRef;
+use git_syntax::scheme::SchemeRef;
+use std::alloc::{AllocError, Global};
+use std::marker::Model;
+use thiserror::Error;
+use words::{destination, push, push_port, remote_command};
+
+/// What Git has the server run.
+///
+/// ```
+/// fn service_of(is_push: bool) -> Service {
+///     if is_push { Service::ReceivePack } else { Service::UploadPack }
+/// }
+/// ```
+#[derive(Clone, Copy, Debug, PartialEq, Eq)]
+pub enum Service {
+    /// `git-upload-pack`, for `git fetch`, `git clone` and `git ls-remote`.
+    UploadPack,
+    /// `git-receive-pack`, for `git push`.
+    ReceivePack,
+    /// `git-upload-archive`, for `git archive --remote`.
+    UploadArchive,
+}
+
+/// The program that is run for Secure Shell, by the options that it has, as git-config(1) has `ssh.variant`.
+///
+/// The value `auto` isn't one of them: with it Git finds the variant by the name of the program, or by running it with `-G`.
+///
+/// ```
+/// /// The variant that git-config(1) has for a value of `ssh.variant`; none for `auto`.
+/// fn variant_of(value: &str) -> Option<SshVariant> {
+///     match value {
+///         "auto" => None,
+///         "simple" => Some(SshVariant::Simple),
+///         "plink" => Some(SshVariant::Plink),
+///         "putty" => Some(SshVariant::Putty),
+///         "tortoiseplink" => Some(SshVariant::TortoisePlink),
+///         _ => Some(SshVariant::Ssh),
+///     }
+/// }
+/// ```
+#[derive(Clone, Copy, Debug, PartialEq, Eq)]
+pub enum SshVariant {
+    /// OpenSSH, or what has its options.
+    Ssh,
+    /// A program that has no options.
+    Simple,
+    /// `plink` of PuTTY.
+    Plink,
+    /// `putty`, whose options are those of `plink`.
+    Putty,
+    /// `tortoiseplink`, which is also asked to show no window.
+    TortoisePlink,
+}
+
+/// The version of Git's protocol that is asked for, as git-config(1) has `protocol.version`.
+///
+/// With OpenSSH, a version above 0 adds the words `-o SendEnv=GIT_PROTOCOL`, and the value of that variable
+/// ([`SshCommand::git_protocol`]). Git pushes by version 0 where version 2 is asked for.
+///
+/// ```
+/// /// The version that Git asks for where `protocol.version` isn't set.
+/// fn usual_version() -> ProtocolVersion {
+///     ProtocolVersion::V2
+/// }
+/// ```
+#[derive(Clone, Copy, Debug, PartialEq, Eq)]
+pub enum ProtocolVersion {
+    /// The original protocol: the server is asked for no version.
+    V0,
+    /// The original protocol, with a line in which the server says its version.
+    V1,
+    /// The protocol that Git asks for where `protocol.version` isn't set.
+    V2,
+}
+
+/// Why a location has no command of Secure Shell. Where there is more than one reason, the first of these is returned.
+///
+/// ```
+/// /// Whether somebody tries to pass an option off as a part of a location.
+/// fn is_attack(refusal: SshRefusal) -> bool {
+///     matches!(
+///         refusal,
+///         SshRefusal::OptionLikeUser | SshRefusal::OptionLikeHost | SshRefusal::OptionLikePath
+///     )
+/// }
+/// ```
+#[derive(Clone, Copy, Debug, PartialEq, Eq, Error)]
+pub enum SshRefusal {
+    /// The location isn't one of Secure Shell.
+    #[error("the location isn't reached by Secure Shell")]
+    NotSecureShell,
+    /// The location has a password, for which Secure Shell has no argument. Git takes it for a part of the user.
+    #[error("Secure Shell takes no password")]
+    Password,
+    /// The user is empty. OpenSSH refuses a destination that begins with `@`.
+    #[error("the user is empty")]
+    EmptyUser,
+    /// The user, the host or the path holds byte 0, which no argument of a program can. Of each part it is looked for before
+    /// a `-`, an `@` or `ssh://`.
+    #[error("an argument can't hold byte 0")]
+    ByteZero,
+    /// The user begins with `-`, so the destination would be taken for an option.
+    #[error("the user looks like an option")]
+    OptionLikeUser,
+    /// The location has no host, or an empty one.
+    #[error("the location has no host")]
+    NoHost,
+    /// The host begins with `-`. Git refuses it where there is no user.
+    #[error("the host looks like an option")]
+    OptionLikeHost,
+    /// The host holds an `@`, at which Secure Shell would cut it.
+    #[error("the host holds an `@`")]
+    AtSignInHost,
+    /// The destination begins with `ssh://`, and OpenSSH would read a URL in it.
+    #[error("the user or the host looks like a URL")]
+    UrlLikeDestination,
+    /// The path is empty.
+    #[error("the location has no path")]
+    NoPath,
+    /// The path begins with `-`, and the server's program would take it for an option.
+    #[error("the path looks like an option")]
+    OptionLikePath,
+    /// The location has a port, for which the variant `simple` has no option.
+    #[error("the variant `simple` of Secure Shell has no option for a port")]
+    PortOfSimple,
+}
+
+/// Why [`ssh_words`] returns no words.
+///
+/// ```
+/// /// Whether the same call can succeed later: nothing is wrong with the location.
+/// fn is_passing(error: SshError) -> bool {
+///     error == SshError::Memory
+/// }
+/// ```
+#[derive(Clone, Copy, Debug, PartialEq, Eq, Error)]
+pub enum SshError {
+    /// Memory was refused. It says nothing of the location.
+    #[error("out of memory")]
+    Memory,
+    /// The location has no command.
+    #[error("{0}")]
+    Refused(SshRefusal),
+}
+
+impl From<AllocError> for SshError {
+    ghost use Rattle.git_rules.specs.declared.ssh.SshError.TheVariants.{Memory};
+
+    ghost from_gives = { λ _ e. e ≡ Memory };
+
+    fn from(_: AllocError) -> SshError {
+        SshError::Memory
+    }
+}
+
+impl Service {
+    /// The name of the program that the server runs. It takes no memory.
+    ///
+    /// ```
+    /// fn is_reading(service: Service) -> bool {
+    ///     service.as_str() != "git-receive-pack"
+    /// }
+    /// ```
+    pub fn as_str(self) -> &'static str
+        ensures { result.now ≡ spec.service_name self }
+    {
+        match self {
+            Service::UploadPack => "git-upload-pack",
+            Service::ReceivePack => "git-receive-pack",
+            Service::UploadArchive => "git-upload-archive",
+        }
+    }
+}
+
+/// As many words as a command can have.
+const MOST_WORDS: usize = 6;
+
+/// A command of Secure Shell, by its parts: the program that is run, what it is asked for, and the parts of the location.
+///
+/// A location lends its parts, so making a command takes no memory. [`ssh_command`] makes one; by hand one is made only of
+/// parts that it would let by, since each place that makes one has to prove that: contracts know of each command that
+/// it is safe (`IsSafeCommand`), wherever it comes from.
+///
+/// ```
+/// /// Whether the command says who logs in.
+/// fn names_a_user(command: &SshCommand<'_>) -> bool {
+///     command.user.is_some()
+/// }
+/// ```
+#[derive(Drop)]
+pub struct SshCommand<'a> {
+    /// The program that is run.
+    pub variant: SshVariant,
+    /// The version of Git's protocol that is asked for.
+    pub version: ProtocolVersion,
+    /// What the server runs.
+    pub service: Service,
+    /// The user, before the `@` of the destination.
+    pub user: Option<&'a str>,
+    /// The host. An address has no brackets.
+    pub host: &'a str,
+    /// The port.
+    pub port: Option<u16>,
+    /// The path, without quotes.
+    pub path: &'a [u8],
+}
+
+impl<'a> Model for SshCommand<'a> {
+    ghost use Rattle.git_rules.specs.SecureShell.{Command, IsSafe};
+
+    ghost Value = { Command };
+
+    ghost use Rattle.git_rules.specs.SshCommand.{lent_command};
+
+    ghost view = { lent_command };
+
+    ghost invariant = { λ c. IsSafe (lent_command c) };
+}
+
+impl SshCommand<'_> {
+    /// The value that Git gives the variable `GIT_PROTOCOL` in the environment of the program; none where it gives none. The
+    /// word `SendEnv=GIT_PROTOCOL` is there exactly where there is a value. It takes no memory.
+    ///
+    /// ```
+    /// fn asks_for_version_2(command: &SshCommand<'_>) -> bool {
+    ///     command.git_protocol() == Some("version=2")
+    /// }
+    /// ```
+    pub fn git_protocol(&self) -> Option<&'static str>
+        ensures { option_map (λ t. t.now) result ≡ spec.command_variable self.now }
+    {
+        if !sends_version(self.variant, self.service, self.version) {
+            return None;
+        }
+        match self.version {
+            ProtocolVersion::V0 => Some("version=0"),
+            ProtocolVersion::V1 => Some("version=1"),
+            ProtocolVersion::V2 => Some("version=2"),
+        }
+    }
+
+    /// The words behind the name of the program, which isn't among them. Memory is asked for once for the list, which has
+    /// 2 to 6 words, and once for each of them.
+    ///
+    /// First come the options: `-o` and `SendEnv=GIT_PROTOCOL` where a version is sent, `-batch` for `tortoiseplink`, and
+    /// where there is a port `-p` for OpenSSH or else `-P`, and its digits. Then comes the destination, `user@host` or the
+    /// host, and at last the command for the server's shell: the service, a space, and the path in single quotes, in which
+    /// `'` and `!` are written `'\''` and `'\!'`. Each word goes to the program as one argument, with no shell on this side.
+    ///
+    /// ```
+    /// fn last_word(alloc: Global, command: &SshCommand<'_>) -> Result<Option<BString>, AllocError> {
+    ///     let mut words = command.to_words(alloc)?;
+    ///     Ok(words.pop()) // `git-upload-pack '/a b'`
+    /// }
+    /// ```
+    ///
+    /// # Errors
+    ///
+    /// [`AllocError`] where memory is refused, or where a word is longer than any memory.
+    pub fn to_words(&self, alloc: Global) -> Result<Vec<BString>, AllocError>
+        ensures words { IfOk result (λ words. map bstring_bytes words.items ≡ spec.command_words self.now) }
+        ensures safe { spec.IsSafeCommand self.now }
+    {
+        self.law_safe();
+        let mut words = Vec::with_capacity(alloc, MOST_WORDS)?;
+        if sends_version(self.variant, self.service, self.version) {
+            push(alloc, &mut words, b"-o")?;
+            push(alloc, &mut words, b"SendEnv=GIT_PROTOCOL")?;
+        }
+        if matches!(self.variant, SshVariant::TortoisePlink) {
+            push(alloc, &mut words, b"-batch")?;
+        }
+        push_port(alloc, &mut words, self.variant, self.port)?;
+        words.push(destination(alloc, self.user, self.host)?)?;
+        words.push(remote_command(alloc, self.service, self.path)?)?;
+        Ok(words)
+    }
+
+    /// Each command is safe: it can't be made otherwise.
+    fn law_safe(&self)
+        ensures { spec.IsSafeCommand self.now }
+    {
+        law_port(self.port);
+    }
+}
+
+/// The words with which Git runs Secure Shell for a location, without the name of the program, as [`SshCommand::to_words`] has
+/// them of [`ssh_command`]. Memory is asked for once for the list, and once for each word, and not at all where there are none.
+///
+/// ```
+/// /// The words with which Git fetches by OpenSSH.
+/// fn fetch_words(alloc: Global, url: &UrlRef<'_>) -> Result<Vec<BString>, SshError> {
+///     ssh_words(alloc, url, Service::UploadPack, SshVariant::Ssh, ProtocolVersion::V2)
+/// }
+/// ```
+///
+/// # Errors
+///
+/// [`SshError::Refused`] exactly where [`ssh_command`] refuses the location, for its reason, whatever memory there is;
+/// [`SshError::Memory`] where memory is refused.
+pub fn ssh_words(
+    alloc: Global,
+    url: &UrlRef<'_>,
+    service: Service,
+    variant: SshVariant,
+    version: ProtocolVersion,
+) -> Result<Vec<BString>, SshError>
+    ensures words { IfOk result (λ words. spec.AreWordsFor url.now variant service version (map bstring_bytes words.items)) }
+    ensures refused { IfErr result (λ e. answer.IsUnmade variant url.now e) }
+{
+    match ssh_command(url, service, variant, version) {
+        Ok(command) => Ok(command.to_words(alloc)?),
+        Err(refusal) => Err(SshError::Refused(refusal)),
+    }
+}
+
+/// Whether the server is told the version of the protocol.
+fn sends_version(variant: SshVariant, service: Service, version: ProtocolVersion) -> bool
+    ensures { result ≡ spec.sends_version variant service version }
+{
+    match (variant, service, version) {
+        (SshVariant::Ssh, _, ProtocolVersion::V1) => true,
+        (SshVariant::Ssh, Service::UploadPack | Service::UploadArchive, ProtocolVersion::V2) =>
+            true,
+        _ => false,
+    }
+}
+
+/// The command with which Git runs Secure Shell for a location, or why there is none. It takes no memory, and lives as long as
+/// what lends the location.
+///
+/// User, host, port and path are the location's own: no user and no port is made up where it has none, the host has no
+/// brackets around an address, port 0 is a port, and a path is any bytes without byte 0. No word of the location begins with
+/// `-`, OpenSSH reads user and host in the destination, and a POSIX shell reads two words in the remote command: the service and
+/// the path. What a configuration of `ssh` makes of them, as `%r` in `ProxyCommand`, is not said.
+///
+/// It is made for the parts of a location, and not for a text. Where [`UrlRef::agrees_with_git`] is true, the words are those
+/// that Git gives Secure Shell for the location's text, by Git's own rules ([`law_git_words`]). Of other locations Git can refuse
+/// the text, or read other parts in it.
+///
+/// ```
+/// /// The port and the host that are connected to, and whether a user is named.
+/// fn reached<'a>(url: &UrlRef<'a>) -> Result<(Option<u16>, &'a str, bool), SshRefusal> {
+///     let command = ssh_command(url, Service::UploadPack, SshVariant::Ssh, ProtocolVersion::V2)?;
+///     Ok((command.port, command.host, command.user.is_some()))
+/// }
+/// ```
+///
+/// # Errors
+///
+/// A refusal exactly where the definition `ssh_refusal` has one, for the first reason that it has.
+pub fn ssh_command<'a>(
+    url: &UrlRef<'a>,
+    service: Service,
+    variant: SshVariant,
+    version: ProtocolVersion,
+) -> Result<SshCommand<'a>, SshRefusal>
+    ensures refused { IfErr result (λ e. spec.ssh_refusal variant url.now ≡ Some e) }
+    ensures made { IfOk result (λ c. spec.ssh_refusal variant url.now ≡ None) }
+    ensures own { IfOk result (λ c. spec.IsOwn url.now c) }
+    ensures asked { IfOk result (λ c. spec.IsAsked variant service version c) }
+    ensures safe { IfOk result (λ c. spec.IsSafeCommand c) }
+{
+    if !matches!(url.scheme, SchemeRef::Ssh) {
+        return Err(SshRefusal::NotSecureShell);
+    }
+    if url.password.is_some() {
+        return Err(SshRefusal::Password);
+    }
+    let host = check_destination(url.user, url.host)?;
+    check_path(url.path)?;
+    check_port(variant, url.port)?;
+    let command = SshCommand {
+        variant,
+        version,
+        service,
+        user: url.user,
+        host,
+        port: url.port,
+        path: url.path,
+    };
+    command.law_safe();
+    Ok(command)
+}
+
+/// A port is below 65,536.
+fn law_port(port: Option<u16>)
+    ensures { IfSome port (λ port. port < 65536) }
+{
+    match port {
+        None => {}
+        Some(_) => {}
+    }
+}
+
+/// Of each location of Secure Shell in whose text Git reads the same place there is a command, and its words are Git's own.
+///
+/// - `own`: where [`UrlRef::agrees_with_git`] is true of a location of Secure Shell, [`ssh_command`] returns a command, but
+///   for a port with the variant `simple`; and its destination, port and path are those that Git gives Secure Shell for
+///   the text of the location.
+pub fn law_git_words()
+    ensures own { GivesOwnWords }
+{
+    law_git();
+}

@@ -1,0 +1,115 @@
+-- A command that can be made is safe.
+use Rattle.std.proofs.Common.{◌≡◌, ◌∙◌, ℕ, ◌<◌, Bool, true, false, ◌==◌, List, [], ◌∷◌, ◌++◌, length, Option, Some, None, IfSome, codes, decimal, refl, sym, ap, subst, arith}
+use Rattle.std.specs.Prelude.{is_none, if◌then◌else◌}
+use Rattle.std.specs.List.{list_any}
+use Rattle.std.specs.Char.{is_ascii_digit}
+use Rattle.std.proofs.lemmas.Bool.{both_ways, eq-eqb}
+use Rattle.std.proofs.lemmas.Option.{IfSome_then}
+use Rattle.git_syntax.specs.Bytes.{hyphen, at_sign, FreeOf}
+use Rattle.git_syntax.proofs.Texts.CutLemmas.{heads, tails, free_begins, free_head_tail, free_of_all}
+use Rattle.git_syntax.proofs.Readings.HostLemmas.{decimal_digits}
+use Rattle.git_location.specs.Arguments.{is_option_like}
+use Rattle.git_laws.specs.Git.{UserCut}
+use Rattle.git_rules.specs.declared.ssh.SshRefusal.{SshRefusal}
+use Rattle.git_rules.specs.declared.ssh.SshRefusal.TheVariants as refusal
+use Rattle.git_rules.specs.SecureShell.{Command, IsSafe, IsSafeCommand, HasNoOptions, IsCutAlike, destination, has_zero, is_url_like, or_refusal, user_refusal, host_refusal, url_refusal, path_refusal, port_refusal, parts_refusal}
+use Rattle.git_rules.proofs.Shell.QuoteLemmas.{two_words}
+
+-- ---- refusals
+
+-- where there is no refusal, there is none of both
+pub both_none : (a b : Option SshRefusal) → or_refusal a b ≡ None → (a ≡ None) × (b ≡ None)
+both_none None b h = (refl, h)
+both_none (Some r) b h = absurd (cc)
+
+-- and none of the test
+pub test_false : (t : Bool) (r : SshRefusal) (rest : Option SshRefusal) → (if t then Some r else rest) ≡ None → (t ≡ false) × (rest ≡ None)
+test_false true r rest h = absurd (cc)
+test_false false r rest h = (refl, h)
+
+none_from_test : (a : Option SshRefusal) → is_none a ≡ true → a ≡ None
+none_from_test None h = refl
+none_from_test (Some r) h = absurd (cc)
+
+-- ---- users and hosts
+
+-- what is asked of a user
+record IsGoodUser (user : List ℕ) : Type 0 where
+  some : 0 < length user
+  no_option : is_option_like user ≡ false
+
+good_user : (user : List ℕ) → user_refusal (Some user) ≡ None → IsGoodUser user
+good_user [] h = absurd (cc)
+good_user (b ∷ bs) h = record {
+  some = omega arith;
+  no_option = (test_false _ _ _ (test_false _ _ _ h).1).0;
+}
+
+-- what is asked of a host
+record IsGoodHost (host : List ℕ) : Type 0 where
+  no_option : is_option_like host ≡ false
+  no_at : FreeOf at_sign host
+
+good_host : (host : List ℕ) → host_refusal (Some host) ≡ None → IsGoodHost host
+good_host [] h = absurd (cc)
+good_host (b ∷ bs) h =
+    let past_zero = test_false (has_zero (b ∷ bs)) refusal.ByteZero _ h in
+    let past_option = test_false (is_option_like (b ∷ bs)) refusal.OptionLikeHost _ past_zero.1 in
+    let past_at = test_false (list_any (λ c. c == at_sign) (b ∷ bs)) refusal.AtSignInHost None past_option.1 in
+    record { no_option = past_option.0; no_at = past_at.0 }
+
+-- ---- destinations
+
+-- a text before an `@` begins with what the whole begins with, where no `@` is in that
+mark_before : (mark user host rest : List ℕ) → FreeOf at_sign mark → user ++ at_sign ∷ host ≡ mark ++ rest → (r : List ℕ) × (user ≡ mark ++ r)
+mark_before [] user host rest free e = (user, refl)
+mark_before (m ∷ mark) [] host rest free e = absurd (both_ways (m == at_sign) (free_head_tail at_sign m mark free).0 (eq-eqb m at_sign (sym (heads e))))
+mark_before (m ∷ mark) (a ∷ user) host rest free e =
+    let (r, is) = mark_before mark user host rest (free_head_tail at_sign m mark free).1 (tails e) in
+    let first : a ≡ m = heads e in
+    (r, cc)
+
+-- what begins with `ssh://` is found to
+url_found : (text rest : List ℕ) → text ≡ codes "ssh://" ++ rest → is_url_like text ≡ true
+url_found text rest e = subst (λ t. is_url_like t ≡ true) (sym e) refl
+
+-- the destination is no URL
+destination_no_url : (user : Option (List ℕ)) (host : List ℕ) → url_refusal user (Some host) ≡ None → (rest : List ℕ) → ¬ (destination user host ≡ codes "ssh://" ++ rest)
+destination_no_url None host h rest e = both_ways (is_url_like host) (test_false _ _ _ h).0 (url_found host rest e)
+destination_no_url (Some user) host h rest e =
+    let (r, is) = mark_before (codes "ssh://") user host rest refl e in
+    both_ways (is_url_like user) (test_false _ _ _ h).0 (url_found user r is)
+
+-- it is no option
+destination_no_option : (user : Option (List ℕ)) (host : List ℕ) → user_refusal user ≡ None → IsGoodHost host → is_option_like (destination user host) ≡ false
+destination_no_option None host h good = good.no_option
+destination_no_option (Some []) host h good = refl
+destination_no_option (Some (b ∷ u)) host h good = (good_user (b ∷ u) h).no_option
+
+-- and is cut where it was joined
+destination_cut : (user : Option (List ℕ)) (host : List ℕ) → user_refusal user ≡ None → IsGoodHost host → UserCut (destination user host) user host
+destination_cut None host h good = UserCut.host_alone good.no_at refl refl
+destination_cut (Some user) host h good = UserCut.with_user user (good_user user h).some good.no_at refl refl
+
+-- the digits of a port are no option
+digits_no_option : (port : ℕ) → port < 65536 → is_option_like (decimal port) ≡ false
+digits_no_option port small = free_begins hyphen (decimal port) (free_of_all is_ascii_digit hyphen (decimal port) (decimal_digits port small).1 refl)
+
+-- no word of the location is an option, Secure Shell cuts its word where it was joined, and a shell reads two words
+pub safe_command : (c : Command) → IsSafe c → IfSome c.port (λ p. p < 65536) → IsSafeCommand c
+safe_command c safe small =
+    let all = both_none _ _ (none_from_test _ safe) in
+    let ends = both_none _ _ all.0 in
+    let past_user = both_none _ _ ends.1 in
+    let good = good_host c.host past_user.0 in
+    record {
+      no_options = record {
+        destination = destination_no_option c.user c.host ends.0 good;
+        digits = IfSome_then c.port small digits_no_option;
+      };
+      cut = record {
+        no_url = destination_no_url c.user c.host past_user.1;
+        cut = destination_cut c.user c.host ends.0 good;
+      };
+      words = two_words c.service c.path;
+    }

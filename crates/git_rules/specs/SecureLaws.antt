@@ -1,0 +1,33 @@
+-- The law on what Git gives Secure Shell: of the locations in whose texts Git reads the same place, the
+-- command's own words.
+use Rattle.std.specs.Prelude.{◌≡◌, ℕ, List, Option, Some, None, Ok}
+use Rattle.git_syntax.specs.Value.{Location}
+use Rattle.git_syntax.specs.Value.Protocol.{ssh}
+use Rattle.git_location.specs.Text.{text}
+use Rattle.git_location.specs.Settled.{IsValue}
+use Rattle.git_location.specs.GitClass.{AgreesWithGit}
+use Rattle.git_laws.specs.Git.{GitReading, GitReads, ReachesSecure}
+use Rattle.git_rules.specs.declared.ssh.SshVariant.{SshVariant}
+use Rattle.git_rules.specs.SecureShell.{destination, port_refusal, ssh_refusal}
+
+-- Git gives Secure Shell this word for user and host, this port and this path, for a text: so it reaches what
+-- it reads there
+pub record GivesSecure (t given : List ℕ) (number : Option ℕ) (path : List ℕ) : Type 0 where
+  pub reading : GitReading
+  pub reads : GitReads t reading
+  pub place : List ℕ
+  pub reaches : ReachesSecure place path reading
+  pub word : reaches.word ≡ given
+  pub port : reaches.port ≡ number
+
+-- there is a command for the location, except for a port with the variant `simple`, and its destination, port
+-- and path are those that Git gives Secure Shell for the text of the location
+pub record HasOwnWords (v : Location) : Type 0 where
+  pub host : List ℕ
+  pub there : v.host ≡ Some host
+  pub made : (variant : SshVariant) → port_refusal variant v.port ≡ None → ssh_refusal variant v ≡ None
+  pub words : (t : List ℕ) → text v ≡ Ok t → GivesSecure t (destination v.user host) v.port v.path
+
+-- so it is with each location of Secure Shell of Git's class
+abbrev pub GivesOwnWords : Type 0
+GivesOwnWords = (v : Location) → IsValue v → AgreesWithGit v → v.scheme ≡ ssh → HasOwnWords v
