@@ -1,4 +1,4 @@
-"""The rows of `docs/RULES.md`: each class has one, with the number that was counted, and its examples are in that class."""
+"""The rows of `docs/RULES.md`: each class has one, and its examples are in that class."""
 import re
 
 import git_classes
@@ -10,11 +10,12 @@ from kit import ROOT
 from rules_asked import Entry
 
 PAGE, OTHER = "docs/RULES.md", "docs/GIT.md"
-# A class with its number, and the cells behind it; a class may have more rows, which name it in the first one alone.
-ROW = re.compile(r"^\| (?:`([a-z0-9-]+)` \(([0-9,]+).*?\) )?\| (.*) \|$", re.M)
+# A class, and the cells behind it; a class may have more rows, which name it in the first one alone.
+ROW = re.compile(r"^\| (?:`([a-z0-9-]+)` )?\| (.*) \|$", re.M)
 CODE = re.compile(r"`([^`]*)`")
 # The class for which another variant is asked than `ssh`.
 OF_SIMPLE = "port-of-simple"
+CLASSES = {*rules_rewrite.CLASSES, *rules_credential.CLASSES, *rules_ssh.REASONS, *rules_ssh.OF_WORDS}
 
 
 def read(name):
@@ -23,33 +24,25 @@ def read(name):
 
 
 def rows_of(page):
-    """The rows of classes: the name, the number or None, and the cells."""
+    """The rows of classes: the name, and the cells. The table of variants has none."""
     name = None
     for found in ROW.finditer(page):
         name = found[1] or name
-        if found[1] or name and found[0].startswith("| |"):
-            yield name, found[2] and int(found[2].replace(",", "")), found[3].split(" | ")
+        if name in CLASSES:
+            yield name, found[2].split(" | ")
 
 
 def class_faults():
     """The classes without a row in the documents, and the rows that aren't of a class."""
-    own, other = {name for name, _, _ in rows_of(read(PAGE))}, set(re.findall(r"^\| `([a-z0-9-]+)` \(", read(OTHER), re.M))
-    classes = {*rules_rewrite.CLASSES, *rules_credential.CLASSES, *rules_ssh.REASONS, *rules_ssh.OF_WORDS}
-    yield from (f"{PAGE} has no row for the class {it}" for it in sorted(classes - own))
-    yield from (f"{PAGE} has a row for {it}, which isn't a class" for it in sorted(own - classes))
+    own, other = (set(re.findall(r"^\| `([a-z0-9-]+)` \|", read(it), re.M)) for it in (PAGE, OTHER))
+    yield from (f"{PAGE} has no row for the class {it}" for it in sorted(CLASSES - own))
+    yield from (f"{PAGE} has a row for {it}, which isn't a class" for it in sorted(own - CLASSES - {*rules_ssh.VARIANTS}))
     yield from (f"{OTHER} has no row for the class {it}" for it in sorted({*git_classes.CLASSES} - other))
-
-
-def number_faults(counts):
-    """The classes of which another number was counted than the page has."""
-    for name, number, _ in rows_of(read(PAGE)):
-        if number is not None and number != counts[name]:
-            yield f"{PAGE} has {number:,} of {name}, and {counts[name]:,} were counted"
 
 
 def credential_examples():
     """The examples of classes of credentials: the class, the entry, the URL, and whether Git takes the entry."""
-    for name, _, cells in rows_of(read(PAGE)):
+    for name, cells in rows_of(read(PAGE)):
         if name in rules_credential.CLASSES:
             # An entry for nothing at all is the word `empty`.
             entries = [*CODE.findall(cells[0]), *([""] if "empty" in cells[0] else [])]
@@ -70,7 +63,7 @@ def credential_faults():
 
 def word_faults():
     """The examples of words for Secure Shell that are in another class."""
-    texts = [(name, CODE.findall(cells[0])[0].encode()) for name, _, cells in rows_of(read(PAGE)) if name in (*rules_ssh.REASONS, *rules_ssh.OF_WORDS)]
+    texts = [(name, CODE.findall(cells[0])[0].encode()) for name, cells in rows_of(read(PAGE)) if name in (*rules_ssh.REASONS, *rules_ssh.OF_WORDS)]
     runs = [rules_ssh.Run("simple" if name == OF_SIMPLE else "ssh", 2, rules_ssh.SERVICES[0]) for name, _ in texts]
     for (name, text), case in zip(texts, rules_ssh.ask([(text, run) for (_, text), run in zip(texts, runs)])):
         location = oracle.spells(text)
