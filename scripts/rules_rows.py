@@ -59,12 +59,12 @@ def of_transports(some):
 
 
 def of_policies(some):
-    """Whether a transport is allowed; refused where Git ends before it decides."""
+    """Whether a transport is allowed, by the library's names for that."""
     def variable(it, name):
         return bytes_of(it[name]) if name in it else None
 
-    asked = [(entries_of(it), variable(it, "allow_protocol"), variable(it, "from_user"), bytes_of(it["name"])) for it in some]
-    yield from (REFUSED if isinstance(it.allowed, str) else it.allowed for it in rules_transport.cases_of(asked))
+    asked = [(entries_of(it), variable(it, "allow_list"), variable(it, "from_user"), bytes_of(it["name"])) for it in some]
+    yield from (rules_transport.PERMISSIONS[it.allowed] for it in rules_transport.cases_of(asked))
 
 
 def of_words(some):
@@ -81,7 +81,7 @@ OUTCOMES = {
     "UrlPattern::matches": of_patterns,
     "pattern::best": of_best,
     "protocols::transport": of_transports,
-    "Protocols::allows": of_policies,
+    "Protocols::permission": of_policies,
     "ssh::ssh_command": of_words,
 }
 

@@ -8,7 +8,8 @@ command: the service, and the path in single quotes, in which `'` and `!` are ta
 The rule for a location takes its own user, host, port and path, or says why there is no command. The rule for a text takes
 what Git cuts it into (`git_reads.py`). Git's words are those that a `GIT_SSH_COMMAND` gets, which shows them and fails: by
 `git ls-remote`, `git send-pack` and `git archive --remote`. Where a location has other words than Git's, or none, the
-difference is in a class: one of `git_classes.py`, or one of those below, which are described in `docs/RULES.md`.
+difference is in a class: one of `git_classes.py`, or one of those below, which are described in `docs/RULES.md`. And in each
+command `sh` must read two words, the service and the path.
 """
 import re
 from collections import namedtuple
@@ -21,6 +22,7 @@ from git_texts import Maker, texts
 from git_transports import quoted
 from row_text import text_of
 from rules_asked import answers_of, rooms
+from rules_ssh_texts import secure_texts
 from rules_transport import transport
 
 NUMBER, WHOLE, SAMPLE = 20_261_130, 10_000, 1_500
@@ -36,6 +38,10 @@ while [ $# -gt 0 ]; do
   printf '\0'
   shift 4
 done
+"""
+# A shell reads commands, and writes the words that it reads.
+READ = r"""
+for command; do eval "set -- $command"; printf '%s\001' "$@"; printf '\0'; done
 """
 SERVICES = ("git-upload-pack", "git-receive-pack", "git-upload-archive")
 VARIANTS = ("ssh", "plink", "putty", "tortoiseplink", "simple")
@@ -143,8 +149,22 @@ def git_reading(case):
     found = with_number(case.git[0])
     port = next((int(found[at + 1]) for at, it in enumerate(found[:-2]) if it in (b"-p", b"-P")), None)
     user, host = next(iter(user_cuts(found[-2])), (None, None))
-    path = re.sub(rb"'\\(['!])'", rb"\1", found[-1][len(case.run.service) + 2 : -1])
-    return "empty user" if host is None else Reading("ssh", user, None, host or None, port, path)
+    return "empty user" if host is None else Reading("ssh", user, None, host or None, port, path_of(case))
+
+
+def shell_faults(cases):
+    """The commands in which a shell reads other words than the service and the path."""
+    ran = [it for it in cases if not isinstance(it.git, str)]
+    with rooms([]) as (room, environment, _):
+        read = answers_of(READ, room, environment, [it.git[0][-1] for it in ran])
+    for it, words in zip(ran, read):
+        if words != b"%s\x01%s\x01" % (it.run.service.encode(), path_of(it)):
+            yield f"{it.text!r}: a shell reads {words!r} in {it.git[0][-1]!r}"
+
+
+def path_of(case):
+    """The path in a command, without its quotes."""
+    return re.sub(rb"'\\(['!])'", rb"\1", case.git[0][-1][len(case.run.service) + 2 : -1])
 
 
 def own_reading(it):
@@ -201,8 +221,8 @@ def judged(cases):
 def made(count, given):
     """Texts that Git takes for Secure Shell, those that are given and so many others, each run by `ssh` and by `plink`; and a
     tenth of them by other variants and services."""
-    some = [it for it in texts(NUMBER, 4 * count, 0, []) if transport(it) == b"ssh"][:count]
-    every, maker = [*dict.fromkeys([*GIVEN, *given, *some])], Maker(NUMBER)
+    some = [it for it in texts(NUMBER, 2 * count, 0, []) if transport(it) == b"ssh"][: count // 2]
+    every, maker = [*dict.fromkeys([*GIVEN, *given, *some, *secure_texts(NUMBER, count - len(some))])], Maker(NUMBER)
     usual = [(it, Run(variant, maker.one_of((2, 2, 0, 1)), SERVICES[0])) for it in every for variant in VARIANTS[:2]]
     return usual + [(it, Run(maker.one_of(VARIANTS), maker.below(3), maker.one_of(SERVICES))) for it in every[:: 10] if it[:1] != b"-"]
 

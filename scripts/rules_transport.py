@@ -36,6 +36,10 @@ NAMED = re.compile(rb"^fatal: transport '(.*)' not allowed$", re.M | re.S)
 ENDS = {b"unknown value for config": "unknown policy", b"bad config variable": "no value", b"bad boolean config value": "no truth value"}
 # What Git refuses before it looks at the transport.
 REFUSALS = (b"no path specified", b"strange pathname", b"is not supported", b"git-over-rsync", b"newline is forbidden")
+# The library's names for what Git does.
+PERMISSIONS = {
+    True: "Allowed", False: "Refused", "unknown policy": "UnknownAllowance", "no value": "UnknownAllowance", "no truth value": "UnknownFromUser"
+}
 OWN = {b"ssh": b"ssh", b"git+ssh": b"ssh", b"ssh+git": b"ssh", b"git": b"git", b"file": b"file"}
 SAFE, DANGEROUS = (b"http", b"https", b"git", b"ssh"), (b"ext",)
 URL = re.compile(rb"([0-9A-Za-z][0-9A-Za-z+.-]*)://")
@@ -198,12 +202,11 @@ def differences(cases):
 
 
 def orders(cases):
-    """The calls of the library for the cases, each with Git's outcome: an error where Git ends."""
+    """The calls of the library for the cases, each with Git's outcome."""
     for it in cases:
-        variables = {"allow_protocol": it.allow_list, "from_user": it.from_user}
+        variables = {"allow_list": it.allow_list, "from_user": it.from_user}
         given = {name: text_of(value) for name, value in variables.items() if value is not None}
-        config = {"config": text_of(listed(it.entries)), "name": text_of(it.name)}
-        yield {"call": "Protocols::allows", **config, **given}, {"refused": True} if isinstance(it.allowed, str) else it.allowed
+        yield {"call": "Protocols::permission", "config": text_of(listed(it.entries)), "name": text_of(it.name), **given}, PERMISSIONS[it.allowed]
 
 
 def name_orders(found):
