@@ -17,6 +17,7 @@ from git_reads import HELPER_FORM
 from git_texts import Maker
 from row_text import text_of
 from rules_asked import Entry, answers_of, is_named, listed, rooms
+from rules_boolean import is_true
 
 NUMBER, WHOLE, SAMPLE = 20_261_129, 4_000, 600
 # How many texts are asked for their transport.
@@ -60,21 +61,6 @@ def transport(text):
         return OWN.get(url[1], url[1])
     front, colon, _ = text.partition(b":")
     return b"ssh" if colon and b"/" not in front else b"file"
-
-
-def is_true(text):
-    """A truth value as git-config(1) has them; None for another text."""
-    word = text.lower()
-    if word in (b"true", b"yes", b"on", b"false", b"no", b"off", b""):
-        return word in (b"true", b"yes", b"on")
-    found = re.fullmatch(rb"[ \t-\r]*[+-]?(0[xX][0-9a-fA-F]+|0[0-7]*|[1-9][0-9]*)([kKmMgG]?)", text)
-    number = found and int(found[1], 16 if found[1][:2].lower() == b"0x" else 8 if found[1][:1] == b"0" else 10)
-    return None if found is None or not fits_number(number, found[2].lower()) else number != 0
-
-
-def fits_number(number, unit):
-    """Whether a number with its unit fits 31 bits."""
-    return number * {b"": 1, b"k": 1 << 10, b"m": 1 << 20, b"g": 1 << 30}[unit] < 1 << 31
 
 
 def entry_of(entries, name):
