@@ -121,8 +121,9 @@ class Policies(Maker):
         return entries, self.allow_list(name), self.one_of(FROM_USER), name
 
     def text_of(self, name):
-        """A text that takes a transport. No URL has the scheme `git+ssh` as a helper's name, and none an empty one."""
-        of_helper = (name + b"::/x",) if name in (b"", b"git+ssh") else (name + b"://h/p", name + b"::/x")
+        """A text that takes a transport. No URL has the scheme `git+ssh` as a helper's name, and none an empty one. Where a
+        helper is installed all the same, it has nowhere to go."""
+        of_helper = (name + b"::/x",) if name in (b"", b"git+ssh") else (name + b"://127.0.0.1:1/p", name + b"::/x")
         return self.one_of(OF.get(name, of_helper))
 
 
