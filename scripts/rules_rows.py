@@ -123,8 +123,7 @@ def record():
 def row_faults():
     """The rows of which Git has another outcome by now, whose words aren't the location's own, or whose location isn't read."""
     rows = [it for it in lines() if isinstance(it, dict)]
-    if not rows:
-        print("rules_witness: rows are left out, since there are none in vectors/rules.jsonl")
+    print(f"{len(rows)} rows are asked again" if rows else "rules_witness: rows are left out, since there are none in vectors/rules.jsonl")
     for row, outcome in zip(rows, outcomes(rows)):
         is_unread = "url" in row and oracle.spells(bytes_of(row["url"])) is None
         if outcome != row.get("is", ...) or is_unread or row["call"] == "ssh::ssh_command" and outcome is None:
