@@ -4,3 +4,4 @@ pub mod Matched
 pub mod Numbers
 pub mod Allowed
 pub mod Shell
+pub mod Rules

@@ -29,7 +29,8 @@ CutsName behind p = FreeOf dot p.1.now × (behind ≡ name_text (option_map (λ 
 
 -- the parts of a key, or none where nothing spells it
 abbrev pub CutsKey : List ℕ → Option (Bor (List ℕ) × Option (Bor (List ℕ)) × Bor (List ℕ)) → Type 0
-CutsKey key found = MatchOption found ((s : List ℕ) (sub : Option (List ℕ)) (n : List ℕ) → ¬ SpellsKey key s sub n)
+CutsKey key found = MatchOption found
+    ((s : List ℕ) (sub : Option (List ℕ)) (n : List ℕ) → ¬ SpellsKey key s sub n)
     (λ p. SpellsKey key p.0.now (option_map (λ t. t.now) p.1) p.2.now)
 
 -- what a line that begins at a byte means: the entry that it spells, or none where it spells none

@@ -4,6 +4,14 @@ pub mod ConfigView
 pub mod ConfigItems
 pub mod ConfigReader
 pub mod Rewrites
+pub mod RuleTable
+pub mod RuleViews
+pub mod RuleOutcome
+pub mod RewriteViews
+pub mod RewriteEntries
+pub mod RewriteErrors
+pub mod RewriteLaws
+pub mod SameHost
 pub mod Normal
 pub mod NormalView
 pub mod NormalPieces

@@ -3,7 +3,7 @@ use Rattle.std.proofs.Common.{◌≡◌, ℕ, ◌==◌, true, ◌⊎◌, length,
 use Rattle.std.proofs.lemmas.Bool.{eq-eqb, eqb-true}
 use Rattle.git_syntax.specs.Bytes.{FreeOf, begins_by, dot, newline}
 use Rattle.git_syntax.proofs.Texts.CutLemmas.{class_cut_unique, cut_unique, last_cut_unique, not_free}
-use Rattle.git_rules.specs.Config.{ConfigEntry, SpellsEntry, SpellsKey, key_text, name_text, value_text}
+use Rattle.git_rules.specs.Config.{ConfigEntry, SpellsEntry, SpellsKey, name_text, value_text}
 
 -- what follows the first dot determines the subsection and the name
 pub name_unique : (a b : Option (List ℕ)) (n m : List ℕ) → FreeOf dot n → FreeOf dot m → name_text a n ≡ name_text b m → (a ≡ b) × (n ≡ m)

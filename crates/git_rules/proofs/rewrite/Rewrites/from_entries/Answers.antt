@@ -1,0 +1,12 @@
+use Rattle.std.proofs.lemmas.Result.{err_from_is_err_and}
+use Rattle.git_rules.proofs.Rules.EntryLemmas.{filled_more, filled_to}
+use Rattle.git_rules.proofs.rewrite.Rewrites.from_entries.Goals as goal
+
+pub loop-entry-preserved : goal.loop-entry-preserved
+loop-entry-preserved c =
+    filled_more c.args.entries.now c.loop-entry.entry-index c.entry-item.result c.loop-entry.rules c.add_entry.new.self c.loop-entry-test.true c.entry-item.is c.loop-entry.invariant c.in_ok-add_entry.ensures
+
+pub returns-in_err-add_entry : goal.returns-in_err-add_entry
+returns-in_err-add_entry c =
+    let told = err_from_is_err_and c.from_residual.result c.from_residual.ensures.1 in
+    rw (told.1, told.2) (filled_to c.args.entries.now c.loop-entry.entry-index c.entry-item.result c.loop-entry.rules c.add_entry.new.self _ c.loop-entry-test.true c.entry-item.is c.loop-entry.invariant c.in_err-add_entry.ensures)

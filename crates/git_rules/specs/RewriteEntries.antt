@@ -1,0 +1,66 @@
+-- The rules of a configuration.
+use Rattle.std.specs.Prelude.{◌≡◌, ℕ, Bool, true, ◌&&◌, ◌⊎◌, if◌then◌else◌, List, [], ◌∷◌, ◌++◌, Option, Some, None, codes}
+use Rattle.std.specs.Str.{bytes_eq}
+use Rattle.git_syntax.specs.Bytes.{lowercase}
+use Rattle.git_rules.specs.Config.{ConfigEntry}
+use Rattle.git_rules.specs.Rewrites.{Rule, Rules}
+
+-- the name of rules for fetching
+abbrev pub instead_of : List ℕ
+instead_of = codes "insteadof"
+
+-- the name of rules for pushing
+abbrev pub push_instead_of : List ℕ
+push_instead_of = codes "pushinsteadof"
+
+-- the words are the same without letter case
+abbrev pub is_same_word : List ℕ → List ℕ → Bool
+is_same_word a b = bytes_eq (lowercase a) (lowercase b)
+
+-- the entry has the section `url` and the name
+abbrev pub is_url_entry : List ℕ → ConfigEntry → Bool
+is_url_entry name e = is_same_word e.section (codes "url") && is_same_word e.name name
+
+-- a base and a front make a rule; where one of them is missing there is none
+abbrev pub rule_between : Option (List ℕ) → Option (List ℕ) → List Rule
+rule_between (Some base) (Some front) = record { base = base; front = front } ∷ []
+rule_between (Some base) None = []
+rule_between None front = []
+
+-- the rule that an entry is by this name: its subsection is the base, and its value the front
+abbrev pub entry_rule : List ℕ → ConfigEntry → List Rule
+entry_rule name e = if is_url_entry name e then rule_between e.subsection e.value else []
+
+-- the rules that entries are by this name, in their order
+abbrev pub rules_named : List ℕ → List ConfigEntry → List Rule
+rules_named name [] = []
+rules_named name (e ∷ entries) = entry_rule name e ++ rules_named name entries
+
+-- the rules of a configuration
+abbrev pub rules_of : List ConfigEntry → Rules
+rules_of entries = record {
+  fetching = rules_named instead_of entries;
+  pushing = rules_named push_instead_of entries;
+}
+
+-- the rules with those of an entry behind them
+abbrev pub with_entry : Rules → ConfigEntry → Rules
+with_entry rules e = record {
+  fetching = rules.fetching ++ entry_rule instead_of e;
+  pushing = rules.pushing ++ entry_rule push_instead_of e;
+}
+
+-- the entry has a base and one of the two names, and no value: Git stops at it
+abbrev pub LacksValue : ConfigEntry → Type 0
+LacksValue e = ((is_url_entry instead_of e ≡ true) ⊎ (is_url_entry push_instead_of e ≡ true))
+    × ((base : List ℕ) × (e.subsection ≡ Some base)) × (e.value ≡ None)
+
+-- none of the entries lacks a value
+abbrev pub AllHaveValues : List ConfigEntry → Type 0
+AllHaveValues [] = Unit {0}
+AllHaveValues (e ∷ entries) = (¬ LacksValue e) × AllHaveValues entries
+
+-- the first of the entries that lacks a value begins at this byte
+abbrev pub FirstLacks : List ConfigEntry → ℕ → Type 0
+FirstLacks entries at = (before : List ConfigEntry) × (e : ConfigEntry) × (others : List ConfigEntry)
+    × (entries ≡ before ++ e ∷ others) × AllHaveValues before × LacksValue e × (at ≡ e.at)

@@ -1,0 +1,22 @@
+-- Locations that name the same host.
+use Rattle.std.specs.Prelude.{◌≡◌, ◌↔◌, ℕ, Bool, IsTrue, List, Result, Ok, Err, ◌⊎◌, option_map}
+use Rattle.git_syntax.specs.Bytes.{lowercase}
+use Rattle.git_syntax.specs.FoundPieces.{peeled}
+use Rattle.git_syntax.specs.Value.{Location}
+use Rattle.git_syntax.specs.Grammar.{Spells}
+use Rattle.git_location.specs.Readings.{ReadsIn}
+use Rattle.git_location.specs.declared.parse_error.ParseError.{ParseError}
+
+-- what names a host: without brackets around it and without a colon alone behind it, in lower case
+abbrev pub host_name : List ℕ → List ℕ
+host_name host = lowercase (peeled host)
+
+-- both locations have a host, and their hosts have one name; or neither has one
+abbrev pub HaveSameHost : Location → Location → Type 0
+HaveSameHost v w = option_map host_name v.host ≡ option_map host_name w.host
+
+-- both texts are read, and it is told whether they name the same host; or one of them isn't read
+abbrev pub ComparesHosts : List ℕ → ℕ → List ℕ → ℕ → Result Bool ParseError → Type 0
+ComparesHosts a room b other (Ok same) = (v : Location) × (w : Location) × Spells a v × Spells b w
+    × (IsTrue same ↔ HaveSameHost v w)
+ComparesHosts a room b other (Err e) = ReadsIn a room (Err e) ⊎ ReadsIn b other (Err e)

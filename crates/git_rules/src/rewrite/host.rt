@@ -1,0 +1,70 @@
+//! Whether two locations name the same host, as a rewritten one should.
+//!
+//! It uses borrowed locations and the hosts that Secure Shell takes. Its contract: hosts are compared by their names, and
+//! nothing else of the locations is looked at.
+
+ghost use Rattle.std.specs.Prelude.{◌≡◌, ◌↔◌, IsTrue, length};
+ghost use Rattle.git_rules.specs.SameHost.{ComparesHosts, HaveSameHost, host_name};
+
+use git_location::parse_error::ParseError;
+use git_location::url_ref::UrlRef;
+use git_syntax::peeled::peeled_text;
+
+/// Whether two locations name the same host, so that a program can warn about a remote that a rule moves to another one.
+///
+/// Hosts are compared without letter case (ASCII), without brackets around them, and without a lone colon behind
+/// them. Two locations without a host count as the same. Neither scheme nor user nor port is looked at: the same host may
+/// be reached by another protocol, or another service of it. Nor is a name resolved. It takes no memory.
+///
+/// ```
+/// /// Whether a rule moves a location to a host that the user hasn't named.
+/// fn is_moved(before: &UrlRef<'_>, after: &UrlRef<'_>) -> bool {
+///     !names_same_host(before, after)
+/// }
+/// ```
+pub fn names_same_host(a: &UrlRef<'_>, b: &UrlRef<'_>) -> bool
+    ensures { IsTrue result ↔ HaveSameHost a.now b.now }
+{
+    match a.host {
+        None => b.host.is_none(),
+        Some(host) => match b.host {
+            None => false,
+            Some(other) => is_same_host(host.as_bytes(), other.as_bytes()),
+        },
+    }
+}
+
+/// The same of two texts, each of which is read into a buffer of its own. A buffer as long as its text is enough. It takes
+/// no memory.
+///
+/// ```
+/// /// Whether both texts name the same host; none where one of them isn't read, or is longer than 1,024 bytes.
+/// fn keeps_host(before: &[u8], after: &[u8]) -> Option<bool> {
+///     let mut buffer = [0u8; 1024];
+///     let mut other = [0u8; 1024];
+///     texts_name_same_host(before, &mut buffer, after, &mut other).ok()
+/// }
+/// ```
+///
+/// # Errors
+///
+/// The [`ParseError`] of the first text that isn't read.
+pub fn texts_name_same_host<'a>(
+    a: &'a [u8],
+    buffer: &'a mut [u8],
+    b: &'a [u8],
+    other: &'a mut [u8],
+) -> Result<bool, ParseError<'a>>
+    ensures { ComparesHosts a.now (length buffer.old) b.now (length other.old) result }
+{
+    let first = UrlRef::parse_in(a, buffer)?;
+    let second = UrlRef::parse_in(b, other)?;
+    Ok(names_same_host(&first, &second))
+}
+
+/// Whether two hosts have one name.
+fn is_same_host(a: &[u8], b: &[u8]) -> bool
+    ensures { IsTrue result ↔ (host_name a.now ≡ host_name b.now) }
+{
+    peeled_text(a).eq_ignore_ascii_case(peeled_text(b))
+}

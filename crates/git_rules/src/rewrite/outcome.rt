@@ -1,0 +1,94 @@
+//! What becomes of a text that is rewritten: a [`Rewritten`], of two slices.
+//!
+//! It uses `bytes` of `git_syntax` to put them together. Its contract: to all others it is a base, if there is one, and a
+//! rest, and its text is the one before the other.
+
+ghost use Rattle.std.specs.Prelude.{◌≡◌, ◌++◌, IfOk, is_some};
+ghost use Rattle.bstr.specs.Owned.{bstring_bytes};
+ghost use Rattle.git_rules.specs.Rewrites.{outcome_text};
+
+use bstr::BString;
+use git_syntax::bytes::append_within;
+use std::alloc::{AllocError, Global};
+use std::marker::Model;
+
+/// What becomes of a text that is rewritten: the base of the rule that won, and the text behind that rule's front; or no
+/// base and the text itself. It borrows both.
+///
+/// ```
+/// /// The front that a rule takes off a text, if one wins.
+/// fn front<'a>(rules: &Rewrites<'_>, text: &'a [u8]) -> Option<&'a [u8]> {
+///     let outcome = rules.rewrite_fetch(text);
+///     outcome.base?;
+///     text.strip_suffix(outcome.rest)
+/// }
+/// ```
+#[derive(Drop)]
+pub struct Rewritten<'a> {
+    /// What the text begins with now, where a rule won. It may be empty.
+    pub base: Option<&'a [u8]>,
+    /// What is left of the text behind the front of that rule; all of it where no rule won.
+    pub rest: &'a [u8],
+}
+
+impl<'a> Model for Rewritten<'a> {
+    ghost use Rattle.git_rules.specs.Rewrites.{Outcome};
+
+    ghost Value = { Outcome };
+
+    ghost use Rattle.git_rules.specs.RuleOutcome.{outcome};
+
+    ghost view = { outcome };
+}
+
+impl Rewritten<'_> {
+    /// Whether a rule won. Its base may be the front that it replaces, and then the text is the same. It takes no memory.
+    ///
+    /// ```
+    /// /// How many of the locations a configuration rewrites.
+    /// fn rewritten(rules: &Rewrites<'_>, locations: &[&[u8]]) -> usize {
+    ///     let mut count: usize = 0;
+    ///     for location in locations {
+    ///         if rules.rewrite_fetch(location).is_rewritten() {
+    ///             count = count.saturating_add(1);
+    ///         }
+    ///     }
+    ///     count
+    /// }
+    /// ```
+    pub fn is_rewritten(&self) -> bool
+        ensures { result ≡ is_some self.now.base }
+    {
+        self.base.is_some()
+    }
+
+    /// The whole text: the base, where there is one, and the rest.
+    ///
+    /// Memory is asked for once, for exactly the length of the text, and not at all for an empty one.
+    /// [`Rewrites`](crate::rewrite::Rewrites) has an example.
+    ///
+    /// # Errors
+    ///
+    /// `AllocError` where memory is refused, or where the text would be longer than any memory.
+    pub fn to_bstring(&self, alloc: Global) -> Result<BString, AllocError>
+        ensures { IfOk result (λ text. bstring_bytes text ≡ outcome_text self.now) }
+    {
+        match self.base {
+            None => joined(alloc, b"", self.rest),
+            Some(base) => joined(alloc, base, self.rest),
+        }
+    }
+}
+
+/// One text and then the other.
+fn joined(alloc: Global, front: &[u8], rest: &[u8]) -> Result<BString, AllocError>
+    ensures { IfOk result (λ text. bstring_bytes text ≡ front.now ++ rest.now) }
+{
+    let Some(size) = front.len().checked_add(rest.len()) else {
+        return Err(AllocError);
+    };
+    let mut text = Vec::with_capacity(alloc, size)?;
+    append_within(&mut text, front);
+    append_within(&mut text, rest);
+    Ok(BString::new(text))
+}
