@@ -1,5 +1,5 @@
 -- Texts that Git takes for a boolean value, numbers among them.
-use Rattle.std.specs.Prelude.{ℕ, ◌*◌, Bool, true, false, not, ◌&&◌, ◌||◌, ◌==◌, nat_le, bytes_eq, codes, List, [], ◌∷◌, take, drop, Option, Some, None, option_and_then, if◌then◌else◌}
+use Rattle.std.specs.Prelude.{ℕ, ◌*◌, Bool, true, false, not, ◌&&◌, ◌||◌, ◌==◌, nat_le, bytes_eq, codes, List, [], ◌∷◌, drop, Option, Some, None, option_and_then, if◌then◌else◌}
 use Rattle.std.specs.Option.{option_map}
 use Rattle.std.specs.List.{prefix_len, take_while}
 use Rattle.std.specs.Char.{is_digit, to_ascii_lowercase}

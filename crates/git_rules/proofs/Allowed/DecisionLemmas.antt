@@ -1,6 +1,5 @@
 -- One entry is the last that sets a key, one entry counts for a transport, and Git decides in one way.
 use Rattle.std.proofs.Common.{◌≡◌, ℕ, List, [], ◌∷◌, ◌++◌, Option, Some, None, All, refl, sym, subst, ap, ◌∙◌, inl, inr}
-use Rattle.std.specs.Prelude.{◌⊎◌}
 use Rattle.std.proofs.lemmas.List.Elements.{All-head, All-tail}
 use Rattle.git_rules.specs.Config.{ConfigEntry}
 use Rattle.git_rules.specs.Policies.{Policy}
