@@ -17,11 +17,11 @@ use std::marker::Model;
 /// The name of the transport that Git takes for the location, or of the remote helper that it runs: `ssh`, `git`, `file`,
 /// `http`, `https`, `ext`, or the name of another helper.
 ///
-/// It is what Git looks up in `protocol.<name>.allow` and `GIT_ALLOW_PROTOCOL`, and depends on the scheme alone: it is
-/// `ssh` for `git+ssh://` and the scp form, `file` for paths, and `SSH` for `SSH://`, which Git hands to a helper of that
-/// name. Git refuses each text that begins with `rsync:`, but not `rsync::`, before it looks for a transport; such a
-/// location has a name here all the same: `rsync` as a URL, `ssh` in scp form. `remote.<name>.vcs` is not looked at. It
-/// takes no memory.
+/// Git looks this name up in `protocol.<name>.allow` and `GIT_ALLOW_PROTOCOL`. It depends on the scheme alone: `ssh` for
+/// `git+ssh://` and the scp form, `file` for paths, `SSH` for `SSH://`, which Git hands to a helper of that name. Before
+/// that, Git refuses each text that begins with `rsync:` but not with `rsync::`. Such a location has a name here all the
+/// same, `rsync` as a URL and `ssh` in scp form. `remote.<name>.vcs`, which names another helper, is not looked at. It takes
+/// no memory.
 ///
 /// ```
 /// fn is_secure_shell(url: &UrlRef<'_>) -> bool {
@@ -53,10 +53,10 @@ pub fn transport<'a>(url: &UrlRef<'a>) -> &'a str
 pub struct Protocols<'a> {
     /// The entries of the configuration, in their order. Those of other keys count for nothing.
     pub entries: &'a [Entry<'a>],
-    /// The value of `GIT_ALLOW_PROTOCOL`: names with a colon between two. None where it isn't set; the empty text is a list
-    /// of the empty name.
+    /// The value of `GIT_ALLOW_PROTOCOL`: names with a colon between two. None where it isn't set: the empty text is a list
+    /// that allows no transport but one without a name.
     pub allow_list: Option<&'a [u8]>,
-    /// The value of `GIT_PROTOCOL_FROM_USER`, a boolean value. None where it isn't set, which is as true.
+    /// The value of `GIT_PROTOCOL_FROM_USER`, a boolean value. None where it isn't set, which Git takes as true.
     pub from_user: Option<&'a [u8]>,
 }
 
@@ -70,7 +70,7 @@ impl<'a> Model for Protocols<'a> {
     ghost view = { policy };
 }
 
-/// What Git does about a transport, and by what.
+/// What Git does about a transport, and by what. Copies take no memory.
 #[derive(Clone, Copy, Debug, PartialEq, Eq)]
 pub enum Permission {
     /// Git uses it.
@@ -141,8 +141,8 @@ impl Protocols<'_> {
     /// takes no memory. The rules are those of git(1) and of `protocol.allow` in git-config(1).
     ///
     /// Git's helper for HTTP asks again, for `http`, `https`, `ftp` and `ftps`: whether it may use them, and whether it may
-    /// follow redirections to them, as if `GIT_PROTOCOL_FROM_USER` were false. So it may stop for the entry of one of the
-    /// others even if the transport is allowed.
+    /// follow redirections to them, as if `GIT_PROTOCOL_FROM_USER` were false. So even if the transport is allowed, Git may
+    /// stop later for an entry of one of the others, or for `GIT_PROTOCOL_FROM_USER`.
     ///
     /// ```
     /// fn refusal_place(protocols: &Protocols<'_>, name: &str) -> Option<usize> {
