@@ -5,6 +5,8 @@ use Rattle.git_syntax.specs.declared.refusal.UrlKind.{UrlKind}
 use Rattle.git_syntax.specs.declared.refusal.UrlKind.TheVariants as kind
 use Rattle.git_syntax.specs.declared.refusal.UrlFault.{UrlFault}
 use Rattle.git_syntax.specs.declared.refusal.UrlFault.TheVariants as fault
+use Rattle.git_syntax.specs.declared.refusal.Refusal.{Refusal}
+use Rattle.git_syntax.specs.declared.refusal.Refusal.TheVariants as refusal
 use Rattle.git_location.specs.declared.write_error.WriteFault.{WriteFault}
 use Rattle.git_location.specs.declared.write_error.WriteFault.TheVariants as unwritten
 use Rattle.gix_url.specs.declared.error.Error.{Error}
@@ -86,6 +88,22 @@ problem_of (error.Unwritable fault) = problem_numbered 0 (write_fault_number fau
 problem_of (error.NoHome user) = no_problem
 problem_of error.PathNotUtf8 = no_problem
 problem_of error.Unresolved = no_problem
+
+-- the number of a refusal: that of the error which it becomes where the text is copied
+abbrev pub refusal_code : Refusal → ℕ
+refusal_code refusal.EmptyLocal = 2
+refusal_code (refusal.MissingPath kind at) = 3
+refusal_code (refusal.NotUtf8 kind at) = 4
+refusal_code (refusal.TooLong shown total at len) = 5
+refusal_code (refusal.BadUrl kind fault at len) = 6
+
+-- what is reported of a refusal
+abbrev pub problem_of_refusal : Refusal → Problem
+problem_of_refusal refusal.EmptyLocal = no_problem
+problem_of_refusal (refusal.MissingPath kind at) = problem_numbered (kind_number kind) 0 0 0
+problem_of_refusal (refusal.NotUtf8 kind at) = problem_numbered (kind_number kind) 0 0 0
+problem_of_refusal (refusal.TooLong shown total at len) = problem_numbered 0 0 (length shown.now) total
+problem_of_refusal (refusal.BadUrl kind fault at len) = problem_numbered (kind_number kind) (fault_number fault) 0 0
 
 -- the number is that of an error of reading or of writing, of which more may be reported
 abbrev pub has_problem : ℕ → Bool

@@ -3,6 +3,7 @@ pub mod Codes
 pub mod Left
 pub mod Handed
 pub mod Answers
+pub mod Lent
 pub mod Looks
 pub mod Place
 pub mod Parted

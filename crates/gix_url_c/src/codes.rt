@@ -3,10 +3,10 @@
 //! It uses the library's errors alone. Its contract: the numbers are those of the definitions, which the header repeats.
 
 ghost use Rattle.std.specs.Prelude.{◌≡◌};
-ghost use Rattle.gix_url_c.specs.Codes.{error_code, fault_number, kind_number, no_problem, problem_numbered, problem_of, write_fault_number};
+ghost use Rattle.gix_url_c.specs.Codes.{error_code, fault_number, kind_number, no_problem, problem_numbered, problem_of, problem_of_refusal, refusal_code, write_fault_number};
 
 use gix_url::parse::UrlKind;
-use gix_url::{Error, UrlFault, WriteFault};
+use gix_url::{Error, Refusal, UrlFault, WriteFault};
 
 /// The call was answered.
 pub const OK: u32 = 0;
@@ -71,6 +71,35 @@ pub(crate) fn told_of(error: &Error) -> Problem
         | Error::NoHome(_)
         | Error::PathNotUtf8
         | Error::Unresolved => no_problem(),
+    }
+}
+
+/// The number of a refusal: that of the error which it becomes where the text is copied.
+pub(crate) fn refusal_code(refusal: Refusal<'_>) -> u32
+    ensures { result ≡ refusal_code refusal.entry }
+{
+    match refusal {
+        Refusal::EmptyLocal => 2,
+        Refusal::MissingPath { .. } => 3,
+        Refusal::NotUtf8 { .. } => 4,
+        Refusal::TooLong { .. } => 5,
+        Refusal::BadUrl { .. } => 6,
+    }
+}
+
+/// What is told of a refusal.
+pub(crate) fn told_of_refusal(refusal: Refusal<'_>) -> Problem
+    ensures { result ≡ problem_of_refusal refusal.entry }
+{
+    match refusal {
+        Refusal::EmptyLocal => no_problem(),
+        Refusal::MissingPath { kind, .. } | Refusal::NotUtf8 { kind, .. } => {
+            numbered(kind_number(kind), 0, 0, 0)
+        }
+        Refusal::TooLong { shown, total, .. } => numbered(0, 0, shown.len(), total),
+        Refusal::BadUrl { kind, fault, .. } => {
+            numbered(kind_number(kind), fault_number(fault), 0, 0)
+        }
     }
 }
 

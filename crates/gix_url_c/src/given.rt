@@ -67,7 +67,7 @@ pub(crate) fn located<'a>(given: &Given<'a>) -> Option<UrlRef<'a>>
         host: text(given.front.has_host, given.host)?,
         serialize_alternative_form: given.front.alternative,
         port: present(given.front.has_port, given.front.port),
-        path: given.path,
+        path: moved(given.path),
         spelling: present(given.front.has_spelling, given.spelling),
     })
 }
@@ -103,9 +103,18 @@ fn text(is_there: bool, bytes: &[u8]) -> Option<Option<&str>>
         return Some(None);
     }
     match str::from_utf8(bytes) {
-        Ok(text) => Some(Some(text)),
+        Ok(text) => Some(Some(moved(text))),
         Err(_) => None,
     }
+}
+
+/// The slice itself. What a call is handed moves as two numbers. A field that is copied moves as one wide value, for which
+/// the processor waits until both numbers, which were written just before, are in the cache.
+#[inline(always)]
+pub(crate) fn moved<T: Copy>(slice: T) -> T
+    ensures { result ≡ slice }
+{
+    slice
 }
 
 /// What is given, where it is there.

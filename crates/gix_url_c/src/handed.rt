@@ -90,7 +90,7 @@ fn measured(url: &UrlRef<'_>) -> Made
 }
 
 /// The numbers.
-fn numbers(url: &UrlRef<'_>) -> Front
+pub(crate) fn numbers(url: &UrlRef<'_>) -> Front
     ensures { result ≡ front_of url.now }
 {
     Front {
@@ -122,7 +122,7 @@ fn number(scheme: SchemeRef<'_>) -> u8
 }
 
 /// The name that a scheme holds, or nothing.
-fn name(scheme: SchemeRef<'_>) -> &[u8]
+pub(crate) fn name(scheme: SchemeRef<'_>) -> &[u8]
     ensures { result.now ≡ protocol_name (lent_protocol scheme.entry) }
 {
     match scheme {
@@ -133,7 +133,7 @@ fn name(scheme: SchemeRef<'_>) -> &[u8]
 }
 
 /// The bytes of a text, or nothing.
-fn text(text: Option<&str>) -> &[u8]
+pub(crate) fn text(text: Option<&str>) -> &[u8]
     ensures { result.now ≡ or_nothing (option_map (λ t. t.now) text.entry) }
 {
     match text {
@@ -143,7 +143,7 @@ fn text(text: Option<&str>) -> &[u8]
 }
 
 /// Bytes, or nothing.
-fn part(bytes: Option<&[u8]>) -> &[u8]
+pub(crate) fn part(bytes: Option<&[u8]>) -> &[u8]
     ensures { result.now ≡ or_nothing (option_copied bytes.entry) }
 {
     match bytes {

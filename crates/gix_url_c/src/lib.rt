@@ -14,6 +14,7 @@ pub mod codes;
 pub mod components;
 pub mod given;
 pub mod handed;
+pub mod lending;
 pub mod looking;
 pub mod part;
 pub mod place;

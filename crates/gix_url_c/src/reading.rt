@@ -20,7 +20,11 @@ use gix_url::parse::parse;
 use gix_url::{Error, Scheme, SchemeRef, Url, UrlRef};
 use std::alloc::{AllocError, Global};
 
-/// Reads the one location that the bytes spell, and hands it out: [`gix_url::parse::parse`].
+/// How long a text is at most whose location is read without memory.
+const NEAR: usize = 256;
+
+/// Reads the one location that the bytes spell, and hands it out: [`gix_url::parse::parse`]. Memory is only taken where
+/// the text is longer than 256 bytes, or is refused.
 ///
 /// It answers 0, or why there is no location: 1 to 6, with what is told of it. 102 says that there is a location, and
 /// that its parts don't fit into the room; their lengths are told.
@@ -37,6 +41,13 @@ pub extern "C" fn gix_url_c_read(
     ensures lengths { LeavesLengths result made.old made.new }
     ensures problem { LeavesProblem result no_problem told.new }
 {
+    if input.len() <= NEAR {
+        let mut near = [0; NEAR];
+        if let Ok(url) = UrlRef::parse_in(input, &mut near) {
+            *told = no_problem();
+            return hand_out(&url, made, room);
+        }
+    }
     tell(parse(alloc, BStr::new(input)), made, room, told)
 }
 

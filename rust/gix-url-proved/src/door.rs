@@ -83,10 +83,16 @@ impl<'a> Bytes<'a> {
     fn of(bytes: &'a [u8]) -> Bytes<'a> {
         Bytes { at: bytes.as_ptr(), len: bytes.len(), lent: PhantomData }
     }
+
+    fn get(self) -> &'a [u8] {
+        // SAFETY: it was made of such a slice, or the library lent it of the slices that a call borrowed for so long.
+        unsafe { std::slice::from_raw_parts(self.at, self.len) }
+    }
 }
 
 /// The parts of a location as slices; what isn't there is empty.
 #[repr(C)]
+#[derive(Clone, Copy)]
 struct Given<'a> {
     front: Front,
     name: Bytes<'a>,
@@ -99,7 +105,7 @@ struct Given<'a> {
 
 #[rustfmt::skip]
 unsafe extern "C" {
-    fn gix_url_c_read(input: *const u8, len: usize, made: &mut Made, room: *mut u8, room_len: usize, told: &mut Problem) -> u32;
+    fn gix_url_c_read_in(input: *const u8, len: usize, room: *mut u8, room_len: usize, lent: &mut Given, told: &mut Problem) -> u32;
     fn gix_url_c_from_parts(given: &Given, made: &mut Made, room: *mut u8, room_len: usize, told: &mut Problem) -> u32;
     fn gix_url_c_is_settled(given: &Given, settled: &mut bool) -> u32;
     fn gix_url_c_agrees_with_git(given: &Given, agrees: &mut bool) -> u32;
@@ -113,6 +119,34 @@ unsafe extern "C" {
 }
 
 impl<'a> Given<'a> {
+    /// No part at all.
+    fn none() -> Given<'a> {
+        let none = Bytes::of(&[]);
+        Given {
+            front: Front::default(),
+            name: none,
+            user: none,
+            password: none,
+            host: none,
+            path: none,
+            spelling: none,
+        }
+    }
+
+    /// The parts that stand in the bytes, one behind the other.
+    fn made(made: &Made, mut bytes: &'a [u8]) -> Given<'a> {
+        let mut part = |len| Bytes::of(next(&mut bytes, len));
+        Given {
+            front: made.front,
+            name: part(made.name),
+            user: part(made.user),
+            password: part(made.password),
+            host: part(made.host),
+            path: part(made.path),
+            spelling: part(made.spelling),
+        }
+    }
+
     fn of(url: &'a Url) -> Given<'a> {
         let text = |part: &'a Option<String>| Bytes::of(part.as_deref().unwrap_or("").as_bytes());
         let (scheme, name) = number(&url.scheme);
@@ -146,9 +180,8 @@ impl<'a> Given<'a> {
     fn path_of(url: &'a Url) -> Given<'a> {
         let given = Given::of(url);
         let (scheme, has_spelling) = (given.front.scheme, given.front.has_spelling);
-        let none = Bytes::of(&[]);
         let front = Front { scheme, has_spelling, ..Front::default() };
-        Given { front, name: none, user: none, password: none, host: none, ..given }
+        Given { front, path: given.path, spelling: given.spelling, ..Given::none() }
     }
 }
 
@@ -179,8 +212,8 @@ fn number(scheme: &Scheme) -> (u8, &[u8]) {
     }
 }
 
-/// The scheme of this number.
-fn scheme(number: u8, name: String) -> Scheme {
+/// The scheme of this number, and of this name where it holds one.
+fn scheme(number: u8, name: Bytes<'_>) -> Scheme {
     match number {
         0 => Scheme::File,
         1 => Scheme::Git,
@@ -188,8 +221,8 @@ fn scheme(number: u8, name: String) -> Scheme {
         3 => Scheme::Http,
         4 => Scheme::Https,
         5 => Scheme::Ext,
-        6 => Scheme::Helper(name),
-        _ => Scheme::HelperUrl(name),
+        6 => Scheme::Helper(text(name)),
+        _ => Scheme::HelperUrl(text(name)),
     }
 }
 
@@ -259,29 +292,22 @@ pub(crate) fn next<'a>(bytes: &mut &'a [u8], len: usize) -> &'a [u8] {
 }
 
 /// A text of the library, which hands out no other.
-fn text(bytes: &[u8]) -> String {
-    String::from_utf8(bytes.to_vec()).expect("names, users, passwords and hosts are UTF-8")
+fn text(bytes: Bytes<'_>) -> String {
+    String::from_utf8(bytes.get().to_vec()).expect("names, users, passwords and hosts are UTF-8")
 }
 
-/// The location whose parts stand in the bytes.
-fn located(made: &Made, mut bytes: &[u8]) -> Url {
-    let front = made.front;
-    let name = text(next(&mut bytes, made.name));
-    let mut optional = |len, is_there: bool| Some(next(&mut bytes, len)).filter(|_| is_there);
-    let user = optional(made.user, front.has_user).map(text);
-    let password = optional(made.password, front.has_password).map(text);
-    let host = optional(made.host, front.has_host).map(text);
-    let path = optional(made.path, true).unwrap_or_default().into();
-    let spelling = optional(made.spelling, front.has_spelling).map(BString::from);
+/// The location with copies of these parts.
+fn located(parts: &Given<'_>) -> Url {
+    let front = parts.front;
     Url {
-        scheme: scheme(front.scheme, name),
-        user,
-        password,
-        host,
+        scheme: scheme(front.scheme, parts.name),
+        user: front.has_user.then(|| text(parts.user)),
+        password: front.has_password.then(|| text(parts.password)),
+        host: front.has_host.then(|| text(parts.host)),
         serialize_alternative_form: front.alternative,
         port: front.has_port.then_some(front.port),
-        path,
-        spelling,
+        path: parts.path.get().into(),
+        spelling: front.has_spelling.then(|| parts.spelling.get().into()),
     }
 }
 
@@ -335,16 +361,27 @@ fn error(code: u32, told: &Problem, input: impl FnOnce() -> BString, name: &[u8]
     }
 }
 
-/// What the bytes are read as.
+/// What the bytes are read as. Their parts are lent by the bytes, and by room for what has other bytes, and are copied.
 pub(crate) fn read(input: &[u8]) -> Result<Url, Error> {
-    let (mut made, mut told, mut room) = (Made::default(), Problem::default(), Room::new());
-    let (code, bytes) = room.filled(2 * input.len() + 32, |room, len| {
-        let code = call!(gix_url_c_read, input.as_ptr(), input.len(), &mut made, room, len, &mut told);
-        (code, bytes_of(&made))
-    });
-    match code {
-        OK => Ok(located(&made, bytes)),
-        _ => Err(error(code, &told, || input.into(), &[])),
+    let (mut lent, mut told) = (Given::none(), Problem::default());
+    let (mut near, mut far) = ([MaybeUninit::<u8>::uninit(); NEAR], Vec::<u8>::new());
+    let room = if input.len() <= NEAR {
+        &mut near[..input.len()]
+    } else {
+        far.reserve_exact(input.len());
+        &mut far.spare_capacity_mut()[..input.len()]
+    };
+    match call!(
+        gix_url_c_read_in,
+        input.as_ptr(),
+        input.len(),
+        room.as_mut_ptr().cast(),
+        room.len(),
+        &mut lent,
+        &mut told
+    ) {
+        OK => Ok(located(&lent)),
+        code => Err(error(code, &told, || input.into(), &[])),
     }
 }
 
@@ -357,7 +394,7 @@ pub(crate) fn from_parts(parts: &Url) -> Result<Url, Error> {
         (code, bytes_of(&made))
     });
     match code {
-        OK => Ok(located(&made, bytes)),
+        OK => Ok(located(&Given::made(&made, bytes))),
         _ => Err(error(code, &told, || write(parts).unwrap_or_default().into(), number(&parts.scheme).1)),
     }
 }

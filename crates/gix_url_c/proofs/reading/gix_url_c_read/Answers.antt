@@ -1,0 +1,11 @@
+-- The location that is read without memory is the one that reading answers.
+use Rattle.std.proofs.Common.{Ok}
+use Rattle.gix_url_c.proofs.NearLemmas.{read_near}
+use Rattle.gix_url_c.proofs.reading.gix_url_c_read.Goals as goal
+
+pub returns-in-Ok-clause-told : goal.returns-in-Ok-clause-told
+returns-in-Ok-clause-told c = (
+  Ok c.in-Ok.url,
+  read_near c.args.input.now 256 c.in-Ok.url c.in-Ok.ensures,
+  c.hand_out.ensures.told,
+)

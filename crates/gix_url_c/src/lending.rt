@@ -1,0 +1,61 @@
+//! The export that reads and lends: each part stays in the text where it has the text's bytes, and stands in the caller's
+//! room else, so that a caller who copies the parts copies them once.
+//!
+//! It uses the reader that takes no memory, `codes`, `given` and `handed`. Its contract: what is told is what that reader
+//! answers; unless it is a location, the parts are as they were. It takes no memory.
+
+ghost use Rattle.std.specs.Prelude.{◌≡◌, length};
+ghost use Rattle.gix_url_c.specs.Codes.{memory, no_problem};
+ghost use Rattle.gix_url_c.specs.Left.{LeavesProblem, LeavesRoom};
+ghost use Rattle.gix_url_c.specs.Lent.{IsLent, TellsReadIn};
+
+use crate::codes::{NO_ROOM, OK, Problem, no_problem, refusal_code, told_of_refusal};
+use crate::given::{Given, moved};
+use crate::handed::{name, numbers, part, text};
+use gix_url::{ParseError, UrlRef};
+
+/// Reads the one location that the bytes spell, and lends its parts: [`gix_url::UrlRef::parse_in`]. Room for as many bytes
+/// as the text has is enough. Of what is in the room behind the call nothing is said but where a part is lent from it.
+///
+/// It answers 0, or why there is no location: 2 to 6, with what is told of it. 102 says that there is a location, and that
+/// the room is shorter than the text. It takes no memory.
+#[unsafe(no_mangle)]
+pub extern "C" fn gix_url_c_read_in<'a>(
+    input: &'a [u8],
+    room: &'a mut [u8],
+    lent: &mut Given<'a>,
+    told: &mut Problem,
+) -> u32
+    ensures told { TellsReadIn input.now (length room.old) lent.new told.new result }
+    ensures left { LeavesRoom result lent.old lent.new }
+    ensures problem { LeavesProblem result no_problem told.new }
+    ensures no_memory { ¬ (result ≡ memory) }
+{
+    *told = no_problem();
+    match UrlRef::parse_in(input, room) {
+        Ok(url) => {
+            *lent = lent_of(&url);
+            OK
+        }
+        Err(ParseError::NoRoom) => NO_ROOM,
+        Err(ParseError::Refused(refusal)) => {
+            *told = told_of_refusal(refusal);
+            refusal_code(refusal)
+        }
+    }
+}
+
+/// The numbers of the location, and its parts.
+fn lent_of<'a>(url: &UrlRef<'a>) -> Given<'a>
+    ensures { IsLent url.now result }
+{
+    Given {
+        front: numbers(url),
+        name: name(url.scheme),
+        user: text(url.user),
+        password: text(url.password),
+        host: text(url.host),
+        path: moved(url.path),
+        spelling: part(url.spelling),
+    }
+}
