@@ -13,7 +13,7 @@ import sys
 import tempfile
 
 sys.dont_write_bytecode = True
-from kit import LAYERS, Slots, load_kit
+from kit import LAYERS, Slots, load_kit, processor_minutes
 
 # More than there are checks: how many run at a time is said by slots, for which the memory was counted.
 ALL = 64
@@ -94,7 +94,9 @@ def main():
         kit.Kept.give = given_anew(kit.Kept.give)
     kit.Crate.ci = in_turn(kit, Slots([int(it) for it in sys.argv[1:]]))
     kit.processors, kit.need = lambda: ALL, lambda _: 1
-    return kit.main(["ci"])
+    status = kit.main(["ci"])
+    print(f"gate: {processor_minutes()} processor minutes for what rt ci does")
+    return status
 
 
 if __name__ == "__main__":

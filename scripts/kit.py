@@ -5,6 +5,7 @@ import importlib.machinery
 import importlib.util
 import os
 import re
+import resource
 import shutil
 import subprocess
 import sys
@@ -79,6 +80,12 @@ def load_kit():
 def is_refusal(kit, verdict):
     """Whether the prover refused an edit. Older toolchains report that by a truth value, newer ones by a word."""
     return verdict is True or verdict in {getattr(kit, it, True) for it in ("REFUSED", "AT_LIMIT")}
+
+
+def processor_minutes():
+    """The processor minutes of the processes that this one started and that have ended, with those that they started."""
+    used = resource.getrusage(resource.RUSAGE_CHILDREN)
+    return round((used.ru_utime + used.ru_stime) / 60)
 
 
 def git(*words):
