@@ -12,6 +12,7 @@ mod in_room;
 mod parts;
 mod paths;
 mod reading;
+mod rewriting;
 mod rules;
 mod ssh;
 mod types;

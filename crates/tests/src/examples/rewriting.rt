@@ -1,0 +1,125 @@
+//! Examples of locations that Git rewrites by its configuration.
+
+use bstr::{BStr, BString};
+use git_rules::config::{self, Entry};
+use git_rules::rewrite::host::{names_same_host, texts_name_same_host};
+use git_rules::rewrite::{RewriteError, Rewrites};
+use gix_url::{Url, UrlRef};
+use std::alloc::{AllocError, Global};
+use std::test::Fail;
+
+/// The text that Git fetches from, by a configuration that `git config --list -z` wrote.
+fn fetched_from(alloc: Global, text: &[u8], location: &[u8]) -> Result<BString, RewriteError> {
+    let entries = config::entries(alloc, text)?;
+    let rules = Rewrites::from_entries(alloc, &entries)?;
+    Ok(rules.rewrite_fetch(location).to_bstring(alloc)?)
+}
+
+/// The rules of a configuration, and how many of them have no value, which Git would have stopped at.
+fn lenient<'a>(
+    alloc: Global,
+    entries: &[Entry<'a>],
+) -> Result<(Rewrites<'a>, usize), RewriteError> {
+    let mut rules = Rewrites::new(alloc);
+    let mut bad: usize = 0;
+    for entry in entries {
+        match rules.add_entry(entry) {
+            Ok(()) => {}
+            Err(RewriteError::NoValue { at: _ }) => bad = bad.saturating_add(1),
+            Err(error) => return Err(error),
+        }
+    }
+    Ok((rules, bad))
+}
+
+/// A rule by hand: GitHub over HTTPS in place of Secure Shell.
+fn over_https(alloc: Global) -> Result<Rewrites<'static>, AllocError> {
+    let mut rules = Rewrites::new(alloc);
+    rules.add_fetch(b"https://github.com/", b"git@github.com:")?;
+    Ok(rules)
+}
+
+/// The text that Git pushes to, for a remote with this URL and perhaps this push URL.
+fn pushed_to(
+    alloc: Global,
+    rules: &Rewrites<'_>,
+    url: &[u8],
+    push_url: Option<&[u8]>,
+) -> Result<BString, AllocError> {
+    match push_url {
+        None => rules.rewrite_push(url, false).to_bstring(alloc),
+        Some(push_url) => rules.rewrite_push(push_url, true).to_bstring(alloc),
+    }
+}
+
+/// Whether a rule moves a location to a host that the user hasn't named.
+fn is_moved(before: &UrlRef<'_>, after: &UrlRef<'_>) -> bool {
+    !names_same_host(before, after)
+}
+
+/// Whether both texts name the same host; none where one of them isn't read, or is longer than 1,024 bytes.
+fn keeps_host(before: &[u8], after: &[u8]) -> Option<bool> {
+    let mut buffer = [0u8; 1024];
+    let mut other = [0u8; 1024];
+    texts_name_same_host(before, &mut buffer, after, &mut other).ok()
+}
+
+/// The front that a rule takes off a text, if one wins.
+fn front<'a>(rules: &Rewrites<'_>, text: &'a [u8]) -> Option<&'a [u8]> {
+    let outcome = rules.rewrite_fetch(text);
+    outcome.base?;
+    text.strip_suffix(outcome.rest)
+}
+
+/// How many of the locations a configuration rewrites.
+fn rewritten(rules: &Rewrites<'_>, locations: &[&[u8]]) -> usize {
+    let mut count: usize = 0;
+    for location in locations {
+        if rules.rewrite_fetch(location).is_rewritten() {
+            count = count.saturating_add(1);
+        }
+    }
+    count
+}
+
+/// A configuration with rules for fetching and pushing.
+const CONFIGURATION: &[u8] = b"url.https://h/.insteadof\nh:\0url.ssh://h/.pushinsteadof\nh:\0";
+
+#[test]
+fn locations_are_rewritten(rt: HostRuntime) -> Result<(), Fail> {
+    let text = fetched_from(rt.alloc(), CONFIGURATION, b"h:repo").map_err(|_| AllocError)?;
+    assert_eq!(rt; text.as_bstr(), BStr::from("https://h/repo"));
+    let entries = config::entries(rt.alloc(), CONFIGURATION)?;
+    let rules = Rewrites::from_entries(rt.alloc(), &entries).map_err(|_| AllocError)?;
+    let pushed = pushed_to(rt.alloc(), &rules, b"h:repo", None)?;
+    assert_eq!(rt; pushed.as_bstr(), BStr::from("ssh://h/repo"));
+    let pushed = pushed_to(rt.alloc(), &rules, b"x", Some(b"h:p"))?;
+    assert_eq!(rt; pushed.as_bstr(), BStr::from("https://h/p"));
+    assert_eq!(rt; front(&rules, b"h:repo"), Some(b"h:".as_slice()));
+    assert_eq!(rt; front(&rules, b"x:repo"), None);
+    Ok(())
+}
+
+#[test]
+fn rules_are_added(rt: HostRuntime) -> Result<(), Fail> {
+    let entries = config::entries(rt.alloc(), b"url.b.insteadof\0url.b.insteadof\nf\0")?;
+    let (rules, bad) = lenient(rt.alloc(), &entries).map_err(|_| AllocError)?;
+    assert_eq!(rt; bad, 1);
+    assert_eq!(rt; rewritten(&rules, &[b"f", b"g"]), 1);
+    let rules = over_https(rt.alloc())?;
+    let text = rules.rewrite_fetch(b"git@github.com:a/b").to_bstring(rt.alloc())?;
+    assert_eq!(rt; text.as_bstr(), BStr::from("https://github.com/a/b"));
+    Ok(())
+}
+
+#[test]
+fn hosts_are_compared(rt: HostRuntime) -> Result<(), Fail> {
+    let one = Url::from_text(rt.alloc(), "git@Host:repo")?;
+    let other = Url::from_text(rt.alloc(), "https://host/repo")?;
+    let third = Url::from_text(rt.alloc(), "https://else/repo")?;
+    assert!(rt; !is_moved(&one.as_ref(), &other.as_ref()));
+    assert!(rt; is_moved(&one.as_ref(), &third.as_ref()));
+    assert_eq!(rt; keeps_host(b"git@host:repo", b"https://host/repo"), Some(true));
+    assert_eq!(rt; keeps_host(b"git@host:repo", b"http://h:0/"), None);
+    Ok(())
+}
