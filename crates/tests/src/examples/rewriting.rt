@@ -107,7 +107,9 @@ fn rules_are_added(rt: HostRuntime) -> Result<(), Fail> {
     assert_eq!(rt; bad, 1);
     assert_eq!(rt; rewritten(&rules, &[b"f", b"g"]), 1);
     let rules = over_https(rt.alloc())?;
-    let text = rules.rewrite_fetch(b"git@github.com:a/b").to_bstring(rt.alloc())?;
+    let text = rules
+        .rewrite_fetch(b"git@github.com:a/b")
+        .to_bstring(rt.alloc())?;
     assert_eq!(rt; text.as_bstr(), BStr::from("https://github.com/a/b"));
     Ok(())
 }
@@ -119,7 +121,10 @@ fn hosts_are_compared(rt: HostRuntime) -> Result<(), Fail> {
     let third = Url::from_text(rt.alloc(), "https://else/repo")?;
     assert!(rt; !is_moved(&one.as_ref(), &other.as_ref()));
     assert!(rt; is_moved(&one.as_ref(), &third.as_ref()));
-    assert_eq!(rt; keeps_host(b"git@host:repo", b"https://host/repo"), Some(true));
+    assert_eq!(rt;
+        keeps_host(b"git@host:repo", b"https://host/repo"),
+        Some(true)
+    );
     assert_eq!(rt; keeps_host(b"git@host:repo", b"http://h:0/"), None);
     Ok(())
 }

@@ -5,7 +5,9 @@ use bstr::{BStr, BString};
 use git_rules::boolean::read_boolean;
 use git_rules::config::{self, Entry, EntryError, Reader};
 use git_rules::protocols::{Permission, Protocols, Reason, transport};
-use git_rules::ssh::{ProtocolVersion, Service, SshCommand, SshError, SshRefusal, SshVariant, ssh_command, ssh_words};
+use git_rules::ssh::{
+    ProtocolVersion, Service, SshCommand, SshError, SshRefusal, SshVariant, ssh_command, ssh_words,
+};
 use gix_url::{Url, UrlRef};
 use std::alloc::{AllocError, Global};
 use std::test::Fail;
@@ -68,7 +70,11 @@ fn refusal_place(protocols: &Protocols<'_>, name: &str) -> Option<usize> {
 }
 
 fn service_of(is_push: bool) -> Service {
-    if is_push { Service::ReceivePack } else { Service::UploadPack }
+    if is_push {
+        Service::ReceivePack
+    } else {
+        Service::UploadPack
+    }
 }
 
 /// The variant that git-config(1) has for a value of `ssh.variant`; none for `auto`.
@@ -121,12 +127,23 @@ fn last_word(alloc: Global, command: &SshCommand<'_>) -> Result<Option<BString>,
 
 /// The words with which Git fetches by OpenSSH.
 fn fetch_words(alloc: Global, url: &UrlRef<'_>) -> Result<Vec<BString>, SshError> {
-    ssh_words(alloc, url, Service::UploadPack, SshVariant::Ssh, ProtocolVersion::V2)
+    ssh_words(
+        alloc,
+        url,
+        Service::UploadPack,
+        SshVariant::Ssh,
+        ProtocolVersion::V2,
+    )
 }
 
 /// The port and the host that are connected to, and whether a user is named.
 fn reached<'a>(url: &UrlRef<'a>) -> Result<(Option<u16>, &'a str, bool), SshRefusal> {
-    let command = ssh_command(url, Service::UploadPack, SshVariant::Ssh, ProtocolVersion::V2)?;
+    let command = ssh_command(
+        url,
+        Service::UploadPack,
+        SshVariant::Ssh,
+        ProtocolVersion::V2,
+    )?;
     Ok((command.port, command.host, command.user.is_some()))
 }
 
@@ -187,17 +204,33 @@ fn words_of_secure_shell(rt: HostRuntime) -> Result<(), Fail> {
     assert_eq!(rt; words.len(), 6);
     assert_eq!(rt; words[3].as_bstr(), BStr::from("22"));
     assert_eq!(rt; words[4].as_bstr(), BStr::from("git@host"));
-    assert_eq!(rt; words[5].as_bstr(), BStr::from("git-upload-pack '/a'\\''b'"));
+    assert_eq!(rt;
+        words[5].as_bstr(),
+        BStr::from("git-upload-pack '/a'\\''b'")
+    );
     assert!(rt; matches!(reached(&url.as_ref()), Ok((Some(22), "host", true))));
-    let Ok(command) = ssh_command(&url.as_ref(), Service::UploadPack, SshVariant::Ssh, usual_version()) else {
+    let Ok(command) = ssh_command(
+        &url.as_ref(),
+        Service::UploadPack,
+        SshVariant::Ssh,
+        usual_version(),
+    ) else {
         return Err(Fail::from(AllocError));
     };
     assert!(rt; names_a_user(&command));
     assert!(rt; asks_for_version_2(&command));
     let last = last_word(rt.alloc(), &command)?;
-    assert_eq!(rt; last.as_ref().map(BString::as_bstr), Some(BStr::from("git-upload-pack '/a'\\''b'")));
+    assert_eq!(rt;
+        last.as_ref().map(BString::as_bstr),
+        Some(BStr::from("git-upload-pack '/a'\\''b'"))
+    );
     let url = Url::from_text(rt.alloc(), "ssh://-oProxyCommand=x/p")?;
-    let refused = ssh_command(&url.as_ref(), Service::UploadPack, SshVariant::Ssh, usual_version());
+    let refused = ssh_command(
+        &url.as_ref(),
+        Service::UploadPack,
+        SshVariant::Ssh,
+        usual_version(),
+    );
     assert!(rt; refused.is_err_and(is_attack));
     assert!(rt; is_passing(SshError::Memory));
     Ok(())
