@@ -5,3 +5,7 @@ pub mod Numbers
 pub mod Allowed
 pub mod Shell
 pub mod Rules
+pub mod NormalHostLemmas
+pub mod NormalCutLemmas
+pub mod NormalPathLemmas
+pub mod NormalUnique

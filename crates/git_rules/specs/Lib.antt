@@ -15,6 +15,7 @@ pub mod SameHost
 pub mod Normal
 pub mod NormalView
 pub mod NormalPieces
+pub mod NormalFlaws
 pub mod Patterns
 pub mod PatternLaws
 pub mod Booleans

@@ -62,9 +62,17 @@ IsUserOf info user = (FreeOf colon info × (user ≡ info))
 
 -- ---- hosts and ports
 
--- a byte of a host: a letter, a digit or one of `.-_[:]`, and where stars are allowed `*`
+-- `*`
+abbrev pub asterisk : ℕ
+asterisk = 42
+
+-- a byte of a host that is neither a letter nor a digit
+abbrev pub is_host_mark : ℕ → Bool
+is_host_mark b = is_one_of (codes ".-_[:]") b
+
+-- a byte of a host; where stars are allowed, `*` is one
 abbrev pub is_host_byte : Bool → ℕ → Bool
-is_host_byte globs b = is_ascii_alphanumeric b || is_one_of (codes ".-_[:]") b || (globs && is_one_of (codes "*") b)
+is_host_byte globs b = is_ascii_alphanumeric b || (is_host_mark b || (globs && b == asterisk))
 
 -- a text is cut into a name and the text of a port at its last `:`, if no `]` follows that
 pub data CutsPort (text : List ℕ) (name : List ℕ) (port : List ℕ) : Type 0 where

@@ -4,9 +4,47 @@
 //! Git compares the places of `http.<url>.*` and `credential.<url>.*`. It takes no memory: what has other bytes than the
 //! text is written into a room that the caller lends.
 
+mod authority;
+mod cuts;
 mod escapes;
+mod host;
+mod path;
+mod write;
 
+ghost use Rattle.std.specs.Prelude.{◌↔◌, ◌+◌, ◌*◌, ◌≤◌, IsTrue, length};
+ghost use Rattle.git_rules.specs.NormalFlaws.{NormalizesIn, OneNormalForm};
+
+use crate::normal::authority::read_authority;
+use crate::normal::cuts::cut_url;
+use crate::normal::write::{lowered_in, write_parts};
 use std::marker::Model;
+use thiserror::Error;
+
+/// Why a text has no normal form.
+#[derive(Clone, Copy, Debug, Error)]
+pub enum NormalError {
+    /// The room is shorter than three times the text and one byte more.
+    #[error("the room is too short")]
+    NoRoom,
+    /// The text doesn't begin with a scheme and `://`.
+    #[error("no scheme and `://` begin the text")]
+    NoUrl,
+    /// A `%` without two hexadecimal digits behind it, in the user information or behind the authority.
+    #[error("a `%` without two hexadecimal digits")]
+    BrokenEscape,
+    /// No host, which only a URL of `file` may leave out.
+    #[error("no host")]
+    NoHost,
+    /// A byte that no host has: neither a letter nor a digit nor one of `.-_[:]`, nor `*` where that is allowed.
+    #[error("a byte that no host has")]
+    BadHost,
+    /// A port that isn't a number from 1 to 65,535, or any port in a URL of `file` without a host.
+    #[error("no port")]
+    BadPort,
+    /// A segment `..` with no segment before it.
+    #[error("a segment `..` above the root")]
+    AboveRoot,
+}
 
 /// A URL in its normal form, as far as Git compares it, in slices of the text and of a room.
 ///
@@ -34,3 +72,54 @@ impl<'a> Model for NormalUrl<'a> {
 
     ghost view = { normal_place };
 }
+
+impl<'a> NormalUrl<'a> {
+    /// The normal form of a text, by which Git compares the places of `http.<url>.*` and `credential.<url>.*`.
+    ///
+    /// The host of a pattern may hold `*`: then `globs` is true. Room for three times as many bytes as the text has, and one
+    /// more, is asked for; no memory is.
+    ///
+    /// # Errors
+    ///
+    /// [`NormalError::NoRoom`] where the room is shorter than that, and else what the text has no normal form for: then Git
+    /// has no settings for it.
+    ///
+    /// ```
+    /// /// The host whose settings apply to a text.
+    /// fn host_of<'a>(text: &'a [u8], room: &'a mut [u8]) -> Option<&'a [u8]> {
+    ///     match NormalUrl::parse_in(text, false, room) {
+    ///         Ok(place) => Some(place.host), // `example.com` of `https://me@Example.com:443/a/../b`
+    ///         Err(_) => None,
+    ///     }
+    /// }
+    /// ```
+    pub fn parse_in(
+        text: &'a [u8],
+        globs: bool,
+        room: &'a mut [u8],
+    ) -> Result<NormalUrl<'a>, NormalError>
+        ensures { NormalizesIn globs text.now (length room.old) result }
+    {
+        if !is_enough(text.len(), room.len()) {
+            return Err(NormalError::NoRoom);
+        }
+        let Some((scheme, authority, behind)) = cut_url(text) else {
+            return Err(NormalError::NoUrl);
+        };
+        let (scheme, room) = lowered_in(scheme, room);
+        let authority = read_authority(globs, scheme, authority)?;
+        write_parts(scheme, authority, behind, room)
+    }
+}
+
+/// Whether a room of this length is enough for a text of this one.
+fn is_enough(text: usize, room: usize) -> bool
+    ensures { IsTrue result ↔ (3 * text + 1 ≤ room) }
+{
+    0 < room && text <= (room - 1) / 3
+}
+
+/// A text has one normal form at most.
+pub fn law_normal_form()
+    ensures { OneNormalForm }
+{}

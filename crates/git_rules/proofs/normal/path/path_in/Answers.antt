@@ -1,0 +1,28 @@
+-- The pieces of what follows the authority are as sound, and fit the room.
+use Rattle.std.proofs.Common.{◌≡◌, ◌∙◌, ◌+◌, ◌≤◌, ap, sym, length, arith, true}
+use Rattle.git_syntax.specs.Escapes.{is_sound}
+use Rattle.git_rules.proofs.NormalPathLemmas.{sound_cut, sound_unrooted, length-pieces}
+use Rattle.git_rules.proofs.normal.path.path_in.Goals as goal
+
+pub put_path-requires-clause-sound : goal.put_path-requires-clause-sound
+put_path-requires-clause-sound c =
+    (sound_cut c.unrooted.result.now c.cut_before_rest.result.0.now c.cut_before_rest.result.1.now c.cut_before_rest.ensures (ap is_sound c.unrooted.ensures ∙ sound_unrooted c.args.behind.now (sym c.if-not-is_sound.ensures))).0
+
+pub put_path-requires-clause-room : goal.put_path-requires-clause-room
+put_path-requires-clause-room c =
+    let fits = length-pieces c.args.behind.now c.unrooted.result.now c.cut_before_rest.result.0.now c.cut_before_rest.result.1.now c.unrooted.ensures c.cut_before_rest.ensures in
+    omega (arith, fits, c.requires)
+
+pub put_normal-end-requires-clause-sound : goal.put_normal-end-requires-clause-sound
+put_normal-end-requires-clause-sound c =
+    (sound_cut c.unrooted.result.now c.cut_before_rest.result.0.now c.cut_before_rest.result.1.now c.cut_before_rest.ensures (ap is_sound c.unrooted.ensures ∙ sound_unrooted c.args.behind.now (sym c.if-not-is_sound.ensures))).1
+
+pub put_normal-end-requires-clause-room : goal.put_normal-end-requires-clause-room
+put_normal-end-requires-clause-room c =
+    let fits = length-pieces c.args.behind.now c.unrooted.result.now c.cut_before_rest.result.0.now c.cut_before_rest.result.1.now c.unrooted.ensures c.cut_before_rest.ensures in
+    omega (arith, fits, c.requires, c.in-Some.ensures.most, c.put_root-at.ensures.end, c.put_path.auto.room, c.put_root-at.auto.room)
+
+pub split_at_mut-path-requires : goal.split_at_mut-path-requires
+split_at_mut-path-requires c =
+    let fits = length-pieces c.args.behind.now c.unrooted.result.now c.cut_before_rest.result.0.now c.cut_before_rest.result.1.now c.unrooted.ensures c.cut_before_rest.ensures in
+    omega (arith, fits, c.requires, c.in-Some.ensures.most, c.put_root-at.ensures.end, c.put_path.auto.room, c.put_root-at.auto.room, c.put_normal-end.auto.room, c.put_normal-end.ensures.most)

@@ -1,0 +1,71 @@
+//! Where the parts of a URL begin.
+//!
+//! It uses the cuts and classes of bytes of `git_syntax`. Its contract: each cut is told as a concatenation.
+
+ghost use Rattle.std.specs.Prelude.{◌≡◌, List, ℕ, MatchOption, true};
+ghost use Rattle.memchr.specs.Find.{IsFirstByte};
+ghost use Rattle.git_syntax.specs.Bytes.{is_path_start};
+ghost use Rattle.git_rules.specs.Normal.{UrlCut, is_rest_start, unrooted};
+ghost use Rattle.git_rules.specs.NormalPieces.{CutsBefore};
+
+use git_syntax::bytes::{after, cut, is_scheme_text};
+use memchr::{memchr2, memchr3};
+
+/// The scheme, the authority and what follows them, if the text is a URL.
+pub(super) fn cut_url(text: &[u8]) -> Option<(&[u8], &[u8], &[u8])>
+    ensures { MatchOption result ((s a b : List ℕ) → ¬ UrlCut text.now s a b)
+        (λ p. UrlCut text.now p.0.now p.1.now p.2.now) }
+{
+    let (scheme, behind) = cut(text, b':')?;
+    if !is_scheme_text(scheme) {
+        return None;
+    }
+    let more = after(behind, b'/')?;
+    let rest = after(more, b'/')?;
+    let (authority, behind) = cut_before_path(rest);
+    Some((scheme, authority, behind))
+}
+
+/// A text is cut before the first byte that ends an authority.
+fn cut_before_path(text: &[u8]) -> (&[u8], &[u8])
+    ensures { CutsBefore (is_path_start true) text.now result.0.now result.1.now }
+{
+    match path_start(text) {
+        Some(at) => text.split_at(at),
+        None => text.split_at(text.len()),
+    }
+}
+
+/// The place of the first byte that ends an authority.
+fn path_start(text: &[u8]) -> Option<usize>
+    ensures { IsFirstByte (is_path_start true) text.now result }
+{
+    memchr3(b'/', b'?', b'#', text)
+}
+
+/// A text is cut before its query or fragment.
+pub(super) fn cut_before_rest(text: &[u8]) -> (&[u8], &[u8])
+    ensures { CutsBefore is_rest_start text.now result.0.now result.1.now }
+{
+    match rest_start(text) {
+        Some(at) => text.split_at(at),
+        None => text.split_at(text.len()),
+    }
+}
+
+/// The place of the first byte that begins a query or a fragment.
+fn rest_start(text: &[u8]) -> Option<usize>
+    ensures { IsFirstByte is_rest_start text.now result }
+{
+    memchr2(b'?', b'#', text)
+}
+
+/// A text without a first `/`.
+pub(super) fn unrooted(text: &[u8]) -> &[u8]
+    ensures { result.now ≡ unrooted text.now }
+{
+    match text {
+        [] => text,
+        [first, rest @ ..] => { if *first == b'/' { rest } else { text } }
+    }
+}

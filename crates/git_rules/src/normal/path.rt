@@ -1,0 +1,106 @@
+//! The path of a URL, as Git compares it: without the segments `.` and `..`, with its query and its fragment.
+//!
+//! It uses `cuts` and `escapes`. Its contract: what is written into the front of a room is the path that the definitions have;
+//! a path that has none has a flaw. The room holds the path of a stack of segments all the way: a segment is put behind it,
+//! and taken off again by cutting at the last `/`.
+
+ghost use Rattle.std.specs.Prelude.{◌≡◌, ◌++◌, ◌∷◌, ◌+◌, ◌*◌, ◌≤◌, List, [], ℕ, IfSome, MatchResult, length, max, take, true, bytes_eq, codes};
+ghost use Rattle.git_syntax.specs.Bytes.{FreeOf, slash};
+ghost use Rattle.git_syntax.specs.Escapes.{is_sound};
+ghost use Rattle.git_syntax.specs.Grammar.{or_root};
+ghost use Rattle.git_rules.specs.Normal.{NormalPath, normal_segments, normal_text, put_segment, put_segments, without_top};
+ghost use Rattle.git_rules.specs.NormalFlaws.{PathFlaw};
+ghost use Rattle.git_rules.specs.NormalPieces.{ShowsFront, ShowsStack};
+
+use crate::normal::NormalError;
+use crate::normal::cuts::{cut_before_rest, unrooted};
+use crate::normal::escapes::{put, put_normal};
+use git_syntax::bytes::{cut, last_cut};
+use git_syntax::escape::is_sound;
+
+/// The path of what follows the authority, in the front of the room.
+pub(super) fn path_in<'a>(behind: &[u8], room: &'a mut [u8]) -> Result<&'a [u8], NormalError>
+    requires { 3 * length behind.now + 1 ≤ length room.old }
+    ensures { MatchResult result (λ path. NormalPath behind.now path.now) (λ e. PathFlaw behind.now e) }
+{
+    if !is_sound(behind) {
+        return Err(NormalError::BrokenEscape);
+    }
+    let (segments, rest) = cut_before_rest(unrooted(behind));
+    let Some(at) = put_path(room, segments) else {
+        return Err(NormalError::AboveRoot);
+    };
+    let at = put_root(room, at);
+    let end = put_normal(room, at, rest);
+    let (path, _) = room.split_at_mut(end);
+    Ok(path)
+}
+
+/// Writes the path of the segments of a text into the front of the room, and returns where it ends.
+fn put_path(room: &mut [u8], segments: &[u8]) -> Option<usize>
+    requires sound { is_sound segments.now ≡ true }
+    requires room { 3 * length segments.now + 1 ≤ length room.old }
+    ensures path { ShowsFront (put_segments (normal_segments segments.now) []) room.new result }
+    ensures most { IfSome result (λ end. end ≤ 3 * length segments.now + 1) }
+{
+    let mut at = 0;
+    let mut rest = segments;
+    while let Some((segment, behind)) = cut(rest, b'/') {
+        at = put_segment(room, at, segment)?;
+        rest = behind;
+    }
+    put_segment(room, at, rest)
+}
+
+/// Puts a segment on the stack whose path is the front of the room, and returns where the path ends then.
+fn put_segment(room: &mut [u8], at: usize, segment: &[u8]) -> Option<usize>
+    requires sound { is_sound segment.now ≡ true }
+    requires room { at + 3 * length segment.now + 1 ≤ length room.old }
+    ensures path { (stack : List (List ℕ)) → ShowsStack (take at room.old) stack → FreeOf slash segment.now
+        → ShowsFront (put_segment stack (normal_text segment.now)) room.new result }
+    ensures most { IfSome result (λ end. end ≤ at + 3 * length segment.now + 1) }
+{
+    let start = put(room, at, b"/");
+    let end = put_normal(room, start, segment);
+    let written = &room[start..end];
+    if is_dot(written) {
+        return Some(at);
+    }
+    if is_dots(written) {
+        return without_last(&room[..at]);
+    }
+    Some(end)
+}
+
+/// Whether a segment is `.`.
+fn is_dot(segment: &[u8]) -> bool
+    ensures { result ≡ bytes_eq segment.now (codes ".") }
+{
+    segment == b".".as_slice()
+}
+
+/// Whether a segment is `..`.
+fn is_dots(segment: &[u8]) -> bool
+    ensures { result ≡ bytes_eq segment.now (codes "..") }
+{
+    segment == b"..".as_slice()
+}
+
+/// Where the path ends without its last segment, if it has one.
+fn without_last(path: &[u8]) -> Option<usize>
+    ensures path { (stack : List (List ℕ)) → ShowsStack path.now stack
+        → ShowsFront (without_top stack) path.now result }
+    ensures most { IfSome result (λ end. end ≤ length path.now) }
+{
+    let (front, _) = last_cut(path, b'/')?;
+    Some(front.len())
+}
+
+/// An empty path in the front of the room becomes the root.
+fn put_root(room: &mut [u8], at: usize) -> usize
+    requires { 1 ≤ length room.old }
+    ensures path { take result room.new ≡ or_root (take at room.old) }
+    ensures end { result ≡ max at 1 }
+{
+    if at == 0 { put(room, 0, b"/") } else { at }
+}

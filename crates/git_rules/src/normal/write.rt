@@ -1,0 +1,75 @@
+//! The normal form of a URL written: slices of the text where they have the same bytes, and of a room.
+//!
+//! It uses `escapes` and `path`. Its contract: each part is the normal form of its slice; a path that has none has a flaw.
+
+ghost use Rattle.std.specs.Prelude.{◌≡◌, ◌+◌, ◌*◌, ◌≤◌, MatchResult, length, option_map};
+ghost use Rattle.std.specs.Option.{option_copied};
+ghost use Rattle.git_syntax.specs.Bytes.{lowercase};
+ghost use Rattle.git_rules.specs.Normal.{normal_text};
+ghost use Rattle.git_rules.specs.NormalFlaws.{PathFlaw};
+ghost use Rattle.git_rules.specs.NormalPieces.{HasSoundUser, HoldsParts, user_length};
+
+use crate::normal::authority::Authority;
+use crate::normal::escapes::normal_in;
+use crate::normal::path::path_in;
+use crate::normal::{NormalError, NormalUrl};
+use git_syntax::bytes::is_lowercase;
+
+/// The normal form of a URL of these parts, of which the scheme is in lower case.
+pub(super) fn write_parts<'a>(
+    scheme: &'a [u8],
+    authority: Authority<'a>,
+    behind: &[u8],
+    room: &'a mut [u8],
+) -> Result<NormalUrl<'a>, NormalError>
+    requires sound { HasSoundUser (option_copied authority.user) }
+    requires room { 3 * user_length (option_copied authority.user) + length authority.host.now
+        + 3 * length behind.now + 1 ≤ length room.old }
+    ensures { MatchResult result
+        (λ n. HoldsParts scheme.now (option_copied authority.entry.user) authority.entry.host.now
+        authority.entry.port behind.now n)
+        (λ e. PathFlaw behind.now e) }
+{
+    let (user, room) = user_in(authority.user, room);
+    let (host, room) = lowered_in(authority.host, room);
+    let path = path_in(behind, room)?;
+    Ok(NormalUrl {
+        scheme,
+        user,
+        host,
+        port: authority.port,
+        path,
+    })
+}
+
+/// A text in lower case, and the room behind it.
+pub(super) fn lowered_in<'a>(text: &'a [u8], room: &'a mut [u8]) -> (&'a [u8], &'a mut [u8])
+    requires { length text.now ≤ length room.old }
+    ensures text { result.0.now ≡ lowercase text.now }
+    ensures left { length room.old ≤ length result.1.now + length text.now }
+{
+    if is_lowercase(text) {
+        return (text, room);
+    }
+    let (front, left) = room.split_at_mut(text.len());
+    front.copy_from_slice(text);
+    front.make_ascii_lowercase();
+    (front, left)
+}
+
+/// The normal form of a user that may be missing, and the room behind it.
+fn user_in<'a>(user: Option<&[u8]>, room: &'a mut [u8]) -> (Option<&'a [u8]>, &'a mut [u8])
+    requires sound { HasSoundUser (option_copied user) }
+    requires room { 3 * user_length (option_copied user) ≤ length room.old }
+    ensures text { option_copied result.0 ≡ option_map normal_text (option_copied user.entry) }
+    ensures left { length room.old
+        ≤ length result.1.now + 3 * user_length (option_copied user.entry) }
+{
+    match user {
+        None => (None, room),
+        Some(user) => {
+            let (text, left) = normal_in(user, room);
+            (Some(text), left)
+        }
+    }
+}
