@@ -1,5 +1,5 @@
 -- The words with which Git runs Secure Shell.
-use Rattle.std.specs.Prelude.{◌≡◌, ℕ, Bool, true, false, ◌&&◌, ◌||◌, ◌==◌, List, [], ◌∷◌, ◌++◌, codes, decimal, Option, Some, None, is_none, is_some, IfSome, if◌then◌else◌}
+use Rattle.std.specs.Prelude.{◌≡◌, ℕ, Bool, true, false, ◌==◌, List, [], ◌∷◌, ◌++◌, codes, decimal, Option, Some, None, is_none, is_some, IfSome, if◌then◌else◌}
 use Rattle.std.specs.List.{list_any, starts_with}
 use Rattle.git_syntax.specs.Value.{Protocol, Location}
 use Rattle.git_syntax.specs.Value.Protocol.{ssh}
@@ -198,9 +198,12 @@ abbrev pub command_variable : Command → Option (List ℕ)
 command_variable c =
     if sends_version c.variant c.service c.version then Some (version_value c.version) else None
 
--- no word that comes of the location begins with `-`
+-- no word that comes of the location begins with `-`, nor does the host in the destination, or the path that the
+-- service gets
 pub record HasNoOptions (c : Command) : Type 0 where
   pub destination : is_option_like (destination c.user c.host) ≡ false
+  pub host : is_option_like c.host ≡ false
+  pub path : is_option_like c.path ≡ false
   pub digits : IfSome c.port (λ port. is_option_like (decimal port) ≡ false)
 
 -- OpenSSH takes the destination for no URL, cuts it at its last `@`, and finds user and host there

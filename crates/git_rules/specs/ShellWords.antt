@@ -1,6 +1,6 @@
 -- How a shell cuts a text into words, as POSIX has it (Shell Command Language, 2.2 and 2.3), where nothing
 -- is expanded; and a text in Git's single quotes.
-use Rattle.std.specs.Prelude.{◌≡◌, ℕ, Bool, ◌||◌, ◌==◌, List, [], ◌∷◌, ◌++◌, codes, Option, Some, None, flat_map, if◌then◌else◌}
+use Rattle.std.specs.Prelude.{ℕ, Bool, ◌||◌, ◌==◌, List, [], ◌∷◌, ◌++◌, codes, Option, Some, None, flat_map, if◌then◌else◌}
 use Rattle.git_syntax.specs.Bytes.{tab, newline, space, backslash, is_one_of}
 
 -- `'`

@@ -6,7 +6,7 @@
 //! path in the remote command (`specs/ShellWords.antt`), and where Git reads the same place in the location's text the words
 //! are Git's own (`law_git_words`).
 
-ghost use Rattle.std.specs.Prelude.{◌≡◌, ◌<◌, IfErr, IfOk, IfSome, None, Some, map, option_map};
+ghost use Rattle.std.specs.Prelude.{◌≡◌, ◌<◌, IfErr, IfOk, IfSome, None, OnOk, Some, map, option_map};
 ghost use Rattle.bstr.specs.Owned.{bstring_bytes};
 ghost use Rattle.git_rules.specs.SecureShell as spec;
 ghost use Rattle.git_rules.specs.SecureLaws.{GivesOwnWords};
@@ -377,7 +377,7 @@ pub fn ssh_command<'a>(
     version: ProtocolVersion,
 ) -> Result<SshCommand<'a>, SshRefusal>
     ensures refused { IfErr result (λ e. spec.ssh_refusal variant url.now ≡ Some e) }
-    ensures made { IfOk result (λ c. spec.ssh_refusal variant url.now ≡ None) }
+    ensures made { OnOk result (spec.ssh_refusal variant url.now ≡ None) }
     ensures own { IfOk result (λ c. spec.IsOwn url.now c) }
     ensures asked { IfOk result (λ c. spec.IsAsked variant service version c) }
     ensures safe { IfOk result (λ c. spec.IsSafeCommand c) }

@@ -3,11 +3,11 @@ use Rattle.std.proofs.Common.{◌≡◌, ◌∙◌, ℕ, true, false, ◌==◌, 
 use Rattle.std.specs.Prelude.{flat_map}
 use Rattle.std.proofs.lemmas.Bool.{cases_Bool, or_parts}
 use Rattle.std.proofs.lemmas.Bool.Decides.{nat_tests}
-use Rattle.git_syntax.specs.Bytes.{newline, space}
+use Rattle.git_syntax.specs.Bytes.{newline}
 use Rattle.git_rules.specs.declared.ssh.Service.{Service}
 use Rattle.git_rules.specs.declared.ssh.Service.TheVariants.{UploadPack, ReceivePack, UploadArchive}
-use Rattle.git_rules.specs.ShellWords.{single_quote, words_from, shell_words, is_unquoted, quoted_byte, put_before, sq_quote}
-use Rattle.git_rules.specs.ShellWords.Place.{bare, quoted}
+use Rattle.git_rules.specs.ShellWords.{single_quote, words_from, shell_words, is_unquoted, quoted_byte, put_before}
+use Rattle.git_rules.specs.ShellWords.Place.{quoted}
 use Rattle.git_rules.specs.SecureShell.{service_name, remote_command}
 
 -- a byte that is written behind a `\` ends no line

@@ -1,5 +1,5 @@
 -- A command that can be made is safe.
-use Rattle.std.proofs.Common.{◌≡◌, ◌∙◌, ℕ, ◌<◌, Bool, true, false, ◌==◌, List, [], ◌∷◌, ◌++◌, length, Option, Some, None, IfSome, codes, decimal, refl, sym, ap, subst, arith}
+use Rattle.std.proofs.Common.{◌≡◌, ℕ, ◌<◌, Bool, true, false, ◌==◌, List, [], ◌∷◌, ◌++◌, length, Option, Some, None, IfSome, codes, decimal, refl, sym, subst, arith}
 use Rattle.std.specs.Prelude.{is_none, if◌then◌else◌}
 use Rattle.std.specs.List.{list_any}
 use Rattle.std.specs.Char.{is_ascii_digit}
@@ -12,7 +12,7 @@ use Rattle.git_location.specs.Arguments.{is_option_like}
 use Rattle.git_laws.specs.Git.{UserCut}
 use Rattle.git_rules.specs.declared.ssh.SshRefusal.{SshRefusal}
 use Rattle.git_rules.specs.declared.ssh.SshRefusal.TheVariants as refusal
-use Rattle.git_rules.specs.SecureShell.{Command, IsSafe, IsSafeCommand, HasNoOptions, IsCutAlike, destination, has_zero, is_url_like, or_refusal, user_refusal, host_refusal, url_refusal, path_refusal, port_refusal, parts_refusal}
+use Rattle.git_rules.specs.SecureShell.{Command, IsSafe, IsSafeCommand, destination, has_zero, is_url_like, or_refusal, user_refusal, host_refusal, url_refusal, path_refusal}
 use Rattle.git_rules.proofs.Shell.QuoteLemmas.{two_words}
 
 -- ---- refusals
@@ -91,6 +91,11 @@ destination_cut : (user : Option (List ℕ)) (host : List ℕ) → user_refusal 
 destination_cut None host h good = UserCut.host_alone good.no_at refl refl
 destination_cut (Some user) host h good = UserCut.with_user user (good_user user h).some good.no_at refl refl
 
+-- a path that is not refused is no option
+path_no_option : (path : List ℕ) → path_refusal path ≡ None → is_option_like path ≡ false
+path_no_option [] h = refl
+path_no_option (b ∷ bs) h = (test_false _ _ _ (test_false _ _ _ h).1).0
+
 -- the digits of a port are no option
 digits_no_option : (port : ℕ) → port < 65536 → is_option_like (decimal port) ≡ false
 digits_no_option port small = free_begins hyphen (decimal port) (free_of_all is_ascii_digit hyphen (decimal port) (decimal_digits port small).1 refl)
@@ -105,6 +110,8 @@ safe_command c safe small =
     record {
       no_options = record {
         destination = destination_no_option c.user c.host ends.0 good;
+        host = good.no_option;
+        path = path_no_option c.path (both_none _ _ all.1).0;
         digits = IfSome_then c.port small digits_no_option;
       };
       cut = record {
