@@ -2,8 +2,9 @@
 //!
 //! Each declaration says what `crates/gix_url_c/src` exports: a slice is a pointer that isn't null and a length, and what
 //! an answer is stored in lies apart from what is read. Each call hands over slices and structs that live until it
-//! returns, and the library keeps no pointer. What comes back is numbers, and bytes in room of ours, of which no more is
-//! looked at than the library says it filled. Room is on the stack where that is enough, so a question takes no memory.
+//! returns, and the library keeps no pointer. What comes back is numbers, bytes in room of ours, of which no more is looked
+//! at than the library says it filled, and of a text that is read its parts, as slices of the text and of such room. Room is
+//! on the stack where that is enough, so a question takes no memory.
 
 use crate::bstr::BString;
 use crate::lent::lent;
