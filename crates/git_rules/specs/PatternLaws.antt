@@ -10,7 +10,7 @@ use Rattle.git_laws.specs.GitWeb.{CredentialReading, CredentialReads, UriReading
 use Rattle.git_rules.specs.Normal.{NormalPlace, IsNormalOf}
 use Rattle.git_rules.specs.Patterns.{asterisk, Matches}
 
--- the host is the pattern's own, but for a `.` at the end of one of them, which Git passes over; a name with it is the same
+-- the host is the pattern's own, except for a `.` at the end of one of them, which Git passes over; a name with it is the same
 -- name, as it is written from the root of all names (RFC 1034, section 3.1)
 abbrev pub IsOwnHost : List ℕ → List ℕ → Type 0
 IsOwnHost own host = (host ≡ own) ⊎ ((own ≡ host ++ dot ∷ []) ⊎ (host ≡ own ++ dot ∷ []))

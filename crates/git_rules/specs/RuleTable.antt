@@ -1,4 +1,4 @@
--- The table of a `Table`: its rules, each with its rank, which is where the first rule with its base stands.
+-- The table of a `Table`: its rules, each with its rank, which is where the first rule with its base is.
 use Rattle.std.specs.Prelude.{◌≡◌, ℕ, ◌<◌, ◌≤◌, ◌⊎◌, List, [], ◌∷◌, ◌++◌, Option, Some, None, length, map}
 use Rattle.git_rules.specs.declared.rewrite.table.Ranked.{Ranked}
 use Rattle.git_rules.specs.Rewrites.{Rule, LacksBase, Applies}

@@ -15,7 +15,7 @@ host_name host = lowercase (peeled host)
 abbrev pub HaveSameHost : Location → Location → Type 0
 HaveSameHost v w = option_map host_name v.host ≡ option_map host_name w.host
 
--- both texts are read, and it is told whether they name the same host; or one of them isn't read
+-- both texts are read, and it is reported whether they name the same host; or one of them isn't read
 abbrev pub ComparesHosts : List ℕ → ℕ → List ℕ → ℕ → Result Bool ParseError → Type 0
 ComparesHosts a room b other (Ok same) = (v : Location) × (w : Location) × Spells a v × Spells b w
     × (IsTrue same ↔ HaveSameHost v w)

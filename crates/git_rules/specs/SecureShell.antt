@@ -26,7 +26,7 @@ is_asked_for ReceivePack V2 = false
 is_asked_for UploadPack V2 = true
 is_asked_for UploadArchive V2 = true
 
--- the server is told the version, by a variable that OpenSSH hands on
+-- the version is sent to the server, by a variable that OpenSSH passes on
 abbrev pub sends_version : SshVariant → Service → ProtocolVersion → Bool
 sends_version Ssh service version = is_asked_for service version
 sends_version _ service version = false
@@ -193,7 +193,7 @@ pub record IsOwn (v : Location) (c : Command) : Type 0 where
   pub port : c.port ≡ v.port
   pub path : c.path ≡ v.path
 
--- the variable that goes with the words, where the server is told the version
+-- the variable that goes with the words, where the version is sent to the server
 abbrev pub command_variable : Command → Option (List ℕ)
 command_variable c =
     if sends_version c.variant c.service c.version then Some (version_value c.version) else None

@@ -35,7 +35,7 @@ abbrev pub behind_end : Option (List (List ℕ)) → Option (List (List ℕ))
 behind_end None = None
 behind_end (Some words) = Some ([] ∷ words)
 
--- a byte in a word, outside of quotes: `'` opens quotes, `\` stands before a byte that is itself, and any
+-- a byte in a word, outside of quotes: `'` opens quotes, `\` is before a byte that is itself, and any
 -- other that isn't special is itself
 abbrev pub in_word : ℕ → (Place → Option (List (List ℕ))) → Option (List (List ℕ))
 in_word b rest =
@@ -44,7 +44,7 @@ in_word b rest =
     else (if is_shell_special b then None else put_before b (rest bare)))
 
 -- the words of the rest of a text, where it is read from such a place; where that is in a word, the first of
--- them is the rest of it. None where a quote isn't closed, a `\` is the last byte or stands before the end of
+-- them is the rest of it. None where a quote isn't closed, a `\` is the last byte or is before the end of
 -- a line, or a byte is special
 abbrev pub words_from : Place → List ℕ → Option (List (List ℕ))
 words_from between [] = Some []

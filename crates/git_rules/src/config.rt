@@ -1,6 +1,6 @@
 //! The entries of a configuration, as `git config --list -z` writes them.
 //!
-//! It uses the cuts of `git_syntax`. Its contract: an entry is one value of five parts, and what is read is told as a
+//! It uses the cuts of `git_syntax`. Its contract: an entry is one value of five parts, and what is read is reported as a
 //! concatenation: the texts of the entries, each with the byte 0 behind it, are the text.
 
 ghost use Rattle.std.specs.Prelude.{◌≡◌, ◌==◌, ◌↔◌, ◌++◌, ◌∷◌, [], IfOk, IsTrue, OnOk, count_by};
@@ -34,7 +34,7 @@ pub struct Entry<'a> {
     /// What the key holds behind its last dot. Git writes it in lower case; [`Entry::is_name`] compares it without letter
     /// case.
     pub name: &'a [u8],
-    /// The value, as it is; none where the key stands without `=`, which Git takes as `true` where it asks for a boolean
+    /// The value, as it is; none where the key is without `=`, which Git takes as `true` where it asks for a boolean
     /// value and refuses elsewhere.
     pub value: Option<&'a [u8]>,
     /// The byte offset of the entry in the text that was read.
@@ -100,7 +100,7 @@ pub enum EntryError {
 /// behind it.
 ///
 /// ```
-/// /// At which bytes of a configuration something stands that is no entry.
+/// /// At which bytes of a configuration there is something that is no entry.
 /// fn bad_places(alloc: Global, text: &[u8]) -> Result<Vec<usize>, AllocError> {
 ///     let mut places = Vec::new(alloc);
 ///     for item in Reader::new(text) {

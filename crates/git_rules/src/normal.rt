@@ -1,6 +1,6 @@
 //! The normal form of a URL, by which Git picks settings for a place.
 //!
-//! It uses the cuts of `git_syntax`. Its contract: a text has exactly the normal form that the definitions give it, by which
+//! It uses `authority`, `cuts` and `write`. Its contract: a text has exactly the normal form that the definitions give it, by which
 //! Git compares the places of `http.<url>.*` and `credential.<url>.*`. It takes no memory: what has other bytes than the
 //! text is written into a room that the caller lends.
 

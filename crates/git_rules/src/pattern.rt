@@ -61,7 +61,7 @@ impl UrlPattern<'_> {
     }
 }
 
-/// By what the best of several is told: the first number in which two differ decides, and the higher one is better.
+/// By what the best of several is chosen: the first number in which two differ decides, and the higher one is better.
 #[derive(Clone, Copy)]
 pub struct Rank {
     /// The length of the host, in bytes.
@@ -215,7 +215,7 @@ fn behind<'a>(front: &[u8], text: &'a [u8]) -> Option<&'a [u8]>
 ///   [`UrlRef::agrees_with_git`](git_location::url_ref::UrlRef::agrees_with_git) accepts. Then what Git's credential code
 ///   reads in that text, and what a reader of URIs as libcurl reads in it, has the scheme, the host and the port of the
 ///   pattern. The host may lack a `.` at its end that the pattern has, or have one that it lacks: Git passes over it, and
-///   the name is the same. So a credential that is picked by the pattern, for a text that is then handed to Git, goes
+///   the name is the same. So a credential that is picked by the pattern, for a text that is then given to Git, goes
 ///   nowhere else.
 /// - `one`: a text has one normal form, so whoever reads it by the definition reads that.
 pub fn law_patterns()

@@ -335,7 +335,7 @@ pub fn ssh_words(
     }
 }
 
-/// Whether the server is told the version of the protocol.
+/// Whether the version of the protocol is sent to the server.
 fn sends_version(variant: SshVariant, service: Service, version: ProtocolVersion) -> bool
     ensures { result ≡ spec.sends_version variant service version }
 {

@@ -6,7 +6,7 @@ use Rattle.git_syntax.proofs.Texts.CutLemmas.{free_head_tail}
 use Rattle.git_rules.specs.Patterns.{labels_of, in_first_label, MatchesHost, MatchesLabels}
 use Rattle.git_rules.proofs.Matched.PathLemmas.{no_length}
 
--- what stands before the first `.` is the first label
+-- what is before the first `.` is the first label
 pub labels-cut : (label rest : List ℕ) → FreeOf dot label → labels_of (label ++ dot ∷ rest) ≡ label ∷ labels_of rest
 labels-cut [] rest free = refl
 labels-cut (b ∷ bs) rest free =

@@ -1,6 +1,6 @@
-//! The normal form of escapes: each byte that must be escaped is, in upper case, and no other but for delimiters.
+//! The normal form of escapes: each byte that must be escaped is, in upper case, and no other except for delimiters.
 //!
-//! It uses the bytes and escapes of `git_syntax` and of the crate `percent_encoding`. Its contract: what is written into the
+//! It uses the escapes of the crate `percent_encoding`. Its contract: what is written into the
 //! front of a room is the normal form of a text whose escapes are sound.
 
 ghost use Rattle.std.specs.Prelude.{◌≡◌, ◌∷◌, ◌+◌, ◌*◌, ◌++◌, ◌<◌, ◌≤◌, MatchOption, length, take, true, []};

@@ -1,13 +1,9 @@
-//! Examples of what Git does with a location by its configuration: its entries, its transports, and its words for Secure
-//! Shell.
+//! Examples of what Git does with a location by its configuration: its entries, its transports, and the places of settings.
 
-use bstr::{BStr, BString};
 use git_rules::boolean::read_boolean;
 use git_rules::config::{self, Entry, EntryError, Reader};
+use git_rules::normal::NormalUrl;
 use git_rules::protocols::{Permission, Protocols, Reason, transport};
-use git_rules::ssh::{
-    ProtocolVersion, Service, SshCommand, SshError, SshRefusal, SshVariant, ssh_command, ssh_words,
-};
 use gix_url::{Url, UrlRef};
 use std::alloc::{AllocError, Global};
 use std::test::Fail;
@@ -21,7 +17,7 @@ fn is_rewrite(entry: &Entry<'_>) -> bool {
     entry.is_section("url") && entry.is_name("insteadof") && entry.subsection.is_some()
 }
 
-/// At which bytes of a configuration something stands that is no entry.
+/// At which bytes of a configuration there is something that is no entry.
 fn bad_places(alloc: Global, text: &[u8]) -> Result<Vec<usize>, AllocError> {
     let mut places = Vec::new(alloc);
     for item in Reader::new(text) {
@@ -69,82 +65,12 @@ fn refusal_place(protocols: &Protocols<'_>, name: &str) -> Option<usize> {
     }
 }
 
-fn service_of(is_push: bool) -> Service {
-    if is_push {
-        Service::ReceivePack
-    } else {
-        Service::UploadPack
+/// The host whose settings apply to a text.
+fn host_of<'a>(text: &'a [u8], room: &'a mut [u8]) -> Option<&'a [u8]> {
+    match NormalUrl::parse_in(text, false, room) {
+        Ok(place) => Some(place.host), // `example.com` of `https://me@Example.com:443/a/../b`
+        Err(_) => None,
     }
-}
-
-/// The variant that git-config(1) has for a value of `ssh.variant`; none for `auto`.
-fn variant_of(value: &str) -> Option<SshVariant> {
-    match value {
-        "auto" => None,
-        "simple" => Some(SshVariant::Simple),
-        "plink" => Some(SshVariant::Plink),
-        "putty" => Some(SshVariant::Putty),
-        "tortoiseplink" => Some(SshVariant::TortoisePlink),
-        _ => Some(SshVariant::Ssh),
-    }
-}
-
-/// The version that Git asks for where `protocol.version` isn't set.
-fn usual_version() -> ProtocolVersion {
-    ProtocolVersion::V2
-}
-
-/// Whether somebody tries to pass an option off as a part of a location.
-fn is_attack(refusal: SshRefusal) -> bool {
-    matches!(
-        refusal,
-        SshRefusal::OptionLikeUser | SshRefusal::OptionLikeHost | SshRefusal::OptionLikePath
-    )
-}
-
-/// Whether the same call can succeed later: nothing is wrong with the location.
-fn is_passing(error: SshError) -> bool {
-    error == SshError::Memory
-}
-
-fn is_reading(service: Service) -> bool {
-    service.as_str() != "git-receive-pack"
-}
-
-/// Whether the command says who logs in.
-fn names_a_user(command: &SshCommand<'_>) -> bool {
-    command.user.is_some()
-}
-
-fn asks_for_version_2(command: &SshCommand<'_>) -> bool {
-    command.git_protocol() == Some("version=2")
-}
-
-fn last_word(alloc: Global, command: &SshCommand<'_>) -> Result<Option<BString>, AllocError> {
-    let mut words = command.to_words(alloc)?;
-    Ok(words.pop()) // `git-upload-pack '/a b'`
-}
-
-/// The words with which Git fetches by OpenSSH.
-fn fetch_words(alloc: Global, url: &UrlRef<'_>) -> Result<Vec<BString>, SshError> {
-    ssh_words(
-        alloc,
-        url,
-        Service::UploadPack,
-        SshVariant::Ssh,
-        ProtocolVersion::V2,
-    )
-}
-
-/// The port and the host that are connected to, and whether a user is named.
-fn reached<'a>(url: &UrlRef<'a>) -> Result<(Option<u16>, &'a str, bool), SshRefusal> {
-    let command = ssh_command(
-        url,
-        Service::UploadPack,
-        SshVariant::Ssh,
-        ProtocolVersion::V2,
-    )?;
-    Ok((command.port, command.host, command.user.is_some()))
 }
 
 #[test]
@@ -194,44 +120,9 @@ fn transports_are_chosen(rt: HostRuntime) -> Result<(), Fail> {
 }
 
 #[test]
-fn words_of_secure_shell(rt: HostRuntime) -> Result<(), Fail> {
-    assert!(rt; is_reading(service_of(false)));
-    assert!(rt; !is_reading(service_of(true)));
-    assert!(rt; variant_of("auto").is_none());
-    assert!(rt; matches!(variant_of("plink"), Some(SshVariant::Plink)));
-    let url = Url::from_text(rt.alloc(), "ssh://git@host:22/a'b")?;
-    let words = fetch_words(rt.alloc(), &url.as_ref()).map_err(|_| AllocError)?;
-    assert_eq!(rt; words.len(), 6);
-    assert_eq!(rt; words[3].as_bstr(), BStr::from("22"));
-    assert_eq!(rt; words[4].as_bstr(), BStr::from("git@host"));
-    assert_eq!(rt;
-        words[5].as_bstr(),
-        BStr::from("git-upload-pack '/a'\\''b'")
-    );
-    assert!(rt; matches!(reached(&url.as_ref()), Ok((Some(22), "host", true))));
-    let Ok(command) = ssh_command(
-        &url.as_ref(),
-        Service::UploadPack,
-        SshVariant::Ssh,
-        usual_version(),
-    ) else {
-        return Err(Fail::from(AllocError));
-    };
-    assert!(rt; names_a_user(&command));
-    assert!(rt; asks_for_version_2(&command));
-    let last = last_word(rt.alloc(), &command)?;
-    assert_eq!(rt;
-        last.as_ref().map(BString::as_bstr),
-        Some(BStr::from("git-upload-pack '/a'\\''b'"))
-    );
-    let url = Url::from_text(rt.alloc(), "ssh://-oProxyCommand=x/p")?;
-    let refused = ssh_command(
-        &url.as_ref(),
-        Service::UploadPack,
-        SshVariant::Ssh,
-        usual_version(),
-    );
-    assert!(rt; refused.is_err_and(is_attack));
-    assert!(rt; is_passing(SshError::Memory));
-    Ok(())
+fn settings_are_those_of_a_host(rt: HostRuntime) {
+    let mut room = [0u8; 256];
+    let host = host_of(b"https://me@Example.com:443/a/../b", &mut room);
+    assert_eq!(rt; host, Some(b"example.com".as_slice()));
+    assert_eq!(rt; host_of(b"git@host:repo", &mut room), None);
 }
