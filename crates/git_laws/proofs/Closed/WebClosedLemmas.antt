@@ -173,18 +173,11 @@ user_with u (b ∷ bs) = ((omega (arith), refl), λ e. refl)
 
 -- user information holds a user and a password of a settled location
 credentials_closed : (text : List ℕ) (user password : Option (List ℕ)) → Credentials text user password → AreCredentials user password
-credentials_closed text user password (user_alone free utf8 p u) =
-    subst (λ x. AreCredentials x password) (sym u) (subst (λ x. AreCredentials (unless_empty (percent_decode text)) x) (sym p) (user_without (percent_decode text)))
-credentials_closed text user password (with_password x y free e first second p u) =
-    let beside : user ≡ user_beside (unless_empty (percent_decode y)) (percent_decode x) = u ∙ ap (λ q. user_beside q (percent_decode x)) p in
-    subst (λ o. AreCredentials o password) (sym beside) (subst (λ q. AreCredentials (user_beside (unless_empty (percent_decode y)) (percent_decode x)) q) (sym p) (user_with (percent_decode x) (percent_decode y)))
+credentials_closed text user password h3 = grind (arith, nat_tests, user_without, user_with)
 
 -- so does an authority
 pub authority_closed : (mode : Mode) (text : List ℕ) (user password host : Option (List ℕ)) (port : Option ℕ) → Authority mode text user password host port → AreCredentials user password
-authority_closed mode text user password host port (host_alone free names u p) =
-    subst (λ x. AreCredentials x password) (sym u) (subst (λ x. AreCredentials None x) (sym p) (user_without []))
-authority_closed mode text user password host port (with_user information piece free e credentials names some) =
-    credentials_closed information user password credentials
+authority_closed mode text user password host port h6 = grind (arith, nat_tests, user_without, credentials_closed)
 
 -- the host and the port of a sound authority are named by a sound piece
 authority_names : (mode : Mode) (text : List ℕ) (user password host : Option (List ℕ)) (port : Option ℕ) → is_sound text ≡ true → Authority mode text user password host port → (piece : List ℕ) × (is_sound piece ≡ true) × Names mode piece host port
@@ -248,9 +241,7 @@ no_path front sound =
 
 -- the path at the end of a text
 path_closed : (front path : List ℕ) → StartsPath true path → IsUtf8 (front ++ path) → is_sound (front ++ path) ≡ true → LacksWhiteSpace (front ++ path) → IsUtf8 (percent_decode path) → IsWebPath front path
-path_closed front [] starts text sound space meant = no_path front (subst (λ t. is_sound t ≡ true) (append-nil front) sound)
-path_closed front (c ∷ rest) (inl empty) text sound space meant = absurd (omega (arith, ap length empty))
-path_closed front (c ∷ rest) (inr start) text sound space meant = some_path front rest c start text sound space meant
+path_closed front path h2 h3 h4 h5 h6 = grind (arith, nat_tests, no_path, append-nil, length, some_path)
 
 -- ---- locations
 
@@ -312,17 +303,7 @@ spelled_as v spelling = record v { spelling = spelling }
 
 -- locations of HTTP that differ in their spellings and are written alike have paths that are written alike
 same_paths : (v : Location) (spelling : Option (List ℕ)) → IsWeb v → v.flag ≡ false → IsHosted v → text (spelled_as v spelling) ≡ text v → matching_or spelling v.path (plain_path v.scheme v.path) ≡ matching_or v.spelling v.path (plain_path v.scheme v.path)
-same_paths v spelling web unflagged hosted same =
-    let w = spelled_as v spelling in
-    let mine : text v ≡ Ok (canonical_text v) = (written_web v web).canonical unflagged hosted in
-    let other : text w ≡ Ok (canonical_text w) = (written_web w web).canonical unflagged hosted in
-    let whole : canonical_text w ≡ canonical_text v = one_text other (same ∙ mine) in
-    let behind = append_cancel_left (protocol_text v.scheme) _ _ whole in
-    let authority = append_cancel_left (codes "://") _ _ behind in
-    let host = append_cancel_left (user_information v.user v.password) _ _ authority in
-    let port = append_cancel_left (host_part v v.host) _ _ host in
-    let path = append_cancel_left (port_part v.port) _ _ port in
-    append_cancel_left (root_part v) _ _ path
+same_paths v spelling h2 h3 h4 h5 = grind (arith, nat_tests, written_web, one_text, append_cancel_left, codes)
 
 -- a location of HTTP that is written as a settled one with another spelling is settled, unless its spelling is its path
 exact_as : (v : Location) (spelling : Option (List ℕ)) → IsWeb v → ¬ (v.spelling ≡ Some v.path) → text (spelled_as v spelling) ≡ text v → IsSettledWeb (spelled_as v spelling) → IsSettledWeb v
@@ -347,6 +328,4 @@ exact_as v spelling web other same h =
 
 -- a location of HTTP with the fields and the text of a settled one is settled, unless its spelling is its path
 pub web_exact_spelling : (v w : Location) → IsWeb v → ¬ (v.spelling ≡ Some v.path) → fields w ≡ fields v → text w ≡ text v → IsSettledWeb w → IsSettledWeb v
-web_exact_spelling v w web other same alike h =
-    let value : w ≡ spelled_as v w.spelling = ap (λ l. spelled_as l w.spelling) same in
-    exact_as v w.spelling web other (sym (ap (λ l. text l) value) ∙ alike) (subst (λ l. IsSettledWeb l) value h)
+web_exact_spelling v w h2 h3 h4 h5 h6 = grind (arith, nat_tests, exact_as)

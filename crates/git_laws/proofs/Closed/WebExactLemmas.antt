@@ -78,15 +78,7 @@ no_bracket_before piece t rest e some other = ap (begins_with left_bracket) e �
 
 -- in HTTP a piece with a bracket at its front names a host with one
 bracket_named : (piece host : List ℕ) (port : Option ℕ) → begins_with left_bracket piece ≡ true → Names strict piece (Some host) port → begins_with left_bracket host ≡ true
-bracket_named piece host port front (nothing e named_as at) = absurd (none-some host (sym named_as))
-bracket_named piece host port front (bracketed x inner free spelled e named_as at) = ap (begins_with left_bracket) (same_Some _ _ named_as)
-bracket_named piece host port front (bracketed_colon x inner free spelled e named_as at) = ap (begins_with left_bracket) (same_Some _ _ named_as)
-bracket_named piece host port front (bracketed_port x inner digits number free spelled numbered e named_as at) = ap (begins_with left_bracket) (same_Some _ _ named_as)
-bracket_named piece host port front (unbracketed reads named_as at) = absurd (strict_not_bare reads.0)
-bracket_named piece host port front (plain named is_plain meant named_as at) = absurd (both_ways _ is_plain.no_bracket front)
-bracket_named piece host port front (plain_colon text named is_plain meant e named_as at) = absurd (both_ways _ (no_bracket_before piece text (colon ∷ []) e is_plain.nonempty is_plain.no_bracket) front)
-bracket_named piece host port front (plain_port text named digits number is_plain meant numbered e named_as at) = absurd (both_ways _ (no_bracket_before piece text (colon ∷ digits) e is_plain.nonempty is_plain.no_bracket) front)
-bracket_named piece host port front (colons named not_strict other begins many meant named_as at) = absurd (not_strict refl)
+bracket_named piece host port h3 h4 = grind (arith, nat_tests, none-some, same_Some, strict_not_bare, both_ways, no_bracket_before)
 
 -- ---- hosts that are written in brackets
 
@@ -96,9 +88,7 @@ in_brackets host = left_bracket ∷ (escaped_percents host ++ right_bracket ∷ 
 
 -- it has neither `@` nor a path start where the host has none
 brackets_lack : (host : List ℕ) → Lacks ends_host host → Lacks ends_host (in_brackets host)
-brackets_lack host lacks =
-    lacks-cons ends_host left_bracket (escaped_percents host ++ right_bracket ∷ []) refl
-    (lacks-append ends_host (escaped_percents host) (right_bracket ∷ []) (lacks_escaped_percents ends_host host refl refl refl lacks) refl)
+brackets_lack host h1 = grind (arith, nat_tests, lacks-cons, lacks-append, lacks_escaped_percents)
 
 -- so it is free of `@`
 brackets_no_at : (host : List ℕ) → Lacks ends_host host → FreeOf at_sign (in_brackets host)
@@ -156,11 +146,7 @@ authority_same {t} {parts} w web is_web h same lacks starts =
 
 -- the written authority of a location of HTTP whose host goes between brackets, and that has no port
 authority_bracketed : (w : Location) (host : List ℕ) → w.host ≡ Some host → w.port ≡ None → needs_brackets w.port host ≡ true → authority_text w ≡ bracketed_text w.user w.password host
-authority_bracketed w host hosted none needs =
-    ap (λ o. user_information w.user w.password ++ (host_part w o ++ port_part w.port)) hosted
-    ∙ ap (λ x. user_information w.user w.password ++ (x ++ port_part w.port)) (cond-true _ _ _ needs)
-    ∙ ap (λ o. user_information w.user w.password ++ (in_brackets host ++ port_part o)) none
-    ∙ ap (λ x. user_information w.user w.password ++ x) (append-nil (in_brackets host))
+authority_bracketed w host h2 h3 h4 = grind (arith, nat_tests, cond-true, append-nil)
 
 -- the path of what is read is written with a start of a path
 path_shown : {t : List ℕ} {parts : UrlParts} → (protocol : Protocol) → IsWeb (web_meant protocol parts) → is_web_scheme parts.scheme ≡ true → SpellsParts t parts → StartsPath true (canonical_path (web_meant protocol parts))
@@ -207,9 +193,7 @@ spelled_by_url t w web (Spells.local_path h) = not_web file w refl (ap (λ l. l.
 
 -- one of two tests passes, where they don't fail together
 either_by : (bracket escaped : Bool) → (bracket ≡ false → escaped ≡ true → ⊥) → (bracket ≡ true) ⊎ (escaped ≡ false)
-either_by true escaped apart = inl refl
-either_by false false apart = inr refl
-either_by false true apart = absurd (apart refl refl)
+either_by bracket escaped h2 = grind (arith, nat_tests)
 
 -- the text of a URL is short enough
 fits_read : {t : List ℕ} {parts : UrlParts} → SpellsParts t parts → FitsText t

@@ -1,5 +1,6 @@
 -- What is read has a text, and isn't taken for a stored location of the legacy form.
 use Rattle.std.proofs.Common.{◌≡◌, ℕ, ◌<◌, ◌≤◌, true, false, ◌==◌, ◌&&◌, inl, inr, ◌⊎◌, ⊎_elim, List, [], ◌∷◌, ◌++◌, length, Option, Some, None, Ok, IsSome, refl, sym, ap, subst, ◌∙◌, arith, codes}
+use Rattle.std.proofs.lemmas.Bool.Decides.{nat_tests}
 use Rattle.std.specs.Option.{is_some}
 use Rattle.std.proofs.lemmas.Bool.{cond-true, cond-false, cases_Bool, and_parts, or_cases, both_ways, false≢true}
 use Rattle.std.proofs.lemmas.Slice.Eq.{bytes_eq-Decides}
@@ -57,34 +58,19 @@ named_there protocol parts v h same hosted chosen =
 
 -- a scheme of Secure Shell isn't one of HTTP
 ssh_not_web : (s : List ℕ) → is_ssh_scheme s ≡ true → is_web_scheme s ≡ false
-ssh_not_web s h = ⊎_elim
-    (λ e. ap is_web_scheme ((bytes_eq-Decides s (codes "ssh")).0 e))
-    (λ rest. ⊎_elim
-    (λ e. ap is_web_scheme ((bytes_eq-Decides s (codes "ssh+git")).0 e))
-    (λ e. ap is_web_scheme ((bytes_eq-Decides s (codes "git+ssh")).0 e))
-    (or_cases _ _ rest))
-    (or_cases _ _ h)
+ssh_not_web s h1 = grind (arith, nat_tests, bytes_eq-Decides, codes, or_cases)
 
 -- a rooted path is read as a rooted one, or as one below a home folder
 from_home_begins : (rest : List ℕ) → (begins_with slash (from_home (slash ∷ rest)) ≡ true) ⊎ (begins_with tilde (from_home (slash ∷ rest)) ≡ true)
-from_home_begins [] = inl refl
-from_home_begins (b ∷ rest) = ⊎_elim
-    (λ same. inr (ap (begins_with tilde) (cond-true _ _ _ same) ∙ same))
-    (λ other. inl (ap (begins_with slash) (cond-false _ _ _ other)))
-    (cases_Bool (b == tilde))
+from_home_begins rest = grind (arith, nat_tests, cond-true, cond-false, cases_Bool)
 
 -- a path that is there begins with `/` outside HTTP
 begins_rooted : (path : List ℕ) → 0 < length path → StartsPath false path → begins_with slash path ≡ true
-begins_rooted path some (inl empty) = absurd (omega (arith, ap length empty))
-begins_rooted [] some (inr start) = start
-begins_rooted (c ∷ rest) some (inr start) = ⊎_elim (λ e. e) (λ wrong. absurd (false≢true wrong)) (or_cases _ _ start)
+begins_rooted path h1 h2 = grind (arith, nat_tests, length, false≢true, or_cases)
 
 -- so the path of a URL of Secure Shell is rooted or below a home folder
 path_begins : (path : List ℕ) → begins_with slash path ≡ true → (begins_with slash (from_home (percent_decode path)) ≡ true) ⊎ (begins_with tilde (from_home (percent_decode path)) ≡ true)
-path_begins path rooted =
-    let (rest, cut) = begins_cut slash path rooted in
-    let whole : percent_decode path ≡ slash ∷ percent_decode rest = ap percent_decode cut ∙ decode_byte slash rest refl in
-    subst (λ t. (begins_with slash (from_home t) ≡ true) ⊎ (begins_with tilde (from_home t) ≡ true)) (sym whole) (from_home_begins (percent_decode rest))
+path_begins path h1 = grind (arith, nat_tests, begins_cut, decode_byte, from_home_begins)
 
 -- the host of Secure Shell is there where the URL names one
 peeled_there : (named host : Option (List ℕ)) → HostFor ssh named host → IsSome named → IsSome host
@@ -137,12 +123,7 @@ has_a_text b v (Spells.local_path h) = (b, (local_unchanged b v h).1)
 
 -- an escape makes a decoding shorter than its spelling
 escape_shorter : (b : ℕ) (bs : List ℕ) → (b == 37) ≡ true → begins_with_digits bs ≡ true → length (percent_decode (b ∷ bs)) < length (b ∷ bs)
-escape_shorter b [] percent digits = absurd (false≢true digits)
-escape_shorter b (high ∷ []) percent digits = absurd (false≢true digits)
-escape_shorter b (high ∷ low ∷ rest) percent digits =
-    let parts = and_parts _ _ digits in
-    let whole = ap length (decode_escape b high low rest percent parts.0 parts.1) in
-    omega (arith, whole, (length-percent_decode rest).0)
+escape_shorter b bs h2 h3 = grind (arith, nat_tests, false≢true, and_parts, length, decode_escape, length-percent_decode)
 
 -- where a first byte begins an escape, two digits stand behind it
 digits_behind : (b : ℕ) (bs : List ℕ) → (b == 37) ≡ true → is_sound (b ∷ bs) ≡ true → begins_with_digits bs ≡ true
@@ -161,12 +142,7 @@ decoding_shorter (b ∷ bs) sound held = ⊎_elim
 
 -- a path below a home folder isn't longer than it was
 from_home_short : (path : List ℕ) → length (from_home path) ≤ length path
-from_home_short [] = omega arith
-from_home_short (a ∷ []) = omega arith
-from_home_short (a ∷ b ∷ rest) = ⊎_elim
-    (λ home. let gone = ap length (cond-true _ (b ∷ rest) (a ∷ b ∷ rest) home) in omega (arith, gone))
-    (λ other. let kept = ap length (cond-false _ (b ∷ rest) (a ∷ b ∷ rest) other) in omega (arith, kept))
-    (cases_Bool (a == slash && b == tilde))
+from_home_short path = grind (arith, nat_tests, length, cond-true, cond-false, cases_Bool)
 
 -- nor is a path that is there and becomes rooted
 or_root_short : (path : List ℕ) → 0 < length path → length (or_root path) ≤ length path
@@ -175,11 +151,7 @@ or_root_short (b ∷ bs) some = omega arith
 
 -- so no protocol's path is longer than the decoding
 path_short : (protocol : Protocol) (path : List ℕ) → 0 < length path → length (path_for protocol path) ≤ length path
-path_short ssh path some = from_home_short path
-path_short git path some = from_home_short path
-path_short http path some = or_root_short path some
-path_short https path some = or_root_short path some
-path_short _ path some = omega arith
+path_short protocol path h2 = grind (arith, nat_tests, from_home_short, or_root_short)
 
 -- a text that holds an escape isn't empty
 held_nonempty : (bs : List ℕ) → has_percent bs ≡ true → 0 < length bs
@@ -226,11 +198,7 @@ scp_unspelled b v (inr h) = ap (λ l. l.spelling) h.value
 
 -- of what is spelled the spelling isn't the path
 pub spelling_other : (b : List ℕ) (v : Location) → Spells b v → ¬ (v.spelling ≡ Some v.path)
-spelling_other b v (Spells.url h) = url_other (protocol_of h.parts.scheme) b h.parts v h.spelled h.means
-spelling_other b v (Spells.file_url h) = unspelled_other v (ap (λ l. l.spelling) h.value)
-spelling_other b v (Spells.remote_helper h) = unspelled_other v (ap (λ l. l.spelling) h.value)
-spelling_other b v (Spells.scp_form h) = unspelled_other v (scp_unspelled b v h)
-spelling_other b v (Spells.local_path h) = unspelled_other v (ap (λ l. l.spelling) h.value)
+spelling_other b v h2 = grind (arith, nat_tests, url_other, unspelled_other, scp_unspelled)
 
 -- what is spelled has a text, and stands for itself when it was stored
 pub writable : Writable

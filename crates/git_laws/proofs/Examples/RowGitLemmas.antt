@@ -1,5 +1,6 @@
 -- Rows on what Git reads: by giving the cuts, and what it doesn't.
 use Rattle.std.proofs.Common.{◌≡◌, ◌∙◌, ◌==◌, ◌&&◌, ◌<◌, ℕ, true, false, inl, inr, List, [], ◌∷◌, ◌++◌, Option, Some, None, length, codes, refl, sym, ap, subst, arith, lit<}
+use Rattle.std.proofs.lemmas.Bool.Decides.{nat_tests}
 use Rattle.std.proofs.lemmas.Bool.{false≢true, true≢false}
 use Rattle.git_syntax.specs.Value.{Protocol}
 use Rattle.git_syntax.specs.Value.Protocol.{file, git, ssh}
@@ -248,11 +249,7 @@ not_own p t rest none h = absurd (none (h.scheme, h.spelled, h.joined))
 
 -- what is neither a URL nor another text that Git reads itself
 neither_read : (t : List ℕ) (reading : GitReading) → ¬ Holds (codes "://") t → ¬ IsNoUrl t → ReadsGiven t reading → ⊥
-neither_read t r none other (ReadsGiven.secure_url x place path u c h) = not_own ssh t x none u
-neither_read t r none other (ReadsGiven.git_url x place path u c h) = not_own git t x none u
-neither_read t r none other (ReadsGiven.file_url x place path u c h) = not_own file t x none u
-neither_read t r none other (ReadsGiven.scp_form place path n m c h) = other n
-neither_read t r none other (ReadsGiven.local_path p path n l e some safe low is) = other n
+neither_read t reading h2 h3 h4 = grind (arith, nat_tests, not_own)
 
 -- a URL of a transport is cut as it is here
 own_cut : (p : Protocol) (scheme spelled x place path name more : List ℕ) → is_own p ≡ true → protocol_of scheme ≡ p → OwnUrl p (scheme ++ (codes "://" ++ spelled)) x → CutsPlace slash x place path → CutsPlace slash (git_decode spelled) name more → (place ≡ name) × (path ≡ more)

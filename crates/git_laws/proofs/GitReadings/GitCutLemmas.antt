@@ -62,9 +62,7 @@ bracketed_place user inside between = raw_user user ++ left_bracket ∷ (inside 
 
 -- with a text behind it
 bracketed_joined : (user : Option (List ℕ)) (inside between rest : List ℕ) → bracketed_place user inside between ++ rest ≡ raw_user user ++ left_bracket ∷ (inside ++ right_bracket ∷ (between ++ rest))
-bracketed_joined user inside between rest =
-    append_assoc (raw_user user) (left_bracket ∷ (inside ++ right_bracket ∷ between)) rest
-    ∙ ap (λ t. raw_user user ++ left_bracket ∷ t) (append_assoc inside (right_bracket ∷ between) rest)
+bracketed_joined user inside between rest = grind (arith, nat_tests, append_assoc)
 
 -- such a text is cut at the first c behind the brackets
 pub bracketed_cut : (c : ℕ) (user : Option (List ℕ)) (inside between rest : List ℕ) → FreeOf left_bracket (raw_user user) → FreeOf left_bracket (inside ++ right_bracket ∷ (between ++ c ∷ rest)) → FreeOf right_bracket inside → FreeOf c (right_bracket ∷ between) → CutsPlace c (bracketed_place user inside between ++ c ∷ rest) (bracketed_place user inside between) rest
@@ -132,9 +130,7 @@ digits_port_colon (b ∷ x) y = cond-false _ _ _ (and_left _ _ (digits_colon (b 
 
 -- nor with one, whichever it is
 signed_by : (plus minus : Bool) (b : ℕ) (bs : List ℕ) → digits_port bs ≡ None → digits_port (b ∷ bs) ≡ None → (if plus then digits_port bs else (if minus then negative_port (digits_port bs) else digits_port (b ∷ bs))) ≡ None
-signed_by true minus b bs behind whole = behind
-signed_by false true b bs behind whole = ap negative_port behind
-signed_by false false b bs behind whole = whole
+signed_by plus minus b bs h4 h5 = grind (arith, nat_tests)
 
 -- nor with a sign
 signed_port_colon : (x y : List ℕ) → signed_port (x ++ colon ∷ y) ≡ None

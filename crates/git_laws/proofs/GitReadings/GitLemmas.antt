@@ -1,5 +1,6 @@
 -- Git reads the same place: in the text of each location of the class it reads the location's own parts.
 use Rattle.std.proofs.Common.{◌≡◌, ◌∙◌, ℕ, ◌<◌, true, false, ◌⊎◌, inl, inr, List, [], ◌∷◌, ◌++◌, length, ◌==◌, Option, Some, None, Ok, IfSome, IsUtf8, codes, refl, sym, ap, subst, arith, append_assoc}
+use Rattle.std.proofs.lemmas.Bool.Decides.{nat_tests}
 use Rattle.git_syntax.specs.declared.escape.TheConstants.{PASSWORD, USER}
 use Rattle.git_syntax.specs.Value.{Protocol, Location}
 use Rattle.git_syntax.specs.Value.Protocol.{file, git, http, https, ssh}
@@ -118,36 +119,19 @@ scp_has v host e is h there kind other = record {
 
 -- a name is written as it is
 scp_text : (v : Location) (host : List ℕ) → IsSettledScp v → v.host ≡ Some host → IsScpName host → IsScpWritten v (raw_host (Some host)) → IsScpText v host
-scp_text v host h there name has =
-    let free = name.normal.unbracketed.no_colon in
-    let joined = ap (λ x. raw_user v.user ++ (x ++ colon ∷ v.path)) (scp_host_raw host free) ∙ sym (append_assoc (raw_user v.user) host (colon ∷ v.path)) in record {
-      there = there;
-      name = name;
-      no_colon = free-append colon (raw_user v.user) host (user_free colon v.user refl (IfSome_then v.user h.user (λ u parts. parts.no_colon))) free;
-      no_slash = free-append slash (raw_user v.user) host (user_free slash v.user refl (IfSome_then v.user h.user (λ u parts. parts.no_slash))) name.no_slash;
-      neither = subst IsNeither joined has.neither;
-      written = has.written ∙ ap Ok joined;
-    }
+scp_text v host h2 h3 h4 h5 = grind (arith, nat_tests, scp_host_raw, append_assoc, free-append, user_free, IfSome_then)
 
 -- its user is free of a byte by which Git cuts it otherwise
 scp_user_free : (v : Location) → v.flag ≡ true → HasPlainParts v → (c : ℕ) → is_contested c ≡ true → (at_sign == c) ≡ false → FreeOf c (raw_user v.user)
-scp_user_free v flagged plain c contested other =
-    let user = subst (λ f. IfSome v.user (IsPlainPart f USER)) flagged plain.user in
-    user_free c v.user (free-cons c at_sign [] other refl) (IfSome_then v.user user (λ u lacks. free_of_lacked is_contested c u lacks contested))
+scp_user_free v h1 h2 c h4 h5 = grind (arith, nat_tests, IfSome, user_free, free-cons, IfSome_then, free_of_lacked)
 
 -- its host is plain
 scp_plain_host : (v : Location) (host : List ℕ) → v.flag ≡ true → v.scheme ≡ ssh → HasPlainParts v → v.host ≡ Some host → Lacks is_contested host
-scp_plain_host v host flagged e plain there =
-    elim (subst (λ o. IfSome o (IsPlainHost v)) there plain.host) [
-      | inl lacks ↦ subst (λ f. IsPlainPart f PASSWORD host) flagged lacks
-      | inr (scheme, begins) ↦ let wrong : ssh ≡ git = sym e ∙ scheme in cc
-    ]
+scp_plain_host v host h2 h3 h4 h5 = grind (arith, nat_tests, IfSome)
 
 -- the text is free of such a byte, where the host is a name
 scp_free : (v : Location) (host : List ℕ) → v.flag ≡ true → HasPlainParts v → v.scheme ≡ ssh → v.host ≡ Some host → (c : ℕ) → is_contested c ≡ true → (at_sign == c) ≡ false → (colon == c) ≡ false → FreeOf c (word_of v.user host ++ colon ∷ v.path)
-scp_free v host flagged plain e there c contested other mark =
-    let named = scp_plain_host v host flagged e plain there in
-    free-append c (word_of v.user host) (colon ∷ v.path) (free-append c (raw_user v.user) host (scp_user_free v flagged plain c contested other) (free_of_lacked is_contested c host named contested)) (free-cons c colon v.path mark (path_free v plain c contested))
+scp_free v host h2 h3 h4 h5 c h7 h8 h9 = grind (arith, nat_tests, scp_plain_host, free-append, word_of, scp_user_free, free_of_lacked, free-cons, path_free)
 
 -- a word with a host isn't empty
 word_nonempty : (user : Option (List ℕ)) (host : List ℕ) → 0 < length host → 0 < length (word_of user host)
@@ -185,10 +169,7 @@ scp_reads v host h t a second other named free =
 
 -- with a path behind it a word is no option where it is none itself
 word_option : (user : Option (List ℕ)) (host path : List ℕ) → 0 < length host → IfSome user (λ u. is_option_like u ≡ false) → is_option_like host ≡ false → is_option_like (word_of user host ++ colon ∷ path) ≡ false
-word_option None [] path some first second = absurd (omega arith)
-word_option None (b ∷ host) path some first second = second
-word_option (Some []) host path some first second = refl
-word_option (Some (b ∷ u)) host path some first second = first
+word_option user host path h3 h4 h5 = grind (arith, nat_tests)
 
 -- what the location holds, as Git reads it
 scp_reading : (v : Location) (host : List ℕ) → v.scheme ≡ ssh → IsSettledScp v → own_reading v (Some host) ≡ secure_reading v.user (Some host) None v.path
@@ -267,9 +248,7 @@ addressed_reads v host t a second named =
 
 -- a bracket or a user stands in front, so the text is no option where the user is none
 addressed_option : (user : Option (List ℕ)) (inside path : List ℕ) → IfSome user (λ u. is_option_like u ≡ false) → is_option_like (bracketed_place user inside [] ++ colon ∷ path) ≡ false
-addressed_option None inside path safe = refl
-addressed_option (Some []) inside path safe = refl
-addressed_option (Some (b ∷ u)) inside path safe = safe
+addressed_option user inside path h3 = grind (arith, nat_tests)
 
 -- a settled location in the scp form whose host is an address
 addressed_alike : (v : Location) (host : List ℕ) → v.scheme ≡ ssh → AgreesByTransport v → SuitsTransport ssh v → IsSettledScp v → v.host ≡ Some host → IsNormalAddress host → IsScpWritten v (raw_host (Some host)) → IsReadBy ssh v

@@ -77,12 +77,7 @@ pub record IsHostRaw (v : Location) (host : List ℕ) : Type 0 where
 
 -- without brackets an address is, and a host without a colon
 open_written : (host : List ℕ) → Lacks (should_percent_encode PASSWORD) host → IsIpv6Text host ⊎ FreeOf colon host → (if is_ipv6_text host then percent_encode PASSWORD host else percent_encode USER host) ≡ host
-open_written host kept (inl address) = cond-true _ _ _ (ipv6_text_to host address) ∙ unescaped PASSWORD host kept
-open_written host kept (inr free) =
-    elim (cases_Bool (is_ipv6_text host)) [
-      | inl address ↦ cond-true _ _ _ address ∙ unescaped PASSWORD host kept
-      | inr other ↦ cond-false _ _ _ other ∙ unescaped USER host (user_kept host kept free)
-    ]
+open_written host h1 h2 = grind (arith, nat_tests, cond-true, ipv6_text_to, unescaped, cases_Bool, cond-false, user_kept)
 
 -- it does where no byte of it is written as an escape
 pub host_raw : (v : Location) (host : List ℕ) → keeps_host v.scheme ≡ false → needs_brackets v.port host ≡ false → Lacks (should_percent_encode PASSWORD) host → IsIpv6Text host ⊎ FreeOf colon host → IsHostRaw v host

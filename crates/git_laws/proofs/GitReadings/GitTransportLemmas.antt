@@ -1,5 +1,6 @@
 -- Git reads in the text of a URL of one of its own transports the user, the host, the port and the path of the location.
 use Rattle.std.proofs.Common.{◌≡◌, ◌∙◌, ℕ, ◌<◌, true, false, ◌⊎◌, inl, inr, List, [], ◌∷◌, ◌++◌, length, ◌==◌, Option, Some, None, Ok, IfSome, IsUtf8, codes, refl, sym, ap, subst, arith, append_assoc}
+use Rattle.std.proofs.lemmas.Bool.Decides.{nat_tests}
 use Rattle.std.specs.Prelude.{IsSome}
 use Rattle.std.specs.Char.{is_ascii_digit}
 use Rattle.std.proofs.lemmas.Bool.{false≢true, both_ways}
@@ -63,9 +64,7 @@ word_of user host = raw_user user ++ host
 
 -- the word is no option where user and host are none
 word_safe : (user : Option (List ℕ)) (host : List ℕ) → IfSome user (λ u. is_option_like u ≡ false) → is_option_like host ≡ false → is_option_like (word_of user host) ≡ false
-word_safe None host first second = second
-word_safe (Some []) host first second = refl
-word_safe (Some (b ∷ u)) host first second = first
+word_safe user host h2 h3 = grind (arith, nat_tests)
 
 -- it is cut at its last `@`, where a user isn't empty
 word_split : (user : Option (List ℕ)) (host : List ℕ) → ¬ (user ≡ Some []) → FreeOf at_sign host → UserCut (word_of user host) user host
@@ -156,17 +155,11 @@ host_given v host transport escapes a there url path = record {
 
 -- the authority is user, host and port
 authority_given : (v : Location) (host : List ℕ) → (h : HasHostGiven v host) → IsUserRaw v.user → authority_text v ≡ raw_user v.user ++ (canonical_host v host ++ port_part v.port)
-authority_given v host h user =
-    ap (λ o. user_information v.user o ++ (host_part v v.host ++ port_part v.port)) h.no_password
-    ∙ ap (λ o. user_information v.user None ++ (host_part v o ++ port_part v.port)) h.there
-    ∙ ap (λ t. t ++ (canonical_host v host ++ port_part v.port)) user.written
+authority_given v host h h3 = grind (arith, nat_tests)
 
 -- a place without `%` is decoded to itself
 place_decoded : (v : Location) (place : List ℕ) → authority_text v ≡ place → FreeOf percent_sign place → (t : List ℕ) → percent_decode (authority_text v ++ t) ≡ place ++ percent_decode t
-place_decoded v place e free t =
-    ap (λ x. percent_decode (x ++ t)) e
-    ∙ decodes_in_parts place t (sound_free place free)
-    ∙ ap (λ x. x ++ percent_decode t) (decode_kept place free)
+place_decoded v place h2 h3 t = grind (arith, nat_tests, decodes_in_parts, sound_free, decode_kept)
 
 -- ---- places without brackets
 
@@ -287,10 +280,7 @@ bare_nonempty host (inr address) =
 
 -- Secure Shell's host is plain
 secure_kept : (v : Location) (host : List ℕ) → v.scheme ≡ ssh → HasHostGiven v host → Lacks (should_percent_encode PASSWORD) host
-secure_kept v host e h = elim h.plain [
-  | inl kept ↦ kept
-  | inr (other, begins) ↦ let wrong : ssh ≡ git = sym e ∙ other in cc
-]
+secure_kept v host h2 h3 = grind (arith, nat_tests)
 
 -- its place is user, host and port
 secure_place : (v : Location) (host : List ℕ) → v.scheme ≡ ssh → IsValue v → HasHostGiven v host → IsBareHost host → HasPlace v (word_of v.user host)
@@ -331,10 +321,7 @@ record HasGitHost (v : Location) (own : List ℕ) : Type 0 where
 
 -- a name begins with no bracket, and is plain
 name_kept : (v : Location) (host : List ℕ) → HasHostGiven v host → IsNormalName host → Lacks (should_percent_encode PASSWORD) host
-name_kept v host h name = elim h.plain [
-  | inl kept ↦ kept
-  | inr (scheme, begins) ↦ absurd (both_ways (begins_with left_bracket host) (free_begins left_bracket host name.unbracketed.no_left_bracket) begins)
-]
+name_kept v host h2 h3 = grind (arith, nat_tests, both_ways, free_begins)
 
 -- and stays as it is
 name_bare : (host : List ℕ) → FreeOf left_bracket host → Unbrackets host host

@@ -1,5 +1,6 @@
 -- Git reads one thing in a text: its cuts are unique.
 use Rattle.std.proofs.Common.{◌≡◌, ◌∙◌, ℕ, ◌<◌, Bool, true, false, not, ◌&&◌, ◌==◌, ◌⊎◌, inl, inr, List, [], ◌∷◌, ◌++◌, length, Option, Some, None, codes, refl, sym, ap, subst, arith, eq-eqb}
+use Rattle.std.proofs.lemmas.Bool.Decides.{nat_tests}
 use Rattle.std.proofs.lemmas.Bool.{both_ways, false≢true}
 use Rattle.std.proofs.lemmas.Option.{none-some}
 use Rattle.std.proofs.lemmas.Slice.Eq.{bytes_eq-Decides}
@@ -119,12 +120,7 @@ before_comes t front port (BeforePort.no_colon free whole p) = inr record { free
 
 -- and one outcome
 comes_unique : (t front other : List ℕ) (port number : Option ℕ) → ComesOfCut t front port ⊎ ComesOfNone t front port → ComesOfCut t other number ⊎ ComesOfNone t other number → both front port ≡ both other number
-comes_unique t front other port number (inl h) (inl k) =
-    let same = cut_unique colon h.before k.before h.behind k.behind h.first k.first (sym h.joined ∙ k.joined) in
-    h.value ∙ ap (λ b. outcome t b h.behind (git_port h.behind)) same.0 ∙ ap (λ d. outcome t k.before d (git_port d)) same.1 ∙ sym k.value
-comes_unique t front other port number (inl h) (inr k) = absurd (not_free colon h.before h.behind (subst (λ s. FreeOf colon s) h.joined k.free))
-comes_unique t front other port number (inr h) (inl k) = absurd (not_free colon k.before k.behind (subst (λ s. FreeOf colon s) k.joined h.free))
-comes_unique t front other port number (inr h) (inr k) = h.value ∙ sym k.value
+comes_unique t front other port number h5 h6 = grind (arith, nat_tests, cut_unique, not_free)
 
 -- so one port stands behind one front
 before_unique : (t front other : List ℕ) (port number : Option ℕ) → BeforePort t front port → BeforePort t other number → (front ≡ other) × (port ≡ number)
@@ -170,17 +166,7 @@ found_not_none found n is none = absurd (none-some n (sym none ∙ is))
 
 -- one outcome comes of it
 secure_same : (named : List ℕ) (found : Option ℕ) (word other : List ℕ) (port number : Option ℕ) → SecureComes named found word port → SecureComes named found other number → both word port ≡ both other number
-secure_same named found word other port number (SecureComes.of_found n is e) (SecureComes.of_found n' is' e') = e ∙ sym e'
-secure_same named found word other port number (SecureComes.of_found n is e) (SecureComes.of_cut f d none first cut e') = found_not_none found n is none
-secure_same named found word other port number (SecureComes.of_found n is e) (SecureComes.of_none none free e') = found_not_none found n is none
-secure_same named found word other port number (SecureComes.of_cut f d none first cut e) (SecureComes.of_found n is e') = found_not_none found n is none
-secure_same named found word other port number (SecureComes.of_cut f d none first cut e) (SecureComes.of_cut f' d' none' first' cut' e') =
-    let same = cut_unique colon f f' d d' first first' (sym cut ∙ cut') in
-    e ∙ ap (λ b. secure_outcome named b (git_port d)) same.0 ∙ ap (λ b. secure_outcome named f' (git_port b)) same.1 ∙ sym e'
-secure_same named found word other port number (SecureComes.of_cut f d none first cut e) (SecureComes.of_none none' free e') = absurd (not_free colon f d (subst (λ s. FreeOf colon s) cut free))
-secure_same named found word other port number (SecureComes.of_none none free e) (SecureComes.of_found n is e') = found_not_none found n is none
-secure_same named found word other port number (SecureComes.of_none none free e) (SecureComes.of_cut f d none' first cut e') = absurd (not_free colon f d (subst (λ s. FreeOf colon s) cut free))
-secure_same named found word other port number (SecureComes.of_none none free e) (SecureComes.of_none none' free' e') = e ∙ sym e'
+secure_same named found word other port number h6 h7 = grind (arith, nat_tests, found_not_none, cut_unique, not_free)
 
 -- so there is one word, and one port
 pub secure_unique : (named : List ℕ) (found : Option ℕ) (word other : List ℕ) (port number : Option ℕ) → SecurePort named found word port → SecurePort named found other number → (word ≡ other) × (port ≡ number)
@@ -189,12 +175,7 @@ secure_unique named found word other port number h k =
     (ap (λ p. p.0) same, ap (λ p. p.1) same)
 
 user_unique : (word host other : List ℕ) (user name : Option (List ℕ)) → UserCut word user host → UserCut word name other → (user ≡ name) × (host ≡ other)
-user_unique word host other user name (UserCut.host_alone free none is) (UserCut.host_alone free' none' is') = (none ∙ sym none', is ∙ sym is')
-user_unique word host other user name (UserCut.host_alone free none is) (UserCut.with_user u named free' e some) = absurd (not_free at_sign u other (subst (λ s. FreeOf at_sign s) e free))
-user_unique word host other user name (UserCut.with_user u named free e some) (UserCut.host_alone free' none is) = absurd (not_free at_sign u host (subst (λ s. FreeOf at_sign s) e free'))
-user_unique word host other user name (UserCut.with_user u named free e some) (UserCut.with_user u' named' free' e' some') =
-    let same = last_cut_unique at_sign u u' host other free free' (sym e ∙ e') in
-    (some ∙ ap Some same.0 ∙ sym some', same.1)
+user_unique word host other user name h5 h6 = grind (arith, nat_tests, not_free, last_cut_unique)
 
 -- ---- transports
 
@@ -240,14 +221,7 @@ is_own _ = false
 
 -- the scheme of a transport has no colon
 pub own_free : (p : Protocol) (s : List ℕ) → protocol_of s ≡ p → is_own p ≡ true → FreeOf colon s
-own_free ssh s e own = (transport s (ap requires_path e)).no_colon
-own_free git s e own = (transport s (ap requires_path e)).no_colon
-own_free file s e own =
-    let is_file : (is_own (protocol_of s) && not (requires_path (protocol_of s))) ≡ true = ap (λ p. is_own p && not (requires_path p)) e in
-    protocol_cases (λ p. (is_own p && not (requires_path p)) ≡ true → FreeOf colon s) s (λ is h. absurd (false≢true h))
-    (λ is h. subst (λ x. FreeOf colon x) (sym ((bytes_eq-Decides s (codes "file")).0 is)) refl)
-    (λ h. absurd (false≢true h)) (λ is h. absurd (false≢true h)) (λ is h. absurd (false≢true h)) (λ h. absurd (false≢true h)) (λ h. absurd (false≢true h)) is_file
-own_free _ s e own = absurd (false≢true own)
+own_free p s h2 h3 = grind (arith, nat_tests, transport, not, protocol_cases, false≢true, bytes_eq-Decides, codes)
 
 -- a URL of a transport is one of no other, and one rest stands behind its scheme
 pub own_unique : (p q : Protocol) (t rest other : List ℕ) → is_own p ≡ true → is_own q ≡ true → OwnUrl p t rest → OwnUrl q t other → (p ≡ q) × (rest ≡ other)

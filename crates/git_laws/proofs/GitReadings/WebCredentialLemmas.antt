@@ -94,10 +94,7 @@ information_cut (Some u) (Some w) named first second user password beside free =
 
 -- it is written without byte 0
 information_free : (user password : Option (List ℕ)) → FreeOf 0 (user_information user password)
-information_free None password = refl
-information_free (Some u) None = free-append 0 (percent_encode USER u) (at_sign ∷ []) (encode_free USER u 0 (user_holds 0 (omega arith)) refl) refl
-information_free (Some u) (Some w) =
-    free-append 0 (percent_encode USER u) (colon ∷ (percent_encode PASSWORD w ++ at_sign ∷ [])) (encode_free USER u 0 (user_holds 0 (omega arith)) refl) (free-append 0 (percent_encode PASSWORD w) (at_sign ∷ []) (encode_free PASSWORD w 0 (password_holds 0 (omega arith)) refl) refl)
+information_free user password = grind (arith, nat_tests, free-append, encode_free, user_holds, password_holds)
 
 -- ---- hosts and ports
 
@@ -134,10 +131,7 @@ trimmed_lacks test (b ∷ t) h =
 
 -- so a path is of one line, if it has no control
 trimmed_line : (t : List ℕ) → Lacks is_control t → IfSome (trimmed_path t) IsOneLine
-trimmed_line [] h = tt
-trimmed_line (b ∷ t) h =
-    let parts = lacks_head_tail is_control b t h in
-    one_line (b ∷ without_last_slashes t) (lacks-cons is_control b (without_last_slashes t) parts.0 (trimmed_lacks is_control t parts.1))
+trimmed_line t h1 = grind (arith, nat_tests, lacks_head_tail, one_line, lacks-cons, trimmed_lacks)
 
 -- what stands behind the one `/` of a written path
 record IsRootedPath (path written : List ℕ) : Type 0 where
@@ -148,26 +142,11 @@ record IsRootedPath (path written : List ℕ) : Type 0 where
 
 -- a second `/` would be decoded to one
 one_root : (rest : List ℕ) → begins_with_slashes (slash ∷ percent_decode rest) ≡ false → begins_with slash rest ≡ false
-one_root [] single = refl
-one_root (b ∷ rest) single =
-    elim (cases_Bool (b == slash)) [
-      | inl same ↦
-          let e : percent_decode (b ∷ rest) ≡ b ∷ percent_decode rest = decode_byte b rest (grind (arith, nat_tests)) in
-          absurd (both_ways (b == slash) (subst (λ t. begins_with_slashes (slash ∷ t) ≡ false) e single) same)
-      | inr other ↦ other
-    ]
+one_root rest h1 = grind (arith, nat_tests, cases_Bool, decode_byte, both_ways)
 
 -- so it is with a written path that begins as its path does and is decoded to it
 rooted_path : (path written : List ℕ) → first_byte written ≡ first_byte path → percent_decode written ≡ path → begins_with slash path ≡ true → begins_with_slashes path ≡ false → IsRootedPath path written
-rooted_path path [] front decoded begins single =
-    let (p, e) = begins_cut slash path begins in
-    absurd (false≢true (ap is_some (front ∙ ap first_byte e)))
-rooted_path path (b ∷ rest) front decoded begins single =
-    let (p, e) = begins_cut slash path begins in
-    let first : b ≡ slash = same_Some b slash (front ∙ ap first_byte e) in
-    let joined : b ∷ rest ≡ slash ∷ rest = ap (λ c. c ∷ rest) first in
-    let meant : path ≡ slash ∷ percent_decode rest = sym decoded ∙ ap percent_decode joined ∙ decode_byte slash rest refl in
-    record { rest = rest; joined = joined; decoded = meant; begins = one_root rest (subst (λ t. begins_with_slashes t ≡ false) meant single) }
+rooted_path path written h2 h3 h4 h5 = grind (arith, nat_tests, begins_cut, false≢true, same_Some, decode_byte, one_root)
 
 -- behind a byte a piece is decoded whole where it is with it
 whole_behind : (b : ℕ) (t : List ℕ) → IsDecodedWhole (b ∷ t) → IsDecodedWhole t
@@ -197,10 +176,7 @@ path_lines (b ∷ path) h = trimmed_line path (lacks_head_tail is_control b path
 
 -- no byte 0 is written
 text_zero : (v : Location) (named : List ℕ) → FreeOf 0 (protocol_text v.scheme) → authority_text v ≡ user_information v.user v.password ++ named → FreeOf 0 named → FreeOf 0 (canonical_path v) → FreeOf 0 (canonical_text v)
-text_zero v named scheme written free path =
-    let information = user_information v.user v.password in
-    let authority = subst (λ t. FreeOf 0 t) (sym written) (free-append 0 information named (information_free v.user v.password) free) in
-    subst (λ t. FreeOf 0 t) (sym (canonical_cut v)) (free-append 0 (protocol_text v.scheme) (codes "://" ++ (authority_text v ++ canonical_path v)) scheme (free-append 0 (authority_text v) (canonical_path v) authority path))
+text_zero v named h2 h3 h4 h5 = grind (arith, nat_tests, free-append, information_free, canonical_cut, codes, authority_text)
 
 -- the location's own parts are of one line
 own_lines : (v : Location) (host : List ℕ) → IsOneLine (protocol_text v.scheme) → AgreesOverWeb v → Lacks is_odd (host ++ port_part v.port) → AreOneLine (own_credential v host)

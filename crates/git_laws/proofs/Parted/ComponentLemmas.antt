@@ -69,18 +69,11 @@ meant_not_percent b other = grind (arith, nat_tests)
 
 -- an escape decodes to its byte, before spaces
 spaces_escaped : (b : ℕ) (bs : List ℕ) → b < 256 → should_percent_encode PATH b ≡ true → percent_decode (with_spaces (percent_encode PATH (b ∷ bs))) ≡ b ∷ percent_decode (with_spaces (percent_encode PATH bs))
-spaces_escaped b bs small escaped =
-    let rest = percent_encode PATH bs in
-    ap (λ t. percent_decode (with_spaces t)) (percent_encode_escaped PATH b bs escaped)
-    ∙ ap percent_decode (map-append (λ c. if c == plus_sign then space else c) (percent_encode_byte b) rest)
-    ∙ ap (λ t. percent_decode (t ++ with_spaces rest)) (spaces_escape b)
-    ∙ percent_decode-percent_encode_byte b (with_spaces rest) small
+spaces_escaped b bs h2 h3 = grind (arith, nat_tests, percent_encode_escaped, map-append, spaces_escape, percent_decode-percent_encode_byte)
 
 -- a byte that is kept decodes to what it stands for
 spaces_kept : (b : ℕ) (bs : List ℕ) → should_percent_encode PATH b ≡ false → percent_decode (with_spaces (percent_encode PATH (b ∷ bs))) ≡ (if b == plus_sign then space else b) ∷ percent_decode (with_spaces (percent_encode PATH bs))
-spaces_kept b bs kept =
-    ap (λ t. percent_decode (with_spaces t)) (percent_encode_kept PATH b bs kept)
-    ∙ decode_byte (if b == plus_sign then space else b) (with_spaces (percent_encode PATH bs)) (meant_not_percent b (kept_not_percent b kept))
+spaces_kept b bs h2 = grind (arith, nat_tests, percent_encode_kept, decode_byte, meant_not_percent, kept_not_percent)
 
 -- decoding undoes the encoding of a path, where both have spaces for `+`
 spaces_decoded : (t : List ℕ) → IsBytes t → percent_decode (with_spaces (percent_encode PATH t)) ≡ with_spaces t
@@ -111,10 +104,7 @@ bytes_off c t front (Some x) small (free, e) = bytes_around c front x (subst IsB
 
 -- the pieces of a path are made of bytes where it is
 bytes_cut : (t front : List ℕ) (query fragment : Option (List ℕ)) → IsBytes t → CutsPath t front query fragment → IsBytes front × IfSome query IsBytes × IfSome fragment IsBytes
-bytes_cut t front query fragment small (middle, first, second) =
-    let outer = bytes_off number_sign t middle fragment small first in
-    let inner = bytes_off question_mark middle front query outer.0 second in
-    (inner.0, inner.1, outer.1)
+bytes_cut t front query fragment h4 h5 = grind (arith, nat_tests, bytes_off)
 
 -- the fields of a text are made of bytes where it is
 bytes_fields : (fields : List (List ℕ)) → IsBytes (join_with_byte ampersand fields) → All IsBytes fields
@@ -126,9 +116,7 @@ bytes_fields (t ∷ u ∷ us) small =
 
 -- name and value of a field are made of bytes where it is
 bytes_split : (field name value : List ℕ) → IsBytes field → SplitsField field name value → IsBytes name × IsBytes value
-bytes_split field name value small (SplitsField.name_alone free e j) =
-    (subst IsBytes (sym e) small, subst IsBytes (sym j) (All-nil (λ b. b < 256)))
-bytes_split field name value small (SplitsField.with_value free e) = bytes_around equals_sign name value (subst IsBytes e small)
+bytes_split field name value h3 h4 = grind (arith, nat_tests, All-nil, bytes_around)
 
 -- ---- writings
 
@@ -274,10 +262,7 @@ fields_back f (g ∷ k ∷ ks) t way each e =
 
 -- name and value of a field are written as those of what is written
 split_written : (f : List ℕ → List ℕ) (field name value : List ℕ) → IsWay f → SplitsField field name value → SplitsField (f field) (f name) (f value)
-split_written f field name value way (SplitsField.name_alone free e j) =
-    SplitsField.name_alone (way.free equals_sign field equals_sign_mark free) (ap f e) (ap f j ∙ way.nil)
-split_written f field name value way (SplitsField.with_value free e) =
-    SplitsField.with_value (way.free equals_sign name equals_sign_mark free) (ap f e ∙ way.around equals_sign name value equals_sign_mark)
+split_written f field name value h4 h5 = grind (arith, nat_tests, equals_sign_mark)
 
 -- name and value of what is written are written of those of the field
 split_back : (f : List ℕ → List ℕ) (field name value : List ℕ) → IsWay f → SplitsField (f field) name value → (first : List ℕ) × (second : List ℕ) × (name ≡ f first) × (value ≡ f second) × SplitsField field first second
@@ -405,35 +390,15 @@ unmatched (Some s) path other h = cond-false _ _ _ h
 
 -- where the spelling matches, it is read again
 spelled_again : (v : Location) → IsWeb v → HasFairSpelling v → matches v.spelling v.path ≡ true → retained_spelling (canonical_path v) ≡ v.spelling
-spelled_again v web fair h =
-    let (s, is, decoded, chosen) = matched v.spelling v.path (percent_encode PATH v.path) h in
-    ap retained_spelling (web_path v web ∙ chosen) ∙ cond-true _ _ _ (fair s is decoded).escaped ∙ sym is
+spelled_again v h1 h2 h3 = grind (arith, nat_tests, matched, web_path, cond-true)
 
 -- where no spelling matches and the encoding of the path is read as one, it is the encoding of the path
 encoded_rewritten : (v : Location) → IsUtf8 v.path → matches v.spelling v.path ≡ false → IsRewritten (λ x. percent_encode PATH x) v (spelled_as v (Some (percent_encode PATH v.path)))
-encoded_rewritten v text h =
-    let read = percent_encode PATH v.path in
-    let original : original_path v ≡ v.path = unmatched v.spelling v.path v.path h in
-    let matching : matches (Some read) v.path ≡ true = (bytes_eq-Decides (percent_decode read) v.path).1 (decode_encode_utf8 PATH v.path refl text) in
-    record {
-      way = path_way;
-      bytes = subst IsBytes (sym original) (bytes_from_utf8 v.path text);
-      original = cond-true _ _ _ matching ∙ ap (λ x. percent_encode PATH x) (sym original);
-      meant = λ x small. cond-true _ _ _ matching ∙ round_trip PATH x refl small ∙ sym (cond-false _ _ _ h);
-      term = λ x small. cond-true _ _ _ matching ∙ spaces_decoded x small ∙ sym (cond-false _ _ _ h);
-    }
+encoded_rewritten v h1 h2 = grind (arith, nat_tests, unmatched, bytes_eq-Decides, decode_encode_utf8, path_way, bytes_from_utf8, cond-true, round_trip, cond-false, spaces_decoded)
 
 -- where no spelling matches and none is read, the path stays
 plain_rewritten : (v : Location) → IsUtf8 v.path → matches v.spelling v.path ≡ false → IsRewritten (λ x. x) v (spelled_as v None)
-plain_rewritten v text h =
-    let original : original_path v ≡ v.path = unmatched v.spelling v.path v.path h in
-    record {
-      way = same_way;
-      bytes = subst IsBytes (sym original) (bytes_from_utf8 v.path text);
-      original = sym original;
-      meant = λ x small. sym (cond-false _ _ _ h);
-      term = λ x small. sym (cond-false _ _ _ h);
-    }
+plain_rewritten v h1 h2 = grind (arith, nat_tests, unmatched, same_way, bytes_from_utf8, cond-false)
 
 -- the components with the spelling that is read of the encoded path
 retained_parts : (v : Location) (b : Bool) (components : Components) → IsUtf8 v.path → matches v.spelling v.path ≡ false → WebParts (spelled_as v (if b then Some (percent_encode PATH v.path) else None)) components ↔ WebParts v components

@@ -1,5 +1,6 @@
 -- Every location has components, and no two: a text determines its pieces, and each text has some.
-use Rattle.std.proofs.Common.{◌≡◌, ◌∙◌, ℕ, ◌==◌, inl, inr, List, [], ◌∷◌, Option, Some, None, option_map, All, refl, sym, ap, subst}
+use Rattle.std.proofs.Common.{◌≡◌, ◌∙◌, ℕ, ◌==◌, inl, inr, List, [], ◌∷◌, Option, Some, None, option_map, All, refl, sym, ap, subst, arith}
+use Rattle.std.proofs.lemmas.Bool.Decides.{nat_tests}
 use Rattle.std.specs.List.{join_with_byte}
 use Rattle.std.proofs.lemmas.List.Elements.{All-nil, All-cons, All-head, All-tail}
 use Rattle.std.proofs.lemmas.Bool.{cases_Bool, eqb-true}
@@ -16,12 +17,7 @@ use Rattle.git_syntax.proofs.Texts.CutLemmas.{cut_unique, free_or_cut, not_free,
 
 -- the parts of a text around its first c are determined
 off_unique : (c : ℕ) (text f g : List ℕ) (p q : Option (List ℕ)) → CutsText c text f p → CutsText c text g q → (f ≡ g) × (p ≡ q)
-off_unique c text f g None None h k = (h.1 ∙ sym k.1, refl)
-off_unique c text f g None (Some y) h k = absurd (not_free c g y (subst (FreeOf c) k.1 h.0))
-off_unique c text f g (Some x) None h k = absurd (not_free c f x (subst (FreeOf c) h.1 k.0))
-off_unique c text f g (Some x) (Some y) h k =
-    let both = cut_unique c f g x y h.0 k.0 (sym h.1 ∙ k.1) in
-    (both.0, ap Some both.1)
+off_unique c text f g p q h6 h7 = grind (arith, nat_tests, not_free, cut_unique)
 
 -- and each text has them
 off_some : (c : ℕ) (text : List ℕ) → (front : List ℕ) × (behind : Option (List ℕ)) × CutsText c text front behind
@@ -29,10 +25,7 @@ off_some c text = elim (free_or_cut c text) [ inl none ↦ (text, None, (none, r
 
 -- the path, the query and the fragment of a text are determined
 pub path_unique : (text f g : List ℕ) (p q r s : Option (List ℕ)) → CutsPath text f p r → CutsPath text g q s → (f ≡ g) × (p ≡ q) × (r ≡ s)
-path_unique text f g p q r s (a, first, second) (b, third, fourth) =
-    let (middle, fragment) = off_unique number_sign text a b r s first third in
-    let (front, query) = off_unique question_mark b f g p q (subst (λ m. CutsText question_mark m f p) middle second) fourth in
-    (front, query, fragment)
+path_unique text f g p q r s h7 h8 = grind (arith, nat_tests, off_unique)
 
 -- ---- the fields
 
@@ -91,10 +84,7 @@ fields_some (b ∷ bs) =
 
 -- name and value of a field are determined
 split_unique : (field n m x y : List ℕ) → SplitsField field n x → SplitsField field m y → (n ≡ m) × (x ≡ y)
-split_unique field n m x y (SplitsField.name_alone free e j) (SplitsField.name_alone free_2 k l) = (e ∙ sym k, j ∙ sym l)
-split_unique field n m x y (SplitsField.name_alone free e j) (SplitsField.with_value free_2 k) = absurd (not_free equals_sign m y (subst (FreeOf equals_sign) k free))
-split_unique field n m x y (SplitsField.with_value free e) (SplitsField.name_alone free_2 k l) = absurd (not_free equals_sign n x (subst (FreeOf equals_sign) e free_2))
-split_unique field n m x y (SplitsField.with_value free e) (SplitsField.with_value free_2 k) = cut_unique equals_sign n m x y free free_2 (sym e ∙ k)
+split_unique field n m x y h5 h6 = grind (arith, nat_tests, not_free, cut_unique)
 
 -- and each field has them
 split_some : (field : List ℕ) → (name : List ℕ) × (value : List ℕ) × SplitsField field name value
@@ -174,9 +164,7 @@ web_some v =
 
 -- so has each location, by its protocol
 by_unique : (p : Protocol) (v : Location) (x y : Components) → PartsBy p v x → PartsBy p v y → x ≡ y
-by_unique http v x y h k = web_unique v x y h k
-by_unique https v x y h k = web_unique v x y h k
-by_unique _ v x y h k = h ∙ sym k
+by_unique p v x y h4 h5 = grind (arith, nat_tests, web_unique)
 
 by_some : (p : Protocol) (v : Location) → (components : Components) × PartsBy p v components
 by_some http v = web_some v

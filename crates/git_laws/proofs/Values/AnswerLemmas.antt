@@ -1,5 +1,6 @@
 -- The answer to a line is one line: what is told of a line without byte 10 holds none.
 use Rattle.std.proofs.Common.{◌≡◌, ℕ, ◌<◌, ◌==◌, Bool, false, not, ◌⊎◌, inl, inr, ⊎_elim, List, [], ◌∷◌, ◌++◌, append_assoc, append-nil, All, Option, Some, None, IfSome, IsUtf8, Ok, codes, refl, sym, ap, subst, ◌∙◌, arith}
+use Rattle.std.proofs.lemmas.Bool.Decides.{nat_tests}
 use Rattle.std.specs.Prelude.{◌&&◌}
 use Rattle.std.proofs.lemmas.Bool.{and_left, both_ways, cases_Bool, cond-true, cond-false, false≢true}
 use Rattle.std.proofs.lemmas.List.Elements.{All-append, All-cons, All-head, All-nil, All-tail}
@@ -44,20 +45,11 @@ use Rattle.git_location.proofs.Written.WrittenAsUrlLemmas.{one_text, written_web
 
 -- user information is written without a line's end
 user_line : (user password : Option (List ℕ)) → FreeOf newline (user_information user password)
-user_line None password = refl
-user_line (Some user) None =
-    free-append newline (percent_encode USER user) (at_sign ∷ []) (encode_free USER user newline (user_holds newline (omega arith)) refl) refl
-user_line (Some user) (Some password) =
-    free-append newline (percent_encode USER user) (colon ∷ (percent_encode PASSWORD password ++ at_sign ∷ [])) (encode_free USER user newline (user_holds newline (omega arith)) refl)
-    (free-cons newline colon (percent_encode PASSWORD password ++ at_sign ∷ []) refl
-    (free-append newline (percent_encode PASSWORD password) (at_sign ∷ []) (encode_free PASSWORD password newline (password_holds newline (omega arith)) refl) refl))
+user_line user password = grind (arith, nat_tests, free-append, encode_free, user_holds, free-cons, password_holds)
 
 -- so is a host that is escaped
 open_line : (p : Protocol) (host : List ℕ) → keeps_host p ≡ false → FreeOf newline (open_host p host)
-open_line p host escapes = ⊎_elim
-    (λ is. subst (λ t. FreeOf newline t) (sym (cond-false _ _ _ escapes ∙ cond-true _ _ _ is)) (encode_free PASSWORD host newline (password_holds newline (omega arith)) refl))
-    (λ other. subst (λ t. FreeOf newline t) (sym (cond-false _ _ _ escapes ∙ cond-false _ _ _ other)) (encode_free USER host newline (user_holds newline (omega arith)) refl))
-    (cases_Bool (is_ipv6_text host))
+open_line p host h2 = grind (arith, nat_tests, cond-false, cond-true, encode_free, password_holds, user_holds, cases_Bool)
 
 -- brackets hold no line's end where neither what they enclose nor what follows does
 bracketed_line : (inner rest : List ℕ) → FreeOf newline inner → FreeOf newline rest → FreeOf newline (left_bracket ∷ (inner ++ right_bracket ∷ rest))
@@ -66,22 +58,14 @@ bracketed_line inner rest free behind =
 
 -- a host without one is written without one
 unmarked_line : (p : Protocol) (host : List ℕ) → FreeOf newline host → FreeOf newline (open_host p host)
-unmarked_line p host free = ⊎_elim
-    (λ kept. subst (λ t. FreeOf newline t) (sym (cond-true _ _ _ kept)) free)
-    (λ escapes. open_line p host escapes)
-    (cases_Bool (keeps_host p))
+unmarked_line p host h2 = grind (arith, nat_tests, cond-true, open_line, cases_Bool)
 
 host_line : (v : Location) (host : List ℕ) → FreeOf newline host → FreeOf newline (canonical_host v host)
-host_line v host free = ⊎_elim
-    (λ marked. subst (λ t. FreeOf newline t) (sym (cond-true _ _ _ marked)) (bracketed_line (escaped_percents host) [] (lacks_escaped_percents (λ b. b == newline) host refl refl refl free) refl))
-    (λ unmarked. subst (λ t. FreeOf newline t) (sym (cond-false _ _ _ unmarked)) (unmarked_line v.scheme host free))
-    (cases_Bool (needs_brackets v.port host))
+host_line v host h2 = grind (arith, nat_tests, cond-true, bracketed_line, lacks_escaped_percents, cond-false, unmarked_line, cases_Bool)
 
 -- a name is escaped
 name_line : (v : Location) (host : List ℕ) → keeps_host v.scheme ≡ false → IsNormalName host → FreeOf newline (canonical_host v host)
-name_line v host escapes name =
-    let unmarked : needs_brackets v.port host ≡ false = and_left _ _ (and_left _ _ name.unbracketed.no_colon) in
-    subst (λ t. FreeOf newline t) (sym (cond-false _ _ _ unmarked)) (open_line v.scheme host escapes)
+name_line v host h2 h3 = grind (arith, nat_tests, and_left, cond-false, open_line)
 
 -- a settled host of Secure Shell is written without a line's end
 bare_line : (v : Location) (host : List ℕ) → keeps_host v.scheme ≡ false → IsBareHost host → FreeOf newline (canonical_host v host)
@@ -90,16 +74,11 @@ bare_line v host escapes (inr is) = host_line v host (address_free newline host 
 
 -- so is one of Git's own protocol or of another scheme
 part_line : (v : Location) (host : Option (List ℕ)) → keeps_host v.scheme ≡ false → IfSome host IsBracketedHost → FreeOf newline (host_part v host)
-part_line v None escapes h = refl
-part_line v (Some host) escapes (inl name) = name_line v host escapes name
-part_line v (Some host) escapes (inr (a, is, e)) =
-    host_line v host (subst (λ t. FreeOf newline t) (sym e) (bracketed_line a [] (address_free newline a refl is.address) refl))
+part_line v host h2 h3 = grind (arith, nat_tests, name_line, host_line, bracketed_line, address_free)
 
 -- a literal holds none
 literal_line : (t n : List ℕ) → Literal t n → FreeOf newline t
-literal_line t n (address h e) = address_free newline t refl h
-literal_line t n (zoned a z h zone e k) =
-    subst (λ x. FreeOf newline x) (sym e) (free-append newline a (codes "%25" ++ z) (address_free newline a refl h) (free-append newline (codes "%25") z refl (free_of_all is_zone_byte newline z zone.bytes refl)))
+literal_line t n h2 = grind (arith, nat_tests, address_free, free-append, codes, free_of_all)
 
 -- nor does a settled host of HTTP
 web_line : (port : Option ℕ) (host : List ℕ) → IsWebHost port host → FreeOf newline host
@@ -118,15 +97,7 @@ number_port mode digits n number = let within = number.within in omega arith
 
 -- so is one that is named
 named_port : (mode : Mode) (piece : List ℕ) (host : Option (List ℕ)) (port : Option ℕ) → Names mode piece host port → IsPort port
-named_port mode piece host port (Names.nothing e h p) = subst IsPort (sym p) tt
-named_port mode piece host port (Names.bracketed x i f s e h p) = subst IsPort (sym p) tt
-named_port mode piece host port (Names.bracketed_colon x i f s e h p) = subst IsPort (sym p) tt
-named_port mode piece host port (Names.bracketed_port x i d n f s number e h p) = subst IsPort (sym p) (number_port mode d n number)
-named_port mode piece host port (Names.unbracketed a h p) = subst IsPort (sym p) tt
-named_port mode piece host port (Names.plain n i t h p) = subst IsPort (sym p) tt
-named_port mode piece host port (Names.plain_colon t n i s e h p) = subst IsPort (sym p) tt
-named_port mode piece host port (Names.plain_port t x d n i s number e h p) = subst IsPort (sym p) (number_port mode d n number)
-named_port mode piece host port (Names.colons n s a b m t h p) = subst IsPort (sym p) tt
+named_port mode piece host port h4 = grind (arith, nat_tests, number_port)
 
 -- and that of an authority
 authority_port : (mode : Mode) (b : List ℕ) (user password host : Option (List ℕ)) (port : Option ℕ) → Authority mode b user password host port → IsPort port
@@ -135,18 +106,13 @@ authority_port mode b user password host port (with_user information piece free 
 
 -- a port is written without a line's end
 port_line : (port : Option ℕ) → IsPort port → FreeOf newline (port_part port)
-port_line port small =
-    let written = (port_piece port small).piece.escaped in
-    no_line (port_part port) written.text written.no_white_space
+port_line port h1 = grind (arith, nat_tests, port_piece, no_line)
 
 -- ---- a path
 
 -- the root before a path holds no line's end
 root_line : (v : Location) → FreeOf newline (root_part v)
-root_line v = ⊎_elim
-    (λ rooted. subst (λ t. FreeOf newline t) (sym (cond-true _ _ _ rooted)) refl)
-    (λ other. subst (λ t. FreeOf newline t) (sym (cond-false _ _ _ other)) refl)
-    (cases_Bool (requires_path v.scheme && not (begins_with slash v.path)))
+root_line v = grind (arith, nat_tests, cond-true, cond-false, cases_Bool, not)
 
 -- so the path of a settled URL is written without one
 path_line : (v : Location) → IsSettledUrl v → (¬ HasMatch v → FreeOf newline (plain_path v.scheme v.path)) → FreeOf newline (canonical_path v)
@@ -229,43 +195,23 @@ unless_empty_line v (b ∷ bs) free = host_line v (b ∷ bs) free
 
 -- a file URL is written without a line's end where it was read without one
 file_line : (b : List ℕ) (v : Location) (t : List ℕ) → FreeOf newline b → SpellsFile b v → text v ≡ Ok t → FreeOf newline t
-file_line b v t free h is =
-    let behind = (free_parts newline (codes "file://") (h.host ++ h.path) (subst (λ x. FreeOf newline x) h.joined free)).1 in
-    let (host, path) = free_parts newline h.host h.path behind in
-    let value : Location = record (path_alone file false h.path) { host = unless_empty h.host } in
-    subst (λ x. FreeOf newline x) (one_text (ap (λ l. text l) h.value) is) (free-append newline (codes "file://") (host_part value (unless_empty h.host) ++ h.path) refl (free-append newline (host_part value (unless_empty h.host)) h.path (unless_empty_line value h.host host) path))
+file_line b v t h3 h4 h5 = grind (arith, nat_tests, free_parts, codes, one_text, free-append, unless_empty_line)
 
 -- a path below a home folder holds none where the path that it is read from holds none
 from_home_line : (path : List ℕ) → FreeOf newline path → FreeOf newline (from_home path)
-from_home_line [] free = refl
-from_home_line (a ∷ []) free = free
-from_home_line (a ∷ b ∷ rest) free = ⊎_elim
-    (λ home. subst (λ t. FreeOf newline t) (sym (cond-true _ _ _ home)) (free_head_tail newline a (b ∷ rest) free).1)
-    (λ other. subst (λ t. FreeOf newline t) (sym (cond-false _ _ _ other)) free)
-    (cases_Bool ((a == slash) && (b == tilde)))
+from_home_line path h1 = grind (arith, nat_tests, cond-true, free_head_tail, cond-false, cases_Bool)
 
 -- a raw host
 raw_host_line : (host : List ℕ) → FreeOf newline host → FreeOf newline (raw_host (Some host))
-raw_host_line host free = ⊎_elim
-    (λ wanted. subst (λ t. FreeOf newline t) (sym (cond-true _ _ _ wanted)) (bracketed_line host [] free refl))
-    (λ unwanted. subst (λ t. FreeOf newline t) (sym (cond-false _ _ _ unwanted)) free)
-    (cases_Bool (wants_brackets host))
+raw_host_line host h1 = grind (arith, nat_tests, cond-true, bracketed_line, cond-false, cases_Bool)
 
 -- a location in the scp form is written without a line's end where its parts hold none
 scp_line : (v : Location) (t : List ℕ) (user : Option (List ℕ)) (host path : List ℕ) → v ≡ scp_location user host path → FreeOf newline (raw_user user) → FreeOf newline host → FreeOf newline path → text v ≡ Ok t → FreeOf newline t
-scp_line v t user host path value user_free host_free path_free is =
-    let written = ap (λ l. text l) value ∙ scp_written user host (from_home path) None in
-    subst (λ x. FreeOf newline x) (one_text written is)
-    (free-append newline (raw_user user) (raw_host (Some host) ++ colon ∷ from_home path) user_free
-    (free-append newline (raw_host (Some host)) (colon ∷ from_home path) (raw_host_line host host_free)
-    (free-cons newline colon (from_home path) refl (from_home_line path path_free))))
+scp_line v t user host path h5 h6 h7 h8 h9 = grind (arith, nat_tests, scp_written, one_text, free-append, raw_host_line, free-cons, from_home_line)
 
 -- the user in a front without a line's end holds none
 scp_user_line : (front : List ℕ) (user : Option (List ℕ)) (host : List ℕ) → ScpUser front user host → FreeOf newline front → FreeOf newline (raw_user user)
-scp_user_line front user host (ScpUser.host_alone e k) free = subst (λ o. FreeOf newline (raw_user o)) (sym k) refl
-scp_user_line front user host (ScpUser.with_user u e k) free =
-    let held = (free_parts newline u (at_sign ∷ host) (subst (λ x. FreeOf newline x) e free)).0 in
-    subst (λ o. FreeOf newline (raw_user o)) (sym k) (free-append newline u (at_sign ∷ []) held refl)
+scp_user_line front user host h3 h4 = grind (arith, nat_tests, free_parts, free-append)
 
 -- a settled host of the scp form holds none
 scp_host_line : (host : List ℕ) → IsUtf8 host → IsScpName host ⊎ IsNormalAddress host → FreeOf newline host
@@ -273,10 +219,7 @@ scp_host_line host is (inl name) = no_line host is name.no_white_space
 scp_host_line host is (inr h) = address_free newline host refl h.address
 
 settled_host_line : (user : Option (List ℕ)) (host path : List ℕ) → IsUtf8 host → IsSettled (scp_location user host path) → FreeOf newline host
-settled_host_line user host path is (inl h) =
-    let (x, e, kind, other) = h.host in
-    scp_host_line host is (subst (λ y. IsScpName y ⊎ IsNormalAddress y) (sym (same_Some host x e)) kind)
-settled_host_line user host path is (inr h) = absurd (false≢true (sym h.url.common.unflagged))
+settled_host_line user host path h3 h4 = grind (arith, nat_tests, scp_host_line, same_Some, false≢true)
 
 -- the scp form, but for `user@[address]:path`
 scp_before_line : (b : List ℕ) (v : Location) (t : List ℕ) → FreeOf newline b → SpellsScpBefore b v → IsSettled v → text v ≡ Ok t → FreeOf newline t
@@ -326,17 +269,10 @@ scheme_line b v (Spells.local_path h) = subst HasSchemeLine (sym (ap (λ (l : Lo
 
 -- the names of refusals hold none
 fault_line : (f : UrlFault) → FreeOf newline (codes "BadUrl " ++ fault_name f)
-fault_line fault.NoScheme = refl
-fault_line fault.BadPort = refl
-fault_line fault.BadCharacter = refl
-fault_line fault.HostRequired = refl
+fault_line f = grind (arith, nat_tests)
 
 refusal_line : (r : Refusal) → FreeOf newline (refusal_name r)
-refusal_line refusal.EmptyLocal = refl
-refusal_line (refusal.MissingPath kind at) = refl
-refusal_line (refusal.NotUtf8 kind at) = refl
-refusal_line (refusal.TooLong shown total at len) = refl
-refusal_line (refusal.BadUrl kind f at len) = fault_line f
+refusal_line r = grind (arith, nat_tests, fault_line)
 
 -- ---- answers
 

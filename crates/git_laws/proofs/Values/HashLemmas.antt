@@ -73,22 +73,4 @@ protocols_apart p q e = grind arith
 
 -- the same of locations
 pub locations_apart : (v w : Location) → IsValue v → IsValue w → fed_location v ≡ fed_location w → v ≡ w
-locations_apart v w hv hw e =
-    let front = outlines_apart v w _ _ e in
-    let scheme = protocol_apart v.scheme w.scheme _ _ front.scheme front.rest in
-    let user = part_apart fed.str v.user w.user _ _ text_apart front.user scheme.rest in
-    let password = part_apart fed.str v.password w.password _ _ text_apart front.password user.rest in
-    let host = part_apart fed.str v.host w.host _ _ text_apart front.host password.rest in
-    let port = port_apart v.port w.port _ _ hv.port hw.port front.port host.rest in
-    let path = bytes_apart v.path w.path _ _ port.rest in
-    let spelling = part_apart fed_bytes v.spelling w.spelling [] [] bytes_apart front.spelling (ap (λ ws. ws ++ []) path.rest) in
-    λ i. record {
-      scheme = scheme.part i;
-      user = user.part i;
-      password = password.part i;
-      host = host.part i;
-      flag = flag_apart v.flag w.flag front.flag i;
-      port = port.part i;
-      path = path.part i;
-      spelling = spelling.part i;
-    }
+locations_apart v w h2 h3 h4 = grind (arith, nat_tests, outlines_apart, protocol_apart, part_apart, text_apart, port_apart, bytes_apart, flag_apart)

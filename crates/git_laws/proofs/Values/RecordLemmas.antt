@@ -24,36 +24,23 @@ use Rattle.git_syntax.proofs.Texts.EscapeLemmas.{decode_byte, decode_escape, dec
 -- the code's set and the test escape the same bytes
 pub escaped_alike : (b : ℕ) → should_percent_encode PATH b ≡ (is_path_escaped b || nat_lt 127 b)
 unfolding should_percent_encode
-escaped_alike b = ⊎_elim
-    (λ (ascii : nat_lt b 128 ≡ true). let held : contains PATH b ≡ is_path_escaped b = path_holds b (grind (arith, nat_tests)) in rw held (grind (arith, nat_tests)))
-    (λ (past : nat_lt b 128 ≡ false). grind (arith, nat_tests))
-    (cases_Bool (nat_lt b 128))
+escaped_alike b = grind (arith, nat_tests, nat_lt, path_holds, cases_Bool)
 
 -- a byte by itself is written as the code's set has it
 written_alone : (b : ℕ) → written_in_path b ≡ percent_encode PATH (b ∷ [])
-written_alone b = ⊎_elim
-    (λ escaped. cond-true _ _ _ (sym (escaped_alike b) ∙ escaped) ∙ sym (percent_encode_escaped PATH b [] escaped ∙ ap (λ t. percent_encode_byte b ++ t) (percent_encode-nil PATH) ∙ append-nil _))
-    (λ kept. cond-false _ _ _ (sym (escaped_alike b) ∙ kept) ∙ sym (percent_encode_kept PATH b [] kept ∙ ap (λ t. b ∷ t) (percent_encode-nil PATH)))
-    (cases_Bool (should_percent_encode PATH b))
+written_alone b = grind (arith, nat_tests, cond-true, escaped_alike, percent_encode_escaped, percent_encode-nil, append-nil, cond-false, percent_encode_kept, cases_Bool)
 
 -- a byte that is written by itself is read back, whatever follows
 written_back : (b : ℕ) (rest : List ℕ) → b < 256 → percent_decode (written_in_path b ++ rest) ≡ b ∷ percent_decode rest
-written_back b rest small =
-    let back = round_trip PATH (b ∷ []) refl (All-cons (λ c. c < 256) b [] small (All-nil (λ c. c < 256))) in
-    ap (λ t. percent_decode (t ++ rest)) (written_alone b) ∙ decodes_in_parts (percent_encode PATH (b ∷ [])) rest (encode_sound PATH (b ∷ []) refl) ∙ ap (λ t. t ++ percent_decode rest) back
+written_back b rest h2 = grind (arith, nat_tests, round_trip, All-cons, All-nil, written_alone, decodes_in_parts, encode_sound)
 
 -- a byte that begins no escape stays
 byte_kept : (b : ℕ) (behind : List ℕ) → begins_escape b behind ≡ false → percent_decode (b ∷ behind) ≡ b ∷ percent_decode behind
-byte_kept b behind none = ⊎_elim
-    (λ percent. decode_broken b behind (rw percent at none))
-    (λ kept. decode_byte b behind kept)
-    (cases_Bool (b == 37))
+byte_kept b behind h2 = grind (arith, nat_tests, decode_broken, decode_byte, cases_Bool)
 
 -- a hexadecimal digit is written as it is, and begins no escape
 digit_written : (d : ℕ) → is_digit d 16 ≡ true → written_in_path d ≡ d ∷ []
-digit_written d digit =
-    let outside : (is_path_escaped d || nat_lt 127 d) ≡ false = grind (arith, nat_tests) in
-    cond-false _ _ _ outside
+digit_written d h1 = grind (arith, nat_tests, nat_lt, cond-false)
 
 digit_begins_none : (d : ℕ) (behind : List ℕ) → is_digit d 16 ≡ true → begins_escape d behind ≡ false
 digit_begins_none d behind digit = let kept : (d == 37) ≡ false = grind (arith, nat_tests) in rw kept refl
@@ -74,20 +61,11 @@ respelled_digit d path digit = respelled_other d path (digit_begins_none d path 
 
 -- so an escape stays
 respelled_escape : (high low : ℕ) (path : List ℕ) → is_digit high 16 ≡ true → is_digit low 16 ≡ true → new_spelling (percent_sign ∷ high ∷ low ∷ path) ≡ percent_sign ∷ high ∷ low ∷ new_spelling path
-respelled_escape high low path h l =
-    respelled_begin percent_sign (high ∷ low ∷ path) (and_from _ _ h l)
-    ∙ ap (λ t. percent_sign ∷ t) (respelled_digit high (low ∷ path) h ∙ ap (λ t. high ∷ t) (respelled_digit low path l))
+respelled_escape high low path h3 h4 = grind (arith, nat_tests, respelled_begin, and_from, respelled_digit)
 
 -- the front of a new spelling that has the byte as it is
 front_itself : (b : ℕ) (path behind front rest : List ℕ) → path ≡ b ∷ behind → front ≡ take 1 path → rest ≡ drop 1 path → new_spelling (b ∷ behind) ≡ b ∷ new_spelling behind → SpellsFront path front rest
-front_itself b path behind front rest whole first last spelled =
-    let one : front ≡ b ∷ [] = first ∙ ap (λ t. take 1 t) whole in
-    let others : rest ≡ behind = last ∙ ap (λ t. drop 1 t) whole in
-    record {
-      spelled = ap new_spelling whole ∙ spelled ∙ sym (ap (λ t. t ++ new_spelling rest) one ∙ ap (λ t. b ∷ new_spelling t) others);
-      shorter = omega (arith, ap length whole, ap length others);
-      short = omega (arith, ap length one);
-    }
+front_itself b path behind front rest h5 h6 h7 h8 = grind (arith, nat_tests, take, drop, length)
 
 -- a byte that begins an escape stands there
 pub front_begins : (b : ℕ) (path behind front rest : List ℕ) → path ≡ b ∷ behind → front ≡ take 1 path → rest ≡ drop 1 path → begins_escape b behind ≡ true → SpellsFront path front rest
@@ -95,9 +73,7 @@ front_begins b path behind front rest whole first last begins = front_itself b p
 
 -- so does a byte that a path is written with
 pub front_kept : (b : ℕ) (path behind front rest : List ℕ) → path ≡ b ∷ behind → front ≡ take 1 path → rest ≡ drop 1 path → begins_escape b behind ≡ false → should_percent_encode PATH b ≡ false → SpellsFront path front rest
-front_kept b path behind front rest whole first last none kept =
-    let itself : written_in_path b ≡ b ∷ [] = cond-false _ _ _ (sym (escaped_alike b) ∙ kept) in
-    front_itself b path behind front rest whole first last (respelled_other b behind none ∙ ap (λ t. t ++ new_spelling behind) itself)
+front_kept b path behind front rest h5 h6 h7 h8 h9 = grind (arith, nat_tests, cond-false, escaped_alike, front_itself, respelled_other)
 
 three_bytes : (b : ℕ) → length (percent_encode_byte b) ≤ 3
 unfolding percent_encode_byte
@@ -105,13 +81,7 @@ three_bytes b = omega arith
 
 -- any other byte has its escape there
 pub front_escaped : (b : ℕ) (path behind front : List ℕ) → path ≡ b ∷ behind → front ≡ percent_encode_byte b → begins_escape b behind ≡ false → should_percent_encode PATH b ≡ true → SpellsFront path front behind
-front_escaped b path behind front whole digits none escaped =
-    let written : written_in_path b ≡ front = cond-true _ _ _ (sym (escaped_alike b) ∙ escaped) ∙ sym digits in
-    record {
-      spelled = ap new_spelling whole ∙ respelled_other b behind none ∙ ap (λ t. t ++ new_spelling behind) written;
-      shorter = omega (arith, ap length whole);
-      short = omega (arith, ap length digits, three_bytes b);
-    }
+front_escaped b path behind front h4 h5 h6 h7 = grind (arith, nat_tests, cond-true, escaped_alike, respelled_other, length, three_bytes)
 
 -- one byte more, and one escape more
 byte_more : (b : ℕ) (path : List ℕ) → begins_escape b path ≡ false → Respells path (new_spelling path) → Respells (b ∷ path) (new_spelling (b ∷ path))
@@ -165,16 +135,10 @@ keeps_meaning path spelling small (other b rest written none r) =
 -- an escape that is written stays, and so does a byte that a path is written with
 escape_stays : (b : ℕ) (spelling : List ℕ) → new_spelling spelling ≡ spelling → new_spelling (percent_encode_byte b ++ spelling) ≡ percent_encode_byte b ++ spelling
 unfolding percent_encode_byte
-escape_stays b spelling rest =
-    let high = digit_glyph true (b / 16 % 16) in
-    let low = digit_glyph true (b % 16) in
-    respelled_escape high low spelling (glyph_is_digit (b / 16 % 16) (omega arith)) (glyph_is_digit (b % 16) (omega arith)) ∙ ap (λ t. percent_sign ∷ high ∷ low ∷ t) rest
+escape_stays b spelling h2 = grind (arith, nat_tests, respelled_escape, glyph_is_digit)
 
 kept_stays : (b : ℕ) (spelling : List ℕ) → (is_path_escaped b || nat_lt 127 b) ≡ false → new_spelling spelling ≡ spelling → new_spelling (b ∷ spelling) ≡ b ∷ spelling
-kept_stays b spelling kept rest =
-    let no_percent : (b == 37) ≡ false = grind (arith, nat_tests) in
-    let none : begins_escape b spelling ≡ false = rw no_percent refl in
-    respelled_other b spelling none ∙ ap (λ t. t ++ new_spelling spelling) (cond-false _ _ _ kept) ∙ ap (λ t. b ∷ t) rest
+kept_stays b spelling h2 h3 = grind (arith, nat_tests, respelled_other, cond-false)
 
 -- so a byte as it is written stays, whatever follows
 written_stays : (b : ℕ) (spelling : List ℕ) → new_spelling spelling ≡ spelling → new_spelling (written_in_path b ++ spelling) ≡ written_in_path b ++ spelling
@@ -196,10 +160,7 @@ spelling_stays path spelling (other b rest written none r) = written_stays b wri
 
 -- a spelling that is the path makes a record legacy, and one that isn't doesn't
 migrated_same : (spelling : Option (List ℕ)) (v : Location) → spelling ≡ Some v.path → migrated_by spelling v ≡ from_legacy v
-migrated_same None v same = cc
-migrated_same (Some s) v same =
-    let is : s ≡ v.path = cc in
-    cond-true _ _ _ ((bytes_eq-Decides s v.path).1 is)
+migrated_same spelling v h2 = grind (arith, nat_tests, cond-true, bytes_eq-Decides)
 
 unmigrated_by : (same : Bool) (s : List ℕ) (v : Location) → bytes_eq s v.path ≡ same → ¬ (s ≡ v.path) → migrated_by (Some s) v ≡ v
 unmigrated_by true s v e differs = absurd (differs ((bytes_eq-Decides s v.path).0 e))
@@ -226,25 +187,15 @@ migrates v = (
 
 -- a legacy location that was migrated, and looks legacy again, stays
 legacy_stays : (v : Location) → All (λ b. b < 256) v.path → new_spelling v.path ≡ percent_decode v.path → from_legacy (from_legacy v) ≡ from_legacy v
-legacy_stays v small same =
-    let decoded = ap percent_decode (sym same) ∙ keeps_meaning v.path (new_spelling v.path) small (respells v.path) in
-    let spelled = ap new_spelling (sym same) ∙ spelling_stays v.path (new_spelling v.path) (respells v.path) in
-    λ i. record v { path = decoded i; spelling = Some (spelled i) }
+legacy_stays v h1 h2 = grind (arith, nat_tests, keeps_meaning, respells, spelling_stays)
 
 -- a legacy location that was migrated stays, as its new spelling is its new path or isn't
 again_legacy : (v : Location) → All (λ b. b < 256) v.path → migrated (from_legacy v) ≡ from_legacy v
-again_legacy v small = ⊎_elim
-    (λ same. cond-true _ _ _ same ∙ legacy_stays v small ((bytes_eq-Decides (new_spelling v.path) (percent_decode v.path)).0 same))
-    (λ differs. cond-false _ _ _ differs)
-    (cases_Bool (bytes_eq (new_spelling v.path) (percent_decode v.path)))
+again_legacy v h1 = grind (arith, nat_tests, cond-true, legacy_stays, bytes_eq-Decides, cond-false, cases_Bool, bytes_eq)
 
 -- what a record with this spelling stands for stays
 again : (spelling : Option (List ℕ)) (v : Location) → v.spelling ≡ spelling → All (λ b. b < 256) v.path → migrated (migrated v) ≡ migrated v
-again None v is small = ap migrated (unmigrated v (λ same. absurd (cc)))
-again (Some s) v is small = ⊎_elim
-    (λ same. let e = migrated_legacy v (is ∙ ap (λ t. Some t) ((bytes_eq-Decides s v.path).0 same)) in ap migrated e ∙ again_legacy v small ∙ sym e)
-    (λ differs. ap migrated (unmigrated v (λ e. let same : s ≡ v.path = cc in true≢false (sym ((bytes_eq-Decides s v.path).1 same) ∙ differs))))
-    (cases_Bool (bytes_eq s v.path))
+again spelling v h2 h3 = grind (arith, nat_tests, unmigrated, migrated_legacy, bytes_eq-Decides, again_legacy, true≢false, cases_Bool, bytes_eq)
 
 -- what was migrated stays
 pub migrated_once : MigratedOnce

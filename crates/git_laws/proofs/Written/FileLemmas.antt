@@ -1,5 +1,6 @@
 -- File URLs: what is read as one is settled but for one corner, a settled one comes back, and nothing else does.
 use Rattle.std.proofs.Common.{◌≡◌, ℕ, Bool, true, false, not, ◌&&◌, ◌⊎◌, inl, inr, List, [], ◌∷◌, ◌++◌, length, Option, Some, None, Ok, Err, refl, sym, ap, subst, ◌∙◌, arith, codes, lit<, if◌then◌else◌}
+use Rattle.std.proofs.lemmas.Bool.Decides.{nat_tests}
 use Rattle.std.specs.Prelude.{IfSome, IsUtf8, is_some, is_none}
 use Rattle.std.specs.Result.{is_ok}
 use Rattle.std.proofs.lemmas.Bool.{cond-true, cond-false, and_left, and_right, and_parts, not-true, false≢true}
@@ -68,9 +69,7 @@ as_it_is (Some host) = host
 
 -- brackets at the front, no colon or no escape: no brackets are written
 no_brackets_by : (colons bracket percents : Bool) → (bracket ≡ true) ⊎ ((colons ≡ false) ⊎ (percents ≡ false)) → ((colons && not bracket) && percents) ≡ false
-no_brackets_by colons bracket percents (inl front) = and_left _ _ (and_right _ _ (ap not front))
-no_brackets_by colons bracket percents (inr (inl free)) = and_left _ _ (and_left _ _ free)
-no_brackets_by colons bracket percents (inr (inr free)) = and_right _ _ free
+no_brackets_by colons bracket percents h3 = grind (arith, nat_tests, and_left, and_right, not)
 
 -- a settled host is written without them
 no_brackets : (host : List ℕ) → IsFileHost host → needs_brackets None host ≡ false
@@ -83,10 +82,7 @@ host_written (Some host) path spelling h = cond-false _ _ _ (no_brackets host h)
 
 -- the text of a settled file URL holds its host and its path as they are
 settled_text : (host : Option (List ℕ)) (path : List ℕ) (spelling : Option (List ℕ)) → ¬ HasMatch (at_file host path spelling) → IfSome host IsFileHost → text (at_file host path spelling) ≡ Ok (codes "file://" ++ (as_it_is host ++ path))
-settled_text host path spelling apart hosted =
-    file_text host path spelling
-    ∙ ap (λ h. Ok (codes "file://" ++ (h ++ matching_or spelling path path))) (host_written host path spelling hosted)
-    ∙ ap (λ p. Ok (codes "file://" ++ (as_it_is host ++ p))) (unmatched spelling path path apart)
+settled_text host path spelling h3 h4 = grind (arith, nat_tests, file_text, codes, host_written, unmatched)
 
 -- without a host it holds its path alone
 pub hostless_text : (v : Location) → v.scheme ≡ file → IsSettledFile v → v.host ≡ None → text v ≡ Ok (codes "file://" ++ v.path)
@@ -176,9 +172,7 @@ canonical_by v t false e = one_text refl e
 
 -- a location with the scheme of file URLs and without the flag is written as a URL
 file_canonical : (v : Location) (t : List ℕ) → v.scheme ≡ file → v.flag ≡ false → text v ≡ Ok t → canonical_text v ≡ t
-file_canonical v t scheme unflagged e =
-    let chosen : choice v ≡ with_host v canonical_form = ap (λ p. choice_by p v) scheme ∙ cond-false _ _ _ (and_left _ _ unflagged) in
-    canonical_by v t (is_some v.user && is_none v.host) (sym (ap (λ f. in_form f v) chosen) ∙ e)
+file_canonical v t h2 h3 h4 = grind (arith, nat_tests, cond-false, and_left, canonical_by)
 
 -- what stands behind `://` in the text of a URL
 abbrev behind_mark : Location → List ℕ
@@ -186,16 +180,11 @@ behind_mark v = user_information v.user v.password ++ (host_part v v.host ++ (po
 
 -- the text of such a location has the shape of a file URL
 file_shaped : (v : Location) (t : List ℕ) → v.scheme ≡ file → v.flag ≡ false → text v ≡ Ok t → UrlShape t (codes "file") (behind_mark v)
-file_shaped v t scheme unflagged e =
-    let joined : t ≡ codes "file" ++ (url_mark ++ behind_mark v) = sym (file_canonical v t scheme unflagged e) ∙ ap (λ p. protocol_text p ++ (url_mark ++ behind_mark v)) scheme in
-    url_shaped t (codes "file") (behind_mark v) refl joined
+file_shaped v t h2 h3 h4 = grind (arith, nat_tests, codes, file_canonical, url_shaped)
 
 -- a host that needs no brackets is such a host, by the tests of its bytes
 stays_by : (colons bracket percents : Bool) → ((colons && not bracket) && percents) ≡ false → (bracket ≡ true) ⊎ ((colons ≡ false) ⊎ (percents ≡ false))
-stays_by colons true percents e = inl refl
-stays_by false false percents e = inr (inl refl)
-stays_by true false false e = inr (inr refl)
-stays_by true false true e = absurd (false≢true (sym e))
+stays_by colons bracket percents h3 = grind (arith, nat_tests, false≢true)
 
 -- a text that begins with a bracket doesn't begin with a host that has a colon and no bracket at its front
 bracket_in_front : (host rest path : List ℕ) → has_colon host ≡ true → begins_with left_bracket host ≡ false → left_bracket ∷ rest ≡ host ++ path → ⊥
@@ -204,27 +193,15 @@ bracket_in_front (b ∷ bs) rest path colons blank e = different_bytes b left_br
 
 -- a host that is written as it was read is such a host, by whether it needs brackets
 host_stays_by : (host path : List ℕ) (needs : Bool) → needs_brackets None host ≡ needs → host_part (at_file (Some host) path None) (Some host) ++ path ≡ host ++ path → StaysOpen host
-host_stays_by host path false plain e = stays_by _ _ _ plain
-host_stays_by host path true needs e =
-    let wanted = and_parts (has_colon host) (not (begins_with left_bracket host)) (and_parts (wants_brackets host) (has_percent host) needs).0 in
-    let written = cond-true (needs_brackets None host) (left_bracket ∷ (escaped_percents host ++ right_bracket ∷ [])) host needs in
-    absurd (bracket_in_front host ((escaped_percents host ++ right_bracket ∷ []) ++ path) path wanted.0 (not-true _ wanted.1) (sym (ap (λ h. h ++ path) written) ∙ e))
+host_stays_by host path needs h3 h4 = grind (arith, nat_tests, stays_by, and_parts, not, cond-true, bracket_in_front, not-true)
 
 -- the host of a file URL that is written as it was read is such a host
 host_stays : (host path : List ℕ) → text (at_file (unless_empty host) path None) ≡ Ok (codes "file://" ++ (host ++ path)) → (h : List ℕ) → unless_empty host ≡ Some h → StaysOpen h
-host_stays [] path e h some = absurd (none-some h some)
-host_stays (b ∷ bs) path e h some =
-    let host = b ∷ bs in
-    let cut = append_cancel_left (codes "file://") (host_part (at_file (Some host) path None) (Some host) ++ path) (host ++ path) (one_text refl e) in
-    subst StaysOpen (same_Some host h some) (host_stays_by host path (needs_brackets None host) refl cut)
+host_stays host path h2 h h4 = grind (arith, nat_tests, none-some, append_cancel_left, codes, one_text, same_Some, host_stays_by)
 
 -- a spelling that matches and is written as the path is the path
 spelling_is_path : (host : Option (List ℕ)) (path s t : List ℕ) → percent_decode s ≡ path → text (at_file host path (Some s)) ≡ Ok t → text (at_file host path None) ≡ Ok t → s ≡ path
-spelling_is_path host path s t decoded spelled plain =
-    let front = host_part (at_file host path None) host in
-    let used : matching_or (Some s) path path ≡ s = matched s path path decoded in
-    let both : codes "file://" ++ (front ++ matching_or (Some s) path path) ≡ codes "file://" ++ (front ++ path) = one_text refl (spelled ∙ sym plain) in
-    sym used ∙ append_cancel_left front (matching_or (Some s) path path) path (append_cancel_left (codes "file://") (front ++ matching_or (Some s) path path) (front ++ path) both)
+spelling_is_path host path s t h4 h5 h6 = grind (arith, nat_tests, matched, codes, one_text, append_cancel_left)
 
 -- what is read from the text of a location is settled where it has that text too
 reread_settled : (w : Location) (t : List ℕ) → SpellsFile t w → text w ≡ Ok t → IsSettledFile w

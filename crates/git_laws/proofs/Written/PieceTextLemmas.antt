@@ -60,12 +60,7 @@ is_host_byte b = is_authority_byte b && not (b == at_sign)
 
 -- a text of such bytes in which every escape is sound is an escaped piece
 pub escaped_piece : (t : List ℕ) → list_all is_escaped_byte t ≡ true → is_sound t ≡ true → IsEscapedPiece t
-escaped_piece t h sound =
-    let ascii = ascii_class is_escaped_byte (λ b is. grind (arith, nat_tests)) t h in record {
-      text = IsUtf8-from_ascii t ascii;
-      sound = sound;
-      no_white_space = white_space_ascii t ascii (lacks_of_all is_escaped_byte is_whitespace (λ b is. not-true _ (and_parts _ _ is).1) t h);
-    }
+escaped_piece t h1 h2 = grind (arith, nat_tests, ascii_class, IsUtf8-from_ascii, white_space_ascii, lacks_of_all, not-true, and_parts)
 
 -- one of bytes of an authority is a piece of an authority
 pub authority_piece : (t : List ℕ) → list_all is_authority_byte t ≡ true → is_sound t ≡ true → IsAuthorityPiece t

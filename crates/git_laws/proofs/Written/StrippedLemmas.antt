@@ -55,15 +55,11 @@ start_kept false b h = grind (arith, nat_tests)
 
 -- so a path starts as it did
 path_kept : (web : Bool) (p : List ℕ) → StartsPath web p → StartsPath web (without_white_space p)
-path_kept web [] h = inl refl
-path_kept web (b ∷ p) (inl e) = inl (ap without_white_space e)
-path_kept web (b ∷ p) (inr starts) = inr (subst (λ t. begins_by (is_path_start web) t ≡ true) (sym (other_left_in b p (start_kept web b starts))) starts)
+path_kept web p h2 = grind (arith, nat_tests, other_left_in, start_kept)
 
 -- and there is one where there was one
 path_left : (web : Bool) (p : List ℕ) → StartsPath web p → without_white_space p ≡ [] → p ≡ []
-path_left web [] h none = refl
-path_left web (b ∷ p) (inl e) none = e
-path_left web (b ∷ p) (inr starts) none = absurd (omega (arith, ap length (sym (other_left_in b p (start_kept web b starts)) ∙ none)))
+path_left web p h2 h3 = grind (arith, nat_tests, length, other_left_in, start_kept)
 
 -- the first byte of a text without white space is left
 white_ascii : (b : ℕ) → is_ascii_whitespace b ≡ true → b < 128
@@ -236,10 +232,7 @@ with_secret user secret host = (user ++ (secret ++ at_sign ∷ [])) ++ host
 
 -- what such a text lacks it lacks without the password
 lacks_secret : (test : ℕ → Bool) (user secret host : List ℕ) → Lacks test (at_sign ∷ []) → Lacks test (with_secret user secret host) → Lacks test (with_secret user [] host)
-lacks_secret test user secret host at h =
-    let parts = lacks_parts test (user ++ (secret ++ at_sign ∷ [])) host h in
-    let front = lacks_parts test user (secret ++ at_sign ∷ []) parts.0 in
-    lacks-append test (user ++ at_sign ∷ []) host (lacks-append test user (at_sign ∷ []) front.0 at) parts.1
+lacks_secret test user secret host h4 h5 = grind (arith, nat_tests, lacks_parts, lacks-append)
 
 -- what counts of it
 secret_length : (user secret host : List ℕ) → length (without_white_space (with_secret user secret host)) ≡ length (without_white_space user) + (length (without_white_space secret) + 1) + length (without_white_space host)
@@ -329,23 +322,11 @@ stripped_by (helper_url name) v user password e known secret some is h = other_s
 
 -- what is settled is a URL, or has no password, and no user beside none of the flag
 url_or_plain : (p : Protocol) (v : Location) → IsSettledBy p v → IsSettledUrl v ⊎ ((v.password ≡ None) × (v.flag ≡ false → v.user ≡ None))
-url_or_plain file v (inl h) = inr (h.bare.1.1, λ unflagged. h.bare.1.0)
-url_or_plain file v (inr h) = inr (h.alone.1, λ unflagged. h.alone.0)
-url_or_plain ssh v (inl h) = inr (h.no_password, λ unflagged. absurd (both_ways v.flag unflagged h.flagged))
-url_or_plain ssh v (inr h) = inl h.url.common
-url_or_plain git v h = inl h.url.common
-url_or_plain http v h = inl h.common
-url_or_plain https v h = inl h.common
-url_or_plain ext v h = inr (h.bare.1.1, λ unflagged. h.bare.1.0)
-url_or_plain (helper name) v h = inr (h.0.bare.1.1, λ unflagged. h.0.bare.1.0)
-url_or_plain (helper_url name) v h = inl h.url.common
+url_or_plain p v h2 = grind (arith, nat_tests, both_ways)
 
 -- what is settled and has a password is a URL
 url_with_password : (p : Protocol) (v : Location) (password : List ℕ) → v.password ≡ Some password → IsSettledBy p v → IsSettledUrl v
-url_with_password p v password secret h = elim (url_or_plain p v h) [
-  | inl url ↦ url
-  | inr none ↦ absurd (none-some password (sym none.0 ∙ secret))
-]
+url_with_password p v password h3 h4 = grind (arith, nat_tests, url_or_plain, none-some)
 
 -- and has a user
 user_beside : (p : Protocol) (v : Location) (password : List ℕ) → v.password ≡ Some password → IsSettledBy p v → IsSome v.user
@@ -361,10 +342,7 @@ without_password_by v (Some password) (Some user) secret known is h (inr some) =
 
 -- an empty user comes with a password, where the location is settled as a URL
 empty_user : (p : Protocol) (v : Location) → v.flag ≡ false → v.user ≡ Some [] → IsSettledBy p v → IsSome v.password
-empty_user p v unflagged known h = elim (url_or_plain p v h) [
-  | inl url ↦ url.credentials.1 known
-  | inr none ↦ absurd (none-some [] (sym (none.1 unflagged) ∙ known))
-]
+empty_user p v h2 h3 h4 = grind (arith, nat_tests, url_or_plain, none-some)
 
 -- so what is settled without its password has none, or a user that isn't empty
 kept_user : (v : Location) (password : Option (List ℕ)) → v.password ≡ password → IsSettled v → IsSettled (stripped v) → (v.password ≡ None) ⊎ ¬ (v.user ≡ Some [])

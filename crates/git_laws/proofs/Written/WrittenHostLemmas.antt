@@ -32,15 +32,11 @@ use Rattle.git_laws.proofs.Written.PieceTextLemmas.{IsHostPiece, joined_hosts, h
 
 -- outside HTTP every port is allowed
 port_allowed : (mode : Mode) (port : ℕ) → ¬ (mode ≡ strict) → AllowsPort mode port
-port_allowed strict port other = absurd (other refl)
-port_allowed bare port other = tt
-port_allowed loose port other = tt
+port_allowed mode port h2 = grind (arith, nat_tests)
 
 -- outside HTTP a text stands for what it decodes to, where that is text in its normal form
 text_read : (mode : Mode) (text host : List ℕ) → ¬ (mode ≡ strict) → percent_decode text ≡ host → IsUtf8 host → normal_host host ≡ host → HostText mode text host
-text_read strict text host other decoded utf8 normal = absurd (other refl)
-text_read bare text host other decoded utf8 normal = (subst IsUtf8 (sym decoded) utf8, sym (ap normal_host decoded ∙ normal))
-text_read loose text host other decoded utf8 normal = (subst IsUtf8 (sym decoded) utf8, sym (ap normal_host decoded ∙ normal))
+text_read mode text host h3 h4 h5 h6 = grind (arith, nat_tests)
 
 -- a text escaped as a user is a host outside brackets
 user_plain : (t : List ℕ) → 0 < length t → IsPlainHost (percent_encode USER t)
@@ -104,12 +100,7 @@ bracketed_host_written mode v host other escapes (inr (a, address, e)) utf8 smal
 
 -- a host without an opening bracket that does not end in its only colon is taken as it is
 peels_itself : (host : List ℕ) → FreeOf left_bracket host → ((front : List ℕ) → FreeOf colon front → ¬ (host ≡ front ++ colon ∷ [])) → Peels host host
-peels_itself host free no_end =
-    Peels.same
-    (λ (x, e). true≢false (free_head_tail left_bracket left_bracket (x ++ right_bracket ∷ []) (subst (λ t. FreeOf left_bracket t) e free)).0)
-    (λ (x, e). true≢false (free_head_tail left_bracket left_bracket (x ++ right_bracket ∷ (colon ∷ [])) (subst (λ t. FreeOf left_bracket t) e free)).0)
-    (λ (front, no_colon, blank, e). no_end front no_colon e)
-    refl
+peels_itself host h1 h2 = grind (arith, nat_tests, true≢false, free_head_tail)
 
 -- no colon stands behind the only colon of a text
 nothing_behind : (front x rest : List ℕ) → FreeOf colon front → front ++ colon ∷ [] ≡ x ++ colon ∷ rest → FreeOf colon rest
@@ -157,10 +148,7 @@ address_alone protocol a escapes h =
 
 -- with one it is written in brackets
 pub address_in_brackets : (protocol : Protocol) (p : ℕ) (a : List ℕ) → IsIpv6Text a → written_host protocol (Some p) a ≡ left_bracket ∷ (a ++ right_bracket ∷ [])
-address_in_brackets protocol p a h =
-    let wants = address_wants a h in
-    let same = escaped_percents_kept a (address_free percent_sign a refl h) in
-    rw (wants, same) refl
+address_in_brackets protocol p a h3 = grind (arith, nat_tests, address_wants, escaped_percents_kept, address_free)
 
 -- the text is a piece of an authority and names a port and a host out of which Secure Shell takes the given one
 record NamesPeeled (text : List ℕ) (host : List ℕ) (port : Option ℕ) : Type 0 where

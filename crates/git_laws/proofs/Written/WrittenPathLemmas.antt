@@ -44,13 +44,7 @@ matched s path plain same = cond-true _ _ _ ((bytes_eq-Decides (percent_decode s
 
 -- what is written is a spelling that stands for the path, or what stands in where none does
 pub matching_cases : (P : List ℕ → Type 0) (spelling : Option (List ℕ)) (path plain : List ℕ) → ((s : List ℕ) → spelling ≡ Some s → percent_decode s ≡ path → P s) → (¬ Matches spelling path → P plain) → P (matching_or spelling path plain)
-matching_cases P None path plain spelled other = other (λ (s, is, same). none-some s is)
-matching_cases P (Some s) path plain spelled other = ⊎_elim
-    (λ yes. let same = (bytes_eq-Decides (percent_decode s) path).0 yes in subst P (sym (matched s path plain same)) (spelled s refl same))
-    (λ no.
-    let apart : ¬ Matches (Some s) path = λ (x, is, same). both_ways _ no ((bytes_eq-Decides (percent_decode s) path).1 (ap percent_decode (same_Some s x is) ∙ same)) in
-    subst P (sym (cond-false _ _ _ no)) (other apart))
-    (cases_Bool (bytes_eq (percent_decode s) path))
+matching_cases P spelling path plain h4 h5 = grind (arith, nat_tests, none-some, bytes_eq-Decides, matched, both_ways, same_Some, cond-false, cases_Bool, bytes_eq)
 
 -- where none does, the plain path is written
 pub unmatched : (spelling : Option (List ℕ)) (path plain : List ℕ) → ¬ Matches spelling path → matching_or spelling path plain ≡ plain
@@ -103,18 +97,11 @@ retained_again path plain t w = retained_again_by (has_percent t) path plain t r
 
 -- a text that begins as another starts a path where that one does
 pub starts_alike : (web : Bool) (t path : List ℕ) → first_byte t ≡ first_byte path → StartsPath web path → StartsPath web t
-starts_alike web [] path same starts = inl refl
-starts_alike web (b ∷ t) [] same starts = absurd (false≢true (sym (ap is_some same)))
-starts_alike web (b ∷ t) (c ∷ path) same (inl none) = absurd (false≢true (sym (ap is_some (ap first_byte none))))
-starts_alike web (b ∷ t) (c ∷ path) same (inr begins) =
-    let equal : b ≡ c = cc in
-    inr (ap (is_path_start web) equal ∙ begins)
+starts_alike web t path h3 h4 = grind (arith, nat_tests, false≢true)
 
 -- and isn't empty where that one isn't
 some_alike : (t path : List ℕ) → first_byte t ≡ first_byte path → 0 < length path → 0 < length t
-some_alike [] [] same some = some
-some_alike [] (c ∷ path) same some = absurd (false≢true (ap is_some same))
-some_alike (b ∷ t) path same some = omega arith
+some_alike t path h2 h3 = grind (arith, nat_tests, false≢true)
 
 -- ---- a path without a root before it
 
@@ -177,10 +164,7 @@ start_kept b start = grind (arith, nat_tests)
 
 -- the first byte of a path of HTTP isn't escaped
 web_front : (path : List ℕ) → begins_by (is_path_start true) path ≡ true → first_byte (percent_encode PATH path) ≡ first_byte path
-web_front [] begins = absurd (false≢true begins)
-web_front (b ∷ path) begins =
-    let ascii = start_ascii b begins in
-    ap first_byte (encode_byte_kept PATH b path ascii (path_holds b ascii ∙ start_kept b begins))
+web_front path h1 = grind (arith, nat_tests, false≢true, start_ascii, encode_byte_kept, path_holds, start_kept)
 
 -- an escaped path of HTTP is a writing of it
 web_writing : (path : List ℕ) → begins_by (is_path_start true) path ≡ true → IsUtf8 path → IsWriting path (percent_encode PATH path) (percent_encode PATH path)
@@ -277,9 +261,7 @@ rawly_written v r url raw =
 
 -- an empty or a rooted path starts as one may
 other_starts : (path : List ℕ) → IsRootedOrEmpty path → StartsPath false path
-other_starts [] rooted = inl refl
-other_starts (b ∷ path) (inl none) = inl none
-other_starts (b ∷ path) (inr begins) = inr (rw begins refl)
+other_starts path h1 = grind (arith, nat_tests)
 
 -- the written path of a settled URL of another scheme means its path, and is written the same again
 pub other_path_written : (v : Location) (name : List ℕ) → v.scheme ≡ helper_url name → IsRootedOrEmpty v.path → HasUrlPath v → IsRawPath v → WritesPath false v × IsRawPath (as_read v)
@@ -306,9 +288,7 @@ homes v (inr e) = subst HasHomes (sym e) record { roots = refl; plain = λ path.
 
 -- a path that isn't written below a home folder stays
 pub homeless_kept : (path : List ℕ) → begins_at_home path ≡ false → from_home path ≡ path
-homeless_kept [] other = refl
-homeless_kept (a ∷ []) other = refl
-homeless_kept (a ∷ b ∷ rest) other = cond-false _ _ _ other
+homeless_kept path h1 = grind (arith, nat_tests, cond-false)
 
 -- a rooted path isn't empty
 some_rooted : (path : List ℕ) → begins_with slash path ≡ true → 0 < length path
@@ -356,9 +336,7 @@ record IsRawHome (v : Location) : Type 0 where
 
 -- with no spelling it is written behind a `/`
 home_unspelled : (v : Location) → HasHomes v.scheme → IsRawHome v → root_part v ++ plain_path v.scheme v.path ≡ slash ∷ v.path
-home_unspelled v facts h =
-    let root : root_part v ≡ slash ∷ [] = cond-true _ _ _ (and_from _ _ facts.roots (home_unrooted v.path h.home)) in
-    ap (λ r. r ++ plain_path v.scheme v.path) root ∙ ap (λ p. slash ∷ p) (facts.plain v.path)
+home_unspelled v h1 h2 = grind (arith, nat_tests, cond-true, and_from, home_unrooted)
 
 -- and so it is with one that doesn't match
 home_whole : (v : Location) → HasHomes v.scheme → IsRawHome v → canonical_path v ≡ slash ∷ v.path

@@ -50,9 +50,7 @@ scp_value_read user host path h = ap (λ p. scp_value user host p None) (sym (ho
 
 -- the text, by whether the path is relative
 scp_written_by : (relative : Bool) (user : Option (List ℕ)) (host path : List ℕ) (spelling : Option (List ℕ)) → is_relative path ≡ relative → text (scp_value user host path spelling) ≡ Ok (raw_user user ++ (raw_host (Some host) ++ colon ∷ path))
-scp_written_by true user host path spelling e = rw e refl
-scp_written_by false None host path spelling e = rw e refl
-scp_written_by false (Some u) host path spelling e = rw e refl
+scp_written_by relative user host path spelling h5 = grind (arith, nat_tests)
 
 -- user, host and path are written raw, with a colon before the path
 pub scp_written : (user : Option (List ℕ)) (host path : List ℕ) (spelling : Option (List ℕ)) → text (scp_value user host path spelling) ≡ Ok (raw_user user ++ (raw_host (Some host) ++ colon ∷ path))
@@ -203,12 +201,7 @@ holds_colon (b ∷ x) y = or_right (b == colon) (has_colon (x ++ colon ∷ y)) (
 
 -- an address wants brackets
 pub address_raw : (h : List ℕ) → IsNormalAddress h → raw_host (Some h) ≡ in_brackets h
-address_raw h a =
-    let (x, y, free, e) = address_cut h a.address in
-    let held : has_colon h ≡ true = ap has_colon e ∙ holds_colon x y in
-    let plain : begins_with left_bracket h ≡ false = free_begins left_bracket h (address_free left_bracket h refl a.address) in
-    let wants : wants_brackets h ≡ true = and_from (has_colon h) (not (begins_with left_bracket h)) held (ap not plain) in
-    cond-true _ _ _ wants
+address_raw h h1 = grind (arith, nat_tests, address_cut, holds_colon, free_begins, address_free, and_from, not, cond-true)
 
 -- an address in brackets is free of what no address holds
 in_brackets_free : (c : ℕ) (h : List ℕ) → is_address_byte c ≡ false → (left_bracket == c) ≡ false → (right_bracket == c) ≡ false → IsNormalAddress h → FreeOf c (in_brackets h)
@@ -262,9 +255,7 @@ address_hosted h a = record {
 
 -- a text that begins with a bracket isn't that of a remote helper
 bracket_no_helper : (rest name address : List ℕ) → is_helper_name name ≡ true → left_bracket ∷ rest ≡ name ++ colon ∷ (colon ∷ address) → ⊥
-bracket_no_helper rest [] address named e = false≢true named
-bracket_no_helper rest (c ∷ name) address named e =
-    both_ways (c == left_bracket) (free_head_tail left_bracket c name (helper_name_free (c ∷ name) left_bracket named refl)).0 (eq-eqb c left_bracket (sym (heads e)))
+bracket_no_helper rest name address h3 h4 = grind (arith, nat_tests, false≢true, both_ways, free_head_tail, helper_name_free, eq-eqb, heads)
 
 -- the shape of the text without a user
 address_shape : (h path : List ℕ) → IsNormalAddress h → IsScpPath path → ScpShape (in_brackets h ++ colon ∷ path) (in_brackets h) path
@@ -341,9 +332,7 @@ addressed_spelled user h path named u a p = inr record {
 
 -- the text in brackets spells the location, with a user or without
 bracketed_spelled : (user : Option (List ℕ)) (h path : List ℕ) → IfSome user IsUtf8 → IfSome user IsScpUser → IsNormalAddress h → IsScpPath path → SpellsScp (raw_user user ++ (in_brackets h ++ colon ∷ path)) (scp_value user h path None)
-bracketed_spelled None h path named u a p = address_spelled h path a p
-bracketed_spelled (Some user) h path named u a p =
-    subst (λ t. SpellsScp t (scp_value (Some user) h path None)) (sym (addressed_written user h path)) (addressed_spelled user h path named u a p)
+bracketed_spelled user h path h3 h4 h5 h6 = grind (arith, nat_tests, address_spelled, addressed_written, addressed_spelled)
 
 -- what is written spells the location
 pub scp_spelled : (user : Option (List ℕ)) (h path : List ℕ) → IfSome user IsUtf8 → IsUtf8 h → IfSome user IsScpUser → IsScpName h ⊎ IsNormalAddress h → IsScpPath path → ¬ LooksLikeHelper (scp_value user h path None) h → SpellsScp (raw_user user ++ (raw_host (Some h) ++ colon ∷ path)) (scp_value user h path None)
