@@ -9,3 +9,4 @@ pub mod NormalHostLemmas
 pub mod NormalCutLemmas
 pub mod NormalPathLemmas
 pub mod NormalUnique
+pub mod NormalWebLemmas

@@ -71,7 +71,7 @@ user_unique info user other (inr h) (inl k) = absurd (not_free colon user h.0 (s
 user_unique info user other (inr h) (inr k) = (cut_unique colon user other h.0 k.0 h.1 k.1 (sym h.2 ∙ k.2)).0
 
 -- an authority has one user, one host and one port
-authority_unique : (globs : Bool) (scheme text : List ℕ) (user person : Option (List ℕ)) (host other : List ℕ) (port last : Option ℕ) → NormalAuthority globs scheme text user host port → NormalAuthority globs scheme text person other last → (user ≡ person) × (host ≡ other) × (port ≡ last)
+pub authority_unique : (globs : Bool) (scheme text : List ℕ) (user person : Option (List ℕ)) (host other : List ℕ) (port last : Option ℕ) → NormalAuthority globs scheme text user host port → NormalAuthority globs scheme text person other last → (user ≡ person) × (host ≡ other) × (port ≡ last)
 authority_unique globs scheme text user person host other port last (NormalAuthority.alone f u n) (NormalAuthority.alone g v m) =
     let same = host_port_unique globs scheme text host other port last n m in
     (u ∙ sym v, same.0, same.1)

@@ -16,6 +16,7 @@ pub mod Normal
 pub mod NormalView
 pub mod NormalPieces
 pub mod NormalFlaws
+pub mod NormalLaws
 pub mod Patterns
 pub mod PatternLaws
 pub mod Booleans

@@ -55,7 +55,3 @@ NormalizesIn globs text room (Ok n) = (3 * length text + 1 ≤ room) × IsNormal
 NormalizesIn globs text room (Err NoRoom) = room < 3 * length text + 1
 NormalizesIn globs text room (Err flaw) = (3 * length text + 1 ≤ room) × HasFlaw globs text flaw
     × ((n : NormalPlace) → ¬ IsNormalOf globs text n)
-
--- a text has one normal form at most
-abbrev pub OneNormalForm : Type 0
-OneNormalForm = (globs : Bool) (text : List ℕ) (n m : NormalPlace) → IsNormalOf globs text n → IsNormalOf globs text m → n ≡ m

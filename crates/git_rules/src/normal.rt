@@ -12,7 +12,8 @@ mod path;
 mod write;
 
 ghost use Rattle.std.specs.Prelude.{◌↔◌, ◌+◌, ◌*◌, ◌≤◌, IsTrue, length};
-ghost use Rattle.git_rules.specs.NormalFlaws.{NormalizesIn, OneNormalForm};
+ghost use Rattle.git_rules.specs.NormalFlaws.{NormalizesIn};
+ghost use Rattle.git_rules.specs.NormalLaws.{KeepsPlace, OneNormalForm};
 
 use crate::normal::authority::read_authority;
 use crate::normal::cuts::cut_url;
@@ -119,7 +120,10 @@ fn is_enough(text: usize, room: usize) -> bool
     0 < room && text <= (room - 1) / 3
 }
 
-/// A text has one normal form at most.
+/// A text has one normal form at most; and where all readers agree in the text of a location of HTTP, as
+/// [`git_location::url_ref::UrlRef::agrees_with_git`] tells, its normal form has the location's own scheme and host, the
+/// location's port where that isn't the scheme's own, and its user as it is written.
 pub fn law_normal_form()
-    ensures { OneNormalForm }
+    ensures one { OneNormalForm }
+    ensures place { KeepsPlace }
 {}
