@@ -4,16 +4,14 @@
 definitions, and so checks it by one processor. Here slots say how many run at a time, and all that can begin stand in line
 for one; edits, most of which take less, come behind them and fill what they leave. A crate that others stand on waits for
 none. It judges as ever, and runs a check again that memory did not suffice for. A static library, of which `rt ci` keeps
-no file for later runs, is proved by each, and compiled of what its check proved, as programs are. So are the layers of the
-library made of theirs: an rlib so made holds the proofs, where one that `rt ci` builds holds the statements alone, and
-the gate tries the edits of a layer over the proofs.
+no file for later runs, is proved by each, and compiled of what its check proved, as programs are.
 """
 import os
 import sys
 import tempfile
 
 sys.dont_write_bytecode = True
-from kit import LAYERS, Slots, load_kit, processor_minutes
+from kit import Slots, load_kit, processor_minutes
 
 # More than there are checks: how many run at a time is said by slots, for which the memory was counted.
 ALL = 64
@@ -21,38 +19,21 @@ ALL = 64
 LONG = 4000
 
 
-def proved(kit, crate, words):
-    """The status of a check from nothing, judged as `rt ci` judges it; of a library, as it judges the build of one."""
-    begun = crate.out.seek(0, os.SEEK_END)
-    status = crate.prove(["check", *words])
-    crate.out.seek(begun)
-    # `rt ci` looks at the proofs too where others use the crate, which it knows by the word `build`.
-    if not status and not crate.is_static and kit.rtlib.chose_a_term(crate.out.read(), True):
-        kit.say("a tactic chose a term that a contract may read, as the lines above say: write the term yourself", crate.out)
-        return 1
-    return status
-
-
-def made(kit, crate, flags):
-    """The proof of a library from nothing, by a check that records what it proved, and what is made of that with no second
-    proof: a static library is compiled, and the rlib of a layer holds all that was proved."""
+def compiled(kit, crate, flags):
+    """The proof of a static library, from nothing, and the library that is compiled of what was proved."""
     words = crate.words(flags, keeps=False)
-    to = f"{crate.folder}/out/lib{crate.name}.a" if crate.is_static else f"{crate.folder}/out/rlib/{crate.name}.rlib"
     with tempfile.TemporaryDirectory(prefix="proved-") as room:
-        status = proved(kit, crate, [*words, "-o", f"{room}/checked"])
-        if status:
-            return status
-        # What is made was checked, and takes no flag of a check.
+        if crate.prove(["check", *words, "-o", f"{room}/checked"]):
+            return 1
+        # What is compiled was checked, and takes no flag of a check.
         for flag in ("--logic-built", "--jobs"):
             at = words.index(flag)
             words = [*words[:at], *words[at + 2 :]]
-        words += ["--crate-checked", f"{room}/checked"]
-        if crate.is_static:
-            words += ["--toolchain", f"{kit.KIT}/toolchain", "--backend", "llvm"]
-        os.makedirs(os.path.dirname(to), exist_ok=True)
-        status = crate.call(kit.rtlib.RATTLE, "build", *words, "-o", to)
+        words += ["--crate-checked", f"{room}/checked", "--toolchain", f"{kit.KIT}/toolchain", "--backend", "llvm"]
+        os.makedirs(f"{crate.folder}/out", exist_ok=True)
+        status = crate.call(kit.rtlib.RATTLE, "build", *words, "-o", f"out/lib{crate.name}.a")
     if status:
-        kit.say("nothing was made of what was proved", crate.out)
+        kit.say("LLVM did not compile what was proved", crate.out)
     return status
 
 
@@ -62,8 +43,7 @@ def in_turn(kit, slots):
     judges, most = kit.Crate.ci, max(1, 3 * kit.processors() // 4)
 
     def proves(crate, flags, tests):
-        is_made = not tests and (crate.is_static or crate.name in LAYERS)
-        return made(kit, crate, flags) if is_made else judges(crate, flags, tests)
+        return compiled(kit, crate, flags) if crate.is_static and not tests else judges(crate, flags, tests)
 
     waits = slots.around(proves)
     stands_on = {crate.name: {it.name for it in crate.below()} for crate in kit.rtlib.crates_below(os.getcwd())}
