@@ -1,3 +1,4 @@
 -- Keys, lines and the items that are read.
 pub mod KeyLemmas
 pub mod ItemLemmas
+pub mod OneReadingLemmas

@@ -3,6 +3,7 @@ pub mod Config
 pub mod ConfigView
 pub mod ConfigItems
 pub mod ConfigReader
+pub mod ConfigLaws
 pub mod Rewrites
 pub mod RuleTable
 pub mod RuleViews

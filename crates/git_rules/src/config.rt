@@ -7,6 +7,8 @@ ghost use Rattle.std.specs.Prelude.{◌≡◌, ◌==◌, ◌↔◌, ◌++◌, �
 ghost use Rattle.git_rules.specs.Config.{HasName, IsOfSection, IsSameWord};
 ghost use Rattle.git_rules.specs.ConfigItems.{CutsKey, CutsName, CutsValue, HasEntries, MeansItem, entries_of, start};
 
+pub mod law;
+
 use git_syntax::bytes::{cut, last_cut};
 use std::alloc::{AllocError, Global};
 use std::marker::Model;

@@ -39,7 +39,7 @@ no_name key a b s found sub m n free e last is empty (k, f) =
     k.3 (sym (name_unique found sub m n last k.2 (sym is ∙ behind)).1 ∙ empty)
 
 -- what follows a key is nothing, or begins with a line feed
-value_begins : (v : Option (List ℕ)) → (value_text v ≡ []) ⊎ (begins_by (λ d. d == newline) (value_text v) ≡ true)
+pub value_begins : (v : Option (List ℕ)) → (value_text v ≡ []) ⊎ (begins_by (λ d. d == newline) (value_text v) ≡ true)
 value_begins None = inl refl
 value_begins (Some v) = inr (eq-eqb newline newline refl)
 
