@@ -1,5 +1,5 @@
 -- How a URL is cut at its scheme and its authority.
-use Rattle.std.proofs.Common.{◌≡◌, ◌∙◌, ◌+◌, ◌∷◌, ◌++◌, ℕ, true, false, List, [], length, refl, sym, ap, subst, arith, length-append}
+use Rattle.std.proofs.Common.{◌≡◌, ◌∙◌, ◌+◌, ◌∷◌, ◌++◌, ℕ, true, false, List, length, refl, sym, ap, subst, arith, length-append}
 use Rattle.std.proofs.lemmas.Bool.{false≢true}
 use Rattle.git_syntax.specs.Bytes.{colon, slash, FreeOf, begins_with, is_path_start, is_scheme_text}
 use Rattle.git_syntax.proofs.Texts.CutLemmas.{tails, cut_unique, not_free, scheme_text_free}

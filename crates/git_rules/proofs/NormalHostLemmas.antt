@@ -1,5 +1,5 @@
 -- Hosts and ports in their normal form: what their text is cut into, and that there is one normal form.
-use Rattle.std.proofs.Common.{◌≡◌, ◌∙◌, ◌+◌, ◌≤◌, ◌∷◌, ◌++◌, ℕ, Bool, true, false, List, [], length, refl, sym, ap, subst, arith, length-append, inl, inr, Option, Some, None}
+use Rattle.std.proofs.Common.{◌≡◌, ◌∙◌, ◌≤◌, ◌∷◌, ℕ, true, List, length, refl, sym, ap, arith, length-append, inl, inr}
 use Rattle.git_syntax.specs.Bytes.{colon}
 use Rattle.git_syntax.specs.Escapes.{is_sound}
 use Rattle.git_syntax.proofs.Texts.EscapeLemmas.{sound_around}

@@ -1,6 +1,6 @@
 -- The path of a stack of segments, as it is written and cut.
-use Rattle.std.proofs.Common.{◌≡◌, ◌∙◌, ◌+◌, ◌-◌, ◌*◌, ◌<◌, ◌≤◌, ◌∷◌, ◌++◌, ℕ, zero, suc, Bool, true, false, not, ◌&&◌, ◌||◌, ◌==◌, List, [], length, take, drop, map, refl, sym, ap, subst, arith, ⊎_elim, ◌⊎◌, inl, inr, Option, Some, None, All, eqb, cond}
-use Rattle.std.proofs.lemmas.Bool.{cases_Bool, or_parts, false≢true, eqb-true, eqb-false, false_from_ne_true}
+use Rattle.std.proofs.Common.{◌≡◌, ◌∙◌, ◌+◌, ◌-◌, ◌≤◌, ◌∷◌, ◌++◌, ℕ, zero, suc, Bool, true, false, ◌&&◌, ◌||◌, ◌==◌, List, [], length, take, drop, map, refl, sym, ap, subst, arith, ⊎_elim, ◌⊎◌, inl, inr, Option, Some, None, All, cond}
+use Rattle.std.proofs.lemmas.Bool.{cases_Bool, eqb-true}
 use Rattle.std.proofs.lemmas.Bool.Decides.{nat_tests}
 use Rattle.std.proofs.lemmas.List.{append-nil, append_assoc, length-append, length-take, drop-take, take-take}
 use Rattle.std.proofs.Math.Seq.{take-append_seam, drop-append_seam}
@@ -8,17 +8,15 @@ use Rattle.std.proofs.lemmas.List.Elements.{All-cons, All-nil, All-head, All-tai
 use Rattle.std.proofs.lemmas.List.Splits.{slice_split_at, slice_split_none}
 use Rattle.std.specs.Prelude.{option_and_then, codes, bytes_eq, IfSome}
 use Rattle.std.specs.Char.{is_digit}
-use Rattle.std.specs.List.{slice_split, list_any}
 use Rattle.percent_encoding.specs.Percent.{percent_encode_byte}
 use Rattle.percent_encoding.proofs.PercentLemmas.{IsEscapeByte, All-percent_encode_byte}
-use Rattle.git_syntax.specs.Bytes.{slash, percent_sign, Lacks, FreeOf, begins_by}
+use Rattle.git_syntax.specs.Bytes.{slash, percent_sign, FreeOf, begins_by}
 use Rattle.git_syntax.specs.Escapes.{is_sound}
 use Rattle.git_syntax.proofs.Texts.EscapeLemmas.{sound_parts, sound_tail}
 use Rattle.git_syntax.specs.Grammar.{or_root}
 use Rattle.git_syntax.proofs.Texts.CutLemmas.{free-append, free-cons, free_head_tail, not_free, last_cut_unique}
 use Rattle.git_rules.specs.Normal.{is_unsafe, is_reserved, normal_byte, normal_text, escaped_byte, stacked_path, without_top, put_segment, put_segments, normal_segments, is_rest_start, unrooted}
-use Rattle.git_rules.specs.NormalPieces.{IsFlat, ShowsStack, ShowsFront, CutsBefore}
-use Rattle.git_rules.proofs.NormalTextLemmas.{normal_kept, normal_escape}
+use Rattle.git_rules.specs.NormalPieces.{ShowsStack, ShowsFront, CutsBefore}
 
 -- ---- no segment gets a `/`
 

@@ -1,8 +1,8 @@
 -- The normal form of a text, one byte or one escape after the other.
-use Rattle.std.proofs.Common.{◌≡◌, ◌∙◌, ◌+◌, ◌-◌, ◌*◌, ◌≤◌, ◌∷◌, ◌++◌, ℕ, Bool, true, false, ◌&&◌, ◌==◌, List, [], length, take, drop, get_or, refl, sym, ap, arith}
+use Rattle.std.proofs.Common.{◌≡◌, ◌∙◌, ◌+◌, ◌-◌, ◌*◌, ◌≤◌, ◌∷◌, ◌++◌, ℕ, true, false, ◌&&◌, ◌==◌, List, [], length, take, drop, get_or, refl, sym, ap, arith}
 use Rattle.std.proofs.lemmas.Bool.{and_parts}
 use Rattle.std.proofs.lemmas.Bool.Decides.{nat_tests}
-use Rattle.std.proofs.lemmas.List.{append-nil, take_rest, append_assoc, length-append}
+use Rattle.std.proofs.lemmas.List.{append-nil, take_rest}
 use Rattle.std.specs.Char.{digit_value}
 use Rattle.percent_encoding.specs.Percent.{percent_encode_byte}
 use Rattle.git_syntax.specs.Bytes.{is_hexadecimal, percent_sign}

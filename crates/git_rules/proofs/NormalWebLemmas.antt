@@ -1,6 +1,6 @@
 -- The text of a location of HTTP in whose text all readers agree has the location's own place as its normal form.
-use Rattle.std.proofs.Common.{◌≡◌, ◌≢◌, ◌∙◌, ◌+◌, ◌<◌, ◌∷◌, ◌++◌, ℕ, Bool, true, false, ◌==◌, List, [], length, refl, sym, ap, subst, arith, ◌⊎◌, inl, inr, ⊎_elim, Option, Some, None, Result, Ok, Err, decimal}
-use Rattle.std.specs.Prelude.{option_map, IfSome}
+use Rattle.std.proofs.Common.{◌≡◌, ◌≢◌, ◌∙◌, ◌<◌, ◌∷◌, ◌++◌, ℕ, Bool, true, false, ◌==◌, List, [], length, refl, sym, ap, subst, arith, ◌⊎◌, inl, inr, ⊎_elim, Option, Some, None, Result, Ok, Err, decimal}
+use Rattle.std.specs.Prelude.{IfSome}
 use Rattle.std.specs.List.{list_all}
 use Rattle.std.specs.Char.{is_ascii_digit}
 use Rattle.std.proofs.lemmas.Bool.{and_from, false≢true, eqb-true, cases_Bool}
@@ -10,7 +10,7 @@ use Rattle.std.proofs.lemmas.List.Folds.{list_all-append}
 use Rattle.percent_encoding.specs.Percent.{percent_encode}
 use Rattle.git_syntax.specs.declared.escape.TheConstants.{USER, PASSWORD}
 use Rattle.git_syntax.specs.Value.{Location}
-use Rattle.git_syntax.specs.Bytes.{colon, dot, at_sign, left_bracket, right_bracket, percent_sign, FreeOf, IsLowercase, lowercase, begins_by, is_path_start}
+use Rattle.git_syntax.specs.Bytes.{colon, dot, at_sign, left_bracket, right_bracket, percent_sign, FreeOf, IsLowercase, lowercase, begins_by}
 use Rattle.std.specs.Char.{to_ascii_lowercase}
 use Rattle.git_syntax.specs.Escapes.{is_sound}
 use Rattle.git_syntax.specs.Hosts.Mode.{strict}
@@ -23,14 +23,14 @@ use Rattle.git_syntax.proofs.Readings.HostLemmas.{decimal_digits, number_written
 use Rattle.git_location.specs.declared.write_error.WriteFault.{WriteFault}
 use Rattle.git_location.specs.Text.{user_information, port_part, canonical_path, canonical_text, text}
 use Rattle.git_location.specs.Settled.{IsValue, IsWeb, IsBracketedAddress}
-use Rattle.git_location.specs.WebClass.{IsPlainName, IsUnambiguousHost, is_plain_host_byte, AgreesOverWeb}
+use Rattle.git_location.specs.WebClass.{IsUnambiguousHost, is_plain_host_byte, AgreesOverWeb}
 use Rattle.git_location.proofs.Closed.SettledLemmas.{settled_as_web}
 use Rattle.git_location.proofs.Closed.WebClassLemmas.{host_shape, plain_lowercase}
 use Rattle.git_laws.proofs.Written.PieceTextLemmas.{user_piece, password_piece, user_no_colon}
 use Rattle.git_laws.proofs.Written.WrittenPathLemmas.{starts_alike, web_path_writing}
 use Rattle.git_laws.proofs.Written.WrittenUrlLemmas.{authority_text, canonical_cut}
 use Rattle.git_laws.proofs.GitReadings.WebTextLemmas.{web_authority, web_scheme, web_text}
-use Rattle.git_rules.specs.Normal.{NormalPlace, CutsPort, HostFor, HostPort, IsUserOf, NormalAuthority, UrlCut, IsNormalOf, is_host_byte, is_own_port, lacks_host, normal_text}
+use Rattle.git_rules.specs.Normal.{NormalPlace, CutsPort, HostFor, HostPort, IsUserOf, NormalAuthority, UrlCut, IsNormalOf, is_host_byte, lacks_host}
 use Rattle.git_rules.specs.NormalLaws.{IsOwnPlace, own_port, own_user}
 use Rattle.git_rules.proofs.NormalUnique.{authority_unique, url_cut_unique}
 

@@ -1,5 +1,5 @@
 -- A byte that is no `%` is written by itself.
-use Rattle.std.proofs.Common.{ℕ, ◌==◌, ◌≡◌, false}
+use Rattle.std.proofs.Common.{◌==◌, ◌≡◌, false}
 use Rattle.std.proofs.lemmas.Bool.{false_from_ne_true, eqb-true}
 use Rattle.git_syntax.specs.Bytes.{percent_sign}
 use Rattle.git_rules.proofs.NormalTextLemmas.{splits_kept}

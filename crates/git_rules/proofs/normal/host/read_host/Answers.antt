@@ -1,5 +1,5 @@
 -- The host is what the text is cut into, or missing.
-use Rattle.std.proofs.Common.{refl, sym, ap, inl, ◌≡◌, rules, List, ℕ, [], codes, length, arith}
+use Rattle.std.proofs.Common.{refl, sym, ap, inl, ◌≡◌, rules, [], codes, length, arith}
 use Rattle.git_rules.proofs.NormalHostLemmas.{name_fits}
 use Rattle.std.proofs.lemmas.List.{nil_from_length}
 use Rattle.git_syntax.specs.Bytes.{lowercase}

@@ -1,5 +1,5 @@
 -- The pieces of what follows the authority are as sound, and fit the room.
-use Rattle.std.proofs.Common.{◌≡◌, ◌∙◌, ◌+◌, ◌≤◌, ap, sym, length, arith, true}
+use Rattle.std.proofs.Common.{◌∙◌, ap, sym, arith}
 use Rattle.git_syntax.specs.Escapes.{is_sound}
 use Rattle.git_rules.proofs.NormalPathLemmas.{sound_cut, sound_unrooted, length-pieces}
 use Rattle.git_rules.proofs.normal.path.path_in.Goals as goal

@@ -1,5 +1,5 @@
 -- Segment after segment is put on the stack.
-use Rattle.std.proofs.Common.{◌≡◌, ◌∙◌, ◌∷◌, ◌++◌, ◌+◌, ap, sym, subst, refl, length, arith, length-append}
+use Rattle.std.proofs.Common.{◌∙◌, ◌∷◌, ap, sym, subst, refl, length, arith, length-append}
 use Rattle.git_syntax.specs.Bytes.{slash}
 use Rattle.git_syntax.specs.Escapes.{is_sound}
 use Rattle.git_syntax.proofs.Texts.EscapeLemmas.{sound_around}

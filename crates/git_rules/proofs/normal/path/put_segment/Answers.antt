@@ -1,6 +1,5 @@
 -- A segment is written behind the path of the stack, and taken off again where it is `.` or `..`.
-use Rattle.std.proofs.Common.{◌≡◌, ◌∙◌, ◌++◌, ◌∷◌, ◌≤◌, [], ap, sym, length, take, arith}
-use Rattle.git_syntax.specs.Bytes.{slash}
+use Rattle.std.proofs.Common.{◌∙◌, ◌++◌, ap, sym, take, arith}
 use Rattle.git_rules.specs.Normal.{normal_text}
 use Rattle.git_rules.proofs.NormalPathLemmas.{WritesBehind, after_dot, after_dots, after_other, front_length, normal_flat}
 use Rattle.git_rules.proofs.normal.path.put_segment.Goals as goal
