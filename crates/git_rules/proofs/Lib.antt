@@ -10,3 +10,4 @@ pub mod NormalCutLemmas
 pub mod NormalPathLemmas
 pub mod NormalUnique
 pub mod NormalWebLemmas
+pub mod Matched

@@ -3,6 +3,7 @@ pub mod PathLemmas
 pub mod LabelLemmas
 pub mod RankLemmas
 pub mod HostLemmas
-pub mod NormalUniqueLemmas
 pub mod PlaceLemmas
 pub mod PickedLemmas
+pub mod EntryLemmas
+pub mod PlacedLemmas

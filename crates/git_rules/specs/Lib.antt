@@ -19,6 +19,8 @@ pub mod NormalPieces
 pub mod NormalFlaws
 pub mod NormalLaws
 pub mod Patterns
+pub mod Places
+pub mod PatternEntries
 pub mod PatternLaws
 pub mod Booleans
 pub mod Policies

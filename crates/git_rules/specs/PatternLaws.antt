@@ -1,5 +1,5 @@
 -- The law on patterns: what a pattern without `*` picks for a text goes to the scheme, the host and the port of the pattern.
-use Rattle.std.specs.Prelude.{◌≡◌, ℕ, Bool, false, ◌⊎◌, List, [], ◌∷◌, ◌++◌, decimal, Option, Some, None, option_map, Ok}
+use Rattle.std.specs.Prelude.{◌≡◌, ℕ, false, ◌⊎◌, List, [], ◌∷◌, ◌++◌, decimal, Option, Some, None, option_map, Ok}
 use Rattle.git_syntax.specs.Value.{Location}
 use Rattle.git_syntax.specs.Bytes.{dot, FreeOf}
 use Rattle.git_syntax.specs.Schemes.{default_port_of, protocol_of}
@@ -7,13 +7,13 @@ use Rattle.git_location.specs.Text.{port_part, text}
 use Rattle.git_location.specs.Settled.{IsValue, IsWeb}
 use Rattle.git_location.specs.GitClass.{AgreesWithGit}
 use Rattle.git_laws.specs.GitWeb.{CredentialReading, CredentialReads, UriReading, UriReads}
-use Rattle.git_rules.specs.Normal.{NormalPlace, IsNormalOf}
-use Rattle.git_rules.specs.Patterns.{asterisk, Matches}
+use Rattle.git_rules.specs.Normal.{asterisk, NormalPlace, IsNormalOf}
+use Rattle.git_rules.specs.Patterns.{Matches}
 
--- the host is the pattern's own, except for a `.` at the end of one of them, which Git passes over; a name with it is the same
--- name, as it is written from the root of all names (RFC 1034, section 3.1)
+-- the host is the pattern's own, but for a `.` at the end of that, which Git passes over: a name with it is the same name,
+-- written from the root of all names (RFC 1034, section 3.1)
 abbrev pub IsOwnHost : List ℕ → List ℕ → Type 0
-IsOwnHost own host = (host ≡ own) ⊎ ((own ≡ host ++ dot ∷ []) ⊎ (host ≡ own ++ dot ∷ []))
+IsOwnHost own host = (own ≡ host) ⊎ (own ≡ host ++ dot ∷ [])
 
 -- the port that is reached: the one that is there, else the one of the scheme
 abbrev pub reached_port : List ℕ → Option ℕ → Option ℕ
@@ -50,8 +50,3 @@ PickedGoesToOwn = (v : Location) (t : List ℕ) (place pattern : NormalPlace)
     → IsValue v → IsWeb v → AgreesWithGit v → text v ≡ Ok t
     → IsNormalOf false t place → Matches pattern place → FreeOf asterisk pattern.host
     → ReachesOwn t pattern
-
--- a text has one normal form
-abbrev pub OneNormalForm : Type 0
-OneNormalForm = (globs : Bool) (t : List ℕ) (n m : NormalPlace) → IsNormalOf globs t n → IsNormalOf globs t m
-    → n ≡ m

@@ -2,11 +2,7 @@
 use Rattle.std.specs.Prelude.{◌≡◌, ℕ, ◌+◌, ◌<◌, ◌==◌, ◌⊎◌, List, [], ◌∷◌, ◌++◌, length, All, Option, Some, None, is_some, if◌then◌else◌}
 use Rattle.git_syntax.specs.Bytes.{dot, slash}
 use Rattle.git_rules.specs.declared.pattern.Rank.{Rank}
-use Rattle.git_rules.specs.Normal.{NormalPlace}
-
--- `*`
-abbrev pub asterisk : ℕ
-asterisk = 42
+use Rattle.git_rules.specs.Normal.{NormalPlace, asterisk}
 
 -- ---- hosts
 

@@ -1,16 +1,35 @@
 //! Patterns of places, as in `credential.<url>.*` and `http.<url>.*`, and the best of those that match.
+//!
+//! It uses the normal form of `normal` and the cuts of `git_syntax`. Its contract: a pattern stands for exactly the places
+//! that Git matches with it, the best of several is the one that Git takes, and what a pattern without `*` picks for a text
+//! that all readers agree on goes to the scheme, the host and the port of the pattern. It takes no memory. Inside: `place`
+//! makes the place of a location, `entries` picks among the entries of a configuration.
 
-ghost use Rattle.std.specs.Prelude.{◌≡◌, ◌<◌, ◌↔◌, ◌∷◌, ◌++◌, ℕ, List, [], IsTrue, MatchOption, length, option_map};
-ghost use Rattle.git_rules.specs.PatternLaws.{OneNormalForm, PickedGoesToOwn};
+ghost use Rattle.std.specs.Prelude.{◌≡◌, ◌<◌, ◌↔◌, ◌∷◌, ◌++◌, ℕ, List, [], IsTrue, MatchOption, true, length, option_map};
+ghost use Rattle.git_rules.specs.NormalFlaws.{NormalizesIn};
+ghost use Rattle.git_rules.specs.PatternLaws.{PickedGoesToOwn};
 ghost use Rattle.git_rules.specs.Patterns as spec;
 ghost use Rattle.git_rules.specs.Patterns.{HasRank, IsBelow, IsBest, IsBetter, IsLower, Matches, MatchesHost, MatchesLabel, MatchesPath, MatchesUser, RanksFor, labels_of, rank_of};
 
-use crate::normal::NormalUrl;
+pub mod entries;
+pub mod place;
+
+use crate::normal::{NormalError, NormalUrl};
 use git_syntax::bytes::{before, cut, starts_with_byte};
 use std::marker::Model;
 
-/// A pattern of places, as the `<url>` of `credential.<url>.*` and `http.<url>.*`: a URL in its normal form, in whose host
-/// `*` may stand for one label.
+/// A pattern of places, as the `<url>` of `credential.<url>.*` and `http.<url>.*` (git-config(1)): a URL in its normal form,
+/// in whose host `*` may be a label.
+///
+/// It stands for a place exactly where
+///
+/// - the schemes are equal, and so are the ports, each the scheme's own where none is there;
+/// - the user of the place is that of the pattern, if the pattern has one; the password doesn't count;
+/// - the hosts have as many labels, each ended by a `.` or by the end of the host, and each label of the pattern is `*` or
+///   the label at its place. So `*` stands for one whole label, be it empty, and within a longer label for itself, which no
+///   host has; a `.` at the end of a host makes no label more;
+/// - the path of the place is that of the pattern without one `/` at its end, or follows it with a `/`: whole elements, with
+///   query and fragment as they are.
 #[derive(Drop)]
 pub struct UrlPattern<'a> {
     /// The normal form.
@@ -25,8 +44,47 @@ impl<'a> Model for UrlPattern<'a> {
     ghost view = { λ p. p.url };
 }
 
+impl<'a> UrlPattern<'a> {
+    /// The pattern that the text spells, as [`NormalUrl::parse_in`] reads it, with `*` among the bytes of a host.
+    ///
+    /// Room for three times as many bytes as the text has, and one more, is asked for; no memory is. A text that is no URL,
+    /// as `example.com` is, spells none.
+    ///
+    /// # Errors
+    ///
+    /// [`NormalError::NoRoom`] where the room is shorter than that, and else what the text has no normal form for: then Git
+    /// takes no entry of `http.*` with it.
+    ///
+    /// ```
+    /// /// Whether a pattern stands for a place, each in a room of its own.
+    /// fn stands_for(pattern: &[u8], room: &mut [u8], place: &NormalUrl<'_>) -> bool {
+    ///     match UrlPattern::parse_in(pattern, room) {
+    ///         Ok(pattern) => pattern.matches(place), // `https://*.example.com` for `https://git.example.com/a`
+    ///         Err(_) => false,
+    ///     }
+    /// }
+    /// ```
+    pub fn parse_in(text: &'a [u8], room: &'a mut [u8]) -> Result<UrlPattern<'a>, NormalError>
+        ensures { NormalizesIn true text.now (length room.old) result }
+    {
+        match NormalUrl::parse_in(text, true, room) {
+            Ok(url) => Ok(UrlPattern { url }),
+            Err(error) => Err(error),
+        }
+    }
+}
+
 impl UrlPattern<'_> {
-    /// Whether the pattern stands for the place.
+    /// Whether the pattern stands for the place, by the rules of [`UrlPattern`]. It takes no memory.
+    ///
+    /// The place is a normal form that is read without `*`, as [`place_in`](place::place_in) makes it of a location.
+    ///
+    /// ```
+    /// /// Whether a proxy that is set for a URL is used for a place.
+    /// fn is_used(pattern: &UrlPattern<'_>, place: &NormalUrl<'_>) -> bool {
+    ///     pattern.matches(place)
+    /// }
+    /// ```
     pub fn matches(&self, place: &NormalUrl<'_>) -> bool
         ensures { IsTrue result ↔ Matches self.now place.now }
     {
@@ -39,7 +97,7 @@ impl UrlPattern<'_> {
     }
 
     /// The rank of the pattern, if it stands for the place.
-    fn rank_for(&self, place: &NormalUrl<'_>) -> Option<Rank>
+    pub(crate) fn rank_for(&self, place: &NormalUrl<'_>) -> Option<Rank>
         ensures { HasRank (RanksFor place.now) self.now result }
     {
         if self.matches(place) {
@@ -61,7 +119,8 @@ impl UrlPattern<'_> {
     }
 }
 
-/// By what the best of several is chosen: the first number in which two differ decides, and the higher one is better.
+/// By what the best of several is told: the first number in which two differ decides, and the higher one is better
+/// (git-config(1): the host first, then the path, then the user).
 #[derive(Clone, Copy)]
 pub struct Rank {
     /// The length of the host, in bytes.
@@ -87,7 +146,18 @@ impl Rank {
     }
 }
 
-/// The best of the patterns that stand for the place, by its index.
+/// The index of the best of the patterns that stand for the place; none where none does. It takes no memory, and looks at
+/// each pattern once.
+///
+/// The one with the longest host is the best, `*` counted as the byte that it is; of these the one with the longest path,
+/// then one with a user before those without, and then the last.
+///
+/// ```
+/// /// The value that is set for a place: the values are as many as the patterns.
+/// fn picked<'a>(patterns: &[UrlPattern<'_>], values: &[&'a str], place: &NormalUrl<'_>) -> Option<&'a str> {
+///     values.get(best(patterns, place)?).copied()
+/// }
+/// ```
 pub fn best(patterns: &[UrlPattern<'_>], place: &NormalUrl<'_>) -> Option<usize>
     ensures { IsBest (RanksFor place.now) patterns.now result }
 {
@@ -101,8 +171,12 @@ pub fn best(patterns: &[UrlPattern<'_>], place: &NormalUrl<'_>) -> Option<usize>
     }
 }
 
-/// The best so far, or the one that comes next: that where its rank isn't lower.
-fn better(best: Option<(usize, Rank)>, next: usize, rank: Option<Rank>) -> Option<(usize, Rank)>
+/// The best so far, or the one that comes next: that where it has a rank, which isn't lower.
+pub(crate) fn better(
+    best: Option<(usize, Rank)>,
+    next: usize,
+    rank: Option<Rank>,
+) -> Option<(usize, Rank)>
     ensures { IsBetter best next rank result }
 {
     match (best, rank) {
@@ -211,14 +285,20 @@ fn behind<'a>(front: &[u8], text: &'a [u8]) -> Option<&'a [u8]>
 
 /// What a pattern picks goes to the place of the pattern, and to no other.
 ///
-/// - `picked`: let a pattern without `*` in its host stand for the normal form of the text of a location of HTTP that
-///   [`UrlRef::agrees_with_git`](git_location::url_ref::UrlRef::agrees_with_git) accepts. Then what Git's credential code
-///   reads in that text, and what a reader of URIs as libcurl reads in it, has the scheme, the host and the port of the
-///   pattern. The host may lack a `.` at its end that the pattern has, or have one that it lacks: Git passes over it, and
-///   the name is the same. So a credential that is picked by the pattern, for a text that is then given to Git, goes
-///   nowhere else.
-/// - `one`: a text has one normal form, so whoever reads it by the definition reads that.
+/// Let a pattern without `*` in its host stand for the normal form of the text of a location of HTTP that
+/// [`UrlRef::agrees_with_git`](git_location::url_ref::UrlRef::agrees_with_git) accepts. Then what Git's credential code reads
+/// in that text, and what a reader of URIs as libcurl reads in it, has the scheme, the host and the port of the pattern, each
+/// port the scheme's own where none is there. The host of the pattern may have a `.` at its end that theirs lacks: Git
+/// passes over it, and the name is the same (RFC 1034, section 3.1). So a credential that is picked by the pattern, for a
+/// text that is then handed to Git, goes nowhere else. That each of the two readers reads one thing in such a text is
+/// [`law_git`](git_laws::laws::law_git).
+///
+/// ```
+/// /// Whether the secret that is kept for a URL may be sent where a location leads. Then it goes to that URL's host.
+/// fn may_be_sent(url: &UrlRef<'_>, kept_for: &UrlPattern<'_>, place: &NormalUrl<'_>) -> bool {
+///     url.agrees_with_git() && kept_for.matches(place)
+/// }
+/// ```
 pub fn law_patterns()
-    ensures picked { PickedGoesToOwn }
-    ensures one { OneNormalForm }
+    ensures { PickedGoesToOwn }
 {}

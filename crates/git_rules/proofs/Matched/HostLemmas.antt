@@ -1,10 +1,11 @@
--- Hosts with the same labels are the same, except for a `.` at the end of one of them.
-use Rattle.std.proofs.Common.{◌≡◌, ℕ, ◌==◌, inl, inr, List, [], ◌∷◌, refl, sym, subst, ◌∙◌, true, false, All}
+-- Hosts with the same labels are the same, but for a `.` at the end of one of them.
+use Rattle.std.proofs.Common.{◌≡◌, ℕ, ◌==◌, inl, inr, List, [], ◌∷◌, refl, sym, subst, ◌∙◌, true, false, All, ◌⊎◌, ◌++◌, ◌<◌, length, arith, append_assoc, ap}
 use Rattle.std.proofs.lemmas.Bool.{both_ways, cases_Bool, eqb-true}
 use Rattle.std.proofs.lemmas.List.Elements.{All-cons, All-head, All-nil, All-tail}
 use Rattle.git_syntax.specs.Bytes.{dot, FreeOf}
 use Rattle.git_syntax.proofs.Texts.CutLemmas.{free-cons, free_head_tail}
-use Rattle.git_rules.specs.Patterns.{asterisk, in_first_label, labels_of, MatchesHost, MatchesLabel, MatchesLabels}
+use Rattle.git_rules.specs.Normal.{asterisk}
+use Rattle.git_rules.specs.Patterns.{in_first_label, labels_of, MatchesHost, MatchesLabel, MatchesLabels}
 use Rattle.git_rules.specs.PatternLaws.{IsOwnHost}
 use Rattle.git_rules.proofs.Matched.LabelLemmas.{labels_some}
 
@@ -77,14 +78,18 @@ one_empty (b ∷ bs) e = elim (cases_Bool (b == dot)) [
   | inr differs ↦ absurd (not_empty_first b (labels_of bs) [] (sym (labels_byte b bs differs) ∙ e))
 ]
 
+-- the hosts are the same, but for a `.` at the end of one of them
+abbrev AreAlike : List ℕ → List ℕ → Type 0
+AreAlike own host = (own ≡ host) ⊎ ((own ≡ host ++ dot ∷ []) ⊎ (host ≡ own ++ dot ∷ []))
+
 -- one byte more before both
-own_behind : (b c : ℕ) (bs cs : List ℕ) → b ≡ c → IsOwnHost bs cs → IsOwnHost (b ∷ bs) (c ∷ cs)
+own_behind : (b c : ℕ) (bs cs : List ℕ) → b ≡ c → AreAlike bs cs → AreAlike (b ∷ bs) (c ∷ cs)
 own_behind b c bs cs same (inl h) = inl (cc)
 own_behind b c bs cs same (inr (inl h)) = inr (inl (cc))
 own_behind b c bs cs same (inr (inr h)) = inr (inr (cc))
 
 -- the bytes of first labels
-first_bytes : (b c : ℕ) (bs cs : List ℕ) (l m : List (List ℕ)) → labels_of bs ≡ l → labels_of cs ≡ m → in_first_label b l ≡ in_first_label c m → (l ≡ m → IsOwnHost bs cs) → IsOwnHost (b ∷ bs) (c ∷ cs)
+first_bytes : (b c : ℕ) (bs cs : List ℕ) (l m : List (List ℕ)) → labels_of bs ≡ l → labels_of cs ≡ m → in_first_label b l ≡ in_first_label c m → (l ≡ m → AreAlike bs cs) → AreAlike (b ∷ bs) (c ∷ cs)
 first_bytes b c bs cs [] [] own other e rest =
     let first : b ≡ c = cc in own_behind b c bs cs first (rest refl)
 first_bytes b c bs cs [] (m ∷ ms) own other e rest =
@@ -105,7 +110,7 @@ first_bytes b c bs cs (l ∷ ls) (m ∷ ms) own other e rest =
     own_behind b c bs cs first (rest same)
 
 -- hosts with the same labels
-own_by_labels : (own host : List ℕ) → labels_of own ≡ labels_of host → IsOwnHost own host
+own_by_labels : (own host : List ℕ) → labels_of own ≡ labels_of host → AreAlike own host
 own_by_labels [] [] e = inl refl
 own_by_labels [] (c ∷ cs) e = absurd (labels_some c cs (sym e))
 own_by_labels (b ∷ bs) [] e = absurd (labels_some b bs e)
@@ -124,6 +129,13 @@ own_by_labels (b ∷ bs) (c ∷ cs) e =
       ]
     ]
 
+-- if the other has none at its end, the pattern may
+without_dot : (own host : List ℕ) → ((front : List ℕ) → ¬ (host ≡ front ++ dot ∷ [])) → AreAlike own host → IsOwnHost own host
+without_dot own host none (inl same) = inl same
+without_dot own host none (inr (inl more)) = inr more
+without_dot own host none (inr (inr less)) = absurd (none own less)
+
 -- a host without `*` stands for its own alone
-pub own_host : (pattern host : List ℕ) → FreeOf asterisk pattern → MatchesHost pattern host → IsOwnHost pattern host
-own_host pattern host free h = own_by_labels pattern host (same_labels (labels_of pattern) (labels_of host) (free_labels pattern free) h)
+pub own_host : (pattern host : List ℕ) → ((front : List ℕ) → ¬ (host ≡ front ++ dot ∷ [])) → FreeOf asterisk pattern → MatchesHost pattern host → IsOwnHost pattern host
+own_host pattern host none free h =
+    without_dot pattern host none (own_by_labels pattern host (same_labels (labels_of pattern) (labels_of host) (free_labels pattern free) h))

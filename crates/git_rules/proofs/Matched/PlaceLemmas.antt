@@ -20,7 +20,7 @@ named_same scheme authority named host information user port (UriAuthority.infor
     subst (λ n. HostPort false scheme n host port) (sym cut.1) h
 
 -- a text that ends in a byte has no end without it
-end_held : (c : ℕ) (a name z : List ℕ) → FreeOf c z → 0 < length z → a ++ c ∷ [] ≡ name ++ z → ⊥
+pub end_held : (c : ℕ) (a name z : List ℕ) → FreeOf c z → 0 < length z → a ++ c ∷ [] ≡ name ++ z → ⊥
 end_held c a [] z free some e = not_free c a [] (subst (FreeOf c) (sym e) free)
 end_held c [] (d ∷ name) z free some e = omega (arith, ap length (tails e), length-append name z)
 end_held c (b ∷ a) (d ∷ name) z free some e = end_held c a name z free some (tails e)

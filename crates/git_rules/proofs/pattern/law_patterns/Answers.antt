@@ -1,7 +1,6 @@
--- Each law is a lemma.
-use Rattle.git_rules.proofs.Matched.NormalUniqueLemmas.{one_normal}
+-- The law is a lemma.
 use Rattle.git_rules.proofs.Matched.PickedLemmas.{picked_own}
 use Rattle.git_rules.proofs.pattern.law_patterns.Goals as goal
 
 pub returns : goal.returns
-returns c = record { picked = picked_own; one = one_normal }
+returns c = picked_own

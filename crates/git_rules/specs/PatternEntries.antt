@@ -1,0 +1,50 @@
+-- The entries of a configuration that apply to a place, as `http.<url>.proxy` does, and the best of them.
+use Rattle.std.specs.Prelude.{◌≡◌, ℕ, true, List, ◌+◌, ◌*◌, ◌<◌, ◌≤◌, length, All, Option, Some, None, IfSome, Result, Ok, Err}
+use Rattle.git_rules.specs.declared.normal.NormalError.{NormalError}
+use Rattle.git_rules.specs.declared.normal.NormalError.TheVariants.{NoRoom}
+use Rattle.git_rules.specs.declared.pattern.Rank.{Rank}
+use Rattle.git_rules.specs.Config.{ConfigEntry, HasName, IsOfSection}
+use Rattle.git_rules.specs.Normal.{NormalPlace, IsNormalOf}
+use Rattle.git_rules.specs.Patterns.{HasRank, IsBest, RanksFor}
+
+-- the entry sets the variable, for some place or for all
+abbrev pub IsOfVariable : List ℕ → List ℕ → ConfigEntry → Type 0
+IsOfVariable section name e = IsOfSection section e × HasName name e
+
+-- the rank of an entry for all places, below that of each pattern
+abbrev pub lowest_rank : Rank
+lowest_rank = record { host = 0; path = 0; user = 0 }
+
+-- for all places the lowest rank; for a URL its rank, where it has a normal form and stands for the place
+abbrev pub RanksSubsection : NormalPlace → Option (List ℕ) → Rank → Type 0
+RanksSubsection place None rank = rank ≡ lowest_rank
+RanksSubsection place (Some url) rank = (pattern : NormalPlace) × IsNormalOf true url pattern
+    × RanksFor place pattern rank
+
+-- the entry sets the variable for the place, with this rank
+abbrev pub RanksEntry : List ℕ → List ℕ → NormalPlace → ConfigEntry → Rank → Type 0
+RanksEntry section name place e rank = IsOfVariable section name e
+    × RanksSubsection place e.subsection rank
+
+-- a room of this length is enough for the URL of the entry, if it sets the variable
+abbrev pub HasRoomFor : List ℕ → List ℕ → ℕ → ConfigEntry → Type 0
+HasRoomFor section name room e = IsOfVariable section name e
+    → IfSome e.subsection (λ url. 3 * length url + 1 ≤ room)
+
+-- the rank of an entry, or that the room is too short for it
+abbrev pub RanksIn : List ℕ → List ℕ → NormalPlace → ℕ → ConfigEntry → Result (Option Rank) NormalError
+    → Type 0
+RanksIn section name place room e (Ok rank) = HasRank (RanksEntry section name place) e rank
+RanksIn section name place room e (Err error) = (error ≡ NoRoom) × ¬ HasRoomFor section name room e
+
+-- the index of the best entry, or that the room is too short for one of them
+abbrev pub IsBestIn : List ℕ → List ℕ → NormalPlace → ℕ → List ConfigEntry → Result (Option ℕ) NormalError
+    → Type 0
+IsBestIn section name place room entries (Ok best) = IsBest (RanksEntry section name place) entries best
+IsBestIn section name place room entries (Err error) = (error ≡ NoRoom)
+    × ¬ All (HasRoomFor section name room) entries
+
+-- the rank of a URL, or that the room is too short for it
+abbrev pub RanksUrlIn : NormalPlace → ℕ → List ℕ → Result (Option Rank) NormalError → Type 0
+RanksUrlIn place room url (Ok rank) = HasRank (RanksSubsection place) (Some url) rank
+RanksUrlIn place room url (Err error) = (error ≡ NoRoom) × (room < 3 * length url + 1)

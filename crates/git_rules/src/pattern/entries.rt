@@ -1,0 +1,143 @@
+//! The entries of a configuration that apply to a place, and the best of them.
+//!
+//! It uses `config`, `normal` and the patterns. Its contract: an entry applies with the rank that the definitions give it,
+//! and the best is one of those that apply, by Git's order. It takes no memory: each URL is read into one room that the
+//! caller lends.
+
+ghost use Rattle.std.specs.Prelude.{◌≡◌, ◌↔◌, IsTrue, length};
+ghost use Rattle.git_rules.specs.PatternEntries.{IsBestIn, IsOfVariable, RanksIn, RanksUrlIn};
+
+use crate::config::Entry;
+use crate::normal::{NormalError, NormalUrl};
+use crate::pattern::{Rank, UrlPattern, better};
+
+/// The rank of an entry for all places.
+const LOWEST: Rank = Rank {
+    host: 0,
+    path: 0,
+    user: 0,
+};
+
+/// The rank with which the entry sets the variable `section.<url>.name` for the place; none where it doesn't.
+///
+/// It does exactly where its section and its name are these, without letter case, and it has no subsection, or a URL with a
+/// normal form that stands for the place, as a [`UrlPattern`] does. Without a subsection its rank is the lowest: it is for
+/// all places. The room is for the URL: three times as many bytes as that has, and one more. No memory is asked for.
+///
+/// Of `http.*` Git takes the best entry, as [`best_entry`] does. Of `credential.*` it goes through all that apply, in their
+/// order, so ask this of each; two things differ there:
+///
+/// - Git also takes an entry whose subsection isn't a whole URL, as `credential.example.com.helper`, and compares the parts
+///   that it has with those of the request. This call passes it over, be it a `helper` that is empty, with which Git drops
+///   those before it.
+/// - Git compares with a URL that it makes of the parts of the request: the path is decoded, loses the slashes at its end,
+///   and is escaped anew, `?` and `=` too. So a URL with a path may apply there and not here, or here and not there, where
+///   the path of the place has a query, an escaped delimiter or such slashes. A URL without a path knows no difference.
+///
+/// # Errors
+///
+/// [`NormalError::NoRoom`] where the entry sets the variable for a URL, and the room is too short for that; no other error.
+///
+/// ```
+/// /// The helper that an entry of a configuration names for a place.
+/// fn helper<'a>(entry: &Entry<'a>, place: &NormalUrl<'_>, room: &mut [u8]) -> Result<Option<&'a [u8]>, NormalError> {
+///     match entry_rank(entry, "credential", "helper", place, room)? {
+///         None => Ok(None),
+///         Some(_) => Ok(entry.value),
+///     }
+/// }
+/// ```
+pub fn entry_rank(
+    entry: &Entry<'_>,
+    section: &str,
+    name: &str,
+    place: &NormalUrl<'_>,
+    room: &mut [u8],
+) -> Result<Option<Rank>, NormalError>
+    ensures { RanksIn section.now name.now place.now (length room.old) entry.now result }
+{
+    if !is_of_variable(entry, section, name) {
+        return Ok(None);
+    }
+    match entry.subsection {
+        None => Ok(Some(LOWEST)),
+        Some(url) => url_rank(url, place, room),
+    }
+}
+
+/// Whether the entry sets the variable, for some place or for all.
+fn is_of_variable(entry: &Entry<'_>, section: &str, name: &str) -> bool
+    ensures { IsTrue result ↔ IsOfVariable section.now name.now entry.now }
+{
+    entry.is_section(section) && entry.is_name(name)
+}
+
+/// The rank of a URL, if it stands for the place.
+fn url_rank(url: &[u8], place: &NormalUrl<'_>, room: &mut [u8]) -> Result<Option<Rank>, NormalError>
+    ensures { RanksUrlIn place.now (length room.old) url.now result }
+{
+    match UrlPattern::parse_in(url, room) {
+        Ok(pattern) => Ok(pattern.rank_for(place)),
+        Err(error) => {
+            if is_of_room(error) {
+                Err(error)
+            } else {
+                Ok(None)
+            }
+        }
+    }
+}
+
+/// Whether the room is too short.
+fn is_of_room(error: NormalError) -> bool
+    ensures { IsTrue result ↔ (error ≡ NormalError.NoRoom) }
+{
+    match error {
+        NormalError::NoRoom => true,
+        _ => false,
+    }
+}
+
+/// The index of the best of the entries that set the variable `section.<url>.name` for the place; none where none does. It
+/// looks at each entry once, and takes no memory.
+///
+/// The one with the highest [`Rank`] is the best, and of these the last: it is the entry whose value Git takes of `http.*`.
+/// What [`entry_rank`] says of the room, which is used for one URL after the other, holds of each entry.
+///
+/// # Errors
+///
+/// [`NormalError::NoRoom`] where the room is too short for the URL of one of the entries that set the variable; no other
+/// error.
+///
+/// ```
+/// /// The proxy that Git uses for a place.
+/// fn proxy<'a>(
+///     entries: &[Entry<'a>],
+///     place: &NormalUrl<'_>,
+///     room: &mut [u8],
+/// ) -> Result<Option<&'a [u8]>, NormalError> {
+///     match best_entry(entries, "http", "proxy", place, room)? {
+///         None => Ok(None),
+///         Some(i) => Ok(entries.get(i).and_then(|entry| entry.value)),
+///     }
+/// }
+/// ```
+pub fn best_entry(
+    entries: &[Entry<'_>],
+    section: &str,
+    name: &str,
+    place: &NormalUrl<'_>,
+    room: &mut [u8],
+) -> Result<Option<usize>, NormalError>
+    ensures { IsBestIn section.now name.now place.now (length room.old) entries.now result }
+{
+    let mut best = None;
+    for (i, entry) in entries.iter().enumerate() {
+        let rank = entry_rank(entry, section, name, place, room)?;
+        best = better(best, i, rank);
+    }
+    match best {
+        None => Ok(None),
+        Some((i, _)) => Ok(Some(i)),
+    }
+}
