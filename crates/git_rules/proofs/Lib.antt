@@ -1,13 +1,8 @@
+-- Lemmas by topic, lowest first.
 pub mod Entries
-pub mod NormalTextLemmas
-pub mod Matched
+pub mod Rules
 pub mod Numbers
 pub mod Allowed
 pub mod Shell
-pub mod Rules
-pub mod NormalHostLemmas
-pub mod NormalCutLemmas
-pub mod NormalPathLemmas
-pub mod NormalUnique
-pub mod NormalWebLemmas
+pub mod Normal
 pub mod Matched

@@ -10,7 +10,7 @@ use Rattle.git_laws.specs.GitWeb.{CredentialReading, CredentialReads, UriReading
 use Rattle.git_rules.specs.Normal.{asterisk, NormalPlace, IsNormalOf}
 use Rattle.git_rules.specs.Patterns.{Matches}
 
--- the host is the pattern's own, but for a `.` at the end of that, which Git passes over: a name with it is the same name,
+-- the host is the pattern's own, except for a `.` at the end of that, which Git passes over: a name with it is the same name,
 -- written from the root of all names (RFC 1034, section 3.1)
 abbrev pub IsOwnHost : List ℕ → List ℕ → Type 0
 IsOwnHost own host = (own ≡ host) ⊎ (own ≡ host ++ dot ∷ [])

@@ -119,7 +119,7 @@ impl UrlPattern<'_> {
     }
 }
 
-/// By what the best of several is told: the first number in which two differ decides, and the higher one is better
+/// By what the best of several is chosen: the first number in which two differ decides, and the higher one is better
 /// (git-config(1): the host first, then the path, then the user).
 #[derive(Clone, Copy)]
 pub struct Rank {
@@ -290,7 +290,7 @@ fn behind<'a>(front: &[u8], text: &'a [u8]) -> Option<&'a [u8]>
 /// in that text, and what a reader of URIs as libcurl reads in it, has the scheme, the host and the port of the pattern, each
 /// port the scheme's own where none is there. The host of the pattern may have a `.` at its end that theirs lacks: Git
 /// passes over it, and the name is the same (RFC 1034, section 3.1). So a credential that is picked by the pattern, for a
-/// text that is then handed to Git, goes nowhere else. That each of the two readers reads one thing in such a text is
+/// text that is then given to Git, goes nowhere else. That each of the two readers reads one thing in such a text is
 /// [`law_git`](git_laws::laws::law_git).
 ///
 /// ```

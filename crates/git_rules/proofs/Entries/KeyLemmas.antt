@@ -19,10 +19,6 @@ pub empty_is : (t : List ℕ) → (length t == 0) ≡ true → t ≡ []
 empty_is [] h = refl
 empty_is (b ∷ t) h = absurd (omega (arith, eqb-true (length (b ∷ t)) 0 h))
 
--- a key without a dot is none
-pub no_dot : (key s : List ℕ) (sub : Option (List ℕ)) (n : List ℕ) → FreeOf dot key → ¬ SpellsKey key s sub n
-no_dot key s sub n free (k, e) = not_free dot s (name_text sub n) (subst (λ t. FreeOf dot t) e free)
-
 -- the pieces around the first dot determine the section
 pub section_is : (key a b s : List ℕ) (sub : Option (List ℕ)) (n : List ℕ) → FreeOf dot a → key ≡ a ++ dot ∷ b → SpellsKey key s sub n → (a ≡ s) × (b ≡ name_text sub n)
 section_is key a b s sub n free e (k, f) = cut_unique dot a s b (name_text sub n) free k.0 (sym e ∙ f)

@@ -1,4 +1,4 @@
--- Hosts with the same labels are the same, but for a `.` at the end of one of them.
+-- Hosts with the same labels are the same, except for a `.` at the end of one of them.
 use Rattle.std.proofs.Common.{◌≡◌, ℕ, ◌==◌, inl, inr, List, [], ◌∷◌, refl, sym, subst, ◌∙◌, true, false, All, ◌⊎◌, ◌++◌, ◌<◌, length, arith, append_assoc, ap}
 use Rattle.std.proofs.lemmas.Bool.{both_ways, cases_Bool, eqb-true}
 use Rattle.std.proofs.lemmas.List.Elements.{All-cons, All-head, All-nil, All-tail}
@@ -78,7 +78,7 @@ one_empty (b ∷ bs) e = elim (cases_Bool (b == dot)) [
   | inr differs ↦ absurd (not_empty_first b (labels_of bs) [] (sym (labels_byte b bs differs) ∙ e))
 ]
 
--- the hosts are the same, but for a `.` at the end of one of them
+-- the hosts are the same, except for a `.` at the end of one of them
 abbrev AreAlike : List ℕ → List ℕ → Type 0
 AreAlike own host = (own ≡ host) ⊎ ((own ≡ host ++ dot ∷ []) ⊎ (host ≡ own ++ dot ∷ []))
 

@@ -4,7 +4,7 @@ use Rattle.std.proofs.lemmas.Bool.{cases_Bool}
 use Rattle.git_syntax.specs.Bytes.{dot, FreeOf}
 use Rattle.git_syntax.proofs.Texts.CutLemmas.{free_head_tail}
 use Rattle.git_rules.specs.Patterns.{labels_of, in_first_label, MatchesHost, MatchesLabels}
-use Rattle.git_rules.proofs.Matched.PathLemmas.{no_length}
+use Rattle.git_rules.proofs.Entries.KeyLemmas.{empty_is}
 
 -- what is before the first `.` is the first label
 pub labels-cut : (label rest : List ℕ) → FreeOf dot label → labels_of (label ++ dot ∷ rest) ≡ label ∷ labels_of rest
@@ -62,6 +62,6 @@ only host (Some p) free h = (
 pub at_end : (pattern host wanted rest : List ℕ) (r : Bool) → wanted ≡ [] → r ≡ (length rest == 0)
     → (MatchesHost wanted rest ↔ MatchesHost pattern host) → IsTrue r ↔ MatchesHost pattern host
 at_end pattern host wanted rest r none test same = (
-  λ yes. same.0 (subst (λ z. MatchesHost z rest) (sym none) (subst (λ z. MatchesHost [] z) (sym (no_length rest (sym test ∙ yes))) tt)),
+  λ yes. same.0 (subst (λ z. MatchesHost z rest) (sym none) (subst (λ z. MatchesHost [] z) (sym (empty_is rest (sym test ∙ yes))) tt)),
   λ h. test ∙ ap (λ z. length z == 0) (nothing_left rest (subst (λ z. MatchesHost z rest) none (same.1 h))),
 )

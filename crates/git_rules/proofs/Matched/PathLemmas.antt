@@ -5,6 +5,7 @@ use Rattle.std.proofs.lemmas.List.{append_cancel_left}
 use Rattle.git_syntax.specs.Bytes.{slash, begins_with}
 use Rattle.git_syntax.proofs.Texts.CutLemmas.{begins_cut}
 use Rattle.git_rules.specs.Patterns.{IsBelow, without_last_slash}
+use Rattle.git_rules.proofs.Entries.KeyLemmas.{empty_is}
 
 -- a last `/` is left out
 pub without-slash : (front : List ℕ) → without_last_slash (front ++ slash ∷ []) ≡ front
@@ -41,11 +42,6 @@ below_rest front path rest joined = (
   ],
 )
 
--- a text of no length is empty
-pub no_length : (rest : List ℕ) → (length rest == 0) ≡ true → rest ≡ []
-no_length [] e = refl
-no_length (b ∷ bs) e = absurd (omega (arith, eqb-true (length (b ∷ bs)) 0 e))
-
 -- nothing that doesn't begin with a path is below it
 pub below_none : (front path : List ℕ) → ((rest : List ℕ) → ¬ (path ≡ front ++ rest)) → IsTrue false ↔ IsBelow front path
 below_none front path never = (
@@ -56,7 +52,7 @@ below_none front path never = (
 -- where nothing is left, it is the path
 pub below_ends : (front path rest : List ℕ) (r : Bool) → path ≡ front ++ rest → r ≡ (length rest == 0) → r ≡ true → IsTrue r ↔ IsBelow front path
 below_ends front path rest r joined test all = (
-  λ same. (below_rest front path rest joined).1 (inl (no_length rest (sym test ∙ all))),
+  λ same. (below_rest front path rest joined).1 (inl (empty_is rest (sym test ∙ all))),
   λ below. all,
 )
 

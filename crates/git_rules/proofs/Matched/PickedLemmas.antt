@@ -76,7 +76,7 @@ port_same scheme (Some port) number web within (inr (p, is, there)) =
 
 -- ---- hosts of the class
 
--- a text has no `.` at its end where another one without it stands there
+-- a text has no `.` at its end where another one without it is there
 end_apart : (front name z : List ℕ) → FreeOf dot z → 0 < length z → ¬ (name ++ z ≡ front ++ dot ∷ [])
 end_apart front name z free some e = end_held dot front name z free some (sym e)
 

@@ -60,10 +60,6 @@ abbrev pub IsBestSoFar : {T : Type 0} → (T → Rank → Type 0) → List T →
 IsBestSoFar Ranks items None = All (HasNoRank Ranks) items
 IsBestSoFar Ranks items (Some (i, rank)) = (best : IsBestAt Ranks items i) × (best.rank ≡ rank)
 
--- so it is the best of all
-pub best_of_all : {T : Type 0} (Ranks : T → Rank → Type 0) (items : List T) (i : ℕ) (rank : Rank) → IsBestSoFar Ranks items (Some (i, rank)) → IsBest Ranks items (Some i)
-best_of_all Ranks items i rank h = h.0
-
 -- an item without a rank changes nothing
 step_none : {T : Type 0} (Ranks : T → Rank → Type 0) (done : List T) (t : T) (best : Option (ℕ × Rank)) → IsBestSoFar Ranks done best → HasNoRank Ranks t → IsBestSoFar Ranks (done ++ t ∷ []) best
 step_none Ranks done t None h none = All-push (HasNoRank Ranks) done t h none

@@ -31,7 +31,7 @@ const LOWEST: Rank = Rank {
 ///   that it has with those of the request. This call passes it over, be it a `helper` that is empty, with which Git drops
 ///   those before it.
 /// - Git compares with a URL that it makes of the parts of the request: the path is decoded, loses the slashes at its end,
-///   and is escaped anew, `?` and `=` too. So a URL with a path may apply there and not here, or here and not there, where
+///   and is escaped again, `?` and `=` too. So a URL with a path may apply there and not here, or here and not there, where
 ///   the path of the place has a query, an escaped delimiter or such slashes. A URL without a path knows no difference.
 ///
 /// # Errors

@@ -26,7 +26,7 @@ pub enum PlaceError {
 /// The place of the location: the normal form of its text, by which Git picks settings for it.
 ///
 /// The text is written to the front of the room, and its normal form behind it. Room for four times as many bytes as the text
-/// has, and one more, is asked for ([`UrlRef::text_len`] tells its length); no memory is.
+/// has, and one more, is asked for ([`UrlRef::text_len`] reports its length); no memory is.
 ///
 /// # Errors
 ///

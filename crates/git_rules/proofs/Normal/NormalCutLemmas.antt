@@ -6,19 +6,9 @@ use Rattle.git_syntax.proofs.Texts.CutLemmas.{tails, cut_unique, not_free, schem
 use Rattle.git_rules.specs.Normal.{UrlCut}
 use Rattle.git_rules.specs.NormalPieces.{CutsBefore}
 
--- how long the pieces of a URL are
-pub length-url : (text scheme authority behind : List ℕ) → UrlCut text scheme authority behind → length text ≡ length scheme + 3 + length authority + length behind
-length-url text scheme authority behind cut =
-    let first = length-append scheme (58 ∷ 47 ∷ 47 ∷ (authority ++ behind)) in
-    let second = length-append authority behind in
-    omega (arith, ap length cut.joined, first, second)
-
 url_pieces : (text scheme behind s a b : List ℕ) → FreeOf colon scheme → text ≡ scheme ++ colon ∷ behind → UrlCut text s a b → (scheme ≡ s) × (behind ≡ slash ∷ slash ∷ (a ++ b))
 url_pieces text scheme behind s a b free joined h =
     cut_unique colon scheme s behind (slash ∷ slash ∷ (a ++ b)) free (scheme_text_free s colon h.scheme_text refl) (sym joined ∙ h.joined)
-
-pub no_colon_no_url : (text s a b : List ℕ) → FreeOf colon text → UrlCut text s a b → ⊥
-no_colon_no_url text s a b free h = not_free colon s (slash ∷ slash ∷ (a ++ b)) (subst (λ z. FreeOf colon z) h.joined free)
 
 pub no_scheme_no_url : (text scheme behind s a b : List ℕ) → FreeOf colon scheme → text ≡ scheme ++ colon ∷ behind → is_scheme_text scheme ≡ false → UrlCut text s a b → ⊥
 no_scheme_no_url text scheme behind s a b free joined other h =
@@ -31,11 +21,3 @@ no_slash_no_url text scheme behind s a b free joined other h =
 pub one_slash_no_url : (text scheme behind more s a b : List ℕ) → FreeOf colon scheme → text ≡ scheme ++ colon ∷ behind → behind ≡ slash ∷ more → begins_with slash more ≡ false → UrlCut text s a b → ⊥
 one_slash_no_url text scheme behind more s a b free joined first other h =
     false≢true (sym other ∙ ap (begins_with slash) (tails (sym first ∙ (url_pieces text scheme behind s a b free joined h).1)))
-
-pub url_cut_of : (text scheme behind more rest a b : List ℕ) → text ≡ scheme ++ colon ∷ behind → is_scheme_text scheme ≡ true → behind ≡ slash ∷ more → more ≡ slash ∷ rest → CutsBefore (is_path_start true) rest a b → UrlCut text scheme a b
-url_cut_of text scheme behind more rest a b joined named first second cut = record {
-  joined = joined ∙ ap (λ z. scheme ++ colon ∷ z) (first ∙ ap (λ z. slash ∷ z) (second ∙ ap (λ z. slash ∷ z) cut.joined));
-  scheme_text = named;
-  before_path = cut.lacks;
-  path_starts = cut.begins;
-}

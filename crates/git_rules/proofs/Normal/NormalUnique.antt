@@ -210,10 +210,6 @@ part_flawed globs text s a b room BadHost enough cut flaw = (enough, (s, a, b, c
 part_flawed globs text s a b room BadPort enough cut flaw = (enough, (s, a, b, cut, flaw), cut_refused globs text s a b BadPort cut flaw)
 part_flawed globs text s a b room AboveRoot enough cut flaw = (enough, (s, a, b, cut, flaw), cut_refused globs text s a b AboveRoot cut flaw)
 
--- a text that is no URL is refused for that
-pub no_url_flawed : (globs : Bool) (text : List ℕ) (room : ℕ) → 3 * length text + 1 ≤ room → ((scheme authority behind : List ℕ) → ¬ UrlCut text scheme authority behind) → NormalizesIn globs text room (Err NoUrl)
-no_url_flawed globs text room enough none = (enough, none, λ n h. none h.scheme h.authority h.behind h.cut)
-
 -- what was written of the parts is the normal form, or the path has a flaw
 pub parts_normalize : (globs : Bool) (text scheme lowered authority behind : List ℕ) (user : Option (List ℕ)) (host : List ℕ) (port : Option ℕ) (room : ℕ) (r : Result NormalPlace NormalError) → 3 * length text + 1 ≤ room → UrlCut text scheme authority behind → lowered ≡ lowercase scheme → ReadsAuthority globs lowered authority user host port
     → MatchResult r (λ n. HoldsParts lowered user host port behind n) (λ e. PathFlaw behind e) → NormalizesIn globs text room r

@@ -93,11 +93,6 @@ put_last segment stack free = ap (λ s. put_segments s stack) (segments_alone se
 
 -- ---- the path of a stack is cut at its last `/`
 
--- a path without a `/` is that of an empty stack
-pub none_on_top : (path : List ℕ) (stack : List (List ℕ)) → ShowsStack path stack → FreeOf slash path → without_top stack ≡ None
-none_on_top path [] shows free = refl
-none_on_top path (top ∷ below) shows free = absurd (not_free slash (stacked_path below) top (subst (λ p. FreeOf slash p) shows.0 free))
-
 nil_no_cut : (front back : List ℕ) → [] ≡ front ++ slash ∷ back → ⊥
 nil_no_cut front back e = let long = length-append front (slash ∷ back) in let none = ap length e in omega (arith, long, none)
 
@@ -190,12 +185,6 @@ after_other front form new at start end stack w shows flat one two =
     (form ∷ stack, put_other stack form first second, (w.whole ∙ append_assoc front (slash ∷ []) form ∙ ap (λ x. x ++ slash ∷ form) shows.0, (flat, shows.1)))
 
 -- ---- the whole path
-
--- a path that isn't empty needs no root
-pub root_kept : (room : List ℕ) (at : ℕ) → ¬ (at ≡ 0) → 1 ≤ length room → take at room ≡ or_root (take at room)
-root_kept [] at some long = absurd (omega (arith, long))
-root_kept (b ∷ bs) zero some long = absurd (some refl)
-root_kept (b ∷ bs) (suc n) some long = refl
 
 -- a text without its first `/` is as sound, and no longer
 pub sound_unrooted : (text : List ℕ) → is_sound text ≡ true → is_sound (unrooted text) ≡ true

@@ -2,7 +2,7 @@
 use Rattle.std.proofs.Common.{◌≡◌, ◌≢◌, ◌∙◌, ◌<◌, ◌∷◌, ◌++◌, ℕ, Bool, true, false, ◌==◌, List, [], length, refl, sym, ap, subst, arith, ◌⊎◌, inl, inr, ⊎_elim, Option, Some, None, Result, Ok, Err, decimal}
 use Rattle.std.specs.Prelude.{IfSome}
 use Rattle.std.specs.List.{list_all}
-use Rattle.std.specs.Char.{is_ascii_digit}
+use Rattle.std.specs.Char.{is_ascii_lowercase, is_ascii_digit}
 use Rattle.std.proofs.lemmas.Bool.{and_from, false≢true, eqb-true, cases_Bool}
 use Rattle.std.proofs.lemmas.Bool.Decides.{nat_tests}
 use Rattle.std.proofs.lemmas.List.{append-nil, append_assoc, length-append, map-append}
@@ -32,7 +32,7 @@ use Rattle.git_laws.proofs.Written.WrittenUrlLemmas.{authority_text, canonical_c
 use Rattle.git_laws.proofs.GitReadings.WebTextLemmas.{web_authority, web_scheme, web_text}
 use Rattle.git_rules.specs.Normal.{NormalPlace, CutsPort, HostFor, HostPort, IsUserOf, NormalAuthority, UrlCut, IsNormalOf, is_host_byte, lacks_host}
 use Rattle.git_rules.specs.NormalLaws.{IsOwnPlace, own_port, own_user}
-use Rattle.git_rules.proofs.NormalUnique.{authority_unique, url_cut_unique}
+use Rattle.git_rules.proofs.Normal.NormalUnique.{authority_unique, url_cut_unique}
 
 -- ---- user information
 
@@ -134,22 +134,20 @@ bracketed_own globs host (address, normal, e) = record {
   ends = bracketed_ends host (left_bracket ∷ address) e;
 }
 
-begun : (test : ℕ → Bool) (t : List ℕ) → begins_by test t ≡ true → 0 < length t
-begun test [] h = absurd (false≢true h)
-begun test (b ∷ bs) h = omega arith
+-- a label that begins with a letter has a byte
+label_there : (label : List ℕ) → begins_by is_ascii_lowercase label ≡ true → 0 < length label
+label_there [] h = absurd (false≢true h)
+label_there (b ∷ bs) h = omega arith
 
 unambiguous_own : (globs : Bool) (host : List ℕ) → IsUnambiguousHost host → IsOwnHost globs host
 unambiguous_own globs host (inl name) =
-    let some = begun _ name.label name.letter in
+    let some = label_there name.label name.letter in
     let long : 0 < length host = ⊎_elim (λ h. omega (arith, ap length h.1, some)) (λ h. omega (arith, ap length h.2, length-append h.0 (dot ∷ name.label))) name.last in
     plain_own globs host long name.bytes
 unambiguous_own globs host (inr (inl h)) =
     let long : 0 < length host = omega (arith, ap length h.joined, length-append h.first (dot ∷ (h.second ++ dot ∷ (h.third ++ dot ∷ h.fourth)))) in
     ⊎_elim (plain_own globs host long) (bracketed_own globs host) (host_shape host (inr (inl h)))
 unambiguous_own globs host (inr (inr h)) = bracketed_own globs host h
-
-above_zero : (p : ℕ) → Some p ≢ Some 0 → 0 < p
-above_zero p other = grind arith
 
 -- the host with its port is that host, and that port where it isn't the scheme's own
 host_port_own : (globs : Bool) (scheme host : List ℕ) (port : Option ℕ) → IsOwnHost globs host → IfSome port (λ p. p < 65536) → port ≢ Some 0 → HostPort globs scheme (host ++ port_part port) host (own_port scheme port)
@@ -168,7 +166,7 @@ host_port_own globs scheme host (Some p) own small other =
       cut = CutsPort.at_colon refl (free_of_all is_ascii_digit colon (decimal p) digits refl) (free_of_all is_ascii_digit right_bracket (decimal p) digits refl);
       bytes = own.bytes;
       host_form = HostFor.named (own.there (colon ∷ decimal p)) (sym own.lower);
-      port_form = inr (p, number_written strict p small (above_zero p other), refl);
+      port_form = inr (p, number_written strict p small (grind arith), refl);
     }
 
 -- ---- the text

@@ -11,11 +11,6 @@ use Rattle.git_syntax.proofs.Texts.EscapeLemmas.{sound_tail}
 use Rattle.git_rules.specs.Normal.{normal_byte, normal_text, escaped_byte}
 use Rattle.git_rules.specs.NormalPieces.{SplitsNormal}
 
--- the escape of a byte is three bytes
-pub length-encode_byte : (b : ℕ) → length (percent_encode_byte b) ≡ 3
-unfolding percent_encode_byte
-length-encode_byte b = refl
-
 -- a byte that is no `%` is written by itself
 pub normal_kept : (b : ℕ) (rest : List ℕ) → (b == percent_sign) ≡ false → normal_text (b ∷ rest) ≡ normal_byte false b ++ normal_text rest
 unfolding normal_text
@@ -49,12 +44,6 @@ sound_long [] sound = grind (arith, nat_tests)
 sound_long (b ∷ []) sound = grind (arith, nat_tests)
 sound_long (b ∷ c ∷ rest) sound = omega arith
 
--- they are digits
-pub sound_digits : (behind : List ℕ) → is_sound (percent_sign ∷ behind) ≡ true → (is_hexadecimal (get_or behind 0 0) ≡ true) × (is_hexadecimal (get_or behind 1 0) ≡ true)
-sound_digits [] sound = absurd (let long = sound_long [] sound in omega (arith, long))
-sound_digits (b ∷ []) sound = absurd (let long = sound_long (b ∷ []) sound in omega (arith, long))
-sound_digits (b ∷ c ∷ rest) sound = let parts = sound_escape b c rest sound in (parts.0, parts.1)
-
 -- the escape that a sound text begins with
 pub splits_escape : (behind : List ℕ) (high low : ℕ) → is_sound (percent_sign ∷ behind) ≡ true → high ≡ digit_value (get_or behind 0 0) → low ≡ digit_value (get_or behind 1 0)
     → SplitsNormal (percent_sign ∷ behind) (high * 16 + low) true (take (length behind - 2) (drop 2 behind))
@@ -75,4 +64,5 @@ all_normal done front rest text joined e = sym (append-nil done) ∙ sym (ap (λ
 
 -- how long the escape of a byte makes a text
 pub escaped_length : (text : List ℕ) (b : ℕ) → text ≡ percent_encode_byte b → length text ≡ 3
-escaped_length text b e = ap length e ∙ length-encode_byte b
+unfolding percent_encode_byte
+escaped_length text b e = ap length e
