@@ -4,5 +4,5 @@ pub mod Rules
 pub mod Numbers
 pub mod Allowed
 pub mod Shell
-pub mod Normal
+pub mod NormalForms
 pub mod Matched

@@ -11,6 +11,7 @@ mod from_input;
 mod in_room;
 mod parts;
 mod paths;
+mod patterns;
 mod reading;
 mod rewriting;
 mod rules;

@@ -8,7 +8,7 @@ use Rattle.git_rules.specs.Normal.{NormalPlace, IsNormalOf}
 use Rattle.git_rules.specs.NormalFlaws.{NormalizesIn}
 use Rattle.git_rules.specs.Patterns.{HasRank, RanksFor}
 use Rattle.git_rules.specs.PatternEntries.{IsOfVariable, RanksIn, RanksSubsection, RanksUrlIn}
-use Rattle.git_rules.proofs.Normal.NormalUnique.{normal_unique}
+use Rattle.git_rules.proofs.NormalForms.NormalUnique.{normal_unique}
 
 -- the rank of a URL is that of its one normal form
 pub url_ranked : (place pattern : NormalPlace) (url : List ℕ) (r : Option Rank) → IsNormalOf true url pattern → HasRank (RanksFor place) pattern r → HasRank (RanksSubsection place) (Some url) r

@@ -2,7 +2,7 @@
 use Rattle.std.proofs.Common.{refl, sym, ap, ◌∷◌, length, arith, length-append}
 use Rattle.git_syntax.specs.Bytes.{at_sign}
 use Rattle.git_rules.specs.Normal.{NormalAuthority}
-use Rattle.git_rules.proofs.Normal.NormalHostLemmas.{user_fits, user_sound}
+use Rattle.git_rules.proofs.NormalForms.NormalHostLemmas.{user_fits, user_sound}
 use Rattle.git_rules.proofs.normal.authority.read_authority.Goals as goal
 
 pub returns : goal.returns

@@ -1,6 +1,6 @@
 -- What doesn't begin with a scheme, a colon and two slashes is no URL.
 use Rattle.std.proofs.Common.{sym}
-use Rattle.git_rules.proofs.Normal.NormalCutLemmas.{no_scheme_no_url, no_slash_no_url, one_slash_no_url}
+use Rattle.git_rules.proofs.NormalForms.NormalCutLemmas.{no_scheme_no_url, no_slash_no_url, one_slash_no_url}
 use Rattle.git_rules.proofs.normal.cuts.cut_url.Goals as goal
 
 pub returns-then-not-is_scheme_text : goal.returns-then-not-is_scheme_text

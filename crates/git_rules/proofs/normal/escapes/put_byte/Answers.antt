@@ -1,6 +1,6 @@
 -- An escape is three bytes.
 use Rattle.std.proofs.Common.{◌∙◌, ◌≡◌, length, arith}
-use Rattle.git_rules.proofs.Normal.NormalTextLemmas.{escaped_length}
+use Rattle.git_rules.proofs.NormalForms.NormalTextLemmas.{escaped_length}
 use Rattle.git_rules.proofs.normal.escapes.put_byte.Goals as goal
 
 pub put-requires : goal.put-requires

@@ -1,6 +1,6 @@
 -- At the end nothing is left to be written.
 use Rattle.std.proofs.Common.{take}
-use Rattle.git_rules.proofs.Normal.NormalTextLemmas.{all_normal}
+use Rattle.git_rules.proofs.NormalForms.NormalTextLemmas.{all_normal}
 use Rattle.git_rules.proofs.normal.escapes.put_normal.Goals as goal
 
 pub returns-clause-bytes : goal.returns-clause-bytes

@@ -1,5 +1,5 @@
 -- The two digits behind a `%`.
-use Rattle.git_rules.proofs.Normal.NormalTextLemmas.{splits_escape}
+use Rattle.git_rules.proofs.NormalForms.NormalTextLemmas.{splits_escape}
 use Rattle.git_rules.proofs.normal.escapes.split_digits.Goals as goal
 
 pub returns : goal.returns

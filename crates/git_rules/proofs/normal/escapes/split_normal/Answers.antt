@@ -2,7 +2,7 @@
 use Rattle.std.proofs.Common.{◌==◌, ◌≡◌, false}
 use Rattle.std.proofs.lemmas.Bool.{false_from_ne_true, eqb-true}
 use Rattle.git_syntax.specs.Bytes.{percent_sign}
-use Rattle.git_rules.proofs.Normal.NormalTextLemmas.{splits_kept}
+use Rattle.git_rules.proofs.NormalForms.NormalTextLemmas.{splits_kept}
 use Rattle.git_rules.proofs.normal.escapes.split_normal.Goals as goal
 
 pub returns : goal.returns

@@ -1,6 +1,6 @@
 -- The host is what the text is cut into, or missing.
 use Rattle.std.proofs.Common.{refl, sym, ap, inl, ◌≡◌, rules, [], codes, length, arith}
-use Rattle.git_rules.proofs.Normal.NormalHostLemmas.{name_fits}
+use Rattle.git_rules.proofs.NormalForms.NormalHostLemmas.{name_fits}
 use Rattle.std.proofs.lemmas.List.{nil_from_length}
 use Rattle.git_syntax.specs.Bytes.{lowercase}
 use Rattle.git_rules.specs.Normal.{HostFor}

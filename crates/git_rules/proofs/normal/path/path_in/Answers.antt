@@ -1,7 +1,7 @@
 -- The pieces of what follows the authority are as sound, and fit the room.
 use Rattle.std.proofs.Common.{◌∙◌, ap, sym, arith}
 use Rattle.git_syntax.specs.Escapes.{is_sound}
-use Rattle.git_rules.proofs.Normal.NormalPathLemmas.{sound_cut, sound_unrooted, length-pieces}
+use Rattle.git_rules.proofs.NormalForms.NormalPathLemmas.{sound_cut, sound_unrooted, length-pieces}
 use Rattle.git_rules.proofs.normal.path.path_in.Goals as goal
 
 pub put_path-requires-clause-sound : goal.put_path-requires-clause-sound

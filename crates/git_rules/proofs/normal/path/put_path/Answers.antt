@@ -5,7 +5,7 @@ use Rattle.git_syntax.specs.Escapes.{is_sound}
 use Rattle.git_syntax.proofs.Texts.EscapeLemmas.{sound_around}
 use Rattle.git_rules.specs.Normal.{normal_segments, put_segments}
 use Rattle.git_rules.specs.NormalPieces.{ShowsFront}
-use Rattle.git_rules.proofs.Normal.NormalPathLemmas.{put_first, put_last, put_none}
+use Rattle.git_rules.proofs.NormalForms.NormalPathLemmas.{put_first, put_last, put_none}
 use Rattle.git_rules.proofs.normal.path.put_path.Goals as goal
 
 pub put_segment-requires-clause-sound : goal.put_segment-requires-clause-sound

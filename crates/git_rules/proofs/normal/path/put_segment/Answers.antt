@@ -1,7 +1,7 @@
 -- A segment is written behind the path of the stack, and taken off again where it is `.` or `..`.
 use Rattle.std.proofs.Common.{◌∙◌, ◌++◌, ap, sym, take, arith}
 use Rattle.git_rules.specs.Normal.{normal_text}
-use Rattle.git_rules.proofs.Normal.NormalPathLemmas.{WritesBehind, after_dot, after_dots, after_other, front_length, normal_flat}
+use Rattle.git_rules.proofs.NormalForms.NormalPathLemmas.{WritesBehind, after_dot, after_dots, after_other, front_length, normal_flat}
 use Rattle.git_rules.proofs.normal.path.put_segment.Goals as goal
 
 pub returns-then-is_dot-clause-path : goal.returns-then-is_dot-clause-path

@@ -1,5 +1,5 @@
 -- What precedes the last `/`.
-use Rattle.git_rules.proofs.Normal.NormalPathLemmas.{top_cut}
+use Rattle.git_rules.proofs.NormalForms.NormalPathLemmas.{top_cut}
 use Rattle.git_rules.proofs.normal.path.without_last.Goals as goal
 
 pub returns-clause-path : goal.returns-clause-path

@@ -32,7 +32,7 @@ use Rattle.git_laws.proofs.Written.WrittenUrlLemmas.{authority_text, canonical_c
 use Rattle.git_laws.proofs.GitReadings.WebTextLemmas.{web_authority, web_scheme, web_text}
 use Rattle.git_rules.specs.Normal.{NormalPlace, CutsPort, HostFor, HostPort, IsUserOf, NormalAuthority, UrlCut, IsNormalOf, is_host_byte, lacks_host}
 use Rattle.git_rules.specs.NormalLaws.{IsOwnPlace, own_port, own_user}
-use Rattle.git_rules.proofs.Normal.NormalUnique.{authority_unique, url_cut_unique}
+use Rattle.git_rules.proofs.NormalForms.NormalUnique.{authority_unique, url_cut_unique}
 
 -- ---- user information
 
