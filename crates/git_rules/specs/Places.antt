@@ -1,7 +1,6 @@
 -- The normal form of the text of a location.
 use Rattle.std.specs.Prelude.{◌≡◌, ℕ, false, List, ◌+◌, ◌*◌, ◌<◌, ◌≤◌, length, Result, Ok, Err}
 use Rattle.git_location.specs.declared.write_error.WriteFault.{WriteFault}
-use Rattle.git_rules.specs.declared.normal.NormalError.{NormalError}
 use Rattle.git_rules.specs.declared.normal.NormalError.TheVariants.{NoRoom}
 use Rattle.git_rules.specs.declared.pattern.place.PlaceError.{PlaceError}
 use Rattle.git_rules.specs.declared.pattern.place.PlaceError.TheVariants.{Fault, Normal}

@@ -1,5 +1,5 @@
 -- A text is read in one way.
-use Rattle.std.proofs.Common.{◌≡◌, ℕ, ◌+◌, ◌==◌, ◌⊎◌, inl, inr, List, [], ◌∷◌, ◌++◌, Option, Some, None, Ok, Err, length, refl, sym, ap, subst, ◌∙◌}
+use Rattle.std.proofs.Common.{◌≡◌, ℕ, ◌+◌, ◌==◌, inl, inr, List, [], ◌∷◌, ◌++◌, Option, Some, None, Ok, Err, length, refl, sym, ap, subst, ◌∙◌}
 use Rattle.git_syntax.specs.Bytes.{FreeOf, dot, newline}
 use Rattle.git_syntax.proofs.Texts.CutLemmas.{class_cut_unique, cut_unique, not_free, tails}
 use Rattle.git_rules.specs.Config.{ConfigEntry, SpellsEntry, name_text, value_text}

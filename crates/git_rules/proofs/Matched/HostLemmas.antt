@@ -1,5 +1,5 @@
 -- Hosts with the same labels are the same, except for a `.` at the end of one of them.
-use Rattle.std.proofs.Common.{◌≡◌, ℕ, ◌==◌, inl, inr, List, [], ◌∷◌, refl, sym, subst, ◌∙◌, true, false, All, ◌⊎◌, ◌++◌, ◌<◌, length, arith, append_assoc, ap}
+use Rattle.std.proofs.Common.{◌≡◌, ℕ, ◌==◌, inl, inr, List, [], ◌∷◌, refl, sym, subst, ◌∙◌, true, false, All, ◌⊎◌, ◌++◌}
 use Rattle.std.proofs.lemmas.Bool.{both_ways, cases_Bool, eqb-true}
 use Rattle.std.proofs.lemmas.List.Elements.{All-cons, All-head, All-nil, All-tail}
 use Rattle.git_syntax.specs.Bytes.{dot, FreeOf}

@@ -19,7 +19,7 @@ use Rattle.git_laws.proofs.GitReadings.WebUriUniqueLemmas.{one_uri}
 use Rattle.git_laws.proofs.GitReadings.WebCredentialUniqueLemmas.{one_credential}
 use Rattle.git_rules.specs.Normal.{asterisk, NormalPlace, PortFor, is_own_port}
 use Rattle.git_rules.specs.Patterns.{Matches, MatchesHost}
-use Rattle.git_rules.specs.PatternLaws.{IsOwnHost, IsOwnOf, AsksForOwn, ConnectsToOwn, PickedGoesToOwn, reached_port}
+use Rattle.git_rules.specs.PatternLaws.{IsOwnOf, AsksForOwn, ConnectsToOwn, PickedGoesToOwn, reached_port}
 use Rattle.git_rules.proofs.Matched.HostLemmas.{own_host}
 use Rattle.git_rules.proofs.Matched.PlaceLemmas.{SamePlace, end_held, place_same}
 

@@ -5,7 +5,7 @@ use Rattle.std.proofs.Math.Seq.{take-suc}
 use Rattle.std.proofs.lemmas.List.{take_all, length-take-le}
 use Rattle.std.proofs.lemmas.List.Elements.{All-append, All-cons, All-nil, All-push, All-same, All-weaker}
 use Rattle.git_rules.specs.declared.pattern.Rank.{Rank}
-use Rattle.git_rules.specs.Patterns.{IsLower, IsBestAt, IsBest, HasRank, HasNoRank, RanksLower, RanksNoHigher, IsBetter}
+use Rattle.git_rules.specs.Patterns.{IsLower, IsBestAt, HasRank, HasNoRank, RanksLower, RanksNoHigher, IsBetter}
 
 -- what is lower than a lower rank is lower
 pub lower_trans : (a b c : Rank) → IsLower a b → IsLower b c → IsLower a c

@@ -1,10 +1,9 @@
 -- How a URL is cut at its scheme and its authority.
-use Rattle.std.proofs.Common.{◌≡◌, ◌∙◌, ◌+◌, ◌∷◌, ◌++◌, ℕ, true, false, List, length, refl, sym, ap, subst, arith, length-append}
+use Rattle.std.proofs.Common.{◌≡◌, ◌∙◌, ◌∷◌, ◌++◌, ℕ, false, List, refl, sym, ap}
 use Rattle.std.proofs.lemmas.Bool.{false≢true}
-use Rattle.git_syntax.specs.Bytes.{colon, slash, FreeOf, begins_with, is_path_start, is_scheme_text}
-use Rattle.git_syntax.proofs.Texts.CutLemmas.{tails, cut_unique, not_free, scheme_text_free}
+use Rattle.git_syntax.specs.Bytes.{colon, slash, FreeOf, begins_with, is_scheme_text}
+use Rattle.git_syntax.proofs.Texts.CutLemmas.{tails, cut_unique, scheme_text_free}
 use Rattle.git_rules.specs.Normal.{UrlCut}
-use Rattle.git_rules.specs.NormalPieces.{CutsBefore}
 
 url_pieces : (text scheme behind s a b : List ℕ) → FreeOf colon scheme → text ≡ scheme ++ colon ∷ behind → UrlCut text s a b → (scheme ≡ s) × (behind ≡ slash ∷ slash ∷ (a ++ b))
 url_pieces text scheme behind s a b free joined h =

@@ -1,5 +1,5 @@
 -- The path of a stack of segments, as it is written and cut.
-use Rattle.std.proofs.Common.{◌≡◌, ◌∙◌, ◌+◌, ◌-◌, ◌≤◌, ◌∷◌, ◌++◌, ℕ, zero, suc, Bool, true, false, ◌&&◌, ◌||◌, ◌==◌, List, [], length, take, drop, map, refl, sym, ap, subst, arith, ⊎_elim, ◌⊎◌, inl, inr, Option, Some, None, All, cond}
+use Rattle.std.proofs.Common.{◌≡◌, ◌∙◌, ◌+◌, ◌-◌, ◌≤◌, ◌∷◌, ◌++◌, ℕ, Bool, true, false, ◌&&◌, ◌||◌, ◌==◌, List, [], length, take, drop, map, refl, sym, ap, subst, arith, ⊎_elim, ◌⊎◌, inl, inr, Option, Some, None, All, cond}
 use Rattle.std.proofs.lemmas.Bool.{cases_Bool, eqb-true}
 use Rattle.std.proofs.lemmas.Bool.Decides.{nat_tests}
 use Rattle.std.proofs.lemmas.List.{append-nil, append_assoc, length-append, length-take, drop-take, take-take}
@@ -13,8 +13,7 @@ use Rattle.percent_encoding.proofs.PercentLemmas.{IsEscapeByte, All-percent_enco
 use Rattle.git_syntax.specs.Bytes.{slash, percent_sign, FreeOf, begins_by}
 use Rattle.git_syntax.specs.Escapes.{is_sound}
 use Rattle.git_syntax.proofs.Texts.EscapeLemmas.{sound_parts, sound_tail}
-use Rattle.git_syntax.specs.Grammar.{or_root}
-use Rattle.git_syntax.proofs.Texts.CutLemmas.{free-append, free-cons, free_head_tail, not_free, last_cut_unique}
+use Rattle.git_syntax.proofs.Texts.CutLemmas.{free-append, free-cons, free_head_tail, last_cut_unique}
 use Rattle.git_rules.specs.Normal.{is_unsafe, is_reserved, normal_byte, normal_text, escaped_byte, stacked_path, without_top, put_segment, put_segments, normal_segments, is_rest_start, unrooted}
 use Rattle.git_rules.specs.NormalPieces.{ShowsStack, ShowsFront, CutsBefore}
 

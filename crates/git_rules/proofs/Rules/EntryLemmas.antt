@@ -1,14 +1,9 @@
 -- The rules of entries: what an entry adds, and what those of a configuration are.
-use Rattle.std.proofs.Common.{◌≡◌, ℕ, ◌+◌, ◌<◌, suc, Bool, true, false, ◌&&◌, ◌⊎◌, inl, inr, if◌then◌else◌, List, [], ◌∷◌, ◌++◌, Some, None, Err, length, take, drop, get_or, codes, refl, sym, ap, subst, ◌∙◌, append_assoc, append-nil, add-one, IsTrue, ◌↔◌}
-use Rattle.std.specs.Bool.{Decides}
+use Rattle.std.proofs.Common.{◌≡◌, ℕ, ◌+◌, ◌<◌, suc, true, ◌⊎◌, List, [], ◌∷◌, ◌++◌, Some, Err, length, take, drop, get_or, refl, sym, ap, subst, ◌∙◌, append_assoc, append-nil, add-one}
 use Rattle.std.proofs.Math.Seq.{take-suc}
-use Rattle.std.proofs.lemmas.Bool.{both_ways, cases_Bool, and_parts}
-use Rattle.std.proofs.lemmas.Slice.Eq.{bytes_eq-Decides}
-use Rattle.git_syntax.specs.Bytes.{lowercase}
-use Rattle.git_syntax.proofs.Texts.CutLemmas.{different_bytes}
-use Rattle.git_rules.specs.Config.{ConfigEntry, IsSameWord}
-use Rattle.git_rules.specs.Rewrites.{Rule, Rules, with_fetching, with_pushing}
-use Rattle.git_rules.specs.RewriteEntries.{AllHaveValues, LacksValue, entry_rule, instead_of, is_same_word, is_url_entry, push_instead_of, rule_between, rules_named, rules_of, with_entry}
+use Rattle.git_rules.specs.Config.{ConfigEntry}
+use Rattle.git_rules.specs.Rewrites.{Rules}
+use Rattle.git_rules.specs.RewriteEntries.{AllHaveValues, LacksValue, entry_rule, instead_of, is_url_entry, push_instead_of, rules_named, rules_of, with_entry}
 use Rattle.git_rules.specs.RewriteErrors.{AddsEntry, HasFront, IsFilled}
 use Rattle.git_rules.specs.declared.rewrite.RewriteError.{RewriteError}
 use Rattle.git_rules.specs.declared.rewrite.RewriteError.TheVariants.{Memory, NoValue}

@@ -1,5 +1,4 @@
 -- With no label left of the pattern, the rest is empty where it matches.
-use Rattle.std.proofs.Common.{◌∙◌, ap}
 use Rattle.git_rules.proofs.Matched.LabelLemmas.{at_end}
 use Rattle.git_rules.proofs.pattern.matches_host.Goals as goal
 

@@ -1,5 +1,5 @@
 -- By the one normal form of the URL, if there is one.
-use Rattle.std.proofs.Common.{◌≢◌, length}
+use Rattle.std.proofs.Common.{length}
 use Rattle.std.proofs.lemmas.Bool.{both_ways}
 use Rattle.git_rules.proofs.Matched.EntryLemmas.{no_form, too_short, url_ranked}
 use Rattle.git_rules.proofs.pattern.entries.url_rank.Goals as goal
