@@ -83,7 +83,11 @@ fn patterns_stand_for_places(rt: HostRuntime) -> Result<(), Fail> {
         ("http://git.example.com", false),
         ("git.example.com", false),
     ] {
-        assert_eq!(rt; stands_for(pattern.as_bytes(), &mut other, &place), is, "{pattern}");
+        assert_eq!(rt;
+            stands_for(pattern.as_bytes(), &mut other, &place),
+            is,
+            "{pattern}"
+        );
     }
     let (Ok(wide), Ok(near)) = (
         UrlPattern::parse_in(b"https://*.example.com", &mut other),
@@ -92,7 +96,10 @@ fn patterns_stand_for_places(rt: HostRuntime) -> Result<(), Fail> {
         return Err(Fail::from(AllocError));
     };
     assert!(rt; is_used(&wide, &place));
-    assert_eq!(rt; picked(&[near, wide], &["near", "wide"], &place), Some("near"));
+    assert_eq!(rt;
+        picked(&[near, wide], &["near", "wide"], &place),
+        Some("near")
+    );
     Ok(())
 }
 
@@ -114,7 +121,8 @@ fn secrets_go_to_their_place(rt: HostRuntime) -> Result<(), Fail> {
 #[test]
 fn entries_are_picked(rt: HostRuntime) -> Result<(), Fail> {
     let (mut room, mut other) = ([0u8; 256], [0u8; 256]);
-    let text = b"http.proxy\na\0http.https://h.proxy\nb\0http.https://h/x.proxy\nc\0credential.https://h.helper\nd\0";
+    let text =
+        b"http.proxy\na\0http.https://h.proxy\nb\0http.https://h/x.proxy\nc\0credential.https://h.helper\nd\0";
     let entries = config::entries(rt.alloc(), text)?;
     let Ok(place) = NormalUrl::parse_in(b"https://h/p", false, &mut room) else {
         return Err(Fail::from(AllocError));
