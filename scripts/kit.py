@@ -35,7 +35,7 @@ def stands_on(name):
 # that they stand on, lowest first, and themselves.
 LIBRARY = "gix_url"
 LIBRARIES = (LIBRARY, "git_rules")
-LAYERS = list(dict.fromkeys(it for name in LIBRARIES for it in stands_on(name)))
+LAYERS = list(dict.fromkeys(it for name in LIBRARIES if name in lines_of_crates() for it in stands_on(name)))
 
 
 class Slots:
