@@ -18,9 +18,12 @@ def bytes_of(text):
 def joined(value):
     """A value with its texts and its lists put together.
 
-    `{"joined": [..]}` is the text of these pieces, each a text, or a text and how often it stands there; and
-    `{"repeated": [value, count]}` is the list that has the value so often.
+    `{"joined": [..]}` is the text of these pieces, each a text, or a text and how often it stands there;
+    `{"repeated": [value, count]}` is the list that has the value so often; and `{"entries": [[key, value], [key]]}` is the
+    text that `git config --list -z` writes for the entries.
     """
+    if isinstance(value, dict) and set(value) == {"entries"}:
+        return "".join("\n".join(it) + "\0" for it in value["entries"])
     if isinstance(value, dict) and set(value) == {"joined"}:
         return "".join(it if isinstance(it, str) else it[0] * it[1] for it in value["joined"])
     if isinstance(value, dict) and set(value) == {"repeated"}:

@@ -1,4 +1,4 @@
-"""The rows of `vectors/rules.jsonl`, whose outcomes are Git's: `rules_witness` asks Git again for each, and records them.
+"""The rows of `vectors/rules/git.jsonl`, whose outcomes are Git's: `rules_witness` asks Git again for each, and records them.
 
 A row is written without `is` and `from`, and `scripts/rules_witness --record` puts both in. Its `note` says what it is about.
 `{"entries": [["url.https://h/.insteadof", "gh:"], ["http.proxy"]]}` is the text that `git config --list -z` writes for entries.
@@ -16,7 +16,7 @@ from kit import ROOT
 from row_text import bytes_of, text_of
 from rules_asked import Entry
 
-FILE = f"{ROOT}/vectors/rules.jsonl"
+FILE = f"{ROOT}/vectors/rules/git.jsonl"
 REFUSED = {"refused": True}
 
 
@@ -123,7 +123,7 @@ def record():
 def row_faults():
     """The rows of which Git has another outcome by now, whose words aren't the location's own, or whose location isn't read."""
     rows = [it for it in lines() if isinstance(it, dict)]
-    print(f"{len(rows)} rows are asked again" if rows else "rules_witness: rows are left out, since there are none in vectors/rules.jsonl")
+    print(f"{len(rows)} rows are asked again" if rows else "rules_witness: rows are left out, since there are none in vectors/rules/git.jsonl")
     for row, outcome in zip(rows, outcomes(rows)):
         is_unread = "url" in row and oracle.spells(bytes_of(row["url"])) is None
         if outcome != row.get("is", ...) or is_unread or row["call"] == "ssh::ssh_command" and outcome is None:
