@@ -1,5 +1,5 @@
 """Who carries out the orders of `scripts/vectors`: the program `answers`, or the binding for C, for Python or for Rust, by a
-small program in that language, `doors/vectors.c`, `doors/vectors.py` or the example `vectors` of the crate.
+small program in that language, `bindings/tests/vectors.c`, `bindings/tests/vectors.py` or the example `vectors` of the crate.
 
 A binding takes an order as one line of members `name=value`, parted by tabs, so that its program needs no reader of
 JSON. A location made of parts is flat, as `url.host=h`. `\\x` with two digits is a control character, a backslash or a
@@ -152,7 +152,7 @@ class C(Binding):
 
     def build(self):
         file = f"{FOLDER}/vectors"
-        sources = ["doors/vectors.c", "doors/told.c", f"{FOLDER}/libgix_url.a"]
+        sources = ["bindings/tests/vectors.c", "bindings/tests/told.c", f"{FOLDER}/libgix_url.a"]
         run([os.environ.get("CC", "cc"), "-std=c11", "-O1", *sources, "-o", file])
         return file
 
@@ -168,7 +168,7 @@ class Python(C):
 
     def command(self):
         os.environ.setdefault("GIX_URL_LIBRARY", f"{FOLDER}/lib/libgix_url.so.1")
-        return f"{ROOT}/doors/vectors.py"
+        return f"{ROOT}/bindings/tests/vectors.py"
 
 
 class Rust(Binding):
@@ -184,7 +184,7 @@ class Rust(Binding):
     def build(self):
         folder = f"{FOLDER}/cargo"
         words = ["cargo", "build", "--offline", "--quiet", "--example", "vectors"]
-        manifest = "rust/gix-url-proved/Cargo.toml"
+        manifest = "bindings/rust/gix-url-proved/Cargo.toml"
         run([*words, "--manifest-path", manifest], GIX_URL_LIB=FOLDER, CARGO_TARGET_DIR=folder)
         return f"{folder}/debug/examples/vectors"
 

@@ -1,6 +1,6 @@
 """Fails where a door tells of a line otherwise than the program `explain` does: `explained_doors.py LINES ANSWERS EXPLAINED`.
 
-ANSWERS are those of `doors/members.c` or of the example `members` of the Rust crate, EXPLAINED those of `explain --json`.
+ANSWERS are those of `bindings/tests/members.c` or of the example `members` of the Rust crate, EXPLAINED those of `explain --json`.
 Bytes that are no UTF-8 are U+FFFD in JSON, and are compared so. Whether Git reads the same is compared with the rule by
 hand of `docs/GIT.md`, asked of what a second reading of the grammar finds in the line.
 """

@@ -1,5 +1,5 @@
 #!/usr/bin/env python3
-"""Writes the manual pages: gix_url(3) from the comments of include/gix_url.h, and locations(1) and explain(1) from what the
+"""Writes the manual pages: gix_url(3) from the comments of bindings/c/include/gix_url.h, and locations(1) and explain(1) from what the
 programs print for --help.
 
 usage: scripts/manuals.py FOLDER     below FOLDER, man1 and man3 get the pages; each call has one that leads to gix_url(3)
@@ -123,7 +123,7 @@ def program_page(name):
 
 def pages():
     """Each page by its name below the folder."""
-    header = read("include/gix_url.h")
+    header = read("bindings/c/include/gix_url.h")
     yield "man3/gix_url.3", library_page(header)
     for _, code in declarations(header):
         if is_call(code):

@@ -7,7 +7,7 @@
 //! that all else is as it was with an error. The exports of `part` are over one part alone.
 //!
 //! A slice is a pointer and a length to C, and a `Global` is nothing. Pointers aren't null: the C file that is linked
-//! with this library (`c/gix_url.c`) sees to that, and has the types of `include/gix_url.h`.
+//! with this library (`bindings/c/gix_url.c`) sees to that, and has the types of `bindings/c/include/gix_url.h`.
 #![tactic(auto)]
 
 pub mod codes;

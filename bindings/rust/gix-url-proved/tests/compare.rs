@@ -1,4 +1,4 @@
-//! The same questions to `gix-url` 0.40.1 and to this crate, by the program `rust/compare` of the repository, where
+//! The same questions to `gix-url` 0.40.1 and to this crate, by the program `bindings/rust/compare` of the repository, where
 //! `gix-url` is installed: `cargo test --features compare`. Where it isn't, that is said, and nothing is compared.
 //!
 //! The program is built in the folder `GIX_URL_COMPARE_IN`, or in that of temporary files, since inside of the repository
@@ -20,8 +20,8 @@ fn cargo(words: &[&str]) -> Output {
 
 #[test]
 fn answers_are_those_of_gix_url() {
-    let repository = concat!(env!("CARGO_MANIFEST_DIR"), "/../..");
-    let manifest = format!("{repository}/rust/compare/Cargo.toml");
+    let repository = concat!(env!("CARGO_MANIFEST_DIR"), "/../../..");
+    let manifest = format!("{repository}/bindings/rust/compare/Cargo.toml");
     let found = cargo(&["tree", "--offline", "--manifest-path", &manifest]);
     if !found.status.success() {
         eprintln!("skipped: gix-url 0.40.1 is not installed\n{}", String::from_utf8_lossy(&found.stderr));

@@ -1,6 +1,6 @@
 //! Says where each remote of the standard input leads: its host and port, or why it is refused.
 //!
-//! `cargo run --example hosts <../../examples/remotes`
+//! `cargo run --example hosts <../../../examples/remotes`
 
 use gix_url_proved::{parse, Url};
 use std::io::{self, BufRead};

@@ -7,7 +7,7 @@ use std::fs;
 
 /// The bytes of a file of the repository, which `GIX_URL_REPOSITORY` may name.
 fn file(name: &str) -> Vec<u8> {
-    let here = concat!(env!("CARGO_MANIFEST_DIR"), "/../..");
+    let here = concat!(env!("CARGO_MANIFEST_DIR"), "/../../..");
     let repository = std::env::var("GIX_URL_REPOSITORY").unwrap_or(here.to_owned());
     let path = format!("{repository}/{name}");
     fs::read(&path).unwrap_or_else(|error| panic!("{path}: {error}: call scripts/doors first"))

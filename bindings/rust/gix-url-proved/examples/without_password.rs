@@ -1,6 +1,6 @@
 //! Writes each remote of the standard input without its password.
 //!
-//! `cargo run --example without_password <../../examples/remotes`
+//! `cargo run --example without_password <../../../examples/remotes`
 
 use gix_url_proved::parse;
 use std::io::{self, BufRead};

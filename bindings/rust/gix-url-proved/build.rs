@@ -10,7 +10,7 @@ fn folders() -> Vec<PathBuf> {
         return vec![named.into()];
     }
     let here = std::env::var_os("CARGO_MANIFEST_DIR").expect("cargo names the folder of the crate");
-    vec![Path::new(&here).join("../../out/doors"), here.into()]
+    vec![Path::new(&here).join("../../../out/doors"), here.into()]
 }
 
 fn main() {

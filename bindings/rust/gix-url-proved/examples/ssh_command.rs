@@ -1,6 +1,6 @@
 //! Says how each remote of the standard input is called by Secure Shell, and refuses what may be taken for an option.
 //!
-//! `cargo run --example ssh_command <../../examples/remotes`
+//! `cargo run --example ssh_command <../../../examples/remotes`
 
 use gix_url_proved::{parse, ArgumentSafety, Scheme, Url};
 use std::io::{self, BufRead};

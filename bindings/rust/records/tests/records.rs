@@ -8,7 +8,7 @@ use std::path::Path;
 
 /// The rows of all tables that make this call.
 fn rows(call: &str) -> Vec<Value> {
-    let tables = Path::new(env!("CARGO_MANIFEST_DIR")).join("../../vectors");
+    let tables = Path::new(env!("CARGO_MANIFEST_DIR")).join("../../../vectors");
     let files = fs::read_dir(tables).unwrap().map(|it| it.unwrap().path()).filter(|it| it.is_file());
     let lines: Vec<String> = files.map(|it| fs::read_to_string(it).unwrap()).collect();
     let all = lines.iter().flat_map(|it| it.lines()).filter(|line| line.starts_with('{'));

@@ -1,5 +1,5 @@
 /* Makes every call of gix_url.h over what a fuzzer hands in, and looks at what each promises: LLVMFuzzerTestOneInput is
- * called by libFuzzer, or by doors/fuzz_driver.c. scripts/fuzz builds and runs it.
+ * called by libFuzzer, or by bindings/tests/fuzz_driver.c. scripts/fuzz builds and runs it.
  *
  * The first byte says what the others are: a text, or a location, whose parts are slices of the same bytes, which overlap.
  * Rooms end at memory that can't be touched, and are just large enough, one byte short and of no bytes at all. */

@@ -2,7 +2,7 @@
 #ifndef TOLD_H
 #define TOLD_H
 
-#include "../include/gix_url.h"
+#include "../c/include/gix_url.h"
 
 #include <stdio.h>
 #include <stdlib.h>

@@ -6,7 +6,7 @@ use std::process::Command;
 
 /// A file of the repository's examples.
 fn file(name: &str) -> String {
-    let here = concat!(env!("CARGO_MANIFEST_DIR"), "/../..");
+    let here = concat!(env!("CARGO_MANIFEST_DIR"), "/../../..");
     format!("{}/examples/{name}", env::var("GIX_URL_REPOSITORY").unwrap_or(here.to_owned()))
 }
 
