@@ -12,6 +12,7 @@ import re
 import sys
 
 sys.dont_write_bytecode = True
+sys.path.append(f"{sys.path[0]}/../tools")
 from covered import contracts, files_of
 from kit import LAYERS, ROOT
 

@@ -13,6 +13,7 @@ import sys
 from html import escape
 
 sys.dont_write_bytecode = True
+sys.path.append(f"{sys.path[0]}/../tools")
 from kit import ROOT
 
 FOLDER = f"{ROOT}/docs/pictures"

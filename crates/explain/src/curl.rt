@@ -3,7 +3,7 @@
 //!
 //! It uses `bstr`, the addresses of `std::net`, `git` for escapes and digits, and a location of `gix_url` to compare with. What libcurl reads has no definition: each
 //! function is a step of libcurl 7.88.1, and has no contract but that it can't abort. The stored run has what `curl_reads` of
-//! `scripts/web_reads.py` says, a rule by hand that `scripts/web_witness` compares with libcurl itself.
+//! `tools/web_reads.py` says, a rule by hand that `scripts/web_witness` compares with libcurl itself.
 
 use crate::told::both;
 use crate::{git, split};

@@ -3,7 +3,7 @@
 //!
 //! It uses `bstr` and nothing of `gix_url`. Each function is one relation of `GitReads`, the definition of what
 //! Git 2.39.5 reads on Linux (`specs/Git.antt` of `gix_url`; `docs/GIT.md` has it in words), and has no contract but that
-//! it can't abort: `scripts/git_reads.py`, a second reading of the definition, says the same of each text.
+//! it can't abort: `tools/git_reads.py`, a second reading of the definition, says the same of each text.
 
 ghost use Rattle.std.specs.Prelude.{◌≡◌, ◌+◌, ◌<◌, IfSome, length};
 

@@ -2,7 +2,7 @@
 """Writes the manual pages: gix_url(3) from the comments of bindings/c/include/gix_url.h, and locations(1) and explain(1) from what the
 programs print for --help.
 
-usage: scripts/manuals.py FOLDER     below FOLDER, man1 and man3 get the pages; each call has one that leads to gix_url(3)
+usage: tools/manuals.py FOLDER     below FOLDER, man1 and man3 get the pages; each call has one that leads to gix_url(3)
 """
 import os
 import re

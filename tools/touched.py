@@ -2,7 +2,7 @@
 import os
 import re
 
-from module_map import methods, modules, targets
+from source_modules import methods, modules, targets
 
 
 def uses_of(folder):

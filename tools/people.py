@@ -60,7 +60,7 @@ def false_alarms(lines):
 
 
 def check(_room):
-    made = subprocess.run([sys.executable, f"{ROOT}/scripts/remotes.py"], stdout=subprocess.PIPE, check=True, timeout=60).stdout
+    made = subprocess.run([sys.executable, f"{ROOT}/tools/remotes.py"], stdout=subprocess.PIPE, check=True, timeout=60).stdout
     plain = [it for it in made.splitlines() if PLAIN.fullmatch(it) and not OPTION.search(it) and not DOTS.match(it)]
     bad = stored("alarms").splitlines()
     faults = [*written_by_hand(), *in_colours(), *(f"a false alarm about {it!r}" for it in false_alarms(plain))]

@@ -1,4 +1,4 @@
-"""What the second reading of `scripts/oracle.py`, and of `scripts/places.py` for places, gives for rows of the tables in
+"""What the second reading of `tools/oracle.py`, and of `tools/places.py` for places, gives for rows of the tables in
 `vectors/`.
 
 A row whose expectation is from `oracle` is worked out again here, so that no such expectation stands by its word alone.

@@ -1,4 +1,9 @@
-"""What the scripts share: the toolchain's command `rt` as a module, copies of the tree, and what the gate built of it."""
+"""What scripts and tools share: the toolchain's command `rt` as a module, copies of the tree, and what the gate built of it.
+
+`scripts/` has the commands that people and CI call, without an ending unless `scripts/documents` imports them too;
+`tools/` has what they import and start. A command adds `tools/` to its path in the line that follows
+`sys.dont_write_bytecode`.
+"""
 import functools
 import hashlib
 import importlib.machinery

@@ -5,7 +5,7 @@ import os
 import re
 
 from kit import LAYERS, LIBRARIES, LIBRARY, ROOT, stands_on
-from module_map import paths_of
+from source_modules import paths_of
 
 CALLS = f"{ROOT}/crates/answers/src/calls.rt"
 # What layers below pass to those above: public by a type or a module that the library passes on, and for no user.

@@ -47,7 +47,7 @@ def build_shim(room):
     """Builds what stands before the allocator."""
     clang, shim = f"{load_kit().rtlib.KIT}/toolchain/bin/clang", f"{room}/refuse.so"
     flags = ["-O1", "-shared", "-fPIC", "-nostdlib", "-fuse-ld=lld"]
-    subprocess.run([clang, *flags, "-o", shim, f"{ROOT}/scripts/refuse.c"], check=True)
+    subprocess.run([clang, *flags, "-o", shim, f"{ROOT}/tools/refuse.c"], check=True)
     return shim
 
 
