@@ -13,8 +13,8 @@ import sys
 
 sys.dont_write_bytecode = True
 sys.path.append(f"{sys.path[0]}/../tools")
-from covered import contracts, files_of
-from kit import LAYERS, ROOT
+from row_coverage import contracts, files_of
+from rt_api import LAYERS, ROOT
 
 PROOFS = "docs/PROOFS.md"
 CLAUSE = re.compile(r"(?m)^ *ensures(?: (\w+))? \{")

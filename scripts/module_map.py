@@ -17,7 +17,7 @@ import sys
 
 sys.dont_write_bytecode = True
 sys.path.append(f"{sys.path[0]}/../tools")
-from kit import LAYERS, ROOT, stands_on
+from rt_api import LAYERS, ROOT, stands_on
 from source_modules import methods, modules, read, sources_of, targets
 
 # What every crate stands on.

@@ -14,7 +14,7 @@ from html import escape
 
 sys.dont_write_bytecode = True
 sys.path.append(f"{sys.path[0]}/../tools")
-from kit import ROOT
+from rt_api import ROOT
 
 FOLDER = f"{ROOT}/docs/pictures"
 TOKEN = re.compile(r'\s*("[^"]*"|[\w-]+|[\[\](){}|])')

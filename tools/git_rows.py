@@ -9,8 +9,8 @@ import re
 from collections import namedtuple
 
 from git_classes import Reading
-from kit import ROOT
 from row_text import bytes_of, text_of
+from rt_api import ROOT
 
 ROWS = f"{ROOT}/crates/git_laws/specs/GitRows.antt"
 TEXT = r'codes "((?:[^"\\]|\\.)*)"'

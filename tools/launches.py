@@ -8,7 +8,7 @@ import subprocess
 import time
 from collections import namedtuple
 
-from kit import ROOT
+from rt_api import ROOT
 
 # A command `rt` that notes its calls, takes its time where it is told to, and makes a program that prints its arguments.
 RT = """#!/bin/sh
@@ -40,7 +40,7 @@ def planted(room):
     """A tree with the launchers, crates of a file each, and the command."""
     root = f"{room}/tree"
     of_crates = [f"crates/{it}/{file}" for it in ("locations", "explain") for file in ("help", "version")]
-    for file in ("locations", "explain", "scripts/proved", "scripts/build", "tools/kit.py", *of_crates):
+    for file in ("locations", "explain", "scripts/proved", "scripts/build", "tools/rt_api.py", *of_crates):
         os.makedirs(os.path.dirname(f"{root}/{file}"), exist_ok=True)
         shutil.copy2(f"{ROOT}/{file}", f"{root}/{file}")
     texts = {"crates.txt": LINES, "bin/rt": RT}

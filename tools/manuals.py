@@ -9,7 +9,7 @@ import re
 import sys
 
 sys.dont_write_bytecode = True
-from kit import ROOT
+from rt_api import ROOT
 
 PROGRAMS = ("locations", "explain")
 # The pages that each page names, with its own left out.

@@ -2,7 +2,7 @@
 
 Beside the call and its members a row has `is`, the outcome, `from`, where the expectation comes from, and `requests` and
 `bytes` where the requests of the call for memory are counted, and the bytes that they ask for. How a line spells long texts
-is told in `row_text.py`, and how it stands for many rows in `many_rows.py`.
+is told in `row_text.py`, and how it stands for many rows in `row_expansion.py`.
 
 Of JSON that is refused a row may expect less than the whole: `{"refused": true}`, whatever the words are; words that end
 in `…`, which are the front of those that are told; and a `column` of two numbers, between which that column lies.
@@ -14,10 +14,10 @@ import json
 import os
 import sys
 
-from kit import ROOT
-from many_rows import expanded
 from recomputed import recomputed_fault
+from row_expansion import expanded
 from row_text import joined
+from rt_api import ROOT
 
 FOLDER = f"{ROOT}/vectors"
 # Where an expectation may come from, and nothing in this library is among it.

@@ -10,7 +10,7 @@ import subprocess
 from itertools import groupby
 
 import rows
-from kit import ready_program
+from rt_api import ready_program
 
 NO_CALL = {"halt": "no such call"}
 

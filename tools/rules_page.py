@@ -6,7 +6,7 @@ import oracle
 import rules_credential
 import rules_rewrite
 import rules_ssh
-from kit import ROOT
+from rt_api import ROOT
 from rules_asked import Entry
 
 PAGE, OTHER = "docs/RULES.md", "docs/GIT.md"

@@ -12,8 +12,8 @@ import rules_match
 import rules_rewrite
 import rules_ssh
 import rules_transport
-from kit import ROOT
 from row_text import bytes_of, text_of
+from rt_api import ROOT
 from rules_asked import Entry
 
 FILE = f"{ROOT}/vectors/rules/git.jsonl"

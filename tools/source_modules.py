@@ -3,7 +3,7 @@ import glob
 import os
 import re
 
-from kit import LAYERS, ROOT
+from rt_api import LAYERS, ROOT
 
 USE = re.compile(r"(?ms)^ *(?:pub(?:\(\w+\))? )?use ([^;]+);")
 METHOD = re.compile(r"(?m)^    pub(?:\(crate\))? fn (\w+)")

@@ -10,7 +10,7 @@ Traceback (most recent call last):
 gix_url.Error: the URL has an invalid port
 
 The library is the file that the environment names as GIX_URL_LIBRARY, or libgix_url.so.1 where the system looks for
-libraries. `scripts/doors --install PREFIX` puts it there; man 3 gix_url says more of each call.
+libraries. `scripts/bindings --install PREFIX` puts it there; man 3 gix_url says more of each call.
 """
 import ctypes
 import dataclasses

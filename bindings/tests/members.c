@@ -1,5 +1,5 @@
 /* Tells of each line of the standard input what the calls of the library answer, in words parted by a space: bytes in
- * hexadecimal digits behind a `.`, and `-` for what isn't there. tools/explained_doors.py lays it beside explain's. */
+ * hexadecimal digits behind a `.`, and `-` for what isn't there. tools/compare_bindings.py lays it beside explain's. */
 #define _GNU_SOURCE
 #include "told.h"
 

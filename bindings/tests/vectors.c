@@ -1,5 +1,5 @@
 /* Carries out the orders of the standard input, a line each, by the calls of gix_url.h, and tells how each call ended,
- * in a line of JSON, as the program `answers` does. tools/bindings.py writes orders and says how they are written. */
+ * in a line of JSON, as the program `answers` does. tools/row_programs.py writes orders and says how they are written. */
 #define _GNU_SOURCE
 #include "told.h"
 

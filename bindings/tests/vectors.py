@@ -1,6 +1,6 @@
 #!/usr/bin/env python3
 """Carries out the orders of the standard input, a line each, by the module gix_url, and tells how each call ended, in a line
-of JSON, as the program `answers` does. tools/bindings.py writes orders and says how they are written."""
+of JSON, as the program `answers` does. tools/row_programs.py writes orders and says how they are written."""
 import json
 import os
 import re

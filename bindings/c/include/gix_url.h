@@ -1,7 +1,7 @@
 /* Git locations: remote helpers (name::address), URLs, the scp form (user@host:path) and local paths, read, written and
  * told apart by the library gix_url, whose answers are proved.
  *
- * Link libgix_url, which scripts/doors builds and installs, and nothing else but the C library.
+ * Link libgix_url, which scripts/bindings builds and installs, and nothing else but the C library.
  *
  * A location is a plain struct of parts, and each part is a pointer and a length in bytes. Parts may hold any bytes,
  * byte 0 among them, and don't end in one. Nothing here has to be freed: what a call answers goes into room that

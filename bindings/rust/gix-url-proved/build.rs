@@ -1,4 +1,4 @@
-//! Links `libgix_url.a`, which `scripts/doors` builds: in the folder that `GIX_URL_LIB` names, or in `out/doors` of the
+//! Links `libgix_url.a`, which `scripts/bindings` builds: in the folder that `GIX_URL_LIB` names, or in `out/bindings` of the
 //! repository, or beside the manifest.
 
 use std::path::{Path, PathBuf};
@@ -10,7 +10,7 @@ fn folders() -> Vec<PathBuf> {
         return vec![named.into()];
     }
     let here = std::env::var_os("CARGO_MANIFEST_DIR").expect("cargo names the folder of the crate");
-    vec![Path::new(&here).join("../../../out/doors"), here.into()]
+    vec![Path::new(&here).join("../../../out/bindings"), here.into()]
 }
 
 fn main() {
@@ -25,7 +25,7 @@ fn main() {
     }
     let Some(folder) = folders.iter().find(|folder| folder.join("libgix_url.a").is_file()) else {
         eprintln!(
-            "libgix_url.a is not in {}: build it with scripts/doors, or name its folder in GIX_URL_LIB",
+            "libgix_url.a is not in {}: build it with scripts/bindings, or name its folder in GIX_URL_LIB",
             folders[0].display()
         );
         exit(1);

@@ -1,7 +1,7 @@
 //! What to look out for before a location is used: each danger in a few words.
 //!
 //! It uses `told` and the public calls of `gix_url`, and has no contract but that it can't abort:
-//! `scripts/hostile people` shows its words.
+//! `scripts/hostile golden` shows its words.
 
 use crate::told::{Arguments, Safety, Told};
 use gix_url::{Scheme, Url};

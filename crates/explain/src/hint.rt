@@ -1,7 +1,7 @@
 //! Slips of those who type or paste a location: a closed list of hints, each with a name and a sentence.
 //!
 //! It decides by the bytes of a line and by what the line is read as, and shows neither. It uses `told` for the form, and
-//! has no contract but that it can't abort: the stored run shows which hints are found, and `scripts/hostile people` their
+//! has no contract but that it can't abort: the stored run shows which hints are found, and `scripts/hostile golden` their
 //! sentences, and that no plain remote gets one.
 
 use crate::split::Form;

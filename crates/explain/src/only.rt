@@ -1,6 +1,6 @@
 //! One part of each location on a line of its own, for scripts.
 //!
-//! It uses the public calls of `gix_url`, and has no contract but that it can't abort: `scripts/hostile people` shows its
+//! It uses the public calls of `gix_url`, and has no contract but that it can't abort: `scripts/hostile golden` shows its
 //! answers. A password is no part that can be asked for.
 
 use crate::line::write_shown;

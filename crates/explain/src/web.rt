@@ -2,7 +2,7 @@
 //!
 //! It uses the public calls of `gix_url` and `bstr`. What it finds is the first condition of the class of `agrees_with_git`
 //! that a location misses. It has no contract but that it can't abort: `tools/web_plain.py` has the conditions, by which
-//! the stored run is computed, and `scripts/hostile people` shows the sentences.
+//! the stored run is computed, and `scripts/hostile golden` shows the sentences.
 
 use bstr::ByteSlice;
 use gix_url::Url;

@@ -1,5 +1,5 @@
 //! Carries out the orders of the standard input, a line each, by the calls of the crate, and tells how each call ended,
-//! in a line of JSON, as the program `answers` does. `tools/bindings.py` writes orders and says how they are written.
+//! in a line of JSON, as the program `answers` does. `tools/row_programs.py` writes orders and says how they are written.
 
 use gix_url_proved::bstr::BString;
 use gix_url_proved::expand_path::{self, ForUser};

@@ -1,7 +1,7 @@
 //! Components as parts of the path that they are of: what the library copied is found again in it, so that it is lent.
 
 use crate::bstr::BStr;
-use crate::door::{next, Parted};
+use crate::ffi::{next, Parted};
 use crate::{PathComponents, QueryPair};
 use std::borrow::Cow;
 

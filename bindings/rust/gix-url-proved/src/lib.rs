@@ -3,7 +3,7 @@
 //! The surface is that of `gix-url` 0.40.1, by the same names, so that a program changes the line that names its
 //! dependency and little else; `docs/FROM_RUST.md` of the repository has each line that changes. The answers come from the
 //! library `gix_url`, whose code is proved, by the static library that is linked in; what is here turns values into
-//! pointers and lengths and back. All `unsafe` code is in the module `door`, and in the byte strings that stand in for
+//! pointers and lengths and back. All `unsafe` code is in the module `ffi`, and in the byte strings that stand in for
 //! those of the crate `bstr` without the feature `bstr`.
 //!
 //! ```
@@ -29,8 +29,8 @@ pub mod bstr;
 
 mod convert;
 mod disk;
-mod door;
 pub mod expand_path;
+mod ffi;
 pub mod ipv6;
 mod lent;
 mod logs;

@@ -1,8 +1,8 @@
 //! Reading, and what a text or a value is refused for.
 
 use crate::bstr::BString;
-use crate::door;
 use crate::expand_path::ForUser;
+use crate::ffi;
 use crate::Url;
 use std::fmt;
 
@@ -23,7 +23,7 @@ use std::fmt;
 ///
 /// Exactly where the bytes spell no location; the error names a flaw that stands in them.
 pub fn parse(input: impl AsRef<[u8]>) -> Result<Url, Error> {
-    door::read(input.as_ref())
+    ffi::read(input.as_ref())
 }
 
 /// The form that a text was taken for.

@@ -1,6 +1,6 @@
 //! What a location is reached by.
 
-use crate::door;
+use crate::ffi;
 use std::fmt;
 
 /// What a location is reached by.
@@ -56,7 +56,7 @@ impl Scheme {
     /// assert_eq!(Scheme::File.default_port(), None);
     /// ```
     pub fn default_port(&self) -> Option<u16> {
-        door::port_or_default(self, None)
+        ffi::port_or_default(self, None)
     }
 }
 

@@ -2,7 +2,7 @@
 
 use crate::bstr::{BStr, BString};
 use crate::parse::{parse, Error, WriteFault};
-use crate::{disk, door, Scheme};
+use crate::{disk, ffi, Scheme};
 use std::borrow::Cow;
 use std::ffi::OsStr;
 use std::fmt;
@@ -107,7 +107,7 @@ impl Url {
         path: BString,
         serialize_alternative_form: bool,
     ) -> Result<Url, Error> {
-        door::from_parts(&Url { scheme, user, password, host, serialize_alternative_form, port, path, spelling: None })
+        ffi::from_parts(&Url { scheme, user, password, host, serialize_alternative_form, port, path, spelling: None })
     }
 
     /// The user, if there is one.
@@ -163,12 +163,12 @@ impl Url {
     /// # Ok::<(), parse::Error>(())
     /// ```
     pub fn user_as_argument(&self) -> ArgumentSafety<'_> {
-        door::argument(self.user.as_deref())
+        ffi::argument(self.user.as_deref())
     }
 
     /// The host as an argument of a command.
     pub fn host_as_argument(&self) -> ArgumentSafety<'_> {
-        door::argument(self.host.as_deref())
+        ffi::argument(self.host.as_deref())
     }
 
     /// The user, where there is one that doesn't begin with `-`.
@@ -189,20 +189,20 @@ impl Url {
 
     /// The whole path, where it begins with `/` and the byte behind that isn't `-`.
     pub fn path_argument_safe(&self) -> Option<&BStr> {
-        door::is_path_argument(&self.path).then(|| self.path.as_slice().into())
+        ffi::is_path_argument(&self.path).then(|| self.path.as_slice().into())
     }
 
     /// The path as it was spelled, where that still stands for the path, and else the path.
     pub fn original_path(&self) -> &BStr {
         match &self.spelling {
-            Some(spelling) if door::is_spelled(&self.path, spelling) => spelling.as_slice().into(),
+            Some(spelling) if ffi::is_spelled(&self.path, spelling) => spelling.as_slice().into(),
             _ => self.path.as_slice().into(),
         }
     }
 
     /// Whether the path is `/`.
     pub fn path_is_root(&self) -> bool {
-        door::is_root(&self.path)
+        ffi::is_root(&self.path)
     }
 
     /// The port, or else the one that the scheme stands for.
@@ -212,7 +212,7 @@ impl Url {
     /// # Ok::<(), gix_url_proved::parse::Error>(())
     /// ```
     pub fn port_or_default(&self) -> Option<u16> {
-        door::port_or_default(&self.scheme, self.port)
+        ffi::port_or_default(&self.scheme, self.port)
     }
 
     /// The path, the query and the fragment of a location of HTTP; any other has its path alone. A raw `+` in a name or a
@@ -235,7 +235,7 @@ impl Url {
         // Without these bytes there is nothing to take apart, whatever the spelling is.
         let is_web = matches!(self.scheme, Scheme::Http | Scheme::Https);
         if is_web && self.path.iter().any(|byte| matches!(byte, b'?' | b'#')) {
-            return unless_memory(door::components(self));
+            return unless_memory(ffi::components(self));
         }
         let path = if is_web && self.path.is_empty() { b"/" } else { self.path.as_slice() };
         PathComponents { path: path.into(), query: None, fragment: None }
@@ -243,7 +243,7 @@ impl Url {
 
     /// Whether the location's text is read as the same public fields and is written the same again.
     pub fn is_settled(&self) -> bool {
-        door::is_settled(self)
+        ffi::is_settled(self)
     }
 
     /// Whether Git reads this very place in the text of the location: the same protocol, user, host, port and path.
@@ -283,7 +283,7 @@ impl Url {
     /// # Ok::<(), parse::Error>(())
     /// ```
     pub fn agrees_with_git(&self) -> bool {
-        door::agrees_with_git(self)
+        ffi::agrees_with_git(self)
     }
 
     /// Writes the text of the location.
@@ -292,7 +292,7 @@ impl Url {
     ///
     /// Those of the writer; and of kind `InvalidInput`, before any byte is written, where the location has no text.
     pub fn write_to(&self, out: &mut dyn io::Write) -> io::Result<()> {
-        door::with_text(self, |text| out.write_all(text))
+        ffi::with_text(self, |text| out.write_all(text))
             .unwrap_or_else(|error| Err(io::Error::new(io::ErrorKind::InvalidInput, error)))
     }
 
@@ -320,7 +320,7 @@ impl Url {
     ///
     /// [`Error::Unwritable`] exactly where the location has none.
     pub fn text(&self) -> Result<BString, Error> {
-        door::write(self).map(BString::from)
+        ffi::write(self).map(BString::from)
     }
 
     /// The length of the text in bytes, without the text. It allocates nothing.
@@ -334,7 +334,7 @@ impl Url {
     ///
     /// What is wrong where the location has no text.
     pub fn text_len(&self) -> Result<usize, WriteFault> {
-        door::text_len(self)
+        ffi::text_len(self)
     }
 
     /// What the location's own text is read as: of a settled one the same public fields.
@@ -404,6 +404,6 @@ impl fmt::Display for Url {
             Ok(text) => f.write_str(text),
             Err(_) => f.write_str(&String::from_utf8_lossy(shown)),
         };
-        door::display(self, show).map_err(|_| fmt::Error)?
+        ffi::display(self, show).map_err(|_| fmt::Error)?
     }
 }

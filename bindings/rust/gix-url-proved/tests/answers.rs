@@ -1,5 +1,5 @@
-//! The short inputs and the remotes that the door for C is tested with too, whose answers are those of the program
-//! `locations`: `scripts/doors` writes those of the remotes. What errors keep, the order, and a spelling that lapses.
+//! The short inputs and the remotes that the binding for C is tested with too, whose answers are those of the program
+//! `locations`: `scripts/bindings` writes those of the remotes. What errors keep, the order, and a spelling that lapses.
 
 use gix_url_proved::parse::{parse, Error};
 use gix_url_proved::Url;
@@ -10,7 +10,7 @@ fn file(name: &str) -> Vec<u8> {
     let here = concat!(env!("CARGO_MANIFEST_DIR"), "/../../..");
     let repository = std::env::var("GIX_URL_REPOSITORY").unwrap_or(here.to_owned());
     let path = format!("{repository}/{name}");
-    fs::read(&path).unwrap_or_else(|error| panic!("{path}: {error}: call scripts/doors first"))
+    fs::read(&path).unwrap_or_else(|error| panic!("{path}: {error}: call scripts/bindings first"))
 }
 
 fn lossy(bytes: &[u8]) -> String {
@@ -84,7 +84,7 @@ fn short_inputs() {
 
 #[test]
 fn remotes() {
-    answers_alike("out/doors/remotes", "out/doors/remotes.wanted");
+    answers_alike("out/bindings/remotes", "out/bindings/remotes.wanted");
 }
 
 #[test]

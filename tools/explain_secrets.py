@@ -14,7 +14,7 @@ import unicodedata
 
 import explained
 import oracle
-from kit import ROOT, program
+from rt_api import ROOT, program
 
 SECRET = b"S3cr3tZ"
 SEEDS = [
@@ -42,7 +42,7 @@ def changed(line, chance):
 
 def lines(count, seed=1):
     chance = random.Random(seed)
-    made = subprocess.run([sys.executable, f"{ROOT}/tools/remotes.py"], stdout=subprocess.PIPE, check=True, timeout=60).stdout
+    made = subprocess.run([sys.executable, f"{ROOT}/tools/make_remotes.py"], stdout=subprocess.PIPE, check=True, timeout=60).stdout
     secrets = (SECRET, SECRET, SECRET + b"%40x", b"%41" + SECRET, b"\xc3\xbc" + SECRET)
     changes = [changed(chance.choice(SEEDS) % chance.choice(secrets), chance) for _ in range(count)]
     return list(dict.fromkeys([*oracle.short_inputs(), *made.split(b"\n")[:-1], *changes]))

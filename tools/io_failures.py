@@ -4,7 +4,7 @@ import pty
 import subprocess
 import threading
 
-from kit import built
+from rt_api import built
 
 
 LINES = b"a::b://c\n/srv/repo.git\nhttp://h:0/\n"

@@ -10,7 +10,7 @@ import os
 import re
 import resource
 
-from kit import program
+from rt_api import program
 
 
 LARGE = 100_000_000

@@ -1,4 +1,4 @@
-"""Fails where a door tells of a line otherwise than the program `explain` does: `explained_doors.py LINES ANSWERS EXPLAINED`.
+"""Fails where a binding tells of a line otherwise than the program `explain` does: `compare_bindings.py LINES ANSWERS EXPLAINED`.
 
 ANSWERS are those of `bindings/tests/members.c` or of the example `members` of the Rust crate, EXPLAINED those of `explain --json`.
 Bytes that are no UTF-8 are U+FFFD in JSON, and are compared so. Whether Git reads the same is compared with the rule by
@@ -30,7 +30,7 @@ def agreement(line):
 
 
 def of_explain(said, line):
-    """What explain and the rule by hand say of a line, as the doors' words."""
+    """What explain and the rule by hand say of a line, as the bindings' words."""
     it, refusal = said["location"], said["refusal"]
     if refusal:
         return ["refused", refusal["error"], refusal["fault"], refusal["kind"]]
@@ -41,8 +41,8 @@ def of_explain(said, line):
     return ["read", *texts, *paths, settled, agreement(line), it["text"], components(it["components"])]
 
 
-def of_door(line):
-    """What a door says of a line, in the same form."""
+def of_binding(line):
+    """What a binding says of a line, in the same form."""
     outcome, *words = line.split(" ")
     if outcome == "refused":
         error, fault, kind = (None if it == "-" else it for it in words)
@@ -62,16 +62,16 @@ def lines_of(name):
 def main():
     lines, answers, explained = map(lines_of, sys.argv[1:])
     if not len(lines) == len(answers) == len(explained) > 0:
-        sys.exit(f"explained_doors: {len(answers)} answers and {len(explained)} of explain stand beside {len(lines)} lines")
+        sys.exit(f"compare_bindings: {len(answers)} answers and {len(explained)} of explain stand beside {len(lines)} lines")
     faults = 0
     for number, (line, answer, said) in enumerate(zip(lines, answers, explained), 1):
-        door, wanted = of_door(answer.decode()), of_explain(json.loads(said), line)
-        if door != wanted:
+        binding, wanted = of_binding(answer.decode()), of_explain(json.loads(said), line)
+        if binding != wanted:
             faults += 1
             if faults <= 5:
-                print(f"line {number}: {line.decode(errors='replace')}\n  door:   {door}\n  wanted: {wanted}", file=sys.stderr)
+                print(f"line {number}: {line.decode(errors='replace')}\n  binding: {binding}\n  wanted:  {wanted}", file=sys.stderr)
     if faults:
-        sys.exit(f"explained_doors: {faults} lines are told otherwise")
+        sys.exit(f"compare_bindings: {faults} lines are told otherwise")
     print(len(answers))
 
 

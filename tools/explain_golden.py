@@ -1,4 +1,4 @@
-"""What people are shown: the program `explain` over the lines of `crates/explain/people`, whose answers were written by hand.
+"""What people are shown: the program `explain` over the lines of `crates/explain/golden`, whose answers were written by hand.
 
 The crate's one stored run is JSON. Among the lines are some with control characters in each part that is shown, which must
 not reach a terminal. Each line of the file `alarms` raises an alarm, and no plain remote of 10,000 does. A hint is one.
@@ -7,9 +7,9 @@ import re
 import subprocess
 import sys
 
-from kit import ROOT, program
+from rt_api import ROOT, program
 
-STORED = f"{ROOT}/crates/explain/people"
+STORED = f"{ROOT}/crates/explain/golden"
 # A remote of HTTP, of Secure Shell or in the scp form, of which nothing has to be said.
 PLAIN = re.compile(rb"(https|ssh)://([\w.-]+@)?[\w.-]+(:\d+)?/[\w./-]+|([\w.-]+@)?[\w.-]+:[\w.][\w./-]*")
 OPTION = re.compile(rb"(^|//|@|/|:)-")
@@ -60,7 +60,7 @@ def false_alarms(lines):
 
 
 def check(_room):
-    made = subprocess.run([sys.executable, f"{ROOT}/tools/remotes.py"], stdout=subprocess.PIPE, check=True, timeout=60).stdout
+    made = subprocess.run([sys.executable, f"{ROOT}/tools/make_remotes.py"], stdout=subprocess.PIPE, check=True, timeout=60).stdout
     plain = [it for it in made.splitlines() if PLAIN.fullmatch(it) and not OPTION.search(it) and not DOTS.match(it)]
     bad = stored("alarms").splitlines()
     faults = [*written_by_hand(), *in_colours(), *(f"a false alarm about {it!r}" for it in false_alarms(plain))]

@@ -1,4 +1,4 @@
-"""`rt ci`, whose checks wait for slots that they share with the edits: `ci.py READ WRITE`, the ends of the pipe of slots.
+"""`rt ci`, whose checks wait for slots that they share with the edits: `rt_ci.py READ WRITE`, the ends of the pipe of slots.
 
 `rt ci` guesses how much memory a check takes by a crate's lines, which is thrice too much for the library with its many
 definitions, and so checks it by one processor. Here slots say how many run at a time, and all that can begin stand in line
@@ -11,7 +11,7 @@ import sys
 import tempfile
 
 sys.dont_write_bytecode = True
-from kit import Slots, load_kit, processor_minutes
+from rt_api import Slots, load_kit, processor_minutes
 
 # More than there are checks: how many run at a time is said by slots, for which the memory was counted.
 ALL = 64

@@ -17,9 +17,9 @@ import re
 import subprocess
 import sys
 
-from kit import ROOT, program
+from rt_api import ROOT, program
 
-FOLDER = f"{ROOT}/out/doors"
+FOLDER = f"{ROOT}/out/bindings"
 
 # Calls that all bindings have, and those that not all of them have.
 ALL = {
@@ -131,9 +131,9 @@ class Binding(Answers):
         return name not in PLACES
 
     def built(self):
-        """The program, which is built over the library of `scripts/doors`."""
+        """The program, which is built over the library of `scripts/bindings`."""
         if not os.path.isfile(f"{FOLDER}/libgix_url.a"):
-            sys.exit("vectors: there is no out/doors/libgix_url.a: call scripts/doors first")
+            sys.exit("vectors: there is no out/bindings/libgix_url.a: call scripts/bindings first")
         return self.build()
 
 
@@ -158,7 +158,7 @@ class C(Binding):
 
 
 class Python(C):
-    """The module over the shared library of `scripts/doors`, or the one that the environment names."""
+    """The module over the shared library of `scripts/bindings`, or the one that the environment names."""
 
     name = "python"
 

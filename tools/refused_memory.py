@@ -13,7 +13,7 @@ import re
 import subprocess
 
 import rows
-from kit import ROOT, load_kit, program
+from rt_api import ROOT, load_kit, program
 
 # Of the rows that a line stands for, as many are taken at most.
 OF_A_LINE = 20
@@ -47,7 +47,7 @@ def build_shim(room):
     """Builds what stands before the allocator."""
     clang, shim = f"{load_kit().rtlib.KIT}/toolchain/bin/clang", f"{room}/refuse.so"
     flags = ["-O1", "-shared", "-fPIC", "-nostdlib", "-fuse-ld=lld"]
-    subprocess.run([clang, *flags, "-o", shim, f"{ROOT}/tools/refuse.c"], check=True)
+    subprocess.run([clang, *flags, "-o", shim, f"{ROOT}/tools/refuse_memory.c"], check=True)
     return shim
 
 

@@ -4,7 +4,7 @@ import pty
 import subprocess
 from collections import namedtuple
 
-from kit import ROOT, built
+from rt_api import ROOT, built
 
 # A call: the program, its arguments, its input; its status, what it prints, and a part of what it reports as wrong.
 Call = namedtuple("Call", "program words input status shown reported", defaults=(b"", 0, b"", b""))

@@ -16,9 +16,9 @@ import itertools
 import json
 
 import plain_paths
-from kit import ROOT
 from recomputed import location, oracle, outcome
 from row_text import joined, text_of
+from rt_api import ROOT
 
 # The member of the first of two values that a call compares.
 COMPARED = {"Url:Ord": "url", "Scheme:Ord": "scheme", "ForUser:Ord": "user"}

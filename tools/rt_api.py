@@ -108,15 +108,15 @@ def copy_tree(to, keep=lambda name: True):
 
 
 @functools.cache
-def tried():
-    """The crates whose tests are run and not proved, each with its line of tried.txt."""
-    with open(f"{ROOT}/tried.txt", encoding="utf-8") as it:
+def crates_of_tests():
+    """The crates whose tests are run and not proved, each with its line of tests.txt."""
+    with open(f"{ROOT}/tests.txt", encoding="utf-8") as it:
         return {line.partition(":")[0]: line for line in it if not line.startswith("#")}
 
 
 def is_proved(name):
     """Whether a file stands in none of those crates."""
-    return not name.startswith(tuple(f"crates/{it}/" for it in tried()))
+    return not name.startswith(tuple(f"crates/{it}/" for it in crates_of_tests()))
 
 
 def sources():

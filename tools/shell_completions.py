@@ -7,7 +7,7 @@ import re
 import shutil
 import subprocess
 
-from kit import ROOT
+from rt_api import ROOT
 
 FOLDER = f"{ROOT}/completions"
 # The words of a command line, the last one to be completed, and what comes of it.

@@ -4,7 +4,7 @@ import itertools
 import os
 import re
 
-from kit import LAYERS, LIBRARIES, LIBRARY, ROOT, stands_on
+from rt_api import LAYERS, LIBRARIES, LIBRARY, ROOT, stands_on
 from source_modules import paths_of
 
 CALLS = f"{ROOT}/crates/answers/src/calls.rt"
