@@ -8,8 +8,8 @@ import json
 import sys
 
 sys.dont_write_bytecode = True
-import oracle
-from explained import agrees_with_git
+from second_reading import grammar, line_answers
+from second_reading.explain import agrees_with_git
 
 
 def text(word):
@@ -25,7 +25,7 @@ def components(parts):
 
 def agreement(line):
     """What the rule by hand says of the text that is written for what the line is read as."""
-    v = oracle.spells(line)
+    v = grammar.spells(line)
     return "alike" if v is not None and agrees_with_git(v) else "unsure"
 
 
@@ -56,7 +56,7 @@ def of_binding(line):
 
 def lines_of(name):
     with open(name, "rb") as it:
-        return oracle.lines_of(it.read())
+        return line_answers.lines_of(it.read())
 
 
 def main():

@@ -12,9 +12,8 @@ import subprocess
 import sys
 import unicodedata
 
-import explained
-import oracle
 from rt_api import ROOT, program
+from second_reading import explain, grammar, octets, records, short_inputs
 
 SECRET = b"S3cr3tZ"
 SEEDS = [
@@ -45,7 +44,7 @@ def lines(count, seed=1):
     made = subprocess.run([sys.executable, f"{ROOT}/tools/make_remotes.py"], stdout=subprocess.PIPE, check=True, timeout=60).stdout
     secrets = (SECRET, SECRET, SECRET + b"%40x", b"%41" + SECRET, b"\xc3\xbc" + SECRET)
     changes = [changed(chance.choice(SEEDS) % chance.choice(secrets), chance) for _ in range(count)]
-    return list(dict.fromkeys([*oracle.short_inputs(), *made.split(b"\n")[:-1], *changes]))
+    return list(dict.fromkeys([*short_inputs.short_inputs(), *made.split(b"\n")[:-1], *changes]))
 
 
 def answers(given, *words):
@@ -57,7 +56,7 @@ def is_secret(v, line):
     """Whether the secret is read as a password, or may be one."""
     if v is not None:
         return v.password is not None and SECRET in v.password
-    place = explained.secret_of_refused(line)
+    place = explain.secret_of_refused(line)
     return place is not None and SECRET in line[place[0]:place[1]]
 
 
@@ -100,14 +99,14 @@ def named(answer):
 
 def is_of_fields(v, found, line):
     """Whether the pieces stand for what is read. What stands on the web behind a path is told by the library's parts."""
-    form = explained.form(v)
+    form = explain.form(v)
     if form == "remote_helper":
-        return found.get("address", b"") == v.path and found.get("helper", oracle.as_str(v.scheme)) == oracle.as_str(v.scheme)
+        return found.get("address", b"") == v.path and found.get("helper", grammar.as_str(v.scheme)) == grammar.as_str(v.scheme)
     if form == "local":
         return found == {"path": line}
-    is_web, decoded = v.scheme in oracle.HTTP_SCHEMES, oracle.dec if form == "url" and v.scheme[0] != "File" else bytes
+    is_web, decoded = v.scheme in grammar.HTTP_SCHEMES, octets.dec if form == "url" and v.scheme[0] != "File" else bytes
     host, path = (found.get("host", b"") if is_web else decoded(found.get("host", b""))), decoded(found.get("path", b""))
-    wanted, _, fragment = oracle.parts(v) if is_web else (v.path, None, None)
+    wanted, _, fragment = records.parts(v) if is_web else (v.path, None, None)
     return (decoded(found.get("user", b"")) == (v.user or b"") and found.get("password") == (v.password and b"redacted")
             and host.lower() == (v.host or b"").lower() and found.get("port", b"").lstrip(b"0") == (b"%d" % v.port if v.port else b"")
             and (path == wanted or path == b"/" + wanted or (is_web and not path and wanted == b"/"))
@@ -117,17 +116,17 @@ def is_of_fields(v, found, line):
 def kind_of(v, line, found):
     """How the line was shown."""
     if v is None:
-        return "refused, with a word" if explained.secret_of_refused(line) else "refused"
-    return "cut" if found else "hidden" if explained.shown_line(line) is None else "whole"
+        return "refused, with a word" if explain.secret_of_refused(line) else "refused"
+    return "cut" if found else "hidden" if explain.shown_line(line) is None else "whole"
 
 
 def faults_of(line, told, answer):
     """What is wrong with the answers to a line, and how it was shown."""
-    v, found = oracle.spells(line), {}
+    v, found = grammar.spells(line), {}
     faults = ["a control character is shown"] if CONTROL.search(answer) else []
     if is_secret(v, line) and SECRET.decode() in told + answer:
         faults.append("the secret is shown")
-    wanted = explained.shown_line(line)
+    wanted = explain.shown_line(line)
     if json.loads(told)["input"] != wanted:
         faults.append(f"`input` isn't {wanted!r}")
     if v is not None and wanted is not None and len(answer.split("\n")[1]) <= 204:

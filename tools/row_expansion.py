@@ -15,10 +15,10 @@
 import itertools
 import json
 
-import plain_paths
-from recomputed import location, oracle, outcome
 from row_text import joined, text_of
 from rt_api import ROOT
+from second_reading import plain_paths, settled_class
+from second_reading.row_outcomes import location, outcome
 
 # The member of the first of two values that a call compares.
 COMPARED = {"Url:Ord": "url", "Scheme:Ord": "scheme", "ForUser:Ord": "user"}
@@ -73,7 +73,7 @@ def each(members, ends):
     """The rows of all these characters, with the outcomes of the second reading."""
     wanted = members["settled"]
     found = [filled({name: it for name, it in members.items() if name != "settled"}, it) for it in characters(ends)]
-    settled = sum(oracle.settled(location(it["url"])) for it in found)
+    settled = sum(settled_class.settled(location(it["url"])) for it in found)
     if wanted != settled:
         raise ValueError(f"the locations of {settled} of the {len(found)} rows are settled")
     if "is" in members or members.get("from") != "oracle":

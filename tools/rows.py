@@ -14,10 +14,10 @@ import json
 import os
 import sys
 
-from recomputed import recomputed_fault
 from row_expansion import expanded
 from row_text import joined
 from rt_api import ROOT
+from second_reading.row_outcomes import recomputed_fault
 
 FOLDER = f"{ROOT}/vectors"
 # Where an expectation may come from, and nothing in this library is among it.

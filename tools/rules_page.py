@@ -2,12 +2,12 @@
 import re
 
 import git_classes
-import oracle
 import rules_credential
 import rules_rewrite
 import rules_ssh
 from rt_api import ROOT
 from rules_asked import Entry
+from second_reading import grammar
 
 PAGE, OTHER = "docs/RULES.md", "docs/GIT.md"
 # A class, and the cells behind it; a class may have more rows, which name it in the first one alone.
@@ -66,7 +66,7 @@ def word_faults():
     texts = [(name, CODE.findall(cells[0])[0].encode()) for name, cells in rows_of(read(PAGE)) if name in (*rules_ssh.REASONS, *rules_ssh.OF_WORDS)]
     runs = [rules_ssh.Run("simple" if name == OF_SIMPLE else "ssh", 2, rules_ssh.SERVICES[0]) for name, _ in texts]
     for (name, text), case in zip(texts, rules_ssh.ask([(text, run) for (_, text), run in zip(texts, runs)])):
-        location = oracle.spells(text)
+        location = grammar.spells(text)
         found = None if rules_ssh.is_alike(case, location) else rules_ssh.class_of_words(case, location)
         if found != name:
             yield f"{PAGE}: {text.decode()} is an example of {found}, and not of {name}"

@@ -7,7 +7,6 @@ import json
 import os
 import re
 
-import oracle
 import rules_match
 import rules_rewrite
 import rules_ssh
@@ -15,6 +14,7 @@ import rules_transport
 from row_text import bytes_of, text_of
 from rt_api import ROOT
 from rules_asked import Entry
+from second_reading import grammar
 
 FILE = f"{ROOT}/vectors/rules/git.jsonl"
 REFUSED = {"refused": True}
@@ -71,7 +71,7 @@ def of_words(some):
     """The words that Git gives Secure Shell; None where they aren't the location's own, so that the row may not be there."""
     runs = [rules_ssh.Run(it["variant"], it["version"], it["service"]) for it in some]
     for case in rules_ssh.ask([(bytes_of(it["url"]), run) for it, run in zip(some, runs)]):
-        is_own = rules_ssh.is_alike(case, oracle.spells(case.text))
+        is_own = rules_ssh.is_alike(case, grammar.spells(case.text))
         yield None if not is_own else REFUSED if isinstance(case.git, str) else [*map(text_of, case.git[0])]
 
 
@@ -125,6 +125,6 @@ def row_faults():
     rows = [it for it in lines() if isinstance(it, dict)]
     print(f"{len(rows)} rows are asked again" if rows else "rules_witness: rows are left out, since there are none in vectors/rules/git.jsonl")
     for row, outcome in zip(rows, outcomes(rows)):
-        is_unread = "url" in row and oracle.spells(bytes_of(row["url"])) is None
+        is_unread = "url" in row and grammar.spells(bytes_of(row["url"])) is None
         if outcome != row.get("is", ...) or is_unread or row["call"] == "ssh::ssh_command" and outcome is None:
             yield f"{json.dumps(row)} is {json.dumps(outcome)} by Git, or has no such location"

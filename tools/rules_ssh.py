@@ -15,7 +15,6 @@ import re
 from collections import namedtuple
 
 import git_classes
-import oracle
 from git_classes import Case as Compared, Reading
 from git_reads import from_tilde, secure_places, secure_words, user_cuts
 from git_texts import Maker, texts
@@ -24,6 +23,7 @@ from row_text import text_of
 from rules_asked import answers_of, rooms
 from rules_ssh_texts import secure_texts
 from rules_transport import transport
+from second_reading import git_class, grammar, writing
 
 NUMBER, WHOLE, SAMPLE = 20_261_130, 10_000, 1_500
 SHOW = r"""f() { { printf '\001'; printf '%s\001' "$@"; printf '%s\001\002' "$GIT_PROTOCOL"; } >&2; false; }; f"""
@@ -183,7 +183,7 @@ def class_of_words(case, location):
 
 def is_own(location, text):
     """Whether a location is one of which `agrees_with_git` is true, and the text is what is written for it."""
-    return location is not None and oracle.agrees_with_git(location) and oracle.text(location) == text
+    return location is not None and git_class.agrees_with_git(location) and writing.text(location) == text
 
 
 def text_fault(case):
@@ -208,7 +208,7 @@ def judged(cases):
     """Each case with its class, None where the location has Git's words, and with what is wrong, if anything is: in a text
     that is written for a location of which `agrees_with_git` is true there may be no difference."""
     for it in cases:
-        location = oracle.spells(it.text)
+        location = grammar.spells(it.text)
         name = None if is_alike(it, location) else class_of_words(it, location) or "none"
         fault = text_fault(it) or ("it is in no class" if name == "none" else None)
         if name and is_own(location, it.text):
@@ -230,7 +230,7 @@ def made(count, given):
 def orders(found):
     """The calls of the library for the texts that it reads, with Git's words where these are the location's own."""
     for it, name, _ in found:
-        location = oracle.spells(it.text)
+        location = grammar.spells(it.text)
         if name is None and location is not None and location.scheme == ("Ssh",):
             run = {"service": it.run.service, "variant": it.run.variant, "version": it.run.version}
             is_refused = refusal(location, it.run) is not None

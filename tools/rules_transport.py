@@ -12,12 +12,12 @@ that fail, and remote helpers aren't found.
 import re
 from collections import namedtuple
 
-import oracle
 from git_reads import HELPER_FORM
 from git_texts import Maker
 from row_text import text_of
 from rules_asked import Entry, answers_of, is_named, listed, rooms
 from rules_boolean import is_true
+from second_reading import grammar
 
 NUMBER, WHOLE, SAMPLE = 20_261_129, 4_000, 600
 # How many texts are asked for their transport.
@@ -199,5 +199,5 @@ def orders(cases):
 def name_orders(found):
     """The calls of the library for texts that it reads, with the transports that Git names."""
     for it in found:
-        if it.name is not None and oracle.spells(it.text) is not None:
+        if it.name is not None and grammar.spells(it.text) is not None:
             yield {"call": "protocols::transport", "url": text_of(it.text)}, text_of(it.name)

@@ -8,7 +8,7 @@ then those of another path, of the same place spelled otherwise, and of texts th
 import re
 from functools import cached_property
 
-import oracle
+from second_reading import settled_class, writing
 from web_defined import trimmed_path
 from web_reads import CONTROL, NO_HOST, PARTS, Web, address, cut, decoded, for_credential, for_curl, literal, spelled_path
 
@@ -59,7 +59,7 @@ class WebCase:
 
     @cached_property
     def is_settled(self):
-        return oracle.settled(self.location)
+        return settled_class.settled(self.location)
 
     @cached_property
     def is_alike(self):
@@ -70,7 +70,7 @@ class WebCase:
     @cached_property
     def is_written_so(self):
         """Whether the location is settled and the text is what is written for it."""
-        return self.is_settled and oracle.text(self.location) == self.text
+        return self.is_settled and writing.text(self.location) == self.text
 
 
 def different(name, reading, wanted):

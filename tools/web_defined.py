@@ -6,20 +6,20 @@ tried, and what each case asks is asked of it. It takes no word from Git and lib
 """
 from collections import namedtuple
 
-import oracle
 from git_reads import GIT_ESCAPE, cuts, first_cuts
+from second_reading import git_class, grammar, hosts, octets
 from web_reads import Web, escaped
 
 CredentialReading = namedtuple("CredentialReading", "protocol user password host path")
 UriReading = namedtuple("UriReading", "scheme information host port path query fragment")
 PATH_STARTS = b"/?#"
-HOST_BYTES = oracle.ALNUM | frozenset(b"-._~!$&'()*+,;=%")
+HOST_BYTES = octets.ALNUM | frozenset(b"-._~!$&'()*+,;=%")
 URI_BYTES = HOST_BYTES | frozenset(b":@/?")
 
 
 def pieces(rest):
     """The authority and what is behind it: it ends at the first byte with which a path may start."""
-    return [(front, back) for front, back in oracle.halves(rest)
+    return [(front, back) for front, back in octets.halves(rest)
             if (back == b"" or back[0] in PATH_STARTS) and not any(it in front for it in PATH_STARTS)]
 
 
@@ -50,7 +50,7 @@ def trimmed_path(path):
 
 
 def credential_paths(behind):
-    rests = [rest for slashes, rest in oracle.halves(behind) if not slashes.strip(b"/") and not rest.startswith(b"/")]
+    rests = [rest for slashes, rest in octets.halves(behind) if not slashes.strip(b"/") and not rest.startswith(b"/")]
     return [trimmed_path(it) for rest in rests for it in credential_decodes(rest)]
 
 
@@ -84,24 +84,24 @@ def uri_authorities(authority):
 
 def uri_hosts(named):
     """All of a host and what follows it."""
-    return [(host, behind) for host, behind in oracle.halves(named) if is_bracketed(host) or (b":" not in host and host[:1] != b"[")]
+    return [(host, behind) for host, behind in octets.halves(named) if is_bracketed(host) or (b":" not in host and host[:1] != b"[")]
 
 
 def is_bracketed(host):
-    return host[:1] == b"[" and host[-1:] == b"]" and oracle.ip6(host[1:-1])
+    return host[:1] == b"[" and host[-1:] == b"]" and hosts.ip6(host[1:-1])
 
 
 def uri_ports(behind):
-    is_port = behind[:1] == b":" and all(it in oracle.DIGITS for it in behind[1:])
+    is_port = behind[:1] == b":" and all(it in octets.DIGITS for it in behind[1:])
     return [None] if behind == b"" else [behind[1:]] if is_port else []
 
 
 def is_escaped(allowed, part):
-    return part is None or (all(it in allowed for it in part) and oracle.sound(part))
+    return part is None or (all(it in allowed for it in part) and octets.sound(part))
 
 
 def has_uri_bytes(r):
-    return (oracle.is_scheme_text(r.scheme) and is_escaped(HOST_BYTES | frozenset(b":"), r.information)
+    return (grammar.is_scheme_text(r.scheme) and is_escaped(HOST_BYTES | frozenset(b":"), r.information)
             and (r.host[:1] == b"[" or is_escaped(HOST_BYTES, r.host))
             and all(is_escaped(URI_BYTES, it) for it in (r.path, r.query, r.fragment)))
 
@@ -122,14 +122,14 @@ def uri_readings(text):
 
 
 def is_normal(uri):
-    return uri.scheme == uri.scheme.lower() and uri.host == uri.host.lower() and not oracle.has_dot_segment(uri.path)
+    return uri.scheme == uri.scheme.lower() and uri.host == uri.host.lower() and not git_class.has_dot_segment(uri.path)
 
 
 # ---- the location's own
 
 def own_credential(v):
     port = b"" if v.port is None else b":%d" % v.port
-    return CredentialReading(oracle.as_str(v.scheme), v.user, v.password, v.host + port, trimmed_path(v.path[1:]))
+    return CredentialReading(grammar.as_str(v.scheme), v.user, v.password, v.host + port, trimmed_path(v.path[1:]))
 
 
 def with_query(uri):
@@ -140,14 +140,14 @@ def is_own_information(v, information):
     if v.user is None or information is None:
         return v.user is None and information is None
     if v.password is None:
-        return b":" not in information and oracle.dec(information) == v.user
-    return any((oracle.dec(a), oracle.dec(b)) == (v.user, v.password) for a, b in first_cuts(information, b":"))
+        return b":" not in information and octets.dec(information) == v.user
+    return any((octets.dec(a), octets.dec(b)) == (v.user, v.password) for a, b in first_cuts(information, b":"))
 
 
 def is_own_uri(v, uri):
     port = None if v.port is None else b"%d" % v.port
-    return (uri.scheme, uri.host, uri.port, uri.fragment) == (oracle.as_str(v.scheme), v.host, port, None) and (
-        is_own_information(v, uri.information) and oracle.dec(with_query(uri)) == v.path)
+    return (uri.scheme, uri.host, uri.port, uri.fragment) == (grammar.as_str(v.scheme), v.host, port, None) and (
+        is_own_information(v, uri.information) and octets.dec(with_query(uri)) == v.path)
 
 
 def own_faults(text, v):
@@ -172,5 +172,5 @@ def as_defined(credential):
 def for_transfer(uri):
     """A URI as libcurl has it for a transfer."""
     user, colon, password = (uri.information or b"").partition(b":")
-    user, password = (oracle.dec(it) if is_there else None for it, is_there in ((user, uri.information is not None), (password, colon)))
+    user, password = (octets.dec(it) if is_there else None for it, is_there in ((user, uri.information is not None), (password, colon)))
     return Web(uri.scheme, user, password, uri.host, uri.port, escaped(with_query(uri)))

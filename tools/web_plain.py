@@ -9,7 +9,7 @@ import functools
 import re
 import socket
 
-import oracle
+from second_reading import git_class, hosts, octets, settled_class, writing
 from web_reads import CONTROL
 
 NAME_BYTES = re.compile(rb"[a-z0-9._-]+")
@@ -24,7 +24,7 @@ NO_URI_BYTE = re.compile(rb"[^\x00-\x1f\x7f#A-Za-z0-9._~!$&'()*+,;=:@/?%-]")
 @functools.cache
 def path_of(location):
     """Path, query and fragment as they are written."""
-    return oracle.canonical_path(location)
+    return writing.canonical_path(location)
 
 
 def front_of(path):
@@ -48,7 +48,7 @@ def first_of_last_label(location):
 def is_usual_number(location):
     """Whether the host is in brackets, its last label doesn't begin with a digit, or it is four decimal numbers."""
     name = name_of(location)
-    return name is None or not first_of_last_label(location).isdigit() or oracle.is_ip4(name)
+    return name is None or not first_of_last_label(location).isdigit() or hosts.is_ip4(name)
 
 
 def ends_in_letters(location):
@@ -61,7 +61,7 @@ def lacks(part, refused):
 
 def is_whole_password(location):
     password = location.password or b""
-    return b":" not in password or oracle.enc(oracle.PASSWORD_SET, password) == password
+    return b":" not in password or octets.enc(octets.PASSWORD_SET, password) == password
 
 
 def has_written_dots(location):
@@ -73,7 +73,7 @@ def is_empty_query(location):
 
 
 CONDITIONS = {
-    "the location is settled": oracle.settled,
+    "the location is settled": settled_class.settled,
     "host: lower case, digits, `-`, `.`, `_`, or in brackets": has_name_bytes,
     "host: a number only as four decimal numbers": is_usual_number,
     "host: no last label that is empty or begins with `-` or `_`": ends_in_letters,
@@ -92,7 +92,7 @@ CONDITIONS = {
     "path: no control character that is written as it is": lambda it: not CONTROL.search(path_of(it)),
     "path: no other control character": lambda it: CONTROL.search(path_of(it)) or not OTHER_CONTROL.search(it.path),
     "path: no segment `.` or `..`": lambda it: not has_written_dots(it),
-    "path: no such segment as an escape, or in a query": lambda it: has_written_dots(it) or not oracle.has_dot_segment(it.path),
+    "path: no such segment as an escape, or in a query": lambda it: has_written_dots(it) or not git_class.has_dot_segment(it.path),
     "path: no `:` beside an escape": lambda it: b":" not in path_of(it) or b"%" not in path_of(it),
     "path: no `#`": lambda it: b"#" not in path_of(it),
     "path: no `#` as an escape": lambda it: b"#" in path_of(it) or b"#" not in it.path,

@@ -1,5 +1,5 @@
 """What the three readers of an HTTP remote read in its text: rules by hand for Git's credential code and for libcurl, and
-the second reading (`oracle.py`) for this library.
+the second reading (`tools/second_reading`) for this library.
 
 A caller picks credentials by the host that this library reads. Git's credential code (`credential_from_url` of Git 2.39.5)
 cuts the same text for the helpers that it asks, and libcurl 7.88.1 cuts it to connect. `web_asked.py` asks the programs
@@ -9,7 +9,7 @@ import ipaddress
 import re
 from collections import namedtuple
 
-import oracle
+from second_reading import grammar, writing
 
 # What a reader reads. A port is its digits, and the path includes the query; for libcurl it is what the request asks for.
 Web = namedtuple("Web", "scheme user password host port path")
@@ -53,7 +53,7 @@ def cut_at_first(authority):
 
 def located(text):
     """The location of HTTP that this library reads, None where it reads none."""
-    found = oracle.spells(text)
+    found = grammar.spells(text)
     return found if found is not None and found.scheme in HTTP else None
 
 
@@ -64,12 +64,12 @@ def host_and_port(named):
 
 def spelled_path(location):
     """Path, query and fragment, with the escapes of the text."""
-    return location.path if oracle.matching(location) is None else oracle.matching(location)
+    return location.path if writing.matching(location) is None else writing.matching(location)
 
 
 def here(location, path):
     port = None if location.port is None else b"%d" % location.port
-    return Web(oracle.as_str(location.scheme), location.user, location.password, location.host, port, path)
+    return Web(grammar.as_str(location.scheme), location.user, location.password, location.host, port, path)
 
 
 def for_credential(location):

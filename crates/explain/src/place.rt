@@ -3,7 +3,7 @@
 //! It looks at the line again by the rules of `docs/GRAMMAR.md`, with `bstr` and std's reader of addresses, and takes
 //! no memory. Of the flaws with the error that the line is refused for it finds the first in the line, and of several
 //! at one place the first in the order of the checks. Its contract: a place lies within the line. Which place and which
-//! reason are found is tested: the stored run has them from a second reading, `tools/places.py`.
+//! reason are found is tested: the stored run has them from a second reading, `tools/second_reading/fault_places.py`.
 
 ghost use Rattle.std.specs.Prelude.{◌≡◌, ◌+◌, ◌≤◌, ◌<◌, ℕ, List, IfSome, length};
 ghost use Rattle.explain.specs.Places.{LiesIn};

@@ -1,21 +1,14 @@
-#!/usr/bin/env python3
 """Where in a refused text the fault is, and which fault it is, by a second reading of docs/GRAMMAR.md.
 
 What it is for: the members `at`, `len` and `reason` that `explain` reports are computed here, and not by the program.
 Each flaw of a text is listed with the error that names it and with its place. Of the flaws with the error that the text
-is refused for (`oracle.refusal`) the first in the text counts, and of those at one place the first in the order of checks.
+is refused for (`errors.refusal`) the first in the text counts, and of those at one place the first in the order of checks.
 The library's own errors name all of a part that is wrong, and of several flaws the one that the first check finds:
 `library_place` has that place, for the rows of `vectors/`.
-
-    places.py lines     standard input as lines of bytes: for each that is refused, `at`, `len` and the reason
-    places.py refused   the same, with the error, its form and the hexadecimal digits of the line in front
 """
-import os
-import sys
 from collections import namedtuple
 
-sys.dont_write_bytecode = True
-import oracle
+from second_reading import errors, grammar, hosts, octets
 
 # Where the fault begins, in bytes; how many bytes are wrong, 0 where something is missing; and what is wrong.
 Place = namedtuple("Place", "at len reason")
@@ -55,7 +48,7 @@ ORDER = list(SENTENCES)
 
 
 def bad(form, fault):
-    return oracle.refused("BadUrl", form, fault)
+    return errors.refused("BadUrl", form, fault)
 
 
 # ---------------------------------------------------------------------------------------------------------------
@@ -73,8 +66,8 @@ def with_places(t):
     """What a text decodes to, and of each byte of that where it begins in the text; at last where the text ends."""
     decoded, places, at = bytearray(), [], 0
     while at < len(t):
-        size = 3 if oracle.is_escape(t[at:at + 3]) else 1
-        decoded += oracle.dec(t[at:at + size])
+        size = 3 if octets.is_escape(t[at:at + 3]) else 1
+        decoded += octets.dec(t[at:at + size])
         places.append(at)
         at += size
     return bytes(decoded), [*places, len(t)]
@@ -90,11 +83,11 @@ def undecodable(t, at):
 
 
 def white_space(t, at, reason):
-    return [Place(at + i, len(c), reason) for i, c in characters(t) if c in oracle.WHITE_SPACE]
+    return [Place(at + i, len(c), reason) for i, c in characters(t) if c in octets.WHITE_SPACE]
 
 
 def marks(t, mark, at, reason):
-    return [Place(at + len(front), len(mark), reason) for front, _ in oracle.cuts(t, mark)]
+    return [Place(at + len(front), len(mark), reason) for front, _ in octets.cuts(t, mark)]
 
 
 # ---------------------------------------------------------------------------------------------------------------
@@ -102,23 +95,23 @@ def marks(t, mark, at, reason):
 
 def port_faults(mode, digits, at):
     """What is wrong with what stands in a port's place, where anything does."""
-    if digits == b"" or oracle.num(mode, digits) is not None:
+    if digits == b"" or hosts.num(mode, digits) is not None:
         return []
-    if any(b not in oracle.DIGITS for b in digits):
+    if any(b not in octets.DIGITS for b in digits):
         return [Place(at, len(digits), "PortNotANumber")]
     return [Place(at, len(digits), "PortTooLarge" if int(digits) > 65535 else "PortZero")]
 
 
 def inner_faults(mode, x, at):
     """What is wrong with the text between brackets."""
-    if oracle.inner(mode, x) is not None:
+    if hosts.inner(mode, x) is not None:
         return []
-    return [Place(at, len(x), "NotAnAddress")] if mode == oracle.STRICT else undecodable(x, at)
+    return [Place(at, len(x), "NotAnAddress")] if mode == hosts.STRICT else undecodable(x, at)
 
 
 def bracket_faults(mode, piece, at):
     """What is wrong with a piece that begins with a bracket: (bad characters, bad ports)."""
-    closed = [(x, back) for x, back in oracle.cuts(piece[1:], b"]") if b"]" not in x]
+    closed = [(x, back) for x, back in octets.cuts(piece[1:], b"]") if b"]" not in x]
     if not closed:
         return [Place(at, 1, "UnclosedBracket")], []
     (x, back), = closed
@@ -132,26 +125,26 @@ def bracket_faults(mode, piece, at):
 
 def colon_faults(mode, piece, at):
     """What is wrong with a piece whose colons end no host."""
-    if mode != oracle.STRICT:
+    if mode != hosts.STRICT:
         return [*undecodable(piece, at)]
     for address in [piece] + [piece[:-1]] * piece.endswith(b":"):
-        if oracle.ip6(address):
+        if hosts.ip6(address):
             return [Place(at, len(address), "AddressWithoutBrackets")]
-    colons = [len(front) for front, _ in oracle.cuts(piece, b":")]
+    colons = [len(front) for front, _ in octets.cuts(piece, b":")]
     return [Place(at, 0, "HostBeforePort")] if len(colons) == 1 else [Place(at + colons[1], 1, "SecondColon")]
 
 
 def host_faults(mode, piece, at):
     """What is wrong with the piece that names host and port: (bad characters, bad ports)."""
-    if piece == b"" or (mode == oracle.BARE and oracle.is_bare_address(piece)):
+    if piece == b"" or (mode == hosts.BARE and hosts.is_bare_address(piece)):
         return [], []
     if piece.startswith(b"["):
         return bracket_faults(mode, piece, at)
-    if oracle.has_odd_colons(piece):
+    if hosts.has_odd_colons(piece):
         return colon_faults(mode, piece, at), []
     host, colon, digits = piece.partition(b":")
-    if mode == oracle.STRICT:
-        wrong = [Place(at + i, len(c), "HostCharacter") for i, c in characters(host) if not set(c) <= oracle.HTTP_HOST]
+    if mode == hosts.STRICT:
+        wrong = [Place(at + i, len(c), "HostCharacter") for i, c in characters(host) if not set(c) <= octets.HTTP_HOST]
     else:
         wrong = [*undecodable(host, at)]
     return wrong, port_faults(mode, digits, at + len(host + colon))
@@ -164,10 +157,10 @@ def length_faults(s, rest):
     """The piece that is too long: the scheme, or what counts of that which follows."""
     if len(s) > 1024:
         yield Place(0, len(s), "SchemeTooLong")
-    if not oracle.fits(s[:1024], rest):
+    if not grammar.fits(s[:1024], rest):
         begins = len(s) + 3
         skipped = len(rest) - len(rest.lstrip(b"\t\n\x0c\r /\\"))
-        ends = [i for i, b in enumerate(rest) if i >= skipped and b in oracle.path_starts(s)]
+        ends = [i for i, b in enumerate(rest) if i >= skipped and b in grammar.path_starts(s)]
         span = (skipped, ends[0]) if ends else (0, len(rest))
         yield Place(begins + span[0], span[1] - span[0], "AuthorityTooLong")
 
@@ -176,14 +169,14 @@ def scheme_faults(s):
     if s == b"":
         yield Place(0, 0, "SchemeMissing")
     for at, c in characters(s):
-        if at == 0 and not set(c) <= oracle.LETTERS:
+        if at == 0 and not set(c) <= octets.LETTERS:
             yield Place(0, len(c), "SchemeStart")
-        elif not set(c) <= oracle.ALNUM | set(b"+-."):
+        elif not set(c) <= octets.ALNUM | set(b"+-."):
             yield Place(at, len(c), "SchemeCharacter")
 
 
 def escape_faults(b):
-    return [Place(at, 1, "BrokenEscape") for at in range(len(b)) if b[at] == 37 and not oracle.is_escape(b[at:at + 3])]
+    return [Place(at, 1, "BrokenEscape") for at in range(len(b)) if b[at] == 37 and not octets.is_escape(b[at:at + 3])]
 
 
 def credential_faults(information, at):
@@ -195,7 +188,7 @@ def authority_faults(s, a, at):
     """What is wrong with an authority: (bad characters, bad ports)."""
     information, sign, piece = a.rpartition(b"@")
     begins = at + len(information + sign)
-    wrong, ports = host_faults(oracle.mode_of(s), piece, begins)
+    wrong, ports = host_faults(hosts.mode_of(s), piece, begins)
     wrong = [*marks(a, b"\\", at, "Backslash"), *credential_faults(information, at), *wrong]
     if sign and piece == b"":
         wrong.append(Place(begins, 0, "HostBehindUser"))
@@ -204,23 +197,23 @@ def authority_faults(s, a, at):
 
 def url_faults(b, s, rest):
     """Each flaw of a URL that is no file URL, with the error that names it."""
-    yield from ((oracle.refused("TooLong"), it) for it in length_faults(s, rest))
-    if not oracle.is_utf8(b):
+    yield from ((errors.refused("TooLong"), it) for it in length_faults(s, rest))
+    if not octets.is_utf8(b):
         return
     character = bad("Url", "BadCharacter")
     yield from ((character, it) for it in [*white_space(b, 0, "WhiteSpace"), *escape_faults(b)])
-    if not oracle.is_scheme_text(s):
+    if not grammar.is_scheme_text(s):
         yield from ((bad("Url", "NoScheme"), it) for it in scheme_faults(s))
         return
-    (a, p), = oracle.path_cuts(s, rest)
+    (a, p), = grammar.path_cuts(s, rest)
     begins = len(s) + 3
     wrong, ports = authority_faults(s, a, begins)
     yield from ((character, it) for it in [*wrong, *undecodable(p, begins + len(a))])
     yield from ((bad("Url", "BadPort"), it) for it in ports)
-    if a == b"" and s in oracle.NEED_HOST:
+    if a == b"" and s in grammar.NEED_HOST:
         yield bad("Url", "HostRequired"), Place(begins, 0, "HostMissing")
-    if p == b"" and oracle.scheme_of(s) in (("Ssh",), ("Git",)):
-        yield oracle.refused("MissingPath", "Url"), Place(len(b), 0, "PathMissing")
+    if p == b"" and grammar.scheme_of(s) in (("Ssh",), ("Git",)):
+        yield errors.refused("MissingPath", "Url"), Place(len(b), 0, "PathMissing")
 
 
 # ---------------------------------------------------------------------------------------------------------------
@@ -230,7 +223,7 @@ def scp_faults(f):
     """Each flaw of what stands before the colon of the scp form, with the error that names it."""
     user, sign, host = f.rpartition(b"@")
     at = len(user + sign)
-    wrong, ports = host_faults(oracle.BARE, host.replace(b"%", b"\x01"), at)
+    wrong, ports = host_faults(hosts.BARE, host.replace(b"%", b"\x01"), at)
     wrong = [*white_space(host, at, "WhiteSpaceInHost"), *marks(host, b"\\", at, "BackslashInHost"), *wrong]
     yield from ((bad("Scp", "BadCharacter"), it) for it in wrong)
     yield from ((bad("Scp", "BadPort"), it) for it in ports)
@@ -247,23 +240,23 @@ def not_utf8(b):
 
 def faults(b):
     """Each flaw of a text with the error that names it."""
-    yield oracle.refused("EmptyLocal"), Place(0, 0, "Empty")
+    yield errors.refused("EmptyLocal"), Place(0, 0, "Empty")
     for form in ("Url", "Scp"):
-        yield from ((oracle.refused("NotUtf8", form), it) for it in not_utf8(b))
-    for s, rest in oracle.url_shapes(b):
+        yield from ((errors.refused("NotUtf8", form), it) for it in not_utf8(b))
+    for s, rest in errors.url_shapes(b):
         if s == b"file":
-            yield oracle.refused("MissingPath", "Url"), Place(len(b), 0, "FilePathMissing")
+            yield errors.refused("MissingPath", "Url"), Place(len(b), 0, "FilePathMissing")
         else:
             yield from url_faults(b, s, rest)
-    yield oracle.refused("MissingPath", "Scp"), Place(len(b), 0, "ScpPathMissing")
-    if oracle.is_utf8(b):
-        for f, _ in oracle.plain_scp_shapes(b):
+    yield errors.refused("MissingPath", "Scp"), Place(len(b), 0, "ScpPathMissing")
+    if octets.is_utf8(b):
+        for f, _ in grammar.plain_scp_shapes(b):
             yield from scp_faults(f)
 
 
 def place(b):
     """The place of the fault that the text is refused for; None where it is read."""
-    named = oracle.refusal(b)
+    named = errors.refusal(b)
     if named is None:
         return None
     return min((it for error, it in faults(b) if error == named), key=lambda it: (it.at, ORDER.index(it.reason)))
@@ -285,7 +278,7 @@ def library_host(mode, piece, at):
     """What is wrong with the characters of the piece that names host and port."""
     wrong, _ = host_faults(mode, piece, at)
     if not piece.startswith(b"["):
-        return all_of(piece if oracle.has_odd_colons(piece) else piece.partition(b":")[0], at, wrong)
+        return all_of(piece if hosts.has_odd_colons(piece) else piece.partition(b":")[0], at, wrong)
     x, _, behind = piece[1:].partition(b"]")
     reasons = {it.reason for it in wrong}
     if "BehindBracket" in reasons:
@@ -301,12 +294,12 @@ def library_authority(s, a, at):
     missing = [Place(begins, 0, "HostBehindUser")] if sign and piece == b"" else []
     return [
         *marks(a, b"\\", at, "Backslash"), *all_undecodable(password, at + len(user + colon)), *all_undecodable(user, at),
-        *library_host(oracle.mode_of(s), piece, begins), *missing]
+        *library_host(hosts.mode_of(s), piece, begins), *missing]
 
 
 def library_url(b, s, rest):
     """What is wrong with the characters of a URL with a scheme."""
-    (a, p), = oracle.path_cuts(s, rest)
+    (a, p), = grammar.path_cuts(s, rest)
     begins = len(s) + 3
     return [
         *white_space(b, 0, "WhiteSpace"), *escape_faults(b), *all_undecodable(p, begins + len(a)),
@@ -317,16 +310,16 @@ def too_long(b, s):
     """The scheme, or what is shown behind `://`."""
     if len(s) > 1024:
         return Place(0, len(s), "SchemeTooLong")
-    return Place(len(s) + 3, len(oracle.shown(b)) - len(s) - 3, "AuthorityTooLong")
+    return Place(len(s) + 3, len(errors.shown(b)) - len(s) - 3, "AuthorityTooLong")
 
 
 def library_place(b):
     """The place that the library's error names; None where the text is read. `MissingPath` and `NotUtf8` have no `len`."""
-    named = oracle.refusal(b)
+    named = errors.refusal(b)
     if named is None:
         return None
     s, _, rest = b.partition(b"://")
-    if named == oracle.refused("TooLong"):
+    if named == errors.refused("TooLong"):
         return too_long(b, s)
     if named == bad("Url", "NoScheme"):
         return all_of(s, 0, scheme_faults(s))[0]
@@ -335,25 +328,3 @@ def library_place(b):
     # Of each other error a text has one flaw, but for bad characters of the scp form, which are listed in the order of the
     # checks and have no part that is decoded.
     return next(it for error, it in faults(b) if error == named)
-
-
-# ---------------------------------------------------------------------------------------------------------------
-# The command line
-
-def main(words):
-    if words not in (["lines"], ["refused"]):
-        print(__doc__, file=sys.stderr)
-        return 2
-    for line in oracle.lines_of(sys.stdin.buffer.read()):
-        found = place(line)
-        if found is None:
-            continue
-        front = []
-        if words == ["refused"]:
-            front = [*(it or "-" for it in oracle.refusal(line)), line.hex() or "-"]
-        print(*front, *found)
-    return 0
-
-
-if __name__ == "__main__":
-    sys.exit(main(sys.argv[1:]))

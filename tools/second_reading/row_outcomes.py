@@ -1,4 +1,4 @@
-"""What the second reading of `tools/oracle.py`, and of `tools/places.py` for places, gives for rows of the tables in
+"""What the second reading of this package, and of `fault_places` for places, gives for rows of the tables in
 `vectors/`.
 
 A row whose expectation is from `oracle` is worked out again here, so that no such expectation stands by its word alone.
@@ -6,9 +6,8 @@ The table of calls names those that the second reading knows, each with the func
 """
 import json
 
-import oracle
-import places
 from row_text import bytes_of, text_of
+from second_reading import errors, fault_places, git_class, grammar, hosts, laws, line_answers, records, settled_class, writing
 
 
 def scheme(told):
@@ -24,19 +23,19 @@ def told_scheme(of):
 def location(told):
     """The location that a row tells: what a text is read as, or parts as they are."""
     if isinstance(told, str):
-        found = oracle.spells(bytes_of(told))
+        found = grammar.spells(bytes_of(told))
         if found is None:
             raise ValueError(f"{told!r} is refused by the second reading")
         return found
     text = {name: bytes_of(it) for name, it in told.items() if isinstance(it, str)}
-    return oracle.location(
+    return grammar.location(
         scheme(told["scheme"]), text.get("path", b""), told.get("alternative", False), text.get("user"),
         text.get("password"), text.get("host"), told.get("port"), text.get("spelling"))
 
 
 def told_location(of):
     """A location as rows tell it: the parts that are there, and the spelling where it is another than the path."""
-    return told_parts(of, None if oracle.matching(of) == of.path else oracle.matching(of))
+    return told_parts(of, None if writing.matching(of) == of.path else writing.matching(of))
 
 
 def told_parts(of, spelling):
@@ -48,7 +47,7 @@ def told_parts(of, spelling):
 
 def place_of(given):
     """The place of the fault in bytes that are refused: `at`, and `len` where the error has it."""
-    name, place = oracle.refusal(given)[0], places.library_place(given)
+    name, place = errors.refusal(given)[0], fault_places.library_place(given)
     if name == "EmptyLocal":
         return {}
     return {"at": place.at} if name in ("MissingPath", "NotUtf8") else {"at": place.at, "len": place.len}
@@ -56,23 +55,23 @@ def place_of(given):
 
 def refused(given):
     """The error that bytes are refused with, what it keeps of them, and where they are wrong."""
-    name, kind, fault = oracle.refusal(given)
+    name, kind, fault = errors.refusal(given)
     place = place_of(given)
     if name == "TooLong":
-        return {"error": name, "kept": text_of(oracle.shown(given)), "total": len(given), **place}
+        return {"error": name, "kept": text_of(errors.shown(given)), "total": len(given), **place}
     error = {"error": " ".join(it for it in (name, fault, kind) if it)}
     return error if kind is None else {**error, "kept": text_of(given), **place}
 
 
 def read(given):
-    found = oracle.spells(given)
+    found = grammar.spells(given)
     return refused(given) if found is None else told_location(found)
 
 
 def read_in(row):
     """What reading a text into a room gives; an error keeps nothing of the text but the front of one that is too long."""
     given = bytes_of(row["text"])
-    found = oracle.spells(given)
+    found = grammar.spells(given)
     if found is None:
         error = refused(given)
         return {name: it for name, it in error.items() if name != "kept" or error["error"] == "TooLong"}
@@ -81,8 +80,8 @@ def read_in(row):
 
 def written(of, call=text_of):
     """What a call gives for the text of a location, or why that has none."""
-    text = oracle.text(of)
-    return {"error": f"Unwritable {text.name}"} if isinstance(text, oracle.Fault) else call(text)
+    text = writing.text(of)
+    return {"error": f"Unwritable {text.name}"} if isinstance(text, writing.Fault) else call(text)
 
 
 def write_to(of):
@@ -91,13 +90,13 @@ def write_to(of):
 
 
 def original_path(of):
-    spelling = oracle.matching(of)
+    spelling = writing.matching(of)
     return text_of(of.path if spelling is None else spelling)
 
 
 def reread(of):
     """What the text of a location is read as; a settled one has to come back."""
-    if oracle.settled(of) and oracle.comes_back(of) is None:
+    if settled_class.settled(of) and laws.comes_back(of) is None:
         raise ValueError(f"{told_location(of)} is settled, and its text isn't read as the same")
     return written(of, read)
 
@@ -105,10 +104,10 @@ def reread(of):
 def from_parts(parts):
     """What the text of parts is read as; HTTP keeps the path that was given, unless that is empty, and no spelling."""
     given = location({name: it for name, it in parts.items() if name != "spelling"})
-    if given.scheme[0] == "Helper" and not oracle.is_helper_name(given.scheme[1]):
+    if given.scheme[0] == "Helper" and not grammar.is_helper_name(given.scheme[1]):
         return {"error": "HelperName", "kept": text_of(given.scheme[1])}
     made = reread(given)
-    if given.scheme not in oracle.HTTP_SCHEMES or "error" in made:
+    if given.scheme not in grammar.HTTP_SCHEMES or "error" in made:
         return made
     path = text_of(given.path) or made["path"]
     return {name: path if name == "path" else it for name, it in made.items() if name != "spelling"}
@@ -124,19 +123,19 @@ def json_again(text):
     names = ["scheme", "user", "password", "host", "serialize_alternative_form", "port", "path", "path_with_percent_escapes"]
     told = {name: json.loads(text).get(name) for name in names}
     path, spelling = (None if told[it] is None else bytes(told[it]) for it in names[-2:])
-    back = oracle.migrated(oracle.location(None, path, False, spelling=spelling))
+    back = records.migrated(grammar.location(None, path, False, spelling=spelling))
     path, spelling = list(back.path), None if back.spelling is None else list(back.spelling)
     return json.dumps({**told, "path": path, "path_with_percent_escapes": spelling}, separators=(",", ":"), ensure_ascii=False)
 
 
 def display(of):
-    shown = oracle.display(of)
+    shown = writing.display(of)
     return {"shown": "", "failed": True} if shown is None else {"shown": shown}
 
 
 def run(given):
     """What the program of lines answers, and the status that it ends with."""
-    answers = [oracle.answer_line(it) for it in oracle.lines_of(given)]
+    answers = [line_answers.answer_line(it) for it in line_answers.lines_of(given)]
     outcome = all(it.startswith(b"settled\t") for it in answers)
     out = b"".join(it + b"\n" for it in answers)
     return {"outcome": outcome, "status": 0 if outcome else 1, "out": text_of(out)}
@@ -174,22 +173,22 @@ CALLS = {
     "Url::path_is_root": over_url(lambda url: url.path == b"/"),
     "UrlRef::path_is_root": over_url(lambda url: url.path == b"/"),
     "Url::to_stored": over_url(record),
-    "Url::from_stored": lambda row: told_location(oracle.migrated(location(row["record"]))),
+    "Url::from_stored": lambda row: told_location(records.migrated(location(row["record"]))),
     "StoredUrl:again": lambda row: json_again(row["json"]),
-    "Url::is_settled": over_url(oracle.settled),
-    "UrlRef::is_settled": over_url(oracle.settled),
-    "Url::agrees_with_git": over_url(oracle.agrees_with_git),
-    "UrlRef::agrees_with_git": over_url(oracle.agrees_with_git),
+    "Url::is_settled": over_url(settled_class.settled),
+    "UrlRef::is_settled": over_url(settled_class.settled),
+    "Url::agrees_with_git": over_url(git_class.agrees_with_git),
+    "UrlRef::agrees_with_git": over_url(git_class.agrees_with_git),
     "Url::reread": over_url(reread),
     "Url::from_parts": lambda row: from_parts(row["record"]),
     "Url:fmt": over_url(display),
     "UrlRef:fmt": over_url(display),
-    "Scheme::from_text": over_text(lambda text: told_scheme(oracle.scheme_of(text))),
-    "Scheme::as_str": over_scheme(lambda it: text_of(oracle.as_str(it))),
-    "SchemeRef::as_str": over_scheme(lambda it: text_of(oracle.as_str(it))),
+    "Scheme::from_text": over_text(lambda text: told_scheme(grammar.scheme_of(text))),
+    "Scheme::as_str": over_scheme(lambda it: text_of(grammar.as_str(it))),
+    "SchemeRef::as_str": over_scheme(lambda it: text_of(grammar.as_str(it))),
     "Scheme::as_ref": over_scheme(told_scheme),
-    "Scheme:fmt": over_scheme(lambda it: {"shown": text_of(oracle.as_str(it))}),
-    "ipv6::is_ipv6": over_text(oracle.ip6),
+    "Scheme:fmt": over_scheme(lambda it: {"shown": text_of(grammar.as_str(it))}),
+    "ipv6::is_ipv6": over_text(hosts.ip6),
     "lines::run": over_text(run),
 }
 

@@ -6,7 +6,7 @@ which `cases` makes what a call is over and its outcome. All texts are bytes her
 """
 import re
 
-import oracle
+from second_reading import grammar, octets
 
 # ---------------------------------------------------------------------------------------------------------------
 # What the path of a URL is made of
@@ -114,7 +114,7 @@ def expanded(name, path, home):
     """Where a path lies, below the home folder of the user of this name, if one is named: the current one has an empty
     name and this home folder, and others have theirs beside it."""
     if name is None:
-        return path if oracle.is_utf8(path) else {"error": "PathNotUtf8"}
+        return path if octets.is_utf8(path) else {"error": "PathNotUtf8"}
     above = parent(home)
     if name and above is None:
         return {"error": "NoHome", "user": b"~" + name}
@@ -173,7 +173,7 @@ def web_location(path):
     """A location of HTTP with this path, what it is read from, and whether that is a spelling: what a URL with the path
     is read as, or where it is no URL a location that has the path and no spelling."""
     url = b"http://h/" + path
-    read = oracle.spells(url)
+    read = grammar.spells(url)
     if read is None:
         return {"scheme": "Http", "host": "h", "path": path}, path, False
     spelled = read.path if read.spelling is None else read.spelling

@@ -1,0 +1,240 @@
+"""What the program `explain` reports of a location or a refused line, as JSON has it.
+
+Whether Git is known to read the same is the rule by hand of docs/GIT.md, in `git_classes.py` and of HTTP in `web_plain.py`.
+What Git reads is asked of `git_reads.py`, of Git's credential code of `web_defined.py`, and of libcurl of `web_reads.py`.
+"""
+from git_classes import Case, Reading, is_careful
+from git_reads import git_reads, unread
+from second_reading import (
+    errors, fault_places, git_class, grammar, laws, octets, plain_paths, records, settled_class, writing)
+from web_defined import credential_readings
+from web_plain import broken
+from web_reads import curl_reads
+
+# Why of HTTP not all are known to read the same, in this order, and the conditions that a location misses then.
+DOUBTS = {
+    "NotSettled": {"the location is settled"},
+    "Zone": {"host: no zone"},
+    "HostColon": {"host: no `:` behind it"},
+    "HostByte": {"host: lower case, digits, `-`, `.`, `_`, or in brackets"},
+    "LastLabel": {"host: a number only as four decimal numbers", "host: no last label that is empty or begins with `-` or `_`"},
+    "UserControl": {"user: no byte 0, line feed, carriage return", "user: no other control character"},
+    "UserColon": {"user: no `:`"},
+    "PasswordControl": {"password: no byte 0, line feed, carriage return", "password: no other control character"},
+    "PasswordColon": {"password: no `:` beside what is written as an escape"},
+    "PathStart": {"path: begins with `/`"},
+    "PathSlashes": {"path: no second `/` at its front", "path: no second `/` at its front as an escape"},
+    "PathControl": {"path: no byte 0, line feed, carriage return", "path: no control character that is written as it is",
+                    "path: no other control character"},
+    "Fragment": {"path: no `#`", "path: no `#` as an escape"},
+    "DotSegment": {"path: no segment `.` or `..`", "path: no such segment as an escape, or in a query"},
+    "EmptyQuery": {"path: something behind a `?`", "path: no other `?` at its end, and no escape of one"},
+    "PathByte": {"path: the bytes of a URI"},
+    "PathColon": {"path: no `:` beside an escape"},
+}
+
+FORMS = {"Ext": "remote_helper", "Helper": "remote_helper"}
+PORTS = {"Http": 80, "Https": 443, "Ssh": 22, "Git": 9418}
+KINDS = {"Url": "URL", "Scp": "scp form"}
+FAULTS = {"NoScheme": "no valid scheme", "BadPort": "an invalid port", "HostRequired": "no host where one is required",
+          "BadCharacter": "a character or an escape that is not allowed"}
+FIELDS = ("scheme", "user", "password", "host", "serialize_alternative_form", "port", "path")
+
+
+def lossy(t):
+    return None if t is None else t.decode("utf-8", "replace")
+
+
+def form(v):
+    if v.scheme[0] in FORMS:
+        return FORMS[v.scheme[0]]
+    return {"File": "local", "Ssh": "scp"}.get(v.scheme[0], "url") if v.flag else "url"
+
+
+def home_split(path):
+    """The user, empty for the current one, and the path below the home folder; None where the path has no user."""
+    found = plain_paths.home_split(path)
+    return found and (lossy(found[0]), lossy(found[1]))
+
+
+def is_of_files(v):
+    return v.scheme[0] in ("File", "Ssh", "Git")
+
+
+def home(v):
+    """Paths of Secure Shell and Git are kept without the `/` before `~`. Git looks for no home folder in `/~` of this machine."""
+    if v.scheme[0] not in ("Ssh", "Git"):
+        return None
+    found = home_split(b"/" + v.path if v.path.startswith(b"~") else v.path)
+    return found and {"user": found[0] or None, "below": found[1]}
+
+
+def shell_path(v):
+    if not is_of_files(v):
+        return None
+    return lossy(plain_paths.shell_path(v.path))
+
+
+def judged(t):
+    return "absent" if t is None else "dangerous" if t.startswith(b"-") else "usable"
+
+
+def path_judged(path):
+    return "usable" if path.startswith(b"/") and not path.startswith(b"/-") else "withheld"
+
+
+def components(v):
+    path, query, fragment = records.parts(v)
+    fields = None if query is None else [{"name": lossy(name), "value": lossy(value)} for name, value in query]
+    return {"path": lossy(path), "query": fields, "fragment": lossy(fragment)}
+
+
+def refusal(t):
+    """Why a text is refused that is no line: it has no place."""
+    name, kind, fault = errors.refusal(t)
+    words = {"EmptyLocal": "the location is empty",
+             "TooLong": f"the scheme or the authority of the URL is longer than 1024 bytes, in a text of {len(t)} bytes",
+             "MissingPath": f"the {KINDS.get(kind)} has no path", "NotUtf8": f"the {KINDS.get(kind)} is not UTF-8",
+             "BadUrl": f"the {KINDS.get(kind)} has {FAULTS.get(fault)}"}[name]
+    return {"error": name, "kind": kind and kind.lower(), "fault": fault, "at": None, "len": None, "reason": None, "words": words}
+
+
+def refusal_of_line(t):
+    """Why a line is refused, with the place and the words of its fault."""
+    place = fault_places.place(t)
+    return {**refusal(t), **place._asdict(), "words": fault_places.SENTENCES[place.reason]}
+
+
+def field_texts(v):
+    scheme = ("helper " if v.scheme[0] in FORMS else "") + lossy(grammar.as_str(v.scheme))
+    password = None if v.password is None else "redacted"
+    return scheme, lossy(v.user), password, lossy(v.host), str(v.flag).lower(), None if v.port is None else str(v.port), lossy(v.path)
+
+
+def quoted(t):
+    assert all(c.isalnum() or c in "[]%:/~ ." for c in t), t
+    return f'"{t}"'
+
+
+def reread(v):
+    if settled_class.settled(v):
+        return None
+    w = grammar.spells(writing.text(v))
+    if w is None:
+        found = refusal(writing.text(v))
+        return {"difference": None, "refusal": found, "words": f"its own text is refused: {found['words']}"}
+    assert v.password == w.password
+    pairs = [it for it in zip(FIELDS, field_texts(v), field_texts(w)) if it[1] != it[2]]
+    if not pairs:
+        assert laws.same_fields(v, w)
+        return {"difference": None, "refusal": None, "words": "its own text is read as the same fields, which no promise covers"}
+    field, here, instead = pairs[0]
+    read = f"no {field}" if instead is None else f"the {field} {quoted(instead)}"
+    words = f"its own text is read with {read} in place of {'none' if here is None else quoted(here)}"
+    return {"difference": {"field": field, "here": here, "instead": instead}, "refusal": None, "words": words}
+
+
+def reading(v):
+    """The location as the classes of Git's readings have it: of what Git hands to another program there are no parts."""
+    if not is_of_files(v):
+        return Reading(f"helper {lossy(grammar.as_str(v.scheme))}", None, None, None, None, None)
+    return Reading(v.scheme[0].lower(), v.user, v.password, v.host or None, v.port, v.path)
+
+
+def agrees_with_git(v):
+    """The rules by hand, asked of the text that is written: the text of a settled location is read as it and written again."""
+    is_web = v.scheme in grammar.HTTP_SCHEMES
+    answer = not broken(v) if is_web else is_careful(Case(writing.text(v), None, reading(v)), settled_class.settled(v))
+    assert answer == git_class.agrees_with_git(v), v
+    return answer
+
+
+def read_by_git(v):
+    """What Git reads in the text of the location by the second reading of its definition, unless that is known to be the same.
+
+    A password stands in what is read, which isn't told then. Of HTTP it is told what may be read otherwise.
+    """
+    text, is_web = writing.text(v), v.scheme in grammar.HTTP_SCHEMES
+    if not (is_web or is_of_files(v)) or agrees_with_git(v) or isinstance(text, writing.Fault):
+        return None
+    if is_web:
+        missed = {*broken(v)}
+        why = next(name for name, conditions in DOUBTS.items() if conditions & missed)
+        return {**dict.fromkeys(["protocol", "user", "host", "port", "path"]), "same": False, "why": why}
+    found = [*git_reads(text)]
+    same, why = found == [reading(v)], None if found else unread(text)
+    if found and v.password is not None:
+        found, why = [], "Password"
+    protocol, user, _, host, port, path = found[0] if found else [None] * 6
+    return {"protocol": protocol, "user": lossy(user), "host": lossy(host), "port": port, "path": lossy(path), "same": same, "why": why}
+
+
+def credential(v):
+    """What Git's credential code asks helpers for in the text of a location of HTTP, None where Git refuses it."""
+    text = writing.text(v)
+    if v.scheme not in grammar.HTTP_SCHEMES or isinstance(text, writing.Fault):
+        return None
+    names = ("protocol", "user", "host", "path")
+    found = [{name: lossy(getattr(it, name)) for name in names} for it in credential_readings(text)]
+    return found[0] if found else None
+
+
+def curl(v):
+    """What curl connects to and asks for in the text of a location of HTTP, None where it refuses it. Byte 0 can't be handed to it."""
+    text = writing.text(v)
+    if v.scheme not in grammar.HTTP_SCHEMES or isinstance(text, writing.Fault) or b"\0" in text:
+        return None
+    found = curl_reads(text)
+    return found and {"host": lossy(found.host), "port": found.port and int(found.port), "path": lossy(found.path)}
+
+
+def host_spellings(place):
+    """The texts that may spell the host in what stands behind the `@`: with and without a port, a colon and brackets."""
+    fronts = [place] + ([place.rpartition(b":")[0]] if b":" in place else [])
+    return fronts + [it[1:-1] for it in fronts if len(it) > 1 and it.startswith(b"[") and it.endswith(b"]")]
+
+
+def is_spelled_by_a_piece(v, place):
+    """Whether a piece of the text spells the host, but for upper case: where brackets or a colon that go are escapes, none does."""
+    decoded = (lambda it: it) if v.scheme in grammar.HTTP_SCHEMES else octets.dec
+    return any(decoded(it).lower() == v.host.lower() for it in host_spellings(place))
+
+
+def secret_of_refused(line):
+    """What may be a password in a refused line: from the first `:` behind `://` to the last `@`; its place, or None."""
+    begin = line.find(b"://") + 3
+    colon, at = line.find(b":", begin), line.rfind(b"@")
+    return (colon + 1, at) if 3 <= begin <= colon < at else None
+
+
+def secret_of_url(v, line):
+    """The place of the password that is read, or None where no piece of the line is sure to be it."""
+    begin = line.find(b"://") + 3
+    ends = [it for it in (line.find(bytes([mark]), begin) for mark in grammar.path_starts(line[:begin - 3])) if it >= 0]
+    end = min(ends, default=len(line))
+    at = line.rfind(b"@", begin, end)
+    return (line.find(b":", begin) + 1, at) if is_spelled_by_a_piece(v, line[at + 1:end]) else None
+
+
+def shown_line(line):
+    """The line with the word in place of its password; None where it has one and it isn't sure which piece that is."""
+    v = grammar.spells(line)
+    if v is not None and v.password is None:
+        return lossy(line)
+    place = secret_of_refused(line) if v is None else secret_of_url(v, line)
+    if place is None:
+        return lossy(line) if v is None else None
+    hidden = b"redacted" if place[0] < place[1] else b""
+    return lossy(line[:place[0]] + hidden + line[place[1]:])
+
+
+def told(v):
+    spelled = v.path if writing.matching(v) is None else v.spelling
+    return {
+        "form": form(v), "scheme": lossy(grammar.as_str(v.scheme)), "user": lossy(v.user),
+        "password": None if v.password is None else "redacted", "host": lossy(v.host), "port": v.port,
+        "port_or_default": PORTS.get(v.scheme[0]) if v.port is None else v.port, "path": lossy(v.path),
+        "path_is_utf8": octets.is_utf8(v.path), "original_path": lossy(spelled), "components": components(v), "home": home(v),
+        "shell_path": shell_path(v), "arguments": {"user": judged(v.user), "host": judged(v.host), "path": path_judged(v.path)},
+        "text": writing.display(v), "settled": settled_class.settled(v), "agrees_with_git": agrees_with_git(v),
+        "git_reads": read_by_git(v), "credential": credential(v), "curl": curl(v), "reread": reread(v)}

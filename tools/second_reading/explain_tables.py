@@ -1,0 +1,69 @@
+"""The tables of texts that surprise, in docs/GRAMMAR.md, and of reasons, in docs/EXPLAIN.md, compared with the second reading."""
+import itertools
+import os
+
+from rt_api import ROOT
+from second_reading import errors, fault_places, grammar
+from second_reading.explain import told
+
+HEAD = "| Text | Read as | Written | Settled | Why |"
+REASONS_HEAD = "| Reason | Words | Example | `at` | `len` |"
+NAMES = {"remote_helper": "remote helper", "url": "URL", "scp": "scp form", "local": "local path"}
+DOCS = f"{ROOT}/docs"
+
+
+def rows_below(document, head):
+    """The rows of the table with this head, each as its cells."""
+    with open(os.path.join(DOCS, document), encoding="utf-8") as file:
+        lines = file.read().split(head + "\n", 1)[1].splitlines()[1:]
+    rows = itertools.takewhile(lambda line: line.startswith("|"), lines)
+    return [[cell.strip() for cell in line[1:-1].split(" | ")] for line in rows]
+
+
+def table():
+    """The rows of the texts that surprise: text, three cells that are computed, and a reason."""
+    return rows_below("GRAMMAR.md", HEAD)
+
+
+def reasons():
+    """The rows of the reasons: name, words, an example in backquotes or in words, and its place."""
+    return rows_below("EXPLAIN.md", REASONS_HEAD)
+
+
+def reason_examples():
+    """The examples of the reasons that are shown as they are, each with its row."""
+    return {row[2].strip("`").encode(): row for row in reasons() if row[2].startswith("`")}
+
+
+def reason_faults():
+    """Which rows of the reasons say otherwise than the second reading."""
+    said = {row[0].strip("`"): row[1] for row in reasons()}
+    if list(said.items()) != list(fault_places.SENTENCES.items()):
+        yield f"the reasons of docs/EXPLAIN.md are {said}, and not {fault_places.SENTENCES}"
+    for text, (name, _, _, at, size) in reason_examples().items():
+        found = fault_places.place(text)
+        if [f"`{found.reason}`", str(found.at), str(found.len)] != [name, at, size]:
+            yield f"{text}: the table has {name}, {at} and {size}, and not {found}"
+
+
+def cells(line):
+    """What the table says of a text: what it is read as, how that is written, and whether it is settled."""
+    v = grammar.spells(line)
+    if v is None:
+        name, _, fault = errors.refusal(line)
+        return ["refused: `" + (name if fault is None else f"{name} {fault}") + "`", "", ""]
+    it = told(v)
+    parts = ["scheme", "user", "password", "host", "port", "path"]
+    there = [f"{name} `{it[name]}`" for name in parts if it[name] is not None]
+    return [", ".join([NAMES[it["form"]], *there]), f"`{it['text']}`", "yes" if it["settled"] else "no"]
+
+
+def table_faults():
+    """Which rows of the table say otherwise than the second reading."""
+    rows = table()
+    if len(rows) < 20:
+        yield f"the table has {len(rows)} rows"
+    for row in rows:
+        wanted = cells(row[0].strip("`").encode())
+        if row[1:4] != wanted:
+            yield f"{row[0]}: the table has {row[1:4]}, and not {wanted}"

@@ -1,0 +1,27 @@
+"""The stored run of the crate `explain`: its lines and its answers. The texts of the tables in docs/GRAMMAR.md and
+docs/EXPLAIN.md are among the lines, and the last line lacks its end.
+"""
+import json
+
+from second_reading import grammar
+from second_reading.explain import refusal_of_line, shown_line, told
+from second_reading.explain_lines import (
+    CURL, FILES, GIT, HELPERS, LOCALS, PLACED, READ, REFUSED, SCPS, SLIPS, URLS, WEB)
+from second_reading.explain_tables import reason_examples, table
+from second_reading.hints import hints
+
+
+def answer(number, line):
+    v = grammar.spells(line)
+    it = {"line": number, "input": shown_line(line), "location": v and told(v), "refusal": refusal_of_line(line) if v is None else None,
+          "hints": hints(line, v)}
+    return json.dumps(it, separators=(",", ":"), ensure_ascii=False)
+
+
+def stored_run():
+    """The files of the stored run. The texts of the tables are among its lines."""
+    texts = [*(row[0].strip("`").encode() for row in table()), *reason_examples(), *PLACED]
+    lines = list(dict.fromkeys([*HELPERS, *URLS, *FILES, *SCPS, *LOCALS, *REFUSED, *GIT, *READ, *WEB, *CURL, *SLIPS, *texts]))
+    lines.append(b"/the/last")
+    answers = "".join(answer(number, line) + "\n" for number, line in enumerate(lines, 1))
+    return {"stdin": b"\n".join(lines), "stdout": answers.encode(), "args": b"--json\n", "status": b"1\n"}
