@@ -23,7 +23,7 @@ CLAUSE = re.compile(r"(?m)^ *ensures(?: (\w+))? \{")
 def fields():
     """The fields of all records of the definitions, which a clause may be made of."""
     found = set()
-    for file in (it for layer in LAYERS for it in glob.glob(f"{ROOT}/crates/{layer}/specs/*.antt")):
+    for file in (it for layer in LAYERS for it in glob.glob(f"{ROOT}/crates/{layer}/specs/**/*.antt", recursive=True)):
         with open(file, encoding="utf-8") as it:
             found |= {*re.findall(r"(?m)^  pub (\w+) :", it.read())}
     return found

@@ -1,4 +1,4 @@
-"""A second reading of `GitReads`, the definition of what Git reads in a text (`crates/git_location/specs/Git.antt`).
+"""A second reading of `GitReads`, the definition of what Git reads in a text (`crates/git_laws/specs/Git.antt`).
 
 Each function is a relation of the definition, and answers all that stands in it to what is given: every cut of the text is
 tried, and what each case asks is asked of it. It takes no word from Git: `scripts/git_witness` lays beside it what Git

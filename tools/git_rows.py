@@ -1,5 +1,5 @@
 """The texts that are written out with what Git reads in them, as Git is asked for them: the rows that are proved of the
-definition (`crates/git_laws/specs/GitRows.antt`), and the examples of `vectors/git.jsonl`.
+definition (`crates/git_laws/specs/Examples/GitRows.antt`), and the examples of `vectors/git.jsonl`.
 
 An example is a row there that reads a text. Its member `class` is the class of `git_classes.py` in which Git and this
 library read different things, or `alike`, and `git` is what Git reads, or the word for why it is refused. Of a text
@@ -12,7 +12,7 @@ from git_classes import Reading
 from row_text import bytes_of, text_of
 from rt_api import ROOT
 
-ROWS = f"{ROOT}/crates/git_laws/specs/GitRows.antt"
+ROWS = f"{ROOT}/crates/git_laws/specs/Examples/GitRows.antt"
 TEXT = r'codes "((?:[^"\\]|\\.)*)"'
 ROW = re.compile(r"GitReads \((codes .*?)\) (?:\((by_ssh|by_git|on_this_machine) (.*)\)|reading\))")
 NAMED = {"tab": 9, "newline": 10}

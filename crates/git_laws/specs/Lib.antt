@@ -12,6 +12,4 @@ pub mod ComponentLaws
 pub mod OrderLaws
 pub mod Safeguards
 -- Examples of the definitions: each row is proved.
-pub mod ByteRows
-pub mod GitRows
-pub mod OtherRows
+pub mod Examples

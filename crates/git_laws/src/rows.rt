@@ -2,9 +2,9 @@
 //!
 //! It has no code and uses nothing: the contract of each function is a group of rows.
 
-ghost use Rattle.git_laws.specs.ByteRows.{EscapeSetRows, EscapedByteRows, GitByteRows, HostByteRows, NameByteRows, QuickByteRows, WhiteSpaceRows};
-ghost use Rattle.git_laws.specs.OtherRows.{CornerRows, NoCornerRows, SlipRows};
-ghost use Rattle.git_laws.specs.GitRows.{CredentialRows, GitTextRows, GitUrlRows, NoGitRows};
+ghost use Rattle.git_laws.specs.Examples.ByteRows.{EscapeSetRows, EscapedByteRows, GitByteRows, HostByteRows, NameByteRows, QuickByteRows, WhiteSpaceRows};
+ghost use Rattle.git_laws.specs.Examples.OtherRows.{CornerRows, NoCornerRows, SlipRows};
+ghost use Rattle.git_laws.specs.Examples.GitRows.{CredentialRows, GitTextRows, GitUrlRows, NoGitRows};
 
 /// Classes of bytes, with all their members.
 fn law_bytes()

@@ -9,7 +9,7 @@ ghost use Rattle.std.specs.Prelude.{◌≡◌, ℕ, ◌≤◌, ◌^◌, ◌++◌
 ghost use Rattle.std.specs.Io.KnownBytes.{IsAtEnd};
 ghost use Rattle.git_lines.specs.Answers.{Answers, HasLinesWithin, fault_name, refusal_name, told_line};
 ghost use Rattle.git_lines.specs.Answers.{AppendsAnswer, IsBeforeWriting, Puts, Ran, RanToEnd, Tells, TellsRefusal, fault_text, status_of};
-ghost use Rattle.git_location.specs.Pieces.{pieces_text};
+ghost use Rattle.git_location.specs.Internal.Pieces.{pieces_text};
 ghost use Rattle.git_syntax.specs.Schemes.{protocol_text};
 ghost use Rattle.git_location.specs.Text.{text};
 

@@ -2,7 +2,7 @@
 //!
 //! It has no code and uses nothing: the contract of the function is a group of rows.
 
-ghost use Rattle.git_lines.specs.RunRows.{ReadRow, UnwrittenRow};
+ghost use Rattle.git_lines.specs.Examples.RunRows.{ReadRow, UnwrittenRow};
 
 /// What runs hold on to where something failed.
 fn law_runs()

@@ -10,10 +10,5 @@ pub mod GitClass
 pub mod Safeguards
 pub mod Views
 pub mod UrlRef
--- What serves the proofs of this crate and of those above it alone.
-pub mod KeptBytes
-pub mod Pieces
-pub mod Sinks
-pub mod Fills
-pub mod SettledParts
-pub mod WebParts
+-- Definitions that serve the proofs of this crate and of those above it alone.
+pub mod Internal

@@ -7,13 +7,13 @@
 ghost use Rattle.std.specs.Prelude.{◌≡◌, ◌≤◌, List, ℕ, IfSome, IsUtf8, false, length, option_map};
 ghost use Rattle.std.specs.Option.{option_copied};
 ghost use Rattle.git_syntax.specs.Authority.{unless_empty};
-ghost use Rattle.git_syntax.specs.FoundPieces.{AreScpTexts, IsReady, IsReadyUrl, host_for, meant, parts_length, room_for, scp_host_of, scp_slice, url_location};
+ghost use Rattle.git_syntax.specs.Internal.FoundPieces.{AreScpTexts, IsReady, IsReadyUrl, host_for, meant, parts_length, room_for, scp_host_of, scp_slice, url_location};
 ghost use Rattle.percent_encoding.specs.Percent.{percent_decode};
 ghost use Rattle.git_syntax.specs.Escapes.{has_percent};
 ghost use Rattle.git_syntax.specs.Grammar.{helper_protocol, path_for, retained_spelling, scp_location};
-ghost use Rattle.git_syntax.specs.SchemeRules.{AreRulesOf, named_protocol};
+ghost use Rattle.git_syntax.specs.Internal.SchemeRules.{AreRulesOf, named_protocol};
 ghost use Rattle.git_syntax.specs.Schemes.{protocol_of};
-ghost use Rattle.git_syntax.specs.UrlPieces.{parts_of};
+ghost use Rattle.git_syntax.specs.Internal.UrlPieces.{parts_of};
 ghost use Rattle.git_syntax.specs.Value.{path_alone};
 ghost use Rattle.git_syntax.specs.Value.Protocol.{file};
 ghost use Rattle.git_syntax.specs.Views.{lent_protocol};

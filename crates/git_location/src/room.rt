@@ -8,9 +8,9 @@ ghost use Rattle.std.specs.Prelude.{◌≡◌, ◌+◌, ◌≤◌, IfSome, lengt
 ghost use Rattle.std.specs.Option.{option_copied};
 ghost use Rattle.percent_encoding.specs.Percent as percent;
 ghost use Rattle.git_syntax.specs.Bytes.{IsLowercase};
-ghost use Rattle.git_syntax.specs.FoundPieces.{optional_length, scp_host_of, scp_slice};
-ghost use Rattle.git_syntax.specs.HostPieces.{host_of, meant_host, named_text};
-ghost use Rattle.git_syntax.specs.UrlPieces.{decoded_option};
+ghost use Rattle.git_syntax.specs.Internal.FoundPieces.{optional_length, scp_host_of, scp_slice};
+ghost use Rattle.git_syntax.specs.Internal.HostPieces.{host_of, meant_host, named_text};
+ghost use Rattle.git_syntax.specs.Internal.UrlPieces.{decoded_option};
 
 use git_syntax::bytes::is_lowercase;
 use git_syntax::escape::{decode_into, has_percent};

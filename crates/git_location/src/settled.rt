@@ -6,7 +6,7 @@
 
 ghost use Rattle.std.specs.Prelude.{◌↔◌, IsTrue};
 ghost use Rattle.git_syntax.specs.Value.Protocol.{helper};
-ghost use Rattle.git_location.specs.Pieces.{AreOwn};
+ghost use Rattle.git_location.specs.Internal.Pieces.{AreOwn};
 ghost use Rattle.git_location.specs.Settled.{IsSettled, IsSettledBy, IsValue};
 
 pub(crate) mod host;

@@ -8,9 +8,9 @@
 ghost use Rattle.std.specs.Prelude.{◌≡◌, [], Ok, Err, IsOk, IfOk, IfErr, length};
 ghost use Rattle.bstr.specs.BStr.{bstr_bytes};
 ghost use Rattle.git_location.specs.declared.write_error.WriteFault.{WriteFault};
-ghost use Rattle.git_location.specs.Fills.{Placed};
+ghost use Rattle.git_location.specs.Internal.Fills.{Placed};
 ghost use Rattle.git_location.specs.Text.{canonical_text, in_form, original_path, text, text_in};
-ghost use Rattle.git_location.specs.Pieces.{form_chosen, form_of, pieces_text, text_length, text_of_pieces};
+ghost use Rattle.git_location.specs.Internal.Pieces.{form_chosen, form_of, pieces_text, text_length, text_of_pieces};
 ghost use Rattle.git_location.specs.Readings.{Written};
 
 pub mod fill;

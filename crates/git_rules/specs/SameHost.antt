@@ -1,7 +1,7 @@
 -- Locations that name the same host.
 use Rattle.std.specs.Prelude.{◌≡◌, ◌↔◌, ℕ, Bool, IsTrue, List, Result, Ok, Err, ◌⊎◌, option_map}
 use Rattle.git_syntax.specs.Bytes.{lowercase}
-use Rattle.git_syntax.specs.FoundPieces.{peeled}
+use Rattle.git_syntax.specs.Internal.FoundPieces.{peeled}
 use Rattle.git_syntax.specs.Value.{Location}
 use Rattle.git_syntax.specs.Grammar.{Spells}
 use Rattle.git_location.specs.Readings.{ReadsIn}

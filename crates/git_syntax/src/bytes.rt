@@ -8,7 +8,7 @@ ghost use Rattle.std.specs.Prelude.{◌≡◌, ◌↔◌, ◌+◌, ◌≤◌, �
 ghost use Rattle.std.specs.List.{list_all};
 ghost use Rattle.memchr.specs.Find.{IsFirstByte};
 ghost use Rattle.git_syntax.specs.Bytes.{FreeOf, IsLowercase, Lacks, StartsPath, begins_with, is_helper_name, is_name_byte, is_path_start, is_scheme_text};
-ghost use Rattle.git_syntax.specs.Cuts.{CutsAt, CutsAtLast, CutsAtMark, StripsFirst, StripsLast};
+ghost use Rattle.git_syntax.specs.Internal.Cuts.{CutsAt, CutsAtLast, CutsAtMark, StripsFirst, StripsLast};
 
 use bstr::ByteSlice;
 use memchr::memchr3;

@@ -5,9 +5,9 @@
 
 ghost use Rattle.std.specs.Prelude.{◌≡◌, ◌<◌, ◌++◌, ◌∷◌, List, ℕ, MatchOption, length};
 ghost use Rattle.git_syntax.specs.Bytes.{FreeOf, colon, left_bracket, right_bracket, slash};
-ghost use Rattle.git_syntax.specs.Cuts.{CutsAtMark};
+ghost use Rattle.git_syntax.specs.Internal.Cuts.{CutsAtMark};
 ghost use Rattle.git_syntax.specs.Grammar.{AddressedCut, HasHelperForm, HelperCut, IsNeither};
-ghost use Rattle.git_syntax.specs.Shapes.{AddressedFront, Classifies, ColonCut, FrontCut, HasAddressedCut, HasFrontCut, HasScpCut, IsColonFront, LacksBrackets, ScpCut, addressed_text};
+ghost use Rattle.git_syntax.specs.Internal.Shapes.{AddressedFront, Classifies, ColonCut, FrontCut, HasAddressedCut, HasFrontCut, HasScpCut, IsColonFront, LacksBrackets, ScpCut, addressed_text};
 
 use crate::bytes::{
     after, cut, cut_at_mark, is_free_of, is_helper_name, last_cut, starts_with_byte,

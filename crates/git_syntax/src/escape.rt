@@ -11,8 +11,8 @@ ghost use Rattle.percent_encoding.specs.Percent as percent;
 ghost use Rattle.git_syntax.specs.Escapes as spec;
 ghost use Rattle.git_syntax.specs.Safeguards.{PasswordSet, PathSet, UserSet};
 ghost use Rattle.git_syntax.specs.Bytes.{LacksWhiteSpace, percent_sign};
-ghost use Rattle.git_syntax.specs.Decoding.{IsDigit, PassesCharacter, SplitsDecoded};
-ghost use Rattle.git_syntax.specs.Looks.{begins_high};
+ghost use Rattle.git_syntax.specs.Internal.Decoding.{IsDigit, PassesCharacter, SplitsDecoded};
+ghost use Rattle.git_syntax.specs.Internal.Looks.{begins_high};
 
 use crate::bytes::cut;
 use crate::text::{into_text, is_plain, is_printable};

@@ -6,7 +6,7 @@
 
 ghost use Rattle.std.specs.Prelude.{◌≡◌, ◌≤◌, [], Err, IfErr, IfOk, length};
 ghost use Rattle.git_syntax.specs.Flaws.{NamesFlaw};
-ghost use Rattle.git_syntax.specs.FoundPieces.{IsReady, meant, room_for};
+ghost use Rattle.git_syntax.specs.Internal.FoundPieces.{IsReady, meant, room_for};
 ghost use Rattle.git_syntax.specs.Grammar.{Spells};
 ghost use Rattle.git_syntax.specs.Value.{Location};
 

@@ -10,7 +10,7 @@ ghost use Rattle.git_syntax.specs.Bytes.{FreeOf, begins_with, left_bracket, righ
 ghost use Rattle.git_syntax.specs.Flaws.{IsNoHost, IsNoInner, NameFlaw};
 ghost use Rattle.git_syntax.specs.Hosts as spec;
 ghost use Rattle.git_syntax.specs.Hosts.{HostText, IsAddressPiece, IsLiteral, IsManyColoned, Names, ReadsAddress};
-ghost use Rattle.git_syntax.specs.HostPieces.{IsInner, IsSimpleHost, ReadsName, host_of, in_brackets, meant_host, named_text, port_of, shown_literal, strictness};
+ghost use Rattle.git_syntax.specs.Internal.HostPieces.{IsInner, IsSimpleHost, ReadsName, host_of, in_brackets, meant_host, named_text, port_of, shown_literal, strictness};
 
 pub mod build;
 pub mod bytes;

@@ -10,7 +10,7 @@ ghost use Rattle.std.specs.List.{count_by};
 ghost use Rattle.std.specs.Char.{is_ascii_whitespace};
 ghost use Rattle.git_syntax.specs.Authority.{Fits};
 ghost use Rattle.git_syntax.specs.Schemes.{is_web_scheme};
-ghost use Rattle.git_syntax.specs.Walks.{is_skipped, is_in_time, is_text_in_time, text_walk_for};
+ghost use Rattle.git_syntax.specs.Internal.Walks.{is_skipped, is_in_time, is_text_in_time, text_walk_for};
 
 use crate::bytes::cut_before_path;
 use crate::scheme::is_web_scheme;

@@ -4,7 +4,7 @@
 
 ghost use Rattle.std.specs.Prelude.{◌≡◌, true};
 ghost use Rattle.git_syntax.specs.Escapes.{is_printable};
-ghost use Rattle.git_syntax.specs.Looks.{Looks, knows_ascii, knows_plain, knows_printable};
+ghost use Rattle.git_syntax.specs.Internal.Looks.{Looks, knows_ascii, knows_plain, knows_printable};
 
 use crate::bytes::cut;
 use crate::escape::{begins_high, begins_with_digits};

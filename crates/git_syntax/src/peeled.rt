@@ -5,9 +5,9 @@
 
 ghost use Rattle.std.specs.Prelude.{◌≡◌, ℕ, List, MatchOption, false, string_bytes, true};
 ghost use Rattle.git_syntax.specs.Bytes.{begins_with, left_bracket};
-ghost use Rattle.git_syntax.specs.FoundPieces.{peeled};
+ghost use Rattle.git_syntax.specs.Internal.FoundPieces.{peeled};
 ghost use Rattle.git_syntax.specs.Grammar.{Peels};
-ghost use Rattle.git_syntax.specs.UrlPieces.{DropsLast, InBrackets};
+ghost use Rattle.git_syntax.specs.Internal.UrlPieces.{DropsLast, InBrackets};
 
 use crate::bytes::{after, before, is_free_of, starts_with_byte};
 use crate::text::into_text;

@@ -4,8 +4,8 @@
 //! for the text of the scheme.
 
 ghost use Rattle.std.specs.Prelude.{◌≡◌, false, true};
-ghost use Rattle.git_syntax.specs.HostPieces.{strictness};
-ghost use Rattle.git_syntax.specs.SchemeRules.{named_protocol};
+ghost use Rattle.git_syntax.specs.Internal.HostPieces.{strictness};
+ghost use Rattle.git_syntax.specs.Internal.SchemeRules.{named_protocol};
 ghost use Rattle.git_syntax.specs.Schemes.{is_web_scheme, mode_of, protocol_of, requires_host, requires_path};
 
 use crate::host::Mode;

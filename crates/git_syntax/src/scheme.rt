@@ -4,7 +4,7 @@
 //! scheme's text stands for its protocol to the letter.
 
 ghost use Rattle.std.specs.Prelude.{◌≡◌, bytes_eq};
-ghost use Rattle.git_syntax.specs.SchemeRules.{named_protocol};
+ghost use Rattle.git_syntax.specs.Internal.SchemeRules.{named_protocol};
 ghost use Rattle.git_syntax.specs.Schemes.{protocol_of, protocol_text, default_port_of, is_known_scheme, is_ssh_scheme, is_web_scheme};
 ghost use Rattle.git_syntax.specs.Schemes.{is_ftp};
 ghost use Rattle.git_syntax.specs.Views.{lent_protocol};

@@ -9,11 +9,11 @@ ghost use Rattle.git_syntax.specs.Addresses.{IsZone};
 ghost use Rattle.git_syntax.specs.Bytes.{FreeOf, LacksWhiteSpace, at_sign, begins_with, left_bracket};
 ghost use Rattle.git_syntax.specs.Escapes as spec;
 ghost use Rattle.git_syntax.specs.Flaws.{MissesPath, NamesFlaw};
-ghost use Rattle.git_syntax.specs.FoundPieces.{IsReady, meant, room_for, scp_slice};
+ghost use Rattle.git_syntax.specs.Internal.FoundPieces.{IsReady, meant, room_for, scp_slice};
 ghost use Rattle.git_syntax.specs.Grammar.{AddressedShape, IsScpShaped, SpellsScpAddressed, SpellsScpBefore};
 ghost use Rattle.git_syntax.specs.Hosts.{IsLiteral};
-ghost use Rattle.git_syntax.specs.Shapes.{PlainScp};
-ghost use Rattle.git_syntax.specs.ScpPieces.{ColonsInside, CutsUser, ReadsScpHost, ReadsScpPiece};
+ghost use Rattle.git_syntax.specs.Internal.Shapes.{PlainScp};
+ghost use Rattle.git_syntax.specs.Internal.ScpPieces.{ColonsInside, CutsUser, ReadsScpHost, ReadsScpPiece};
 
 use crate::bytes::{after, cut, is_free_of, last_cut};
 use crate::escape::lacks_white_space;

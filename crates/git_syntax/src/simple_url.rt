@@ -10,11 +10,11 @@ ghost use Rattle.git_syntax.specs.Authority.{Fits};
 ghost use Rattle.git_syntax.specs.Escapes as escape;
 ghost use Rattle.git_syntax.specs.Flaws.{AuthorityFlaw, OtherShape, UrlFlaw};
 ghost use Rattle.git_syntax.specs.Grammar.{SpellsParts, UrlParts};
-ghost use Rattle.git_syntax.specs.HostPieces.{strictness};
-ghost use Rattle.git_syntax.specs.Looks.{Looks};
-ghost use Rattle.git_syntax.specs.SchemeRules.{AreRulesOf};
+ghost use Rattle.git_syntax.specs.Internal.HostPieces.{strictness};
+ghost use Rattle.git_syntax.specs.Internal.Looks.{Looks};
+ghost use Rattle.git_syntax.specs.Internal.SchemeRules.{AreRulesOf};
 ghost use Rattle.git_syntax.specs.Bytes.{FreeOf, LacksWhiteSpace, at_sign, backslash, colon};
-ghost use Rattle.git_syntax.specs.UrlPieces.{HoldsParts, IsNoAuthority, ReadsCredentials, decoded_option, parts_of};
+ghost use Rattle.git_syntax.specs.Internal.UrlPieces.{HoldsParts, IsNoAuthority, ReadsCredentials, decoded_option, parts_of};
 
 use crate::bytes::{cut, cut_before_path, is_free_of, is_scheme_text, last_cut};
 use crate::escape::{decodes_to_utf8, decoding_is_utf8, has_percent, is_sound, lacks_white_space};

@@ -8,11 +8,11 @@ ghost use Rattle.std.specs.Prelude.{◌≡◌, ◌+◌, ◌<◌, ◌≤◌, ◌�
 ghost use Rattle.git_syntax.specs.Authority.{Fits};
 ghost use Rattle.git_syntax.specs.Escapes.{has_percent};
 ghost use Rattle.git_syntax.specs.Flaws.{NamesFlaw, OtherShape, UrlShape};
-ghost use Rattle.git_syntax.specs.FoundPieces.{IsReady, meant, room_for};
+ghost use Rattle.git_syntax.specs.Internal.FoundPieces.{IsReady, meant, room_for};
 ghost use Rattle.git_syntax.specs.Grammar.{Spells, SpellsFile, SpellsParts, SpellsUrl};
-ghost use Rattle.git_syntax.specs.Looks.{Looks};
-ghost use Rattle.git_syntax.specs.SchemeRules.{AreRulesOf};
-ghost use Rattle.git_syntax.specs.UrlPieces.{parts_of};
+ghost use Rattle.git_syntax.specs.Internal.Looks.{Looks};
+ghost use Rattle.git_syntax.specs.Internal.SchemeRules.{AreRulesOf};
+ghost use Rattle.git_syntax.specs.Internal.UrlPieces.{parts_of};
 
 use crate::bytes::cut;
 use crate::found::Found;

@@ -14,10 +14,9 @@ pub mod Views
 pub mod Url
 pub mod Stored
 -- Examples of the definitions: each row is proved.
-pub mod OtherRows
--- What serves the proofs of this crate and of those above it alone.
-pub mod Meanings
-pub mod ComponentPieces
+pub mod Examples
+-- Definitions that serve the proofs of this crate and of those above it alone.
+pub mod Internal
 -- What is in the layers below, under the names by which users of this crate know it.
 pub use Rattle.git_syntax.specs.Value
 pub use Rattle.git_syntax.specs.Bytes
@@ -29,14 +28,6 @@ pub use Rattle.git_syntax.specs.Authority
 pub use Rattle.git_syntax.specs.Grammar
 pub use Rattle.git_syntax.specs.AddressTest
 pub use Rattle.git_syntax.specs.Places
-pub use Rattle.git_syntax.specs.Cuts
-pub use Rattle.git_syntax.specs.Walks
-pub use Rattle.git_syntax.specs.HostPieces
-pub use Rattle.git_syntax.specs.UrlPieces
-pub use Rattle.git_syntax.specs.SchemeRules
-pub use Rattle.git_syntax.specs.FoundPieces
-pub use Rattle.git_syntax.specs.ScpPieces
-pub use Rattle.git_syntax.specs.Shapes
 pub use Rattle.git_location.specs.Text
 pub use Rattle.git_location.specs.Settled
 pub use Rattle.git_location.specs.Display
@@ -44,12 +35,6 @@ pub use Rattle.git_location.specs.Words
 pub use Rattle.git_location.specs.Arguments
 pub use Rattle.git_location.specs.WebClass
 pub use Rattle.git_location.specs.UrlRef
-pub use Rattle.git_location.specs.KeptBytes
-pub use Rattle.git_location.specs.Pieces
-pub use Rattle.git_location.specs.Sinks
-pub use Rattle.git_location.specs.Fills
-pub use Rattle.git_location.specs.SettledParts
-pub use Rattle.git_location.specs.WebParts
 pub use Rattle.git_lines.specs.Answers
 pub use Rattle.git_laws.specs.Git
 pub use Rattle.git_laws.specs.GitWeb

@@ -10,7 +10,7 @@
 ghost use Rattle.std.specs.Prelude.{◌≡◌, ◌⊎◌, [], ◌∷◌, None, IfErr, IfOk, IfSome, IsErr, IsOk, option_map};
 ghost use Rattle.bstr.specs.BStr.{bstr_bytes};
 ghost use Rattle.git_syntax.specs.Bytes.{Holds, slash};
-ghost use Rattle.gix_url.specs.ComponentPieces.{HasQuery, LendsParts, SpellsPath};
+ghost use Rattle.gix_url.specs.Internal.ComponentPieces.{HasQuery, LendsParts, SpellsPath};
 ghost use Rattle.gix_url.specs.ComponentViews.{LentQuery, components};
 ghost use Rattle.git_laws.specs.Components.{Components, PartsOf};
 

@@ -2,7 +2,7 @@
 //!
 //! It has no code and uses nothing: the contract of the function is a group of rows.
 
-ghost use Rattle.gix_url.specs.OtherRows.{KeptRows};
+ghost use Rattle.gix_url.specs.Examples.OtherRows.{KeptRows};
 
 /// What errors hold on to.
 fn law_others()

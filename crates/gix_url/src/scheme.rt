@@ -4,7 +4,7 @@
 //! definitions, and a scheme's text stands for its protocol to the letter.
 
 ghost use Rattle.std.specs.Prelude.{◌≡◌, IfErr, IfOk, IsOk, true};
-ghost use Rattle.git_syntax.specs.SchemeRules.{named_protocol};
+ghost use Rattle.git_syntax.specs.Internal.SchemeRules.{named_protocol};
 ghost use Rattle.git_syntax.specs.Schemes.{protocol_of, protocol_text, default_port_of, is_known_scheme};
 ghost use Rattle.git_syntax.specs.Views.{lent_protocol};
 ghost use Rattle.gix_url.specs.Views.{protocol};

@@ -8,7 +8,7 @@ ghost use Rattle.bstr.specs.BStr.{bstr_bytes};
 ghost use Rattle.bstr.specs.Owned.{bstring_bytes};
 ghost use Rattle.git_location.specs.declared.write_error.WriteFault.{WriteFault};
 ghost use Rattle.git_location.specs.Text.{canonical_text, original_path, text, text_in};
-ghost use Rattle.git_location.specs.Pieces.{form_of, pieces_text, text_length};
+ghost use Rattle.git_location.specs.Internal.Pieces.{form_of, pieces_text, text_length};
 ghost use Rattle.git_location.specs.Readings.{Written};
 ghost use Rattle.gix_url.specs.Readings.{IsUnwritten, WritesAgain};
 ghost use Rattle.git_location.specs.Settled.{IsSettled};

@@ -5,7 +5,7 @@ use Rattle.gix_url.specs.Value.{Protocol, Location}
 use Rattle.gix_url.specs.Value.Protocol.{file, git, ssh, http, https, ext, helper, helper_url}
 use Rattle.gix_url.specs.Text.{Form, choice, choice_by, in_form, text}
 use Rattle.gix_url.specs.Display.{hidden_password, shown_text, display}
-use Rattle.gix_url.specs.Pieces.{text_length}
+use Rattle.git_location.specs.Internal.Pieces.{text_length}
 
 there : (p : Option (List ℕ)) → is_some (hidden_password p) ≡ is_some p
 there None = refl

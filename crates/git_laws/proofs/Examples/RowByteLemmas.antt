@@ -1,7 +1,7 @@
 -- Rows on classes of bytes: each is computed at all 256 bytes.
 use Rattle.std.proofs.Common.{refl, arith}
 use Rattle.percent_encoding.proofs.OnLiterals.{percent_encoding_on_literals}
-use Rattle.git_laws.specs.ByteRows.{NameByteRows, HostByteRows, WhiteSpaceRows, GitByteRows, QuickByteRows, EscapedByteRows, EscapeSetRows}
+use Rattle.git_laws.specs.Examples.ByteRows.{NameByteRows, HostByteRows, WhiteSpaceRows, GitByteRows, QuickByteRows, EscapedByteRows, EscapeSetRows}
 
 -- what names are made of
 pub name_byte_rows : NameByteRows

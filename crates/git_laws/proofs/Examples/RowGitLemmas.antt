@@ -9,7 +9,7 @@ use Rattle.git_syntax.specs.Schemes.{protocol_of}
 use Rattle.git_syntax.specs.Authority.{unless_empty}
 use Rattle.git_location.specs.Arguments.{is_option_like}
 use Rattle.git_laws.specs.Git.{GitReading, on_this_machine, from_tilde, git_decode, host_mark, OpensHost, InBrackets, LacksHostBrackets, HostEnd, CutsPlace, BeforePort, HostAndPort, SecurePort, UserCut, ReachesSecure, ReachesGit, OwnUrl, IsNoUrl, ReadsGiven, GitReads}
-use Rattle.git_laws.specs.GitRows.{asked, by_ssh, by_git, CredentialRows, GitUrlRows, GitTextRows, NoGitRows}
+use Rattle.git_laws.specs.Examples.GitRows.{asked, by_ssh, by_git, CredentialRows, GitUrlRows, GitTextRows, NoGitRows}
 use Rattle.git_laws.specs.GitWeb.{are_slashes, AreOneLine, CredentialCut, CredentialDecodes, CredentialReads, trimmed_path}
 use Rattle.git_syntax.proofs.Texts.CutLemmas.{cut_unique, different_bytes, free-cons, held_free, last_cut_unique, not_free}
 use Rattle.git_laws.proofs.Examples.RowFormLemmas.{holds, not_held, no_helper_at}

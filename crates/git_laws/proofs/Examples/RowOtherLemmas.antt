@@ -13,7 +13,7 @@ use Rattle.git_syntax.specs.Escapes.{has_percent}
 use Rattle.git_location.specs.Text.{has_colon}
 use Rattle.git_location.specs.Settled.{IsWeb}
 use Rattle.git_laws.specs.Laws.{IsCorner}
-use Rattle.git_laws.specs.OtherRows.{at_host, SlipRows, CornerRows, NoCornerRows}
+use Rattle.git_laws.specs.Examples.OtherRows.{at_host, SlipRows, CornerRows, NoCornerRows}
 use Rattle.git_laws.proofs.Examples.RowFormLemmas.{other_byte, fits_row}
 
 -- slips

@@ -6,7 +6,7 @@ use Rattle.git_syntax.specs.Value.{Protocol, Location}
 use Rattle.git_syntax.specs.Value.Protocol.{file, git, http, https, ssh}
 use Rattle.git_syntax.specs.Addresses.{IsIpv6Text}
 use Rattle.git_syntax.specs.Bytes.{percent_sign, slash, colon, at_sign, left_bracket, right_bracket, tilde, FreeOf, Lacks, begins_with}
-use Rattle.git_syntax.specs.HostPieces.{in_brackets}
+use Rattle.git_syntax.specs.Internal.HostPieces.{in_brackets}
 use Rattle.git_syntax.specs.Grammar.{ScpFront, IsNeither, IsScpShaped}
 use Rattle.git_location.specs.Arguments.{is_option_like}
 use Rattle.git_location.specs.Text.{raw_user, raw_host, canonical_text, text}

@@ -10,8 +10,8 @@ use Rattle.git_syntax.specs.Bytes.{slash, colon, at_sign, left_bracket, backslas
 use Rattle.git_syntax.specs.Escapes.{escaped_percents}
 use Rattle.git_syntax.specs.Grammar.{HasHelperForm, helper_protocol, IsNeither, ScpFront, ScpShape, AddressedShape, ScpUser, ScpHost, scp_location, Spells}
 use Rattle.git_syntax.specs.Flaws.{ScpNameFlaw, ScpHostFlaw, MissesPath}
-use Rattle.git_syntax.specs.Shapes.{ColonCut, HasFrontCut, LacksBrackets, HasScpCut, HasAddressedCut, AddressedFront, PlainScp}
-use Rattle.git_syntax.specs.ScpPieces.{ColonsInside, NamesHost}
+use Rattle.git_syntax.specs.Internal.Shapes.{ColonCut, HasFrontCut, LacksBrackets, HasScpCut, HasAddressedCut, AddressedFront, PlainScp}
+use Rattle.git_syntax.specs.Internal.ScpPieces.{ColonsInside, NamesHost}
 use Rattle.git_syntax.specs.Refusals.{HasFlaw, Decided}
 use Rattle.git_syntax.proofs.Texts.CutLemmas.{free-cons, begins_cut, free_or_cut, not_free}
 use Rattle.git_syntax.proofs.Texts.PlaceLemmas.{held_stands, white_stands}

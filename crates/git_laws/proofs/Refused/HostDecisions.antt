@@ -13,7 +13,7 @@ use Rattle.git_syntax.specs.Addresses.{IsIpv6Text, Literal}
 use Rattle.git_syntax.specs.Hosts.{Mode, is_http_host_byte, normal_host, HostText, Bracketed, Inner, AllowsPort, Number, IsAddressPiece, ReadsAddress, IsManyColoned, IsPlainHost, Names}
 use Rattle.git_syntax.specs.Hosts.Mode.{strict, bare, loose}
 use Rattle.git_syntax.specs.Flaws.{IsNoHost, IsNoInner, HasBadPort, HasBadHost, NameFlaw}
-use Rattle.git_syntax.specs.HostPieces.{EndsHost, shown_literal}
+use Rattle.git_syntax.specs.Internal.HostPieces.{EndsHost, shown_literal}
 use Rattle.git_syntax.proofs.Texts.CutLemmas.{begins_cut, free_or_cut, ends_or_not}
 use Rattle.git_syntax.proofs.Readings.HostLemmas.{loose_not_strict, bare_not_strict, loose_not_bare, literal_inner, not_ended, not_inner}
 use Rattle.git_laws.proofs.Refused.TextDecisions.{Decides, utf8_or_not, address_or_not, literal_or_not}

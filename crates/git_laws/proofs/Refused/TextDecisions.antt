@@ -7,15 +7,15 @@ use Rattle.std.proofs.lemmas.Bool.{both_ways, cases_Bool, cases_lt, and_from, an
 use Rattle.std.proofs.lemmas.Str.{IsUtf8-from_is_utf8, is_utf8-from_IsUtf8}
 use Rattle.percent_encoding.specs.Percent.{percent_decode}
 use Rattle.git_syntax.specs.Bytes.{percent_sign, slash, colon, FreeOf, Holds, LacksWhiteSpace}
-use Rattle.git_syntax.specs.Cuts.{url_mark}
+use Rattle.git_syntax.specs.Internal.Cuts.{url_mark}
 use Rattle.git_syntax.specs.Escapes.{is_sound}
 use Rattle.git_syntax.specs.Addresses.{IsIpv6Text, is_zone_byte, IsZone}
 use Rattle.git_syntax.specs.AddressTest.{is_ipv6_text}
 use Rattle.git_syntax.specs.Hosts.{IsLiteral}
 use Rattle.git_syntax.specs.Authority.{Fits}
 use Rattle.git_syntax.specs.Schemes.{is_web_scheme}
-use Rattle.git_syntax.specs.Walks.{is_rest_short}
-use Rattle.git_syntax.specs.HostPieces.{IsEscapedZone}
+use Rattle.git_syntax.specs.Internal.Walks.{is_rest_short}
+use Rattle.git_syntax.specs.Internal.HostPieces.{IsEscapedZone}
 use Rattle.git_syntax.proofs.Texts.CutLemmas.{heads, tails, free-cons, free_or_cut}
 use Rattle.git_syntax.proofs.Addresses.AddressTestLemmas.{ipv6_text_from, ipv6_text_to}
 use Rattle.git_syntax.proofs.Readings.LengthLemmas.{fits_tested}

@@ -16,8 +16,8 @@ use Rattle.git_syntax.specs.Schemes.{is_web_scheme, protocol_of, mode_of, requir
 use Rattle.git_syntax.specs.Authority.{unless_empty, Credentials, Authority, Fits}
 use Rattle.git_syntax.specs.Grammar.{UrlParts, SpellsParts, MeansByProtocol, MeansAs, Spells}
 use Rattle.git_syntax.specs.Flaws.{UrlShape, OtherShape, UrlCut, PieceOf, AuthorityFlaw, UrlFlaw}
-use Rattle.git_syntax.specs.UrlPieces.{CutsRest, HasNoText, HoldsHosted}
-use Rattle.git_syntax.specs.FoundPieces.{url_location}
+use Rattle.git_syntax.specs.Internal.UrlPieces.{CutsRest, HasNoText, HoldsHosted}
+use Rattle.git_syntax.specs.Internal.FoundPieces.{url_location}
 use Rattle.git_syntax.specs.Refusals.{HasFlaw}
 use Rattle.git_syntax.proofs.Texts.CutLemmas.{cut_at_first, free_or_cut}
 use Rattle.git_syntax.proofs.Texts.PlaceLemmas.{held_stands, unsound_stands, white_stands}

@@ -26,7 +26,7 @@ use Rattle.git_syntax.specs.Grammar.{UrlParts, SpellsParts, MeansByProtocol, Mea
 use Rattle.git_location.specs.Text.{keeps_host, open_host, needs_brackets, wants_brackets, canonical_host, host_part, user_information, port_part, root_part, plain_path, matching_or, canonical_path, raw_user, raw_host, text}
 use Rattle.git_location.specs.Settled.{HasMatch, IsRawPath, IsWeb, IsWebHost, IsNormalName, IsBareHost, IsBracketedHost, IsScpName, IsNormalAddress, IsSettledUrl, IsSettledWeb, IsSettledSecure, IsSettledGit, IsSettledHelperUrl, IsSettledBy, IsSettled}
 use Rattle.git_location.specs.Settled.IsWebHost.{literal, literal_colon, named, named_colon}
-use Rattle.git_location.specs.SettledParts.{IsWrittenAsUrl}
+use Rattle.git_location.specs.Internal.SettledParts.{IsWrittenAsUrl}
 use Rattle.git_lines.specs.Answers.{ended_lines, last_line, fault_name, refusal_name, told_line, IsTold, IsAnswer, AnswersEach}
 use Rattle.git_laws.specs.AnswerLaws.{IsOneLine, OneLine, AreAnswered, LineForLine}
 use Rattle.git_syntax.proofs.Texts.CutLemmas.{free-append, free-cons, free_head_tail, free_of_all, free_parts, helper_name_free, scheme_text_free}

@@ -12,7 +12,7 @@ use Rattle.git_location.specs.declared.write_error.WriteFault.TheVariants.{UserW
 use Rattle.git_syntax.specs.Value.{Location, fields, path_alone}
 use Rattle.git_syntax.specs.Value.Protocol.{file}
 use Rattle.git_syntax.specs.Bytes.{slash, colon, left_bracket, right_bracket, FreeOf, begins_with}
-use Rattle.git_syntax.specs.Cuts.{url_mark}
+use Rattle.git_syntax.specs.Internal.Cuts.{url_mark}
 use Rattle.git_syntax.specs.Escapes.{has_percent, escaped_percents}
 use Rattle.git_syntax.specs.Schemes.{protocol_text}
 use Rattle.git_syntax.specs.Authority.{unless_empty}

@@ -21,7 +21,7 @@ use Rattle.git_syntax.specs.Authority.{Authority, is_any_slash, without_white_sp
 use Rattle.git_syntax.specs.Authority.Authority.{host_alone, with_user}
 use Rattle.git_location.specs.Text.{user_information, host_part, port_part, canonical_path, canonical_text}
 use Rattle.git_location.specs.Settled.{IsValue, IsSettledUrl, IsSettledWeb, IsSettledHelperUrl, IsSettledBy, IsSettled, IsWeb}
-use Rattle.git_location.specs.SettledParts.{IsWrittenAsUrl}
+use Rattle.git_location.specs.Internal.SettledParts.{IsWrittenAsUrl}
 use Rattle.git_laws.specs.Safeguards.{SettledWithoutPassword}
 use Rattle.git_syntax.proofs.Texts.CutLemmas.{lacks-append, lacks-cons, lacks_head_tail, lacks_parts, lacks_weaker, path_cut_unique, scheme_text_free}
 use Rattle.git_syntax.proofs.Texts.EscapeLemmas.{ascii_byte, utf8_byte, white_space_parts}

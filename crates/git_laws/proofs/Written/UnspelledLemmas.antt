@@ -13,7 +13,7 @@ use Rattle.git_syntax.specs.Authority.{FitsText}
 use Rattle.git_syntax.specs.Grammar.{path_for}
 use Rattle.git_location.specs.Text.{user_information, host_part, port_part, root_part, plain_path, canonical_path, canonical_text}
 use Rattle.git_location.specs.Settled.{IsValue, HasMatch, HasFittingText, IsSettledUrl, IsTransportPath, IsSettledWeb, IsSettledSecure, IsSettledGit, IsSettledHelperUrl, IsSettledBy, IsWeb, HasUrlPath}
-use Rattle.git_location.specs.SettledParts.{IsWrittenAsUrl}
+use Rattle.git_location.specs.Internal.SettledParts.{IsWrittenAsUrl}
 use Rattle.git_laws.specs.Safeguards.{WebSettledWithoutSpelling, SettledWithoutSpelling, is_raw_url}
 use Rattle.git_syntax.proofs.Texts.EscapeLemmas.{decode_empty, encode_empty}
 use Rattle.git_laws.proofs.Written.WrittenUrlLemmas.{IsReadable, authority_text}

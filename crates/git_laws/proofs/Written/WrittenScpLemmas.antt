@@ -27,7 +27,7 @@ use Rattle.git_syntax.proofs.Readings.ShapeLemmas.{helper_front}
 use Rattle.git_syntax.proofs.Readings.ScpLemmas.{escaped_some}
 use Rattle.git_syntax.proofs.Unique.UniqueLemmas.{bracketed_address_named}
 use Rattle.git_laws.proofs.Written.WrittenPathLemmas.{homeless_kept}
-use Rattle.git_syntax.specs.HostPieces.{in_brackets}
+use Rattle.git_syntax.specs.Internal.HostPieces.{in_brackets}
 use Rattle.std.proofs.lemmas.Str.{IsUtf8-append}
 use Rattle.git_laws.proofs.Written.KeptLemmas.{value_of}
 

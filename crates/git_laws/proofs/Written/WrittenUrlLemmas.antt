@@ -14,7 +14,7 @@ use Rattle.git_syntax.specs.Authority.Authority.{host_alone, with_user}
 use Rattle.git_syntax.specs.Grammar.{UrlParts, SpellsParts, HostFor, Spells}
 use Rattle.git_location.specs.Text.{user_information, host_part, port_part, canonical_path, canonical_text, text}
 use Rattle.git_location.specs.Settled.{IsValue, IsSettledUrl, IsSettledBy, IsSettled, HasFairSpelling}
-use Rattle.git_location.specs.SettledParts.{IsWrittenAsUrl}
+use Rattle.git_location.specs.Internal.SettledParts.{IsWrittenAsUrl}
 use Rattle.std.proofs.lemmas.Option.{IfSome_then}
 use Rattle.git_syntax.specs.Hosts.Names.{nothing}
 use Rattle.git_laws.specs.Laws.{ComesBack}

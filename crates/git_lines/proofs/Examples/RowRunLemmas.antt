@@ -1,5 +1,5 @@
 -- Rows of runs that failed, as parts of their definitions.
-use Rattle.git_lines.specs.RunRows.{UnwrittenRow, ReadRow}
+use Rattle.git_lines.specs.Examples.RunRows.{UnwrittenRow, ReadRow}
 
 -- a run that memory ended left the writer as it was
 pub unwritten_row : UnwrittenRow

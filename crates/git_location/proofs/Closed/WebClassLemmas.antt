@@ -29,10 +29,10 @@ use Rattle.git_syntax.proofs.Texts.CutLemmas.{all_weaker, cut_unique, free-appen
 use Rattle.git_syntax.proofs.Texts.EscapeLemmas.{encode_lacks_kept, lacks_from_encode, sound_free, utf8_class}
 use Rattle.git_location.specs.Settled.{HasUrlPath, IsBracketedAddress, IsFairSpelling, IsWeb, IsWebHost}
 use Rattle.git_location.specs.Settled.IsWebHost.{literal, named}
-use Rattle.git_location.specs.SettledParts.{IsSettledBesidePath}
+use Rattle.git_location.specs.Internal.SettledParts.{IsSettledBesidePath}
 use Rattle.git_location.specs.Text.{canonical_path, matching_or, plain_path}
 use Rattle.git_location.specs.WebClass.{AgreesOverWeb, HasDotSegment, HasUnambiguousHost, HasUnambiguousPath, IsDecodedWhole, IsLastLabel, IsPlainName, IsUnambiguousHost, IsUnambiguousPassword, IsUnambiguousUser, is_control, is_plain_host_byte, is_segment_end, is_uri_byte}
-use Rattle.git_location.specs.WebParts.{EndsSecondDot, IsDotSegment, IsUriPath, ends_segment, is_simple_byte, is_stray}
+use Rattle.git_location.specs.Internal.WebParts.{EndsSecondDot, IsDotSegment, IsUriPath, ends_segment, is_simple_byte, is_stray}
 use Rattle.git_location.proofs.Closed.SettledLemmas.{settled_as_web, url_by_parts, web_settled}
 use Rattle.git_location.proofs.Written.PieceLemmas.{counted}
 

@@ -8,7 +8,7 @@ use Rattle.percent_encoding.specs.AsciiSet.{contains, should_percent_encode}
 use Rattle.percent_encoding.specs.Percent.{percent_encode}
 use Rattle.percent_encoding.proofs.PercentLemmas.{percent_encode-nil, percent_encode_kept}
 use Rattle.git_syntax.specs.declared.escape.TheConstants.{PATH, PASSWORD, USER}
-use Rattle.git_location.specs.KeptBytes.{is_ready_in_path, is_ready_in_user}
+use Rattle.git_location.specs.Internal.KeptBytes.{is_ready_in_path, is_ready_in_user}
 use Rattle.percent_encoding.proofs.AsciiSetLemmas.{kept_from_outside}
 
 -- a text of which each byte passes a test that no escaped byte passes is written as it is

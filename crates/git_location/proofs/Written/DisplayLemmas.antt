@@ -10,7 +10,7 @@ use Rattle.std.proofs.lemmas.Str.{encodes-append}
 use Rattle.bstr.specs.Utf8.{lossy_chars}
 use Rattle.bstr.proofs.lemmas.LossyLemmas.{lossy_chars-front}
 use Rattle.git_syntax.specs.Bytes.{lossy_text}
-use Rattle.git_location.specs.Sinks.{ShowsEnd, ShowsText}
+use Rattle.git_location.specs.Internal.Sinks.{ShowsEnd, ShowsText}
 
 -- a front that is UTF-8 is shown as it is
 pub lossy_front : (front rest : List ℕ) → IsUtf8 front → lossy_text (front ++ rest) ≡ front ++ lossy_text rest

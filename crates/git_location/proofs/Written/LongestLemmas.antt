@@ -13,7 +13,7 @@ use Rattle.git_syntax.specs.Bytes.{slash, at_sign, left_bracket, right_bracket, 
 use Rattle.git_syntax.specs.Escapes.{matches, path_set, password_set, user_set, escaped_percents}
 use Rattle.git_syntax.specs.AddressTest.{is_ipv6_text}
 use Rattle.git_syntax.specs.Schemes.{protocol_text, requires_path}
-use Rattle.git_syntax.specs.FoundPieces.{optional_length}
+use Rattle.git_syntax.specs.Internal.FoundPieces.{optional_length}
 use Rattle.git_location.specs.Text.{escaped_password, user_information, keeps_host, open_host, needs_brackets, host_part, port_part, root_part, plain_path, matching_or, canonical_path, canonical_text}
 use Rattle.git_location.proofs.Written.PieceLemmas.{length_escapes, length_percents}
 

@@ -12,7 +12,7 @@ use Rattle.percent_encoding.proofs.PercentLemmas.{percent_encode-nil, percent_en
 use Rattle.std.specs.Prelude.{OnOk}
 use Rattle.git_location.specs.declared.write_error.WriteFault.{WriteFault}
 use Rattle.git_syntax.specs.Bytes.{percent_sign, FreeOf}
-use Rattle.git_syntax.specs.Cuts.{CutsAt}
+use Rattle.git_syntax.specs.Internal.Cuts.{CutsAt}
 use Rattle.git_syntax.specs.Escapes.{escaped_percents}
 use Rattle.git_syntax.proofs.Texts.CutLemmas.{lacks_before, lacks_after}
 use Rattle.git_syntax.proofs.Texts.EscapeLemmas.{escaped_percents-append, escaped_percents_kept}

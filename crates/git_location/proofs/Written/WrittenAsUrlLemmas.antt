@@ -6,7 +6,7 @@ use Rattle.git_syntax.specs.Value.{Location}
 use Rattle.git_syntax.specs.Value.Protocol.{ssh, git, helper_url}
 use Rattle.git_syntax.specs.Bytes.{colon, slash, tilde, begins_with, is_scheme_text, FreeOf}
 use Rattle.git_location.specs.Settled.{IsTransportPath, IsWeb, IsHosted}
-use Rattle.git_location.specs.SettledParts.{IsWrittenAsUrl}
+use Rattle.git_location.specs.Internal.SettledParts.{IsWrittenAsUrl}
 use Rattle.git_syntax.specs.Schemes.{protocol_text}
 use Rattle.git_location.specs.Text.{Form, choice, choice_by, ssh_choice, with_host, is_relative, in_form, text, canonical_text}
 use Rattle.git_location.specs.Text.Form.{canonical_form}

@@ -5,7 +5,7 @@
 
 ghost use Rattle.std.specs.Prelude.{◌≡◌, ◌↔◌, IsTrue, Option};
 ghost use Rattle.git_location.specs.Settled.{IsBareHost, IsBracketedAddress, IsBracketedHost, IsWebHost, IsWebName};
-ghost use Rattle.git_location.specs.SettledParts.{IsBracketedLiteral, IsClosedHost, IsNormalLiteral, StripsBrackets};
+ghost use Rattle.git_location.specs.Internal.SettledParts.{IsBracketedLiteral, IsClosedHost, IsNormalLiteral, StripsBrackets};
 
 use crate::settled::parts::{is_normal, is_normal_address, is_normal_name};
 use git_syntax::bytes::{after, before, cut};

@@ -5,15 +5,15 @@
 
 ghost use Rattle.std.specs.Prelude.{◌≡◌, ◌≤◌, ◌^◌, ◌↔◌, ◌+◌, IsTrue, Ok, drop, length, option_map};
 ghost use Rattle.git_syntax.specs.Bytes.{FreeOf, colon};
-ghost use Rattle.git_location.specs.Pieces.{AreOwn, pieces_text};
+ghost use Rattle.git_location.specs.Internal.Pieces.{AreOwn, pieces_text};
 ghost use Rattle.git_syntax.specs.Schemes.{protocol_text};
 ghost use Rattle.git_location.specs.Settled.{HasFittingText};
 ghost use Rattle.git_location.specs.Text.{canonical_text, text};
 ghost use Rattle.git_syntax.specs.Schemes as spec;
-ghost use Rattle.git_syntax.specs.Walks.{is_rest_short, is_text_in_time};
-ghost use Rattle.git_syntax.specs.FoundPieces.{optional_length};
-ghost use Rattle.git_location.specs.SettledParts.{IsPiecesShort};
-ghost use Rattle.git_location.specs.Sinks.{WalksPast, walks_joined, walks_nothing};
+ghost use Rattle.git_syntax.specs.Internal.Walks.{is_rest_short, is_text_in_time};
+ghost use Rattle.git_syntax.specs.Internal.FoundPieces.{optional_length};
+ghost use Rattle.git_location.specs.Internal.SettledParts.{IsPiecesShort};
+ghost use Rattle.git_location.specs.Internal.Sinks.{WalksPast, walks_joined, walks_nothing};
 
 use crate::url_ref::UrlRef;
 use crate::value::law_lent_value;

@@ -6,9 +6,9 @@
 ghost use Rattle.std.specs.Prelude.{◌≡◌, ◌↔◌, IsTrue, IsUtf8, true, IfSome};
 ghost use Rattle.git_syntax.specs.Value.Protocol.{git, helper_url, ssh};
 ghost use Rattle.git_syntax.specs.Bytes.{begins_by, is_path_start};
-ghost use Rattle.git_location.specs.Pieces.{AreOwn};
+ghost use Rattle.git_location.specs.Internal.Pieces.{AreOwn};
 ghost use Rattle.git_location.specs.Settled.{HasBareHost, HasBracketedHost, HasCredentials, HasFairSpelling, HasUrlPath, HasWebHost, IsBracketedHost, IsFairSpelling, IsHomeless, IsHosted, IsRaw, IsRawPath, IsRootedOrEmpty, IsSettledGit, IsSettledHelperUrl, IsSettledRaw, IsSettledSecure, IsSettledUrl, IsSettledWeb, IsTransportPath, IsWeb, first_byte};
-ghost use Rattle.git_location.specs.SettledParts.{HasRawPath, IsSettledBesidePath, IsWrittenAsUrl};
+ghost use Rattle.git_location.specs.Internal.SettledParts.{HasRawPath, IsSettledBesidePath, IsWrittenAsUrl};
 
 use crate::settled::host::{is_bare_host, is_bracketed_host, is_web_host};
 use crate::settled::measure::has_fitting_text;

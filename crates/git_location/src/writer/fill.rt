@@ -4,8 +4,8 @@
 //! It takes no memory.
 
 ghost use Rattle.std.specs.Prelude.{◌≡◌, ◌≤◌, ◌+◌, ◌++◌, drop, length, take};
-ghost use Rattle.git_location.specs.Fills.{Fills, fills_joined, fills_nothing};
-ghost use Rattle.git_location.specs.Pieces.{pieces_text};
+ghost use Rattle.git_location.specs.Internal.Fills.{Fills, fills_joined, fills_nothing};
+ghost use Rattle.git_location.specs.Internal.Pieces.{pieces_text};
 
 use crate::writer::piece::Pieces;
 use crate::writer::sink::Sink;

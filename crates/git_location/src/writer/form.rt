@@ -6,7 +6,7 @@
 ghost use Rattle.std.specs.Prelude.{◌≡◌};
 ghost use Rattle.git_syntax.specs.Bytes.{is_helper_name};
 ghost use Rattle.git_location.specs.Text.{choice, helper_choice, ssh_choice, with_host, has_authority, is_alternative, is_relative};
-ghost use Rattle.git_location.specs.Pieces.{form_chosen, form_of, with_password};
+ghost use Rattle.git_location.specs.Internal.Pieces.{form_chosen, form_of, with_password};
 
 use crate::url_ref::UrlRef;
 use crate::write_error::WriteFault;

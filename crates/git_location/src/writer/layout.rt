@@ -9,7 +9,7 @@ ghost use Rattle.git_syntax.specs.Views.{lent_protocol};
 ghost use Rattle.git_syntax.specs.AddressTest.{is_ipv6_text};
 ghost use Rattle.git_location.specs.Text as spec;
 ghost use Rattle.git_location.specs.Text.{text, helper_text, path_form_text, scp_text, canonical_text};
-ghost use Rattle.git_location.specs.Pieces.{host_text, path_end_text, piece_text, pieces_text, port_text, text_of_pieces, user_text, with_password};
+ghost use Rattle.git_location.specs.Internal.Pieces.{host_text, path_end_text, piece_text, pieces_text, port_text, text_of_pieces, user_text, with_password};
 
 use crate::url_ref::UrlRef;
 use crate::write_error::WriteFault;

@@ -9,7 +9,7 @@ ghost use Rattle.percent_encoding.specs.AsciiSet.{should_percent_encode};
 ghost use Rattle.percent_encoding.specs.Percent.{percent_encode};
 ghost use Rattle.git_syntax.specs.declared.escape.TheConstants.{PATH, PASSWORD, USER};
 ghost use Rattle.git_syntax.specs.Bytes.{percent_sign};
-ghost use Rattle.git_location.specs.Pieces.{host_text, path_end_text, piece_text, pieces_text, port_text, scheme_text, user_text};
+ghost use Rattle.git_location.specs.Internal.Pieces.{host_text, path_end_text, piece_text, pieces_text, port_text, scheme_text, user_text};
 
 use crate::writer::ready::{is_ready_path, is_ready_user};
 use crate::writer::sink::{Sink, put_escaped, put_percents};

@@ -7,7 +7,7 @@ ghost use Rattle.std.specs.Prelude.{◌≡◌, IsTrue};
 ghost use Rattle.std.specs.List.{list_all};
 ghost use Rattle.percent_encoding.specs.Percent.{percent_encode};
 ghost use Rattle.git_syntax.specs.declared.escape.TheConstants.{PATH, PASSWORD, USER};
-ghost use Rattle.git_location.specs.KeptBytes as spec;
+ghost use Rattle.git_location.specs.Internal.KeptBytes as spec;
 
 /// Whether each byte is one of those that a path is mostly made of.
 pub(crate) fn is_ready_path(text: &[u8]) -> bool

@@ -7,8 +7,8 @@
 ghost use Rattle.std.specs.Prelude.{◌≡◌, ◌≤◌, length};
 ghost use Rattle.std.specs.Fmt.{WritesOnOk, WritesStyledOnOk};
 ghost use Rattle.git_syntax.specs.Bytes.{lossy_text};
-ghost use Rattle.git_location.specs.Pieces.{pieces_text};
-ghost use Rattle.git_location.specs.Sinks.{ShowsEnd, ShowsText, shows_joined, shows_nothing, shows_to_end};
+ghost use Rattle.git_location.specs.Internal.Pieces.{pieces_text};
+ghost use Rattle.git_location.specs.Internal.Sinks.{ShowsEnd, ShowsText, shows_joined, shows_nothing, shows_to_end};
 
 use crate::writer::fill::fill;
 use crate::writer::piece::Pieces;

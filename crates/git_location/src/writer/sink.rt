@@ -10,7 +10,7 @@ ghost use Rattle.std.specs.Io.KnownBytes.{Appends};
 ghost use Rattle.std.proofs.KnownBytes.{Appends-nil, Appends-trans};
 ghost use Rattle.percent_encoding.specs.Percent.{percent_encode};
 ghost use Rattle.git_syntax.specs.Bytes.{percent_sign};
-ghost use Rattle.git_syntax.specs.Cuts.{CutsAt};
+ghost use Rattle.git_syntax.specs.Internal.Cuts.{CutsAt};
 ghost use Rattle.git_syntax.specs.Escapes.{escaped_percents};
 
 use percent_encoding::{AsciiSet, percent_encode};

@@ -3,8 +3,8 @@ use Rattle.std.proofs.Common.{◌≡◌, ℕ, ◌+◌, ◌≤◌, List, ◌++◌
 use Rattle.std.proofs.lemmas.Bool.{cases_Bool, ltb-true}
 use Rattle.std.proofs.Math.Seq.{take-append_seam}
 use Rattle.git_location.specs.declared.write_error.WriteFault.{WriteFault}
-use Rattle.git_location.specs.Fills.{Placed}
-use Rattle.git_location.specs.Pieces.{text_length}
+use Rattle.git_location.specs.Internal.Fills.{Placed}
+use Rattle.git_location.specs.Internal.Pieces.{text_length}
 use Rattle.git_rules.specs.declared.normal.NormalError.{NormalError}
 use Rattle.git_rules.specs.declared.normal.NormalError.TheVariants.{NoRoom, NoUrl, BrokenEscape, NoHost, BadHost, BadPort, AboveRoot}
 use Rattle.git_rules.specs.declared.pattern.place.PlaceError.{PlaceError}

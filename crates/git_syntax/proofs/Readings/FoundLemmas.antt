@@ -10,7 +10,7 @@ use Rattle.git_syntax.specs.Value.Protocol.{file, git, ssh, http, https, ext, he
 use Rattle.git_syntax.specs.Bytes.{colon, left_bracket, right_bracket, begins_with}
 use Rattle.git_syntax.specs.Schemes.{protocol_of, requires_path}
 use Rattle.git_syntax.specs.Grammar.{UrlParts, SpellsParts, SpellsUrl, Peels, MeansByProtocol}
-use Rattle.git_syntax.specs.FoundPieces.{front_of, colon_dropped, peeled, host_for, url_location}
+use Rattle.git_syntax.specs.Internal.FoundPieces.{front_of, colon_dropped, peeled, host_for, url_location}
 use Rattle.git_syntax.proofs.Texts.CutLemmas.{heads, tails}
 use Rattle.git_syntax.proofs.Readings.UrlLocationLemmas.{peels_utf8, spelled_url}
 

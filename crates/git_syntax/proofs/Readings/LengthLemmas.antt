@@ -13,7 +13,7 @@ use Rattle.git_syntax.specs.declared.length.Stage.TheVariants.{Slashes, Front}
 use Rattle.git_syntax.specs.Bytes.{Lacks, FreeOf, colon, begins_by, is_path_start, StartsPath}
 use Rattle.git_syntax.specs.Schemes.{is_web_scheme}
 use Rattle.git_syntax.specs.Authority.{is_any_slash, without_white_space, IsWithinLimit, Fits, FitsText}
-use Rattle.git_syntax.specs.Walks.{without_slashes, starts_within, is_in_time, is_rest_short}
+use Rattle.git_syntax.specs.Internal.Walks.{without_slashes, starts_within, is_in_time, is_rest_short}
 use Rattle.git_syntax.proofs.Texts.CutLemmas.{cut_at_first, cut_unique, lacks_head_tail}
 
 -- ---- white space

@@ -17,10 +17,10 @@ use Rattle.git_syntax.specs.Hosts.Mode.{strict, bare, loose}
 use Rattle.git_syntax.specs.declared.host.NamedHost.{NamedHost}
 use Rattle.git_syntax.specs.declared.host.HostPiece.{HostPiece}
 use Rattle.git_syntax.specs.declared.host.HostPiece.TheVariants.{Simple, Address, Kept, Decoded, Literal, DecodedLiteral, Bracketed}
-use Rattle.git_syntax.specs.HostPieces.{in_brackets, is_bracketed, lowercase_address, meant_host, named_text, normal_case, slice_text, unescaped_host}
+use Rattle.git_syntax.specs.Internal.HostPieces.{in_brackets, is_bracketed, lowercase_address, meant_host, named_text, normal_case, slice_text, unescaped_host}
 use Rattle.git_syntax.specs.Authority.{Authority, Credentials, user_beside}
 use Rattle.git_syntax.specs.Grammar.{AddressedCut, ScpUser, SpellsParts, UrlParts}
-use Rattle.git_syntax.specs.FoundPieces.{optional_length, parts_length}
+use Rattle.git_syntax.specs.Internal.FoundPieces.{optional_length, parts_length}
 use Rattle.git_syntax.proofs.Texts.CutLemmas.{heads, tails}
 use Rattle.git_syntax.proofs.Readings.HostLemmas.{literal_normal}
 

@@ -14,14 +14,14 @@ use Rattle.git_syntax.specs.Bytes.{percent_sign, colon, at_sign, left_bracket, b
 use Rattle.git_syntax.specs.Escapes.{escaped_percents, is_sound}
 use Rattle.git_syntax.specs.Addresses.{IsIpv6Text, IsZone, is_zone_byte}
 use Rattle.git_syntax.specs.Hosts.{Bracketed, HostText, Inner, IsAddressPiece, IsLiteral, IsManyColoned, Names, ReadsAddress, normal_host}
-use Rattle.git_syntax.specs.HostPieces.{IsSimpleHost, is_simple_byte, lowercase_address}
+use Rattle.git_syntax.specs.Internal.HostPieces.{IsSimpleHost, is_simple_byte, lowercase_address}
 use Rattle.git_syntax.specs.Hosts.Mode.{bare}
 use Rattle.git_syntax.specs.Grammar.{IsBracketed, ScpFront, ScpShape, AddressedShape, ScpUser, ScpHost, Unbrackets, SpellsScpBefore, SpellsScp}
 use Rattle.git_syntax.specs.Grammar.ScpFront.{plain, bracketed}
 use Rattle.git_syntax.specs.Grammar.ScpUser.{host_alone, with_user}
 use Rattle.git_syntax.specs.Flaws.{HasBadHost, HasBadPort, NameFlaw, ScpNameFlaw, ScpHostFlaw}
-use Rattle.git_syntax.specs.FoundPieces.{scp_host_of}
-use Rattle.git_syntax.specs.ScpPieces.{ColonsInside, NamesHost, ReadsScpPiece, ReadsScpHost}
+use Rattle.git_syntax.specs.Internal.FoundPieces.{scp_host_of}
+use Rattle.git_syntax.specs.Internal.ScpPieces.{ColonsInside, NamesHost, ReadsScpPiece, ReadsScpHost}
 use Rattle.git_syntax.proofs.Texts.CutLemmas.{heads, tails, not_free, free-append, free_parts, free_head_tail, free_of_all, free_begins, free_or_cut, lacks_of_all, cut_unique}
 use Rattle.git_syntax.proofs.Texts.EscapeLemmas.{ascii_class, decode_escaped_percents, lacks_escaped_percents, escaped_percents-append, escaped_percents_kept, sound_kept, utf8_class, utf8_parts, white_space_ascii}
 use Rattle.git_syntax.proofs.Texts.PlaceLemmas.{stands_within, white_within}

@@ -16,7 +16,7 @@ use Rattle.git_syntax.specs.Grammar.ScpFront.{plain, bracketed}
 use Rattle.git_syntax.specs.Authority.{unless_empty, Fits}
 use Rattle.git_syntax.specs.Flaws.{UrlShape, OtherShape, MissesPath}
 use Rattle.git_syntax.specs.Flaws.MissesPath.{in_file}
-use Rattle.git_syntax.specs.Shapes.{ColonCut, FrontCut, HasFrontCut, ScpCut, HasScpCut, AddressedFront, HasAddressedCut, LacksBrackets, PlainScp}
+use Rattle.git_syntax.specs.Internal.Shapes.{ColonCut, FrontCut, HasFrontCut, ScpCut, HasScpCut, AddressedFront, HasAddressedCut, LacksBrackets, PlainScp}
 use Rattle.git_syntax.proofs.Texts.CutLemmas.{tails, different_bytes, begins_cut, free_or_cut, not_free, free-cons, free_parts, cut_unique, last_cut_unique, mark_cut_unique, held_free, helper_name_bytes, helper_name_free, scheme_text_free}
 use Rattle.git_syntax.proofs.Addresses.AddressLemmas.{address_free}
 use Rattle.git_syntax.proofs.Texts.EscapeLemmas.{utf8_behind, utf8_class, utf8_parts}

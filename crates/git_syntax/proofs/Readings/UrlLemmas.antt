@@ -8,7 +8,7 @@ use Rattle.percent_encoding.specs.Percent.{percent_decode}
 use Rattle.git_syntax.specs.declared.refusal.UrlFault.{UrlFault}
 use Rattle.git_syntax.specs.declared.refusal.UrlFault.TheVariants as fault
 use Rattle.git_syntax.specs.Bytes.{colon, at_sign, backslash, Lacks, FreeOf, Holds, LacksWhiteSpace, is_scheme_text, is_path_start, StartsPath}
-use Rattle.git_syntax.specs.Cuts.{url_mark}
+use Rattle.git_syntax.specs.Internal.Cuts.{url_mark}
 use Rattle.git_syntax.specs.Escapes.{is_sound}
 use Rattle.git_syntax.specs.Hosts.{Mode, Names}
 use Rattle.git_syntax.specs.Schemes.{is_web_scheme, mode_of, requires_host}
@@ -17,8 +17,8 @@ use Rattle.git_syntax.specs.Authority.Authority.{host_alone, with_user}
 use Rattle.git_syntax.specs.Grammar.{UrlParts, SpellsParts}
 use Rattle.git_syntax.specs.Flaws.{AuthorityFlaw, HasBadUser, PieceOf, OtherShape, TooLongAt, UrlCut}
 use Rattle.git_syntax.specs.declared.host.NamedHost.{NamedHost}
-use Rattle.git_syntax.specs.HostPieces.{IsSimpleHost, host_of, is_simple_byte, named_text}
-use Rattle.git_syntax.specs.UrlPieces.{CutsRest, HasNoText, HoldsHosted, IsNoAuthority}
+use Rattle.git_syntax.specs.Internal.HostPieces.{IsSimpleHost, host_of, is_simple_byte, named_text}
+use Rattle.git_syntax.specs.Internal.UrlPieces.{CutsRest, HasNoText, HoldsHosted, IsNoAuthority}
 use Rattle.git_syntax.proofs.Texts.CutLemmas.{free_of_all, not_free, cut_unique, last_cut_unique, path_cut_unique, mark_cut_unique, held_free, scheme_text_free}
 use Rattle.git_syntax.proofs.Readings.HostLemmas.{name_flaw_within, names_unique, simple_host_named}
 use Rattle.git_syntax.proofs.Texts.EscapeLemmas.{decode_empty}

@@ -11,14 +11,14 @@ use Rattle.git_syntax.specs.declared.refusal.UrlKind.TheVariants as kind
 use Rattle.git_syntax.specs.Value.{Protocol, Location}
 use Rattle.git_syntax.specs.Value.Protocol.{ext}
 use Rattle.git_syntax.specs.Bytes.{colon, slash, left_bracket, right_bracket, Lacks, is_path_start, StartsPath}
-use Rattle.git_syntax.specs.Cuts.{StripsLast}
+use Rattle.git_syntax.specs.Internal.Cuts.{StripsLast}
 use Rattle.git_syntax.specs.Schemes.{is_web_scheme, protocol_of, mode_of, requires_path}
 use Rattle.git_syntax.specs.Hosts.{Mode, Names}
 use Rattle.git_syntax.specs.Authority.{Credentials, Authority}
 use Rattle.git_syntax.specs.Authority.Authority.{host_alone, with_user}
 use Rattle.git_syntax.specs.Grammar.{UrlParts, SpellsParts, SpellsUrl, MeansAs, MeansByProtocol, Peels, or_root}
 use Rattle.git_syntax.specs.Flaws.{MissesPath}
-use Rattle.git_syntax.specs.UrlPieces.{AreTexts, InBrackets, DropsLast}
+use Rattle.git_syntax.specs.Internal.UrlPieces.{AreTexts, InBrackets, DropsLast}
 use Rattle.git_syntax.proofs.Texts.CutLemmas.{tails, mark_cut_unique, path_cut_unique, free_of_lacked}
 use Rattle.git_syntax.proofs.Texts.EscapeLemmas.{decode_byte, decode_empty, utf8_parts}
 use Rattle.git_syntax.proofs.Readings.HostLemmas.{names_utf8}

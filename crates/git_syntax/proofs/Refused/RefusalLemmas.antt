@@ -16,7 +16,7 @@ use Rattle.git_syntax.specs.Hosts.Mode.{bare}
 use Rattle.git_syntax.specs.Schemes.{is_web_scheme, protocol_of, mode_of, requires_host, requires_path}
 use Rattle.git_syntax.specs.Grammar.{ScpShape, AddressedShape, ScpHost, SpellsUrl, Spells}
 use Rattle.git_syntax.specs.Flaws.{IsTooLong, MissesPath, HasShape, OtherShape, UrlCut, NameFlaw, PieceOf, HasBadUser, AuthorityFlaw, UrlFlaw, ScpHostFlaw, ScpFlaw, KindFlaw, NamesFlaw}
-use Rattle.git_syntax.specs.UrlPieces.{HasNoText, IsNoAuthority}
+use Rattle.git_syntax.specs.Internal.UrlPieces.{HasNoText, IsNoAuthority}
 use Rattle.git_syntax.specs.Refusals.{HasFlaw, Flawless}
 use Rattle.git_syntax.proofs.Texts.CutLemmas.{not_free}
 use Rattle.git_syntax.proofs.Texts.PlaceLemmas.{stands_not_free}

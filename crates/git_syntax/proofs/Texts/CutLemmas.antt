@@ -9,7 +9,7 @@ use Rattle.std.proofs.lemmas.List.{at_drop_more, drop_all, take-append-drop, dro
 use Rattle.bstr.specs.Find.{OccursAt}
 use Rattle.memchr.specs.Find.{IsFirstByte, IsLastByte, FindsNeedle, is_byte}
 use Rattle.git_syntax.specs.Bytes.{colon, Lacks, FreeOf, Holds, begins_by, begins_with, is_name_byte, is_scheme_text, is_helper_name, is_path_start, StartsPath}
-use Rattle.git_syntax.specs.Cuts.{url_mark}
+use Rattle.git_syntax.specs.Internal.Cuts.{url_mark}
 use Rattle.std.proofs.lemmas.Slice.Eq.{bytes_eq-Decides}
 
 -- ---- heads and tails

@@ -7,7 +7,7 @@ use Rattle.std.proofs.lemmas.Str.{IsUtf8-append, IsUtf8-from_ascii, IsUtf8-past_
 use Rattle.percent_encoding.specs.Percent.{percent_decode}
 use Rattle.percent_encoding.proofs.PercentLemmas.{percent_decode-nil, percent_decode_not_percent}
 use Rattle.git_syntax.specs.Bytes.{is_hexadecimal, percent_sign}
-use Rattle.git_syntax.specs.Decoding.{IsPast}
+use Rattle.git_syntax.specs.Internal.Decoding.{IsPast}
 use Rattle.git_syntax.proofs.Texts.AsciiLemmas.{ascii_cons}
 use Rattle.git_syntax.proofs.Texts.EscapeLemmas.{decode_broken, decode_escape}
 use Rattle.std.proofs.lemmas.Str.Ascii.{IsAscii-nil}

@@ -9,7 +9,7 @@ use Rattle.git_syntax.specs.declared.look.Look.{Look}
 use Rattle.git_syntax.specs.declared.look.Look.TheVariants.{Plain, Ascii, Escaped, Other}
 use Rattle.git_syntax.specs.Bytes.{percent_sign, FreeOf, LacksWhiteSpace, StartsPath, is_path_start}
 use Rattle.git_syntax.specs.Escapes.{is_printable, is_printable_byte, is_sound}
-use Rattle.git_syntax.specs.Looks.{Looks, begins_high, has_high_escape, knows_ascii, knows_plain, knows_printable}
+use Rattle.git_syntax.specs.Internal.Looks.{Looks, begins_high, has_high_escape, knows_ascii, knows_plain, knows_printable}
 use Rattle.git_syntax.proofs.Texts.AsciiLemmas.{ascii_cons, ascii_escape, ascii_kept, ascii_means_utf8, printable_ascii, printable_parts, printable_utf8, printable_white_space}
 use Rattle.git_syntax.proofs.Texts.CutLemmas.{free_head_tail}
 use Rattle.git_syntax.proofs.Texts.EscapeLemmas.{decode_byte, sound_parts}

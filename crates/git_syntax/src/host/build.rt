@@ -6,7 +6,7 @@
 ghost use Rattle.std.specs.Prelude.{◌≡◌, ◌+◌, ◌≤◌, ◌++◌, IfOk, IsUtf8, drop, length, string_bytes, take};
 ghost use Rattle.git_syntax.specs.Bytes.{lowercase};
 ghost use Rattle.git_syntax.specs.Hosts as spec;
-ghost use Rattle.git_syntax.specs.HostPieces.{is_bracketed, lowercase_address, meant_host, named_text, normal_case, slice_text, unescaped_host};
+ghost use Rattle.git_syntax.specs.Internal.HostPieces.{is_bracketed, lowercase_address, meant_host, named_text, normal_case, slice_text, unescaped_host};
 
 use crate::bytes::{copy_into, cut};
 use crate::escape::decode_into;

@@ -8,7 +8,7 @@ ghost use Rattle.std.specs.List.{list_all};
 ghost use Rattle.git_syntax.specs.Addresses as address;
 ghost use Rattle.git_syntax.specs.Hosts as spec;
 ghost use Rattle.git_syntax.specs.Hosts.{IsLiteral};
-ghost use Rattle.git_syntax.specs.HostPieces.{IsEscapedZone, is_simple_byte};
+ghost use Rattle.git_syntax.specs.Internal.HostPieces.{IsEscapedZone, is_simple_byte};
 
 use crate::bytes::{after, cut};
 use crate::escape::{decodes_to_utf8, is_sound};

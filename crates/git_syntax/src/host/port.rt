@@ -10,7 +10,7 @@ ghost use Rattle.git_syntax.specs.Bytes.{colon};
 ghost use Rattle.git_syntax.specs.Flaws.{IsNoPort};
 ghost use Rattle.git_syntax.specs.Hosts as spec;
 ghost use Rattle.git_syntax.specs.Hosts.{Number};
-ghost use Rattle.git_syntax.specs.HostPieces.{EndsHost, Follows, IsBadPort, meant_host, named_text, strictness};
+ghost use Rattle.git_syntax.specs.Internal.HostPieces.{EndsHost, Follows, IsBadPort, meant_host, named_text, strictness};
 
 use crate::bytes::{after, starts_with_byte};
 use crate::host::{HostPiece, Mode, NamedHost, alone};

@@ -1,5 +1,5 @@
 -- Rows of errors, as parts of their definitions.
-use Rattle.gix_url.specs.OtherRows.{KeptRows}
+use Rattle.gix_url.specs.Examples.OtherRows.{KeptRows}
 
 -- an error of a text that misses its path, or that is a bad URL, holds the text
 pub kept_rows : KeptRows

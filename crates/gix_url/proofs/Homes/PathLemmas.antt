@@ -7,7 +7,7 @@ use Rattle.std.proofs.lemmas.Bool.{eqb-true, false≢true, false_from_ne_true, o
 use Rattle.std.proofs.lemmas.List.{take-append-drop, length-append}
 use Rattle.std.proofs.lemmas.Str.Pattern.{NoCharPasses-char, drop_at_char}
 use Rattle.git_syntax.specs.Bytes.{slash, FreeOf, begins_with}
-use Rattle.git_syntax.specs.Cuts.{CutsAt, CutsAtLast}
+use Rattle.git_syntax.specs.Internal.Cuts.{CutsAt, CutsAtLast}
 use Rattle.git_syntax.specs.Grammar.{or_root}
 use Rattle.gix_url.specs.Paths.{counts, IsPiece, IsIdle, HoldsPieces, WithoutFirst, LiesBelow, Opens, Joins, EndsInPiece, IsParent}
 use Rattle.gix_url.specs.HomeReadings.{CutsSegment, UpToLast}

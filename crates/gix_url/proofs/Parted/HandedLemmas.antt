@@ -18,9 +18,9 @@ use Rattle.git_syntax.specs.Grammar.{or_root}
 use Rattle.git_location.specs.Text.{matching_or, original_path}
 use Rattle.git_laws.specs.Components.{Components, term_of, CutsText, CutsPath, SplitsField, PairsOf, QueryOf, WebParts}
 use Rattle.git_syntax.specs.Escapes.{matches}
-use Rattle.gix_url.specs.Meanings.{meant_by}
+use Rattle.gix_url.specs.Internal.Meanings.{meant_by}
 use Rattle.gix_url.specs.ComponentViews.{text_bytes, pair_bytes, components, LentTerm, LentPairs, LentQuery}
-use Rattle.gix_url.specs.ComponentPieces.{LendsTerm, LendsPairs, LendsQuery, LendsParts, HasQuery, SpellsPath}
+use Rattle.gix_url.specs.Internal.ComponentPieces.{LendsTerm, LendsPairs, LendsQuery, LendsParts, HasQuery, SpellsPath}
 use Rattle.git_laws.proofs.Parted.ComponentLemmas.{matched, unmatched}
 use Rattle.gix_url.proofs.Parted.MeaningLemmas.{Parts, meant-nil, meant_around, meant_spaces}
 use Rattle.git_laws.proofs.Parted.PartsLemmas.{path_unique, no_query}

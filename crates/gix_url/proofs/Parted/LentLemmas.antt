@@ -8,8 +8,8 @@ use Rattle.gix_url.specs.declared.components.QueryText.{QueryText}
 use Rattle.gix_url.specs.declared.components.cuts.Spelled.{Spelled}
 use Rattle.git_syntax.specs.Bytes.{number_sign, plus_sign, question_mark, FreeOf, space, ampersand}
 use Rattle.git_laws.specs.Components.{CutsText, CutsPath, with_spaces}
-use Rattle.gix_url.specs.Meanings.{meant_by}
-use Rattle.gix_url.specs.ComponentPieces.{CutsAround, CutsOff, LendsFields, AddsPair, HasQuery, LendsQuery, is_field, one_field, begun_by, begun_in, ends_in, field_count}
+use Rattle.gix_url.specs.Internal.Meanings.{meant_by}
+use Rattle.gix_url.specs.Internal.ComponentPieces.{CutsAround, CutsOff, LendsFields, AddsPair, HasQuery, LendsQuery, is_field, one_field, begun_by, begun_in, ends_in, field_count}
 use Rattle.git_syntax.proofs.Texts.CutLemmas.{free_head_tail, free_parts}
 use Rattle.gix_url.proofs.Parted.MeaningLemmas.{Parts, meant_around, meant_around_plus, meant_spaces}
 

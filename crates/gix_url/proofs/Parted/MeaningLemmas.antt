@@ -8,7 +8,7 @@ use Rattle.percent_encoding.proofs.PercentLemmas.{percent_decode-nil, percent_de
 use Rattle.git_syntax.specs.Bytes.{plus_sign, FreeOf, space}
 use Rattle.git_syntax.specs.Escapes.{begins_with_digits}
 use Rattle.git_laws.specs.Components.{with_spaces}
-use Rattle.gix_url.specs.Meanings.{meant_by}
+use Rattle.gix_url.specs.Internal.Meanings.{meant_by}
 use Rattle.git_laws.proofs.Parted.ComponentLemmas.{spaces_free}
 use Rattle.git_syntax.proofs.Texts.EscapeLemmas.{decode_byte, decode_broken, decode_escape, digits_before}
 

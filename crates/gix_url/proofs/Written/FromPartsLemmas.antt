@@ -15,7 +15,7 @@ use Rattle.git_syntax.specs.Schemes.{protocol_of, requires_path}
 use Rattle.git_syntax.specs.Grammar.{SpellsUrl, Spells, retained_spelling}
 use Rattle.git_location.specs.Text.{text, in_form, choice_by, root_part, plain_path, matching_or, canonical_path}
 use Rattle.git_location.specs.Settled.{IsValue, IsSettledUrl, IsRawPath, IsSettled, IsSettledBy}
-use Rattle.git_location.specs.SettledParts.{IsWrittenAsUrl}
+use Rattle.git_location.specs.Internal.SettledParts.{IsWrittenAsUrl}
 use Rattle.gix_url.specs.Readings.{Reads}
 use Rattle.git_location.specs.Readings.{IsAgain}
 use Rattle.gix_url.specs.FromParts.{MadeOf, TellsName, invalid_name, given_or, with_given, keeping}

@@ -7,7 +7,7 @@ ghost use Rattle.std.specs.Prelude.{◌≡◌, ◌==◌, ◌++◌, [], ◌∷◌
 ghost use Rattle.std.specs.Char.{is_digit};
 ghost use Rattle.percent_encoding.specs.Percent.{percent_decode};
 ghost use Rattle.git_syntax.specs.Bytes.{FreeOf};
-ghost use Rattle.gix_url.specs.Meanings.{meant_by};
+ghost use Rattle.gix_url.specs.Internal.Meanings.{meant_by};
 
 use crate::components::measure::meant_len;
 use crate::components::near::cut_near;
@@ -26,7 +26,7 @@ pub(super) struct Spelled<'a> {
 }
 
 impl<'a> Spelled<'a> {
-    ghost use Rattle.gix_url.specs.ComponentPieces.{CutsAround, CutsOff, CutsSpelled};
+    ghost use Rattle.gix_url.specs.Internal.ComponentPieces.{CutsAround, CutsOff, CutsSpelled};
 
     /// The text as it is: an escape in it stands for itself.
     pub(super) fn raw(text: &'a [u8]) -> Spelled<'a>

@@ -5,7 +5,7 @@
 
 ghost use Rattle.std.specs.Prelude.{◌≡◌, ◌==◌, ◌+◌, ◌≤◌, ◌<◌, ◌++◌, [], ◌∷◌, IfOk, IsTrue, OnOk, false, length, vec_capacity, vec_len};
 ghost use Rattle.git_syntax.specs.Bytes.{FreeOf, ampersand, plus_sign};
-ghost use Rattle.gix_url.specs.ComponentPieces.{AddsLent, AddsPair, LendsFields, begun_by, begun_in, ends_in, field_count, one_field};
+ghost use Rattle.gix_url.specs.Internal.ComponentPieces.{AddsLent, AddsPair, LendsFields, begun_by, begun_in, ends_in, field_count, one_field};
 
 use super::QueryText;
 use crate::components::cuts::Spelled;

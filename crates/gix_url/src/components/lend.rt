@@ -5,9 +5,9 @@
 
 ghost use Rattle.std.specs.Prelude.{◌≡◌, ◌==◌, if◌then◌else◌, IfOk};
 ghost use Rattle.git_syntax.specs.Bytes.{FreeOf, plus_sign, space};
-ghost use Rattle.gix_url.specs.ComponentPieces.{LendsPair, LendsTerm};
+ghost use Rattle.gix_url.specs.Internal.ComponentPieces.{LendsPair, LendsTerm};
 ghost use Rattle.git_laws.specs.Components.{SplitsField, with_spaces};
-ghost use Rattle.gix_url.specs.Meanings.{meant_by};
+ghost use Rattle.gix_url.specs.Internal.Meanings.{meant_by};
 
 use super::QueryText;
 use crate::components::cuts::Spelled;

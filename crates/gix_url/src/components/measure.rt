@@ -5,7 +5,7 @@
 
 ghost use Rattle.std.specs.Prelude.{◌≡◌, ◌+◌, ◌≤◌, ◌∷◌, length};
 ghost use Rattle.percent_encoding.specs.Percent.{percent_decode};
-ghost use Rattle.gix_url.specs.Meanings.{meant_by};
+ghost use Rattle.gix_url.specs.Internal.Meanings.{meant_by};
 
 use git_syntax::escape::begins_with_digits;
 

@@ -5,7 +5,7 @@
 
 ghost use Rattle.std.specs.Prelude.{◌≤◌, length, take};
 ghost use Rattle.git_syntax.specs.Bytes.{FreeOf};
-ghost use Rattle.git_syntax.specs.Cuts.{CutsAt};
+ghost use Rattle.git_syntax.specs.Internal.Cuts.{CutsAt};
 
 use git_syntax::bytes::cut;
 

@@ -6,7 +6,7 @@
 ghost use Rattle.std.specs.Prelude.{◌≡◌, ◌++◌, List, ℕ, OnOk, string_bytes};
 ghost use Rattle.std.specs.Option.{option_copied};
 ghost use Rattle.git_syntax.specs.Bytes.{slash};
-ghost use Rattle.git_syntax.specs.Cuts.{CutsAt, CutsAtLast};
+ghost use Rattle.git_syntax.specs.Internal.Cuts.{CutsAt, CutsAtLast};
 ghost use Rattle.git_syntax.specs.Grammar.{or_root};
 ghost use Rattle.gix_url.specs.HomeReadings.{CutsSegment, UpToLast};
 ghost use Rattle.gix_url.specs.Paths.{IsParent, Joins, LiesBelow, Opens, WithoutFirst, counts};

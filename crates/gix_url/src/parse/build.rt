@@ -5,7 +5,7 @@
 
 ghost use Rattle.std.specs.Prelude.{◌≡◌, IfOk, IfSome, IsUtf8, option_map, string_bytes};
 ghost use Rattle.std.specs.Option.{option_copied};
-ghost use Rattle.git_syntax.specs.FoundPieces.{AreScpTexts, IsReady, meant, scp_host_of};
+ghost use Rattle.git_syntax.specs.Internal.FoundPieces.{AreScpTexts, IsReady, meant, scp_host_of};
 ghost use Rattle.git_syntax.specs.Grammar.{helper_protocol, scp_location};
 ghost use Rattle.git_syntax.specs.Value.{path_alone};
 ghost use Rattle.gix_url.specs.Views.{protocol};

@@ -9,12 +9,12 @@ ghost use Rattle.bstr.specs.Owned.{bstring_bytes};
 ghost use Rattle.percent_encoding.specs.Percent.{percent_decode};
 ghost use Rattle.git_syntax.specs.Escapes.{has_percent};
 ghost use Rattle.git_syntax.specs.Grammar as grammar;
-ghost use Rattle.git_syntax.specs.FoundPieces.{IsReadyUrl, host_for, url_location};
+ghost use Rattle.git_syntax.specs.Internal.FoundPieces.{IsReadyUrl, host_for, url_location};
 ghost use Rattle.git_syntax.specs.Grammar.{path_for};
-ghost use Rattle.git_syntax.specs.HostPieces.{host_of};
-ghost use Rattle.git_syntax.specs.SchemeRules.{AreRulesOf, named_protocol};
+ghost use Rattle.git_syntax.specs.Internal.HostPieces.{host_of};
+ghost use Rattle.git_syntax.specs.Internal.SchemeRules.{AreRulesOf, named_protocol};
 ghost use Rattle.git_syntax.specs.Schemes.{protocol_of};
-ghost use Rattle.git_syntax.specs.UrlPieces.{decoded_option, parts_of};
+ghost use Rattle.git_syntax.specs.Internal.UrlPieces.{decoded_option, parts_of};
 
 use crate::location::Url;
 use crate::parse::copies::copied;

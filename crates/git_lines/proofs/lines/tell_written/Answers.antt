@@ -1,7 +1,7 @@
 use Rattle.std.proofs.Common.{refl}
 use Rattle.std.proofs.lemmas.Bool.{false≢true}
 use Rattle.git_lines.specs.Answers.IsTold.{settled, unsettled}
-use Rattle.git_location.specs.Pieces.{pieces_text}
+use Rattle.git_location.specs.Internal.Pieces.{pieces_text}
 use Rattle.git_lines.proofs.lines.tell_written.Goals as goal
 
 pub returns-then-is_settled_as : goal.returns-then-is_settled_as

@@ -1,9 +1,9 @@
 -- The host that Secure Shell takes is text.
 use Rattle.std.proofs.Common.{sym, subst, ap, [], IsUtf8, ◌∙◌}
 use Rattle.std.specs.Prelude.{IfSome}
-use Rattle.git_syntax.specs.FoundPieces.{host_for}
-use Rattle.git_syntax.specs.HostPieces.{host_of}
-use Rattle.git_syntax.specs.SchemeRules.{named_protocol}
+use Rattle.git_syntax.specs.Internal.FoundPieces.{host_for}
+use Rattle.git_syntax.specs.Internal.HostPieces.{host_of}
+use Rattle.git_syntax.specs.Internal.SchemeRules.{named_protocol}
 use Rattle.git_syntax.proofs.Readings.FoundLemmas.{host_utf8}
 use Rattle.git_location.proofs.lend.url_location.Goals as goal
 

@@ -1,6 +1,6 @@
 -- A literal in lower case stays as it is.
 use Rattle.std.proofs.Common.{refl, sym, ◌∙◌, ap}
-use Rattle.git_syntax.specs.FoundPieces.{scp_host_of}
+use Rattle.git_syntax.specs.Internal.FoundPieces.{scp_host_of}
 use Rattle.git_syntax.proofs.Readings.RoomLemmas.{lowercase_address_kept}
 use Rattle.git_location.proofs.room.scp_host_in.Goals as goal
 

@@ -1,7 +1,7 @@
 -- A text with no `%` decodes to itself.
 use Rattle.std.proofs.Common.{sym, ap, ◌∙◌}
 use Rattle.git_syntax.specs.Hosts.{normal_host}
-use Rattle.git_syntax.specs.HostPieces.{meant_host}
+use Rattle.git_syntax.specs.Internal.HostPieces.{meant_host}
 use Rattle.git_syntax.proofs.Texts.EscapeLemmas.{decode_kept}
 use Rattle.git_syntax.proofs.Readings.RoomLemmas.{normal_host_kept}
 use Rattle.git_location.proofs.room.undecoded.Goals as goal

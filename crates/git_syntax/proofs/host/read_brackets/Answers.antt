@@ -1,7 +1,7 @@
 -- The text between brackets, and what follows it.
 use Rattle.std.proofs.Common.{Some, refl, ap, arith, length}
 use Rattle.std.proofs.lemmas.Bool.{false≢true}
-use Rattle.git_syntax.specs.HostPieces.{named_text, meant_host, strictness}
+use Rattle.git_syntax.specs.Internal.HostPieces.{named_text, meant_host, strictness}
 use Rattle.git_syntax.proofs.Readings.HostLemmas.{bracketed_name, no_port_behind, not_ended, not_inner}
 use Rattle.git_syntax.proofs.host.read_brackets.Goals as goal
 

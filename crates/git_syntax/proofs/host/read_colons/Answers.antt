@@ -2,7 +2,7 @@
 use Rattle.std.proofs.Common.{ap, Some}
 use Rattle.std.proofs.lemmas.Bool.{false≢true}
 use Rattle.git_syntax.specs.Hosts.{Names}
-use Rattle.git_syntax.specs.HostPieces.{meant_host}
+use Rattle.git_syntax.specs.Internal.HostPieces.{meant_host}
 use Rattle.git_syntax.proofs.host.read_colons.Goals as goal
 
 pub returns-in-Some : goal.returns-in-Some

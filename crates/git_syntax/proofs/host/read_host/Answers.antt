@@ -1,6 +1,6 @@
 -- A piece with a flaw names nothing.
 use Rattle.std.proofs.lemmas.Result.{err_from_is_err_and}
-use Rattle.git_syntax.specs.HostPieces.{named_text, strictness}
+use Rattle.git_syntax.specs.Internal.HostPieces.{named_text, strictness}
 use Rattle.git_syntax.proofs.Readings.HostLemmas.{flawed_unnamed, names_utf8, simple_host_named}
 use Rattle.git_syntax.proofs.host.read_host.Goals as goal
 

@@ -1,6 +1,6 @@
 -- A literal is decoded but for HTTP.
 use Rattle.std.proofs.Common.{refl}
-use Rattle.git_syntax.specs.HostPieces.{shown_literal, strictness}
+use Rattle.git_syntax.specs.Internal.HostPieces.{shown_literal, strictness}
 use Rattle.git_syntax.proofs.Readings.HostLemmas.{literal_inner}
 use Rattle.git_syntax.proofs.host.read_inner.Goals as goal
 

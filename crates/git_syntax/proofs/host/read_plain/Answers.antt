@@ -3,7 +3,7 @@ use Rattle.std.proofs.Common.{[], ap, inl, refl, sym, Some}
 use Rattle.std.proofs.lemmas.List.{append-nil}
 use Rattle.git_syntax.specs.Flaws.{HasBadHost}
 use Rattle.git_syntax.specs.Hosts.{Names}
-use Rattle.git_syntax.specs.HostPieces.{meant_host}
+use Rattle.git_syntax.specs.Internal.HostPieces.{meant_host}
 use Rattle.git_syntax.proofs.host.read_plain.Goals as goal
 
 pub returns-in-Some : goal.returns-in-Some

@@ -3,7 +3,7 @@ use Rattle.std.proofs.Common.{◌∷◌, Some, inr, refl}
 use Rattle.std.proofs.lemmas.Bool.{false≢true}
 use Rattle.git_syntax.specs.Bytes.{colon}
 use Rattle.git_syntax.specs.Flaws.{HasBadHost, HasBadPort}
-use Rattle.git_syntax.specs.HostPieces.{named_text, meant_host, strictness}
+use Rattle.git_syntax.specs.Internal.HostPieces.{named_text, meant_host, strictness}
 use Rattle.git_syntax.proofs.Readings.HostLemmas.{colon_again, colon_first, not_digits, plain_front, plain_name}
 use Rattle.git_syntax.proofs.host.read_unbracketed.Goals as goal
 use Rattle.git_syntax.proofs.host.read_unbracketed.Goals.{then-is_empty-via-then-is_empty, then-is_empty-via-else-is_empty+then-not-is_free_of}

@@ -2,7 +2,7 @@
 use Rattle.std.proofs.Common.{◌∙◌, [], length, ap, sym, arith, append-nil}
 use Rattle.std.proofs.lemmas.Bool.{le-leb, or_left}
 use Rattle.git_syntax.specs.declared.length.Stage.TheVariants.{Slashes}
-use Rattle.git_syntax.specs.Walks.{is_in_time}
+use Rattle.git_syntax.specs.Internal.Walks.{is_in_time}
 use Rattle.git_syntax.proofs.Readings.LengthLemmas.{fits_tested, long_tested}
 use Rattle.git_syntax.proofs.length.fits.Goals as goal
 

@@ -1,6 +1,6 @@
 use Rattle.std.proofs.Common.{◌≡◌, ◌++◌, List, ℕ, length}
 use Rattle.git_syntax.specs.declared.length.Stage.TheVariants.{Slashes}
-use Rattle.git_syntax.specs.Walks.{is_in_time}
+use Rattle.git_syntax.specs.Internal.Walks.{is_in_time}
 use Rattle.git_syntax.proofs.length.past_slashes.Given as goal
 
 -- what is left has the outcome of all bytes

@@ -1,7 +1,7 @@
 -- A text is as sound as what stands behind its escapes, and decodes to ASCII where that does and they do.
 use Rattle.std.proofs.Common.{◌≡◌, length, true}
 use Rattle.git_syntax.specs.Escapes.{is_sound}
-use Rattle.git_syntax.specs.Looks.{has_high_escape}
+use Rattle.git_syntax.specs.Internal.Looks.{has_high_escape}
 use Rattle.git_syntax.proofs.look.look_at_escapes.Given as goal
 
 abbrev pub invariant-loop-behind : goal.invariant-loop-behind

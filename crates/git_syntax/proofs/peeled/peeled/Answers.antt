@@ -2,7 +2,7 @@
 use Rattle.std.proofs.Common.{sym, subst, ap, ◌∙◌}
 use Rattle.std.specs.Str.{IsUtf8}
 use Rattle.std.proofs.lemmas.Str.{IsUtf8-string_bytes}
-use Rattle.git_syntax.specs.FoundPieces.{peeled}
+use Rattle.git_syntax.specs.Internal.FoundPieces.{peeled}
 use Rattle.git_syntax.proofs.Readings.FoundLemmas.{peels}
 use Rattle.git_syntax.proofs.Readings.UrlLocationLemmas.{peels_utf8}
 use Rattle.git_syntax.proofs.Unique.UniqueLemmas.{peels_unique}

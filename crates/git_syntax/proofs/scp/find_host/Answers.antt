@@ -3,7 +3,7 @@ use Rattle.std.proofs.Common.{refl, sym, subst}
 use Rattle.std.proofs.lemmas.Bool.{false≢true}
 use Rattle.git_syntax.specs.Flaws.{ScpHostFlaw}
 use Rattle.git_syntax.specs.Places.{StandsWhite}
-use Rattle.git_syntax.specs.ScpPieces.{ReadsScpPiece}
+use Rattle.git_syntax.specs.Internal.ScpPieces.{ReadsScpPiece}
 use Rattle.git_syntax.proofs.Readings.ShapeLemmas.{nil_tested}
 use Rattle.git_syntax.proofs.Readings.ScpLemmas.{scp_host_read, simple_scp_host}
 use Rattle.git_syntax.proofs.scp.find_host.Goals as goal

@@ -1,7 +1,7 @@
 -- What is found of the scp form, and what is refused.
 use Rattle.std.proofs.Common.{refl, subst, arith}
 use Rattle.std.specs.Option.{option_copied}
-use Rattle.git_syntax.specs.FoundPieces.{scp_host_of}
+use Rattle.git_syntax.specs.Internal.FoundPieces.{scp_host_of}
 use Rattle.git_syntax.specs.Grammar.{ScpShape}
 use Rattle.git_syntax.specs.Flaws.MissesPath.{in_scp}
 use Rattle.git_syntax.proofs.Readings.HostLemmas.{some_tested}

@@ -3,8 +3,8 @@ use Rattle.std.proofs.Common.{refl, inr, ◌⊎◌}
 use Rattle.std.proofs.lemmas.Result.{IfErr-weaker}
 use Rattle.git_syntax.specs.Bytes.{FreeOf, backslash}
 use Rattle.git_syntax.specs.Flaws.{AuthorityFlaw}
-use Rattle.git_syntax.specs.HostPieces.{strictness}
-use Rattle.git_syntax.specs.UrlPieces.{IsNoAuthority}
+use Rattle.git_syntax.specs.Internal.HostPieces.{strictness}
+use Rattle.git_syntax.specs.Internal.UrlPieces.{IsNoAuthority}
 use Rattle.git_syntax.proofs.Readings.UrlLemmas.{on_each_ok, simple_clean, simple_held}
 use Rattle.git_syntax.proofs.simple_url.read_authority.Goals as goal
 

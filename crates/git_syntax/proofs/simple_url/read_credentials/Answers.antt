@@ -2,7 +2,7 @@
 use Rattle.std.proofs.Common.{refl}
 use Rattle.std.proofs.lemmas.Bool.{false≢true}
 use Rattle.git_syntax.specs.Authority.Credentials.{with_password}
-use Rattle.git_syntax.specs.UrlPieces.{HasNoText}
+use Rattle.git_syntax.specs.Internal.UrlPieces.{HasNoText}
 use Rattle.git_syntax.proofs.simple_url.read_credentials.Goals as goal
 
 pub returns-then-not-decodes_to_utf8 : goal.returns-then-not-decodes_to_utf8

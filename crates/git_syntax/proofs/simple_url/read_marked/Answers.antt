@@ -2,7 +2,7 @@
 use Rattle.std.proofs.Common.{◌∷◌, ◌++◌, refl, ap, ◌∙◌}
 use Rattle.std.proofs.lemmas.Result.{err_from_is_err_and}
 use Rattle.git_syntax.specs.Bytes.{at_sign}
-use Rattle.git_syntax.specs.HostPieces.{host_of}
+use Rattle.git_syntax.specs.Internal.HostPieces.{host_of}
 use Rattle.git_syntax.specs.Authority.Authority.{with_user}
 use Rattle.git_syntax.specs.Flaws.{AuthorityFlaw, PieceOf}
 use Rattle.git_syntax.proofs.Readings.UrlLemmas.{nothing_named, no_name_behind, no_text_before, no_host_behind, bad_user_flaw}

@@ -3,7 +3,7 @@ use Rattle.std.proofs.Common.{◌++◌, refl, sym, ap, subst, arith, codes, leng
 use Rattle.std.proofs.lemmas.Bool.{false≢true}
 use Rattle.git_syntax.specs.Flaws.{UrlFlaw}
 use Rattle.git_syntax.specs.Places.{StandsBroken}
-use Rattle.git_syntax.specs.HostPieces.{strictness}
+use Rattle.git_syntax.specs.Internal.HostPieces.{strictness}
 use Rattle.git_syntax.proofs.Texts.LookLemmas.{known_path}
 use Rattle.git_syntax.proofs.Readings.UrlLemmas.{authority_flaw_within, path_end, rest_cut, url_cut, no_scheme_refutes, bad_path_refutes, authority_refutes}
 use Rattle.git_syntax.proofs.simple_url.read_simple_url.Goals as goal

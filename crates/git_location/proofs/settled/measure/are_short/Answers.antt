@@ -1,7 +1,7 @@
 -- A scheme that is short enough leaves the rest to decide, and any other doesn't fit.
 use Rattle.std.proofs.Common.{◌∙◌, ◌+◌, drop, length, sym, arith}
 use Rattle.std.proofs.lemmas.Bool.{leb-true}
-use Rattle.git_location.specs.Pieces.{pieces_text}
+use Rattle.git_location.specs.Internal.Pieces.{pieces_text}
 use Rattle.git_syntax.proofs.Readings.LengthLemmas.{fits_tested}
 use Rattle.git_location.proofs.settled.measure.are_short.Goals as goal
 

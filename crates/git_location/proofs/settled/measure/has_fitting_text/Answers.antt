@@ -1,7 +1,7 @@
 -- The pieces at hand make up the text, and the scheme is that of the location.
 use Rattle.std.proofs.Common.{◌∙◌, ap, subst, sym}
 use Rattle.git_syntax.specs.Value.{Location}
-use Rattle.git_location.specs.Pieces.{AreOwn, pieces_text}
+use Rattle.git_location.specs.Internal.Pieces.{AreOwn, pieces_text}
 use Rattle.git_syntax.specs.Schemes.{protocol_text}
 use Rattle.git_location.proofs.Closed.SettledLemmas.{text_tested}
 use Rattle.git_location.proofs.settled.measure.has_fitting_text.Goals as goal

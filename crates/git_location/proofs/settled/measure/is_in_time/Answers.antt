@@ -1,7 +1,7 @@
 -- The walk past the whole text, with nothing behind it.
 use Rattle.std.proofs.Common.{[], ◌∙◌, ap, append-nil}
-use Rattle.git_location.specs.Pieces.{pieces_text}
-use Rattle.git_syntax.specs.Walks.{is_text_in_time}
+use Rattle.git_location.specs.Internal.Pieces.{pieces_text}
+use Rattle.git_syntax.specs.Internal.Walks.{is_text_in_time}
 use Rattle.git_location.proofs.settled.measure.is_in_time.Goals as goal
 
 pub returns : goal.returns

@@ -4,8 +4,8 @@ use Rattle.std.proofs.lemmas.Bool.{le-leb, or_left}
 use Rattle.std.proofs.lemmas.List.{length-drop}
 use Rattle.git_syntax.specs.declared.length.TextWalk.{TextWalk}
 use Rattle.git_syntax.specs.Schemes.{is_web_scheme}
-use Rattle.git_location.specs.Pieces.{pieces_text}
-use Rattle.git_syntax.specs.Walks.{is_text_in_time}
+use Rattle.git_location.specs.Internal.Pieces.{pieces_text}
+use Rattle.git_syntax.specs.Internal.Walks.{is_text_in_time}
 use Rattle.git_syntax.proofs.Readings.LengthLemmas.{long_tested}
 use Rattle.git_location.proofs.settled.measure.is_rest_short.Goals as goal
 

@@ -2,7 +2,7 @@
 use Rattle.std.proofs.Common.{◌∙◌, ap, arith, length}
 use Rattle.git_syntax.specs.Value.{Location}
 use Rattle.git_syntax.specs.Schemes.{protocol_text}
-use Rattle.git_syntax.specs.FoundPieces.{optional_length}
+use Rattle.git_syntax.specs.Internal.FoundPieces.{optional_length}
 use Rattle.git_location.proofs.Written.LongestLemmas.{text_longest}
 use Rattle.git_location.proofs.settled.measure.longest_len.Goals as goal
 

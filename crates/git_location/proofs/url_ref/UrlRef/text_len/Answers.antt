@@ -1,7 +1,7 @@
 -- The fault is told as it is.
 use Rattle.std.proofs.Common.{ap}
 use Rattle.std.proofs.lemmas.Result.{err_from_is_err_and}
-use Rattle.git_location.specs.Pieces.{text_length}
+use Rattle.git_location.specs.Internal.Pieces.{text_length}
 use Rattle.git_location.proofs.url_ref.UrlRef.text_len.Goals as goal
 
 pub returns-in_err-pieces : goal.returns-in_err-pieces

@@ -1,6 +1,6 @@
 use Rattle.std.proofs.Common.{◌≡◌, ◌&&◌, drop}
 use Rattle.std.specs.List.{list_all}
-use Rattle.git_location.specs.KeptBytes.{is_ready_in_path}
+use Rattle.git_location.specs.Internal.KeptBytes.{is_ready_in_path}
 use Rattle.git_location.proofs.writer.ready.are_ready_in_path.Given as goal
 
 -- the answer for all bytes is that so far and that for the bytes that are left

@@ -1,5 +1,5 @@
 -- Pieces that were put to their end were shown, at once or one by one.
-use Rattle.git_location.specs.Pieces.{pieces_text}
+use Rattle.git_location.specs.Internal.Pieces.{pieces_text}
 use Rattle.git_location.proofs.Written.DisplayLemmas.{shown_plain, shown_whole}
 use Rattle.git_location.proofs.writer.show.show_pieces.Goals as goal
 

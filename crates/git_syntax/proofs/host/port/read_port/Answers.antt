@@ -1,7 +1,7 @@
 -- Digits are text, and std reads them as a number where there is one of 16 bits.
 use Rattle.std.proofs.Common.{sym}
 use Rattle.git_syntax.proofs.Readings.HostLemmas.{digits_utf8, not_parsed}
-use Rattle.git_syntax.specs.HostPieces.{strictness}
+use Rattle.git_syntax.specs.Internal.HostPieces.{strictness}
 use Rattle.git_syntax.proofs.host.port.read_port.Goals as goal
 
 pub as_text-requires : goal.as_text-requires

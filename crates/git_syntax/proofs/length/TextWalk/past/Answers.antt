@@ -1,6 +1,6 @@
 -- The bytes of the scheme and its mark are left out, in this text or in what follows it.
 use Rattle.std.proofs.Common.{ap, sym, arith}
-use Rattle.git_syntax.specs.Walks.{is_in_time}
+use Rattle.git_syntax.specs.Internal.Walks.{is_in_time}
 use Rattle.git_syntax.proofs.Readings.LengthLemmas.{drop_joined}
 use Rattle.git_syntax.proofs.length.TextWalk.past.Goals as goal
 

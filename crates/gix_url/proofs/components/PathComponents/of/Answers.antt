@@ -3,7 +3,7 @@ use Rattle.std.proofs.Common.{◌∙◌, inl, inr, ap, sym, ⊎_elim, subst}
 use Rattle.git_syntax.specs.Value.{Location}
 use Rattle.git_syntax.specs.Views.{lent_protocol}
 use Rattle.git_location.specs.Settled.{IsWeb}
-use Rattle.gix_url.specs.ComponentPieces.{HasQuery}
+use Rattle.gix_url.specs.Internal.ComponentPieces.{HasQuery}
 use Rattle.gix_url.specs.ComponentViews.{components}
 use Rattle.git_laws.proofs.Parted.ComponentLemmas.{web_parts}
 use Rattle.gix_url.proofs.Parted.HandedLemmas.{parts_meant, path_lent, query_lent, fragment_lent, query_there, given, whole_meant, lends_whole, path_alone_held}

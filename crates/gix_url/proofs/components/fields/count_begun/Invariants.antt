@@ -1,7 +1,7 @@
 -- What was counted so far and the fields that begin in the rest make the whole.
 use Rattle.std.proofs.Common.{◌≡◌, ◌+◌, ◌≤◌, ◌==◌, drop}
 use Rattle.git_syntax.specs.Bytes.{ampersand}
-use Rattle.gix_url.specs.ComponentPieces.{begun_in, ends_in}
+use Rattle.gix_url.specs.Internal.ComponentPieces.{begun_in, ends_in}
 use Rattle.gix_url.proofs.components.fields.count_begun.Given as goal
 
 abbrev pub invariant-loop-byte : goal.invariant-loop-byte

@@ -1,7 +1,7 @@
 -- What was counted so far and the fields that begin in the rest make the whole.
 use Rattle.std.proofs.Common.{◌≡◌, ◌+◌, ◌≤◌, ◌==◌, length}
 use Rattle.git_syntax.specs.Bytes.{ampersand}
-use Rattle.gix_url.specs.ComponentPieces.{begun_in, field_count}
+use Rattle.gix_url.specs.Internal.ComponentPieces.{begun_in, field_count}
 use Rattle.gix_url.proofs.components.fields.count_fields.Given as goal
 
 abbrev pub invariant-loop-rest : goal.invariant-loop-rest

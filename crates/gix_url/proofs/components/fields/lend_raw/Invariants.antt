@@ -2,7 +2,7 @@
 use Rattle.std.proofs.Common.{◌++◌, ◌+◌, ◌≤◌, List, IsTrue, false, length, vec_len, vec_capacity}
 use Rattle.gix_url.specs.declared.components.QueryText.{QueryText}
 use Rattle.git_syntax.specs.Bytes.{FreeOf, plus_sign}
-use Rattle.gix_url.specs.ComponentPieces.{LendsFields, field_count}
+use Rattle.gix_url.specs.Internal.ComponentPieces.{LendsFields, field_count}
 use Rattle.gix_url.proofs.components.fields.lend_raw.Given as goal
 
 abbrev pub invariant-loop-field : goal.invariant-loop-field

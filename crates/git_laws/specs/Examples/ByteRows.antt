@@ -10,7 +10,7 @@ use Rattle.git_syntax.specs.Addresses.{is_zone_byte}
 use Rattle.git_syntax.specs.Hosts.{is_dns_byte, is_http_host_byte}
 use Rattle.git_syntax.specs.Authority.{is_any_slash}
 use Rattle.git_location.specs.Arguments.{is_option_like}
-use Rattle.git_location.specs.KeptBytes.{is_ready_in_path, is_ready_in_user}
+use Rattle.git_location.specs.Internal.KeptBytes.{is_ready_in_path, is_ready_in_user}
 use Rattle.git_laws.specs.Git.{is_c_space}
 use Rattle.git_location.specs.GitClass.{is_contested}
 

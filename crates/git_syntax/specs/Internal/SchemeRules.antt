@@ -6,7 +6,7 @@ use Rattle.git_syntax.specs.declared.rules.Rules.{Rules}
 use Rattle.git_syntax.specs.Value.{Protocol}
 use Rattle.git_syntax.specs.Value.Protocol.{file, git, ssh, http, https, ext, helper_url}
 use Rattle.git_syntax.specs.Schemes.{is_web_scheme, protocol_of, mode_of, requires_host, requires_path}
-use Rattle.git_syntax.specs.HostPieces.{strictness}
+use Rattle.git_syntax.specs.Internal.HostPieces.{strictness}
 
 -- the protocol that the code names, of a scheme with this text
 abbrev pub named_protocol : rust.Protocol → List ℕ → Protocol

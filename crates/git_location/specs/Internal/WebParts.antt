@@ -3,7 +3,7 @@ use Rattle.std.specs.Prelude.{◌≡◌, ℕ, Bool, true, false, ◌||◌, ◌==
 use Rattle.std.specs.List.{list_all}
 use Rattle.std.specs.Char.{is_ascii_lowercase, is_ascii_uppercase}
 use Rattle.git_syntax.specs.Bytes.{slash, dot, number_sign, question_mark, Lacks, FreeOf, begins_with, is_one_of}
-use Rattle.git_location.specs.KeptBytes.{is_between}
+use Rattle.git_location.specs.Internal.KeptBytes.{is_between}
 use Rattle.git_location.specs.Settled.{begins_with_slashes}
 use Rattle.git_location.specs.WebClass.{IsDecodedWhole, is_control, is_segment_end, is_uri_byte}
 

@@ -12,7 +12,7 @@ use Rattle.git_syntax.specs.Hosts.{Mode}
 use Rattle.git_syntax.specs.Schemes.{is_web_scheme}
 use Rattle.git_syntax.specs.Authority.{Credentials, Authority}
 use Rattle.git_syntax.specs.Grammar.{UrlParts}
-use Rattle.git_syntax.specs.HostPieces.{host_of, port_of}
+use Rattle.git_syntax.specs.Internal.HostPieces.{host_of, port_of}
 
 -- the text that an escaped piece stands for
 abbrev pub decoded_piece : Bor (List ℕ) → List ℕ

@@ -8,7 +8,7 @@ use Rattle.std.specs.declared.fmt.Formatter.{Formatter}
 use Rattle.std.specs.Fmt.{HasWrittenStyled, IsFlush}
 use Rattle.git_syntax.specs.declared.length.TextWalk.{TextWalk}
 use Rattle.git_syntax.specs.Bytes.{lossy_text}
-use Rattle.git_syntax.specs.Walks.{is_text_in_time}
+use Rattle.git_syntax.specs.Internal.Walks.{is_text_in_time}
 
 -- ---- a formatter
 

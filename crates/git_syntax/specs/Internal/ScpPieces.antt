@@ -10,7 +10,7 @@ use Rattle.git_syntax.specs.Hosts.{Names}
 use Rattle.git_syntax.specs.Hosts.Mode.{bare}
 use Rattle.git_syntax.specs.Grammar.{ScpUser, ScpHost, Unbrackets}
 use Rattle.git_syntax.specs.Flaws.{ScpNameFlaw, ScpHostFlaw}
-use Rattle.git_syntax.specs.FoundPieces.{scp_host_of}
+use Rattle.git_syntax.specs.Internal.FoundPieces.{scp_host_of}
 
 -- the front is cut at its last `@`
 pub record CutsUser (front : List ℕ) (user : Option (Bor (List ℕ))) (host : List ℕ) : Type 0 where

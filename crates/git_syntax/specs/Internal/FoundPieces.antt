@@ -14,10 +14,10 @@ use Rattle.git_syntax.specs.Value.Protocol.{file, git, ssh, http, https, ext, he
 use Rattle.git_syntax.specs.Bytes.{colon, left_bracket, right_bracket}
 use Rattle.git_syntax.specs.Escapes.{has_percent}
 use Rattle.git_syntax.specs.Schemes.{protocol_of}
-use Rattle.git_syntax.specs.SchemeRules.{AreRulesOf}
+use Rattle.git_syntax.specs.Internal.SchemeRules.{AreRulesOf}
 use Rattle.git_syntax.specs.Hosts.{normal_host}
-use Rattle.git_syntax.specs.HostPieces.{lowercase_address}
-use Rattle.git_syntax.specs.UrlPieces.{AreTexts, parts_of}
+use Rattle.git_syntax.specs.Internal.HostPieces.{lowercase_address}
+use Rattle.git_syntax.specs.Internal.UrlPieces.{AreTexts, parts_of}
 use Rattle.git_syntax.specs.Authority.{unless_empty}
 use Rattle.git_syntax.specs.Grammar.{UrlParts, helper_protocol, path_for, retained_spelling, scp_location}
 

@@ -13,7 +13,7 @@ use Rattle.git_syntax.specs.Grammar.{or_root}
 use Rattle.git_laws.specs.Components.{CutsPath, CutsFields, SplitsField, with_spaces}
 use Rattle.git_syntax.specs.Escapes.{matches}
 use Rattle.git_location.specs.Text.{original_path}
-use Rattle.gix_url.specs.Meanings.{meant_by}
+use Rattle.gix_url.specs.Internal.Meanings.{meant_by}
 
 -- the original path of a location, and what it stands for
 abbrev pub SpellsPath : Location → Spelled → Type 0

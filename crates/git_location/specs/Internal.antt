@@ -1,0 +1,7 @@
+-- Definitions that serve the proofs of this crate and of those above it alone.
+pub mod KeptBytes
+pub mod Pieces
+pub mod Sinks
+pub mod Fills
+pub mod SettledParts
+pub mod WebParts

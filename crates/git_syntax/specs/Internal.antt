@@ -1,0 +1,11 @@
+-- Definitions that serve the proofs of this crate and of those above it alone.
+pub mod Cuts
+pub mod Walks
+pub mod HostPieces
+pub mod Decoding
+pub mod Looks
+pub mod UrlPieces
+pub mod SchemeRules
+pub mod FoundPieces
+pub mod ScpPieces
+pub mod Shapes
