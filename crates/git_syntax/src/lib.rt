@@ -20,6 +20,7 @@ mod look;
 pub mod peeled;
 pub mod places;
 pub mod refusal;
+mod refusal_law;
 pub mod rules;
 pub mod scheme;
 pub mod scp;
