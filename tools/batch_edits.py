@@ -6,21 +6,20 @@ says of each function by itself what is not proved. An edit counts as refused he
 the very function that it changes, or an answer to one of its goals that no longer answers it. The second says less: the
 goal may have another answer, so `refused_by` tells the two apart.
 
-An edit of anything else, definitions or a constant, is tried by a check of the crate's laws alone, those that hold the
-rows of definitions among them: they have no code, and stand on definitions, constants and lemmas. It counts as refused
-here only where the check says of a law that it is not proved, and of no lemma that it names what the edit took away.
+An edit of anything else, definitions or a constant, has a line `# refused_by: NAME`, the law or function that is not proved
+with it, and is tried by a check of that alone. It counts as refused here only where the check says of this very law or
+function that it is not proved, and of no lemma that it names what the edit took away.
 
 What these checks have nothing to say of is left to be tried alone, as is what doesn't read.
 """
-import glob
-import os
 import re
 
 # The head of an impl: its parameters, the trait, if it is one of a trait, and the type.
 IMPL = re.compile(r"impl(?:<([^>]*)>)? (?:(.*) for )?(.*?)(?: \{)?$")
 FUNCTION = re.compile(r"( *)(?:pub(?:\([a-z]+\))? )?(?:const )?(?:extern \"C\" )?fn \w")
 PAIR = re.compile(r"(?m)^file: (?P<file>\S+)|^old: (?P<old>.*)\nnew: ?(?P<new>.*)")
-LAW = re.compile(r"(?m)^(pub )?fn (law_\w+)")
+# The law or function that refuses an edit of definitions, by the end of its path.
+REFUSER = re.compile(r"(?m)^# refused_by: (\S+)$")
 OPEN_LAW = re.compile(r"fn \S+::law_\w+: not proved")
 # A lemma that names what an edit took away, which says little of the law.
 GONE = re.compile(r"(?:\./)?proofs/.*(has no field|is not in scope|has no `)")
@@ -210,26 +209,28 @@ def bad_answer(crate, places, place, lines):
     return None
 
 
-def laws_of(crate):
-    """The laws of a crate, by the ends of their paths: those that users have, and the others."""
-    theirs, own = [], []
-    for file in sorted(glob.glob(f"{crate.folder}/src/**/*.rt", recursive=True)):
-        module = os.path.relpath(file, f"{crate.folder}/src").removesuffix(".rt").replace("/", "::")
-        with open(file, encoding="utf-8") as it:
-            for is_public, name in LAW.findall(it.read()):
-                (theirs if is_public else own).append(f"{module}::{name}")
-    return theirs, own
+def refuser_of(edit):
+    """The law or function that an edit says refuses it, if it names one."""
+    with open(edit, encoding="utf-8") as it:
+        found = REFUSER.search(it.read())
+    return found[1] if found else None
 
 
-def refusals_by_laws(kit, crate, edit, flags, kept):
-    """What the check of the laws says against an edit: the law that is not proved with it, if there is one."""
+def refusals_by_name(kit, crate, edit, flags, kept):
+    """What the check of the law or function that an edit names says against the edit, if that is not proved with it."""
     texts, why = kit.read_edit(edit, crate.folder)
-    theirs, own = laws_of(crate)
-    if why or not theirs + own:
+    name = refuser_of(edit)
+    if why or not name:
         return {}
-    only = [word for it in theirs + own for word in ("--only", it)]
-    lines = told_by(kit, crate, texts, [*flags, *only], kept, "only=")
-    is_fair = not any(map(GONE.match, lines))
-    # The last one counts: a law that users have, if one is open.
-    found = [it for it in lines if is_fair and OPEN_LAW.match(it)]
-    return {edit: it for it in sorted(found, key=lambda it: any(f"::{law}: " in it for law in theirs))}
+    said = unproved(name, told_by(kit, crate, texts, [*flags, "--only", name], kept, "only="))
+    return {edit: said} if said else {}
+
+
+def unproved(name, lines):
+    """What a check says against a law or function that it doesn't prove, where no lemma names what is no longer there: an
+    unproved goal or law, or else an answer that no longer fits, or else that it is not proved. That it calls what is not
+    proved says nothing against it."""
+    verdict = re.compile(rf"fn \S+::{re.escape(name)}: (not proved|no proof(?!: it calls))")
+    if not any(map(verdict.match, lines)) or any(map(GONE.match, lines)):
+        return None
+    return next(it for kind in (OPEN_GOAL, OPEN_LAW, BAD_ANSWER, verdict) for it in lines if kind.match(it))
