@@ -7,7 +7,7 @@ import re
 from rt_api import LAYERS, LIBRARIES, LIBRARY, ROOT, stands_on
 from source_modules import paths_of
 
-CALLS = f"{ROOT}/crates/answers/src/calls.rt"
+CALLS = f"{ROOT}/crates/answers/src/*.rt"
 # What layers below pass to those above: public by a type or a module that the library passes on, and for no user.
 OF_LAYERS = {
     "SchemeRef::of_protocol", "UrlRef::canonical_pieces", "UrlRef::form", "UrlRef::helper_pieces", "UrlRef::is_settled_as",
@@ -65,14 +65,16 @@ def contracts(libraries=LIBRARIES):
 
 def program_calls():
     """The names of the calls that the program makes."""
-    with open(CALLS, encoding="utf-8") as it:
-        return {*re.findall(r'"(\w+::?\w+)"', it.read())}
+    found = set()
+    for file in glob.glob(CALLS):
+        with open(file, encoding="utf-8") as it:
+            found.update(re.findall(r'"(\w+::?\w+)"', it.read()))
+    return found
 
 
 def missing_calls(table):
-    """The calls of the library that have no row, and the calls that rows name and the program doesn't make. The program
-    doesn't stand on `git_rules`, whose calls `scripts/rules_witness` has in rules by hand."""
+    """The calls of both libraries that have no row, and the calls that rows name and the program doesn't make."""
     named, made = {it.members.get("call") for it in table}, program_calls()
-    faults = [f"{it} has no row" for it in sorted((contracts([LIBRARY]).keys() | made) - named)]
+    faults = [f"{it} has no row" for it in sorted((contracts().keys() | made) - named)]
     faults += [f"{it} is no call that the library passes on" for it in sorted(OF_LAYERS - passed_calls().keys())]
     return faults + [f"{it} is no call of the program" for it in sorted(map(str, named - made))]

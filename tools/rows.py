@@ -88,15 +88,17 @@ def lines(topic):
     with open(file, encoding="utf-8") as it:
         for number, line in enumerate(it, 1):
             if line.strip() and not line.startswith("#"):
-                place = f"{os.path.basename(file)}:{number}"
+                place = f"{topic}.jsonl:{number}"
                 try:
                     yield place, json.loads(line)
                 except ValueError as error:
                     sys.exit(f"vectors: {place}: {error}")
 
 
-def topics():
-    return sorted(os.path.basename(it).removesuffix(".jsonl") for it in glob.glob(f"{FOLDER}/*.jsonl"))
+def topics(folders=(".", "rules")):
+    """The tables in these folders: those of the library, and those of what Git does by its configuration."""
+    found = [it for folder in folders for it in glob.glob(f"{FOLDER}/{folder}/*.jsonl")]
+    return sorted(os.path.relpath(it, FOLDER).removesuffix(".jsonl") for it in found)
 
 
 def rows(named=()):

@@ -219,6 +219,30 @@ def orders(cases):
         if it.entries:
             text, refused = {"text": text_of(it.url)}, {"refused": True} if isinstance(it.used, str) else None
             config = {"config": text_of(listed(it.entries)), "section": "http", "name": text_of(it.entries[0].name)}
-            yield {"call": "pattern::best", **config, **text}, refused or (it.used and text_of(it.used))
-            if len(it.entries) == 1 and it.entries[0].place is not None:
-                yield {"call": "UrlPattern::matches", "pattern": text_of(it.entries[0].place), **text}, refused or it.used is not None
+            yield {"call": "entries::best_entry", **config, **text}, refused or (it.used and text_of(it.used))
+            yield from pattern_orders([one.place for one in it.entries], [one.value for one in it.entries], text, it.used, refused)
+    yield from normal_orders({it.url for it in cases})
+
+
+def pattern_orders(places, values, text, value, refused):
+    """The calls for one entry, whether it applies, and for two whose URLs are patterns, which of them is used."""
+    if None in places:
+        return
+    if len(places) == 1:
+        yield {"call": "UrlPattern::matches", "pattern": text_of(places[0]), **text}, refused or value is not None
+    if len(places) == 2 and not any(isinstance(normal(it, with_any=True), str) for it in places):
+        index = refused or (None if value is None else values.index(value))
+        yield {"call": "pattern::best", "pattern": text_of(places[0]), "other": text_of(places[1]), **text}, index
+
+
+def normal_orders(texts):
+    """The calls for normal forms, of which Git reports only what follows from them: the outcomes are those of the rule."""
+    for it in sorted(texts):
+        found = normal(it)
+        if isinstance(found, str):
+            outcome = {"refused": True}
+        else:
+            port = None if found.port is None else int(found.port)
+            given = {"scheme": found.scheme, "user": found.user, "host": found.host, "path": found.path}
+            outcome = {**{name: text_of(one) for name, one in given.items() if one is not None}, **({} if port is None else {"port": port})}
+        yield {"call": "NormalUrl::parse_in", "text": text_of(it)}, outcome

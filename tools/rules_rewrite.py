@@ -146,11 +146,10 @@ def differences(cases):
 
 
 def orders(cases):
-    """The calls of the library for the cases, each with Git's outcome."""
+    """The calls of the library for the cases, each with Git's outcome: where Git ends, no rules are made of the entries."""
     for it in cases:
-        if it.fetch is None:
-            continue
         config, push_url = {"config": text_of(listed(it.entries))}, it.push_url
-        yield {"call": "Rewrites::rewrite_fetch", **config, "text": text_of(it.text)}, text_of(it.fetch)
+        fetch, push = ({"refused": True} if one is None else text_of(one) for one in (it.fetch, it.push))
+        yield {"call": "Rewrites::rewrite_fetch", **config, "text": text_of(it.text)}, fetch
         pushed_text = it.text if push_url is None else push_url
-        yield {"call": "Rewrites::rewrite_push", **config, "text": text_of(pushed_text), "has_push_url": push_url is not None}, text_of(it.push)
+        yield {"call": "Rewrites::rewrite_push", **config, "text": text_of(pushed_text), "has_push_url": push_url is not None}, push

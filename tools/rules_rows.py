@@ -79,7 +79,7 @@ OUTCOMES = {
     "Rewrites::rewrite_fetch": of_rewrites,
     "Rewrites::rewrite_push": of_rewrites,
     "UrlPattern::matches": of_patterns,
-    "pattern::best": of_best,
+    "entries::best_entry": of_best,
     "protocols::transport": of_transports,
     "Protocols::permission": of_policies,
     "ssh::ssh_command": of_words,
@@ -93,7 +93,7 @@ def lines():
     if not os.path.isfile(FILE):
         return []
     with open(FILE, encoding="utf-8") as it:
-        return [json.loads(line) if line.startswith("{") else line for line in it.read().splitlines()]
+        return [json.loads(line) if line.startswith("{") else line for line in it.read().removesuffix("\n").split("\n")]
 
 
 def outcomes(some):

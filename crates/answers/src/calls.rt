@@ -8,7 +8,7 @@ use crate::order::{Order, unknown};
 use crate::parts::first_name;
 use crate::shown::{show, show_debug, show_display};
 use crate::tell::{Out, Taking, lent, tell_member, tell_name, told};
-use crate::{errors, made};
+use crate::{errors, made, rules};
 use bstr::{BStr, BString};
 use gix_url::expand_path::{self, ForUser};
 use gix_url::lines::{fault_line, run, status};
@@ -23,7 +23,9 @@ use std::io::Write;
 /// Makes the call of an order, by what it is over.
 pub fn make(alloc: Global, order: &Order<'_>, out: &mut Out) -> Result<(), Halt> {
     let order = *order;
-    if order.has("url") {
+    if rules::has(order.name()) {
+        rules::make(alloc, order, out)
+    } else if order.has("url") {
         over_url(alloc, order, out)
     } else if order.has("record") {
         over_record(alloc, order, out)
@@ -767,7 +769,7 @@ fn over_nothing_else(order: Order<'_>, out: &mut Out) -> Result<(), Halt> {
         "laws::law_user_order" => lent(out, &laws::law_user_order()),
         "laws::law_hidden_password" => lent(out, &laws::law_hidden_password()),
         "ArgumentSafety:Eq" => over_judgements(order, out),
-        call => unknown(call),
+        _ => rules::over_nothing(order, out),
     }
 }
 

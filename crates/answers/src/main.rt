@@ -1,7 +1,8 @@
 //! Makes calls of the library and reports how each ended: what `scripts/vectors` asks for the rows of `vectors/`.
 //!
 //! Each line of the standard input is an order, one call as JSON, and is answered by one line of JSON. `order` reads
-//! orders, `made` makes what calls are over, `calls` is the table of calls, `tell` and `parts` tell outcomes.
+//! orders, `made` makes what calls are over, `calls` is the table of calls, `rules` that of calls of `git_rules`, `tell` and
+//! `parts` tell outcomes.
 //!
 //! All memory but the call's own is taken before the call is made, and an order can end there: so `scripts/hostile` can
 //! count the requests of a call, and refuse each of them.
@@ -9,11 +10,16 @@
 
 mod bytes;
 mod calls;
+mod commands;
 mod errors;
 mod halt;
 mod made;
 mod order;
 mod parts;
+mod places;
+mod rewriting;
+mod rule_outcomes;
+mod rules;
 mod shown;
 mod tell;
 

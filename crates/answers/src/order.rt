@@ -74,6 +74,14 @@ impl<'a> Order<'a> {
         decoded(alloc, self.text(name).unwrap_or(""))
     }
 
+    /// The bytes of a member, if it is a text.
+    pub fn some_bytes(self, alloc: Global, name: &str) -> Result<Option<Vec<u8>>, Halt> {
+        match self.text(name) {
+            Some(text) => Ok(Some(decoded(alloc, text)?)),
+            None => Ok(None),
+        }
+    }
+
     /// An owned text of a member, if it is one.
     pub fn owned(self, alloc: Global, name: &str) -> Result<Option<String>, Halt> {
         match self.text(name) {

@@ -52,6 +52,12 @@ impl Tell for u16 {
     }
 }
 
+impl Tell for usize {
+    fn tell(&self, out: &mut Out) -> io::Result<()> {
+        write!(out, "{self}")
+    }
+}
+
 impl Tell for u128 {
     fn tell(&self, out: &mut Out) -> io::Result<()> {
         write!(out, "{self}")

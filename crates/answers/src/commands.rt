@@ -1,0 +1,98 @@
+//! Calls of `git_rules` over commands of Secure Shell.
+//!
+//! `service`, `variant` and `version` are as Git has them: `git-upload-pack`, `tortoiseplink`, 2.
+
+use crate::halt::Halt;
+use crate::order::{Order, unknown};
+use crate::tell::{Out, lent, told};
+use bstr::BString;
+use git_rules::ssh::{
+    ProtocolVersion, Service, SshCommand, SshError, SshVariant, ssh_command, ssh_words,
+};
+use gix_url::UrlRef;
+use std::alloc::Global;
+
+/// Whether these are calls over commands, by the module or the type that they are named with.
+pub fn has(owner: &str) -> bool {
+    matches!(owner, "ssh" | "SshCommand" | "Service")
+}
+
+/// The service of an order.
+fn service(order: Order<'_>) -> Result<Service, Halt> {
+    match order.needed("service")? {
+        "git-upload-pack" => Ok(Service::UploadPack),
+        "git-receive-pack" => Ok(Service::ReceivePack),
+        "git-upload-archive" => Ok(Service::UploadArchive),
+        _ => Err(Halt::Unprepared),
+    }
+}
+
+/// The variant of an order.
+fn variant(order: Order<'_>) -> Result<SshVariant, Halt> {
+    match order.needed("variant")? {
+        "ssh" => Ok(SshVariant::Ssh),
+        "simple" => Ok(SshVariant::Simple),
+        "plink" => Ok(SshVariant::Plink),
+        "putty" => Ok(SshVariant::Putty),
+        "tortoiseplink" => Ok(SshVariant::TortoisePlink),
+        _ => Err(Halt::Unprepared),
+    }
+}
+
+/// The version of the protocol of an order.
+fn version(order: Order<'_>) -> Result<ProtocolVersion, Halt> {
+    match order.number("version") {
+        Some(0) => Ok(ProtocolVersion::V0),
+        Some(1) => Ok(ProtocolVersion::V1),
+        Some(2) => Ok(ProtocolVersion::V2),
+        _ => Err(Halt::Unprepared),
+    }
+}
+
+/// Calls over a service alone.
+pub fn over_service(order: Order<'_>, out: &mut Out) -> Result<(), Halt> {
+    let service = service(order)?;
+    match order.call() {
+        "Service::as_str" => lent(out, &service.as_str()),
+        call => unknown(call),
+    }
+}
+
+/// Calls over a location, a service, a variant and a version.
+pub fn over_url(
+    alloc: Global,
+    order: Order<'_>,
+    url: &UrlRef<'_>,
+    out: &mut Out,
+) -> Result<(), Halt> {
+    let (service, variant, version) = (service(order)?, variant(order)?, version(order)?);
+    match order.call() {
+        "" => Ok(()),
+        "ssh::ssh_words" => told(out, ssh_words(alloc, url, service, variant, version)),
+        _ => match ssh_command(url, service, variant, version) {
+            Err(refusal) => lent(out, &refusal),
+            Ok(command) => over_command(alloc, order, command, out),
+        },
+    }
+}
+
+/// Reports the words of a command, or its variable.
+fn over_command(
+    alloc: Global,
+    order: Order<'_>,
+    command: SshCommand<'_>,
+    out: &mut Out,
+) -> Result<(), Halt> {
+    let outcome = match order.call() {
+        "ssh::ssh_command" | "SshCommand::to_words" => told(out, words_of(alloc, &command)),
+        "SshCommand::git_protocol" => lent(out, &command.git_protocol()),
+        call => unknown(call),
+    };
+    drop(command);
+    outcome
+}
+
+/// The words of a command.
+fn words_of(alloc: Global, command: &SshCommand<'_>) -> Result<Vec<BString>, SshError> {
+    Ok(command.to_words(alloc)?)
+}

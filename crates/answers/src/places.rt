@@ -1,0 +1,230 @@
+//! Calls of `git_rules` over places: normal forms, patterns, and entries that apply to a place.
+//!
+//! Each normal form is written into a room, which is as long as the call asks for, or as `room` says.
+
+use crate::halt::Halt;
+use crate::order::{Order, unknown};
+use crate::tell::{Out, lent, told};
+use bstr::BStr;
+use git_rules::config::Entry;
+use git_rules::normal::{NormalError, NormalUrl};
+use git_rules::pattern::entries::{best_entry, entry_rank};
+use git_rules::pattern::place::place_in;
+use git_rules::pattern::{UrlPattern, best};
+use gix_url::UrlRef;
+use std::alloc::Global;
+
+/// A room for a normal form: of as many bytes as the order says, and else as are asked for a text of this length. It isn't
+/// empty: what the library leaves there is none of a place.
+fn room_for(alloc: Global, order: Order<'_>, len: usize) -> Result<Vec<u8>, Halt> {
+    let size = match order.number("room") {
+        Some(size) => usize::try_from(size).unwrap_or(0),
+        None => len.saturating_mul(3).saturating_add(1),
+    };
+    Ok(vec![in alloc; b'#'; size]?)
+}
+
+/// Calls over a text, and over a pattern beside it.
+pub fn over_text(alloc: Global, order: Order<'_>, text: &[u8], out: &mut Out) -> Result<(), Halt> {
+    let mut room = room_for(alloc, order, text.len())?;
+    let outcome = match order.name() {
+        "NormalUrl::parse_in" | "UrlPattern::parse_in" => read(order, text, &mut room, out),
+        _ => over_place(
+            alloc,
+            order,
+            NormalUrl::parse_in(text, false, &mut room),
+            out,
+        ),
+    };
+    drop(room);
+    outcome
+}
+
+/// Reports the normal form of a text, or that it is a pattern.
+fn read(order: Order<'_>, text: &[u8], room: &mut [u8], out: &mut Out) -> Result<(), Halt> {
+    match order.call() {
+        "NormalUrl::parse_in" => told(out, NormalUrl::parse_in(text, order.is("globs"), room)),
+        "UrlPattern::parse_in" => told(out, UrlPattern::parse_in(text, room).map(is_pattern)),
+        call => unknown(call),
+    }
+}
+
+/// That a text is a pattern, whichever it is.
+fn is_pattern(pattern: UrlPattern<'_>) -> bool {
+    drop(pattern);
+    true
+}
+
+/// Calls over a place and a pattern, and over another pattern beside it; a text that has no normal form is reported.
+fn over_place(
+    alloc: Global,
+    order: Order<'_>,
+    place: Result<NormalUrl<'_>, NormalError>,
+    out: &mut Out,
+) -> Result<(), Halt> {
+    let text = order.bytes(alloc, "pattern")?;
+    let mut room = room_for(alloc, order, text.len())?;
+    let outcome = match place {
+        Err(error) => refused(order, error, out),
+        Ok(place) => {
+            let pattern = UrlPattern::parse_in(text.as_slice(), &mut room);
+            let outcome = over_pattern(alloc, order, &place, pattern, out);
+            drop(place);
+            outcome
+        }
+    };
+    drop(room);
+    drop(text);
+    outcome
+}
+
+/// Reports why a text is no place, where a call is made.
+fn refused(order: Order<'_>, error: NormalError, out: &mut Out) -> Result<(), Halt> {
+    match order.call() {
+        "" => Ok(()),
+        _ => lent(out, &error),
+    }
+}
+
+/// Calls over a place and a pattern; a text that isn't a pattern matches nothing.
+fn over_pattern(
+    alloc: Global,
+    order: Order<'_>,
+    place: &NormalUrl<'_>,
+    pattern: Result<UrlPattern<'_>, NormalError>,
+    out: &mut Out,
+) -> Result<(), Halt> {
+    match (order.name(), pattern) {
+        ("pattern::best", Ok(pattern)) => over_patterns(alloc, order, place, pattern, out),
+        (_, Ok(pattern)) => {
+            let is_match = pattern.matches(place);
+            drop(pattern);
+            match_of(order, is_match, out)
+        }
+        (_, Err(_)) => match_of(order, false, out),
+    }
+}
+
+/// Reports whether a pattern matches, where a call is made.
+fn match_of(order: Order<'_>, is_match: bool, out: &mut Out) -> Result<(), Halt> {
+    match order.call() {
+        "UrlPattern::matches" => lent(out, &is_match),
+        call => unknown(call),
+    }
+}
+
+/// Reports the index of the best of two patterns.
+fn over_patterns(
+    alloc: Global,
+    order: Order<'_>,
+    place: &NormalUrl<'_>,
+    pattern: UrlPattern<'_>,
+    out: &mut Out,
+) -> Result<(), Halt> {
+    let text = order.bytes(alloc, "other")?;
+    let mut room = room_for(alloc, order, text.len())?;
+    let outcome = match UrlPattern::parse_in(text.as_slice(), &mut room) {
+        Err(error) => refused(order, error, out),
+        Ok(other) => {
+            let found = best(&[pattern, other], place);
+            best_of(order, found, out)
+        }
+    };
+    drop(room);
+    drop(text);
+    outcome
+}
+
+/// Reports the index of the best of patterns, where a call is made.
+fn best_of(order: Order<'_>, found: Option<usize>, out: &mut Out) -> Result<(), Halt> {
+    match order.call() {
+        "pattern::best" => lent(out, &found),
+        call => unknown(call),
+    }
+}
+
+/// Calls over the entries of a configuration, whose text has this length, and a text.
+pub fn over_entries(
+    alloc: Global,
+    order: Order<'_>,
+    entries: &[Entry<'_>],
+    len: usize,
+    out: &mut Out,
+) -> Result<(), Halt> {
+    let text = order.bytes(alloc, "text")?;
+    let mut own = room_for(alloc, order, text.len())?;
+    let mut room = room_for(alloc, order, len)?;
+    let outcome = match NormalUrl::parse_in(text.as_slice(), false, &mut own) {
+        Err(error) => refused(order, error, out),
+        Ok(place) => {
+            let outcome = pick(order, entries, &place, &mut room, out);
+            drop(place);
+            outcome
+        }
+    };
+    drop(room);
+    drop(own);
+    drop(text);
+    outcome
+}
+
+/// Reports the value of the best entry for a place, or the rank of the first one.
+fn pick(
+    order: Order<'_>,
+    entries: &[Entry<'_>],
+    place: &NormalUrl<'_>,
+    room: &mut [u8],
+    out: &mut Out,
+) -> Result<(), Halt> {
+    let (section, name) = (order.needed("section")?, order.needed("name")?);
+    match (order.call(), entries.first()) {
+        ("entries::best_entry", _) => {
+            value_of(
+                entries,
+                best_entry(entries, section, name, place, room),
+                out,
+            )
+        }
+        ("entries::entry_rank", Some(entry)) => {
+            lent(out, &entry_rank(entry, section, name, place, room))
+        }
+        ("entries::entry_rank", None) => Err(Halt::Unprepared),
+        (call, _) => unknown(call),
+    }
+}
+
+/// Reports the value of the entry at an index.
+fn value_of(
+    entries: &[Entry<'_>],
+    found: Result<Option<usize>, NormalError>,
+    out: &mut Out,
+) -> Result<(), Halt> {
+    match found {
+        Err(error) => lent(out, &error),
+        Ok(at) => {
+            let entry = at.and_then(|at| entries.get(at));
+            let value = entry.and_then(|entry| entry.value);
+            lent(out, &value.map(|value| BStr::new(value)))
+        }
+    }
+}
+
+/// Reports the place of a location.
+pub fn over_location(
+    alloc: Global,
+    order: Order<'_>,
+    url: &UrlRef<'_>,
+    out: &mut Out,
+) -> Result<(), Halt> {
+    let len = match url.text_len() {
+        Ok(len) => usize::try_from(len).unwrap_or(0),
+        Err(_) => 0,
+    };
+    let mut room = room_for(alloc, order, len.saturating_mul(2))?;
+    let outcome = match order.call() {
+        "place::place_in" => told(out, place_in(url, &mut room)),
+        call => unknown(call),
+    };
+    drop(room);
+    outcome
+}

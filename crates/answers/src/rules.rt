@@ -1,0 +1,235 @@
+//! Calls of `git_rules`: what Git does with a location by its configuration.
+//!
+//! `config` is the text that `git config --list -z` writes. Calls that rewrite are in `rewriting`, those over a place in
+//! `places`, those of Secure Shell in `commands`, and `rule_outcomes` reports what calls return.
+
+use crate::halt::Halt;
+use crate::order::{Order, unknown};
+use crate::rule_outcomes::tell_items;
+use crate::shown::show_debug;
+use crate::tell::{Out, lent, told};
+use crate::{commands, made, places, rewriting};
+use git_rules::boolean::read_boolean;
+use git_rules::config::law::law_one_reading;
+use git_rules::config::{self, Entry, Reader};
+use git_rules::normal::law_normal_form;
+use git_rules::pattern::law_patterns;
+use git_rules::protocols::{Protocols, law_permission, transport};
+use git_rules::rewrite::host::{names_same_host, texts_name_same_host};
+use git_rules::rewrite::law::law_one_outcome;
+use git_rules::ssh::law_git_words;
+use gix_url::Url;
+use std::alloc::Global;
+
+/// Whether a call is one of `git_rules`, by the module or the type that it is named with.
+pub fn has(name: &str) -> bool {
+    match name.split_once("::") {
+        Some((owner, _)) => is_of_configuration(owner)
+            || is_of_places(owner)
+            || commands::has(owner),
+        None => false,
+    }
+}
+
+/// Whether these are calls over a configuration, a transport or a boolean value.
+fn is_of_configuration(owner: &str) -> bool {
+    matches!(
+        owner,
+        "config"
+            | "Entry"
+            | "Reader"
+            | "Rewrites"
+            | "Rewritten"
+            | "Protocols"
+            | "Permission"
+            | "boolean"
+    )
+}
+
+/// Whether these are calls over a place, or over two locations.
+fn is_of_places(owner: &str) -> bool {
+    matches!(
+        owner,
+        "NormalUrl" | "UrlPattern" | "pattern" | "entries" | "place" | "protocols" | "host"
+    )
+}
+
+/// Makes the call of an order, by what it is over.
+pub fn make(alloc: Global, order: Order<'_>, out: &mut Out) -> Result<(), Halt> {
+    if order.has("config") {
+        over_config(alloc, order, out)
+    } else if order.has("url") {
+        over_url(alloc, order, out)
+    } else if order.has("text") {
+        over_text(alloc, order, out)
+    } else {
+        commands::over_service(order, out)
+    }
+}
+
+/// Calls over the text of a configuration, and over its entries.
+fn over_config(alloc: Global, order: Order<'_>, out: &mut Out) -> Result<(), Halt> {
+    let text = order.bytes(alloc, "config")?;
+    let outcome = match order.name() {
+        "config::entries" | "Reader::new" => over_reader(alloc, order, text.as_slice(), out),
+        _ => read_entries(alloc, order, text.as_slice(), out),
+    };
+    drop(text);
+    outcome
+}
+
+/// Calls that read the text of a configuration.
+fn over_reader(alloc: Global, order: Order<'_>, text: &[u8], out: &mut Out) -> Result<(), Halt> {
+    match order.call() {
+        "config::entries" => told(out, config::entries(alloc, text)),
+        "Reader::new" => Ok(tell_items(out, Reader::new(text))?),
+        call => unknown(call),
+    }
+}
+
+/// Reads the entries of a configuration, and makes a call over them.
+fn read_entries(alloc: Global, order: Order<'_>, text: &[u8], out: &mut Out) -> Result<(), Halt> {
+    let entries = config::entries(alloc, text)?;
+    let outcome = match order.name() {
+        "Protocols::permission" | "Permission::is_allowed" => {
+            over_protocols(alloc, order, entries.as_slice(), out)
+        }
+        "Entry::is_section" | "Entry::is_name" => over_entry(order, entries.as_slice(), out),
+        "entries::best_entry" | "entries::entry_rank" => {
+            places::over_entries(alloc, order, entries.as_slice(), text.len(), out)
+        }
+        _ => rewriting::over_entries(alloc, order, entries.as_slice(), out),
+    };
+    drop(entries);
+    outcome
+}
+
+/// Calls that look at the first entry.
+fn over_entry(order: Order<'_>, entries: &[Entry<'_>], out: &mut Out) -> Result<(), Halt> {
+    let Some(entry) = entries.first() else {
+        return Err(Halt::Unprepared);
+    };
+    match order.call() {
+        "Entry::is_section" => lent(out, &entry.is_section(order.needed("section")?)),
+        "Entry::is_name" => lent(out, &entry.is_name(order.needed("name")?)),
+        call => unknown(call),
+    }
+}
+
+/// Calls over what decides which transports may be used.
+fn over_protocols(
+    alloc: Global,
+    order: Order<'_>,
+    entries: &[Entry<'_>],
+    out: &mut Out,
+) -> Result<(), Halt> {
+    let allow_list = order.some_bytes(alloc, "allow_list")?;
+    let from_user = order.some_bytes(alloc, "from_user")?;
+    let protocols = Protocols {
+        entries,
+        allow_list: allow_list.as_deref(),
+        from_user: from_user.as_deref(),
+    };
+    let outcome = permit(order, &protocols, out);
+    drop(protocols);
+    drop(allow_list);
+    drop(from_user);
+    outcome
+}
+
+/// Reports what Git does about a transport: by the name of that alone, or with what decides it.
+fn permit(order: Order<'_>, protocols: &Protocols<'_>, out: &mut Out) -> Result<(), Halt> {
+    let name = order.needed("name")?;
+    match (order.call(), order.style()) {
+        ("Protocols::permission", "") => lent(out, &protocols.permission(name)),
+        ("Protocols::permission", _) => show_debug(out, &protocols.permission(name)),
+        ("Permission::is_allowed", _) => lent(out, &protocols.permission(name).is_allowed()),
+        (call, _) => unknown(call),
+    }
+}
+
+/// Calls over a location, and over another one beside it.
+fn over_url(alloc: Global, order: Order<'_>, out: &mut Out) -> Result<(), Halt> {
+    let url = made::url(alloc, order, "url")?;
+    let outcome = match order.name() {
+        "protocols::transport" => over_transport(order, &url, out),
+        "host::names_same_host" => over_hosts(alloc, order, &url, out),
+        "place::place_in" => places::over_location(alloc, order, &url.as_ref(), out),
+        _ => commands::over_url(alloc, order, &url.as_ref(), out),
+    };
+    drop(url);
+    outcome
+}
+
+/// Reports the transport of a location.
+fn over_transport(order: Order<'_>, url: &Url, out: &mut Out) -> Result<(), Halt> {
+    match order.call() {
+        "protocols::transport" => lent(out, &transport(&url.as_ref())),
+        call => unknown(call),
+    }
+}
+
+/// Compares the hosts of a location and another one.
+fn over_hosts(alloc: Global, order: Order<'_>, url: &Url, out: &mut Out) -> Result<(), Halt> {
+    let other = made::url(alloc, order, "other")?;
+    let outcome = match order.call() {
+        "host::names_same_host" => lent(out, &names_same_host(&url.as_ref(), &other.as_ref())),
+        call => unknown(call),
+    };
+    drop(other);
+    outcome
+}
+
+/// Calls over a text.
+fn over_text(alloc: Global, order: Order<'_>, out: &mut Out) -> Result<(), Halt> {
+    let text = order.bytes(alloc, "text")?;
+    let outcome = match order.name() {
+        "boolean::read_boolean" => over_boolean(order, text.as_slice(), out),
+        "host::texts_name_same_host" => over_two_texts(alloc, order, text.as_slice(), out),
+        "Rewrites::new" | "Rewrites::add_fetch" | "Rewrites::add_push" => {
+            rewriting::over_rule(alloc, order, text.as_slice(), out)
+        }
+        _ => places::over_text(alloc, order, text.as_slice(), out),
+    };
+    drop(text);
+    outcome
+}
+
+/// Reports the boolean value of a text.
+fn over_boolean(order: Order<'_>, text: &[u8], out: &mut Out) -> Result<(), Halt> {
+    match order.call() {
+        "boolean::read_boolean" => lent(out, &read_boolean(text)),
+        call => unknown(call),
+    }
+}
+
+/// Compares the hosts of a text and another one, each read into a buffer as long as it is.
+fn over_two_texts(alloc: Global, order: Order<'_>, text: &[u8], out: &mut Out) -> Result<(), Halt> {
+    let mut buffer = order.bytes(alloc, "text")?;
+    let other = order.bytes(alloc, "other")?;
+    let mut other_buffer = order.bytes(alloc, "other")?;
+    let outcome = match order.call() {
+        "host::texts_name_same_host" => told(
+            out,
+            texts_name_same_host(text, &mut buffer, other.as_slice(), &mut other_buffer),
+        ),
+        call => unknown(call),
+    };
+    drop(buffer);
+    drop(other);
+    drop(other_buffer);
+    outcome
+}
+
+/// Laws of `git_rules`, which hold of all values, and whose calls do nothing.
+pub fn over_nothing(order: Order<'_>, out: &mut Out) -> Result<(), Halt> {
+    match order.call() {
+        "laws::law_git_words" => lent(out, &law_git_words()),
+        "laws::law_normal_form" => lent(out, &law_normal_form()),
+        "laws::law_one_outcome" => lent(out, &law_one_outcome()),
+        "laws::law_one_reading" => lent(out, &law_one_reading()),
+        "laws::law_patterns" => lent(out, &law_patterns()),
+        "laws::law_permission" => lent(out, &law_permission()),
+        call => unknown(call),
+    }
+}
