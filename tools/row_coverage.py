@@ -10,7 +10,7 @@ from source_modules import paths_of
 CALLS = f"{ROOT}/crates/answers/src/*.rt"
 # What layers below pass to those above: public by a type or a module that the library passes on, and for no user.
 OF_LAYERS = {
-    "SchemeRef::of_protocol", "UrlRef::canonical_pieces", "UrlRef::form", "UrlRef::helper_pieces", "UrlRef::is_settled_as",
+    "SchemeRef::of_known_scheme", "UrlRef::canonical_pieces", "UrlRef::form", "UrlRef::helper_pieces", "UrlRef::is_settled_as",
     "UrlRef::matching_spelling", "UrlRef::own_form", "UrlRef::own_pieces", "UrlRef::path_pieces", "UrlRef::pieces", "UrlRef::scp_pieces",
 }
 

@@ -26,7 +26,7 @@ def comes_back(v):
 FIVE = ("Http", "Https", "File", "Ext", "Helper")
 
 
-def is_corner(v):
+def is_exception(v):
     """What is read and yet not settled, of the five schemes whose readings are."""
     host = v.host or b""
     if v.scheme == ("File",) and not v.flag:
@@ -79,8 +79,8 @@ def text_faults(b):
             yield "its record would be taken for the old form"
         if (spells_helper(b) or spells_local(b)) and (t != b or not settled(v)):
             yield "a helper or local path that isn't written unchanged or isn't settled"
-        if v.scheme[0] in FIVE and settled(v) == is_corner(v):
-            yield "settled and a corner, or neither"
+        if v.scheme[0] in FIVE and settled(v) == is_exception(v):
+            yield "settled and an exception, or neither"
         yield from value_faults(v)
 
 

@@ -1,7 +1,7 @@
 //! Bytes as text of JSON, and back: a byte that is no part of UTF-8 is the character U+EF00 with that byte added.
 
 use crate::halt::Halt;
-use crate::tell::Out;
+use crate::report::Out;
 use bstr::ByteSlice;
 use std::alloc::Global;
 use std::io::{self, Write};
@@ -10,7 +10,7 @@ use std::io::{self, Write};
 const FIRST: u32 = 0xEF00;
 
 /// The bytes that a text stands for.
-pub fn decoded(alloc: Global, text: &str) -> Result<Vec<u8>, Halt> {
+pub fn decode(alloc: Global, text: &str) -> Result<Vec<u8>, Halt> {
     let mut bytes = Vec::with_capacity(alloc, text.len())?;
     for character in text.chars() {
         push(&mut bytes, character)?;

@@ -6,9 +6,9 @@
 use crate::halt::Halt;
 use crate::order::{Order, unknown};
 use crate::parts::first_name;
+use crate::report::{Out, Taking, report_lent, report_member, report_name, report_owned};
 use crate::shown::{show, show_debug, show_display};
-use crate::tell::{Out, Taking, lent, tell_member, tell_name, told};
-use crate::{errors, made, rules};
+use crate::{build, errors, rules};
 use bstr::{BStr, BString};
 use gix_url::expand_path::{self, ForUser};
 use gix_url::lines::{fault_line, run, status};
@@ -84,7 +84,7 @@ fn over_room(alloc: Global, order: Order<'_>, text: &[u8], out: &mut Out) -> Res
 /// Reads a text into a room, and reports the location or shows the error.
 fn read_in(order: Order<'_>, text: &[u8], room: &mut [u8], out: &mut Out) -> Result<(), Halt> {
     match order.call() {
-        "UrlRef::parse_in" => told(out, UrlRef::parse_in(text, room)),
+        "UrlRef::parse_in" => report_owned(out, UrlRef::parse_in(text, room)),
         "ParseError:fmt" => show_unread(order, UrlRef::parse_in(text, room), out),
         "Refusal:fmt" => show_refused(order, UrlRef::parse_in(text, room), out),
         call => unknown(call),
@@ -119,12 +119,12 @@ fn show_refused(
 fn read(alloc: Global, order: Order<'_>, bytes: BStr<'_>, out: &mut Out) -> Result<(), Halt> {
     let text = order.needed("text")?;
     match order.call() {
-        "parse::parse" => told(out, parse(alloc, bytes)),
-        "Url::from_bytes" => told(out, Url::from_bytes(alloc, bytes)),
-        "Url::from_text" => told(out, Url::from_text(alloc, text)),
-        "Scheme::from_text" => told(out, Scheme::from_text(alloc, text)),
-        "ipv6::is_ipv6" => lent(out, &ipv6::is_ipv6(text)),
-        "expand_path::parse" => told(out, expand_path::parse(alloc, bytes)),
+        "parse::parse" => report_owned(out, parse(alloc, bytes)),
+        "Url::from_bytes" => report_owned(out, Url::from_bytes(alloc, bytes)),
+        "Url::from_text" => report_owned(out, Url::from_text(alloc, text)),
+        "Scheme::from_text" => report_owned(out, Scheme::from_text(alloc, text)),
+        "ipv6::is_ipv6" => report_lent(out, &ipv6::is_ipv6(text)),
+        "expand_path::parse" => report_owned(out, expand_path::parse(alloc, bytes)),
         call => unknown(call),
     }
 }
@@ -140,28 +140,28 @@ fn over_lines(alloc: Global, order: Order<'_>, out: &mut Out) -> Result<(), Halt
     let mut left = bytes.as_slice();
     let outcome = run(alloc, &mut left, &mut answers);
     let is_cut_short = outcome.is_ok() && !left.is_empty();
-    tell_name(out, "{", "outcome")?;
-    lent(out, &outcome)?;
-    tell_name(out, ",", "status")?;
-    lent(out, &status(&outcome))?;
+    report_name(out, "{", "outcome")?;
+    report_lent(out, &outcome)?;
+    report_name(out, ",", "status")?;
+    report_lent(out, &status(&outcome))?;
     drop(outcome);
-    tell_name(out, ",", "out")?;
-    lent(out, &BStr::new(answers.as_slice()))?;
+    report_name(out, ",", "out")?;
+    report_lent(out, &BStr::new(answers.as_slice()))?;
     if is_cut_short {
-        tell_member(out, "left", &Some(BStr::new(left)))?;
+        report_member(out, "left", &Some(BStr::new(left)))?;
     }
     Ok(out.write_all(b"}")?)
 }
 
 /// Calls that look at a location or copy it, and leave it as it was; others take what is made of it, too.
 fn over_url(alloc: Global, order: Order<'_>, out: &mut Out) -> Result<(), Halt> {
-    let url = made::url(alloc, order, "url")?;
+    let url = build::url(alloc, order, "url")?;
     match given_of(order.name()) {
         Some(name) => change(alloc, order, url, name, out),
         None => {
-            let before = hashed(&url);
+            let before = hash_of(&url);
             let outcome = look_or_copy(alloc, order, &url, out);
-            let is_changed = hashed(&url) != before;
+            let is_changed = hash_of(&url) != before;
             drop(url);
             if is_changed {
                 Err(Halt::Changed)
@@ -173,7 +173,7 @@ fn over_url(alloc: Global, order: Order<'_>, out: &mut Out) -> Result<(), Halt> 
 }
 
 /// What a hasher makes of a value.
-fn hashed<T: Hash>(value: &T) -> u64 {
+fn hash_of<T: Hash>(value: &T) -> u64 {
     let mut hasher = DefaultHasher::new();
     value.hash(&mut hasher);
     hasher.finish()
@@ -185,14 +185,14 @@ fn look_or_copy(alloc: Global, order: Order<'_>, url: &Url, out: &mut Out) -> Re
         return over_two(alloc, order, url, out);
     }
     match order.call() {
-        "Url::clone" => told(out, url.clone(alloc)),
-        "Url:Clone" => told(out, copy_apart(alloc, url)),
-        "Url::reread" => told(out, url.reread(alloc)),
-        "Url::to_bstring" => told(out, url.to_bstring(alloc)),
-        "Url::to_stored" => told(out, url.to_stored(alloc)),
-        "Url::path_query_fragment" => told(out, url.path_query_fragment(alloc)),
+        "Url::clone" => report_owned(out, url.clone(alloc)),
+        "Url:Clone" => report_owned(out, copy_apart(alloc, url)),
+        "Url::reread" => report_owned(out, url.reread(alloc)),
+        "Url::to_bstring" => report_owned(out, url.to_bstring(alloc)),
+        "Url::to_stored" => report_owned(out, url.to_stored(alloc)),
+        "Url::path_query_fragment" => report_owned(out, url.path_query_fragment(alloc)),
         "Url:fmt" => show(out, order.style(), url),
-        "laws::law_value" => lent(out, &laws::law_value(url)),
+        "laws::law_value" => report_lent(out, &laws::law_value(url)),
         _ => look(alloc, order, url, out),
     }
 }
@@ -214,16 +214,16 @@ fn copy_apart(alloc: Global, url: &Url) -> Result<((bool, bool), (bool, bool)), 
 /// Calls that look at a location.
 fn look(alloc: Global, order: Order<'_>, url: &Url, out: &mut Out) -> Result<(), Halt> {
     match order.call() {
-        "Url::is_settled" => lent(out, &url.is_settled()),
-        "Url::agrees_with_git" => lent(out, &url.agrees_with_git()),
-        "Url::user" => lent(out, &url.user()),
-        "Url::password" => lent(out, &url.password()),
-        "Url::host" => lent(out, &url.host()),
-        "Url::port_or_default" => lent(out, &url.port_or_default()),
-        "Url::path_is_root" => lent(out, &url.path_is_root()),
-        "Url::original_path" => lent(out, &url.original_path()),
-        "Url::has_spelling" => lent(out, &url.has_spelling()),
-        "Url::text_len" => lent(out, &url.text_len()),
+        "Url::is_settled" => report_lent(out, &url.is_settled()),
+        "Url::agrees_with_git" => report_lent(out, &url.agrees_with_git()),
+        "Url::user" => report_lent(out, &url.user()),
+        "Url::password" => report_lent(out, &url.password()),
+        "Url::host" => report_lent(out, &url.host()),
+        "Url::port_or_default" => report_lent(out, &url.port_or_default()),
+        "Url::path_is_root" => report_lent(out, &url.path_is_root()),
+        "Url::original_path" => report_lent(out, &url.original_path()),
+        "Url::has_spelling" => report_lent(out, &url.has_spelling()),
+        "Url::text_len" => report_lent(out, &url.text_len()),
         _ => hand_out(alloc, order, url, out),
     }
 }
@@ -231,11 +231,11 @@ fn look(alloc: Global, order: Order<'_>, url: &Url, out: &mut Out) -> Result<(),
 /// Calls that hand a part of a location to a command, or write it.
 fn hand_out(alloc: Global, order: Order<'_>, url: &Url, out: &mut Out) -> Result<(), Halt> {
     match order.call() {
-        "Url::user_as_argument" => lent(out, &url.user_as_argument()),
-        "Url::host_as_argument" => lent(out, &url.host_as_argument()),
-        "Url::user_argument_safe" => lent(out, &url.user_argument_safe()),
-        "Url::host_argument_safe" => lent(out, &url.host_argument_safe()),
-        "Url::path_argument_safe" => lent(out, &url.path_argument_safe()),
+        "Url::user_as_argument" => report_lent(out, &url.user_as_argument()),
+        "Url::host_as_argument" => report_lent(out, &url.host_as_argument()),
+        "Url::user_argument_safe" => report_lent(out, &url.user_argument_safe()),
+        "Url::host_argument_safe" => report_lent(out, &url.host_argument_safe()),
+        "Url::path_argument_safe" => report_lent(out, &url.path_argument_safe()),
         "Url::write_to" => write_to(url, out),
         _ => look_at_borrowed(alloc, order, url, out),
     }
@@ -245,22 +245,22 @@ fn hand_out(alloc: Global, order: Order<'_>, url: &Url, out: &mut Out) -> Result
 fn look_at_borrowed(alloc: Global, order: Order<'_>, url: &Url, out: &mut Out) -> Result<(), Halt> {
     let borrowed = url.as_ref();
     match order.call() {
-        "Url::as_ref" => lent(out, &borrowed),
-        "UrlRef::agrees_with_git" => lent(out, &borrowed.agrees_with_git()),
-        "UrlRef::is_settled" => lent(out, &borrowed.is_settled()),
-        "UrlRef::original_path" => lent(out, &borrowed.original_path()),
-        "UrlRef::port_or_default" => lent(out, &borrowed.port_or_default()),
-        "UrlRef::path_is_root" => lent(out, &borrowed.path_is_root()),
-        "PathComponents::of" => told(out, PathComponents::of(alloc, &borrowed)),
+        "Url::as_ref" => report_lent(out, &borrowed),
+        "UrlRef::agrees_with_git" => report_lent(out, &borrowed.agrees_with_git()),
+        "UrlRef::is_settled" => report_lent(out, &borrowed.is_settled()),
+        "UrlRef::original_path" => report_lent(out, &borrowed.original_path()),
+        "UrlRef::port_or_default" => report_lent(out, &borrowed.port_or_default()),
+        "UrlRef::path_is_root" => report_lent(out, &borrowed.path_is_root()),
+        "PathComponents::of" => report_owned(out, PathComponents::of(alloc, &borrowed)),
         "UrlRef:fmt" => show_display(out, &borrowed),
-        "UrlRef::text_len" => lent(out, &borrowed.text_len()),
-        "Url::text_of" => told(out, Url::text_of(alloc, &borrowed)),
+        "UrlRef::text_len" => report_lent(out, &borrowed.text_len()),
+        "Url::text_of" => report_owned(out, Url::text_of(alloc, &borrowed)),
         "UrlRef::write_to" => write_borrowed(&borrowed, out),
-        "UrlRef::user_as_argument" => lent(out, &borrowed.user_as_argument()),
-        "UrlRef::host_as_argument" => lent(out, &borrowed.host_as_argument()),
-        "UrlRef::user_argument_safe" => lent(out, &borrowed.user_argument_safe()),
-        "UrlRef::host_argument_safe" => lent(out, &borrowed.host_argument_safe()),
-        "UrlRef::path_argument_safe" => lent(out, &borrowed.path_argument_safe()),
+        "UrlRef::user_as_argument" => report_lent(out, &borrowed.user_as_argument()),
+        "UrlRef::host_as_argument" => report_lent(out, &borrowed.host_as_argument()),
+        "UrlRef::user_argument_safe" => report_lent(out, &borrowed.user_argument_safe()),
+        "UrlRef::host_argument_safe" => report_lent(out, &borrowed.host_argument_safe()),
+        "UrlRef::path_argument_safe" => report_lent(out, &borrowed.path_argument_safe()),
         _ => fill_or_cut(alloc, order, url, out),
     }
 }
@@ -282,7 +282,7 @@ fn fill(alloc: Global, order: Order<'_>, url: &UrlRef<'_>, out: &mut Out) -> Res
         Ok(())
     } else {
         let answer = url.write_into(room.as_mut_slice());
-        lent(out, &(answer, BStr::new(room.as_slice())))
+        report_lent(out, &(answer, BStr::new(room.as_slice())))
     };
     drop(room);
     outcome
@@ -304,7 +304,7 @@ fn write_borrowed(url: &UrlRef<'_>, out: &mut Out) -> Result<(), Halt> {
 
 /// Reports what is before a text that is written.
 fn begin_written(out: &mut Out) -> Result<(), Halt> {
-    tell_name(out, "{", "written")?;
+    report_name(out, "{", "written")?;
     Ok(out.write_all(b"\"")?)
 }
 
@@ -313,8 +313,8 @@ fn end_written(outcome: Result<(), WriteError>, out: &mut Out) -> Result<(), Hal
     out.write_all(b"\"")?;
     match outcome {
         Ok(()) => {}
-        Err(WriteError::Fault(fault)) => tell_member(out, "fault", &Some(fault))?,
-        Err(WriteError::Io(error)) => return Err(Halt::NotTold(error)),
+        Err(WriteError::Fault(fault)) => report_member(out, "fault", &Some(fault))?,
+        Err(WriteError::Io(error)) => return Err(Halt::NotReported(error)),
     }
     Ok(out.write_all(b"}")?)
 }
@@ -333,7 +333,7 @@ fn over_components(alloc: Global, order: Order<'_>, url: &Url, out: &mut Out) ->
 
 /// What the path of a location is made of.
 fn components(alloc: Global, url: &Url) -> Result<PathComponents<'_>, Halt> {
-    url.path_query_fragment(alloc).map_err(made::unprepared)
+    url.path_query_fragment(alloc).map_err(build::unprepared)
 }
 
 /// Calls over a path, a query and a fragment, and over the first name of the query.
@@ -344,16 +344,16 @@ fn cut(
     out: &mut Out,
 ) -> Result<(), Halt> {
     match order.call() {
-        "PathComponents::clone" => told(out, parts.clone(alloc)),
-        "QueryText::clone" => told(out, first_name(parts)?.clone(alloc)),
-        "QueryText::as_bstr" => lent(out, &first_name(parts)?.as_bstr()),
+        "PathComponents::clone" => report_owned(out, parts.clone(alloc)),
+        "QueryText::clone" => report_owned(out, first_name(parts)?.clone(alloc)),
+        "QueryText::as_bstr" => report_lent(out, &first_name(parts)?.as_bstr()),
         call => unknown(call),
     }
 }
 
 /// Calls over two locations.
 fn over_two(alloc: Global, order: Order<'_>, url: &Url, out: &mut Out) -> Result<(), Halt> {
-    let other = made::url(alloc, order, "other")?;
+    let other = build::url(alloc, order, "other")?;
     let outcome = match order.name() {
         "PathComponents:Eq" => over_two_paths(alloc, order, url, &other, out),
         _ => compare(order, url, &other, out),
@@ -377,7 +377,7 @@ fn over_two_paths(
     drop(parts);
     drop(others);
     if is_made {
-        lent(out, &are_equal)
+        report_lent(out, &are_equal)
     } else {
         Ok(())
     }
@@ -388,7 +388,7 @@ fn compare<T: Ord + Hash>(order: Order<'_>, one: &T, other: &T, out: &mut Out) -
     match order.call() {
         "Url:Ord" | "Scheme:Ord" | "ForUser:Ord" => {
             let orders = (one.cmp(other), one.partial_cmp(other));
-            lent(out, &(orders, alike(one, other)))
+            report_lent(out, &(orders, alike(one, other)))
         }
         call => unknown(call),
     }
@@ -396,7 +396,7 @@ fn compare<T: Ord + Hash>(order: Order<'_>, one: &T, other: &T, out: &mut Out) -
 
 /// Whether two values are equal, and whether they have one hash.
 fn alike<T: Eq + Hash>(one: &T, other: &T) -> (bool, bool) {
-    (one == other, hashed(one) == hashed(other))
+    (one == other, hash_of(one) == hash_of(other))
 }
 
 /// The member that a call takes beside a location that it changes or takes.
@@ -421,10 +421,10 @@ fn change(
     let text = order.owned(alloc, name)?;
     let path = BString::from_slice(alloc, url.path.as_bytes())?;
     match order.call() {
-        "Url::set_user" => told(out, (url.set_user(text), url)),
-        "Url::set_password" => told(out, (url.set_password(text), url)),
+        "Url::set_user" => report_owned(out, (url.set_user(text), url)),
+        "Url::set_password" => report_owned(out, (url.set_password(text), url)),
         "Url::with_request_alternate_form" => {
-            told(out, url.with_request_alternate_form(order.is(name)))
+            report_owned(out, url.with_request_alternate_form(order.is(name)))
         }
         "Url::canonicalize" => canonicalize(url, &path, text, out),
         "Url::canonicalized" => canonicalized(alloc, url, &path, text, out),
@@ -456,7 +456,7 @@ fn canonicalize(
         asked = asked.saturating_add(times(path, one));
         answer
     });
-    told(out, ((outcome, asked), url))
+    report_owned(out, ((outcome, asked), url))
 }
 
 /// Canonicalizes a copy of a location, and reports how often its path was asked for.
@@ -472,7 +472,7 @@ fn canonicalized(
         asked = asked.saturating_add(times(path, one));
         answer
     });
-    told(out, ((outcome, asked), url))
+    report_owned(out, ((outcome, asked), url))
 }
 
 /// Calls over a record of parts.
@@ -480,11 +480,11 @@ fn over_record(alloc: Global, order: Order<'_>, out: &mut Out) -> Result<(), Hal
     let Some(parts) = order.object("record") else {
         return Err(Halt::Unprepared);
     };
-    let record = made::record(alloc, parts)?;
+    let record = build::record(alloc, parts)?;
     match order.call() {
-        "Url::from_stored" => told(out, Url::from_stored(alloc, record)),
-        "Url::from_parts" => told(out, from_parts(alloc, record)),
-        "Url::from_parts_unchecked" => told(out, from_parts_unchecked(record)),
+        "Url::from_stored" => report_owned(out, Url::from_stored(alloc, record)),
+        "Url::from_parts" => report_owned(out, from_parts(alloc, record)),
+        "Url::from_parts_unchecked" => report_owned(out, from_parts_unchecked(record)),
         "StoredUrl:to_json" => to_json(alloc, record, out),
         call => {
             drop(record);
@@ -497,7 +497,7 @@ fn over_record(alloc: Global, order: Order<'_>, out: &mut Out) -> Result<(), Hal
 fn to_json(alloc: Global, record: StoredUrl, out: &mut Out) -> Result<(), Halt> {
     let json = serde_json::to_string(alloc, &record);
     drop(record);
-    told(out, json)
+    report_owned(out, json)
 }
 
 /// What is made of the parts of a record but its spelling.
@@ -534,7 +534,7 @@ fn over_json(alloc: Global, order: Order<'_>, out: &mut Out) -> Result<(), Halt>
         return show_record(alloc, order, json, out);
     }
     match order.call() {
-        "StoredUrl:from_json" => told(out, of_json(alloc, json)),
+        "StoredUrl:from_json" => report_owned(out, of_json(alloc, json)),
         "StoredUrl:again" => again(alloc, json, out),
         call => unknown(call),
     }
@@ -561,9 +561,9 @@ fn show_record(alloc: Global, order: Order<'_>, json: &str, out: &mut Out) -> Re
 /// Restores the location of a text of JSON, and reports the JSON that is stored of it.
 fn again(alloc: Global, json: &str, out: &mut Out) -> Result<(), Halt> {
     match of_json(alloc, json) {
-        Err(error) => told(out, Err::<(), serde_json::Error>(error)),
+        Err(error) => report_owned(out, Err::<(), serde_json::Error>(error)),
         Ok(record) => match Url::from_stored(alloc, record) {
-            Err(error) => told(out, error),
+            Err(error) => report_owned(out, error),
             Ok(url) => store(alloc, url, out),
         },
     }
@@ -574,14 +574,14 @@ fn store(alloc: Global, url: Url, out: &mut Out) -> Result<(), Halt> {
     let stored = url.to_stored(alloc);
     drop(url);
     match stored {
-        Err(error) => told(out, error),
+        Err(error) => report_owned(out, error),
         Ok(record) => to_json(alloc, record, out),
     }
 }
 
 /// Calls over a scheme.
 fn over_scheme(alloc: Global, order: Order<'_>, out: &mut Out) -> Result<(), Halt> {
-    let scheme = made::scheme(alloc, order.needed("scheme")?)?;
+    let scheme = build::scheme(alloc, order.needed("scheme")?)?;
     let outcome = look_at_scheme(alloc, order, &scheme, out);
     drop(scheme);
     outcome
@@ -595,12 +595,12 @@ fn look_at_scheme(
     out: &mut Out,
 ) -> Result<(), Halt> {
     match order.call() {
-        "Scheme::clone" => told(out, scheme.clone(alloc)),
-        "Scheme::as_str" => lent(out, &scheme.as_str()),
-        "Scheme::as_ref" => lent(out, &scheme.as_ref()),
-        "SchemeRef::as_str" => lent(out, &scheme.as_ref().as_str()),
-        "Scheme::default_port" => lent(out, &scheme.default_port()),
-        "SchemeRef::default_port" => lent(out, &scheme.as_ref().default_port()),
+        "Scheme::clone" => report_owned(out, scheme.clone(alloc)),
+        "Scheme::as_str" => report_lent(out, &scheme.as_str()),
+        "Scheme::as_ref" => report_lent(out, &scheme.as_ref()),
+        "SchemeRef::as_str" => report_lent(out, &scheme.as_ref().as_str()),
+        "Scheme::default_port" => report_lent(out, &scheme.default_port()),
+        "SchemeRef::default_port" => report_lent(out, &scheme.as_ref().default_port()),
         "Scheme:fmt" => show(out, order.style(), scheme),
         _ => over_two_schemes(alloc, order, scheme, out),
     }
@@ -613,10 +613,10 @@ fn over_two_schemes(
     scheme: &Scheme,
     out: &mut Out,
 ) -> Result<(), Halt> {
-    let Some(told) = order.text("other") else {
+    let Some(given) = order.text("other") else {
         return unknown(order.call());
     };
-    let other = made::scheme(alloc, told)?;
+    let other = build::scheme(alloc, given)?;
     let outcome = compare(order, scheme, &other, out);
     drop(other);
     outcome
@@ -625,10 +625,10 @@ fn over_two_schemes(
 /// Calls over a path, and over a user and a home folder beside it.
 fn over_path(alloc: Global, order: Order<'_>, out: &mut Out) -> Result<(), Halt> {
     let path = BString::new(order.bytes(alloc, "path")?);
-    let user = made::user(alloc, order, "user")?;
+    let user = build::user(alloc, order, "user")?;
     let before = user.as_ref().map(hashed);
     let outcome = match order.call() {
-        "expand_path::for_shell" => told(out, expand_path::for_shell(alloc, path)),
+        "expand_path::for_shell" => report_owned(out, expand_path::for_shell(alloc, path)),
         _ => over_home(alloc, order, &user, &path, out),
     };
     let is_changed = user.as_ref().map(hashed) != before;
@@ -653,7 +653,7 @@ fn over_home(
         "expand_path::with" => expand_with(alloc, user, path.as_bstr(), home, out),
         "expand_path::expand_path" => {
             let (user, path) = (user.as_ref(), path.as_bstr());
-            told(
+            report_owned(
                 out,
                 expand_path::expand_path(alloc, user, path, home.as_deref()),
             )
@@ -675,16 +675,16 @@ fn expand_with(
         asked = asked.saturating_add(if Some(one) == user.as_ref() { 1 } else { 100 });
         home
     });
-    told(out, (outcome, asked))
+    report_owned(out, (outcome, asked))
 }
 
 /// Calls over a user, and over another one beside it.
 fn over_user(alloc: Global, order: Order<'_>, out: &mut Out) -> Result<(), Halt> {
-    let Some(user) = made::user(alloc, order, "user")? else {
+    let Some(user) = build::user(alloc, order, "user")? else {
         return Err(Halt::Unprepared);
     };
     match order.call() {
-        "ForUser:into" => told(out, Option::<BString>::from(user)),
+        "ForUser:into" => report_owned(out, Option::<BString>::from(user)),
         _ => {
             let outcome = look_at_user(alloc, order, &user, out);
             drop(user);
@@ -700,10 +700,10 @@ fn look_at_user(
     user: &ForUser,
     out: &mut Out,
 ) -> Result<(), Halt> {
-    let other = made::user(alloc, order, "other")?;
+    let other = build::user(alloc, order, "other")?;
     let outcome = match (&other, order.call()) {
         (Some(other), _) => compare(order, user, other, out),
-        (None, "ForUser::clone") => told(out, user.clone(alloc)),
+        (None, "ForUser::clone") => report_owned(out, user.clone(alloc)),
         (None, call) => unknown(call),
     };
     drop(other);
@@ -722,9 +722,9 @@ fn over_error(alloc: Global, order: Order<'_>, out: &mut Out) -> Result<(), Halt
         "WriteFault:fmt" => show(out, style, &errors::write_fault(order.needed("fault")?)?),
         "WriteError:fmt" => show(out, style, &errors::write_error(order)?),
         "RunError:fmt" => show(out, style, &errors::run_error(order)?),
-        "lines::fault_line" => lent(out, &fault_line(&errors::run_error(order)?)),
-        "lines::status" => lent(out, &status(&errors::outcome(order)?)),
-        "Url::default_in" => told(out, Url::default_in(alloc)),
+        "lines::fault_line" => report_lent(out, &fault_line(&errors::run_error(order)?)),
+        "lines::status" => report_lent(out, &status(&errors::outcome(order)?)),
+        "Url::default_in" => report_owned(out, Url::default_in(alloc)),
         _ => over_nothing(order, out),
     }
 }
@@ -733,7 +733,7 @@ fn over_error(alloc: Global, order: Order<'_>, out: &mut Out) -> Result<(), Halt
 fn look_at_error(alloc: Global, order: Order<'_>, out: &mut Out) -> Result<(), Halt> {
     let error = errors::error(alloc, order)?;
     let outcome = match order.call() {
-        "Error::is_memory" => lent(out, &error.is_memory()),
+        "Error::is_memory" => report_lent(out, &error.is_memory()),
         "Error:fmt" => show(out, order.style(), &error),
         call => unknown(call),
     };
@@ -744,14 +744,14 @@ fn look_at_error(alloc: Global, order: Order<'_>, out: &mut Out) -> Result<(), H
 /// Laws, which hold of all values, and whose calls do nothing.
 fn over_nothing(order: Order<'_>, out: &mut Out) -> Result<(), Halt> {
     match order.call() {
-        "laws::law_address_test" => lent(out, &laws::law_address_test()),
-        "laws::law_sets" => lent(out, &laws::law_sets()),
-        "laws::law_arguments" => lent(out, &laws::law_arguments()),
-        "laws::law_separation" => lent(out, &laws::law_separation()),
-        "laws::law_stored" => lent(out, &laws::law_stored()),
-        "laws::law_closed" => lent(out, &laws::law_closed()),
-        "laws::law_order" => lent(out, &laws::law_order()),
-        "laws::law_scheme_order" => lent(out, &laws::law_scheme_order()),
+        "laws::law_address_test" => report_lent(out, &laws::law_address_test()),
+        "laws::law_sets" => report_lent(out, &laws::law_sets()),
+        "laws::law_arguments" => report_lent(out, &laws::law_arguments()),
+        "laws::law_separation" => report_lent(out, &laws::law_separation()),
+        "laws::law_stored" => report_lent(out, &laws::law_stored()),
+        "laws::law_closed" => report_lent(out, &laws::law_closed()),
+        "laws::law_order" => report_lent(out, &laws::law_order()),
+        "laws::law_scheme_order" => report_lent(out, &laws::law_scheme_order()),
         _ => over_nothing_else(order, out),
     }
 }
@@ -759,15 +759,15 @@ fn over_nothing(order: Order<'_>, out: &mut Out) -> Result<(), Halt> {
 /// The other laws, and calls over judgements of parts.
 fn over_nothing_else(order: Order<'_>, out: &mut Out) -> Result<(), Halt> {
     match order.call() {
-        "laws::law_refusals" => lent(out, &laws::law_refusals()),
-        "laws::law_readers" => lent(out, &laws::law_readers()),
-        "laws::law_lines" => lent(out, &laws::law_lines()),
-        "laws::law_components" => lent(out, &laws::law_components()),
-        "laws::law_git" => lent(out, &laws::law_git()),
-        "laws::law_stripped" => lent(out, &laws::law_stripped()),
-        "laws::law_homes" => lent(out, &laws::law_homes()),
-        "laws::law_user_order" => lent(out, &laws::law_user_order()),
-        "laws::law_hidden_password" => lent(out, &laws::law_hidden_password()),
+        "laws::law_refusals" => report_lent(out, &laws::law_refusals()),
+        "laws::law_readers" => report_lent(out, &laws::law_readers()),
+        "laws::law_lines" => report_lent(out, &laws::law_lines()),
+        "laws::law_components" => report_lent(out, &laws::law_components()),
+        "laws::law_git" => report_lent(out, &laws::law_git()),
+        "laws::law_stripped" => report_lent(out, &laws::law_stripped()),
+        "laws::law_homes" => report_lent(out, &laws::law_homes()),
+        "laws::law_user_order" => report_lent(out, &laws::law_user_order()),
+        "laws::law_hidden_password" => report_lent(out, &laws::law_hidden_password()),
         "ArgumentSafety:Eq" => over_judgements(order, out),
         _ => rules::over_nothing(order, out),
     }
@@ -775,7 +775,7 @@ fn over_nothing_else(order: Order<'_>, out: &mut Out) -> Result<(), Halt> {
 
 /// Whether a judgement of a part is equal to a copy of it, and to another one.
 fn over_judgements(order: Order<'_>, out: &mut Out) -> Result<(), Halt> {
-    let one = made::judgement(order, "one");
+    let one = build::judgement(order, "one");
     let copy = one;
-    lent(out, &(one == copy, one == made::judgement(order, "other")))
+    report_lent(out, &(one == copy, one == build::judgement(order, "other")))
 }

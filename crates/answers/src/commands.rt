@@ -4,7 +4,7 @@
 
 use crate::halt::Halt;
 use crate::order::{Order, unknown};
-use crate::tell::{Out, lent, told};
+use crate::report::{Out, report_lent, report_owned};
 use bstr::BString;
 use git_rules::ssh::{
     ProtocolVersion, Service, SshCommand, SshError, SshVariant, ssh_command, ssh_words,
@@ -53,7 +53,7 @@ fn version(order: Order<'_>) -> Result<ProtocolVersion, Halt> {
 pub fn over_service(order: Order<'_>, out: &mut Out) -> Result<(), Halt> {
     let service = service(order)?;
     match order.call() {
-        "Service::as_str" => lent(out, &service.as_str()),
+        "Service::as_str" => report_lent(out, &service.as_str()),
         call => unknown(call),
     }
 }
@@ -68,9 +68,9 @@ pub fn over_url(
     let (service, variant, version) = (service(order)?, variant(order)?, version(order)?);
     match order.call() {
         "" => Ok(()),
-        "ssh::ssh_words" => told(out, ssh_words(alloc, url, service, variant, version)),
+        "ssh::ssh_words" => report_owned(out, ssh_words(alloc, url, service, variant, version)),
         _ => match ssh_command(url, service, variant, version) {
-            Err(refusal) => lent(out, &refusal),
+            Err(refusal) => report_lent(out, &refusal),
             Ok(command) => over_command(alloc, order, command, out),
         },
     }
@@ -84,8 +84,8 @@ fn over_command(
     out: &mut Out,
 ) -> Result<(), Halt> {
     let outcome = match order.call() {
-        "ssh::ssh_command" | "SshCommand::to_words" => told(out, words_of(alloc, &command)),
-        "SshCommand::git_protocol" => lent(out, &command.git_protocol()),
+        "ssh::ssh_command" | "SshCommand::to_words" => report_owned(out, words_of(alloc, &command)),
+        "SshCommand::git_protocol" => report_lent(out, &command.git_protocol()),
         call => unknown(call),
     };
     drop(command);

@@ -2,7 +2,7 @@
 
 use crate::halt::Halt;
 use crate::order::Order;
-use crate::tell::{Out, Tell, tell_member, tell_name};
+use crate::report::{Out, Report, report_member, report_name};
 use bstr::{BStr, BString};
 use gix_url::lines::RunError;
 use gix_url::parse::{UrlKind, parse};
@@ -10,25 +10,25 @@ use gix_url::{Error, ParseError, Refusal, UrlFault, WriteError, WriteFault};
 use std::alloc::Global;
 use std::io::{self, ErrorKind, Write};
 
-impl Tell for Error {
-    fn tell(&self, out: &mut Out) -> io::Result<()> {
+impl Report for Error {
+    fn report(&self, out: &mut Out) -> io::Result<()> {
         out.write_all(b"{\"error\":\"")?;
-        tell_fields(out, self)?;
-        tell_error_place(out, self)?;
+        report_fields(out, self)?;
+        report_error_place(out, self)?;
         out.write_all(b"}")
     }
 }
 
 /// Reports the name of an error of reading, with the form and the fault, and the text that it keeps.
-fn tell_fields(out: &mut Out, error: &Error) -> io::Result<()> {
+fn report_fields(out: &mut Out, error: &Error) -> io::Result<()> {
     match error {
         Error::MissingPath { kind, input, .. } => {
             write!(out, "MissingPath {kind:?}\"")?;
-            tell_kept(out, input)
+            report_kept(out, input)
         }
         Error::NotUtf8 { kind, input, .. } => {
             write!(out, "NotUtf8 {kind:?}\"")?;
-            tell_kept(out, input)
+            report_kept(out, input)
         }
         Error::BadUrl {
             kind,
@@ -37,69 +37,69 @@ fn tell_fields(out: &mut Out, error: &Error) -> io::Result<()> {
             ..
         } => {
             write!(out, "BadUrl {fault:?} {kind:?}\"")?;
-            tell_kept(out, input)
+            report_kept(out, input)
         }
         Error::TooLong { shown, total, .. } => {
             out.write_all(b"TooLong\"")?;
-            tell_kept(out, shown)?;
+            report_kept(out, shown)?;
             write!(out, ",\"total\":{total}")
         }
-        _ => tell_other(out, error),
+        _ => report_other(out, error),
     }
 }
 
 /// Prints the place of what is wrong with the text, which errors of reading have.
-fn tell_error_place(out: &mut Out, error: &Error) -> io::Result<()> {
+fn report_error_place(out: &mut Out, error: &Error) -> io::Result<()> {
     match error {
-        Error::MissingPath { at, .. } | Error::NotUtf8 { at, .. } => tell_at(out, *at),
+        Error::MissingPath { at, .. } | Error::NotUtf8 { at, .. } => report_at(out, *at),
         Error::TooLong { at, len, .. } | Error::BadUrl { at, len, .. } => {
-            tell_at(out, *at)?;
-            tell_len(out, *len)
+            report_at(out, *at)?;
+            report_len(out, *len)
         }
         _ => Ok(()),
     }
 }
 
 /// Prints how many bytes are before what is wrong.
-fn tell_at(out: &mut Out, at: usize) -> io::Result<()> {
+fn report_at(out: &mut Out, at: usize) -> io::Result<()> {
     write!(out, ",\"at\":{at}")
 }
 
 /// Prints the length of what is wrong.
-fn tell_len(out: &mut Out, len: usize) -> io::Result<()> {
+fn report_len(out: &mut Out, len: usize) -> io::Result<()> {
     write!(out, ",\"len\":{len}")
 }
 
 /// Reports the bytes that an error keeps.
-fn tell_kept(out: &mut Out, bytes: &BString) -> io::Result<()> {
-    tell_member(out, "kept", &Some(bytes.as_bstr()))
+fn report_kept(out: &mut Out, bytes: &BString) -> io::Result<()> {
+    report_member(out, "kept", &Some(bytes.as_bstr()))
 }
 
 /// Reports the name of any other error, and the name of the helper or the user.
-fn tell_other(out: &mut Out, error: &Error) -> io::Result<()> {
+fn report_other(out: &mut Out, error: &Error) -> io::Result<()> {
     match error {
         Error::HelperName { name } => {
             out.write_all(b"HelperName\"")?;
-            tell_kept(out, name)
+            report_kept(out, name)
         }
         Error::NoHome(user) => {
             out.write_all(b"NoHome\"")?;
-            tell_name(out, ",", "user")?;
-            user.tell(out)
+            report_name(out, ",", "user")?;
+            user.report(out)
         }
         Error::Unwritable(fault) => write!(out, "Unwritable {fault:?}\""),
         _ => write!(out, "{error:?}\""),
     }
 }
 
-impl Tell for ParseError<'_> {
-    fn tell(&self, out: &mut Out) -> io::Result<()> {
+impl Report for ParseError<'_> {
+    fn report(&self, out: &mut Out) -> io::Result<()> {
         out.write_all(b"{\"error\":\"")?;
         match self {
             ParseError::NoRoom => out.write_all(b"NoRoom\"")?,
             ParseError::Refused(refusal) => {
-                tell_refusal(out, refusal)?;
-                tell_refusal_place(out, refusal)?;
+                report_refusal(out, refusal)?;
+                report_refusal_place(out, refusal)?;
             }
         }
         out.write_all(b"}")
@@ -107,7 +107,7 @@ impl Tell for ParseError<'_> {
 }
 
 /// Reports the name of a refusal, with the form and the fault, and the front that it shows.
-fn tell_refusal(out: &mut Out, refusal: &Refusal<'_>) -> io::Result<()> {
+fn report_refusal(out: &mut Out, refusal: &Refusal<'_>) -> io::Result<()> {
     match refusal {
         Refusal::EmptyLocal => out.write_all(b"EmptyLocal\""),
         Refusal::MissingPath { kind, .. } => write!(out, "MissingPath {kind:?}\""),
@@ -115,32 +115,32 @@ fn tell_refusal(out: &mut Out, refusal: &Refusal<'_>) -> io::Result<()> {
         Refusal::BadUrl { kind, fault, .. } => write!(out, "BadUrl {fault:?} {kind:?}\""),
         Refusal::TooLong { shown, total, .. } => {
             out.write_all(b"TooLong\"")?;
-            tell_member(out, "kept", &Some(BStr::new(shown)))?;
+            report_member(out, "kept", &Some(BStr::new(shown)))?;
             write!(out, ",\"total\":{total}")
         }
     }
 }
 
 /// Prints the place of what is wrong with the text that is refused.
-fn tell_refusal_place(out: &mut Out, refusal: &Refusal<'_>) -> io::Result<()> {
+fn report_refusal_place(out: &mut Out, refusal: &Refusal<'_>) -> io::Result<()> {
     match refusal {
         Refusal::EmptyLocal => Ok(()),
-        Refusal::MissingPath { at, .. } | Refusal::NotUtf8 { at, .. } => tell_at(out, *at),
+        Refusal::MissingPath { at, .. } | Refusal::NotUtf8 { at, .. } => report_at(out, *at),
         Refusal::TooLong { at, len, .. } | Refusal::BadUrl { at, len, .. } => {
-            tell_at(out, *at)?;
-            tell_len(out, *len)
+            report_at(out, *at)?;
+            report_len(out, *len)
         }
     }
 }
 
-impl Tell for WriteFault {
-    fn tell(&self, out: &mut Out) -> io::Result<()> {
+impl Report for WriteFault {
+    fn report(&self, out: &mut Out) -> io::Result<()> {
         write!(out, "{{\"error\":\"Unwritable {self:?}\"}}")
     }
 }
 
-impl Tell for RunError {
-    fn tell(&self, out: &mut Out) -> io::Result<()> {
+impl Report for RunError {
+    fn report(&self, out: &mut Out) -> io::Result<()> {
         let name = match self {
             RunError::Memory => "Memory",
             RunError::Read(_) => "Read",
@@ -150,8 +150,8 @@ impl Tell for RunError {
     }
 }
 
-impl Tell for serde_json::Error {
-    fn tell(&self, out: &mut Out) -> io::Result<()> {
+impl Report for serde_json::Error {
+    fn report(&self, out: &mut Out) -> io::Result<()> {
         if self.is_memory() {
             return out.write_all(b"{\"error\":\"Memory\"}");
         }
@@ -194,7 +194,7 @@ pub fn write_fault(name: &str) -> Result<WriteFault, Halt> {
 /// The error that a text is refused with, or the error of this name and these fields.
 pub fn error(alloc: Global, order: Order<'_>) -> Result<Error, Halt> {
     match order.object("error") {
-        Some(told) => error_of(alloc, told),
+        Some(given) => error_of(alloc, given),
         None => match parse(alloc, BStr::new(order.bytes(alloc, "text")?.as_slice())) {
             Err(error) => Ok(error),
             Ok(url) => {
@@ -206,38 +206,38 @@ pub fn error(alloc: Global, order: Order<'_>) -> Result<Error, Halt> {
 }
 
 /// The error of this name and these fields.
-fn error_of(alloc: Global, told: Order<'_>) -> Result<Error, Halt> {
-    let kept = BString::new(told.bytes(alloc, "kept")?);
-    let (name, rest) = told
+fn error_of(alloc: Global, given: Order<'_>) -> Result<Error, Halt> {
+    let kept = BString::new(given.bytes(alloc, "kept")?);
+    let (name, rest) = given
         .needed("error")?
         .split_once(' ')
-        .unwrap_or((told.needed("error")?, ""));
+        .unwrap_or((given.needed("error")?, ""));
     match name {
         "MissingPath" => Ok(Error::MissingPath {
             kind: kind(rest)?,
             input: kept,
-            at: number(told, "at"),
+            at: number(given, "at"),
         }),
         "NotUtf8" => Ok(Error::NotUtf8 {
             kind: kind(rest)?,
             input: kept,
-            at: number(told, "at"),
+            at: number(given, "at"),
         }),
         "TooLong" => Ok(Error::TooLong {
             shown: kept,
             total: 2016,
-            at: number(told, "at"),
-            len: number(told, "len"),
+            at: number(given, "at"),
+            len: number(given, "len"),
         }),
         "HelperName" => Ok(Error::HelperName { name: kept }),
-        "BadUrl" => bad_url(told, rest, kept),
-        "NoHome" => no_home(alloc, told),
+        "BadUrl" => bad_url(given, rest, kept),
+        "NoHome" => no_home(alloc, given),
         _ => bare_error(name, rest),
     }
 }
 
 /// The error of a form with a fault.
-fn bad_url(told: Order<'_>, names: &str, input: BString) -> Result<Error, Halt> {
+fn bad_url(given: Order<'_>, names: &str, input: BString) -> Result<Error, Halt> {
     let Some((fault_name, kind_name)) = names.split_once(' ') else {
         return Err(Halt::Unprepared);
     };
@@ -245,19 +245,19 @@ fn bad_url(told: Order<'_>, names: &str, input: BString) -> Result<Error, Halt> 
         kind: kind(kind_name)?,
         fault: fault(fault_name)?,
         input,
-        at: number(told, "at"),
-        len: number(told, "len"),
+        at: number(given, "at"),
+        len: number(given, "len"),
     })
 }
 
 /// The number in this member of an error's object, or 0 if there is none.
-fn number(told: Order<'_>, name: &str) -> usize {
-    usize::try_from(told.number(name).unwrap_or(0)).unwrap_or(0)
+fn number(given: Order<'_>, name: &str) -> usize {
+    usize::try_from(given.number(name).unwrap_or(0)).unwrap_or(0)
 }
 
 /// The error that no home is known for a user.
-fn no_home(alloc: Global, told: Order<'_>) -> Result<Error, Halt> {
-    match crate::made::user(alloc, told, "user")? {
+fn no_home(alloc: Global, given: Order<'_>) -> Result<Error, Halt> {
+    match crate::build::user(alloc, given, "user")? {
         Some(user) => Ok(Error::NoHome(user)),
         None => Err(Halt::Unprepared),
     }

@@ -15,7 +15,7 @@ pub enum Halt {
     /// The call changed what it only borrows.
     Changed,
     /// The outcome can't be written.
-    NotTold(io::Error),
+    NotReported(io::Error),
 }
 
 impl Halt {
@@ -26,7 +26,7 @@ impl Halt {
             Halt::Unknown => "no such call",
             Halt::Unprepared => "not prepared",
             Halt::Changed => "what was borrowed is changed",
-            Halt::NotTold(_) => "not told",
+            Halt::NotReported(_) => "not told",
         }
     }
 }
@@ -45,6 +45,6 @@ impl From<AllocFailed<u8>> for Halt {
 
 impl From<io::Error> for Halt {
     fn from(error: io::Error) -> Halt {
-        Halt::NotTold(error)
+        Halt::NotReported(error)
     }
 }

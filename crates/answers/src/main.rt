@@ -1,34 +1,35 @@
 //! Makes calls of the library and reports how each ended: what `scripts/vectors` asks for the rows of `vectors/`.
 //!
 //! Each line of the standard input is an order, one call as JSON, and is answered by one line of JSON. `order` reads
-//! orders, `made` makes what calls are over, `calls` is the table of calls, `rules` that of calls of `git_rules`, `tell` and
+//! orders, `build` makes what calls are over, `calls` is the table of calls, `rules` that of calls of `git_rules`,
+//! `report` and
 //! `parts` tell outcomes.
 //!
 //! All memory but the call's own is taken before the call is made, and an order can end there: so `scripts/hostile` can
 //! count the requests of a call, and refuse each of them.
 #![tactic(auto)]
 
+mod build;
 mod bytes;
 mod calls;
 mod commands;
 mod errors;
 mod halt;
-mod made;
 mod order;
 mod parts;
 mod places;
+mod report;
 mod rewriting;
 mod rule_outcomes;
 mod rules;
 mod shown;
-mod tell;
 
 use halt::Halt;
 use order::Order;
+use report::Out;
 use serde_json::Value;
 use std::alloc::Global;
 use std::io::{self, BufRead, BufReader, BufWriter, Write};
-use tell::Out;
 
 /// Carries out the order of a line.
 fn carry_out(alloc: Global, line: &[u8], out: &mut Out) -> Result<(), Halt> {
@@ -44,7 +45,7 @@ fn carry_out(alloc: Global, line: &[u8], out: &mut Out) -> Result<(), Halt> {
 fn answer(alloc: Global, line: &[u8], out: &mut Out) -> io::Result<()> {
     match carry_out(alloc, line, out) {
         Ok(()) => {}
-        Err(Halt::NotTold(error)) => return Err(error),
+        Err(Halt::NotReported(error)) => return Err(error),
         Err(halt) => write!(out, "{{\"halt\":\"{}\"}}", halt.words())?,
     }
     out.write_all(b"\n")

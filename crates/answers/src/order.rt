@@ -1,7 +1,7 @@
 //! Orders: an object of JSON. Its member `call` names the call, `prepare` says that the order ends before the call, and
 //! the others are what the call is over, by their names.
 
-use crate::bytes::decoded;
+use crate::bytes::decode;
 use crate::halt::Halt;
 use serde_json::Value;
 use std::alloc::Global;
@@ -71,13 +71,13 @@ impl<'a> Order<'a> {
 
     /// The bytes of a member; none where it isn't there.
     pub fn bytes(self, alloc: Global, name: &str) -> Result<Vec<u8>, Halt> {
-        decoded(alloc, self.text(name).unwrap_or(""))
+        decode(alloc, self.text(name).unwrap_or(""))
     }
 
     /// The bytes of a member, if it is a text.
     pub fn some_bytes(self, alloc: Global, name: &str) -> Result<Option<Vec<u8>>, Halt> {
         match self.text(name) {
-            Some(text) => Ok(Some(decoded(alloc, text)?)),
+            Some(text) => Ok(Some(decode(alloc, text)?)),
             None => Ok(None),
         }
     }

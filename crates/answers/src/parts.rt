@@ -2,21 +2,21 @@
 //! of, and what a part is to a command.
 
 use crate::halt::Halt;
-use crate::tell::{Out, Tell, tell_member, tell_name};
+use crate::report::{Out, Report, report_member, report_name};
 use bstr::BStr;
 use gix_url::expand_path::ForUser;
 use gix_url::stored::StoredUrl;
 use gix_url::{ArgumentSafety, PathComponents, QueryText, Scheme, SchemeRef, Url, UrlRef};
 use std::io::{self, Write};
 
-impl Tell for Scheme {
-    fn tell(&self, out: &mut Out) -> io::Result<()> {
-        self.as_ref().tell(out)
+impl Report for Scheme {
+    fn report(&self, out: &mut Out) -> io::Result<()> {
+        self.as_ref().report(out)
     }
 }
 
-impl Tell for SchemeRef<'_> {
-    fn tell(&self, out: &mut Out) -> io::Result<()> {
+impl Report for SchemeRef<'_> {
+    fn report(&self, out: &mut Out) -> io::Result<()> {
         match self {
             SchemeRef::File => out.write_all(b"\"File\""),
             SchemeRef::Git => out.write_all(b"\"Git\""),
@@ -24,21 +24,21 @@ impl Tell for SchemeRef<'_> {
             SchemeRef::Http => out.write_all(b"\"Http\""),
             SchemeRef::Https => out.write_all(b"\"Https\""),
             SchemeRef::Ext => out.write_all(b"\"Ext\""),
-            SchemeRef::Helper(name) => tell_named(out, "Helper ", name.as_bytes()),
-            SchemeRef::HelperUrl(name) => tell_named(out, "HelperUrl ", name.as_bytes()),
+            SchemeRef::Helper(name) => report_named(out, "Helper ", name.as_bytes()),
+            SchemeRef::HelperUrl(name) => report_named(out, "HelperUrl ", name.as_bytes()),
         }
     }
 }
 
 /// Reports a name behind a word, as one text.
-fn tell_named(out: &mut Out, word: &str, name: &[u8]) -> io::Result<()> {
+fn report_named(out: &mut Out, word: &str, name: &[u8]) -> io::Result<()> {
     write!(out, "\"{word}")?;
     crate::bytes::write_inside(out, name)?;
     out.write_all(b"\"")
 }
 
 /// Reports the parts of a location or a record, but its path and its spelling: the texts are user, password and host.
-fn tell_front(
+fn report_front(
     out: &mut Out,
     scheme: SchemeRef<'_>,
     texts: [Option<&str>; 3],
@@ -46,28 +46,28 @@ fn tell_front(
     alternative: bool,
 ) -> io::Result<()> {
     let [user, password, host] = texts;
-    tell_name(out, "{", "scheme")?;
-    scheme.tell(out)?;
-    tell_member(out, "user", &user)?;
-    tell_member(out, "password", &password)?;
-    tell_member(out, "host", &host)?;
-    tell_member(out, "port", &port)?;
-    tell_member(out, "alternative", &alternative.then_some(true))
+    report_name(out, "{", "scheme")?;
+    scheme.report(out)?;
+    report_member(out, "user", &user)?;
+    report_member(out, "password", &password)?;
+    report_member(out, "host", &host)?;
+    report_member(out, "port", &port)?;
+    report_member(out, "alternative", &alternative.then_some(true))
 }
 
 /// Reports a path, and its spelling if it has one, and ends the parts.
-fn tell_path(out: &mut Out, path: &[u8], spelling: Option<&[u8]>) -> io::Result<()> {
-    tell_member(out, "path", &Some(BStr::new(path)))?;
+fn report_path(out: &mut Out, path: &[u8], spelling: Option<&[u8]>) -> io::Result<()> {
+    report_member(out, "path", &Some(BStr::new(path)))?;
     if let Some(spelling) = spelling {
-        tell_member(out, "spelling", &Some(BStr::new(spelling)))?;
+        report_member(out, "spelling", &Some(BStr::new(spelling)))?;
     }
     out.write_all(b"}")
 }
 
-impl Tell for Url {
-    fn tell(&self, out: &mut Out) -> io::Result<()> {
+impl Report for Url {
+    fn report(&self, out: &mut Out) -> io::Result<()> {
         let texts = [&self.user, &self.password, &self.host].map(Option::as_deref);
-        tell_front(
+        report_front(
             out,
             self.scheme.as_ref(),
             texts,
@@ -75,7 +75,7 @@ impl Tell for Url {
             self.serialize_alternative_form,
         )?;
         let (path, spelling) = (self.path.as_bytes(), self.original_path().as_bytes());
-        tell_path(
+        report_path(
             out,
             path,
             if spelling == path {
@@ -87,31 +87,31 @@ impl Tell for Url {
     }
 }
 
-impl Tell for UrlRef<'_> {
-    fn tell(&self, out: &mut Out) -> io::Result<()> {
+impl Report for UrlRef<'_> {
+    fn report(&self, out: &mut Out) -> io::Result<()> {
         let texts = [self.user, self.password, self.host];
-        tell_front(
+        report_front(
             out,
             self.scheme,
             texts,
             self.port,
             self.serialize_alternative_form,
         )?;
-        tell_path(out, self.path, self.spelling)
+        report_path(out, self.path, self.spelling)
     }
 }
 
-impl Tell for StoredUrl {
-    fn tell(&self, out: &mut Out) -> io::Result<()> {
+impl Report for StoredUrl {
+    fn report(&self, out: &mut Out) -> io::Result<()> {
         let texts = [&self.user, &self.password, &self.host].map(Option::as_deref);
-        tell_front(
+        report_front(
             out,
             self.scheme.as_ref(),
             texts,
             self.port,
             self.serialize_alternative_form,
         )?;
-        tell_path(
+        report_path(
             out,
             self.path.as_slice(),
             self.path_with_percent_escapes.as_deref(),
@@ -119,64 +119,64 @@ impl Tell for StoredUrl {
     }
 }
 
-impl Tell for ForUser {
-    fn tell(&self, out: &mut Out) -> io::Result<()> {
+impl Report for ForUser {
+    fn report(&self, out: &mut Out) -> io::Result<()> {
         match self {
             ForUser::Current => out.write_all(b"\"~\""),
-            ForUser::Name(name) => tell_named(out, "~", name.as_bytes()),
+            ForUser::Name(name) => report_named(out, "~", name.as_bytes()),
         }
     }
 }
 
-impl Tell for ArgumentSafety<'_> {
-    fn tell(&self, out: &mut Out) -> io::Result<()> {
+impl Report for ArgumentSafety<'_> {
+    fn report(&self, out: &mut Out) -> io::Result<()> {
         match self {
             ArgumentSafety::Absent => out.write_all(b"null"),
-            ArgumentSafety::Usable(text) => tell_judged(out, "usable", text),
-            ArgumentSafety::Dangerous(text) => tell_judged(out, "dangerous", text),
+            ArgumentSafety::Usable(text) => report_judged(out, "usable", text),
+            ArgumentSafety::Dangerous(text) => report_judged(out, "dangerous", text),
         }
     }
 }
 
 /// Reports what a text is to a command.
-fn tell_judged(out: &mut Out, word: &str, text: &str) -> io::Result<()> {
-    tell_name(out, "{", word)?;
-    text.tell(out)?;
+fn report_judged(out: &mut Out, word: &str, text: &str) -> io::Result<()> {
+    report_name(out, "{", word)?;
+    text.report(out)?;
     out.write_all(b"}")
 }
 
-impl Tell for QueryText<'_> {
-    fn tell(&self, out: &mut Out) -> io::Result<()> {
+impl Report for QueryText<'_> {
+    fn report(&self, out: &mut Out) -> io::Result<()> {
         match self {
-            QueryText::Borrowed(_) => self.as_bstr().tell(out),
+            QueryText::Borrowed(_) => self.as_bstr().report(out),
             QueryText::Owned(_) => {
-                tell_name(out, "{", "owned")?;
-                self.as_bstr().tell(out)?;
+                report_name(out, "{", "owned")?;
+                self.as_bstr().report(out)?;
                 out.write_all(b"}")
             }
         }
     }
 }
 
-impl Tell for PathComponents<'_> {
-    fn tell(&self, out: &mut Out) -> io::Result<()> {
-        tell_name(out, "{", "path")?;
-        self.path.tell(out)?;
+impl Report for PathComponents<'_> {
+    fn report(&self, out: &mut Out) -> io::Result<()> {
+        report_name(out, "{", "path")?;
+        self.path.report(out)?;
         if let Some(fields) = &self.query {
-            tell_fields(out, fields.as_slice())?;
+            report_fields(out, fields.as_slice())?;
         }
-        tell_member(out, "fragment", &self.fragment)?;
+        report_member(out, "fragment", &self.fragment)?;
         out.write_all(b"}")
     }
 }
 
 /// Reports the names and the values of a query.
-fn tell_fields(out: &mut Out, fields: &[(QueryText<'_>, QueryText<'_>)]) -> io::Result<()> {
-    tell_name(out, ",", "query")?;
+fn report_fields(out: &mut Out, fields: &[(QueryText<'_>, QueryText<'_>)]) -> io::Result<()> {
+    report_name(out, ",", "query")?;
     let mut before = "[";
     for (name, value) in fields {
         write!(out, "{before}")?;
-        crate::tell::tell_pair(out, name, value)?;
+        crate::report::report_pair(out, name, value)?;
         before = ",";
     }
     out.write_all(if fields.is_empty() { b"[]" } else { b"]" })

@@ -4,7 +4,7 @@
 
 use crate::halt::Halt;
 use crate::order::{Order, unknown};
-use crate::tell::{Out, lent, told};
+use crate::report::{Out, report_lent, report_owned};
 use bstr::BStr;
 use git_rules::config::Entry;
 use git_rules::normal::{NormalError, NormalUrl};
@@ -43,8 +43,14 @@ pub fn over_text(alloc: Global, order: Order<'_>, text: &[u8], out: &mut Out) ->
 /// Reports the normal form of a text, or that it is a pattern.
 fn read(order: Order<'_>, text: &[u8], room: &mut [u8], out: &mut Out) -> Result<(), Halt> {
     match order.call() {
-        "NormalUrl::parse_in" => told(out, NormalUrl::parse_in(text, order.is("globs"), room)),
-        "UrlPattern::parse_in" => told(out, UrlPattern::parse_in(text, room).map(is_pattern)),
+        "NormalUrl::parse_in" => report_owned(
+            out,
+            NormalUrl::parse_in(text, order.is("globs"), room),
+        ),
+        "UrlPattern::parse_in" => report_owned(
+            out,
+            UrlPattern::parse_in(text, room).map(is_pattern),
+        ),
         call => unknown(call),
     }
 }
@@ -82,7 +88,7 @@ fn over_place(
 fn refused(order: Order<'_>, error: NormalError, out: &mut Out) -> Result<(), Halt> {
     match order.call() {
         "" => Ok(()),
-        _ => lent(out, &error),
+        _ => report_lent(out, &error),
     }
 }
 
@@ -108,7 +114,7 @@ fn over_pattern(
 /// Reports whether a pattern matches, where a call is made.
 fn match_of(order: Order<'_>, is_match: bool, out: &mut Out) -> Result<(), Halt> {
     match order.call() {
-        "UrlPattern::matches" => lent(out, &is_match),
+        "UrlPattern::matches" => report_lent(out, &is_match),
         call => unknown(call),
     }
 }
@@ -138,7 +144,7 @@ fn over_patterns(
 /// Reports the index of the best of patterns, where a call is made.
 fn best_of(order: Order<'_>, found: Option<usize>, out: &mut Out) -> Result<(), Halt> {
     match order.call() {
-        "pattern::best" => lent(out, &found),
+        "pattern::best" => report_lent(out, &found),
         call => unknown(call),
     }
 }
@@ -186,7 +192,7 @@ fn pick(
             )
         }
         ("entries::entry_rank", Some(entry)) => {
-            lent(out, &entry_rank(entry, section, name, place, room))
+            report_lent(out, &entry_rank(entry, section, name, place, room))
         }
         ("entries::entry_rank", None) => Err(Halt::Unprepared),
         (call, _) => unknown(call),
@@ -200,11 +206,11 @@ fn value_of(
     out: &mut Out,
 ) -> Result<(), Halt> {
     match found {
-        Err(error) => lent(out, &error),
+        Err(error) => report_lent(out, &error),
         Ok(at) => {
             let entry = at.and_then(|at| entries.get(at));
             let value = entry.and_then(|entry| entry.value);
-            lent(out, &value.map(|value| BStr::new(value)))
+            report_lent(out, &value.map(|value| BStr::new(value)))
         }
     }
 }
@@ -222,7 +228,7 @@ pub fn over_location(
     };
     let mut room = room_for(alloc, order, len.saturating_mul(2))?;
     let outcome = match order.call() {
-        "place::place_in" => told(out, place_in(url, &mut room)),
+        "place::place_in" => report_owned(out, place_in(url, &mut room)),
         call => unknown(call),
     };
     drop(room);

@@ -2,7 +2,7 @@
 
 use crate::halt::Halt;
 use crate::order::{Order, unknown};
-use crate::tell::{Out, told};
+use crate::report::{Out, report_owned};
 use bstr::BString;
 use git_rules::config::Entry;
 use git_rules::rewrite::{RewriteError, Rewrites};
@@ -30,15 +30,15 @@ fn rewrite(
     out: &mut Out,
 ) -> Result<(), Halt> {
     match order.call() {
-        "Rewrites::from_entries" => told(out, fill(alloc, entries)),
+        "Rewrites::from_entries" => report_owned(out, fill(alloc, entries)),
         "Rewrites::rewrite_fetch" | "Rewritten::to_bstring" => {
-            told(out, fetched(alloc, entries, text))
+            report_owned(out, fetched(alloc, entries, text))
         }
         "Rewrites::rewrite_push" => {
-            told(out, pushed(alloc, entries, text, order.is("has_push_url")))
+            report_owned(out, pushed(alloc, entries, text, order.is("has_push_url")))
         }
-        "Rewrites::add_entry" => told(out, by_entries(alloc, entries, text)),
-        "Rewritten::is_rewritten" => told(out, is_rewritten(alloc, entries, text)),
+        "Rewrites::add_entry" => report_owned(out, by_entries(alloc, entries, text)),
+        "Rewritten::is_rewritten" => report_owned(out, is_rewritten(alloc, entries, text)),
         call => unknown(call),
     }
 }
@@ -101,9 +101,9 @@ pub fn over_rule(alloc: Global, order: Order<'_>, text: &[u8], out: &mut Out) ->
     let base = order.bytes(alloc, "base")?;
     let front = order.bytes(alloc, "front")?;
     let outcome = match order.call() {
-        "Rewrites::new" => told(out, both(alloc, Rewrites::new(alloc), text)),
-        "Rewrites::add_fetch" => told(out, by_fetch_rule(alloc, &base, &front, text)),
-        "Rewrites::add_push" => told(out, by_push_rule(alloc, &base, &front, text)),
+        "Rewrites::new" => report_owned(out, both(alloc, Rewrites::new(alloc), text)),
+        "Rewrites::add_fetch" => report_owned(out, by_fetch_rule(alloc, &base, &front, text)),
+        "Rewrites::add_push" => report_owned(out, by_push_rule(alloc, &base, &front, text)),
         call => unknown(call),
     };
     drop(front);

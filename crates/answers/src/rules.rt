@@ -5,10 +5,10 @@
 
 use crate::halt::Halt;
 use crate::order::{Order, unknown};
-use crate::rule_outcomes::tell_items;
+use crate::report::{Out, report_lent, report_owned};
+use crate::rule_outcomes::report_items;
 use crate::shown::show_debug;
-use crate::tell::{Out, lent, told};
-use crate::{commands, made, places, rewriting};
+use crate::{build, commands, places, rewriting};
 use git_rules::boolean::read_boolean;
 use git_rules::config::law::law_one_reading;
 use git_rules::config::{self, Entry, Reader};
@@ -81,8 +81,8 @@ fn over_config(alloc: Global, order: Order<'_>, out: &mut Out) -> Result<(), Hal
 /// Calls that read the text of a configuration.
 fn over_reader(alloc: Global, order: Order<'_>, text: &[u8], out: &mut Out) -> Result<(), Halt> {
     match order.call() {
-        "config::entries" => told(out, config::entries(alloc, text)),
-        "Reader::new" => Ok(tell_items(out, Reader::new(text))?),
+        "config::entries" => report_owned(out, config::entries(alloc, text)),
+        "Reader::new" => Ok(report_items(out, Reader::new(text))?),
         call => unknown(call),
     }
 }
@@ -110,8 +110,8 @@ fn over_entry(order: Order<'_>, entries: &[Entry<'_>], out: &mut Out) -> Result<
         return Err(Halt::Unprepared);
     };
     match order.call() {
-        "Entry::is_section" => lent(out, &entry.is_section(order.needed("section")?)),
-        "Entry::is_name" => lent(out, &entry.is_name(order.needed("name")?)),
+        "Entry::is_section" => report_lent(out, &entry.is_section(order.needed("section")?)),
+        "Entry::is_name" => report_lent(out, &entry.is_name(order.needed("name")?)),
         call => unknown(call),
     }
 }
@@ -141,16 +141,16 @@ fn over_protocols(
 fn permit(order: Order<'_>, protocols: &Protocols<'_>, out: &mut Out) -> Result<(), Halt> {
     let name = order.needed("name")?;
     match (order.call(), order.style()) {
-        ("Protocols::permission", "") => lent(out, &protocols.permission(name)),
+        ("Protocols::permission", "") => report_lent(out, &protocols.permission(name)),
         ("Protocols::permission", _) => show_debug(out, &protocols.permission(name)),
-        ("Permission::is_allowed", _) => lent(out, &protocols.permission(name).is_allowed()),
+        ("Permission::is_allowed", _) => report_lent(out, &protocols.permission(name).is_allowed()),
         (call, _) => unknown(call),
     }
 }
 
 /// Calls over a location, and over another one beside it.
 fn over_url(alloc: Global, order: Order<'_>, out: &mut Out) -> Result<(), Halt> {
-    let url = made::url(alloc, order, "url")?;
+    let url = build::url(alloc, order, "url")?;
     let outcome = match order.name() {
         "protocols::transport" => over_transport(order, &url, out),
         "host::names_same_host" => over_hosts(alloc, order, &url, out),
@@ -164,16 +164,19 @@ fn over_url(alloc: Global, order: Order<'_>, out: &mut Out) -> Result<(), Halt> 
 /// Reports the transport of a location.
 fn over_transport(order: Order<'_>, url: &Url, out: &mut Out) -> Result<(), Halt> {
     match order.call() {
-        "protocols::transport" => lent(out, &transport(&url.as_ref())),
+        "protocols::transport" => report_lent(out, &transport(&url.as_ref())),
         call => unknown(call),
     }
 }
 
 /// Compares the hosts of a location and another one.
 fn over_hosts(alloc: Global, order: Order<'_>, url: &Url, out: &mut Out) -> Result<(), Halt> {
-    let other = made::url(alloc, order, "other")?;
+    let other = build::url(alloc, order, "other")?;
     let outcome = match order.call() {
-        "host::names_same_host" => lent(out, &names_same_host(&url.as_ref(), &other.as_ref())),
+        "host::names_same_host" => report_lent(
+            out,
+            &names_same_host(&url.as_ref(), &other.as_ref()),
+        ),
         call => unknown(call),
     };
     drop(other);
@@ -198,7 +201,7 @@ fn over_text(alloc: Global, order: Order<'_>, out: &mut Out) -> Result<(), Halt>
 /// Reports the boolean value of a text.
 fn over_boolean(order: Order<'_>, text: &[u8], out: &mut Out) -> Result<(), Halt> {
     match order.call() {
-        "boolean::read_boolean" => lent(out, &read_boolean(text)),
+        "boolean::read_boolean" => report_lent(out, &read_boolean(text)),
         call => unknown(call),
     }
 }
@@ -209,7 +212,7 @@ fn over_two_texts(alloc: Global, order: Order<'_>, text: &[u8], out: &mut Out) -
     let other = order.bytes(alloc, "other")?;
     let mut other_buffer = order.bytes(alloc, "other")?;
     let outcome = match order.call() {
-        "host::texts_name_same_host" => told(
+        "host::texts_name_same_host" => report_owned(
             out,
             texts_name_same_host(text, &mut buffer, other.as_slice(), &mut other_buffer),
         ),
@@ -224,12 +227,12 @@ fn over_two_texts(alloc: Global, order: Order<'_>, text: &[u8], out: &mut Out) -
 /// Laws of `git_rules`, which hold of all values, and whose calls do nothing.
 pub fn over_nothing(order: Order<'_>, out: &mut Out) -> Result<(), Halt> {
     match order.call() {
-        "laws::law_git_words" => lent(out, &law_git_words()),
-        "laws::law_normal_form" => lent(out, &law_normal_form()),
-        "laws::law_one_outcome" => lent(out, &law_one_outcome()),
-        "laws::law_one_reading" => lent(out, &law_one_reading()),
-        "laws::law_patterns" => lent(out, &law_patterns()),
-        "laws::law_permission" => lent(out, &law_permission()),
+        "laws::law_git_words" => report_lent(out, &law_git_words()),
+        "laws::law_normal_form" => report_lent(out, &law_normal_form()),
+        "laws::law_one_outcome" => report_lent(out, &law_one_outcome()),
+        "laws::law_one_reading" => report_lent(out, &law_one_reading()),
+        "laws::law_patterns" => report_lent(out, &law_patterns()),
+        "laws::law_permission" => report_lent(out, &law_permission()),
         call => unknown(call),
     }
 }

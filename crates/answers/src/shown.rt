@@ -2,7 +2,7 @@
 
 use crate::bytes::write_inside;
 use crate::halt::Halt;
-use crate::tell::Out;
+use crate::report::Out;
 use std::fmt::{self, Write};
 use std::io;
 

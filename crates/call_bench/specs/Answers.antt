@@ -1,6 +1,6 @@
 -- What the exports return: numbers, which are told by what they say of a location.
 use Rattle.std.specs.Prelude.{◌≡◌, ◌<◌, ℕ, List, Option, IsUtf8, codes, length, None, Some, Ok}
-use Rattle.gix_url.specs.Components.{Components, PartsOf}
+use Rattle.gix_url.specs.Components.{Components, ComponentsOf}
 use Rattle.gix_url.specs.Display.{display}
 use Rattle.gix_url.specs.FromParts.{MadeOf}
 use Rattle.gix_url.specs.Grammar.{Spells}
@@ -8,7 +8,7 @@ use Rattle.gix_url.specs.Homes.{HomeUser, SplitsHome, Expands}
 use Rattle.gix_url.specs.Records.{migrated}
 use Rattle.gix_url.specs.Stored.{recorded_location}
 use Rattle.gix_url.specs.Text.{text}
-use Rattle.gix_url.specs.Value.{Location}
+use Rattle.gix_url.specs.Location.{Location}
 use Rattle.gix_url.specs.declared.stored.StoredUrl.{StoredUrl}
 use Rattle.json.specs.Lex.{tokens}
 use Rattle.json.specs.Print.{print}
@@ -31,7 +31,7 @@ IsShownLength v n = (t : List ℕ) → display v ≡ Some t → length t ≡ n
 
 -- the length of the path among its components
 abbrev pub IsComponentLength : Location → ℕ → Type 0
-IsComponentLength v n = (c : Components) × PartsOf v c × (length c.path ≡ n)
+IsComponentLength v n = (c : Components) × ComponentsOf v c × (length c.path ≡ n)
 
 -- the length of a path that is text, expanded by the home folder `/home/ann` of the current user
 abbrev pub IsExpansionLength : Option HomeUser → List ℕ → ℕ → Type 0

@@ -13,7 +13,7 @@ ghost use Rattle.gix_url.specs.GitClass.{AgreesWithGit};
 ghost use Rattle.gix_url.specs.Grammar.{Spells};
 ghost use Rattle.gix_url.specs.Order.{fed_location, location_cmp, location_eq};
 ghost use Rattle.gix_url.specs.Settled.{IsSettled};
-ghost use Rattle.gix_url.specs.Value.{Location};
+ghost use Rattle.gix_url.specs.Location.{Location};
 ghost use Rattle.call_bench.specs.Answers.{IsCompactLength, IsComponentLength, IsExpandedLength, IsMadeLength, IsPathLength, IsRereadLength, IsRestoredLength, IsShownLength, IsTextLength, SaysOf};
 
 mod counted;
@@ -121,13 +121,13 @@ pub extern "C" fn call_bench_expand_path(alloc: Global, bytes: &[u8]) -> usize
     ensures { SaysOf IsExpandedLength bytes.now result }
 {
     match Url::from_bytes(alloc, BStr::new(bytes)) {
-        Ok(url) => expanded(alloc, &url),
+        Ok(url) => expand(alloc, &url),
         Err(_) => 0,
     }
 }
 
 /// The same of a location, whose path is cut first.
-fn expanded(alloc: Global, url: &Url) -> usize
+fn expand(alloc: Global, url: &Url) -> usize
     ensures { 0 < result → IsExpandedLength url.now result }
 {
     match expand_path::parse(alloc, url.path.as_bstr()) {

@@ -1,17 +1,17 @@
 -- What is reported of a location that isn't read as it is: a public field by its name, as it is and as it is read. Nothing
 -- is reported of a password but that there is one.
 use Rattle.std.specs.Prelude.{◌≡◌, ℕ, Bool, true, false, List, ◌++◌, codes, decimal, bytes_eq, Option, Some, None, option_map, Ok, string_bytes, if◌then◌else◌}
-use Rattle.gix_url.specs.Value.{Protocol, Location}
-use Rattle.gix_url.specs.Value.Protocol.{file, git, ssh, http, https, ext, helper, helper_url}
+use Rattle.gix_url.specs.Location.{Scheme, Location}
+use Rattle.gix_url.specs.Location.Scheme.{file, git, ssh, http, https, ext, helper, helper_url}
 use Rattle.gix_url.specs.Bytes.{lossy_text}
-use Rattle.gix_url.specs.Schemes.{protocol_text}
+use Rattle.gix_url.specs.Schemes.{scheme_text}
 use Rattle.gix_url.specs.Grammar.{Spells}
 use Rattle.gix_url.specs.Display.{hidden_password}
 use Rattle.gix_url.specs.Text.{text}
 use Rattle.explain.specs.declared.difference.Difference.{Difference}
 
 -- the protocol is a remote helper
-abbrev pub is_helper : Protocol → Bool
+abbrev pub is_helper : Scheme → Bool
 is_helper file = false
 is_helper git = false
 is_helper ssh = false
@@ -22,8 +22,8 @@ is_helper (helper name) = true
 is_helper (helper_url name) = false
 
 -- the words for a protocol: a remote helper is reported as one
-abbrev pub scheme_words : Protocol → List ℕ
-scheme_words p = if is_helper p then codes "helper " ++ protocol_text p else protocol_text p
+abbrev pub scheme_words : Scheme → List ℕ
+scheme_words p = if is_helper p then codes "helper " ++ scheme_text p else scheme_text p
 
 -- the word for a flag
 abbrev pub flag_word : Bool → List ℕ
@@ -43,14 +43,14 @@ field_text name v =
     else None))))))
 
 -- the difference tells a public field, as it is here and as it is in another location
-pub record TellsField (v other : Location) (told : Difference) : Type 0 where
-  pub here : field_text told.field.now v ≡ Some (option_map string_bytes told.here)
-  pub instead : field_text told.field.now other ≡ Some (option_map string_bytes told.instead)
+pub record ReportsField (v other : Location) (report : Difference) : Type 0 where
+  pub here : field_text report.field.now v ≡ Some (option_map string_bytes report.here)
+  pub instead : field_text report.field.now other ≡ Some (option_map string_bytes report.instead)
 
 -- the difference tells a public field, as it is in the location and as it is in the one that its text spells
-pub record TellsReread (v : Location) (told : Difference) : Type 0 where
+pub record ReportsReread (v : Location) (report : Difference) : Type 0 where
   pub bytes : List ℕ
   pub other : Location
   pub written : text v ≡ Ok bytes
   pub spelled : Spells bytes other
-  pub field : TellsField v other told
+  pub field : ReportsField v other report

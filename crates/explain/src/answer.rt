@@ -1,17 +1,18 @@
 //! The answer to a line: what it is read as or why it is refused, in the layout that is asked for.
 //!
-//! `line` finds what of the line may be shown, `told` what is reported of a location, `refusal` why a line is refused,
+//! `line` finds what of the line may be shown, `location_report` what is reported of a location, `refusal` why a line
+//! is refused,
 //! `hint` what people may have got wrong;
 //! `shown` lays that out for people, `only` one part of it, and with `--json` it goes out as one object. It has no
 //! contract but that it can't abort: the stored run and `scripts/hostile` show its answers.
 
 use crate::hint::{self, Hint, Reading};
 use crate::line::SeenLine;
+use crate::location_report::{Report, both, fields_of};
 use crate::only::{self, Part};
 use crate::refusal::Refusal;
 use crate::shown;
 use crate::style::{Layout, Style};
-use crate::told::{Told, both, fields_of};
 use bstr::BStr;
 use gix_url::parse::parse;
 use gix_url::{Error, Url};
@@ -36,7 +37,7 @@ struct Answer<'b, 'a: 'b> {
     /// The line itself, if it may be shown.
     input: Option<&'b str>,
     /// What the line is read as.
-    location: Option<&'b Told<'a>>,
+    location: Option<&'b Report<'a>>,
     /// Why it is read as nothing.
     refusal: Option<&'b Refusal>,
     /// What may be wrong with the line.
@@ -60,13 +61,13 @@ impl<'l> Line<'l> {
     /// What is reported of a location, and whether it is settled.
     fn location(self, alloc: Global, url: &Url) -> Result<(String, bool), AllocError> {
         let seen = SeenLine::located(alloc, self.bytes, &fields_of(url))?;
-        let (seen, told) = both(seen, Told::of(alloc, url))?;
-        let found = hint::found(alloc, self.bytes, Some(Reading::of(url, &told)));
-        let ((seen, told), found) = both((seen, told), found)?;
-        let is_settled = told.settled;
-        let answer = self.laid_out(alloc, url, &told, &seen, found.as_slice());
+        let (seen, report) = both(seen, Report::of(alloc, url))?;
+        let found = hint::find(alloc, self.bytes, Some(Reading::of(url, &report)));
+        let ((seen, report), found) = both((seen, report), found)?;
+        let is_settled = report.settled;
+        let answer = self.laid_out(alloc, url, &report, &seen, found.as_slice());
         drop(found);
-        drop(told);
+        drop(report);
         drop(seen);
         Ok((answer?, is_settled))
     }
@@ -76,7 +77,7 @@ impl<'l> Line<'l> {
         self,
         alloc: Global,
         url: &Url,
-        told: &'x Told<'_>,
+        report: &'x Report<'_>,
         seen: &'x SeenLine<'_>,
         hints: &'x [Hint],
     ) -> Result<String, AllocError> {
@@ -86,12 +87,12 @@ impl<'l> Line<'l> {
                 &Answer {
                     line: self.number,
                     input: seen.text(),
-                    location: Some(told),
+                    location: Some(report),
                     refusal: None,
                     hints,
                 },
             ),
-            _ => shown::location(alloc, self, url, told, seen, hints),
+            _ => shown::location(alloc, self, url, report, seen, hints),
         }
     }
 
@@ -110,7 +111,7 @@ impl<'l> Line<'l> {
     fn refusal(self, alloc: Global, error: &Error) -> Result<String, AllocError> {
         let seen = SeenLine::refused(alloc, self.bytes)?;
         let (seen, refusal) = both(seen, Refusal::of_line(alloc, self.bytes, error))?;
-        let found = hint::found(alloc, self.bytes, None);
+        let found = hint::find(alloc, self.bytes, None);
         let ((seen, refusal), found) = both((seen, refusal), found)?;
         let answer = self.laid_out_refusal(alloc, &refusal, &seen, found.as_slice());
         drop(found);

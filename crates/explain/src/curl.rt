@@ -5,7 +5,7 @@
 //! function is a step of libcurl 7.88.1, and has no contract but that it can't abort. The stored run has what `curl_reads` of
 //! `tools/web_reads.py` says, a rule by hand that `scripts/web_witness` compares with libcurl itself.
 
-use crate::told::both;
+use crate::location_report::both;
 use crate::{git, split};
 use bstr::{BStr, ByteSlice};
 use gix_url::Url;

@@ -1,9 +1,9 @@
 //! What to look out for before a location is used: each danger in a few words.
 //!
-//! It uses `told` and the public calls of `gix_url`, and has no contract but that it can't abort:
+//! It uses `location_report` and the public calls of `gix_url`, and has no contract but that it can't abort:
 //! `scripts/hostile golden` shows its words.
 
-use crate::told::{Arguments, Safety, Told};
+use crate::location_report::{Arguments, Report, Safety};
 use gix_url::{Scheme, Url};
 use std::alloc::AllocError;
 use std::fmt::Write;
@@ -12,14 +12,14 @@ use std::fmt::Write;
 const TOKEN: usize = 20;
 
 /// Appends the dangers of a location, behind a word that says what they are.
-pub fn dangers(out: &mut String, url: &Url, told: &Told<'_>) -> Result<(), AllocError> {
-    let Arguments { user, host, path } = told.arguments;
+pub fn dangers(out: &mut String, url: &Url, report: &Report<'_>) -> Result<(), AllocError> {
+    let Arguments { user, host, path } = report.arguments;
     let found = [
         (runs_command(url), "it runs a command"),
         (is_dangerous(user), "the user begins with -"),
         (is_dangerous(host), "the host begins with -"),
         (is_option_path(url, path), "the path begins with - or /-"),
-        (told.password.is_some(), "it holds a password"),
+        (report.password.is_some(), "it holds a password"),
         (may_be_token(url), "the user may be a token"),
     ];
     let mut is_first = true;

@@ -7,12 +7,12 @@
 
 ghost use Rattle.std.specs.Prelude.{◌≡◌, ◌↔◌, IfOk, IfSome, IsNone, decimal, option_map, string_bytes};
 ghost use Rattle.gix_url.specs.Settled.{IsSettled};
-ghost use Rattle.gix_url.specs.Views.{protocol};
-ghost use Rattle.explain.specs.Differences.{TellsField, TellsReread, flag_word, scheme_words};
+ghost use Rattle.gix_url.specs.Views.{owned_scheme};
+ghost use Rattle.explain.specs.Differences.{ReportsField, ReportsReread, flag_word, scheme_words};
 
 use crate::line::Quoted;
+use crate::location_report::hidden_password;
 use crate::refusal::Refusal;
-use crate::told::hidden_password;
 use bstr::ByteSlice;
 use gix_url::{Error, Scheme, Url};
 use serde::Serialize;
@@ -45,7 +45,7 @@ impl Reread {
     /// What the text of the location is read as, unless the location is settled.
     pub fn of(alloc: Global, url: &Url) -> Result<Option<Reread>, AllocError>
         ensures settled { IfOk result (λ reread. IsNone reread ↔ IsSettled url.now) }
-        ensures told { IfOk result (λ reread. IfSome reread (λ it. IfSome it.difference (TellsReread url.now))) }
+        ensures report { IfOk result (λ reread. IfSome reread (λ it. IfSome it.difference (ReportsReread url.now))) }
     {
         if url.is_settled() {
             return Ok(None);
@@ -66,7 +66,7 @@ impl Reread {
 
     /// What is reported where the text is read as this location.
     fn another(alloc: Global, url: &Url, other: &Url) -> Result<Reread, AllocError>
-        ensures { IfOk result (λ it. IfSome it.difference (TellsField url.now other.now)) }
+        ensures { IfOk result (λ it. IfSome it.difference (ReportsField url.now other.now)) }
     {
         let difference = first_difference(alloc, url, other)?;
         Ok(Reread {
@@ -77,7 +77,7 @@ impl Reread {
     }
 
     /// What is reported where the text is refused so, unless it is memory that was refused.
-    fn refused(alloc: Global, error: &Error) -> Result<Reread, AllocError>
+    fn reread_of_error(alloc: Global, error: &Error) -> Result<Reread, AllocError>
         ensures { IfOk result (λ it. IsNone it.difference) }
     {
         if matches!(error, Error::Memory) {
@@ -93,7 +93,7 @@ impl Reread {
 
 /// The first public field in which the two differ.
 fn first_difference(alloc: Global, url: &Url, other: &Url) -> Result<Option<Difference>, AllocError>
-    ensures { IfOk result (λ difference. IfSome difference (TellsField url.now other.now)) }
+    ensures { IfOk result (λ difference. IfSome difference (ReportsField url.now other.now)) }
 {
     if url.scheme != other.scheme {
         return Ok(Some(Difference {
@@ -117,7 +117,7 @@ fn first_difference(alloc: Global, url: &Url, other: &Url) -> Result<Option<Diff
 
 /// The first of the public fields behind the host in which the two differ.
 fn later_difference(alloc: Global, url: &Url, other: &Url) -> Result<Option<Difference>, AllocError>
-    ensures { IfOk result (λ difference. IfSome difference (TellsField url.now other.now)) }
+    ensures { IfOk result (λ difference. IfSome difference (ReportsField url.now other.now)) }
 {
     if url.serialize_alternative_form != other.serialize_alternative_form {
         let (here, instead) = (flag_text(url), flag_text(other));
@@ -177,7 +177,7 @@ fn owned(alloc: Global, text: Option<&str>) -> Result<Option<String>, AllocError
 
 /// The scheme by its text, and a remote helper as such.
 fn scheme_name(alloc: Global, scheme: &Scheme) -> Result<String, AllocError>
-    ensures { IfOk result (λ name. string_bytes name ≡ scheme_words (protocol scheme.now)) }
+    ensures { IfOk result (λ name. string_bytes name ≡ scheme_words (owned_scheme scheme.now)) }
 {
     match scheme {
         Scheme::Ext | Scheme::Helper(_) => format!(in alloc; "helper {scheme}"),

@@ -411,7 +411,7 @@ fn decode(out: &mut Vec<u8>, text: &[u8]) -> Result<(), AllocError> {
 pub fn decode_behind(out: &mut Vec<u8>, text: &[u8]) -> Result<(), AllocError> {
     let mut rest = text;
     while let Some((first, tail)) = rest.split_first() {
-        match escaped(*first, tail) {
+        match read_escape(*first, tail) {
             Some((byte, behind)) => {
                 out.push(byte)?;
                 rest = behind;
@@ -426,7 +426,7 @@ pub fn decode_behind(out: &mut Vec<u8>, text: &[u8]) -> Result<(), AllocError> {
 }
 
 /// The byte of an escape that begins here, unless it is byte 0, and what follows.
-fn escaped(first: u8, tail: &[u8]) -> Option<(u8, &[u8])>
+fn read_escape(first: u8, tail: &[u8]) -> Option<(u8, &[u8])>
     ensures { IfSome result (λ it. length it.1.now < length tail.now) }
 {
     match tail {

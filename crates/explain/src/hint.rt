@@ -1,11 +1,11 @@
 //! Slips of those who type or paste a location: a closed list of hints, each with a name and a sentence.
 //!
-//! It decides by the bytes of a line and by what the line is read as, and shows neither. It uses `told` for the form, and
-//! has no contract but that it can't abort: the stored run shows which hints are found, and `scripts/hostile golden` their
-//! sentences, and that no plain remote gets one.
+//! It decides by the bytes of a line and by what the line is read as, and shows neither. It uses `location_report` for
+//! the form, and has no contract but that it can't abort: the stored run shows which hints are found, and
+//! `scripts/hostile golden` their sentences, and that no plain remote gets one.
 
+use crate::location_report::Report;
 use crate::split::Form;
-use crate::told::Told;
 use bstr::ByteSlice;
 use gix_url::Url;
 use serde::Serialize;
@@ -77,7 +77,7 @@ const TRANSPORTS: [&[u8]; 9] = [
 const COMMANDS: [&[u8]; 3] = [b"git clone ", b"git remote add ", b"git submodule add "];
 
 /// The hints that apply to a line, of which there is no reading where it is refused.
-pub fn found(
+pub fn find(
     alloc: Global,
     line: &[u8],
     reading: Option<Reading<'_>>,
@@ -210,13 +210,13 @@ impl Hint {
 
 impl<'b> Reading<'b> {
     /// What hints are found by, of a location.
-    pub fn of(url: &'b Url, told: &'b Told<'_>) -> Reading<'b> {
+    pub fn of(url: &'b Url, report: &'b Report<'_>) -> Reading<'b> {
         Reading {
-            form: told.form,
-            scheme: told.scheme,
-            host: told.host,
-            has_user: told.user.is_some(),
-            has_password: told.password.is_some(),
+            form: report.form,
+            scheme: report.scheme,
+            host: report.host,
+            has_user: report.user.is_some(),
+            has_password: report.password.is_some(),
             path: url.path.as_bytes(),
         }
     }

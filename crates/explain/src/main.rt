@@ -12,9 +12,10 @@ mod curl;
 mod danger;
 mod difference;
 mod git;
-mod git_told;
+mod git_report;
 mod hint;
 mod line;
+mod location_report;
 mod only;
 mod options;
 mod paint;
@@ -24,7 +25,6 @@ mod refusal;
 mod shown;
 mod split;
 mod style;
-mod told;
 mod web;
 
 use answer::Line;
@@ -40,7 +40,7 @@ use std::rt::Env;
 use style::{Seen, Style};
 
 /// Answers what the command line names. Returns the status to end with.
-fn explained(rt: &HostRuntime, given: &ArgMatches<'_>) -> u8 {
+fn explain(rt: &HostRuntime, given: &ArgMatches<'_>) -> u8 {
     let style = options::style(given, colors_of(rt));
     let mut output = rt.stdout();
     let mut seen = Seen::NOTHING;
@@ -196,8 +196,8 @@ fn main(rt: HostRuntime) -> ExitCode {
         let _ = rt.eprintln("explain: an argument is not UTF-8, or memory is refused");
         return ExitCode::from(2);
     };
-    ExitCode::from(match options::given(rt.alloc(), words.as_slice()) {
-        Ok(given) => explained(&rt, &given),
+    ExitCode::from(match options::parse_options(rt.alloc(), words.as_slice()) {
+        Ok(given) => explain(&rt, &given),
         Err(error) => {
             let _ = error.print(&rt);
             if error.use_stderr() { 2 } else { 0 }

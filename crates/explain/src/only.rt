@@ -4,8 +4,8 @@
 //! answers. A password is no part that can be asked for.
 
 use crate::line::write_shown;
+use crate::location_report::text_of;
 use crate::path::no_memory;
-use crate::told::text_of;
 use bstr::ByteSlice;
 use gix_url::{PathComponents, Scheme, Url};
 use std::alloc::{AllocError, Global};

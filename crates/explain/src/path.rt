@@ -3,7 +3,7 @@
 //! It uses the public calls of `gix_url`, and has no contract but that it can't abort. Bytes that are no UTF-8 are reported
 //! as U+FFFD.
 
-use crate::told::both;
+use crate::location_report::both;
 use bstr::{BStr, BString, ByteSlice};
 use gix_url::expand_path::{self, ForUser};
 use gix_url::{Error, PathComponents, Scheme, Url};
@@ -70,18 +70,18 @@ fn lossy(alloc: Global, bytes: BStr<'_>) -> Result<String, AllocError> {
 /// Path, query and fragment of the location.
 fn components_of<'a>(alloc: Global, url: &'a Url) -> Result<Components<'a>, AllocError> {
     let parts = url.path_query_fragment(alloc).map_err(no_memory)?;
-    let components = told_components(alloc, &parts);
+    let components = reported_components(alloc, &parts);
     drop(parts);
     components
 }
 
 /// What is reported of path, query and fragment.
-fn told_components<'a>(
+fn reported_components<'a>(
     alloc: Global,
     parts: &PathComponents<'a>,
 ) -> Result<Components<'a>, AllocError> {
     let path = parts.path.as_bytes().to_str_lossy(alloc)?;
-    let path = both(path, told_fragment(alloc, parts.fragment))?;
+    let path = both(path, reported_fragment(alloc, parts.fragment))?;
     let ((path, fragment), query) = both(path, query(alloc, parts))?;
     Ok(Components {
         path,
@@ -91,7 +91,7 @@ fn told_components<'a>(
 }
 
 /// The fragment.
-fn told_fragment<'a>(
+fn reported_fragment<'a>(
     alloc: Global,
     fragment: Option<BStr<'a>>,
 ) -> Result<Option<CowStr<'a>>, AllocError> {
@@ -140,7 +140,7 @@ fn home_of(alloc: Global, url: &Url) -> Result<Option<Home>, AllocError> {
     }
     let path = path_with_slash(alloc, url)?;
     let (user, below) = expand_path::parse(alloc, path.as_bstr()).map_err(no_memory)?;
-    let home = told_home(alloc, &user, below.as_bstr());
+    let home = reported_home(alloc, &user, below.as_bstr());
     drop(user);
     home
 }
@@ -156,7 +156,7 @@ fn path_with_slash(alloc: Global, url: &Url) -> Result<BString, AllocError> {
 }
 
 /// What is reported of a home folder and the path below it.
-fn told_home(
+fn reported_home(
     alloc: Global,
     user: &Option<ForUser>,
     below: BStr<'_>,

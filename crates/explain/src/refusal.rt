@@ -35,7 +35,7 @@ impl Refusal {
 
     /// The refusal of a line, with the place and the words of its fault.
     pub fn of_line(alloc: Global, line: &[u8], error: &Error) -> Result<Refusal, AllocError> {
-        match refused(error).and_then(|it| find_place(line, it)) {
+        match reason_of(error).and_then(|it| find_place(line, it)) {
             None => Refusal::of(alloc, error),
             Some(place) => {
                 let words = place.reason.to_string(alloc)?;
@@ -45,7 +45,7 @@ impl Refusal {
     }
 
     /// The refusal with this place and these words.
-    fn placed(error: &Error, place: Option<Place>, words: String) -> Refusal {
+    fn with_place(error: &Error, place: Option<Place>, words: String) -> Refusal {
         let (name, kind, fault) = names(error);
         Refusal {
             error: name,
@@ -60,7 +60,7 @@ impl Refusal {
 }
 
 /// What a line is refused for, if the error is one of reading.
-fn refused(error: &Error) -> Option<Refused> {
+fn reason_of(error: &Error) -> Option<Refused> {
     match error {
         Error::EmptyLocal => Some(Refused::Empty),
         Error::MissingPath { kind, .. } => Some(Refused::NoPath(form(*kind)?)),

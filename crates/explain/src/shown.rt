@@ -1,20 +1,20 @@
 //! Answers laid out for people: a heading, and a row for each thing that is reported.
 //!
 //! Texts are in quotes with their control characters escaped, each byte in one way, so that no line of input can speak
-//! to a terminal. It uses what `told`, `danger`, `refusal` and `hint` found, and has no contract: `scripts/hostile golden`
-//! shows its answers.
+//! to a terminal. It uses what `location_report`, `danger`, `refusal` and `hint` found, and has no contract:
+//! `scripts/hostile golden` shows its answers.
 
 use crate::answer::Line;
 use crate::curl::Curl;
 use crate::danger::dangers;
-use crate::git_told::{HANDED, is_of_web};
+use crate::git_report::{HANDED, is_of_web};
 use crate::hint::Hint;
 use crate::line::{Quoted, SeenLine};
+use crate::location_report::Report;
 use crate::paint::{self, Colors};
 use crate::path::{Components, Field, Home};
 use crate::refusal::Refusal;
 use crate::split::Cut;
-use crate::told::Told;
 use gix_url::Url;
 use std::alloc::{AllocError, Global};
 use std::fmt::{Display, Write};
@@ -24,31 +24,36 @@ pub fn location(
     alloc: Global,
     line: Line<'_>,
     url: &Url,
-    told: &Told<'_>,
+    report: &Report<'_>,
     seen: &SeenLine<'_>,
     found: &[Hint],
 ) -> Result<String, AllocError> {
     let mut out = String::new(alloc);
-    heading(&mut out, line.number, url, told)?;
+    heading(&mut out, line.number, url, report)?;
     if let Some(cut) = &seen.cut {
         paint::split(&mut out, cut, line.style.colors)?;
     }
-    text(&mut out, url, told, seen)?;
-    parts(&mut out, url, told)?;
-    components(&mut out, &told.components)?;
-    on_files(&mut out, told)?;
+    text(&mut out, url, report, seen)?;
+    parts(&mut out, url, report)?;
+    components(&mut out, &report.components)?;
+    on_files(&mut out, report)?;
     hints(&mut out, found)?;
     Ok(out)
 }
 
 /// The heading of a location: its form, the verdict and the dangers.
-fn heading(out: &mut String, number: u64, url: &Url, told: &Told<'_>) -> Result<(), AllocError> {
-    let form = told.form;
-    match &told.reread {
+fn heading(
+    out: &mut String,
+    number: u64,
+    url: &Url,
+    report: &Report<'_>,
+) -> Result<(), AllocError> {
+    let form = report.form;
+    match &report.reread {
         None => write!(out, "line {number}: {form}, settled"),
         Some(reread) => write!(out, "line {number}: {form}, not settled: {}", reread.words),
     }?;
-    dangers(out, url, told)?;
+    dangers(out, url, report)?;
     out.push('\n')
 }
 
@@ -56,21 +61,21 @@ fn heading(out: &mut String, number: u64, url: &Url, told: &Told<'_>) -> Result<
 fn text(
     out: &mut String,
     url: &Url,
-    told: &Told<'_>,
+    report: &Report<'_>,
     seen: &SeenLine<'_>,
 ) -> Result<(), AllocError> {
-    let Some(text) = &told.text else {
+    let Some(text) = &report.text else {
         return Ok(());
     };
     if !is_shown(seen, text.as_str()) {
         quoted(out, "text", text.as_str())?;
     }
-    row(out, "git", reading_of_git(url, told))?;
-    if told.agrees_with_git || !is_of_web(url) {
+    row(out, "git", reading_of_git(url, report))?;
+    if report.agrees_with_git || !is_of_web(url) {
         return Ok(());
     }
-    helpers(out, url, told)?;
-    curl(out, url, &told.curl)
+    helpers(out, url, report)?;
+    curl(out, url, &report.curl)
 }
 
 /// Whether the line was shown whole, and is this text.
@@ -130,24 +135,24 @@ fn quoted(out: &mut String, name: &str, text: &str) -> Result<(), AllocError> {
 }
 
 /// The rows of the fields.
-fn parts(out: &mut String, url: &Url, told: &Told<'_>) -> Result<(), AllocError> {
-    row(out, "scheme", told.scheme)?;
-    if let Some(user) = told.user {
+fn parts(out: &mut String, url: &Url, report: &Report<'_>) -> Result<(), AllocError> {
+    row(out, "scheme", report.scheme)?;
+    if let Some(user) = report.user {
         quoted(out, "user", user)?;
     }
-    if let Some(password) = told.password {
+    if let Some(password) = report.password {
         row(out, "password", password)?;
     }
-    if let Some(host) = told.host {
+    if let Some(host) = report.host {
         quoted(out, "host", host)?;
     }
-    port(out, told)?;
+    port(out, report)?;
     paths(out, url)
 }
 
 /// The row of the port, or of the one that the scheme stands for.
-fn port(out: &mut String, told: &Told<'_>) -> Result<(), AllocError> {
-    match (told.port, told.port_or_default) {
+fn port(out: &mut String, report: &Report<'_>) -> Result<(), AllocError> {
+    match (report.port, report.port_or_default) {
         (Some(port), _) => row(out, "port", port),
         (None, Some(port)) => row(out, "port", format_args!("{port} by default")),
         (None, None) => Ok(()),
@@ -165,18 +170,18 @@ fn paths(out: &mut String, url: &Url) -> Result<(), AllocError> {
 }
 
 /// What Git reads in the text of the location, in words.
-fn reading_of_git<'b>(url: &Url, told: &'b Told<'_>) -> &'b str {
-    match &told.git_reads {
-        _ if told.agrees_with_git && is_of_web(url) => "and curl read the same in its text",
-        _ if told.agrees_with_git => "reads the same in its text",
+fn reading_of_git<'b>(url: &Url, report: &'b Report<'_>) -> &'b str {
+    match &report.git_reads {
+        _ if report.agrees_with_git && is_of_web(url) => "and curl read the same in its text",
+        _ if report.agrees_with_git => "reads the same in its text",
         Some(reads) => reads.words.as_str(),
         None => HANDED,
     }
 }
 
 /// The rows of what Git's credential code asks helpers for in a text of HTTP, where that is not the location's own.
-fn helpers(out: &mut String, url: &Url, told: &Told<'_>) -> Result<(), AllocError> {
-    let Some(asked) = &told.credential else {
+fn helpers(out: &mut String, url: &Url, report: &Report<'_>) -> Result<(), AllocError> {
+    let Some(asked) = &report.credential else {
         return row(
             out,
             "helpers",
@@ -191,7 +196,7 @@ fn helpers(out: &mut String, url: &Url, told: &Told<'_>) -> Result<(), AllocErro
             format_args!("are asked for the host {host}"),
         )?;
     }
-    if asked.has_own_path(told.path.as_str()) {
+    if asked.has_own_path(report.path.as_str()) {
         return Ok(());
     }
     let path = Quoted(asked.path_or_empty().as_bytes());
@@ -226,15 +231,15 @@ fn curl(out: &mut String, url: &Url, read: &Option<Curl>) -> Result<(), AllocErr
 }
 
 /// The rows of a query and a fragment, and of the path before them.
-fn components(out: &mut String, told: &Components<'_>) -> Result<(), AllocError> {
-    if told.query.is_none() && told.fragment.is_none() {
+fn components(out: &mut String, report: &Components<'_>) -> Result<(), AllocError> {
+    if report.query.is_none() && report.fragment.is_none() {
         return Ok(());
     }
-    quoted(out, "path alone", told.path.as_str())?;
-    if let Some(fields) = &told.query {
+    quoted(out, "path alone", report.path.as_str())?;
+    if let Some(fields) = &report.query {
         query(out, fields)?;
     }
-    match &told.fragment {
+    match &report.fragment {
         None => Ok(()),
         Some(fragment) => quoted(out, "fragment", fragment.as_str()),
     }
@@ -253,11 +258,11 @@ fn query(out: &mut String, fields: &[Field]) -> Result<(), AllocError> {
 }
 
 /// The rows of what a path means on a system of files.
-fn on_files(out: &mut String, told: &Told<'_>) -> Result<(), AllocError> {
-    if let Some(home) = &told.home {
+fn on_files(out: &mut String, report: &Report<'_>) -> Result<(), AllocError> {
+    if let Some(home) = &report.home {
         home_folder(out, home)?;
     }
-    match &told.shell_path {
+    match &report.shell_path {
         None => Ok(()),
         Some(path) => quoted(out, "to a shell", path.as_str()),
     }

@@ -1,2 +1,2 @@
--- What bytes spelled before another shape came in, they spell still.
+-- What bytes spelled before another form came in, they spell still.
 pub mod BeforeLemmas

@@ -15,10 +15,10 @@ OneLine = (line answer : List ℕ) (good : Bool) → FreeOf newline line → IsA
 -- of two lists of lines each second one is, with its end, the answer to the first one at its place
 abbrev pub AreAnswered : List (List ℕ) → List (List ℕ) → Type 0
 AreAnswered [] [] = Unit {0}
-AreAnswered [] (told ∷ others) = ⊥
+AreAnswered [] (reported ∷ others) = ⊥
 AreAnswered (line ∷ lines) [] = ⊥
-AreAnswered (line ∷ lines) (told ∷ others) =
-    ((good : Bool) × IsAnswer line (told ++ newline ∷ []) good) × AreAnswered lines others
+AreAnswered (line ∷ lines) (reported ∷ others) =
+    ((good : Bool) × IsAnswer line (reported ++ newline ∷ []) good) × AreAnswered lines others
 
 -- a text is split into lines in one way
 abbrev pub OneSplit : Type 0
@@ -28,5 +28,5 @@ OneSplit = (b : List ℕ) (lines more : List (List ℕ)) → SplitsLines b lines
 -- the answers to a text are as many lines as the text, each the answer to the one at its place
 abbrev pub LineForLine : Type 0
 LineForLine = (b out : List ℕ) (good : Bool) → Answers b out good
-    → (lines : List (List ℕ)) × (told : List (List ℕ)) × SplitsLines b lines × SplitsLines out told
-    × AreAnswered lines told
+    → (lines : List (List ℕ)) × (reported : List (List ℕ)) × SplitsLines b lines × SplitsLines out reported
+    × AreAnswered lines reported

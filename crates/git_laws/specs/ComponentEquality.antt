@@ -31,9 +31,9 @@ components_eq c d = bytes_eq c.path d.path
 
 pair_decides : (p q : List ℕ × List ℕ) → Decides (pair_eq p q) (p ≡ q)
 pair_decides p q =
-    let told = Decides-and _ _ (bytes_decides p.0 q.0) (bytes_decides p.1 q.1) in (
-      λ e. let same = told.0 e in λ i. (same.0 i, same.1 i),
-      λ e. told.1 (ap (λ r. r.0) e, ap (λ r. r.1) e),
+    let reported = Decides-and _ _ (bytes_decides p.0 q.0) (bytes_decides p.1 q.1) in (
+      λ e. let same = reported.0 e in λ i. (same.0 i, same.1 i),
+      λ e. reported.1 (ap (λ r. r.0) e, ap (λ r. r.1) e),
     )
 
 query_decides : (p q : Option (List (List ℕ × List ℕ))) → Decides (query_eq p q) (p ≡ q)
@@ -46,11 +46,11 @@ fragment_decides = options_decide bytes_eq bytes_decides
 -- equal components are one value, and one value is equal to itself
 pub components_decide : (c d : Components) → Decides (components_eq c d) (c ≡ d)
 components_decide c d =
-    let told = Decides-and _ _ (bytes_decides c.path d.path)
+    let reported = Decides-and _ _ (bytes_decides c.path d.path)
     (Decides-and _ _ (query_decides c.query d.query) (fragment_decides c.fragment d.fragment)) in (
-      λ e. let (path, (query, fragment)) = told.0 e in
+      λ e. let (path, (query, fragment)) = reported.0 e in
           λ i. record { path = path i; query = query i; fragment = fragment i },
-      λ e. told.1 (ap (λ u. u.path) e, (ap (λ u. u.query) e, ap (λ u. u.fragment) e)),
+      λ e. reported.1 (ap (λ u. u.path) e, (ap (λ u. u.query) e, ap (λ u. u.fragment) e)),
     )
 
 pub components_equiv : IsEquivalence components_eq

@@ -1,14 +1,14 @@
 -- The laws of components, over the definitions alone: one definition for each.
 use Rattle.std.specs.Prelude.{◌≡◌, true, ◌↔◌}
-use Rattle.git_syntax.specs.Value.{Location}
-use Rattle.git_laws.specs.Components.{Components, PartsOf}
+use Rattle.git_syntax.specs.Location.{Location}
+use Rattle.git_laws.specs.Components.{Components, ComponentsOf}
 use Rattle.git_laws.specs.ComponentEquality.{components_eq}
 
 -- every location has components, and no two
 abbrev pub OneComponents : Type 0
 OneComponents = (v : Location)
-    → (components : Components) × PartsOf v components
-    × ((others : Components) → PartsOf v others → others ≡ components)
+    → (components : Components) × ComponentsOf v components
+    × ((others : Components) → ComponentsOf v others → others ≡ components)
 
 -- components that compare equal are one value, and one value compares equal to itself
 abbrev pub EqualComponents : Type 0

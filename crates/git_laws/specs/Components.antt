@@ -2,8 +2,8 @@
 use Rattle.std.specs.Prelude.{◌≡◌, ℕ, ◌==◌, List, [], ◌∷◌, ◌++◌, map, All, Option, Some, None, option_map, if◌then◌else◌}
 use Rattle.std.specs.List.{join_with_byte}
 use Rattle.percent_encoding.specs.Percent.{percent_decode}
-use Rattle.git_syntax.specs.Value.{Protocol, Location}
-use Rattle.git_syntax.specs.Value.Protocol.{http, https}
+use Rattle.git_syntax.specs.Location.{Scheme, Location}
+use Rattle.git_syntax.specs.Location.Scheme.{http, https}
 use Rattle.git_syntax.specs.Bytes.{space, number_sign, ampersand, plus_sign, equals_sign, question_mark, FreeOf}
 use Rattle.git_syntax.specs.Escapes.{matches}
 use Rattle.git_syntax.specs.Grammar.{or_root}
@@ -71,7 +71,7 @@ QueryOf v (Some text) query =
 -- ---- the components
 
 -- the components of a location of HTTP: an empty front is the root
-pub record WebParts (v : Location) (components : Components) : Type 0 where
+pub record WebComponents (v : Location) (components : Components) : Type 0 where
   pub front : List ℕ
   pub query : Option (List ℕ)
   pub fragment : Option (List ℕ)
@@ -84,12 +84,12 @@ pub record WebParts (v : Location) (components : Components) : Type 0 where
 abbrev pub whole_path : List ℕ → Components
 whole_path text = record { path = text; query = None; fragment = None }
 
--- the components of a location, by its protocol
-abbrev pub PartsBy : Protocol → Location → Components → Type 0
-PartsBy http v components = WebParts v components
-PartsBy https v components = WebParts v components
-PartsBy _ v components = components ≡ whole_path v.path
+-- the components of a location, by its scheme
+abbrev pub ComponentsBy : Scheme → Location → Components → Type 0
+ComponentsBy http v components = WebComponents v components
+ComponentsBy https v components = WebComponents v components
+ComponentsBy _ v components = components ≡ whole_path v.path
 
 -- the components of a location
-abbrev pub PartsOf : Location → Components → Type 0
-PartsOf v components = PartsBy v.scheme v components
+abbrev pub ComponentsOf : Location → Components → Type 0
+ComponentsOf v components = ComponentsBy v.scheme v components

@@ -6,17 +6,17 @@ use Rattle.std.specs.List.{list_all}
 use Rattle.std.specs.Char.{digit_value, is_ascii_digit}
 use Rattle.std.specs.Str.Parse.{digits_value}
 use Rattle.percent_encoding.specs.Percent.{is_escape}
-use Rattle.git_syntax.specs.Value.{Protocol}
-use Rattle.git_syntax.specs.Value.Protocol.{file, git, ssh}
+use Rattle.git_syntax.specs.Location.{Scheme}
+use Rattle.git_syntax.specs.Location.Scheme.{file, git, ssh}
 use Rattle.git_syntax.specs.Bytes.{tab, newline, space, plus_sign, hyphen, slash, colon, at_sign, left_bracket, right_bracket, tilde, FreeOf, begins_with, Holds}
-use Rattle.git_syntax.specs.Schemes.{protocol_of}
+use Rattle.git_syntax.specs.Schemes.{scheme_of}
 use Rattle.git_syntax.specs.Authority.{unless_empty}
 use Rattle.git_syntax.specs.Grammar.{HasHelperForm}
 use Rattle.git_location.specs.Arguments.{is_option_like}
 
 -- the place that Git reads: a file has a path alone
 pub record GitReading : Type 0 where
-  pub protocol : Protocol
+  pub protocol : Scheme
   pub user : Option (List ℕ)
   pub host : Option (List ℕ)
   pub port : Option ℕ
@@ -204,10 +204,10 @@ pub record ReachesGit (place path : List ℕ) (reading : GitReading) : Type 0 wh
 -- ---- texts
 
 -- the text is a URL of a transport, and this is behind its `://`, decoded
-pub record OwnUrl (protocol : Protocol) (t rest : List ℕ) : Type 0 where
+pub record OwnUrl (known : Scheme) (t rest : List ℕ) : Type 0 where
   pub scheme : List ℕ
   pub spelled : List ℕ
-  pub own : protocol_of scheme ≡ protocol
+  pub own : scheme_of scheme ≡ known
   pub joined : t ≡ scheme ++ (codes "://" ++ spelled)
   pub decoded : rest ≡ git_decode spelled
 

@@ -1,7 +1,7 @@
 -- The law on the locations that a careful user hands to Git: in the text of each Git reads what this library reads.
 use Rattle.std.specs.Prelude.{◌≡◌, ℕ, List, Option, Some, None, Ok}
-use Rattle.git_syntax.specs.Value.{Protocol, Location}
-use Rattle.git_syntax.specs.Value.Protocol.{git, http, https}
+use Rattle.git_syntax.specs.Location.{Scheme, Location}
+use Rattle.git_syntax.specs.Location.Scheme.{git, http, https}
 use Rattle.git_syntax.specs.Grammar.{Unbrackets}
 use Rattle.git_location.specs.Text.{text}
 use Rattle.git_location.specs.Settled.{IsValue}
@@ -10,7 +10,7 @@ use Rattle.git_laws.specs.GitWeb.{ReadsOwnOverWeb}
 pub use Rattle.git_location.specs.GitClass.{is_contested, IsPlainHost, HasPlainParts, HasNoOption, is_tilde_second, IsRsync, SuitsTransport, AgreesByTransport, AgreesWithGit}
 
 -- the host that Git has of a location's host: of `git://` it is without the brackets around it
-abbrev pub HostForGit : Protocol → Option (List ℕ) → Option (List ℕ) → Type 0
+abbrev pub HostForGit : Scheme → Option (List ℕ) → Option (List ℕ) → Type 0
 HostForGit git None host = host ≡ None
 HostForGit git (Some own) host = (inner : List ℕ) × Unbrackets own inner × (host ≡ Some inner)
 HostForGit _ own host = host ≡ own
@@ -31,8 +31,8 @@ pub record ReadsOwnPlace (t : List ℕ) (v : Location) : Type 0 where
   pub own : HostForGit v.scheme v.host host
   pub reads : GitReads t (own_reading v host)
 
--- Git reads the location's own parts in the text, by the protocol: of HTTP its credential code does, and a reader of URIs
-abbrev pub ReadsOwnBy : Protocol → List ℕ → Location → Type 0
+-- Git reads the location's own parts in the text, by the scheme: of HTTP its credential code does, and a reader of URIs
+abbrev pub ReadsOwnBy : Scheme → List ℕ → Location → Type 0
 ReadsOwnBy http t v = ReadsOwnOverWeb t v
 ReadsOwnBy https t v = ReadsOwnOverWeb t v
 ReadsOwnBy _ t v = ReadsOwnPlace t v

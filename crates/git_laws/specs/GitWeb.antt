@@ -5,11 +5,11 @@ use Rattle.std.specs.Prelude.{◌≡◌, ℕ, ◌<◌, Bool, true, false, ◌||�
 use Rattle.std.specs.List.{list_all}
 use Rattle.std.specs.Char.{is_ascii_alphanumeric, is_ascii_digit}
 use Rattle.percent_encoding.specs.Percent.{percent_decode}
-use Rattle.git_syntax.specs.Value.{Location}
+use Rattle.git_syntax.specs.Location.{Location}
 use Rattle.git_syntax.specs.Bytes.{newline, slash, colon, question_mark, at_sign, left_bracket, right_bracket, Lacks, FreeOf, begins_with, Holds, IsLowercase, is_one_of, is_scheme_text, is_path_start, StartsPath}
 use Rattle.git_syntax.specs.Escapes.{is_sound}
 use Rattle.git_syntax.specs.Addresses.{IsIpv6Text}
-use Rattle.git_syntax.specs.Schemes.{protocol_text}
+use Rattle.git_syntax.specs.Schemes.{scheme_text}
 use Rattle.git_location.specs.Text.{port_part}
 use Rattle.git_location.specs.WebClass.{is_uri_byte, HasDotSegment}
 use Rattle.git_laws.specs.Components.{CutsPath}
@@ -192,7 +192,7 @@ below_root (b ∷ bs) = trimmed_path bs
 -- around it
 abbrev pub own_credential : Location → List ℕ → CredentialReading
 own_credential v host_text = record {
-  protocol = protocol_text v.scheme;
+  protocol = scheme_text v.scheme;
   user = v.user;
   password = v.password;
   host = host_text ++ port_part v.port;
@@ -216,7 +216,7 @@ with_query path (Some query) = path ++ question_mark ∷ query
 
 -- the components of the URI are the location's own: they decode to its parts, and there is no fragment
 pub record IsOwnUri (v : Location) (r : UriReading) : Type 0 where
-  pub scheme : r.scheme ≡ protocol_text v.scheme
+  pub scheme : r.scheme ≡ scheme_text v.scheme
   pub information : IsOwnInformation v.user v.password r.information
   pub host : v.host ≡ Some r.host
   pub port : r.port ≡ option_map decimal v.port

@@ -4,17 +4,17 @@ use Rattle.std.specs.Ordering.{ordering_then}
 use Rattle.std.specs.Hash.{HashWrites}
 use Rattle.std.specs.declared.cmp.Ordering.{Ordering}
 use Rattle.std.specs.declared.cmp.Ordering.TheVariants.{Equal}
-use Rattle.git_syntax.specs.Value.{Protocol, Location, fields, path_alone}
-use Rattle.git_syntax.specs.Value.Protocol.{file, git, ssh, ext, helper, helper_url}
+use Rattle.git_syntax.specs.Location.{Scheme, Location, fields, path_alone}
+use Rattle.git_syntax.specs.Location.Scheme.{file, git, ssh, ext, helper, helper_url}
 use Rattle.git_syntax.specs.Bytes.{colon, left_bracket, begins_with}
 use Rattle.git_syntax.specs.Escapes.{has_percent}
-use Rattle.git_syntax.specs.Grammar.{IsNeither, ScpShape, IsAddressed, SpellsHelper, SpellsUrl, SpellsFile, SpellsScpBefore, SpellsLocal, Spells}
+use Rattle.git_syntax.specs.Grammar.{IsNeither, ScpForm, IsAddressed, SpellsHelper, SpellsUrl, SpellsFile, SpellsScpBefore, SpellsLocal, Spells}
 use Rattle.git_location.specs.Text.{has_colon, text}
 use Rattle.git_location.specs.Settled.{IsValue, HasFittingText, IsSettled, IsWeb}
 use Rattle.git_location.specs.Readings.{IsAgain}
-use Rattle.git_laws.specs.Components.{Components, PartsOf}
+use Rattle.git_laws.specs.Components.{Components, ComponentsOf}
 use Rattle.git_laws.specs.Records.{migrated}
-use Rattle.git_laws.specs.Order.{text_cmp, location_cmp, fed_protocol, fed_location}
+use Rattle.git_laws.specs.Order.{text_cmp, location_cmp, fed_scheme, fed_location}
 
 -- ---- separation
 
@@ -50,40 +50,40 @@ TextDecides = (v w : Location) → IsValue v → IsValue w → IsSettled v → I
 abbrev pub SameComponents : Type 0
 SameComponents = (v w : Location) (t : List ℕ) → IsValue v → IsWeb v → IsSettled v → text v ≡ Ok t
     → Spells t w
-    → (components : Components) → PartsOf w components ↔ PartsOf v components
+    → (components : Components) → ComponentsOf w components ↔ ComponentsOf v components
 
 -- ---- closure
 
--- the protocols of which all that is read is settled, except for corners
-abbrev pub is_closed : Protocol → Bool
+-- the schemes of which all that is read is settled, with exceptions
+abbrev pub is_closed : Scheme → Bool
 is_closed git = false
 is_closed ssh = false
 is_closed (helper_url name) = false
 is_closed _ = true
 
--- the corners: hosts that would be written in brackets, and texts that are too long to be read again
-pub data IsCorner (v : Location) : Type 0 where
+-- the exceptions: hosts that would be written in brackets, and texts that are too long to be read again
+pub data IsException (v : Location) : Type 0 where
   -- a host of a file URL with `:` and `%` that doesn't begin with `[`
   file_host : (host : List ℕ) → v.scheme ≡ file → v.host ≡ Some host
       → begins_with left_bracket host ≡ false
-      → has_colon host ≡ true → has_percent host ≡ true → IsCorner v
+      → has_colon host ≡ true → has_percent host ≡ true → IsException v
   -- a host of HTTP with `%` and a `:` at its end that doesn't begin with `[`
   web_host : (front : List ℕ) → IsWeb v → v.host ≡ Some (front ++ colon ∷ [])
       → begins_with left_bracket (front ++ colon ∷ []) ≡ false
-      → has_percent (front ++ colon ∷ []) ≡ true → IsCorner v
+      → has_percent (front ++ colon ∷ []) ≡ true → IsException v
   -- a location of HTTP whose text is too long
-  web_length : IsWeb v → ¬ HasFittingText v → IsCorner v
+  web_length : IsWeb v → ¬ HasFittingText v → IsException v
 
--- what is spelled is settled, or is in a corner
+-- what is spelled is settled, or is an exception
 abbrev pub Closed : Type 0
 Closed = (b : List ℕ) (v : Location) → Spells b v → is_closed v.scheme ≡ true
-    → IsSettled v ⊎ IsCorner v
+    → IsSettled v ⊎ IsException v
 
--- no location in a corner is settled
+-- no exception is settled
 abbrev pub Apart : Type 0
-Apart = (v : Location) → IsCorner v → ¬ IsSettled v
+Apart = (v : Location) → IsException v → ¬ IsSettled v
 
--- of these protocols a value whose spelling isn't its path is settled exactly where it comes back
+-- of these schemes a value whose spelling isn't its path is settled exactly where it comes back
 abbrev pub Exact : Type 0
 Exact = (v : Location) → IsValue v → is_closed v.scheme ≡ true → ¬ (v.spelling ≡ Some v.path)
     → IsSettled v ↔ ComesBack v
@@ -91,7 +91,7 @@ Exact = (v : Location) → IsValue v → is_closed v.scheme ≡ true → ¬ (v.s
 -- ---- kinds that keep every byte
 
 -- remote helpers and local paths: their text holds the path as it is
-abbrev pub keeps_bytes : Protocol → Bool → Bool
+abbrev pub keeps_bytes : Scheme → Bool → Bool
 keeps_bytes file flag = flag
 keeps_bytes ext flag = true
 keeps_bytes (helper name) flag = true
@@ -124,10 +124,10 @@ Writable = (b : List ℕ) (v : Location) → Spells b v
 pub record SpellsLocalBefore (b : List ℕ) (v : Location) : Type 0 where
   pub nonempty : 0 < length b
   pub neither : IsNeither b
-  pub no_scp : (front path : List ℕ) → ¬ ScpShape b front path
+  pub no_scp : (front path : List ℕ) → ¬ ScpForm b front path
   pub value : v ≡ path_alone file true b
 
--- the bytes spell the location in the earlier grammar, whose scp form has nothing of its own for that shape
+-- the bytes spell the location in the earlier grammar, whose scp form has nothing of its own for that form
 pub data SpellsBefore (b : List ℕ) (v : Location) : Type 0 where
   url : SpellsUrl b v → SpellsBefore b v
   file_url : SpellsFile b v → SpellsBefore b v
@@ -135,7 +135,7 @@ pub data SpellsBefore (b : List ℕ) (v : Location) : Type 0 where
   scp_form : SpellsScpBefore b v → SpellsBefore b v
   local_path : SpellsLocalBefore b v → SpellsBefore b v
 
--- what the earlier grammar spelled is spelled; bytes without the shape spell nothing else
+-- what the earlier grammar spelled is spelled; bytes without that form spell nothing else
 abbrev pub KeepsEarlier : Type 0
 KeepsEarlier = (b : List ℕ) (v : Location)
     → (SpellsBefore b v → Spells b v) × (¬ IsAddressed b → Spells b v → SpellsBefore b v)
@@ -159,9 +159,9 @@ abbrev pub LocationsFedApart : Type 0
 LocationsFedApart = (v w : Location) → IsValue v → IsValue w → fed_location v ≡ fed_location w
     → v ≡ w
 
--- what is fed to a hasher alike is one protocol
-abbrev pub ProtocolsFedApart : Type 0
-ProtocolsFedApart = (p q : Protocol) → fed_protocol p ≡ fed_protocol q → p ≡ q
+-- what is fed to a hasher alike is one scheme
+abbrev pub SchemesFedApart : Type 0
+SchemesFedApart = (p q : Scheme) → fed_scheme p ≡ fed_scheme q → p ≡ q
 
 -- the public fields decide the order, and the spelling only where they are equal
 abbrev pub SpellingLast : Type 0

@@ -1,4 +1,4 @@
--- Equality, order and hash of protocols and of locations: part by part in declared order, texts by their bytes.
+-- Equality, order and hash of schemes and of locations: part by part in declared order, texts by their bytes.
 use Rattle.std.specs.Prelude.{ℕ, Bool, cond, ◌&&◌, nat_eq, List, [], ◌∷◌, ◌++◌, length, bytes_eq, Option, Some, None, is_some}
 use Rattle.std.specs.Option.{option_eq, option_cmp}
 use Rattle.std.specs.declared.cmp.Ordering.{Ordering}
@@ -7,11 +7,11 @@ use Rattle.std.specs.Cmp.Lexicographic.{slice_cmp}
 use Rattle.std.specs.Hash as fed
 use Rattle.std.specs.Hash.{HashWrites}
 use mathlib.Core.Bool.{beq}
-use Rattle.git_syntax.specs.Value.{Protocol, Location}
-use Rattle.git_syntax.specs.Value.Protocol.{file, git, ssh, http, https, ext, helper, helper_url}
+use Rattle.git_syntax.specs.Location.{Scheme, Location}
+use Rattle.git_syntax.specs.Location.Scheme.{file, git, ssh, http, https, ext, helper, helper_url}
 
--- where a protocol is among the kinds of them, as they are declared
-abbrev pub rank : Protocol → ℕ
+-- where a scheme is among the kinds of them, as they are declared
+abbrev pub rank : Scheme → ℕ
 rank file = 0
 rank git = 1
 rank ssh = 2
@@ -21,8 +21,8 @@ rank ext = 5
 rank (helper name) = 6
 rank (helper_url name) = 7
 
--- the name that a protocol brings with it, where its kind alone doesn't say which it is
-abbrev pub held_name : Protocol → Option (List ℕ)
+-- the name that a scheme brings with it, where its kind alone doesn't say which it is
+abbrev pub held_name : Scheme → Option (List ℕ)
 held_name (helper name) = Some name
 held_name (helper_url name) = Some name
 held_name _ = None
@@ -33,14 +33,14 @@ held_name _ = None
 abbrev pub text_eq : Option (List ℕ) → Option (List ℕ) → Bool
 text_eq = option_eq bytes_eq
 
--- protocols are equal where their kinds and their names are
-abbrev pub protocol_eq : Protocol → Protocol → Bool
-protocol_eq p q = nat_eq (rank p) (rank q) && text_eq (held_name p) (held_name q)
+-- schemes are equal where their kinds and their names are
+abbrev pub scheme_eq : Scheme → Scheme → Bool
+scheme_eq p q = nat_eq (rank p) (rank q) && text_eq (held_name p) (held_name q)
 
 -- locations are equal where all eight parts are
 abbrev pub location_eq : Location → Location → Bool
 location_eq v w =
-    protocol_eq v.scheme w.scheme
+    scheme_eq v.scheme w.scheme
     && (text_eq v.user w.user && (text_eq v.password w.password && (text_eq v.host w.host
     && (beq v.flag w.flag
     && (option_eq nat_eq v.port w.port
@@ -56,14 +56,14 @@ bytes_cmp = slice_cmp nat_cmp
 abbrev pub text_cmp : Option (List ℕ) → Option (List ℕ) → Ordering
 text_cmp = option_cmp bytes_cmp
 
--- protocols are ordered by their kinds as declared, and then by their names
-abbrev pub protocol_cmp : Protocol → Protocol → Ordering
-protocol_cmp = then_cmp (on rank nat_cmp) (on held_name text_cmp)
+-- schemes are ordered by their kinds as declared, and then by their names
+abbrev pub scheme_cmp : Scheme → Scheme → Ordering
+scheme_cmp = then_cmp (on rank nat_cmp) (on held_name text_cmp)
 
 -- locations are ordered by the first part that differs, in declared order, the retained spelling last
 abbrev pub location_cmp : Location → Location → Ordering
 location_cmp =
-    then_cmp (on (λ v. v.scheme) protocol_cmp)
+    then_cmp (on (λ v. v.scheme) scheme_cmp)
     (then_cmp (on (λ v. v.user) text_cmp) (then_cmp (on (λ v. v.password) text_cmp)
     (then_cmp (on (λ v. v.host) text_cmp)
     (then_cmp (on (λ v. v.flag) bool_cmp) (then_cmp (on (λ v. v.port) (option_cmp nat_cmp))
@@ -92,9 +92,9 @@ fed_part feed (Some x) = feed x
 abbrev pub fed_text : Option (List ℕ) → HashWrites
 fed_text = fed_part fed.str
 
--- of a protocol it is fed the kind, and the name of a kind that has one
-abbrev pub fed_protocol : Protocol → HashWrites
-fed_protocol p = fed.u8 (rank p) ++ fed_text (held_name p)
+-- of a scheme it is fed the kind, and the name of a kind that has one
+abbrev pub fed_scheme : Scheme → HashWrites
+fed_scheme p = fed.u8 (rank p) ++ fed_text (held_name p)
 
 -- a byte for each of the eight parts: the kind of the scheme, the flag, and whether each other part is there, as the
 -- path always is

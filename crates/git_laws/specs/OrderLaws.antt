@@ -9,9 +9,9 @@ use Rattle.std.specs.declared.cmp.Ordering.{Ordering}
 use Rattle.std.specs.Ordering.{nat_cmp, bool_cmp, eq_by_cmp}
 use Rattle.std.specs.Cmp.{IsTotalOrder, IsEquivalence, IsPartialOrder, po, decided, nat_cmp_total, bool_cmp_total, on_total, then_total, both_tied, unsigned_ties, unsigned_Decides, booleans_Decides}
 use Rattle.std.specs.Cmp.Lexicographic.{nat_list_cmp_total, options_total, texts_ties, bytes_decides}
-use Rattle.git_syntax.specs.Value.{Protocol, Location}
-use Rattle.git_syntax.specs.Value.Protocol.{file, git, ssh, http, https, ext, helper, helper_url}
-use Rattle.git_laws.specs.Order.{rank, held_name, text_eq, protocol_eq, location_eq, bytes_cmp, text_cmp, protocol_cmp, location_cmp, fed_protocol, fed_location}
+use Rattle.git_syntax.specs.Location.{Scheme, Location}
+use Rattle.git_syntax.specs.Location.Scheme.{file, git, ssh, http, https, ext, helper, helper_url}
+use Rattle.git_laws.specs.Order.{rank, held_name, text_eq, scheme_eq, location_eq, bytes_cmp, text_cmp, scheme_cmp, location_cmp, fed_scheme, fed_location}
 
 -- ---- what is equal is one value
 
@@ -27,39 +27,39 @@ options_decide E d (Some x) (Some y) =
 pub text_decides : (p q : Option (List ℕ)) → Decides (text_eq p q) (p ≡ q)
 text_decides = options_decide bytes_eq bytes_decides
 
--- the protocol of that kind and name
-protocol_at : ℕ → Option (List ℕ) → Protocol
-protocol_at zero name = file
-protocol_at (suc zero) name = git
-protocol_at (suc (suc zero)) name = ssh
-protocol_at (suc (suc (suc zero))) name = http
-protocol_at (suc (suc (suc (suc zero)))) name = https
-protocol_at (suc (suc (suc (suc (suc zero))))) name = ext
-protocol_at (suc (suc (suc (suc (suc (suc zero)))))) name = helper (unwrap_or name [])
-protocol_at (suc (suc (suc (suc (suc (suc (suc n))))))) name = helper_url (unwrap_or name [])
+-- the scheme of that kind and name
+scheme_at : ℕ → Option (List ℕ) → Scheme
+scheme_at zero name = file
+scheme_at (suc zero) name = git
+scheme_at (suc (suc zero)) name = ssh
+scheme_at (suc (suc (suc zero))) name = http
+scheme_at (suc (suc (suc (suc zero)))) name = https
+scheme_at (suc (suc (suc (suc (suc zero))))) name = ext
+scheme_at (suc (suc (suc (suc (suc (suc zero)))))) name = helper (unwrap_or name [])
+scheme_at (suc (suc (suc (suc (suc (suc (suc n))))))) name = helper_url (unwrap_or name [])
 
--- a protocol is that of its kind and its name
-at_itself : (p : Protocol) → protocol_at (rank p) (held_name p) ≡ p
-unfolding protocol_at
+-- a scheme is that of its kind and its name
+at_itself : (p : Scheme) → scheme_at (rank p) (held_name p) ≡ p
+unfolding scheme_at
 at_itself file = refl
 at_itself _ = refl
 
--- protocols of one kind and one name are one
-pub kind_and_name : (p q : Protocol) → rank p ≡ rank q → held_name p ≡ held_name q → p ≡ q
+-- schemes of one kind and one name are one
+pub kind_and_name : (p q : Scheme) → rank p ≡ rank q → held_name p ≡ held_name q → p ≡ q
 kind_and_name p q kinds names = sym (at_itself p) ∙
-    ((λ i. protocol_at (kinds i) (names i)) ∙ at_itself q)
+    ((λ i. scheme_at (kinds i) (names i)) ∙ at_itself q)
 
--- protocols are equal where their kinds and their names are
-pub protocol_decides : (p q : Protocol) → Decides (protocol_eq p q) (p ≡ q)
-protocol_decides p q =
-    let told = Decides-and _ _ (unsigned_Decides (rank p) (rank q))
+-- schemes are equal where their kinds and their names are
+pub scheme_decides : (p q : Scheme) → Decides (scheme_eq p q) (p ≡ q)
+scheme_decides p q =
+    let reported = Decides-and _ _ (unsigned_Decides (rank p) (rank q))
     (text_decides (held_name p) (held_name q)) in (
-      λ e. let same = told.0 e in kind_and_name p q same.0 same.1,
-      λ e. told.1 (ap rank e, ap held_name e),
+      λ e. let same = reported.0 e in kind_and_name p q same.0 same.1,
+      λ e. reported.1 (ap rank e, ap held_name e),
     )
 
-pub protocol_equiv : IsEquivalence protocol_eq
-protocol_equiv = decided protocol_eq protocol_decides
+pub scheme_equiv : IsEquivalence scheme_eq
+scheme_equiv = decided scheme_eq scheme_decides
 
 -- two locations have the same parts
 abbrev SameParts : Location → Location → Type 0
@@ -83,7 +83,7 @@ parts_same v w (scheme, (user, (password, (host, (flag, (port, (path, spelling))
 -- and are equal
 parts_decide : (v w : Location) → Decides (location_eq v w) (SameParts v w)
 parts_decide v w =
-    Decides-and _ _ (protocol_decides v.scheme w.scheme)
+    Decides-and _ _ (scheme_decides v.scheme w.scheme)
     (Decides-and _ _ (text_decides v.user w.user)
     (Decides-and _ _ (text_decides v.password w.password)
     (Decides-and _ _ (text_decides v.host w.host)
@@ -106,12 +106,12 @@ location_equiv = decided location_eq location_decides
 pub text_total : IsTotalOrder text_cmp
 text_total = options_total nat_list_cmp_total
 
-pub protocol_total : IsTotalOrder protocol_cmp
-protocol_total = then_total (on_total rank nat_cmp_total) (on_total held_name text_total)
+pub scheme_total : IsTotalOrder scheme_cmp
+scheme_total = then_total (on_total rank nat_cmp_total) (on_total held_name text_total)
 
 pub location_total : IsTotalOrder location_cmp
 location_total =
-    then_total (on_total (λ v. v.scheme) protocol_total)
+    then_total (on_total (λ v. v.scheme) scheme_total)
     (then_total (on_total (λ v. v.user) text_total)
     (then_total (on_total (λ v. v.password) text_total)
     (then_total (on_total (λ v. v.host) text_total)
@@ -140,13 +140,13 @@ flag_ties false true = refl
 flag_ties true false = refl
 flag_ties true true = refl
 
-pub protocol_ties : (p q : Protocol) → protocol_eq p q ≡ eq_by_cmp protocol_cmp p q
-protocol_ties p q = both_tied _ _ _ _ (unsigned_ties (rank p) (rank q))
+pub scheme_ties : (p q : Scheme) → scheme_eq p q ≡ eq_by_cmp scheme_cmp p q
+scheme_ties p q = both_tied _ _ _ _ (unsigned_ties (rank p) (rank q))
     (text_ties (held_name p) (held_name q))
 
 pub location_ties : (v w : Location) → location_eq v w ≡ eq_by_cmp location_cmp v w
 location_ties v w =
-    both_tied _ _ _ _ (protocol_ties v.scheme w.scheme)
+    both_tied _ _ _ _ (scheme_ties v.scheme w.scheme)
     (both_tied _ _ _ _ (text_ties v.user w.user)
     (both_tied _ _ _ _ (text_ties v.password w.password)
     (both_tied _ _ _ _ (text_ties v.host w.host)
@@ -154,16 +154,16 @@ location_ties v w =
     (both_tied _ _ _ _ (options_tie nat_eq nat_cmp unsigned_ties v.port w.port)
     (both_tied _ _ _ _ (texts_ties v.path w.path) (text_ties v.spelling w.spelling)))))))
 
-pub protocol_po : IsPartialOrder protocol_eq (λ p q. Some (protocol_cmp p q))
-protocol_po = po protocol_total protocol_ties
+pub scheme_po : IsPartialOrder scheme_eq (λ p q. Some (scheme_cmp p q))
+scheme_po = po scheme_total scheme_ties
 
 pub location_po : IsPartialOrder location_eq (λ v w. Some (location_cmp v w))
 location_po = po location_total location_ties
 
 -- ---- what is equal feeds a hasher alike
 
-pub protocols_alike : (p q : Protocol) → protocol_eq p q ≡ true → fed_protocol p ≡ fed_protocol q
-protocols_alike p q h = ap fed_protocol ((protocol_decides p q).0 h)
+pub schemes_alike : (p q : Scheme) → scheme_eq p q ≡ true → fed_scheme p ≡ fed_scheme q
+schemes_alike p q h = ap fed_scheme ((scheme_decides p q).0 h)
 
 pub locations_alike : (v w : Location) → location_eq v w ≡ true → fed_location v ≡ fed_location w
 locations_alike v w h = ap fed_location ((location_decides v w).0 h)

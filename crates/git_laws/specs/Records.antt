@@ -2,7 +2,7 @@
 -- migrated: its path is decoded, and spelled again.
 use Rattle.std.specs.Prelude.{◌≡◌, ℕ, ◌+◌, ◌<◌, ◌≤◌, Bool, true, false, ◌&&◌, ◌||◌, ◌==◌, nat_lt, ◌↔◌, List, [], ◌∷◌, ◌++◌, bytes_eq, length, All, Option, Some, None, if◌then◌else◌}
 use Rattle.percent_encoding.specs.Percent.{percent_encode_byte, percent_decode}
-use Rattle.git_syntax.specs.Value.{Location}
+use Rattle.git_syntax.specs.Location.{Location}
 use Rattle.git_syntax.specs.Bytes.{percent_sign, is_hexadecimal}
 use Rattle.git_syntax.specs.Escapes.{begins_with_digits, is_path_escaped}
 

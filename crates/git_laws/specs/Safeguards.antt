@@ -1,7 +1,7 @@
 -- Laws that keep passwords, options and escapes in their places, and of locations without a password or a spelling.
 use Rattle.std.specs.Prelude.{◌≡◌, Bool, true, false, not, ◌⊎◌, ◌↔◌, [], Some, None}
-use Rattle.git_syntax.specs.Value.{Protocol, Location, fields}
-use Rattle.git_syntax.specs.Value.Protocol.{git, ssh, helper_url}
+use Rattle.git_syntax.specs.Location.{Scheme, Location, fields}
+use Rattle.git_syntax.specs.Location.Scheme.{git, ssh, helper_url}
 use Rattle.git_syntax.specs.Bytes.{LacksWhiteSpace}
 use Rattle.git_syntax.specs.Escapes.{has_percent}
 use Rattle.git_location.specs.Settled.{IsValue, HasFittingText, IsSettled, IsWeb}
@@ -19,8 +19,8 @@ SettledWithoutPassword = (v : Location) → IsValue v → IsSettled v
 abbrev pub WebSettledWithoutSpelling : Type 0
 WebSettledWithoutSpelling = (v : Location) → IsValue v → IsWeb v → IsSettled v → IsSettled (fields v)
 
--- the kinds whose path is written raw without a spelling, and read as URLs: by protocol and alternative-form flag
-abbrev pub is_raw_url : Protocol → Bool → Bool
+-- the kinds whose path is written raw without a spelling, and read as URLs: by scheme and alternative-form flag
+abbrev pub is_raw_url : Scheme → Bool → Bool
 is_raw_url git flag = true
 is_raw_url ssh flag = not flag
 is_raw_url (helper_url name) flag = true

@@ -11,8 +11,8 @@ ghost use Rattle.git_laws.specs.ComponentLaws.{EqualComponents, OneComponents};
 ghost use Rattle.git_laws.specs.Git.{OneGitReading};
 ghost use Rattle.git_laws.specs.GitClass.{ReadAlike};
 ghost use Rattle.git_laws.specs.GitWeb.{OneCredentialReading, OneUriReading};
-ghost use Rattle.git_laws.specs.Laws.{Apart, Closed, EqualIsSame, Exact, ExactByFields, FedAlike, KeepsEarlier, LocationsFedApart, ProtocolsFedApart, ReadAgain, SameComponents, SettledAgain, SpellingLast, TextDecides, TiedIsEqual, Unchanged, Unique, Writable};
-ghost use Rattle.git_laws.specs.Order.{fed_location, fed_protocol, location_cmp, location_eq, protocol_cmp, protocol_eq};
+ghost use Rattle.git_laws.specs.Laws.{Apart, Closed, EqualIsSame, Exact, ExactByFields, FedAlike, KeepsEarlier, LocationsFedApart, SchemesFedApart, ReadAgain, SameComponents, SettledAgain, SpellingLast, TextDecides, TiedIsEqual, Unchanged, Unique, Writable};
+ghost use Rattle.git_laws.specs.Order.{fed_location, fed_scheme, location_cmp, location_eq, scheme_cmp, scheme_eq};
 ghost use Rattle.git_laws.specs.Records.{KeepsMeaning, MigratedOnce, Migrates, RespelledOnce};
 ghost use Rattle.git_laws.specs.Safeguards.{SettledWithoutPassword, SettledWithoutSpelling, WebSettledWithoutSpelling};
 
@@ -27,7 +27,7 @@ ghost use Rattle.git_laws.specs.Safeguards.{SettledWithoutPassword, SettledWitho
 ///   texts.
 /// - `components`: what is read of a settled location of HTTP has the same path, query and fragment.
 /// - `before`: each location that bytes spelled before the scp form took `user@[address]:path` is still what they
-///   spell, and bytes without that shape spell nothing else. Who stored such texts reads them as before.
+///   spell, and bytes without that form spell nothing else. Who stored such texts reads them as before.
 ///
 /// A law is a call with an empty body. A proof cites it where it was made:
 ///
@@ -74,10 +74,10 @@ pub fn law_stored()
 
 /// What is read is settled, and the settled class is exact: of local files, HTTP, `ext` and remote helpers.
 ///
-/// - `closed`: a location of these kinds is settled if any bytes spell it, except for three corners: a host of a file URL
+/// - `closed`: a location of these kinds is settled if any bytes spell it, with three exceptions: a host of a file URL
 ///   with `:` and `%`, a host of HTTP with `%` and a `:` at its end (both only where it doesn't begin with `[`), and a
 ///   location of HTTP whose text is too long to be read again. Who only reads meets no other unsettled one.
-/// - `apart`: no location in a corner is settled, so what is read is one or the other.
+/// - `apart`: no exception is settled, so what is read is one or the other.
 /// - `exact`: such a location is settled exactly where its text is read as its public fields and written the same
 ///   again, if its spelling isn't its path. So of these the class leaves none out.
 /// - `unchanged`: what bytes spell as a remote helper or a local path is settled, and its text is those bytes. Tools
@@ -119,20 +119,20 @@ pub fn law_order()
     ensures spelling_last { SpellingLast }
 {}
 
-/// Equality, order and hash of schemes agree, as those of locations do. A scheme counts as the protocol that it stands
+/// Equality, order and hash of schemes agree, as those of locations do. A scheme counts as the value that it stands
 /// for.
 ///
-/// - `same`: two schemes are equal exactly where they stand for one protocol.
+/// - `same`: two schemes are equal exactly where they stand for one value.
 /// - `tied`: the order answers `Equal` exactly of equal schemes.
 /// - `total`: the order is total.
 /// - `hashed`: equal schemes feed a hasher the same.
 /// - `hashed_apart`: and no others do.
 pub fn law_scheme_order()
-    ensures same { EqualIsSame protocol_eq }
-    ensures tied { TiedIsEqual protocol_eq protocol_cmp }
-    ensures total { IsTotalOrder protocol_cmp }
-    ensures hashed { FedAlike protocol_eq fed_protocol }
-    ensures hashed_apart { ProtocolsFedApart }
+    ensures same { EqualIsSame scheme_eq }
+    ensures tied { TiedIsEqual scheme_eq scheme_cmp }
+    ensures total { IsTotalOrder scheme_cmp }
+    ensures hashed { FedAlike scheme_eq fed_scheme }
+    ensures hashed_apart { SchemesFedApart }
 {}
 
 /// A line is answered by a line.

@@ -3,7 +3,7 @@
 //! It has no code and uses nothing: the contract of each function is a group of rows.
 
 ghost use Rattle.git_laws.specs.Examples.ByteRows.{EscapeSetRows, EscapedByteRows, GitByteRows, HostByteRows, NameByteRows, QuickByteRows, WhiteSpaceRows};
-ghost use Rattle.git_laws.specs.Examples.OtherRows.{CornerRows, NoCornerRows, SlipRows};
+ghost use Rattle.git_laws.specs.Examples.OtherRows.{ExceptionRows, NoExceptionRows, SlipRows};
 ghost use Rattle.git_laws.specs.Examples.GitRows.{CredentialRows, GitTextRows, GitUrlRows, NoGitRows};
 
 /// Classes of bytes, with all their members.
@@ -28,6 +28,6 @@ fn law_git()
 /// Corners of what is read, and slips in definitions.
 fn law_others()
     ensures slips { SlipRows }
-    ensures inside { CornerRows }
-    ensures outside { NoCornerRows }
+    ensures inside { ExceptionRows }
+    ensures outside { NoExceptionRows }
 {}

@@ -1,3 +1,3 @@
 -- Lemmas by topic, lowest first.
-pub mod Values
+pub mod LineAnswers
 pub mod Examples

@@ -4,13 +4,13 @@ use Rattle.std.specs.Io.KnownBytes.{Appends, IsAtEnd}
 use Rattle.git_syntax.specs.declared.refusal.Refusal.{Refusal}
 use Rattle.git_lines.specs.declared.lines.RunError.{RunError}
 use Rattle.git_lines.specs.declared.lines.RunError.TheVariants as run
-use Rattle.git_syntax.specs.Value.{Location}
+use Rattle.git_syntax.specs.Location.{Location}
 use Rattle.git_syntax.specs.declared.refusal.UrlFault.{UrlFault}
 use Rattle.git_syntax.specs.declared.refusal.UrlFault.TheVariants as fault
 use Rattle.git_location.specs.declared.write_error.WriteFault.{WriteFault}
 use Rattle.git_syntax.specs.declared.refusal.Refusal.TheVariants as refusal
 use Rattle.git_syntax.specs.Bytes.{tab, newline, FreeOf}
-use Rattle.git_syntax.specs.Schemes.{protocol_text}
+use Rattle.git_syntax.specs.Schemes.{scheme_text}
 use Rattle.git_syntax.specs.Grammar.{Spells}
 use Rattle.git_location.specs.Text.{text}
 use Rattle.git_location.specs.Settled.{IsSettled}
@@ -55,29 +55,29 @@ refusal_name (refusal.TooLong shown total at len) = codes "TooLong"
 refusal_name (refusal.BadUrl kind named at len) = codes "BadUrl " ++ fault_name named
 
 -- a word and what it is said of, on a line
-abbrev pub told_line : List ℕ → List ℕ → List ℕ
-told_line word of_what = word ++ (tab ∷ (of_what ++ newline ∷ []))
+abbrev pub reported_line : List ℕ → List ℕ → List ℕ
+reported_line word of_what = word ++ (tab ∷ (of_what ++ newline ∷ []))
 
 -- what is reported of a location, and whether it is settled
-pub data IsTold (v : Location) (answer : List ℕ) (good : Bool) : Type 0 where
+pub data IsReported (v : Location) (answer : List ℕ) (good : Bool) : Type 0 where
   -- a settled location: its text
-  settled : (t : List ℕ) → text v ≡ Ok t → IsSettled v → answer ≡ told_line (codes "settled") t
-      → good ≡ true → IsTold v answer good
+  settled : (t : List ℕ) → text v ≡ Ok t → IsSettled v → answer ≡ reported_line (codes "settled") t
+      → good ≡ true → IsReported v answer good
   -- another that has a text: its scheme
   unsettled : (t : List ℕ) → text v ≡ Ok t → ¬ IsSettled v
-      → answer ≡ told_line (codes "unsettled") (protocol_text v.scheme) → good ≡ false
-      → IsTold v answer good
+      → answer ≡ reported_line (codes "unsettled") (scheme_text v.scheme) → good ≡ false
+      → IsReported v answer good
   -- a location without a text: its scheme
   unwritable : (f : WriteFault) → text v ≡ Err f
-      → answer ≡ told_line (codes "unwritable") (protocol_text v.scheme) → good ≡ false
-      → IsTold v answer good
+      → answer ≡ reported_line (codes "unwritable") (scheme_text v.scheme) → good ≡ false
+      → IsReported v answer good
 
 -- the answer to a line, and whether the line is settled
 pub data IsAnswer (line answer : List ℕ) (good : Bool) : Type 0 where
   -- what is reported of the one location that it spells
-  told : (v : Location) → Spells line v → IsTold v answer good → IsAnswer line answer good
+  reported : (v : Location) → Spells line v → IsReported v answer good → IsAnswer line answer good
   -- a refusal whose flaw is in it, so that it spells none (`RefusalExclusive`)
-  refused : (r : Refusal) → NamesFlaw line r → answer ≡ told_line (codes "refused") (refusal_name r)
+  refused : (r : Refusal) → NamesFlaw line r → answer ≡ reported_line (codes "refused") (refusal_name r)
       → good ≡ false → IsAnswer line answer good
 
 -- the answers to lines, in order, and whether each line is settled
@@ -121,15 +121,15 @@ AppendsAnswer line old new (Ok good) = (answer : List ℕ) × IsAnswer line answ
 AppendsAnswer line old new (Err fault) = fault ≡ run.Memory
 
 -- the call appended what is reported of the location, and told whether it is settled, or memory was refused
-abbrev pub Tells : Location → List ℕ → List ℕ → Result Bool RunError → Type 0
-Tells v old new (Ok good) = (answer : List ℕ) × IsTold v answer good × (new ≡ old ++ answer)
-Tells v old new (Err fault) = fault ≡ run.Memory
+abbrev pub Reports : Location → List ℕ → List ℕ → Result Bool RunError → Type 0
+Reports v old new (Ok good) = (answer : List ℕ) × IsReported v answer good × (new ≡ old ++ answer)
+Reports v old new (Err fault) = fault ≡ run.Memory
 
 -- the call appended the answer to a line that is refused so, or memory was refused
-abbrev pub TellsRefusal : Refusal → List ℕ → List ℕ → Result Bool RunError → Type 0
-TellsRefusal r old new (Ok good) = (good ≡ false)
-    × (new ≡ old ++ told_line (codes "refused") (refusal_name r))
-TellsRefusal r old new (Err fault) = fault ≡ run.Memory
+abbrev pub ReportsRefusal : Refusal → List ℕ → List ℕ → Result Bool RunError → Type 0
+ReportsRefusal r old new (Ok good) = (good ≡ false)
+    × (new ≡ old ++ reported_line (codes "refused") (refusal_name r))
+ReportsRefusal r old new (Err fault) = fault ≡ run.Memory
 
 -- the call appended these bytes, or memory was refused
 abbrev pub Puts : List ℕ → List ℕ → List ℕ → Result (Unit {0}) RunError → Type 0

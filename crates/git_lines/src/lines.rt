@@ -7,10 +7,10 @@
 
 ghost use Rattle.std.specs.Prelude.{◌≡◌, ℕ, ◌≤◌, ◌^◌, ◌++◌, List, None, Ok, codes, length, IfErr, IfOk, IfSome, OnOk};
 ghost use Rattle.std.specs.Io.KnownBytes.{IsAtEnd};
-ghost use Rattle.git_lines.specs.Answers.{Answers, HasLinesWithin, fault_name, refusal_name, told_line};
-ghost use Rattle.git_lines.specs.Answers.{AppendsAnswer, IsBeforeWriting, Puts, Ran, RanToEnd, Tells, TellsRefusal, fault_text, status_of};
+ghost use Rattle.git_lines.specs.Answers.{Answers, HasLinesWithin, fault_name, refusal_name, reported_line};
+ghost use Rattle.git_lines.specs.Answers.{AppendsAnswer, IsBeforeWriting, Puts, Ran, RanToEnd, Reports, ReportsRefusal, fault_text, status_of};
 ghost use Rattle.git_location.specs.Internal.Pieces.{pieces_text};
-ghost use Rattle.git_syntax.specs.Schemes.{protocol_text};
+ghost use Rattle.git_syntax.specs.Schemes.{scheme_text};
 ghost use Rattle.git_location.specs.Text.{text};
 
 use git_location::parse_error::ParseError;
@@ -205,19 +205,19 @@ fn answer(line: &[u8], room: &mut [u8], out: &mut Vec<u8>) -> Result<bool, RunEr
     ensures { AppendsAnswer line.now out.old.items out.new.items result }
 {
     match UrlRef::parse_in(line, room) {
-        Ok(url) => tell(url, out),
+        Ok(url) => report(url, out),
         Err(ParseError::Refused(refusal)) => refuse(&refusal, out),
         Err(ParseError::NoRoom) => unreachable!(),
     }
 }
 
 /// Appends what is reported of a location, and says whether it is settled. Its text is laid out once.
-fn tell(url: UrlRef<'_>, out: &mut Vec<u8>) -> Result<bool, RunError>
-    ensures { Tells url.entry out.old.items out.new.items result }
+fn report(url: UrlRef<'_>, out: &mut Vec<u8>) -> Result<bool, RunError>
+    ensures { Reports url.entry out.old.items out.new.items result }
 {
     let mut digits = Buffer::new();
     match url.own_pieces(&mut digits) {
-        Ok(pieces) => tell_written(&url, &pieces, out),
+        Ok(pieces) => report_written(&url, &pieces, out),
         Err(_) => {
             put_scheme(out, "unwritable", &url)?;
             Ok(false)
@@ -226,9 +226,13 @@ fn tell(url: UrlRef<'_>, out: &mut Vec<u8>) -> Result<bool, RunError>
 }
 
 /// The same of a location whose text these pieces make up.
-fn tell_written(url: &UrlRef<'_>, pieces: &Pieces<'_>, out: &mut Vec<u8>) -> Result<bool, RunError>
+fn report_written(
+    url: &UrlRef<'_>,
+    pieces: &Pieces<'_>,
+    out: &mut Vec<u8>,
+) -> Result<bool, RunError>
     requires { text url.now ≡ Ok (pieces_text pieces.now) }
-    ensures { Tells url.now out.old.items out.new.items result }
+    ensures { Reports url.now out.old.items out.new.items result }
 {
     if url.is_settled_as(Some(pieces)) {
         put_text(out, pieces)?;
@@ -240,7 +244,7 @@ fn tell_written(url: &UrlRef<'_>, pieces: &Pieces<'_>, out: &mut Vec<u8>) -> Res
 
 /// Appends the answer for a line that is refused.
 fn refuse(refusal: &Refusal<'_>, out: &mut Vec<u8>) -> Result<bool, RunError>
-    ensures { TellsRefusal refusal.now out.old.items out.new.items result }
+    ensures { ReportsRefusal refusal.now out.old.items out.new.items result }
 {
     put_line(out, "refused", refusal_name(refusal).as_bytes())?;
     Ok(false)
@@ -273,7 +277,7 @@ fn bad_url_name(fault: UrlFault) -> &'static str
 
 /// Appends the line of a location that isn't settled: a word and the scheme.
 fn put_scheme(out: &mut Vec<u8>, word: &str, url: &UrlRef<'_>) -> Result<(), RunError>
-    ensures { Puts (told_line word.now (protocol_text url.now.scheme)) out.old.items out.new.items
+    ensures { Puts (reported_line word.now (scheme_text url.now.scheme)) out.old.items out.new.items
         result }
 {
     put_line(out, word, url.scheme.as_str().as_bytes())
@@ -281,7 +285,7 @@ fn put_scheme(out: &mut Vec<u8>, word: &str, url: &UrlRef<'_>) -> Result<(), Run
 
 /// Appends a line: a word, a tab, and what it is said of.
 fn put_line(out: &mut Vec<u8>, word: &str, of_what: &[u8]) -> Result<(), RunError>
-    ensures { Puts (told_line word.now of_what.now) out.old.items out.new.items result }
+    ensures { Puts (reported_line word.now of_what.now) out.old.items out.new.items result }
 {
     out.extend_from_slice(word.as_bytes())?;
     out.extend_from_slice(b"\t")?;
@@ -292,7 +296,7 @@ fn put_line(out: &mut Vec<u8>, word: &str, of_what: &[u8]) -> Result<(), RunErro
 
 /// Appends the line of a settled location: the text that its pieces make up.
 fn put_text(out: &mut Vec<u8>, pieces: &Pieces<'_>) -> Result<(), RunError>
-    ensures { Puts (told_line (codes "settled") (pieces_text pieces.now)) out.old.items
+    ensures { Puts (reported_line (codes "settled") (pieces_text pieces.now)) out.old.items
         out.new.items result }
 {
     out.extend_from_slice(b"settled\t")?;

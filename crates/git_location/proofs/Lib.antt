@@ -1,5 +1,5 @@
 -- Lemmas by topic, lowest first.
 pub mod Texts
 pub mod Unique
-pub mod Written
-pub mod Closed
+pub mod Writing
+pub mod SettledClass

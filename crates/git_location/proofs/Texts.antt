@@ -1,2 +1,2 @@
 -- Texts and their bytes: cuts, escapes, plain texts, texts that need no escape.
-pub mod ReadyLemmas
+pub mod UnescapedLemmas

@@ -1,7 +1,7 @@
 -- What a location is shown as: its text with the password hidden, as UTF-8.
 use Rattle.std.specs.Prelude.{ℕ, List, codes, Option, Some, None, Result, Ok, Err}
 use Rattle.git_location.specs.declared.write_error.WriteFault.{WriteFault}
-use Rattle.git_syntax.specs.Value.{Location}
+use Rattle.git_syntax.specs.Location.{Location}
 use Rattle.git_syntax.specs.Bytes.{lossy_text}
 use Rattle.git_location.specs.Text.{text}
 

@@ -3,8 +3,8 @@
 use Rattle.std.specs.Prelude.{◌≡◌, ℕ, Bool, true, false, ◌||◌, ◌==◌, ◌⊎◌, List, [], ◌∷◌, codes, Some, None, IfSome}
 use Rattle.percent_encoding.specs.declared.ascii_set.AsciiSet.{AsciiSet}
 use Rattle.percent_encoding.specs.AsciiSet.{should_percent_encode}
-use Rattle.git_syntax.specs.Value.{Protocol, Location}
-use Rattle.git_syntax.specs.Value.Protocol.{file, git, ssh, http, https}
+use Rattle.git_syntax.specs.Location.{Scheme, Location}
+use Rattle.git_syntax.specs.Location.Scheme.{file, git, ssh, http, https}
 use Rattle.git_syntax.specs.Bytes.{newline, percent_sign, left_bracket, right_bracket, tilde, Lacks, FreeOf, begins_with}
 use Rattle.git_syntax.specs.Escapes.{password_set, user_set}
 use Rattle.git_location.specs.Settled.{IsSettled}
@@ -58,7 +58,7 @@ pub record IsRsync (v : Location) : Type 0 where
 -- what Git's own transports ask besides: a path and a user of Secure Shell, and not the host `rsync` alone; no user
 -- for `git://`, and no end of a line in the path; no host for a file, a path that doesn't begin with `~`, and in a URL
 -- no `%`, which Git alone decodes
-abbrev pub SuitsTransport : Protocol → Location → Type 0
+abbrev pub SuitsTransport : Scheme → Location → Type 0
 SuitsTransport ssh v = (is_tilde_second v.path ≡ false) × (¬ IsRsync v) × ¬ (v.user ≡ Some [])
 SuitsTransport git v = (v.user ≡ None) × FreeOf newline v.path
 SuitsTransport file v = (v.host ≡ None) × (begins_with tilde v.path ≡ false)
@@ -73,8 +73,8 @@ pub record AgreesByTransport (v : Location) : Type 0 where
   pub suits : SuitsTransport v.scheme v
   pub plain : HasPlainParts v
 
--- the location is of the class, by its protocol
-abbrev pub AgreesBy : Protocol → Location → Type 0
+-- the location is of the class, by its scheme
+abbrev pub AgreesBy : Scheme → Location → Type 0
 AgreesBy http v = AgreesOverWeb v
 AgreesBy https v = AgreesOverWeb v
 AgreesBy _ v = AgreesByTransport v

@@ -3,5 +3,5 @@ pub mod KeptBytes
 pub mod Pieces
 pub mod Sinks
 pub mod Fills
-pub mod SettledParts
-pub mod WebParts
+pub mod SettledPieces
+pub mod WebPieces

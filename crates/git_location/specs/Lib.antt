@@ -3,7 +3,7 @@ pub mod Text
 pub mod Settled
 pub mod Readings
 pub mod Display
-pub mod Words
+pub mod ErrorText
 pub mod Arguments
 pub mod WebClass
 pub mod GitClass

@@ -7,7 +7,7 @@ use Rattle.git_syntax.specs.declared.refusal.Refusal.TheVariants as refusal
 use Rattle.git_location.specs.declared.write_error.WriteFault.{WriteFault}
 use Rattle.git_location.specs.declared.write_error.WriteError.{WriteError}
 use Rattle.git_location.specs.declared.write_error.WriteError.TheVariants.{Fault, Io}
-use Rattle.git_syntax.specs.Value.{Location, fields}
+use Rattle.git_syntax.specs.Location.{Location, fields}
 use Rattle.git_syntax.specs.Grammar.{Spells}
 use Rattle.git_location.specs.Text.{text}
 use Rattle.git_location.specs.Settled.{IsSettled}

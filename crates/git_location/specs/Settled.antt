@@ -2,15 +2,15 @@
 -- is written the same again; some locations outside come back too.
 use Rattle.std.specs.Prelude.{◌≡◌, ◌≢◌, ℕ, ◌<◌, Bool, true, false, ◌&&◌, ◌==◌, ◌⊎◌, List, [], ◌∷◌, ◌++◌, length, codes, bytes_eq, Option, Some, None, IsSome, IfSome, Ok, IsUtf8, All}
 use Rattle.std.specs.List.{list_all}
-use Rattle.git_syntax.specs.Value.{Protocol, Location}
-use Rattle.git_syntax.specs.Value.Protocol.{file, git, ssh, http, https, ext, helper, helper_url}
+use Rattle.git_syntax.specs.Location.{Scheme, Location}
+use Rattle.git_syntax.specs.Location.Scheme.{file, git, ssh, http, https, ext, helper, helper_url}
 use Rattle.git_syntax.specs.Bytes.{slash, colon, at_sign, left_bracket, backslash, right_bracket, tilde, FreeOf, begins_by, begins_with, Holds, IsLowercase, LacksWhiteSpace, is_scheme_text, is_helper_name, is_path_start}
 use Rattle.git_syntax.specs.Escapes.{is_sound, DecodesTo, has_percent}
 use Rattle.git_syntax.specs.Addresses.{IsIpv6Text, Literal}
 use Rattle.git_syntax.specs.Hosts.{normal_host, is_http_host_byte}
 use Rattle.git_syntax.specs.Schemes.{is_ftp, is_known_scheme}
 use Rattle.git_syntax.specs.Authority.{FitsText}
-use Rattle.git_syntax.specs.Grammar.{begins_at_home, LocalShape}
+use Rattle.git_syntax.specs.Grammar.{begins_at_home, LocalForm}
 use Rattle.git_location.specs.Text.{text}
 
 -- what holds of every value of the code: its texts are UTF-8, its bytes are bytes and its port is one
@@ -221,7 +221,7 @@ pub record IsSettledFile (v : Location) : Type 0 where
 -- a settled local path
 pub record IsSettledLocal (v : Location) : Type 0 where
   pub bare : IsFlaggedPath v
-  pub shape : LocalShape v.path
+  pub form : LocalForm v.path
 
 -- ---- the scp form
 
@@ -284,8 +284,8 @@ pub record IsSettledHelper (name : List ℕ) (v : Location) : Type 0 where
 
 -- ---- all kinds
 
--- the location is settled, by its protocol
-abbrev pub IsSettledBy : Protocol → Location → Type 0
+-- the location is settled, by its scheme
+abbrev pub IsSettledBy : Scheme → Location → Type 0
 IsSettledBy file v = IsSettledLocal v ⊎ IsSettledFile v
 IsSettledBy ssh v = IsSettledScp v ⊎ IsSettledSecure v
 IsSettledBy git v = IsSettledGit v

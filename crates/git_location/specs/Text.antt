@@ -4,12 +4,12 @@ use Rattle.std.specs.List.{list_any}
 use Rattle.percent_encoding.specs.Percent.{percent_encode}
 use Rattle.git_location.specs.declared.write_error.WriteFault.{WriteFault}
 use Rattle.git_location.specs.declared.write_error.WriteFault.TheVariants.{HelperName, HelperParts, RelativeSsh, UserWithoutHost}
-use Rattle.git_syntax.specs.Value.{Protocol, Location}
-use Rattle.git_syntax.specs.Value.Protocol.{file, ssh, http, https, ext, helper}
+use Rattle.git_syntax.specs.Location.{Scheme, Location}
+use Rattle.git_syntax.specs.Location.Scheme.{file, ssh, http, https, ext, helper}
 use Rattle.git_syntax.specs.Bytes.{slash, colon, at_sign, left_bracket, right_bracket, tilde, begins_with, is_helper_name}
 use Rattle.git_syntax.specs.Escapes.{matches, has_percent, path_set, password_set, user_set, escaped_percents}
 use Rattle.git_syntax.specs.AddressTest.{is_ipv6_text}
-use Rattle.git_syntax.specs.Schemes.{protocol_text, requires_path}
+use Rattle.git_syntax.specs.Schemes.{scheme_text, requires_path}
 
 -- the forms of a text
 pub data Form : Type 0 where
@@ -48,8 +48,8 @@ ssh_choice v =
     else Err RelativeSsh)
     else (if is_alternative v then with_host v scp_form else with_host v canonical_form)
 
--- the form of a location, by its protocol
-abbrev pub choice_by : Protocol → Location → Result Form WriteFault
+-- the form of a location, by its scheme
+abbrev pub choice_by : Scheme → Location → Result Form WriteFault
 choice_by ext v = helper_choice (codes "ext") v
 choice_by (helper name) v = helper_choice name v
 choice_by ssh v = ssh_choice v
@@ -64,7 +64,7 @@ choice v = choice_by v.scheme v
 
 -- the name of the helper, `::` and the path
 abbrev pub helper_text : Location → List ℕ
-helper_text v = protocol_text v.scheme ++ (colon ∷ (colon ∷ v.path))
+helper_text v = scheme_text v.scheme ++ (colon ∷ (colon ∷ v.path))
 
 -- ---- path and scp form
 
@@ -108,16 +108,16 @@ user_information None password = []
 user_information (Some user) password = percent_encode user_set user
     ++ (escaped_password password ++ at_sign ∷ [])
 
--- outside brackets the protocol's hosts are written as they are
-abbrev pub keeps_host : Protocol → Bool
+-- outside brackets the scheme's hosts are written as they are
+abbrev pub keeps_host : Scheme → Bool
 keeps_host file = true
 keeps_host http = true
 keeps_host https = true
 keeps_host _ = false
 
 -- a host outside brackets: as it is, or escaped, except for the colons of an address
-abbrev pub open_host : Protocol → List ℕ → List ℕ
-open_host protocol host = if keeps_host protocol then host
+abbrev pub open_host : Scheme → List ℕ → List ℕ
+open_host scheme host = if keeps_host scheme then host
     else (if is_ipv6_text host then percent_encode password_set host
     else percent_encode user_set host)
 
@@ -145,7 +145,7 @@ abbrev pub root_part : Location → List ℕ
 root_part v = if requires_path v.scheme && not (begins_with slash v.path) then slash ∷ [] else []
 
 -- the path as it is written without a spelling: escaped for HTTP, raw else
-abbrev pub plain_path : Protocol → List ℕ → List ℕ
+abbrev pub plain_path : Scheme → List ℕ → List ℕ
 plain_path http path = percent_encode path_set path
 plain_path https path = percent_encode path_set path
 plain_path _ path = path
@@ -165,7 +165,7 @@ canonical_path v = root_part v ++ matching_or v.spelling v.path (plain_path v.sc
 
 -- the text of a URL: the scheme, `://`, the user information, the host, the port and the path
 abbrev pub canonical_text : Location → List ℕ
-canonical_text v = protocol_text v.scheme
+canonical_text v = scheme_text v.scheme
     ++ (codes "://" ++ (user_information v.user v.password
     ++ (host_part v v.host ++ (port_part v.port ++ canonical_path v))))
 

@@ -1,13 +1,13 @@
 -- The location that a `UrlRef` stands for.
 use Rattle.std.specs.Prelude.{option_map}
 use Rattle.git_location.specs.declared.url_ref.UrlRef.TheInside.{Inside}
-use Rattle.git_syntax.specs.Value.{Location}
-use Rattle.git_syntax.specs.Views.{lent_protocol}
+use Rattle.git_syntax.specs.Location.{Location}
+use Rattle.git_syntax.specs.Views.{lent_scheme}
 
 -- the eight parts of a `UrlRef`, as plain values
 abbrev pub lent_location : Inside → Location
 lent_location u = record {
-  scheme = lent_protocol u.scheme;
+  scheme = lent_scheme u.scheme;
   user = option_map (λ t. t.now) u.user;
   password = option_map (λ t. t.now) u.password;
   host = option_map (λ t. t.now) u.host;

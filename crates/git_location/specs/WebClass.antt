@@ -3,7 +3,7 @@ use Rattle.std.specs.Prelude.{◌≡◌, ℕ, Bool, true, false, ◌||◌, ◌==
 use Rattle.std.specs.List.{list_all}
 use Rattle.std.specs.Char.{is_ascii_alphanumeric, is_ascii_lowercase, is_ascii_digit}
 use Rattle.percent_encoding.specs.Percent.{percent_encode}
-use Rattle.git_syntax.specs.Value.{Location}
+use Rattle.git_syntax.specs.Location.{Location}
 use Rattle.git_syntax.specs.Bytes.{space, number_sign, percent_sign, dot, slash, colon, question_mark, delete, Lacks, FreeOf, begins_by, begins_with, is_one_of}
 use Rattle.git_syntax.specs.Escapes.{password_set}
 use Rattle.git_syntax.specs.Addresses.{IsIpv4Text}

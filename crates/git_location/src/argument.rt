@@ -53,7 +53,7 @@ impl<'a> UrlRef<'a> {
         ensures judged { judgement result ≡ judgement_of self.now.user }
         ensures safe { IsNoOption (judgement result) }
     {
-        judged(self.user)
+        judge(self.user)
     }
 
     /// The host as an argument of a command, as [`Url::host_as_argument`] judges it. It takes no memory, and lives as long
@@ -69,7 +69,7 @@ impl<'a> UrlRef<'a> {
         ensures judged { judgement result ≡ judgement_of self.now.host }
         ensures safe { IsNoOption (judgement result) }
     {
-        judged(self.host)
+        judge(self.host)
     }
 
     /// The user, where there is one that doesn't begin with `-`. It takes no memory, and lives as long as what lends the
@@ -85,7 +85,7 @@ impl<'a> UrlRef<'a> {
         ensures own { IfSome result (λ t. self.now.user ≡ Some t.now) }
         ensures safe { IfSome result (λ t. is_option_like t.now ≡ false) }
     {
-        usable(self.user_as_argument())
+        usable_text(self.user_as_argument())
     }
 
     /// The host, where there is one that doesn't begin with `-`. It takes no memory, and lives as long as what lends the
@@ -101,7 +101,7 @@ impl<'a> UrlRef<'a> {
         ensures own { IfSome result (λ t. self.now.host ≡ Some t.now) }
         ensures safe { IfSome result (λ t. is_option_like t.now ≡ false) }
     {
-        usable(self.host_as_argument())
+        usable_text(self.host_as_argument())
     }
 
     /// The whole path, where it begins with `/` and the byte behind that isn't `-`. It takes no memory, and lives as long
@@ -126,18 +126,18 @@ impl<'a> UrlRef<'a> {
 }
 
 /// What the part is to a command line.
-fn judged(part: Option<&str>) -> ArgumentSafety<'_>
+fn judge(part: Option<&str>) -> ArgumentSafety<'_>
     ensures judged { judgement result ≡ judgement_of (option_map (λ t. t.now) part.entry) }
     ensures safe { IsNoOption (judgement result) }
 {
     match part {
         None => ArgumentSafety::Absent,
-        Some(text) => judged_text(text),
+        Some(text) => judge_text(text),
     }
 }
 
 /// What the text is to a command line.
-fn judged_text(text: &str) -> ArgumentSafety<'_>
+fn judge_text(text: &str) -> ArgumentSafety<'_>
     ensures judged { judgement result ≡ judgement_of_text text.now }
     ensures safe { IsNoOption (judgement result) }
 {
@@ -149,7 +149,7 @@ fn judged_text(text: &str) -> ArgumentSafety<'_>
 }
 
 /// The text that was judged usable.
-fn usable(part: ArgumentSafety<'_>) -> Option<&str>
+fn usable_text(part: ArgumentSafety<'_>) -> Option<&str>
     ensures { option_map (λ t. t.now) result ≡ usable_text (judgement part.entry) }
 {
     match part {

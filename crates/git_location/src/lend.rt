@@ -1,6 +1,6 @@
 //! Lending: the location that found slices mean, in slices of the text and of a room.
 //!
-//! It may use `found`, `room`, `peeled`, `home`, `host`, `rules`, `scheme`, `simple_url`, `text` and the type
+//! It may use `found`, `room`, `ssh_host`, `home`, `host`, `rules`, `scheme`, `url_syntax`, `text` and the type
 //! of borrowed locations. Its contract: the location is the one that the slices mean. It takes no memory: what has other
 //! bytes than the text is written into the room.
 
@@ -10,24 +10,24 @@ ghost use Rattle.git_syntax.specs.Authority.{unless_empty};
 ghost use Rattle.git_syntax.specs.Internal.FoundPieces.{AreScpTexts, IsReady, IsReadyUrl, host_for, meant, parts_length, room_for, scp_host_of, scp_slice, url_location};
 ghost use Rattle.percent_encoding.specs.Percent.{percent_decode};
 ghost use Rattle.git_syntax.specs.Escapes.{has_percent};
-ghost use Rattle.git_syntax.specs.Grammar.{helper_protocol, path_for, retained_spelling, scp_location};
-ghost use Rattle.git_syntax.specs.Internal.SchemeRules.{AreRulesOf, named_protocol};
-ghost use Rattle.git_syntax.specs.Schemes.{protocol_of};
-ghost use Rattle.git_syntax.specs.Internal.UrlPieces.{parts_of};
-ghost use Rattle.git_syntax.specs.Value.{path_alone};
-ghost use Rattle.git_syntax.specs.Value.Protocol.{file};
-ghost use Rattle.git_syntax.specs.Views.{lent_protocol};
+ghost use Rattle.git_syntax.specs.Grammar.{helper_scheme, path_for, retained_spelling, scp_location};
+ghost use Rattle.git_syntax.specs.Internal.SchemeRules.{AreRulesOf, scheme_named};
+ghost use Rattle.git_syntax.specs.Schemes.{scheme_of};
+ghost use Rattle.git_syntax.specs.Internal.UrlPieces.{syntax_of};
+ghost use Rattle.git_syntax.specs.Location.{path_alone};
+ghost use Rattle.git_syntax.specs.Location.Scheme.{file};
+ghost use Rattle.git_syntax.specs.Views.{lent_scheme};
 
 use crate::room::{decoded_in, host_in, optional_in, scp_host_in};
 use crate::url_ref::UrlRef;
 use git_syntax::found::{Found, ScpHost};
 use git_syntax::home::{from_home, or_root};
 use git_syntax::host::port_of;
-use git_syntax::peeled::peeled_text;
 use git_syntax::rules::Rules;
-use git_syntax::scheme::{Protocol, SchemeRef};
-use git_syntax::simple_url::ParsedUrl;
+use git_syntax::scheme::{KnownScheme, SchemeRef};
+use git_syntax::ssh_host::ssh_host_text;
 use git_syntax::text::as_text;
+use git_syntax::url_syntax::ParsedUrl;
 
 /// The location that found slices mean.
 pub fn lend<'a>(found: Found<'a>, room: &'a mut [u8]) -> UrlRef<'a>
@@ -47,7 +47,7 @@ pub fn lend<'a>(found: Found<'a>, room: &'a mut [u8]) -> UrlRef<'a>
 
 /// A path with this scheme and this flag, and nothing else.
 fn path_alone<'a>(scheme: SchemeRef<'a>, flag: bool, path: &'a [u8]) -> UrlRef<'a>
-    ensures { result ≡ path_alone (lent_protocol scheme.entry) flag path.now }
+    ensures { result ≡ path_alone (lent_scheme scheme.entry) flag path.now }
 {
     UrlRef {
         scheme,
@@ -64,7 +64,7 @@ fn path_alone<'a>(scheme: SchemeRef<'a>, flag: bool, path: &'a [u8]) -> UrlRef<'
 /// The scheme of a helper with this name.
 fn helper_scheme(name: &[u8]) -> SchemeRef<'_>
     requires { IsUtf8 name.now }
-    ensures { lent_protocol result ≡ helper_protocol name.now }
+    ensures { lent_scheme result ≡ helper_scheme name.now }
 {
     if name == b"ext".as_slice() {
         return SchemeRef::Ext;
@@ -87,22 +87,22 @@ fn file_location<'a>(host: &'a [u8], path: &'a [u8]) -> UrlRef<'a>
 /// The location of a URL with these parts, of whose scheme these are the rules.
 fn url_location<'a>(rules: Rules, url: ParsedUrl<'a>, room: &'a mut [u8]) -> UrlRef<'a>
     requires ready { IsReadyUrl rules url }
-    requires room { parts_length (parts_of url) ≤ length room.old }
-    ensures { result ≡ url_location (protocol_of url.entry.scheme.now) (parts_of url.entry) }
+    requires room { parts_length (syntax_of url) ≤ length room.old }
+    ensures { result ≡ url_location (scheme_of url.entry.scheme.now) (syntax_of url.entry) }
 {
     let (user, room) = optional_in(url.user, room);
     let (password, room) = optional_in(url.password, room);
     let (host, room) = host_in(url.host, room);
     let path = path_in(url, room);
     UrlRef {
-        scheme: SchemeRef::of_protocol(rules.protocol, as_text(url.scheme)),
+        scheme: SchemeRef::of_known_scheme(rules.known, as_text(url.scheme)),
         user: text_of(user),
         password: text_of(password),
-        host: text_of(host_for(rules.protocol, host)),
+        host: text_of(host_for(rules.known, host)),
         serialize_alternative_form: false,
         port: port_of(url.host),
         path: path_for(rules, url.scheme, path),
-        spelling: retained(url),
+        spelling: retained_spelling(url),
     }
 }
 
@@ -118,13 +118,13 @@ fn text_of(bytes: Option<&[u8]>) -> Option<&str>
 }
 
 /// The host of a location: Secure Shell takes it without marks, any other scheme as it is.
-fn host_for(protocol: Protocol, host: Option<&[u8]>) -> Option<&[u8]>
+fn host_for(known: KnownScheme, host: Option<&[u8]>) -> Option<&[u8]>
     ensures { (scheme : List ℕ)
         → option_copied result
-        ≡ host_for (named_protocol protocol scheme) (option_copied host.entry) }
+        ≡ host_for (scheme_named known scheme) (option_copied host.entry) }
 {
-    match (protocol, host) {
-        (Protocol::Ssh, Some(host)) => Some(peeled_text(host)),
+    match (known, host) {
+        (KnownScheme::Ssh, Some(host)) => Some(ssh_host_text(host)),
         _ => host,
     }
 }
@@ -132,7 +132,7 @@ fn host_for(protocol: Protocol, host: Option<&[u8]>) -> Option<&[u8]>
 /// The path of a location, of the decoded one of its URL.
 fn path_for<'a>(rules: Rules, scheme: &[u8], path: &'a [u8]) -> &'a [u8]
     requires { AreRulesOf scheme.now rules }
-    ensures { result.now ≡ path_for (protocol_of scheme.now) path.now }
+    ensures { result.now ≡ path_for (scheme_of scheme.now) path.now }
 {
     let _ = scheme;
     if rules.needs_path {
@@ -158,7 +158,7 @@ fn path_in<'a>(url: ParsedUrl<'a>, room: &'a mut [u8]) -> &'a [u8]
 }
 
 /// The spelling of the path of a URL, where it holds an escape.
-fn retained<'a>(url: ParsedUrl<'a>) -> Option<&'a [u8]>
+fn retained_spelling<'a>(url: ParsedUrl<'a>) -> Option<&'a [u8]>
     requires { url.escaped ≡ has_percent url.path.now }
     ensures { option_copied result ≡ retained_spelling url.entry.path.now }
 {

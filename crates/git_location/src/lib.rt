@@ -4,17 +4,17 @@
 //! class, the class in whose texts Git reads the same, and the judgement of arguments. Nothing here asks for memory.
 #![tactic(auto)]
 
+mod accessors;
 pub mod argument;
 pub mod display;
+mod error_text;
 mod git;
 mod lend;
 pub mod parse_error;
-mod parts;
 mod read;
 mod room;
 mod settled;
 pub mod url_ref;
 pub mod value;
-mod words;
 pub mod write_error;
 pub mod writer;

@@ -16,7 +16,7 @@ use git_syntax::bytes::is_lowercase;
 use git_syntax::escape::{decode_into, has_percent};
 use git_syntax::found::ScpHost;
 use git_syntax::host::build::{lowercase_address, normalize};
-use git_syntax::host::{HostPiece, NamedHost};
+use git_syntax::host::{HostPiece, HostPort};
 
 /// The decoding of a text.
 #[inline(always)]
@@ -57,7 +57,7 @@ pub(crate) fn optional_in<'a>(
 /// The text of a host that may be missing.
 #[inline(always)]
 pub(crate) fn host_in<'a>(
-    host: Option<NamedHost<'a>>,
+    host: Option<HostPort<'a>>,
     room: &'a mut [u8],
 ) -> (Option<&'a [u8]>, &'a mut [u8])
     requires { optional_length (host_of host) ≤ length room.old }
@@ -75,7 +75,7 @@ pub(crate) fn host_in<'a>(
 
 /// The text of a host.
 #[inline(always)]
-fn named_in<'a>(host: NamedHost<'a>, room: &'a mut [u8]) -> (&'a [u8], &'a mut [u8])
+fn named_in<'a>(host: HostPort<'a>, room: &'a mut [u8]) -> (&'a [u8], &'a mut [u8])
     requires { length (named_text host) ≤ length room.old }
     ensures text { result.0.now ≡ named_text host.entry }
     ensures left { length room.old ≤ length result.1.now + length (named_text host.entry) }
@@ -90,7 +90,7 @@ fn named_in<'a>(host: NamedHost<'a>, room: &'a mut [u8]) -> (&'a [u8], &'a mut [
 
 /// The slice of a host, where it is the host's text as it is.
 #[inline(always)]
-fn own_slice(host: NamedHost<'_>) -> Option<&[u8]>
+fn own_slice(host: HostPort<'_>) -> Option<&[u8]>
     ensures { IfSome result (λ text. text.now ≡ named_text host.entry) }
 {
     if host.keeps_colon {
@@ -99,12 +99,12 @@ fn own_slice(host: NamedHost<'_>) -> Option<&[u8]>
     if let HostPiece::Simple(text) = host.piece {
         return Some(text);
     }
-    let text = undecoded(host.piece)?;
+    let text = unescaped_slice(host.piece)?;
     if is_lowercase(text) { Some(text) } else { None }
 }
 
 /// The slice of a host without brackets that holds no escape, or whose escapes stay.
-fn undecoded(piece: HostPiece<'_>) -> Option<&[u8]>
+fn unescaped_slice(piece: HostPiece<'_>) -> Option<&[u8]>
     ensures { IfSome result
         (λ text. IsLowercase text.now → text.now ≡ meant_host piece.entry) }
 {

@@ -5,14 +5,14 @@
 //! location is a value of which the laws speak. It takes no memory.
 
 ghost use Rattle.std.specs.Prelude.{◌↔◌, IsTrue};
-ghost use Rattle.git_syntax.specs.Value.Protocol.{helper};
+ghost use Rattle.git_syntax.specs.Location.Scheme.{helper};
 ghost use Rattle.git_location.specs.Internal.Pieces.{AreOwn};
 ghost use Rattle.git_location.specs.Settled.{IsSettled, IsSettledBy, IsValue};
 
+pub(crate) mod fields;
 pub(crate) mod host;
+mod length_check;
 mod local;
-mod measure;
-pub(crate) mod parts;
 mod scp;
 pub(crate) mod url;
 

@@ -52,7 +52,7 @@ pub struct UrlRef<'a> {
 }
 
 impl<'a> Model for UrlRef<'a> {
-    ghost use Rattle.git_syntax.specs.Value.{Location};
+    ghost use Rattle.git_syntax.specs.Location.{Location};
 
     ghost Value = { Location };
 

@@ -1,6 +1,6 @@
 //! The errors of writing: why a location has no text, and why it was not written to a writer.
 //!
-//! It uses nothing. `words` says the faults to people.
+//! It uses nothing. `error_text` says the faults to people.
 
 use std::io;
 use thiserror::Error;

@@ -1,7 +1,7 @@
 //! Writing: the text of a location, its length, and the spelling of its path.
 //!
 //! The text is laid out once, as pieces: slices of the location with the way that each is written. `form`
-//! chooses the form, `layout` the pieces, `piece` adds up their lengths and puts them into a sink, `ready`
+//! chooses the form, `layout` the pieces, `piece` adds up their lengths and puts them into a sink, `unescaped`
 //! tells texts that need no escape, and `sink`, `fill` and `show` are the sinks. The contract of each public
 //! call is the text of the definitions.
 
@@ -17,9 +17,9 @@ pub mod fill;
 pub mod form;
 mod layout;
 pub mod piece;
-mod ready;
 pub mod show;
 pub mod sink;
+mod unescaped;
 
 use crate::url_ref::UrlRef;
 use crate::write_error::{WriteError, WriteFault};

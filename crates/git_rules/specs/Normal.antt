@@ -7,7 +7,7 @@ use Rattle.git_syntax.specs.Bytes.{space, slash, colon, question_mark, number_si
 use Rattle.git_syntax.specs.Escapes.{is_sound}
 use Rattle.git_syntax.specs.Grammar.{or_root}
 use Rattle.git_syntax.specs.Hosts.{Number}
-use Rattle.git_syntax.specs.Hosts.Mode.{strict}
+use Rattle.git_syntax.specs.Hosts.HostSyntax.{http_hosts}
 
 -- a URL in its normal form, as far as it is compared: no port is the scheme's own one or none, and the path has its query
 -- and its fragment
@@ -102,7 +102,7 @@ is_own_port scheme port = (bytes_eq scheme (codes "http") && port == 80)
 -- the text of a port: empty, or the digits of a number from 1 to 65,535
 abbrev pub PortFor : List ℕ → List ℕ → Option ℕ → Type 0
 PortFor scheme text port = ((text ≡ []) × (port ≡ None))
-    ⊎ ((p : ℕ) × Number strict text p × (port ≡ (if is_own_port scheme p then None else Some p)))
+    ⊎ ((p : ℕ) × Number http_hosts text p × (port ≡ (if is_own_port scheme p then None else Some p)))
 
 -- the text is a host and perhaps a port
 pub record HostPort (globs : Bool) (scheme text host : List ℕ) (port : Option ℕ) : Type 0 where

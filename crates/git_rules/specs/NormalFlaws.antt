@@ -4,7 +4,7 @@ use Rattle.std.specs.List.{list_all}
 use Rattle.git_syntax.specs.Bytes.{at_sign, FreeOf, lowercase}
 use Rattle.git_syntax.specs.Escapes.{is_sound}
 use Rattle.git_syntax.specs.Hosts.{Number}
-use Rattle.git_syntax.specs.Hosts.Mode.{strict}
+use Rattle.git_syntax.specs.Hosts.HostSyntax.{http_hosts}
 use Rattle.git_rules.specs.declared.normal.NormalError.{NormalError}
 use Rattle.git_rules.specs.declared.normal.NormalError.TheVariants.{NoRoom, NoUrl, BrokenEscape, NoHost, BadHost, BadPort, AboveRoot}
 use Rattle.git_rules.specs.Normal.{CutsPort, lacks_host, is_host_byte, is_rest_start, normal_segments, put_segments, unrooted, NormalPlace, UrlCut, IsNormalOf}
@@ -12,7 +12,7 @@ use Rattle.git_rules.specs.NormalPieces.{CutsBefore}
 
 -- the text is neither empty nor a number from 1 to 65,535
 abbrev pub IsNoPort : List ℕ → Type 0
-IsNoPort text = (¬ (text ≡ [])) × ((port : ℕ) → ¬ Number strict text port)
+IsNoPort text = (¬ (text ≡ [])) × ((port : ℕ) → ¬ Number http_hosts text port)
 
 -- what is wrong with a host and its port: no host where the scheme needs one, a byte that no host has, or no number for a
 -- port, where a URL of `file` without a host has none

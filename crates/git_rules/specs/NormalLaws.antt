@@ -1,9 +1,9 @@
 -- What is proved of normal forms besides that they are computed.
 use Rattle.std.specs.Prelude.{◌≡◌, ℕ, Bool, List, Option, Some, None, Ok, option_map, if◌then◌else◌}
 use Rattle.percent_encoding.specs.Percent.{percent_encode}
-use Rattle.git_syntax.specs.Value.{Location}
+use Rattle.git_syntax.specs.Location.{Location}
 use Rattle.git_syntax.specs.Escapes.{user_set}
-use Rattle.git_syntax.specs.Schemes.{protocol_text}
+use Rattle.git_syntax.specs.Schemes.{scheme_text}
 use Rattle.git_location.specs.Text.{text}
 use Rattle.git_location.specs.Settled.{IsValue, IsWeb}
 use Rattle.git_location.specs.WebClass.{AgreesOverWeb}
@@ -24,10 +24,10 @@ own_port scheme (Some port) = if is_own_port scheme port then None else Some por
 
 -- the normal form has the location's own scheme, user, host and port
 pub record IsOwnPlace (v : Location) (n : NormalPlace) : Type 0 where
-  pub scheme : n.scheme ≡ protocol_text v.scheme
+  pub scheme : n.scheme ≡ scheme_text v.scheme
   pub user : n.user ≡ own_user v.user
   pub host : v.host ≡ Some n.host
-  pub port : n.port ≡ own_port (protocol_text v.scheme) v.port
+  pub port : n.port ≡ own_port (scheme_text v.scheme) v.port
 
 -- the text of a location of HTTP in whose text all readers agree has the location's own place as its normal form
 abbrev pub KeepsPlace : Type 0

@@ -1,8 +1,8 @@
 -- The law on patterns: what a pattern without `*` picks for a text goes to the scheme, the host and the port of the pattern.
 use Rattle.std.specs.Prelude.{◌≡◌, ℕ, false, ◌⊎◌, List, [], ◌∷◌, ◌++◌, decimal, Option, Some, None, option_map, Ok}
-use Rattle.git_syntax.specs.Value.{Location}
+use Rattle.git_syntax.specs.Location.{Location}
 use Rattle.git_syntax.specs.Bytes.{dot, FreeOf}
-use Rattle.git_syntax.specs.Schemes.{default_port_of, protocol_of}
+use Rattle.git_syntax.specs.Schemes.{default_port_of, scheme_of}
 use Rattle.git_location.specs.Text.{port_part, text}
 use Rattle.git_location.specs.Settled.{IsValue, IsWeb}
 use Rattle.git_location.specs.GitClass.{AgreesWithGit}
@@ -18,7 +18,7 @@ IsOwnHost own host = (own ≡ host) ⊎ (own ≡ host ++ dot ∷ [])
 -- the port that is reached: the one that is there, else the one of the scheme
 abbrev pub reached_port : List ℕ → Option ℕ → Option ℕ
 reached_port scheme (Some port) = Some port
-reached_port scheme None = default_port_of (protocol_of scheme)
+reached_port scheme None = default_port_of (scheme_of scheme)
 
 -- the scheme, the host and the port are the pattern's own
 pub record IsOwnOf (pattern : NormalPlace) (scheme host : List ℕ) (port : Option ℕ) : Type 0 where

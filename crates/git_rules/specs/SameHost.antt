@@ -1,15 +1,15 @@
 -- Locations that name the same host.
 use Rattle.std.specs.Prelude.{◌≡◌, ◌↔◌, ℕ, Bool, IsTrue, List, Result, Ok, Err, ◌⊎◌, option_map}
 use Rattle.git_syntax.specs.Bytes.{lowercase}
-use Rattle.git_syntax.specs.Internal.FoundPieces.{peeled}
-use Rattle.git_syntax.specs.Value.{Location}
+use Rattle.git_syntax.specs.Internal.FoundPieces.{ssh_host}
+use Rattle.git_syntax.specs.Location.{Location}
 use Rattle.git_syntax.specs.Grammar.{Spells}
 use Rattle.git_location.specs.Readings.{ReadsIn}
 use Rattle.git_location.specs.declared.parse_error.ParseError.{ParseError}
 
 -- what names a host: without brackets around it and without a colon alone behind it, in lower case
 abbrev pub host_name : List ℕ → List ℕ
-host_name host = lowercase (peeled host)
+host_name host = lowercase (ssh_host host)
 
 -- both locations have a host, and their hosts have one name; or neither has one
 abbrev pub HaveSameHost : Location → Location → Type 0

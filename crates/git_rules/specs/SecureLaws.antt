@@ -1,8 +1,8 @@
 -- The law on what Git gives Secure Shell: of the locations in whose texts Git reads the same place, the
 -- command's own words.
 use Rattle.std.specs.Prelude.{◌≡◌, ℕ, List, Option, Some, None, Ok}
-use Rattle.git_syntax.specs.Value.{Location}
-use Rattle.git_syntax.specs.Value.Protocol.{ssh}
+use Rattle.git_syntax.specs.Location.{Location}
+use Rattle.git_syntax.specs.Location.Scheme.{ssh}
 use Rattle.git_location.specs.Text.{text}
 use Rattle.git_location.specs.Settled.{IsValue}
 use Rattle.git_location.specs.GitClass.{AgreesWithGit}

@@ -1,8 +1,8 @@
 -- The words with which Git runs Secure Shell.
 use Rattle.std.specs.Prelude.{◌≡◌, ℕ, Bool, true, false, ◌==◌, List, [], ◌∷◌, ◌++◌, codes, decimal, Option, Some, None, is_none, is_some, IfSome, if◌then◌else◌}
 use Rattle.std.specs.List.{list_any, starts_with}
-use Rattle.git_syntax.specs.Value.{Protocol, Location}
-use Rattle.git_syntax.specs.Value.Protocol.{ssh}
+use Rattle.git_syntax.specs.Location.{Scheme, Location}
+use Rattle.git_syntax.specs.Location.Scheme.{ssh}
 use Rattle.git_syntax.specs.Bytes.{space, at_sign}
 use Rattle.git_location.specs.Arguments.{is_option_like}
 use Rattle.git_rules.specs.declared.ssh.Service.{Service}
@@ -83,7 +83,7 @@ remote_command service path = service_name service ++ space ∷ sq_quote path
 -- ---- why there is no command
 
 -- the location is one of Secure Shell
-abbrev pub is_secure : Protocol → Bool
+abbrev pub is_secure : Scheme → Bool
 is_secure ssh = true
 is_secure _ = false
 

@@ -1,6 +1,6 @@
 -- What the call returns that makes words of a location with memory.
 use Rattle.std.specs.Prelude.{◌≡◌, Some, None}
-use Rattle.git_syntax.specs.Value.{Location}
+use Rattle.git_syntax.specs.Location.{Location}
 use Rattle.git_rules.specs.declared.ssh.SshVariant.{SshVariant}
 use Rattle.git_rules.specs.declared.ssh.SshError.{SshError}
 use Rattle.git_rules.specs.declared.ssh.SshError.TheVariants.{Memory, Refused}

@@ -66,7 +66,7 @@ fn read_number(text: &[u8]) -> Option<u64>
     ensures { result ≡ number_of text.now }
 {
     let behind = text.split_at(blank_len(text)).1;
-    read_size(unsigned(behind))
+    read_size(without_sign(behind))
 }
 
 /// How many bytes of white space the text begins with.
@@ -84,7 +84,7 @@ fn is_blank(byte: u8) -> bool
 }
 
 /// The text without a sign in front.
-fn unsigned(text: &[u8]) -> &[u8]
+fn without_sign(text: &[u8]) -> &[u8]
     ensures { result.now ≡ without_sign text.now }
 {
     match text {

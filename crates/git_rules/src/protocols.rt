@@ -5,7 +5,7 @@
 //! decided; where Git stops, so does the decision, at the same fault. It reads no environment and takes no memory.
 
 ghost use Rattle.std.specs.Prelude.{◌≡◌, ◌↔◌, IsTrue, option_map};
-ghost use Rattle.git_syntax.specs.Schemes.{protocol_text};
+ghost use Rattle.git_syntax.specs.Schemes.{scheme_text};
 ghost use Rattle.git_rules.specs.Protocols.{Counts, Decides, IsAllowed, IsLastOf, OnePermission, SetsAllow, allowance_of, by_entry, by_list, by_test, by_value, default_allowance, is_from_user, is_listed, is_trusted, under};
 
 use crate::boolean::{is_word, read_boolean};
@@ -29,7 +29,7 @@ use std::marker::Model;
 /// }
 /// ```
 pub fn transport<'a>(url: &UrlRef<'a>) -> &'a str
-    ensures { result.now ≡ protocol_text url.now.scheme }
+    ensures { result.now ≡ scheme_text url.now.scheme }
 {
     url.scheme.as_str()
 }

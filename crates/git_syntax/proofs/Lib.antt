@@ -1,6 +1,6 @@
 -- Lemmas by topic, lowest first.
 pub mod Texts
 pub mod Addresses
-pub mod Readings
+pub mod Parsing
 pub mod Unique
-pub mod Refused
+pub mod Errors

@@ -4,7 +4,7 @@ use Rattle.std.specs.List.{list_all}
 use Rattle.std.specs.Char.{is_ascii_whitespace}
 use Rattle.percent_encoding.specs.Percent.{percent_decode}
 use Rattle.git_syntax.specs.Bytes.{slash, colon, at_sign, backslash, Lacks, FreeOf, begins_by, is_path_start, StartsPath}
-use Rattle.git_syntax.specs.Hosts.{Mode, Names}
+use Rattle.git_syntax.specs.Hosts.{HostSyntax, SpellsHostPort}
 use Rattle.git_syntax.specs.Schemes.{is_web_scheme}
 
 -- a text, or none where it is empty
@@ -29,16 +29,16 @@ pub data Credentials (text : List ℕ) (user password : Option (List ℕ)) : Typ
       → Credentials text user password
 
 -- an authority holds a user, a password, a host and a port
-pub data Authority (mode : Mode) (text : List ℕ) (user password host : Option (List ℕ))
+pub data Authority (syntax : HostSyntax) (text : List ℕ) (user password host : Option (List ℕ))
     (port : Option ℕ) : Type 0 where
   -- without user information
-  host_alone : FreeOf at_sign text → Names mode text host port → user ≡ None → password ≡ None
-      → Authority mode text user password host port
+  host_alone : FreeOf at_sign text → SpellsHostPort syntax text host port → user ≡ None → password ≡ None
+      → Authority syntax text user password host port
   -- user information ends at the last `@`, and comes with a host
   with_user : (information piece : List ℕ) → FreeOf at_sign piece
       → text ≡ information ++ at_sign ∷ piece
-      → Credentials information user password → Names mode piece host port → IsSome host
-      → Authority mode text user password host port
+      → Credentials information user password → SpellsHostPort syntax piece host port → IsSome host
+      → Authority syntax text user password host port
 
 -- the text without the white space of ASCII
 abbrev pub without_white_space : List ℕ → List ℕ

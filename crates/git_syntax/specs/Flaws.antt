@@ -12,40 +12,40 @@ use Rattle.git_syntax.specs.declared.refusal.Refusal.TheVariants as refusal
 use Rattle.git_syntax.specs.Bytes.{slash, colon, at_sign, left_bracket, backslash, right_bracket, Lacks, FreeOf, begins_with, Holds, LacksWhiteSpace, is_scheme_text, is_path_start, StartsPath}
 use Rattle.git_syntax.specs.Escapes.{is_sound, escaped_percents}
 use Rattle.git_syntax.specs.Places.{StandsFirst, StandsBroken, StandsWhite}
-use Rattle.git_syntax.specs.Hosts.{Mode, HostText, Inner, Number, ReadsAddress, IsManyColoned, IsPlainHost}
-use Rattle.git_syntax.specs.Hosts.Mode.{strict, bare}
-use Rattle.git_syntax.specs.Schemes.{is_web_scheme, protocol_of, mode_of, requires_host, requires_path}
+use Rattle.git_syntax.specs.Hosts.{HostSyntax, HostText, Inner, Number, ReadsAddress, IsManyColoned, IsPlainHost}
+use Rattle.git_syntax.specs.Hosts.HostSyntax.{http_hosts, git_hosts}
+use Rattle.git_syntax.specs.Schemes.{is_web_scheme, scheme_of, host_syntax_of, requires_host, requires_path}
 use Rattle.git_syntax.specs.Authority.{Fits}
-use Rattle.git_syntax.specs.Grammar.{HasHelperForm, ScpShape, AddressedShape, IsAddressed, IsScpShaped, ScpUser}
+use Rattle.git_syntax.specs.Grammar.{HasHelperForm, ScpForm, AddressedForm, IsAddressed, HasScpForm, ScpUser}
 
 -- ---- hosts and ports
 
 -- the text is not empty and spells no port
-abbrev pub IsNoPort : Mode → List ℕ → Type 0
-IsNoPort mode text = (0 < length text) × ((port : ℕ) → ¬ Number mode text port)
+abbrev pub IsNoPort : HostSyntax → List ℕ → Type 0
+IsNoPort syntax text = (0 < length text) × ((port : ℕ) → ¬ Number syntax text port)
 
 -- something is in a port's place that is no port: all that follows the colon
-pub data HasBadPort (mode : Mode) (piece : List ℕ) (at len : ℕ) : Type 0 where
+pub data HasBadPort (syntax : HostSyntax) (piece : List ℕ) (at len : ℕ) : Type 0 where
   -- behind a host outside brackets
   plain : (text digits : List ℕ) → IsPlainHost text → FreeOf colon digits
-      → piece ≡ text ++ colon ∷ digits → IsNoPort mode digits
-      → at ≡ length text + 1 → len ≡ length digits → HasBadPort mode piece at len
+      → piece ≡ text ++ colon ∷ digits → IsNoPort syntax digits
+      → at ≡ length text + 1 → len ≡ length digits → HasBadPort syntax piece at len
   -- behind brackets
   bracketed : (x digits : List ℕ) → FreeOf right_bracket x
-      → piece ≡ left_bracket ∷ (x ++ right_bracket ∷ (colon ∷ digits)) → IsNoPort mode digits
-      → at ≡ length x + 3 → len ≡ length digits → HasBadPort mode piece at len
+      → piece ≡ left_bracket ∷ (x ++ right_bracket ∷ (colon ∷ digits)) → IsNoPort syntax digits
+      → at ≡ length x + 3 → len ≡ length digits → HasBadPort syntax piece at len
 
 -- nothing follows, or a colon and what is free of colons
 abbrev pub IsPortPlace : List ℕ → Type 0
 IsPortPlace rest = (rest ≡ []) ⊎ ((digits : List ℕ) × FreeOf colon digits × (rest ≡ colon ∷ digits))
 
 -- the text stands for no host
-abbrev pub IsNoHost : Mode → List ℕ → Type 0
-IsNoHost mode text = (host : List ℕ) → ¬ HostText mode text host
+abbrev pub IsNoHost : HostSyntax → List ℕ → Type 0
+IsNoHost syntax text = (host : List ℕ) → ¬ HostText syntax text host
 
 -- the text between brackets stands for nothing
-abbrev pub IsNoInner : Mode → List ℕ → Type 0
-IsNoInner mode text = (inner : List ℕ) → ¬ Inner mode text inner
+abbrev pub IsNoInner : HostSyntax → List ℕ → Type 0
+IsNoInner syntax text = (inner : List ℕ) → ¬ Inner syntax text inner
 
 -- the text is brackets around another that is free of `]`, and nothing behind them, or a colon and anything
 pub record BracketsAround (piece x rest : List ℕ) : Type 0 where
@@ -54,35 +54,35 @@ pub record BracketsAround (piece x rest : List ℕ) : Type 0 where
   pub followed : (rest ≡ []) ⊎ (begins_with colon rest ≡ true)
 
 -- a byte or an escape in the host's place is not allowed
-pub data HasBadHost (mode : Mode) (piece : List ℕ) (at len : ℕ) : Type 0 where
+pub data HasBadHost (syntax : HostSyntax) (piece : List ℕ) (at len : ℕ) : Type 0 where
   -- the text before the port's place stands for no host
   plain : (text rest : List ℕ) → IsPlainHost text → IsPortPlace rest → piece ≡ text ++ rest
-      → IsNoHost mode text → at ≡ 0 → len ≡ length text → HasBadHost mode piece at len
+      → IsNoHost syntax text → at ≡ 0 → len ≡ length text → HasBadHost syntax piece at len
   -- colons that mark no port are refused by HTTP
-  colons_on_the_web : mode ≡ strict → begins_with left_bracket piece ≡ false → IsManyColoned piece
-      → at ≡ 0 → len ≡ length piece → HasBadHost mode piece at len
+  colons_on_the_web : syntax ≡ http_hosts → begins_with left_bracket piece ≡ false → IsManyColoned piece
+      → at ≡ 0 → len ≡ length piece → HasBadHost syntax piece at len
   -- a piece with such colons stands for no host
-  colons : ¬ (mode ≡ strict) → ¬ ReadsAddress mode piece → begins_with left_bracket piece ≡ false
-      → IsManyColoned piece → IsNoHost mode piece
-      → at ≡ 0 → len ≡ length piece → HasBadHost mode piece at len
+  colons : ¬ (syntax ≡ http_hosts) → ¬ ReadsAddress syntax piece → begins_with left_bracket piece ≡ false
+      → IsManyColoned piece → IsNoHost syntax piece
+      → at ≡ 0 → len ≡ length piece → HasBadHost syntax piece at len
   -- a bracket is not closed
   open_bracket : (behind : List ℕ) → FreeOf right_bracket behind
-      → piece ≡ left_bracket ∷ behind → at ≡ 0 → len ≡ 1 → HasBadHost mode piece at len
+      → piece ≡ left_bracket ∷ behind → at ≡ 0 → len ≡ 1 → HasBadHost syntax piece at len
   -- what follows a closed bracket begins with another byte than a colon
   behind_bracket : (x rest : List ℕ) → FreeOf right_bracket x
       → piece ≡ left_bracket ∷ (x ++ right_bracket ∷ rest) → 0 < length rest
       → begins_with colon rest ≡ false
-      → at ≡ length x + 2 → len ≡ length rest → HasBadHost mode piece at len
+      → at ≡ length x + 2 → len ≡ length rest → HasBadHost syntax piece at len
   -- the text between brackets stands for nothing
-  brackets : (x rest : List ℕ) → BracketsAround piece x rest → IsNoInner mode x
-      → at ≡ 1 → len ≡ length x → HasBadHost mode piece at len
+  brackets : (x rest : List ℕ) → BracketsAround piece x rest → IsNoInner syntax x
+      → at ≡ 1 → len ≡ length x → HasBadHost syntax piece at len
 
 -- what is wrong with the piece behind the user information, and where
-abbrev pub NameFlaw : Mode → List ℕ → UrlFault → ℕ → ℕ → Type 0
-NameFlaw mode piece fault.BadPort at len = HasBadPort mode piece at len
-NameFlaw mode piece fault.BadCharacter at len = HasBadHost mode piece at len
-NameFlaw mode piece fault.NoScheme at len = ⊥
-NameFlaw mode piece fault.HostRequired at len = ⊥
+abbrev pub HostPortFlaw : HostSyntax → List ℕ → UrlFault → ℕ → ℕ → Type 0
+HostPortFlaw syntax piece fault.BadPort at len = HasBadPort syntax piece at len
+HostPortFlaw syntax piece fault.BadCharacter at len = HasBadHost syntax piece at len
+HostPortFlaw syntax piece fault.NoScheme at len = ⊥
+HostPortFlaw syntax piece fault.HostRequired at len = ⊥
 
 -- ---- authorities
 
@@ -109,42 +109,42 @@ pub data HasBadUser (authority : List ℕ) (at len : ℕ) : Type 0 where
       → at ≡ length u + 1 → len ≡ length w → HasBadUser authority at len
 
 -- what is wrong with an authority, and where, for a scheme that needs a host or doesn't
-pub data AuthorityFlaw (mode : Mode) (needed : Bool) (authority : List ℕ) (at len : ℕ)
+pub data AuthorityFlaw (syntax : HostSyntax) (needed : Bool) (authority : List ℕ) (at len : ℕ)
     : UrlFault → Type 0 where
   -- the first backslash
   holds_backslash : StandsFirst backslash authority at → len ≡ 1
-      → AuthorityFlaw mode needed authority at len fault.BadCharacter
+      → AuthorityFlaw syntax needed authority at len fault.BadCharacter
   -- a user or a password that is no text
   bad_user : HasBadUser authority at len
-      → AuthorityFlaw mode needed authority at len fault.BadCharacter
+      → AuthorityFlaw syntax needed authority at len fault.BadCharacter
   -- the piece behind the user information
   bad_name : (piece : List ℕ) (named : UrlFault) (start place : ℕ)
-      → PieceOf authority piece start → NameFlaw mode piece named place len
-      → at ≡ start + place → AuthorityFlaw mode needed authority at len named
+      → PieceOf authority piece start → HostPortFlaw syntax piece named place len
+      → at ≡ start + place → AuthorityFlaw syntax needed authority at len named
   -- user information without a host, which would be at the end
   no_host : (information : List ℕ) → authority ≡ information ++ at_sign ∷ []
       → at ≡ length authority → len ≡ 0
-      → AuthorityFlaw mode needed authority at len fault.BadCharacter
+      → AuthorityFlaw syntax needed authority at len fault.BadCharacter
   -- nothing where a host is needed
   host_required : needed ≡ true → authority ≡ [] → at ≡ 0 → len ≡ 0
-      → AuthorityFlaw mode needed authority at len fault.HostRequired
+      → AuthorityFlaw syntax needed authority at len fault.HostRequired
 
 -- ---- URLs
 
--- the text has the shape of a URL: it is no remote helper, and this is before and behind its first `://`
-pub record UrlShape (b front rest : List ℕ) : Type 0 where
+-- the text has the form of a URL: it is no remote helper, and this is before and behind its first `://`
+pub record UrlForm (b front rest : List ℕ) : Type 0 where
   pub no_helper : ¬ HasHelperForm b
   pub first : ¬ Holds (codes "://") front
   pub joined : b ≡ front ++ (codes "://" ++ rest)
 
--- the shape of a URL that is no file URL
-pub record OtherShape (b front rest : List ℕ) : Type 0 where
-  pub shape : UrlShape b front rest
+-- the form of a URL that is no file URL
+pub record OtherUrlForm (b front rest : List ℕ) : Type 0 where
+  pub form : UrlForm b front rest
   pub not_file : bytes_eq front (codes "file") ≡ false
 
 -- a URL's scheme, authority and path
 pub record UrlCut (b scheme authority path : List ℕ) : Type 0 where
-  pub shape : OtherShape b scheme (authority ++ path)
+  pub form : OtherUrlForm b scheme (authority ++ path)
   pub scheme_text : is_scheme_text scheme ≡ true
   pub before_path : Lacks (is_path_start (is_web_scheme scheme)) authority
   pub path_starts : StartsPath (is_web_scheme scheme) path
@@ -152,12 +152,12 @@ pub record UrlCut (b scheme authority path : List ℕ) : Type 0 where
 -- what is wrong with a URL, and where
 pub data UrlFlaw (b : List ℕ) (at len : ℕ) : UrlFault → Type 0 where
   -- what is before `://` is no scheme
-  no_scheme : (front rest : List ℕ) → OtherShape b front rest → is_scheme_text front ≡ false
+  no_scheme : (front rest : List ℕ) → OtherUrlForm b front rest → is_scheme_text front ≡ false
       → at ≡ 0 → len ≡ length front → UrlFlaw b at len fault.NoScheme
   -- white space, or a `%` that begins no escape
-  white_space : (front rest : List ℕ) → OtherShape b front rest → IsUtf8 b → ¬ LacksWhiteSpace b
+  white_space : (front rest : List ℕ) → OtherUrlForm b front rest → IsUtf8 b → ¬ LacksWhiteSpace b
       → StandsWhite b at len → UrlFlaw b at len fault.BadCharacter
-  unsound : (front rest : List ℕ) → OtherShape b front rest → is_sound b ≡ false
+  unsound : (front rest : List ℕ) → OtherUrlForm b front rest → is_sound b ≡ false
       → StandsBroken b at → len ≡ 1 → UrlFlaw b at len fault.BadCharacter
   -- the path, which is the end of the text, decodes to no text
   bad_path : (scheme authority path : List ℕ) → UrlCut b scheme authority path
@@ -166,7 +166,7 @@ pub data UrlFlaw (b : List ℕ) (at len : ℕ) : UrlFault → Type 0 where
   -- the authority, behind `://`
   bad_authority : (scheme authority path : List ℕ) (named : UrlFault) (place : ℕ)
       → UrlCut b scheme authority path
-      → AuthorityFlaw (mode_of scheme) (requires_host scheme) authority place len named
+      → AuthorityFlaw (host_syntax_of scheme) (requires_host scheme) authority place len named
       → at ≡ length scheme + 3 + place → UrlFlaw b at len named
 
 -- ---- the scp form
@@ -178,7 +178,7 @@ pub record ScpNameFlaw (host : List ℕ) (at len : ℕ) (named : UrlFault) : Typ
   pub here : List ℕ
   pub behind : List ℕ
   pub joined : host ≡ before ++ (here ++ behind)
-  pub flaw : NameFlaw bare (escaped_percents host) named (length (escaped_percents before))
+  pub flaw : HostPortFlaw git_hosts (escaped_percents host) named (length (escaped_percents before))
       (length (escaped_percents here))
   pub offset : at ≡ length before
   pub size : len ≡ length here
@@ -202,7 +202,7 @@ pub record ScpFlaw (b : List ℕ) (named : UrlFault) (at len : ℕ) : Type 0 whe
   pub path : List ℕ
   pub user : Option (List ℕ)
   pub host : List ℕ
-  pub shape : ScpShape b front path
+  pub form : ScpForm b front path
   pub split : ScpUser front user host
   pub no_at : FreeOf at_sign host
   pub place : ℕ
@@ -218,19 +218,19 @@ pub data MissesPath (b : List ℕ) : UrlKind → Type 0 where
   in_file : (host : List ℕ) → FreeOf slash host → b ≡ codes "file://" ++ host
       → MissesPath b kind.Url
   -- nor behind that of a URL of Git's own transports
-  in_url : (scheme authority : List ℕ) → requires_path (protocol_of scheme) ≡ true
+  in_url : (scheme authority : List ℕ) → requires_path (scheme_of scheme) ≡ true
       → FreeOf slash authority → b ≡ scheme ++ (codes "://" ++ authority) → MissesPath b kind.Url
   -- nothing is behind the colon of the scp form
-  in_scp : (front : List ℕ) → ScpShape b front [] → MissesPath b kind.Scp
+  in_scp : (front : List ℕ) → ScpForm b front [] → MissesPath b kind.Scp
   -- nor behind an address between brackets
-  behind_address : (user address : List ℕ) → AddressedShape b user address []
+  behind_address : (user address : List ℕ) → AddressedForm b user address []
       → MissesPath b kind.Scp
 
--- the bytes have the shape of this kind
-abbrev pub HasShape : List ℕ → UrlKind → Type 0
-HasShape b kind.Url = (front : List ℕ) × (rest : List ℕ) × UrlShape b front rest
-HasShape b kind.Scp = IsScpShaped b
-HasShape b kind.Local = ⊥
+-- the bytes have the form of this kind
+abbrev pub HasForm : List ℕ → UrlKind → Type 0
+HasForm b kind.Url = (front : List ℕ) × (rest : List ℕ) × UrlForm b front rest
+HasForm b kind.Scp = HasScpForm b
+HasForm b kind.Local = ⊥
 
 -- what is too long of a URL: the scheme, or what is shown behind `://`
 pub data TooLongAt (scheme shown : List ℕ) (at len : ℕ) : Type 0 where
@@ -242,10 +242,10 @@ pub data TooLongAt (scheme shown : List ℕ) (at len : ℕ) : Type 0 where
 pub record IsTooLong (b shown : List ℕ) (total at len : ℕ) : Type 0 where
   pub front : List ℕ
   pub rest : List ℕ
-  pub shape : OtherShape b front rest
+  pub form : OtherUrlForm b front rest
   pub unfit : ¬ Fits front rest
   pub front_shown : shown ≡ take (length front + 1027) b
-  pub length_told : total ≡ length b
+  pub length_reported : total ≡ length b
   pub place : TooLongAt front shown at len
 
 -- what is wrong with a text of this kind, and where
@@ -259,6 +259,6 @@ KindFlaw b kind.Local named at len = ⊥
 abbrev pub NamesFlaw : List ℕ → Refusal → Type 0
 NamesFlaw b refusal.EmptyLocal = b ≡ []
 NamesFlaw b (refusal.MissingPath kind at) = MissesPath b kind × (at ≡ length b)
-NamesFlaw b (refusal.NotUtf8 kind at) = ¬ IsUtf8 b × HasShape b kind × IsValidUpTo b at
+NamesFlaw b (refusal.NotUtf8 kind at) = ¬ IsUtf8 b × HasForm b kind × IsValidUpTo b at
 NamesFlaw b (refusal.TooLong shown total at len) = IsTooLong b shown.now total at len
 NamesFlaw b (refusal.BadUrl kind fault at len) = KindFlaw b kind fault at len

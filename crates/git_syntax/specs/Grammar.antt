@@ -1,14 +1,14 @@
 -- The grammar: which location a list of bytes spells, one relation for each form, and their sum.
 use Rattle.std.specs.Prelude.{◌≡◌, ℕ, ◌<◌, true, false, ◌&&◌, ◌==◌, ◌⊎◌, List, [], ◌∷◌, ◌++◌, length, codes, bytes_eq, Option, Some, None, IsSome, IsUtf8, if◌then◌else◌}
 use Rattle.percent_encoding.specs.Percent.{percent_decode}
-use Rattle.git_syntax.specs.Value.{Protocol, Location, path_alone}
-use Rattle.git_syntax.specs.Value.Protocol.{file, git, ssh, http, https, ext, helper, helper_url}
+use Rattle.git_syntax.specs.Location.{Scheme, Location, path_alone}
+use Rattle.git_syntax.specs.Location.Scheme.{file, git, ssh, http, https, ext, helper, helper_url}
 use Rattle.git_syntax.specs.Bytes.{slash, colon, at_sign, left_bracket, backslash, right_bracket, tilde, Lacks, FreeOf, begins_with, Holds, lowercase, LacksWhiteSpace, is_scheme_text, is_helper_name, is_path_start, StartsPath}
 use Rattle.git_syntax.specs.Escapes.{is_sound, has_percent, escaped_percents}
 use Rattle.git_syntax.specs.Addresses.{IsIpv6Text}
-use Rattle.git_syntax.specs.Hosts.{Names}
-use Rattle.git_syntax.specs.Hosts.Mode.{bare}
-use Rattle.git_syntax.specs.Schemes.{is_web_scheme, protocol_of, mode_of, requires_host, requires_path}
+use Rattle.git_syntax.specs.Hosts.{SpellsHostPort}
+use Rattle.git_syntax.specs.Hosts.HostSyntax.{git_hosts}
+use Rattle.git_syntax.specs.Schemes.{is_web_scheme, scheme_of, host_syntax_of, requires_host, requires_path}
 use Rattle.git_syntax.specs.Authority.{unless_empty, Authority, Fits}
 use Rattle.std.specs.Prelude.{ℕ, Bool, false, ◌&&◌, ◌==◌, List, [], ◌∷◌}
 use Rattle.git_syntax.specs.Bytes.{slash, tilde}
@@ -24,22 +24,22 @@ pub record HelperCut (b name address : List ℕ) : Type 0 where
 abbrev pub HasHelperForm : List ℕ → Type 0
 HasHelperForm b = (name : List ℕ) × (address : List ℕ) × HelperCut b name address
 
--- the protocol of a helper, by its name
-abbrev pub helper_protocol : List ℕ → Protocol
-helper_protocol name = if bytes_eq name (codes "ext") then ext else helper name
+-- the scheme of a helper, by its name
+abbrev pub helper_scheme : List ℕ → Scheme
+helper_scheme name = if bytes_eq name (codes "ext") then ext else helper name
 
 -- a remote helper: the address stays as it is
 pub record SpellsHelper (b : List ℕ) (v : Location) : Type 0 where
   pub name : List ℕ
   pub address : List ℕ
   pub parts : HelperCut b name address
-  pub value : v ≡ path_alone (helper_protocol name) true address
+  pub value : v ≡ path_alone (helper_scheme name) true address
 
 -- ---- URLs (RFC 3986)
 
 -- what is read of a URL before its scheme gives it a meaning: the user, the password and the host as they are
 -- meant, the path as it is spelled
-pub record UrlParts : Type 0 where
+pub record UrlSyntax : Type 0 where
   pub scheme : List ℕ
   pub user : Option (List ℕ)
   pub password : Option (List ℕ)
@@ -48,7 +48,7 @@ pub record UrlParts : Type 0 where
   pub path : List ℕ
 
 -- the text is a URL with these parts: a scheme, `://`, an authority and a path
-pub record SpellsParts (b : List ℕ) (parts : UrlParts) : Type 0 where
+pub record HasUrlSyntax (b : List ℕ) (parts : UrlSyntax) : Type 0 where
   pub authority : List ℕ
   pub joined : b ≡ parts.scheme ++ (codes "://" ++ (authority ++ parts.path))
   pub scheme_text : is_scheme_text parts.scheme ≡ true
@@ -61,7 +61,7 @@ pub record SpellsParts (b : List ℕ) (parts : UrlParts) : Type 0 where
   pub no_white_space : LacksWhiteSpace b
   pub fits : Fits parts.scheme (authority ++ parts.path)
   pub named : Authority
-      (mode_of parts.scheme) authority parts.user parts.password parts.host parts.port
+      (host_syntax_of parts.scheme) authority parts.user parts.password parts.host parts.port
   pub hosted : requires_host parts.scheme ≡ true → IsSome parts.host
   pub path_text : IsUtf8 (percent_decode parts.path)
 
@@ -80,19 +80,19 @@ EndsInColon text = (front : List ℕ) × FreeOf colon front × (begins_with left
     × (text ≡ front ++ colon ∷ [])
 
 -- what Secure Shell takes for the host: without brackets around it, and without a colon behind it
-pub data Peels (host peeled : List ℕ) : Type 0 where
-  brackets : host ≡ left_bracket ∷ (peeled ++ right_bracket ∷ []) → Peels host peeled
-  brackets_colon : host ≡ left_bracket ∷ (peeled ++ right_bracket ∷ (colon ∷ []))
-      → Peels host peeled
-  last_colon : FreeOf colon peeled → begins_with left_bracket peeled ≡ false
-      → host ≡ peeled ++ colon ∷ [] → Peels host peeled
-  same : ¬ IsBracketed host → ¬ IsBracketedColon host → ¬ EndsInColon host → peeled ≡ host
-      → Peels host peeled
+pub data IsSshHost (host ssh_host : List ℕ) : Type 0 where
+  brackets : host ≡ left_bracket ∷ (ssh_host ++ right_bracket ∷ []) → IsSshHost host ssh_host
+  brackets_colon : host ≡ left_bracket ∷ (ssh_host ++ right_bracket ∷ (colon ∷ []))
+      → IsSshHost host ssh_host
+  last_colon : FreeOf colon ssh_host → begins_with left_bracket ssh_host ≡ false
+      → host ≡ ssh_host ++ colon ∷ [] → IsSshHost host ssh_host
+  same : ¬ IsBracketed host → ¬ IsBracketedColon host → ¬ EndsInColon host → ssh_host ≡ host
+      → IsSshHost host ssh_host
 
--- the host of a location, by its protocol, for the host that its URL names
-abbrev pub HostFor : Protocol → Option (List ℕ) → Option (List ℕ) → Type 0
+-- the host of a location, by its scheme, for the host that its URL names
+abbrev pub HostFor : Scheme → Option (List ℕ) → Option (List ℕ) → Type 0
 HostFor ssh None host = host ≡ None
-HostFor ssh (Some named) host = (peeled : List ℕ) × Peels named peeled × (host ≡ Some peeled)
+HostFor ssh (Some named) host = (ssh_host : List ℕ) × IsSshHost named ssh_host × (host ≡ Some ssh_host)
 HostFor _ named host = host ≡ named
 
 -- a path below a home folder is written without the `/` before its `~`
@@ -106,8 +106,8 @@ abbrev pub or_root : List ℕ → List ℕ
 or_root [] = slash ∷ []
 or_root (b ∷ bs) = b ∷ bs
 
--- the path of a location, by its protocol, for the decoded path of its URL
-abbrev pub path_for : Protocol → List ℕ → List ℕ
+-- the path of a location, by its scheme, for the decoded path of its URL
+abbrev pub path_for : Scheme → List ℕ → List ℕ
 path_for ssh path = from_home path
 path_for git path = from_home path
 path_for http path = or_root path
@@ -118,38 +118,38 @@ path_for _ path = path
 abbrev pub retained_spelling : List ℕ → Option (List ℕ)
 retained_spelling path = if has_percent path then Some path else None
 
--- the location that the parts of a URL stand for, by its protocol
-pub record MeansByProtocol (protocol : Protocol) (parts : UrlParts) (v : Location) : Type 0 where
+-- the location that the parts of a URL stand for, by its scheme
+pub record MeansByScheme (scheme : Scheme) (parts : UrlSyntax) (v : Location) : Type 0 where
   pub host : Option (List ℕ)
-  pub pathed : requires_path protocol ≡ true → 0 < length parts.path
-  pub hosted : HostFor protocol parts.host host
+  pub pathed : requires_path scheme ≡ true → 0 < length parts.path
+  pub hosted : HostFor scheme parts.host host
   pub value : v ≡ record {
-    scheme = protocol;
+    scheme = scheme;
     user = parts.user;
     password = parts.password;
     host = host;
     flag = false;
     port = parts.port;
-    path = path_for protocol (percent_decode parts.path);
+    path = path_for scheme (percent_decode parts.path);
     spelling = retained_spelling parts.path;
   }
 
 -- the location that a URL with these parts stands for: `ext` keeps its whole text as the path
-abbrev pub MeansAs : Protocol → List ℕ → UrlParts → Location → Type 0
+abbrev pub MeansAs : Scheme → List ℕ → UrlSyntax → Location → Type 0
 MeansAs ext b parts v = v ≡ path_alone ext true b
-MeansAs file b parts v = MeansByProtocol file parts v
-MeansAs git b parts v = MeansByProtocol git parts v
-MeansAs ssh b parts v = MeansByProtocol ssh parts v
-MeansAs http b parts v = MeansByProtocol http parts v
-MeansAs https b parts v = MeansByProtocol https parts v
-MeansAs (helper name) b parts v = MeansByProtocol (helper name) parts v
-MeansAs (helper_url name) b parts v = MeansByProtocol (helper_url name) parts v
+MeansAs file b parts v = MeansByScheme file parts v
+MeansAs git b parts v = MeansByScheme git parts v
+MeansAs ssh b parts v = MeansByScheme ssh parts v
+MeansAs http b parts v = MeansByScheme http parts v
+MeansAs https b parts v = MeansByScheme https parts v
+MeansAs (helper name) b parts v = MeansByScheme (helper name) parts v
+MeansAs (helper_url name) b parts v = MeansByScheme (helper_url name) parts v
 
 -- a URL, except for those of the scheme `file`
 pub record SpellsUrl (b : List ℕ) (v : Location) : Type 0 where
-  pub parts : UrlParts
-  pub spelled : SpellsParts b parts
-  pub means : MeansAs (protocol_of parts.scheme) b parts v
+  pub parts : UrlSyntax
+  pub spelled : HasUrlSyntax b parts
+  pub means : MeansAs (scheme_of parts.scheme) b parts v
 
 -- a file URL: host and path stay as they are
 pub record SpellsFile (b : List ℕ) (v : Location) : Type 0 where
@@ -175,12 +175,12 @@ pub record IsNeither (b : List ℕ) : Type 0 where
   pub no_helper : ¬ HasHelperForm b
   pub no_mark : ¬ Holds (codes "://") b
 
--- the text has the shape of the scp form, with this front and this path
-pub record ScpShape (b front path : List ℕ) : Type 0 where
+-- the text has the scp form, with this front and this path
+pub record ScpForm (b front path : List ℕ) : Type 0 where
   pub joined : b ≡ front ++ colon ∷ path
   pub neither : IsNeither b
   pub no_slash : FreeOf slash front
-  pub shape : ScpFront b front
+  pub form : ScpFront b front
 
 -- the text is `user@[address]:path`, with these pieces
 pub record AddressedCut (b user address path : List ℕ) : Type 0 where
@@ -189,19 +189,19 @@ pub record AddressedCut (b user address path : List ℕ) : Type 0 where
   pub no_colon : FreeOf colon user
   pub addressed : IsIpv6Text address
 
--- the text has that shape: it is neither a remote helper nor a URL
-pub record AddressedShape (b user address path : List ℕ) : Type 0 where
+-- the text has that form: it is neither a remote helper nor a URL
+pub record AddressedForm (b user address path : List ℕ) : Type 0 where
   pub cut : AddressedCut b user address path
   pub neither : IsNeither b
 
--- the text has the shape `user@[address]:path`
+-- the text has the form `user@[address]:path`
 abbrev pub IsAddressed : List ℕ → Type 0
 IsAddressed b = (user : List ℕ) × (address : List ℕ) × (path : List ℕ)
-    × AddressedShape b user address path
+    × AddressedForm b user address path
 
--- the text has a shape of the scp form
-abbrev pub IsScpShaped : List ℕ → Type 0
-IsScpShaped b = ((front : List ℕ) × (path : List ℕ) × ScpShape b front path) ⊎ IsAddressed b
+-- the text has the scp form
+abbrev pub HasScpForm : List ℕ → Type 0
+HasScpForm b = ((front : List ℕ) × (path : List ℕ) × ScpForm b front path) ⊎ IsAddressed b
 
 -- the front is a host, or a user, `@` and a host
 pub data ScpUser (front : List ℕ) (user : Option (List ℕ)) (host : List ℕ) : Type 0 where
@@ -220,7 +220,7 @@ pub record ScpHost (host meant : List ℕ) : Type 0 where
   pub no_at : FreeOf at_sign host
   pub no_backslash : FreeOf backslash host
   pub no_white_space : LacksWhiteSpace host
-  pub names : Names bare (escaped_percents host) (Some named) None
+  pub names : SpellsHostPort git_hosts (escaped_percents host) (Some named) None
   pub unbracketed : Unbrackets named meant
 
 -- a location that only Secure Shell reaches, in the scp form
@@ -228,26 +228,26 @@ abbrev pub scp_location : Option (List ℕ) → List ℕ → List ℕ → Locati
 scp_location user host path = record
     (path_alone ssh true (from_home path)) { user = user; host = Some host }
 
--- the scp form as it was before there was the shape `user@[address]:path`
+-- the scp form as it was before there was the form `user@[address]:path`
 pub record SpellsScpBefore (b : List ℕ) (v : Location) : Type 0 where
   pub front : List ℕ
   pub path : List ℕ
   pub user : Option (List ℕ)
   pub host : List ℕ
   pub meant : List ℕ
-  pub shape : ScpShape b front path
+  pub form : ScpForm b front path
   pub text : IsUtf8 b
   pub pathed : 0 < length path
   pub split : ScpUser front user host
   pub hosted : ScpHost host meant
   pub value : v ≡ scp_location user meant path
 
--- the shape `user@[address]:path`
+-- the form `user@[address]:path`
 pub record SpellsScpAddressed (b : List ℕ) (v : Location) : Type 0 where
   pub user : List ℕ
   pub address : List ℕ
   pub path : List ℕ
-  pub shape : AddressedShape b user address path
+  pub form : AddressedForm b user address path
   pub text : IsUtf8 b
   pub pathed : 0 < length path
   pub value : v ≡ scp_location (Some user) (lowercase address) path
@@ -259,16 +259,16 @@ SpellsScp b v = SpellsScpBefore b v ⊎ SpellsScpAddressed b v
 -- ---- local paths
 
 -- the text has the form of a local path
-pub record LocalShape (b : List ℕ) : Type 0 where
+pub record LocalForm (b : List ℕ) : Type 0 where
   pub nonempty : 0 < length b
   pub neither : IsNeither b
-  pub no_scp : ¬ IsScpShaped b
+  pub no_scp : ¬ HasScpForm b
 
 -- a local path: any other text, as it is
 pub record SpellsLocal (b : List ℕ) (v : Location) : Type 0 where
   pub nonempty : 0 < length b
   pub neither : IsNeither b
-  pub no_scp : ¬ IsScpShaped b
+  pub no_scp : ¬ HasScpForm b
   pub value : v ≡ path_alone file true b
 
 -- ---- all forms

@@ -1,4 +1,4 @@
--- Hosts and ports: what may be behind the user information of an authority, in three modes of strictness.
+-- Hosts and ports: what may be behind the user information of an authority, in three syntaxes.
 use Rattle.std.specs.Prelude.{◌≡◌, ℕ, ◌<◌, ◌≤◌, Bool, true, false, ◌||◌, nat_le, ◌&&◌, ◌⊎◌, List, [], ◌∷◌, ◌++◌, length, codes, Option, Some, None, IsUtf8, if◌then◌else◌}
 use Rattle.std.specs.List.{list_all}
 use Rattle.std.specs.Char.{is_ascii_alphanumeric, is_ascii_digit}
@@ -7,11 +7,11 @@ use Rattle.percent_encoding.specs.Percent.{percent_decode}
 use Rattle.git_syntax.specs.Bytes.{dollar_sign, dot, colon, left_bracket, right_bracket, FreeOf, begins_with, lowercase, is_one_of}
 use Rattle.git_syntax.specs.Addresses.{IsIpv6Text, Literal}
 
--- how strictly a host is read: as HTTP has it, as Git's own transports have it, or as any other scheme
-pub data Mode : Type 0 where
-  strict : Mode
-  bare : Mode
-  loose : Mode
+-- the syntax of a host: that of HTTP, that of Git's own transports, or that of any other scheme
+pub data HostSyntax : Type 0 where
+  http_hosts : HostSyntax
+  git_hosts : HostSyntax
+  other_hosts : HostSyntax
 
 -- a byte that looks like a part of a domain name: a letter, a digit, `-`, `.`, `_` or `*`
 abbrev pub is_dns_byte : ℕ → Bool
@@ -28,10 +28,10 @@ abbrev pub normal_host : List ℕ → List ℕ
 normal_host host = if list_all is_dns_byte host then lowercase host else host
 
 -- a text stands for a host, outside brackets
-abbrev pub HostText : Mode → List ℕ → List ℕ → Type 0
-HostText strict text host = (list_all is_http_host_byte text ≡ true) × (host ≡ normal_host text)
-HostText bare text host = IsUtf8 (percent_decode text) × (host ≡ normal_host (percent_decode text))
-HostText loose text host = IsUtf8 (percent_decode text) × (host ≡ normal_host (percent_decode text))
+abbrev pub HostText : HostSyntax → List ℕ → List ℕ → Type 0
+HostText http_hosts text host = (list_all is_http_host_byte text ≡ true) × (host ≡ normal_host text)
+HostText git_hosts text host = IsUtf8 (percent_decode text) × (host ≡ normal_host (percent_decode text))
+HostText other_hosts text host = IsUtf8 (percent_decode text) × (host ≡ normal_host (percent_decode text))
 
 -- the text is an IPv6 literal, in some normal form
 abbrev pub IsLiteral : List ℕ → Type 0
@@ -44,27 +44,27 @@ pub data Bracketed (text : List ℕ) (inner : List ℕ) : Type 0 where
   other : ¬ IsLiteral text → inner ≡ percent_decode text → IsUtf8 inner → Bracketed text inner
 
 -- a text between brackets stands for another
-abbrev pub Inner : Mode → List ℕ → List ℕ → Type 0
-Inner strict text inner = Literal text inner
-Inner bare text inner = Bracketed text inner
-Inner loose text inner = Bracketed text inner
+abbrev pub Inner : HostSyntax → List ℕ → List ℕ → Type 0
+Inner http_hosts text inner = Literal text inner
+Inner git_hosts text inner = Bracketed text inner
+Inner other_hosts text inner = Bracketed text inner
 
 -- the port is allowed: zero is refused by HTTP alone
-abbrev pub AllowsPort : Mode → ℕ → Type 0
-AllowsPort strict port = 0 < port
-AllowsPort bare port = Unit {0}
-AllowsPort loose port = Unit {0}
+abbrev pub AllowsPort : HostSyntax → ℕ → Type 0
+AllowsPort http_hosts port = 0 < port
+AllowsPort git_hosts port = Unit {0}
+AllowsPort other_hosts port = Unit {0}
 
 -- decimal digits, at least one
 abbrev pub IsDigits : List ℕ → Type 0
 IsDigits text = (0 < length text) × (list_all is_ascii_digit text ≡ true)
 
 -- digits spell a port
-pub record Number (mode : Mode) (text : List ℕ) (port : ℕ) : Type 0 where
+pub record Number (syntax : HostSyntax) (text : List ℕ) (port : ℕ) : Type 0 where
   pub digits : IsDigits text
   pub value : port ≡ digits_value 10 text
   pub within : port ≤ 65535
-  pub allowed : AllowsPort mode port
+  pub allowed : AllowsPort syntax port
 
 -- an IPv6 text without brackets, or one with a colon behind it
 abbrev pub IsAddressPiece : List ℕ → Type 0
@@ -72,8 +72,8 @@ IsAddressPiece piece = IsIpv6Text piece
     ⊎ ((address : List ℕ) × IsIpv6Text address × (piece ≡ address ++ colon ∷ []))
 
 -- such a piece, where an address needs no brackets
-abbrev pub ReadsAddress : Mode → List ℕ → Type 0
-ReadsAddress mode piece = (mode ≡ bare) × IsAddressPiece piece
+abbrev pub ReadsAddress : HostSyntax → List ℕ → Type 0
+ReadsAddress syntax piece = (syntax ≡ git_hosts) × IsAddressPiece piece
 
 -- the text holds two colons or more
 abbrev pub HoldsTwoColons : List ℕ → Type 0
@@ -91,42 +91,42 @@ pub record IsPlainHost (text : List ℕ) : Type 0 where
   pub no_bracket : begins_with left_bracket text ≡ false
 
 -- what is behind the user information names a host and a port
-pub data Names (mode : Mode) (piece : List ℕ) (host : Option (List ℕ))
+pub data SpellsHostPort (syntax : HostSyntax) (piece : List ℕ) (host : Option (List ℕ))
     (port : Option ℕ) : Type 0 where
   -- nothing
-  nothing : piece ≡ [] → host ≡ None → port ≡ None → Names mode piece host port
+  nothing : piece ≡ [] → host ≡ None → port ≡ None → SpellsHostPort syntax piece host port
   -- `[x]`
-  bracketed : (x inner : List ℕ) → FreeOf right_bracket x → Inner mode x inner
+  bracketed : (x inner : List ℕ) → FreeOf right_bracket x → Inner syntax x inner
       → piece ≡ left_bracket ∷ (x ++ right_bracket ∷ [])
       → host ≡ Some (left_bracket ∷ (inner ++ right_bracket ∷ [])) → port ≡ None
-      → Names mode piece host port
+      → SpellsHostPort syntax piece host port
   -- `[x]:`, where the colon stays with the host
-  bracketed_colon : (x inner : List ℕ) → FreeOf right_bracket x → Inner mode x inner
+  bracketed_colon : (x inner : List ℕ) → FreeOf right_bracket x → Inner syntax x inner
       → piece ≡ left_bracket ∷ (x ++ right_bracket ∷ (colon ∷ []))
       → host ≡ Some (left_bracket ∷ (inner ++ right_bracket ∷ (colon ∷ []))) → port ≡ None
-      → Names mode piece host port
+      → SpellsHostPort syntax piece host port
   -- `[x]:port`
   bracketed_port : (x inner digits : List ℕ) (number : ℕ) → FreeOf right_bracket x
-      → Inner mode x inner → Number mode digits number
+      → Inner syntax x inner → Number syntax digits number
       → piece ≡ left_bracket ∷ (x ++ right_bracket ∷ (colon ∷ digits))
       → host ≡ Some (left_bracket ∷ (inner ++ right_bracket ∷ [])) → port ≡ Some number
-      → Names mode piece host port
+      → SpellsHostPort syntax piece host port
   -- an address without brackets, where Git's own transports read one
-  unbracketed : ReadsAddress mode piece → host ≡ Some (lowercase piece) → port ≡ None
-      → Names mode piece host port
+  unbracketed : ReadsAddress syntax piece → host ≡ Some (lowercase piece) → port ≡ None
+      → SpellsHostPort syntax piece host port
   -- `host`
-  plain : (named : List ℕ) → IsPlainHost piece → HostText mode piece named
-      → host ≡ Some named → port ≡ None → Names mode piece host port
+  plain : (named : List ℕ) → IsPlainHost piece → HostText syntax piece named
+      → host ≡ Some named → port ≡ None → SpellsHostPort syntax piece host port
   -- `host:`, where the colon stays with the host
-  plain_colon : (text named : List ℕ) → IsPlainHost text → HostText mode text named
+  plain_colon : (text named : List ℕ) → IsPlainHost text → HostText syntax text named
       → piece ≡ text ++ colon ∷ [] → host ≡ Some (named ++ colon ∷ []) → port ≡ None
-      → Names mode piece host port
+      → SpellsHostPort syntax piece host port
   -- `host:port`
   plain_port : (text named digits : List ℕ) (number : ℕ) → IsPlainHost text
-      → HostText mode text named → Number mode digits number
+      → HostText syntax text named → Number syntax digits number
       → piece ≡ text ++ colon ∷ digits → host ≡ Some named → port ≡ Some number
-      → Names mode piece host port
+      → SpellsHostPort syntax piece host port
   -- colons that mark no port, outside HTTP: the whole piece is the host
-  colons : (named : List ℕ) → ¬ (mode ≡ strict) → ¬ ReadsAddress mode piece
-      → begins_with left_bracket piece ≡ false → IsManyColoned piece → HostText mode piece named
-      → host ≡ Some named → port ≡ None → Names mode piece host port
+  colons : (named : List ℕ) → ¬ (syntax ≡ http_hosts) → ¬ ReadsAddress syntax piece
+      → begins_with left_bracket piece ≡ false → IsManyColoned piece → HostText syntax piece named
+      → host ≡ Some named → port ≡ None → SpellsHostPort syntax piece host port

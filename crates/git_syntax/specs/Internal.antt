@@ -1,6 +1,6 @@
 -- Definitions that serve the proofs of this crate and of those above it alone.
 pub mod Cuts
-pub mod Walks
+pub mod LengthChecks
 pub mod HostPieces
 pub mod Decoding
 pub mod Looks
@@ -8,4 +8,4 @@ pub mod UrlPieces
 pub mod SchemeRules
 pub mod FoundPieces
 pub mod ScpPieces
-pub mod Shapes
+pub mod Forms

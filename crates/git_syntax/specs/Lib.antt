@@ -1,5 +1,5 @@
 -- What a user reads.
-pub mod Value
+pub mod Location
 pub mod Bytes
 pub mod Escapes
 pub mod Addresses
@@ -10,7 +10,7 @@ pub mod Grammar
 pub mod AddressTest
 pub mod Places
 pub mod Flaws
-pub mod Words
+pub mod ErrorText
 pub mod Refusals
 pub mod Safeguards
 pub mod Views

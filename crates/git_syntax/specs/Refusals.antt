@@ -4,9 +4,9 @@ use Rattle.git_syntax.specs.declared.refusal.UrlKind.{UrlKind}
 use Rattle.git_syntax.specs.declared.refusal.UrlFault.{UrlFault}
 use Rattle.git_syntax.specs.declared.refusal.Refusal.{Refusal}
 use Rattle.git_syntax.specs.declared.refusal.Refusal.TheVariants as refusal
-use Rattle.git_syntax.specs.Value.{Location}
+use Rattle.git_syntax.specs.Location.{Location}
 use Rattle.git_syntax.specs.Grammar.{Spells}
-use Rattle.git_syntax.specs.Flaws.{MissesPath, HasShape, IsTooLong, KindFlaw, NamesFlaw}
+use Rattle.git_syntax.specs.Flaws.{MissesPath, HasForm, IsTooLong, KindFlaw, NamesFlaw}
 
 -- nor by bytes in which the flaw of a refusal stands
 abbrev pub RefusalExclusive : Type 0
@@ -28,7 +28,7 @@ RefusalWithin = (b : List ℕ) (r : Refusal) → NamesFlaw b r → place_end r �
 pub data HasFlaw (b : List ℕ) : Type 0 where
   empty : b ≡ [] → HasFlaw b
   no_path : (taken_for : UrlKind) → MissesPath b taken_for → HasFlaw b
-  no_text : (taken_for : UrlKind) → ¬ IsUtf8 b → HasShape b taken_for → HasFlaw b
+  no_text : (taken_for : UrlKind) → ¬ IsUtf8 b → HasForm b taken_for → HasFlaw b
   too_long : (shown : List ℕ) (total at len : ℕ) → IsTooLong b shown total at len → HasFlaw b
   bad_url : (taken_for : UrlKind) (named : UrlFault) (at len : ℕ)
       → KindFlaw b taken_for named at len → HasFlaw b

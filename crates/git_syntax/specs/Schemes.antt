@@ -1,9 +1,9 @@
--- What the scheme of a URL says: its protocol, how its host is read, and whether it needs a host and a path.
+-- What the scheme of a URL says: which one it is, how its host is read, and whether it needs a host and a path.
 use Rattle.std.specs.Prelude.{ℕ, Bool, true, false, ◌||◌, List, codes, bytes_eq, Option, Some, None, if◌then◌else◌}
-use Rattle.git_syntax.specs.Value.{Protocol}
-use Rattle.git_syntax.specs.Value.Protocol.{file, git, ssh, http, https, ext, helper, helper_url}
-use Rattle.git_syntax.specs.Hosts.{Mode}
-use Rattle.git_syntax.specs.Hosts.Mode.{strict, bare, loose}
+use Rattle.git_syntax.specs.Location.{Scheme}
+use Rattle.git_syntax.specs.Location.Scheme.{file, git, ssh, http, https, ext, helper, helper_url}
+use Rattle.git_syntax.specs.Hosts.{HostSyntax}
+use Rattle.git_syntax.specs.Hosts.HostSyntax.{http_hosts, git_hosts, other_hosts}
 use Rattle.std.specs.Prelude.{ℕ, Bool, ◌||◌, List, codes, bytes_eq}
 
 -- the scheme is one of Secure Shell's names
@@ -15,9 +15,9 @@ is_ssh_scheme s = bytes_eq s (codes "ssh")
 abbrev pub is_web_scheme : List ℕ → Bool
 is_web_scheme s = bytes_eq s (codes "http") || bytes_eq s (codes "https")
 
--- the protocol of a scheme, by its text to the letter
-abbrev pub protocol_of : List ℕ → Protocol
-protocol_of s =
+-- the scheme that a text names, to the letter
+abbrev pub scheme_of : List ℕ → Scheme
+scheme_of s =
     if is_ssh_scheme s then ssh
     else (if bytes_eq s (codes "file") then file
     else (if bytes_eq s (codes "git") then git
@@ -26,19 +26,19 @@ protocol_of s =
     else (if bytes_eq s (codes "ext") then ext
     else helper_url s)))))
 
--- the text that a protocol is written with
-abbrev pub protocol_text : Protocol → List ℕ
-protocol_text file = codes "file"
-protocol_text git = codes "git"
-protocol_text ssh = codes "ssh"
-protocol_text http = codes "http"
-protocol_text https = codes "https"
-protocol_text ext = codes "ext"
-protocol_text (helper name) = name
-protocol_text (helper_url name) = name
+-- the text that a scheme is written with
+abbrev pub scheme_text : Scheme → List ℕ
+scheme_text file = codes "file"
+scheme_text git = codes "git"
+scheme_text ssh = codes "ssh"
+scheme_text http = codes "http"
+scheme_text https = codes "https"
+scheme_text ext = codes "ext"
+scheme_text (helper name) = name
+scheme_text (helper_url name) = name
 
--- the port that a protocol stands for where none is given
-abbrev pub default_port_of : Protocol → Option ℕ
+-- the port that a scheme stands for where none is given
+abbrev pub default_port_of : Scheme → Option ℕ
 default_port_of http = Some 80
 default_port_of https = Some 443
 default_port_of ssh = Some 22
@@ -46,9 +46,9 @@ default_port_of git = Some 9418
 default_port_of _ = None
 
 -- how the host of a URL with this scheme is read
-abbrev pub mode_of : List ℕ → Mode
-mode_of s = if is_web_scheme s then strict
-    else (if is_ssh_scheme s || bytes_eq s (codes "git") then bare else loose)
+abbrev pub host_syntax_of : List ℕ → HostSyntax
+host_syntax_of s = if is_web_scheme s then http_hosts
+    else (if is_ssh_scheme s || bytes_eq s (codes "git") then git_hosts else other_hosts)
 
 -- a URL with this scheme needs a host
 abbrev pub requires_host : List ℕ → Bool
@@ -56,8 +56,8 @@ requires_host s = is_web_scheme s
     || (bytes_eq s (codes "git")
     || (bytes_eq s (codes "ssh") || (bytes_eq s (codes "ftp") || bytes_eq s (codes "ftps"))))
 
--- URLs of the protocol need a path, and one that begins with `/`
-abbrev pub requires_path : Protocol → Bool
+-- URLs of the scheme need a path, and one that begins with `/`
+abbrev pub requires_path : Scheme → Bool
 requires_path ssh = true
 requires_path git = true
 requires_path _ = false

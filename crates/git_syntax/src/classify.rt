@@ -7,7 +7,7 @@ ghost use Rattle.std.specs.Prelude.{◌≡◌, ◌<◌, ◌++◌, ◌∷◌, Lis
 ghost use Rattle.git_syntax.specs.Bytes.{FreeOf, colon, left_bracket, right_bracket, slash};
 ghost use Rattle.git_syntax.specs.Internal.Cuts.{CutsAtMark};
 ghost use Rattle.git_syntax.specs.Grammar.{AddressedCut, HasHelperForm, HelperCut, IsNeither};
-ghost use Rattle.git_syntax.specs.Internal.Shapes.{AddressedFront, Classifies, ColonCut, FrontCut, HasAddressedCut, HasFrontCut, HasScpCut, IsColonFront, LacksBrackets, ScpCut, addressed_text};
+ghost use Rattle.git_syntax.specs.Internal.Forms.{AddressedFront, Classifies, ColonCut, FrontCut, HasAddressedCut, HasFrontCut, HasScpCut, IsColonFront, LacksBrackets, ScpCut, addressed_text};
 
 use crate::bytes::{
     after, cut, cut_at_mark, is_free_of, is_helper_name, last_cut, starts_with_byte,
@@ -16,7 +16,7 @@ use crate::ipv6::is_address;
 
 /// The form of a text, with its pieces.
 #[derive(Clone, Copy)]
-pub enum Shape<'a> {
+pub enum Form<'a> {
     /// No text at all.
     Empty,
     /// A remote helper: `name::address`.
@@ -45,7 +45,7 @@ pub enum Shape<'a> {
 }
 
 /// The form of the text.
-pub fn classify(bytes: &[u8]) -> Shape<'_>
+pub fn classify(bytes: &[u8]) -> Form<'_>
     ensures { Classifies bytes.now result }
 {
     match cut(bytes, b':') {
@@ -55,24 +55,24 @@ pub fn classify(bytes: &[u8]) -> Shape<'_>
 }
 
 /// The form of a text without a colon.
-fn classify_whole(bytes: &[u8]) -> Shape<'_>
+fn classify_whole(bytes: &[u8]) -> Form<'_>
     requires { FreeOf colon bytes.now }
     ensures { Classifies bytes.now result }
 {
     if bytes.is_empty() {
-        Shape::Empty
+        Form::Empty
     } else {
-        Shape::Local
+        Form::Local
     }
 }
 
 /// The form of a text, by what is before and behind its first colon.
-fn classify_cut<'a>(bytes: &'a [u8], front: &'a [u8], rest: &'a [u8]) -> Shape<'a>
+fn classify_cut<'a>(bytes: &'a [u8], front: &'a [u8], rest: &'a [u8]) -> Form<'a>
     requires { ColonCut bytes.now front.now rest.now }
     ensures { Classifies bytes.now result }
 {
     match helper_address(front, rest) {
-        Some(address) => Shape::Helper {
+        Some(address) => Form::Helper {
             name: front,
             address,
         },
@@ -99,13 +99,13 @@ fn helper_address<'a>(name: &[u8], rest: &'a [u8]) -> Option<&'a [u8]>
 }
 
 /// The form of a text that is no remote helper.
-fn classify_other<'a>(bytes: &'a [u8], front: &'a [u8], rest: &'a [u8]) -> Shape<'a>
+fn classify_other<'a>(bytes: &'a [u8], front: &'a [u8], rest: &'a [u8]) -> Form<'a>
     requires cut { ColonCut bytes.now front.now rest.now }
     requires no_helper { ¬ HasHelperForm bytes.now }
     ensures { Classifies bytes.now result }
 {
     match cut_url(bytes, front, rest) {
-        Some((scheme, rest)) => Shape::Url { scheme, rest },
+        Some((scheme, rest)) => Form::Url { scheme, rest },
         None => classify_path(bytes, front, rest),
     }
 }
@@ -139,13 +139,13 @@ fn after_slashes(text: &[u8]) -> Option<&[u8]>
 }
 
 /// The form of a text that is neither a remote helper nor a URL.
-fn classify_path<'a>(bytes: &'a [u8], front: &'a [u8], rest: &'a [u8]) -> Shape<'a>
+fn classify_path<'a>(bytes: &'a [u8], front: &'a [u8], rest: &'a [u8]) -> Form<'a>
     requires cut { ColonCut bytes.now front.now rest.now }
     requires neither { IsNeither bytes.now }
     ensures { Classifies bytes.now result }
 {
     match cut_addressed(bytes, front) {
-        Some(pieces) => Shape::Addressed {
+        Some(pieces) => Form::Addressed {
             user: pieces.user,
             address: pieces.address,
             path: pieces.path,
@@ -154,16 +154,16 @@ fn classify_path<'a>(bytes: &'a [u8], front: &'a [u8], rest: &'a [u8]) -> Shape<
     }
 }
 
-/// The form of such a text without the shape `user@[address]:path`.
-fn classify_plain<'a>(bytes: &'a [u8], front: &'a [u8], rest: &'a [u8]) -> Shape<'a>
+/// The form of such a text without the form `user@[address]:path`.
+fn classify_plain<'a>(bytes: &'a [u8], front: &'a [u8], rest: &'a [u8]) -> Form<'a>
     requires cut { ColonCut bytes.now front.now rest.now }
     requires neither { IsNeither bytes.now }
     requires not_addressed { ¬ HasAddressedCut bytes.now }
     ensures { Classifies bytes.now result }
 {
     match cut_scp(bytes, front, rest) {
-        Some((front, path)) => Shape::Scp { front, path },
-        None => Shape::Local,
+        Some((front, path)) => Form::Scp { front, path },
+        None => Form::Local,
     }
 }
 

@@ -272,7 +272,7 @@ fn has_white_space(text: &str) -> bool
 }
 
 /// The bytes that the text decodes to.
-pub fn decoded(alloc: Global, text: &[u8]) -> Result<Vec<u8>, AllocError>
+pub fn decode(alloc: Global, text: &[u8]) -> Result<Vec<u8>, AllocError>
     ensures { IfOk result (λ v. v.items ≡ percent.percent_decode text.now) }
 {
     if !has_percent(text) {
@@ -305,6 +305,6 @@ pub fn decoded_text(alloc: Global, text: &[u8]) -> Result<String, AllocError>
     requires { IsUtf8 (percent.percent_decode text.now) }
     ensures { IfOk result (λ s. string_bytes s ≡ percent.percent_decode text.now) }
 {
-    let bytes = decoded(alloc, text)?;
+    let bytes = decode(alloc, text)?;
     Ok(into_text(bytes))
 }

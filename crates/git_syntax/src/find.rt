@@ -8,9 +8,9 @@ ghost use Rattle.std.specs.Prelude.{◌≡◌, ◌≤◌, [], Err, IfErr, IfOk, 
 ghost use Rattle.git_syntax.specs.Flaws.{NamesFlaw};
 ghost use Rattle.git_syntax.specs.Internal.FoundPieces.{IsReady, meant, room_for};
 ghost use Rattle.git_syntax.specs.Grammar.{Spells};
-ghost use Rattle.git_syntax.specs.Value.{Location};
+ghost use Rattle.git_syntax.specs.Location.{Location};
 
-use crate::classify::{Shape, classify};
+use crate::classify::{Form, classify};
 use crate::found::Found;
 use crate::refusal::Refusal;
 use crate::scp::{find_addressed, find_scp};
@@ -26,15 +26,15 @@ pub fn find(bytes: &[u8]) -> Result<Found<'_>, Refusal<'_>>
     ensures empty { bytes.now ≡ [] → result ≡ Err Refusal.EmptyLocal }
 {
     match classify(bytes) {
-        Shape::Empty => Err(Refusal::EmptyLocal),
-        Shape::Helper { name, address } => Ok(Found::Helper { name, address }),
-        Shape::Url { scheme, rest } => find_url(bytes, scheme, rest),
-        Shape::Addressed {
+        Form::Empty => Err(Refusal::EmptyLocal),
+        Form::Helper { name, address } => Ok(Found::Helper { name, address }),
+        Form::Url { scheme, rest } => find_url(bytes, scheme, rest),
+        Form::Addressed {
             user,
             address,
             path,
         } => find_addressed(bytes, user, address, path),
-        Shape::Scp { front, path } => find_scp(bytes, front, path),
-        Shape::Local => Ok(Found::Local { path: bytes }),
+        Form::Scp { front, path } => find_scp(bytes, front, path),
+        Form::Local => Ok(Found::Local { path: bytes }),
     }
 }

@@ -7,10 +7,10 @@
 
 ghost use Rattle.std.specs.Prelude.{◌≡◌, ℕ, IsUtf8, ◌<◌, ◌↔◌, ◌++◌, ◌∷◌, List, Option, None, IsTrue, IfOk, IfErr, IfSome, MatchOption, false, length};
 ghost use Rattle.git_syntax.specs.Bytes.{FreeOf, begins_with, left_bracket, right_bracket};
-ghost use Rattle.git_syntax.specs.Flaws.{IsNoHost, IsNoInner, NameFlaw};
+ghost use Rattle.git_syntax.specs.Flaws.{IsNoHost, IsNoInner, HostPortFlaw};
 ghost use Rattle.git_syntax.specs.Hosts as spec;
-ghost use Rattle.git_syntax.specs.Hosts.{HostText, IsAddressPiece, IsLiteral, IsManyColoned, Names, ReadsAddress};
-ghost use Rattle.git_syntax.specs.Internal.HostPieces.{IsInner, IsSimpleHost, ReadsName, host_of, in_brackets, meant_host, named_text, port_of, shown_literal, strictness};
+ghost use Rattle.git_syntax.specs.Hosts.{HostText, IsAddressPiece, IsLiteral, IsManyColoned, SpellsHostPort, ReadsAddress};
+ghost use Rattle.git_syntax.specs.Internal.HostPieces.{IsInner, IsSimpleHost, ReadsHostPort, host_of, in_brackets, meant_host, named_text, port_of, shown_literal, host_syntax};
 
 pub mod build;
 pub mod bytes;
@@ -25,19 +25,19 @@ use port::{are_digits, ends_host, with_port, with_rest};
 
 /// How strictly a host is read.
 #[derive(Clone, Copy, PartialEq, Eq)]
-pub(crate) enum Mode {
+pub(crate) enum HostSyntax {
     /// As HTTP has it: escapes stay, and brackets hold an IPv6 literal.
-    Strict,
+    Http,
     /// As Git's own transports have it: an IPv6 text needs no brackets.
-    Bare,
+    Git,
     /// As any other scheme has it.
-    Loose,
+    Other,
 }
 
 /// The text of a host as it is in the input, with what has to be done to it.
 #[derive(Clone, Copy)]
 pub enum HostPiece<'a> {
-    /// A host of lower-case letters, digits, `-` and `.`: it stands for itself in every mode.
+    /// A host of lower-case letters, digits, `-` and `.`: it stands for itself in every syntax.
     Simple(&'a [u8]),
     /// An IPv6 text without brackets, perhaps with a colon behind it: it is lowercased.
     Address(&'a [u8]),
@@ -55,7 +55,7 @@ pub enum HostPiece<'a> {
 
 /// A host, and what follows it.
 #[derive(Clone, Copy)]
-pub struct NamedHost<'a> {
+pub struct HostPort<'a> {
     /// The host.
     pub piece: HostPiece<'a>,
     /// Whether a colon follows it that stays with it.
@@ -65,15 +65,15 @@ pub struct NamedHost<'a> {
 }
 
 /// Reads a host and a port: none where the piece is empty.
-pub(crate) fn read_host(mode: Mode, piece: &[u8]) -> Result<Option<NamedHost<'_>>, Fault>
+pub(crate) fn read_host(syntax: HostSyntax, piece: &[u8]) -> Result<Option<HostPort<'_>>, Fault>
     ensures named { IfOk result
-        (λ named. Names (strictness mode) piece.now (host_of named) (port_of named)) }
+        (λ named. SpellsHostPort (host_syntax syntax) piece.now (host_of named) (port_of named)) }
     ensures text { IfOk result (λ named. IfSome named (λ host. IsUtf8 (named_text host))) }
     ensures unnamed { IfErr result
         (λ fault. (host : Option (List ℕ)) (port : Option ℕ)
-        → ¬ Names (strictness mode) piece.now host port) }
+        → ¬ SpellsHostPort (host_syntax syntax) piece.now host port) }
     ensures flaw { IfErr result
-        (λ fault. NameFlaw (strictness mode) piece.now fault.kind fault.at fault.len) }
+        (λ fault. HostPortFlaw (host_syntax syntax) piece.now fault.kind fault.at fault.len) }
 {
     if piece.is_empty() {
         return Ok(None);
@@ -81,12 +81,12 @@ pub(crate) fn read_host(mode: Mode, piece: &[u8]) -> Result<Option<NamedHost<'_>
     if let Some(named) = simple_host(piece) {
         return Ok(Some(named));
     }
-    let named = read_some(mode, piece)?;
+    let named = read_some(syntax, piece)?;
     Ok(Some(named))
 }
 
 /// The port of a host that may be missing.
-pub fn port_of(host: Option<NamedHost<'_>>) -> Option<u16>
+pub fn port_of(host: Option<HostPort<'_>>) -> Option<u16>
     ensures { result ≡ port_of host.entry }
 {
     match host {
@@ -96,7 +96,7 @@ pub fn port_of(host: Option<NamedHost<'_>>) -> Option<u16>
 }
 
 /// The host, where the piece is a simple one: most are.
-pub(crate) fn simple_host(piece: &[u8]) -> Option<NamedHost<'_>>
+pub(crate) fn simple_host(piece: &[u8]) -> Option<HostPort<'_>>
     ensures simple { IfSome result (λ host. IsSimpleHost piece.now) }
     ensures host { IfSome result (λ host. named_text host ≡ piece.now) }
     ensures port { IfSome result (λ host. host.port ≡ None) }
@@ -116,22 +116,22 @@ pub fn is_simple_host(text: &[u8]) -> bool
 }
 
 /// Reads a host and a port, where there is something to read.
-fn read_some(mode: Mode, piece: &[u8]) -> Result<NamedHost<'_>, Fault>
+fn read_some(syntax: HostSyntax, piece: &[u8]) -> Result<HostPort<'_>, Fault>
     requires { 0 < length piece.now }
-    ensures { ReadsName (strictness mode) piece.now result }
+    ensures { ReadsHostPort (host_syntax syntax) piece.now result }
 {
     match after(piece, b'[') {
-        Some(behind) => read_bracketed(mode, behind),
-        None => read_unbracketed(mode, piece),
+        Some(behind) => read_bracketed(syntax, behind),
+        None => read_unbracketed(syntax, piece),
     }
 }
 
 /// Reads what is behind an opening bracket.
-fn read_bracketed(mode: Mode, behind: &[u8]) -> Result<NamedHost<'_>, Fault>
-    ensures { ReadsName (strictness mode) (left_bracket ∷ behind.now) result }
+fn read_bracketed(syntax: HostSyntax, behind: &[u8]) -> Result<HostPort<'_>, Fault>
+    ensures { ReadsHostPort (host_syntax syntax) (left_bracket ∷ behind.now) result }
 {
     match cut(behind, b']') {
-        Some((inner, rest)) => read_brackets(mode, inner, rest),
+        Some((inner, rest)) => read_brackets(syntax, inner, rest),
         None => Err(Fault {
             kind: UrlFault::BadCharacter,
             at: 0,
@@ -141,9 +141,13 @@ fn read_bracketed(mode: Mode, behind: &[u8]) -> Result<NamedHost<'_>, Fault>
 }
 
 /// Reads what is between brackets, and behind them.
-fn read_brackets<'a>(mode: Mode, inner: &'a [u8], rest: &'a [u8]) -> Result<NamedHost<'a>, Fault>
+fn read_brackets<'a>(
+    syntax: HostSyntax,
+    inner: &'a [u8],
+    rest: &'a [u8],
+) -> Result<HostPort<'a>, Fault>
     requires { FreeOf right_bracket inner.now }
-    ensures { ReadsName (strictness mode)
+    ensures { ReadsHostPort (host_syntax syntax)
         (left_bracket ∷ (inner.now ++ right_bracket ∷ rest.now)) result }
 {
     if !ends_host(rest) {
@@ -153,14 +157,14 @@ fn read_brackets<'a>(mode: Mode, inner: &'a [u8], rest: &'a [u8]) -> Result<Name
             len: rest.len(),
         });
     }
-    let Some(host) = read_inner(mode, inner) else {
+    let Some(host) = read_inner(syntax, inner) else {
         return Err(Fault {
             kind: UrlFault::BadCharacter,
             at: 1,
             len: inner.len(),
         });
     };
-    match with_rest(mode, host, rest) {
+    match with_rest(syntax, host, rest) {
         Some(named) => Ok(named),
         None => Err(Fault {
             kind: UrlFault::BadPort,
@@ -171,16 +175,16 @@ fn read_brackets<'a>(mode: Mode, inner: &'a [u8], rest: &'a [u8]) -> Result<Name
 }
 
 /// Reads a piece without an opening bracket.
-fn read_unbracketed(mode: Mode, piece: &[u8]) -> Result<NamedHost<'_>, Fault>
+fn read_unbracketed(syntax: HostSyntax, piece: &[u8]) -> Result<HostPort<'_>, Fault>
     requires some { 0 < length piece.now }
     requires no_bracket { begins_with left_bracket piece.now ≡ false }
-    ensures { ReadsName (strictness mode) piece.now result }
+    ensures { ReadsHostPort (host_syntax syntax) piece.now result }
 {
     let Some((text, digits)) = cut(piece, b':') else {
-        return read_plain(mode, piece);
+        return read_plain(syntax, piece);
     };
     if text.is_empty() || !is_free_of(digits, b':') {
-        return read_colons(mode, piece);
+        return read_colons(syntax, piece);
     }
     if !are_digits(digits) {
         return Err(Fault {
@@ -189,14 +193,14 @@ fn read_unbracketed(mode: Mode, piece: &[u8]) -> Result<NamedHost<'_>, Fault>
             len: digits.len(),
         });
     }
-    let Some(host) = read_text(mode, text) else {
+    let Some(host) = read_text(syntax, text) else {
         return Err(Fault {
             kind: UrlFault::BadCharacter,
             at: 0,
             len: text.len(),
         });
     };
-    match with_port(mode, host, digits) {
+    match with_port(syntax, host, digits) {
         Some(named) => Ok(named),
         None => Err(Fault {
             kind: UrlFault::BadPort,
@@ -207,11 +211,11 @@ fn read_unbracketed(mode: Mode, piece: &[u8]) -> Result<NamedHost<'_>, Fault>
 }
 
 /// Reads a piece without a colon.
-fn read_plain(mode: Mode, piece: &[u8]) -> Result<NamedHost<'_>, Fault>
+fn read_plain(syntax: HostSyntax, piece: &[u8]) -> Result<HostPort<'_>, Fault>
     requires { spec.IsPlainHost piece.now }
-    ensures { ReadsName (strictness mode) piece.now result }
+    ensures { ReadsHostPort (host_syntax syntax) piece.now result }
 {
-    match read_text(mode, piece) {
+    match read_text(syntax, piece) {
         Some(host) => Ok(alone(host)),
         None => Err(Fault {
             kind: UrlFault::BadCharacter,
@@ -222,22 +226,22 @@ fn read_plain(mode: Mode, piece: &[u8]) -> Result<NamedHost<'_>, Fault>
 }
 
 /// Reads a piece whose colons mark no port.
-fn read_colons(mode: Mode, piece: &[u8]) -> Result<NamedHost<'_>, Fault>
+fn read_colons(syntax: HostSyntax, piece: &[u8]) -> Result<HostPort<'_>, Fault>
     requires no_bracket { begins_with left_bracket piece.now ≡ false }
     requires colons { IsManyColoned piece.now }
-    ensures { ReadsName (strictness mode) piece.now result }
+    ensures { ReadsHostPort (host_syntax syntax) piece.now result }
 {
-    if is_strict(mode) {
+    if is_http_syntax(syntax) {
         return Err(Fault {
             kind: UrlFault::BadCharacter,
             at: 0,
             len: piece.len(),
         });
     }
-    if reads_address(mode, piece) {
+    if reads_address(syntax, piece) {
         return Ok(alone(HostPiece::Address(piece)));
     }
-    match read_text(mode, piece) {
+    match read_text(syntax, piece) {
         Some(host) => Ok(alone(host)),
         None => Err(Fault {
             kind: UrlFault::BadCharacter,
@@ -248,31 +252,31 @@ fn read_colons(mode: Mode, piece: &[u8]) -> Result<NamedHost<'_>, Fault>
 }
 
 /// A host with nothing behind it.
-fn alone(piece: HostPiece<'_>) -> NamedHost<'_>
+fn alone(piece: HostPiece<'_>) -> HostPort<'_>
     ensures host { named_text result ≡ meant_host piece.entry }
     ensures port { result.port ≡ None }
 {
-    NamedHost {
+    HostPort {
         piece,
         keeps_colon: false,
         port: None,
     }
 }
 
-/// Whether the mode is that of HTTP.
-fn is_strict(mode: Mode) -> bool
-    ensures { IsTrue result ↔ (strictness mode ≡ spec.Mode.strict) }
+/// Whether the syntax is that of HTTP.
+fn is_http_syntax(syntax: HostSyntax) -> bool
+    ensures { IsTrue result ↔ (host_syntax syntax ≡ spec.HostSyntax.http_hosts) }
 {
-    matches!(mode, Mode::Strict)
+    matches!(syntax, HostSyntax::Http)
 }
 
 /// Whether the piece is an address that needs no brackets.
-fn reads_address(mode: Mode, piece: &[u8]) -> bool
-    ensures { IsTrue result ↔ ReadsAddress (strictness mode) piece.now }
+fn reads_address(syntax: HostSyntax, piece: &[u8]) -> bool
+    ensures { IsTrue result ↔ ReadsAddress (host_syntax syntax) piece.now }
 {
-    match mode {
-        Mode::Bare => is_address_piece(piece),
-        Mode::Strict | Mode::Loose => false,
+    match syntax {
+        HostSyntax::Git => is_address_piece(piece),
+        HostSyntax::Http | HostSyntax::Other => false,
     }
 }
 
@@ -290,19 +294,19 @@ fn is_address_piece(piece: &[u8]) -> bool
 }
 
 /// The host that a text outside brackets stands for.
-fn read_text(mode: Mode, text: &[u8]) -> Option<HostPiece<'_>>
-    ensures { MatchOption result (IsNoHost (strictness mode) text.now)
-        (λ piece. HostText (strictness mode) text.now (meant_host piece)) }
+fn read_text(syntax: HostSyntax, text: &[u8]) -> Option<HostPiece<'_>>
+    ensures { MatchOption result (IsNoHost (host_syntax syntax) text.now)
+        (λ piece. HostText (host_syntax syntax) text.now (meant_host piece)) }
 {
-    match mode {
-        Mode::Strict => {
+    match syntax {
+        HostSyntax::Http => {
             if are_http_host_bytes(text) {
                 Some(HostPiece::Kept(text))
             } else {
                 None
             }
         }
-        Mode::Bare | Mode::Loose => {
+        HostSyntax::Git | HostSyntax::Other => {
             if decodes_to_utf8(text) {
                 Some(HostPiece::Decoded(text))
             } else {
@@ -313,35 +317,35 @@ fn read_text(mode: Mode, text: &[u8]) -> Option<HostPiece<'_>>
 }
 
 /// The host that a text between brackets stands for.
-fn read_inner(mode: Mode, text: &[u8]) -> Option<HostPiece<'_>>
-    ensures { MatchOption result (IsNoInner (strictness mode) text.now)
-        (λ piece. IsInner (strictness mode) text.now (meant_host piece)) }
+fn read_inner(syntax: HostSyntax, text: &[u8]) -> Option<HostPiece<'_>>
+    ensures { MatchOption result (IsNoInner (host_syntax syntax) text.now)
+        (λ piece. IsInner (host_syntax syntax) text.now (meant_host piece)) }
 {
     if is_literal(text) {
-        return Some(literal(mode, text));
+        return Some(literal(syntax, text));
     }
-    read_no_literal(mode, text)
+    read_no_literal(syntax, text)
 }
 
 /// The piece of a literal, which is decoded except for HTTP.
-fn literal(mode: Mode, text: &[u8]) -> HostPiece<'_>
-    ensures { meant_host result ≡ in_brackets (shown_literal (strictness mode) text.now) }
+fn literal(syntax: HostSyntax, text: &[u8]) -> HostPiece<'_>
+    ensures { meant_host result ≡ in_brackets (shown_literal (host_syntax syntax) text.now) }
 {
-    match mode {
-        Mode::Strict => HostPiece::Literal(text),
-        Mode::Bare | Mode::Loose => HostPiece::DecodedLiteral(text),
+    match syntax {
+        HostSyntax::Http => HostPiece::Literal(text),
+        HostSyntax::Git | HostSyntax::Other => HostPiece::DecodedLiteral(text),
     }
 }
 
 /// The host that a text between brackets stands for that is no literal.
-fn read_no_literal(mode: Mode, text: &[u8]) -> Option<HostPiece<'_>>
+fn read_no_literal(syntax: HostSyntax, text: &[u8]) -> Option<HostPiece<'_>>
     requires { ¬ IsLiteral text.now }
-    ensures { MatchOption result (IsNoInner (strictness mode) text.now)
-        (λ piece. IsInner (strictness mode) text.now (meant_host piece)) }
+    ensures { MatchOption result (IsNoInner (host_syntax syntax) text.now)
+        (λ piece. IsInner (host_syntax syntax) text.now (meant_host piece)) }
 {
-    match mode {
-        Mode::Strict => None,
-        Mode::Bare | Mode::Loose => {
+    match syntax {
+        HostSyntax::Http => None,
+        HostSyntax::Git | HostSyntax::Other => {
             if decodes_to_utf8(text) {
                 Some(HostPiece::Bracketed(text))
             } else {

@@ -10,7 +10,7 @@ ghost use Rattle.std.specs.List.{count_by};
 ghost use Rattle.std.specs.Char.{is_ascii_whitespace};
 ghost use Rattle.git_syntax.specs.Authority.{Fits};
 ghost use Rattle.git_syntax.specs.Schemes.{is_web_scheme};
-ghost use Rattle.git_syntax.specs.Internal.Walks.{is_skipped, is_in_time, is_text_in_time, text_walk_for};
+ghost use Rattle.git_syntax.specs.Internal.LengthChecks.{is_skipped, is_in_time, is_text_in_time, length_check_for};
 
 use crate::bytes::cut_before_path;
 use crate::scheme::is_web_scheme;
@@ -31,13 +31,13 @@ enum Stage {
 
 impl Stage {
     /// The stage behind these bytes.
-    fn past(self, web: bool, bytes: &[u8]) -> Stage
+    fn advance(self, web: bool, bytes: &[u8]) -> Stage
         ensures { (behind : List ℕ)
             → is_in_time web result behind ≡ is_in_time web self (bytes.now ++ behind) }
     {
         match self {
-            Stage::Slashes => past_slashes(web, bytes),
-            Stage::Front(within) => past_front(web, within, bytes),
+            Stage::Slashes => advance_slashes(web, bytes),
+            Stage::Front(within) => advance_front(web, within, bytes),
             Stage::Fixed(in_time) => Stage::Fixed(in_time),
         }
     }
@@ -51,14 +51,14 @@ impl Stage {
 }
 
 /// The stage behind these bytes, before which only such are as are skipped.
-fn past_slashes(web: bool, bytes: &[u8]) -> Stage
+fn advance_slashes(web: bool, bytes: &[u8]) -> Stage
     ensures { (behind : List ℕ)
         → is_in_time web result behind ≡ is_in_time web Stage.Slashes (bytes.now ++ behind) }
 {
     let mut rest = bytes;
     while let [first, behind @ ..] = rest {
         if !is_skipped(*first) {
-            return past_front(web, LIMIT + 1, rest);
+            return advance_front(web, LIMIT + 1, rest);
         }
         rest = behind;
     }
@@ -66,7 +66,7 @@ fn past_slashes(web: bool, bytes: &[u8]) -> Stage
 }
 
 /// The stage behind these bytes of the front. They are looked at in windows, as few as fix the outcome.
-fn past_front(web: bool, within: usize, bytes: &[u8]) -> Stage
+fn advance_front(web: bool, within: usize, bytes: &[u8]) -> Stage
     ensures { (behind : List ℕ)
         → is_in_time web result behind ≡ is_in_time web (Stage.Front within) (bytes.now ++ behind) }
 {
@@ -75,7 +75,7 @@ fn past_front(web: bool, within: usize, bytes: &[u8]) -> Stage
     while !rest.is_empty() {
         let (window, behind) = rest.split_at(rest.len().min(LIMIT + 1));
         let (front, path) = cut_before_path(window, web);
-        left = left.saturating_sub(counted(front));
+        left = left.saturating_sub(count_visible(front));
         if left == 0 {
             return Stage::Fixed(false);
         }
@@ -88,7 +88,7 @@ fn past_front(web: bool, within: usize, bytes: &[u8]) -> Stage
 }
 
 /// How many bytes count: those that are no white space.
-fn counted(bytes: &[u8]) -> usize
+fn count_visible(bytes: &[u8]) -> usize
     ensures { result ≡ count_by (λ b. not (is_ascii_whitespace b)) bytes.now }
 {
     bytes
@@ -106,18 +106,18 @@ fn is_skipped(byte: u8) -> bool
 
 /// A walk over the whole text of a URL, which leaves out the scheme and the `://` behind it.
 #[derive(Clone, Copy)]
-pub struct TextWalk {
+pub struct LengthCheck {
     left: usize,
     web: bool,
     stage: Stage,
 }
 
-impl TextWalk {
+impl LengthCheck {
     /// A walk over the text of a URL with this scheme, before its first byte.
-    pub fn over(scheme: &[u8]) -> TextWalk
-        ensures { result ≡ text_walk_for scheme.now }
+    pub fn over(scheme: &[u8]) -> LengthCheck
+        ensures { result ≡ length_check_for scheme.now }
     {
-        TextWalk {
+        LengthCheck {
             left: scheme.len() + 3,
             web: is_web_scheme(scheme),
             stage: Stage::Slashes,
@@ -125,21 +125,21 @@ impl TextWalk {
     }
 
     /// The walk past these bytes.
-    pub fn past(self, bytes: &[u8]) -> TextWalk
+    pub fn advance(self, bytes: &[u8]) -> LengthCheck
         ensures { (behind : List ℕ)
             → is_text_in_time result behind ≡ is_text_in_time self (bytes.now ++ behind) }
     {
         if bytes.len() <= self.left {
-            return TextWalk {
+            return LengthCheck {
                 left: self.left - bytes.len(),
                 web: self.web,
                 stage: self.stage,
             };
         }
-        TextWalk {
+        LengthCheck {
             left: 0,
             web: self.web,
-            stage: self.stage.past(self.web, bytes.split_at(self.left).1),
+            stage: self.stage.advance(self.web, bytes.split_at(self.left).1),
         }
     }
 
@@ -160,5 +160,5 @@ pub fn fits(web: bool, scheme: &[u8], rest: &[u8]) -> bool
         return false;
     }
     // What counts is never longer than the whole, so a short rest needs no walk.
-    rest.len() <= LIMIT || past_slashes(web, rest).is_in_time(web)
+    rest.len() <= LIMIT || advance_slashes(web, rest).is_in_time(web)
 }

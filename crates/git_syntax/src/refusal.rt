@@ -1,7 +1,7 @@
 //! Refusals: why a text spells no location, the form that it was taken for, and what is wrong with it.
 //!
-//! What these report of a text are numbers, names and a slice of it, so making one takes no memory. `words` says them to
-//! people, and `debug` to logs.
+//! What these report of a text are numbers, names and a slice of it, so making one takes no memory. `error_text` says
+//! them to people, and `debug` to logs.
 
 use thiserror::Error;
 

@@ -1,23 +1,23 @@
 //! What the scheme of a URL says of the rest of it. It is decided once, and passed on.
 //!
-//! It may use `scheme` and the modes of `host`, and asks for no memory. Its contract: each rule is the definition's,
+//! It may use `scheme` and the syntaxes of `host`, and asks for no memory. Its contract: each rule is the definition's,
 //! for the text of the scheme.
 
 ghost use Rattle.std.specs.Prelude.{◌≡◌, false, true};
-ghost use Rattle.git_syntax.specs.Internal.HostPieces.{strictness};
-ghost use Rattle.git_syntax.specs.Internal.SchemeRules.{named_protocol};
-ghost use Rattle.git_syntax.specs.Schemes.{is_web_scheme, mode_of, protocol_of, requires_host, requires_path};
+ghost use Rattle.git_syntax.specs.Internal.HostPieces.{host_syntax};
+ghost use Rattle.git_syntax.specs.Internal.SchemeRules.{scheme_named};
+ghost use Rattle.git_syntax.specs.Schemes.{is_web_scheme, host_syntax_of, scheme_of, requires_host, requires_path};
 
-use crate::host::Mode;
-use crate::scheme::{Protocol, is_ftp, is_named, protocol_of};
+use crate::host::HostSyntax;
+use crate::scheme::{KnownScheme, is_ftp, is_named, scheme_of};
 
 /// What the scheme of a URL says of the rest of it.
 #[derive(Clone, Copy)]
 pub struct Rules {
     /// The protocol that it names.
-    pub protocol: Protocol,
-    /// How strictly its host is read.
-    pub(crate) mode: Mode,
+    pub known: KnownScheme,
+    /// The syntax of its host.
+    pub(crate) syntax: HostSyntax,
     /// Whether it needs a host.
     pub(crate) needs_host: bool,
     /// Whether it is HTTP's: a path may begin with `?` and `#` too, and an empty one is the root.
@@ -28,37 +28,37 @@ pub struct Rules {
 
 /// The rules of the scheme with this text.
 pub(crate) fn rules_of(scheme: &[u8]) -> Rules
-    ensures protocol { named_protocol result.protocol scheme.now ≡ protocol_of scheme.now }
-    ensures mode { strictness result.mode ≡ mode_of scheme.now }
+    ensures known { scheme_named result.known scheme.now ≡ scheme_of scheme.now }
+    ensures syntax { host_syntax result.syntax ≡ host_syntax_of scheme.now }
     ensures host { result.needs_host ≡ requires_host scheme.now }
     ensures web { result.web ≡ is_web_scheme scheme.now }
-    ensures path { result.needs_path ≡ requires_path (protocol_of scheme.now) }
+    ensures path { result.needs_path ≡ requires_path (scheme_of scheme.now) }
 {
-    let protocol = protocol_of(scheme);
-    match protocol {
-        Protocol::Http => web(protocol),
-        Protocol::Https => web(protocol),
-        Protocol::Git => transport(protocol, true),
-        Protocol::Ssh => transport(protocol, is_named(scheme, "ssh")),
-        Protocol::File => plain(protocol, false),
-        Protocol::Ext => plain(protocol, false),
-        Protocol::Other => plain(protocol, is_ftp(scheme)),
+    let known = scheme_of(scheme);
+    match known {
+        KnownScheme::Http => web(known),
+        KnownScheme::Https => web(known),
+        KnownScheme::Git => transport(known, true),
+        KnownScheme::Ssh => transport(known, is_named(scheme, "ssh")),
+        KnownScheme::File => plain(known, false),
+        KnownScheme::Ext => plain(known, false),
+        KnownScheme::Other => plain(known, is_ftp(scheme)),
     }
 }
 
 /// The rules of HTTP.
-fn web(protocol: Protocol) -> Rules
+fn web(known: KnownScheme) -> Rules
     ensures { result ≡ record {
-      protocol = protocol;
-      mode = Mode.Strict;
+      known = known;
+      syntax = HostSyntax.Http;
       needs_host = true;
       web = true;
       needs_path = false;
     } }
 {
     Rules {
-        protocol,
-        mode: Mode::Strict,
+        known,
+        syntax: HostSyntax::Http,
         needs_host: true,
         web: true,
         needs_path: false,
@@ -66,37 +66,37 @@ fn web(protocol: Protocol) -> Rules
 }
 
 /// The rules of Git's own transports.
-fn transport(protocol: Protocol, needs_host: bool) -> Rules
+fn transport(known: KnownScheme, needs_host: bool) -> Rules
     ensures { result ≡ record {
-      protocol = protocol;
-      mode = Mode.Bare;
+      known = known;
+      syntax = HostSyntax.Git;
       needs_host = needs_host;
       web = false;
       needs_path = true;
     } }
 {
     Rules {
-        protocol,
-        mode: Mode::Bare,
+        known,
+        syntax: HostSyntax::Git,
         needs_host,
         web: false,
         needs_path: true,
     }
 }
 
-/// The rules of any other protocol.
-fn plain(protocol: Protocol, needs_host: bool) -> Rules
+/// The rules of any other scheme.
+fn plain(known: KnownScheme, needs_host: bool) -> Rules
     ensures { result ≡ record {
-      protocol = protocol;
-      mode = Mode.Loose;
+      known = known;
+      syntax = HostSyntax.Other;
       needs_host = needs_host;
       web = false;
       needs_path = false;
     } }
 {
     Rules {
-        protocol,
-        mode: Mode::Loose,
+        known,
+        syntax: HostSyntax::Other,
         needs_host,
         web: false,
         needs_path: false,

@@ -1,13 +1,13 @@
-//! Schemes: the protocols that have a name of their own, and the others by name.
+//! Schemes: those that have a name of their own, and the others by name.
 //!
 //! It uses nothing of this crate but its errors. Its contract: names and default ports are those of the definitions, and a
-//! scheme's text stands for its protocol to the letter.
+//! scheme's text names it to the letter.
 
 ghost use Rattle.std.specs.Prelude.{◌≡◌, bytes_eq};
-ghost use Rattle.git_syntax.specs.Internal.SchemeRules.{named_protocol};
-ghost use Rattle.git_syntax.specs.Schemes.{protocol_of, protocol_text, default_port_of, is_known_scheme, is_ssh_scheme, is_web_scheme};
+ghost use Rattle.git_syntax.specs.Internal.SchemeRules.{scheme_named};
+ghost use Rattle.git_syntax.specs.Schemes.{scheme_of, scheme_text, default_port_of, is_known_scheme, is_ssh_scheme, is_web_scheme};
 ghost use Rattle.git_syntax.specs.Schemes.{is_ftp};
-ghost use Rattle.git_syntax.specs.Views.{lent_protocol};
+ghost use Rattle.git_syntax.specs.Views.{lent_scheme};
 
 /// What a borrowed location is reached by: a [`Scheme`] whose name is a slice. Copies take no memory.
 ///
@@ -37,18 +37,18 @@ pub enum SchemeRef<'a> {
 }
 
 impl<'a> SchemeRef<'a> {
-    /// The scheme with this text, which names this protocol.
-    pub fn of_protocol(named: Protocol, text: &'a str) -> SchemeRef<'a>
-        ensures { lent_protocol result ≡ named_protocol named text.now }
+    /// The scheme with this text, which names this known one.
+    pub fn of_known_scheme(named: KnownScheme, text: &'a str) -> SchemeRef<'a>
+        ensures { lent_scheme result ≡ scheme_named named text.now }
     {
         match named {
-            Protocol::File => SchemeRef::File,
-            Protocol::Git => SchemeRef::Git,
-            Protocol::Ssh => SchemeRef::Ssh,
-            Protocol::Http => SchemeRef::Http,
-            Protocol::Https => SchemeRef::Https,
-            Protocol::Ext => SchemeRef::Ext,
-            Protocol::Other => SchemeRef::HelperUrl(text),
+            KnownScheme::File => SchemeRef::File,
+            KnownScheme::Git => SchemeRef::Git,
+            KnownScheme::Ssh => SchemeRef::Ssh,
+            KnownScheme::Http => SchemeRef::Http,
+            KnownScheme::Https => SchemeRef::Https,
+            KnownScheme::Ext => SchemeRef::Ext,
+            KnownScheme::Other => SchemeRef::HelperUrl(text),
         }
     }
 
@@ -56,12 +56,12 @@ impl<'a> SchemeRef<'a> {
     ///
     /// ```
     /// /// The protocol of a location, for as long as what lends it.
-    /// fn protocol_of<'a>(url: &UrlRef<'a>) -> &'a str {
+    /// fn scheme_of<'a>(url: &UrlRef<'a>) -> &'a str {
     ///     url.scheme.as_str() // `ssh` of `git@host:repo`
     /// }
     /// ```
     pub fn as_str(self) -> &'a str
-        ensures { result.now ≡ protocol_text (lent_protocol self.entry) }
+        ensures { result.now ≡ scheme_text (lent_scheme self.entry) }
     {
         match self {
             SchemeRef::File => "file",
@@ -85,7 +85,7 @@ impl<'a> SchemeRef<'a> {
     /// ```
     #[inline(always)]
     pub fn default_port(self) -> Option<u16>
-        ensures { result ≡ default_port_of (lent_protocol self.entry) }
+        ensures { result ≡ default_port_of (lent_scheme self.entry) }
     {
         match self {
             SchemeRef::Http => Some(80),
@@ -98,9 +98,9 @@ impl<'a> SchemeRef<'a> {
     }
 }
 
-/// The protocol that the text of a scheme names, to the letter.
+/// The scheme that a text names, to the letter.
 #[derive(Clone, Copy)]
-pub enum Protocol {
+pub enum KnownScheme {
     /// The local file system.
     File,
     /// Git's own protocol.
@@ -117,29 +117,29 @@ pub enum Protocol {
     Other,
 }
 
-/// The protocol that the text of a scheme names.
-pub fn protocol_of(text: &[u8]) -> Protocol
-    ensures { named_protocol result text.now ≡ protocol_of text.now }
+/// The scheme that a text names.
+pub fn scheme_of(text: &[u8]) -> KnownScheme
+    ensures { scheme_named result text.now ≡ scheme_of text.now }
 {
     if is_ssh_scheme(text) {
-        return Protocol::Ssh;
+        return KnownScheme::Ssh;
     }
     if is_named(text, "file") {
-        return Protocol::File;
+        return KnownScheme::File;
     }
     if is_named(text, "git") {
-        return Protocol::Git;
+        return KnownScheme::Git;
     }
     if is_named(text, "http") {
-        return Protocol::Http;
+        return KnownScheme::Http;
     }
     if is_named(text, "https") {
-        return Protocol::Https;
+        return KnownScheme::Https;
     }
     if is_named(text, "ext") {
-        return Protocol::Ext;
+        return KnownScheme::Ext;
     }
-    Protocol::Other
+    KnownScheme::Other
 }
 
 /// Whether the text is a scheme that has a name of its own.

@@ -10,9 +10,9 @@ ghost use Rattle.git_syntax.specs.Bytes.{FreeOf, LacksWhiteSpace, at_sign, begin
 ghost use Rattle.git_syntax.specs.Escapes as spec;
 ghost use Rattle.git_syntax.specs.Flaws.{MissesPath, NamesFlaw};
 ghost use Rattle.git_syntax.specs.Internal.FoundPieces.{IsReady, meant, room_for, scp_slice};
-ghost use Rattle.git_syntax.specs.Grammar.{AddressedShape, IsScpShaped, SpellsScpAddressed, SpellsScpBefore};
+ghost use Rattle.git_syntax.specs.Grammar.{AddressedForm, HasScpForm, SpellsScpAddressed, SpellsScpBefore};
 ghost use Rattle.git_syntax.specs.Hosts.{IsLiteral};
-ghost use Rattle.git_syntax.specs.Internal.Shapes.{PlainScp};
+ghost use Rattle.git_syntax.specs.Internal.Forms.{PlainScp};
 ghost use Rattle.git_syntax.specs.Internal.ScpPieces.{ColonsInside, CutsUser, ReadsScpHost, ReadsScpPiece};
 
 use crate::bytes::{after, cut, is_free_of, last_cut};
@@ -59,7 +59,7 @@ pub(crate) fn find_scp<'a>(
 /// The refusal of a text in the scp form that is not UTF-8.
 fn no_text(input: &[u8]) -> Refusal<'_>
     requires text { ¬ IsUtf8 input.now }
-    requires shape { IsScpShaped input.now }
+    requires form { HasScpForm input.now }
     ensures { NamesFlaw input.now result }
 {
     Refusal::NotUtf8 {
@@ -94,7 +94,7 @@ pub(crate) fn find_addressed<'a>(
     address: &'a [u8],
     path: &'a [u8],
 ) -> Result<Found<'a>, Refusal<'a>>
-    requires { AddressedShape input.now user.now address.now path.now }
+    requires { AddressedForm input.now user.now address.now path.now }
     ensures found { IfOk result (λ found. SpellsScpAddressed input.now (meant found)) }
     ensures ready { IfOk result (λ found. IsReady found) }
     ensures room { IfOk result (λ found. room_for found ≤ length input.now) }

@@ -1,18 +1,18 @@
 //! URLs, from the pieces that the classifier cut: file URLs, and those whose scheme gives them a meaning.
 //!
-//! It may use `bytes`, `rules`, `length`, `look`, `text`, `simple_url`, `found` and the errors. Its contract: the slices of a
-//! location are found exactly where the definitions spell one, and each refusal has its flaw. It takes no memory. The
-//! scheme is looked at once, here, and what it says of the rest is passed on.
+//! It may use `bytes`, `rules`, `length`, `look`, `text`, `url_syntax`, `found` and the errors. Its contract: the
+//! slices of a location are found exactly where the definitions spell one, and each refusal has its flaw. It takes no
+//! memory. The scheme is looked at once, here, and what it says of the rest is passed on.
 
 ghost use Rattle.std.specs.Prelude.{◌≡◌, ◌+◌, ◌<◌, ◌≤◌, ◌↔◌, IfErr, IfOk, IsTrue, codes, length, take};
 ghost use Rattle.git_syntax.specs.Authority.{Fits};
 ghost use Rattle.git_syntax.specs.Escapes.{has_percent};
-ghost use Rattle.git_syntax.specs.Flaws.{NamesFlaw, OtherShape, UrlShape};
+ghost use Rattle.git_syntax.specs.Flaws.{NamesFlaw, OtherUrlForm, UrlForm};
 ghost use Rattle.git_syntax.specs.Internal.FoundPieces.{IsReady, meant, room_for};
-ghost use Rattle.git_syntax.specs.Grammar.{Spells, SpellsFile, SpellsParts, SpellsUrl};
+ghost use Rattle.git_syntax.specs.Grammar.{Spells, SpellsFile, HasUrlSyntax, SpellsUrl};
 ghost use Rattle.git_syntax.specs.Internal.Looks.{Looks};
 ghost use Rattle.git_syntax.specs.Internal.SchemeRules.{AreRulesOf};
-ghost use Rattle.git_syntax.specs.Internal.UrlPieces.{parts_of};
+ghost use Rattle.git_syntax.specs.Internal.UrlPieces.{syntax_of};
 
 use crate::bytes::cut;
 use crate::found::Found;
@@ -21,9 +21,9 @@ use crate::look::{Look, look_at};
 use crate::places::not_utf8;
 use crate::refusal::{Refusal, UrlKind};
 use crate::rules::{Rules, rules_of};
-use crate::scheme::Protocol;
-use crate::simple_url::{ParsedUrl, read_simple_url};
+use crate::scheme::KnownScheme;
 use crate::text::{as_text, is_text};
+use crate::url_syntax::{ParsedUrl, read_url_syntax};
 
 /// Finds what a URL is made of.
 pub(crate) fn find_url<'a>(
@@ -31,37 +31,37 @@ pub(crate) fn find_url<'a>(
     scheme: &'a [u8],
     rest: &'a [u8],
 ) -> Result<Found<'a>, Refusal<'a>>
-    requires { UrlShape input.now scheme.now rest.now }
+    requires { UrlForm input.now scheme.now rest.now }
     ensures found { IfOk result (λ found. Spells input.now (meant found)) }
     ensures ready { IfOk result (λ found. IsReady found) }
     ensures room { IfOk result (λ found. room_for found ≤ length input.now) }
     ensures flaw { IfErr result (λ refusal. NamesFlaw input.now refusal) }
 {
     let rules = rules_of(scheme);
-    if is_file(rules.protocol) {
+    if is_file(rules.known) {
         find_file(input, rest)
     } else {
         find_other(input, rules, scheme, rest)
     }
 }
 
-/// Whether the protocol is that of file URLs.
-fn is_file(protocol: Protocol) -> bool
-    ensures { IsTrue result ↔ (protocol ≡ Protocol.File) }
+/// Whether the scheme is that of file URLs.
+fn is_file(known: KnownScheme) -> bool
+    ensures { IsTrue result ↔ (known ≡ KnownScheme.File) }
 {
-    matches!(protocol, Protocol::File)
+    matches!(known, KnownScheme::File)
 }
 
-/// Whether the protocol is that of the helper `ext`.
-fn is_ext(protocol: Protocol) -> bool
-    ensures { IsTrue result ↔ (protocol ≡ Protocol.Ext) }
+/// Whether the scheme is that of the helper `ext`.
+fn is_ext(known: KnownScheme) -> bool
+    ensures { IsTrue result ↔ (known ≡ KnownScheme.Ext) }
 {
-    matches!(protocol, Protocol::Ext)
+    matches!(known, KnownScheme::Ext)
 }
 
 /// Finds what a file URL is made of: the host ends at the first `/`, where the path begins.
 fn find_file<'a>(input: &'a [u8], rest: &'a [u8]) -> Result<Found<'a>, Refusal<'a>>
-    requires { UrlShape input.now (codes "file") rest.now }
+    requires { UrlForm input.now (codes "file") rest.now }
     ensures found { IfOk result (λ found. SpellsFile input.now (meant found)) }
     ensures ready { IfOk result (λ found. IsReady found) }
     ensures room { IfOk result (λ found. room_for found ≤ length input.now) }
@@ -92,7 +92,7 @@ fn find_other<'a>(
     scheme: &'a [u8],
     rest: &'a [u8],
 ) -> Result<Found<'a>, Refusal<'a>>
-    requires shape { OtherShape input.now scheme.now rest.now }
+    requires form { OtherUrlForm input.now scheme.now rest.now }
     requires rules { AreRulesOf scheme.now rules }
     ensures found { IfOk result (λ found. SpellsUrl input.now (meant found)) }
     ensures ready { IfOk result (λ found. IsReady found) }
@@ -116,7 +116,7 @@ fn find_in_text<'a>(
     scheme: &'a [u8],
     rest: &'a [u8],
 ) -> Result<Found<'a>, Refusal<'a>>
-    requires shape { OtherShape input.now scheme.now rest.now }
+    requires form { OtherUrlForm input.now scheme.now rest.now }
     requires rules { AreRulesOf scheme.now rules }
     requires fits { Fits scheme.now rest.now }
     ensures found { IfOk result (λ found. SpellsUrl input.now (meant found)) }
@@ -135,7 +135,7 @@ fn find_in_text<'a>(
 
 /// The refusal of a URL of which the scheme is too long, or what follows its `://`.
 fn too_long<'a>(input: &'a [u8], scheme: &[u8], rest: &[u8]) -> Refusal<'a>
-    requires shape { OtherShape input.now scheme.now rest.now }
+    requires form { OtherUrlForm input.now scheme.now rest.now }
     requires unfit { ¬ Fits scheme.now rest.now }
     ensures { NamesFlaw input.now result }
 {
@@ -177,7 +177,7 @@ fn find_parts<'a>(
     rest: &'a [u8],
 ) -> Result<Found<'a>, Refusal<'a>>
     requires look { Looks look text.now }
-    requires shape { OtherShape text.now scheme.now rest.now }
+    requires form { OtherUrlForm text.now scheme.now rest.now }
     requires rules { AreRulesOf scheme.now rules }
     requires fits { Fits scheme.now rest.now }
     ensures found { IfOk result (λ found. SpellsUrl text.now (meant found)) }
@@ -185,8 +185,8 @@ fn find_parts<'a>(
     ensures room { IfOk result (λ found. room_for found ≤ length text.now) }
     ensures flaw { IfErr result (λ refusal. NamesFlaw text.now refusal) }
 {
-    match read_simple_url(text, look, rules, scheme, rest) {
-        Ok(url) => located(text.as_bytes(), rules, url),
+    match read_url_syntax(text, look, rules, scheme, rest) {
+        Ok(url) => found_of_url(text.as_bytes(), rules, url),
         Err(fault) => Err(Refusal::BadUrl {
             kind: UrlKind::Url,
             fault: fault.kind,
@@ -197,8 +197,12 @@ fn find_parts<'a>(
 }
 
 /// What a URL is made of whose parts were read. That of the helper `ext` has the whole text for its path.
-fn located<'a>(input: &'a [u8], rules: Rules, url: ParsedUrl<'a>) -> Result<Found<'a>, Refusal<'a>>
-    requires spelled { SpellsParts input.now (parts_of url) }
+fn found_of_url<'a>(
+    input: &'a [u8],
+    rules: Rules,
+    url: ParsedUrl<'a>,
+) -> Result<Found<'a>, Refusal<'a>>
+    requires spelled { HasUrlSyntax input.now (syntax_of url) }
     requires rules { AreRulesOf url.scheme.now rules }
     requires escaped { url.escaped ≡ has_percent url.path.now }
     ensures found { IfOk result (λ found. SpellsUrl input.now (meant found)) }
@@ -206,7 +210,7 @@ fn located<'a>(input: &'a [u8], rules: Rules, url: ParsedUrl<'a>) -> Result<Foun
     ensures room { IfOk result (λ found. room_for found ≤ length input.now) }
     ensures flaw { IfErr result (λ refusal. NamesFlaw input.now refusal) }
 {
-    if is_ext(rules.protocol) {
+    if is_ext(rules.known) {
         return Ok(Found::Ext { text: input });
     }
     if rules.needs_path && url.path.is_empty() {

@@ -1,7 +1,7 @@
 -- Lemmas by topic, lowest first.
 pub mod Unique
-pub mod Written
-pub mod Values
-pub mod Parted
+pub mod Writing
+pub mod Equality
+pub mod ComponentCuts
 pub mod Homes
 pub mod Examples

@@ -6,7 +6,7 @@ use Rattle.gix_url.specs.declared.components.PathComponents.{PathComponents}
 use Rattle.gix_url.specs.declared.components.QueryText.{QueryText}
 use Rattle.gix_url.specs.declared.components.QueryText.TheVariants.{Borrowed, Owned}
 use Rattle.git_syntax.specs.Bytes.{plus_sign, FreeOf, Holds}
-use Rattle.git_syntax.specs.Value.{Location}
+use Rattle.git_syntax.specs.Location.{Location}
 use Rattle.git_laws.specs.Components.{Components, CutsPath, CutsFields, SplitsField}
 use Rattle.git_location.specs.Text.{original_path}
 

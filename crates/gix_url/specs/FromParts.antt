@@ -5,15 +5,15 @@ use Rattle.bstr.specs.Owned.{bstring_bytes}
 use Rattle.gix_url.specs.declared.error.Error.{Error}
 use Rattle.gix_url.specs.declared.error.Error.TheVariants as error
 use Rattle.git_location.specs.declared.write_error.WriteFault.{WriteFault}
-use Rattle.git_syntax.specs.Value.{Protocol, Location}
-use Rattle.git_syntax.specs.Value.Protocol.{http, https, helper}
+use Rattle.git_syntax.specs.Location.{Scheme, Location}
+use Rattle.git_syntax.specs.Location.Scheme.{http, https, helper}
 use Rattle.git_syntax.specs.Bytes.{is_helper_name}
 use Rattle.git_location.specs.Text.{text}
 use Rattle.git_location.specs.Settled.{IsSettled}
 use Rattle.gix_url.specs.Readings.{Reads}
 
 -- the location with these parts, and no spelling
-abbrev pub of_parts : Protocol → Option (List ℕ) → Option (List ℕ) → Option (List ℕ) → Option ℕ
+abbrev pub of_parts : Scheme → Option (List ℕ) → Option (List ℕ) → Option (List ℕ) → Option ℕ
     → List ℕ → Bool → Location
 of_parts named user password host port path flag = record {
   scheme = named;
@@ -27,13 +27,13 @@ of_parts named user password host port path flag = record {
 }
 
 -- the name of a remote helper, if no helper can have it
-abbrev pub invalid_name : Protocol → Option (List ℕ)
+abbrev pub invalid_name : Scheme → Option (List ℕ)
 invalid_name (helper name) = if is_helper_name name then None else Some name
 invalid_name _ = None
 
 -- the error holds the name
-abbrev pub TellsName : List ℕ → Error → Type 0
-TellsName name e = (told : BString) × (e ≡ error.HelperName told) × (bstring_bytes told ≡ name)
+abbrev pub ReportsName : List ℕ → Error → Type 0
+ReportsName name e = (reported : BString) × (e ≡ error.HelperName reported) × (bstring_bytes reported ≡ name)
 
 -- the path that was given, or the other where it is empty
 abbrev pub given_or : List ℕ → List ℕ → List ℕ
@@ -44,8 +44,8 @@ given_or (b ∷ bs) other = b ∷ bs
 abbrev pub with_given : List ℕ → Location → Location
 with_given path read = record read { path = given_or path read.path; spelling = None }
 
--- what was read of the text of parts with this protocol and this path: HTTP keeps the path
-abbrev pub keeping : Protocol → List ℕ → Location → Location
+-- what was read of the text of parts with this scheme and this path: HTTP keeps the path
+abbrev pub keeping : Scheme → List ℕ → Location → Location
 keeping http path read = with_given path read
 keeping https path read = with_given path read
 keeping _ path read = read
@@ -65,7 +65,7 @@ GivesBack given (Err e) = e ≡ error.Memory
 pub record MadeOf (given : Location) (result : Result Location Error) : Type 0 where
   -- a name that no remote helper can have is refused, and told
   pub helper_name : (name : List ℕ) → invalid_name given.scheme ≡ Some name
-      → (e : Error) × (result ≡ Err e) × TellsName name e
+      → (e : Error) × (result ≡ Err e) × ReportsName name e
   -- else a fault of their text
   pub fault : invalid_name given.scheme ≡ None → (f : WriteFault) → text given ≡ Err f
       → result ≡ Err (error.Unwritable f)

@@ -7,8 +7,8 @@ use Rattle.gix_url.specs.declared.home_user.ForUser.{ForUser}
 use Rattle.gix_url.specs.declared.home_user.ForUser.TheVariants.{Current, Name}
 use Rattle.gix_url.specs.declared.error.Error.{Error}
 use Rattle.gix_url.specs.declared.error.Error.TheVariants as error
-use Rattle.git_syntax.specs.Value.{Location}
-use Rattle.git_syntax.specs.Value.Protocol.{file}
+use Rattle.git_syntax.specs.Location.{Location}
+use Rattle.git_syntax.specs.Location.Scheme.{file}
 use Rattle.git_syntax.specs.Bytes.{slash, tilde, FreeOf}
 use Rattle.git_syntax.specs.Grammar.{begins_at_home}
 use Rattle.gix_url.specs.Paths.{EndsInPiece, IsIdle, LiesBelow}

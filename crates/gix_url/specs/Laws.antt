@@ -4,10 +4,10 @@ use Rattle.gix_url.specs.declared.error.Error.{Error}
 use Rattle.gix_url.specs.declared.error.Error.TheVariants as error
 use Rattle.git_location.specs.declared.parse_error.ParseError.{ParseError}
 use Rattle.git_location.specs.declared.parse_error.ParseError.TheVariants as unread
-use Rattle.git_syntax.specs.Value.{Location}
+use Rattle.git_syntax.specs.Location.{Location}
 use Rattle.gix_url.specs.Readings.{Reads}
 use Rattle.git_location.specs.Readings.{ReadsIn}
-pub use Rattle.git_laws.specs.Laws.{Unique, ComesBack, SettledAgain, ReadAgain, TextDecides, SameComponents, is_closed, IsCorner, Closed, Apart, Exact, keeps_bytes, KeepsBytes, ExactByFields, Unchanged, Writable, SpellsLocalBefore, SpellsBefore, KeepsEarlier, EqualIsSame, TiedIsEqual, FedAlike, LocationsFedApart, ProtocolsFedApart, SpellingLast}
+pub use Rattle.git_laws.specs.Laws.{Unique, ComesBack, SettledAgain, ReadAgain, TextDecides, SameComponents, is_closed, IsException, Closed, Apart, Exact, keeps_bytes, KeepsBytes, ExactByFields, Unchanged, Writable, SpellsLocalBefore, SpellsBefore, KeepsEarlier, EqualIsSame, TiedIsEqual, FedAlike, LocationsFedApart, SchemesFedApart, SpellingLast}
 
 -- what two readers answer to the same bytes, one with memory and one into a room: the same location, or a refusal each;
 -- else memory was refused to the one, or the room of the other is shorter than the bytes

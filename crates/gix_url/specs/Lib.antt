@@ -18,7 +18,7 @@ pub mod Examples
 -- Definitions that serve the proofs of this crate and of those above it alone.
 pub mod Internal
 -- What is in the layers below, under the names by which users of this crate know it.
-pub use Rattle.git_syntax.specs.Value
+pub use Rattle.git_syntax.specs.Location
 pub use Rattle.git_syntax.specs.Bytes
 pub use Rattle.git_syntax.specs.Escapes
 pub use Rattle.git_syntax.specs.Addresses
@@ -31,7 +31,7 @@ pub use Rattle.git_syntax.specs.Places
 pub use Rattle.git_location.specs.Text
 pub use Rattle.git_location.specs.Settled
 pub use Rattle.git_location.specs.Display
-pub use Rattle.git_location.specs.Words
+pub use Rattle.git_location.specs.ErrorText
 pub use Rattle.git_location.specs.Arguments
 pub use Rattle.git_location.specs.WebClass
 pub use Rattle.git_location.specs.UrlRef

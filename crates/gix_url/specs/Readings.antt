@@ -5,7 +5,7 @@ use Rattle.bstr.specs.Owned.{bstring_bytes}
 use Rattle.gix_url.specs.declared.error.Error.{Error}
 use Rattle.gix_url.specs.declared.error.Error.TheVariants as error
 use Rattle.git_location.specs.declared.write_error.WriteFault.{WriteFault}
-use Rattle.git_syntax.specs.Value.{Location}
+use Rattle.git_syntax.specs.Location.{Location}
 use Rattle.git_syntax.specs.Grammar.{Spells}
 use Rattle.gix_url.specs.Flaws.{Flaw}
 pub use Rattle.git_location.specs.Readings.{RefusesIn, ReadsIn, IsAgain, SpellsAgain, Written}

@@ -2,7 +2,7 @@
 use Rattle.std.specs.Prelude.{◌≢◌, ℕ, List}
 use Rattle.gix_url.specs.declared.error.Error.{Error}
 use Rattle.gix_url.specs.declared.error.Error.TheVariants as error
-use Rattle.git_syntax.specs.Value.{Location}
+use Rattle.git_syntax.specs.Location.{Location}
 use Rattle.git_syntax.specs.Grammar.{Spells}
 use Rattle.gix_url.specs.Flaws.{Flaw}
 pub use Rattle.git_syntax.specs.Refusals.{RefusalExclusive, place_end, RefusalWithin, HasFlaw, Flawless, Decided}

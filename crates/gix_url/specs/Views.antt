@@ -1,19 +1,19 @@
 -- What a scheme of the code, and a judgement of an argument, stand for.
 use Rattle.std.specs.Prelude.{string_bytes}
-use Rattle.gix_url.specs.declared.scheme.Scheme.{Scheme}
+use Rattle.gix_url.specs.declared.scheme.Scheme as rust
 use Rattle.gix_url.specs.declared.scheme.Scheme.TheVariants.{File, Git, Ssh, Http, Https, Ext, Helper, HelperUrl}
-use Rattle.git_syntax.specs.Value.{Protocol}
-use Rattle.git_syntax.specs.Value.Protocol.{file, git, ssh, http, https, ext, helper, helper_url}
+use Rattle.git_syntax.specs.Location.{Scheme}
+use Rattle.git_syntax.specs.Location.Scheme.{file, git, ssh, http, https, ext, helper, helper_url}
 pub use Rattle.git_location.specs.Views.{judgement}
-pub use Rattle.git_syntax.specs.Views.{lent_protocol}
+pub use Rattle.git_syntax.specs.Views.{lent_scheme}
 
--- the protocol of a scheme
-abbrev pub protocol : Scheme → Protocol
-protocol File = file
-protocol Git = git
-protocol Ssh = ssh
-protocol Http = http
-protocol Https = https
-protocol Ext = ext
-protocol (Helper name) = helper (string_bytes name)
-protocol (HelperUrl name) = helper_url (string_bytes name)
+-- the scheme that one of the code stands for
+abbrev pub owned_scheme : rust.Scheme → Scheme
+owned_scheme File = file
+owned_scheme Git = git
+owned_scheme Ssh = ssh
+owned_scheme Http = http
+owned_scheme Https = https
+owned_scheme Ext = ext
+owned_scheme (Helper name) = helper (string_bytes name)
+owned_scheme (HelperUrl name) = helper_url (string_bytes name)

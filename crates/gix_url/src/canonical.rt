@@ -8,8 +8,8 @@ ghost use Rattle.std.specs.Prelude.{◌≡◌, ◌⊎◌, Err, IfErr, IfOk, IsUt
 ghost use Rattle.std.specs.Fn.{FnOnceReturnsAt, FnOnceTakesAt};
 ghost use Rattle.std.specs.Bool.{MatchBool};
 ghost use Rattle.gix_url.specs.HomeReadings.{IsUnresolved};
-ghost use Rattle.git_syntax.specs.Value.Protocol.{file};
-ghost use Rattle.gix_url.specs.Views.{protocol};
+ghost use Rattle.git_syntax.specs.Location.Scheme.{file};
+ghost use Rattle.gix_url.specs.Views.{owned_scheme};
 
 use crate::error::Error;
 use crate::location::Url;
@@ -117,7 +117,7 @@ impl Url {
 
 /// Whether the scheme is that of local locations.
 fn is_file(scheme: &Scheme) -> bool
-    ensures { MatchBool result (protocol scheme.now ≡ file) (¬ (protocol scheme.now ≡ file)) }
+    ensures { MatchBool result (owned_scheme scheme.now ≡ file) (¬ (owned_scheme scheme.now ≡ file)) }
 {
     match scheme {
         Scheme::File => true,

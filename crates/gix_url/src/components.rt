@@ -12,7 +12,7 @@ ghost use Rattle.bstr.specs.BStr.{bstr_bytes};
 ghost use Rattle.git_syntax.specs.Bytes.{Holds, slash};
 ghost use Rattle.gix_url.specs.Internal.ComponentPieces.{HasQuery, LendsParts, SpellsPath};
 ghost use Rattle.gix_url.specs.ComponentViews.{LentQuery, components};
-ghost use Rattle.git_laws.specs.Components.{Components, PartsOf};
+ghost use Rattle.git_laws.specs.Components.{Components, ComponentsOf};
 
 mod cuts;
 mod fields;
@@ -24,7 +24,7 @@ mod same;
 use crate::error::Error;
 use crate::location::Url;
 use bstr::{BStr, BString};
-use cuts::Spelled;
+use cuts::EscapedText;
 use fields::lend_query;
 use git_location::url_ref::UrlRef;
 use git_syntax::home::or_root;
@@ -102,14 +102,14 @@ impl Url {
     /// }
     /// ```
     pub fn path_query_fragment(&self, alloc: Global) -> Result<PathComponents<'_>, Error>
-        ensures parts { IfOk result (λ c. PartsOf self.now (components c)) }
+        ensures parts { IfOk result (λ c. ComponentsOf self.now (components c)) }
         ensures path { IfOk result
             (λ c. Holds (bstr_bytes c.path) self.now.path ⊎ (bstr_bytes c.path ≡ slash ∷ [])) }
         ensures query { IfOk result (λ c. LentQuery self.now (option_map (λ q. q.items) c.query)) }
         ensures fragment { IfOk result
             (λ c. IfSome c.fragment (λ f. Holds (bstr_bytes f) self.now.path)) }
         ensures memory { IfErr result (λ e. e ≡ Error.Memory) }
-        ensures no_query { (c : Components) → PartsOf self.now c → c.query ≡ None → IsOk result }
+        ensures no_query { (c : Components) → ComponentsOf self.now c → c.query ≡ None → IsOk result }
     {
         PathComponents::of(alloc, &self.as_ref())
     }
@@ -129,14 +129,14 @@ impl<'a> PathComponents<'a> {
     /// }
     /// ```
     pub fn of(alloc: Global, url: &UrlRef<'a>) -> Result<PathComponents<'a>, Error>
-        ensures parts { IfOk result (λ c. PartsOf url.now (components c)) }
+        ensures parts { IfOk result (λ c. ComponentsOf url.now (components c)) }
         ensures path { IfOk result
             (λ c. Holds (bstr_bytes c.path) url.now.path ⊎ (bstr_bytes c.path ≡ slash ∷ [])) }
         ensures query { IfOk result (λ c. LentQuery url.now (option_map (λ q. q.items) c.query)) }
         ensures fragment { IfOk result
             (λ c. IfSome c.fragment (λ f. Holds (bstr_bytes f) url.now.path)) }
         ensures memory { IfErr result (λ e. e ≡ Error.Memory) }
-        ensures no_query { (c : Components) → PartsOf url.now c → c.query ≡ None → IsOk result }
+        ensures no_query { (c : Components) → ComponentsOf url.now c → c.query ≡ None → IsOk result }
     {
         match url.scheme {
             SchemeRef::Http | SchemeRef::Https => web_components(alloc, spelled_path(url)),
@@ -155,17 +155,17 @@ impl<'a> PathComponents<'a> {
 }
 
 /// The path as it is spelled, together with what it stands for.
-fn spelled_path<'a>(url: &UrlRef<'a>) -> Spelled<'a>
+fn spelled_path<'a>(url: &UrlRef<'a>) -> EscapedText<'a>
     ensures { SpellsPath url.now result }
 {
     match url.matching_spelling() {
-        Some(spelling) => Spelled::spelling(spelling, url.path),
-        None => Spelled::raw(url.path),
+        Some(spelling) => EscapedText::spelling(spelling, url.path),
+        None => EscapedText::raw(url.path),
     }
 }
 
 /// The path, the query and the fragment of a path of HTTP.
-fn web_components<'a>(alloc: Global, whole: Spelled<'a>) -> Result<PathComponents<'a>, Error>
+fn web_components<'a>(alloc: Global, whole: EscapedText<'a>) -> Result<PathComponents<'a>, Error>
     ensures lent { IfOk result (λ c. LendsParts whole.entry.escaped whole.entry.text.now c) }
     ensures memory { IfErr result (λ e. e ≡ Error.Memory) }
     ensures query { IsErr result → HasQuery whole.entry.text.now }
@@ -184,7 +184,7 @@ fn web_components<'a>(alloc: Global, whole: Spelled<'a>) -> Result<PathComponent
 }
 
 /// What the piece stands for, if there is one.
-fn meant_option(piece: Option<Spelled<'_>>) -> Option<BStr<'_>>
+fn meant_option(piece: Option<EscapedText<'_>>) -> Option<BStr<'_>>
     ensures { option_map bstr_bytes result ≡ option_map (λ p. p.meant.now) piece.entry }
 {
     match piece {

@@ -6,7 +6,7 @@
 ghost use Rattle.std.specs.Prelude.{◌≡◌, None, IfErr, IfOk, IsOk, option_map, string_bytes};
 ghost use Rattle.bstr.specs.Owned.{bstring_bytes};
 ghost use Rattle.git_laws.specs.Order.{held_name};
-ghost use Rattle.gix_url.specs.Views.{protocol};
+ghost use Rattle.gix_url.specs.Views.{owned_scheme};
 
 use crate::error::Error;
 use crate::location::Url;
@@ -31,9 +31,9 @@ impl Scheme {
     /// }
     /// ```
     pub fn clone(&self, alloc: Global) -> Result<Scheme, Error>
-        ensures equal { IfOk result (λ copy. protocol copy ≡ protocol self.now) }
+        ensures equal { IfOk result (λ copy. owned_scheme copy ≡ owned_scheme self.now) }
         ensures memory { IfErr result (λ e. e ≡ Error.Memory) }
-        ensures known { held_name (protocol self.now) ≡ None → IsOk result }
+        ensures known { held_name (owned_scheme self.now) ≡ None → IsOk result }
     {
         match self {
             Scheme::File => Ok(Scheme::File),

@@ -181,7 +181,7 @@ pub fn with<F: FnOnce(&ForUser) -> Option<String> + Drop>(
     };
     match user {
         None => Ok(String::from_str(alloc, text)?),
-        Some(user) => entered(alloc, home(user), user, text),
+        Some(user) => enter(alloc, home(user), user, text),
     }
 }
 
@@ -226,13 +226,13 @@ pub fn expand_path(
         None => Ok(String::from_str(alloc, path)?),
         Some(user) => {
             let folder = home_folder(alloc, user, home)?;
-            entered(alloc, folder, user, path)
+            enter(alloc, folder, user, path)
         }
     }
 }
 
 /// The path below a home folder, which is changed in place, or the error that there is none for the user.
-fn entered(alloc: Global, home: Option<String>, user: &ForUser, path: &str) -> Result<String, Error>
+fn enter(alloc: Global, home: Option<String>, user: &ForUser, path: &str) -> Result<String, Error>
     ensures { Expansion (λ folder. option_map string_bytes home ≡ folder)
         (user_of user.now) path.now result }
 {

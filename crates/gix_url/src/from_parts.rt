@@ -6,8 +6,8 @@
 
 ghost use Rattle.std.specs.Prelude.{◌≡◌, None, Some, IfErr, IfOk, option_map, string_bytes};
 ghost use Rattle.bstr.specs.Owned.{bstring_bytes};
-ghost use Rattle.gix_url.specs.FromParts.{MadeOf, TellsName, invalid_name, keeping, of_parts, with_given};
-ghost use Rattle.gix_url.specs.Views.{protocol};
+ghost use Rattle.gix_url.specs.FromParts.{MadeOf, ReportsName, invalid_name, keeping, of_parts, with_given};
+ghost use Rattle.gix_url.specs.Views.{owned_scheme};
 
 use crate::error::Error;
 use crate::location::{Url, law_value};
@@ -56,13 +56,13 @@ impl Url {
         path: BString,
         serialize_alternative_form: bool,
     ) -> Result<Url, Error>
-        ensures { let given = of_parts (protocol scheme) (option_map string_bytes user)
+        ensures { let given = of_parts (owned_scheme scheme) (option_map string_bytes user)
             (option_map string_bytes password)
             (option_map string_bytes host) port (bstring_bytes path) serialize_alternative_form in
             MadeOf given result }
     {
         let given = Url {
-            scheme: checked(scheme)?,
+            scheme: check_scheme(scheme)?,
             user,
             password,
             host,
@@ -78,11 +78,11 @@ impl Url {
 }
 
 /// The scheme, unless it is a remote helper by a name that no helper can have.
-fn checked(scheme: Scheme) -> Result<Scheme, Error>
+fn check_scheme(scheme: Scheme) -> Result<Scheme, Error>
     ensures ok { IfOk result (λ s. s ≡ scheme) }
-    ensures valid { IfOk result (λ s. invalid_name (protocol s) ≡ None) }
+    ensures valid { IfOk result (λ s. invalid_name (owned_scheme s) ≡ None) }
     ensures named { IfErr result
-        (λ e. (name : _) × (invalid_name (protocol scheme) ≡ Some name) × TellsName name e) }
+        (λ e. (name : _) × (invalid_name (owned_scheme scheme) ≡ Some name) × ReportsName name e) }
 {
     match scheme {
         Scheme::Helper(name) => {
@@ -98,7 +98,7 @@ fn checked(scheme: Scheme) -> Result<Scheme, Error>
 
 /// The error that reports the name of a remote helper.
 fn invalid(name: String) -> Error
-    ensures { TellsName (string_bytes name) result }
+    ensures { ReportsName (string_bytes name) result }
 {
     let name = BString::new(name.into_bytes());
     Error::HelperName { name }

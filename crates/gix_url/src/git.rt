@@ -8,7 +8,7 @@ ghost use Rattle.git_location.specs.GitClass.{AgreesWithGit};
 use crate::location::Url;
 
 impl Url {
-    /// Whether Git reads this very place in the text of the location: the same protocol, user, host, port and path. The
+    /// Whether Git reads this very place in the text of the location: the same scheme, user, host, port and path. The
     /// brackets around an address of IPv6 don't count: of `git://[::1]/p` the host here is `[::1]`, and Git connects to
     /// `::1`. It takes no memory.
     ///

@@ -19,6 +19,7 @@
 //! ```
 #![tactic(auto)]
 
+mod accessors;
 mod argument;
 mod canonical;
 mod components;
@@ -36,7 +37,6 @@ pub mod laws;
 mod location;
 mod order;
 pub mod parse;
-mod parts;
 mod reread;
 mod rows;
 mod scheme;

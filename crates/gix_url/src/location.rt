@@ -54,7 +54,7 @@ pub struct Url {
 }
 
 impl Model for Url {
-    ghost use Rattle.git_syntax.specs.Value.{Location};
+    ghost use Rattle.git_syntax.specs.Location.{Location};
 
     ghost Value = { Location };
 

@@ -6,9 +6,9 @@
 ghost use Rattle.std.specs.Prelude.{◌≡◌, Some, fold, option_map, refl, string_bytes};
 ghost use Rattle.std.specs.Hash as fed;
 ghost use Rattle.std.specs.Cmp.{on_equiv, on_per, on_po, on_total, partial_equiv_from_equiv};
-ghost use Rattle.git_laws.specs.Order.{bytes_cmp, fed_bytes, fed_location, fed_part, fed_protocol, fed_text, held_name, location_cmp, location_eq, outline, protocol_cmp, protocol_eq, rank, text_cmp, text_eq};
-ghost use Rattle.gix_url.specs.Views.{protocol};
-ghost use Rattle.git_laws.specs.OrderLaws.{location_equiv, location_po, location_ties, location_total, locations_alike, protocol_equiv, protocol_po, protocol_ties, protocol_total, protocols_alike};
+ghost use Rattle.git_laws.specs.Order.{bytes_cmp, fed_bytes, fed_location, fed_part, fed_scheme, fed_text, held_name, location_cmp, location_eq, outline, scheme_cmp, scheme_eq, rank, text_cmp, text_eq};
+ghost use Rattle.gix_url.specs.Views.{owned_scheme};
+ghost use Rattle.git_laws.specs.OrderLaws.{location_equiv, location_po, location_ties, location_total, locations_alike, scheme_equiv, scheme_po, scheme_ties, scheme_total, schemes_alike};
 
 mod same;
 
@@ -19,9 +19,9 @@ use std::cmp::Ordering;
 use std::hash::{Hash, Hasher};
 
 impl PartialEq for Scheme {
-    ghost eq = { λ s t. protocol_eq (protocol s) (protocol t) };
+    ghost eq = { λ s t. scheme_eq (owned_scheme s) (owned_scheme t) };
 
-    ghost laws = { on_per protocol (partial_equiv_from_equiv protocol_equiv) };
+    ghost laws = { on_per owned_scheme (partial_equiv_from_equiv scheme_equiv) };
 
     /// Whether both schemes are of one kind with one name. It takes no memory.
     ///
@@ -34,13 +34,13 @@ impl PartialEq for Scheme {
 }
 
 impl Eq for Scheme {
-    ghost laws = { on_equiv protocol protocol_equiv };
+    ghost laws = { on_equiv owned_scheme scheme_equiv };
 }
 
 impl PartialOrd for Scheme {
-    ghost partial_cmp = { λ s t. Some (protocol_cmp (protocol s) (protocol t)) };
+    ghost partial_cmp = { λ s t. Some (scheme_cmp (owned_scheme s) (owned_scheme t)) };
 
-    ghost laws = { on_po protocol protocol_po };
+    ghost laws = { on_po owned_scheme scheme_po };
 
     fn partial_cmp(&self, other: &Scheme) -> Option<Ordering> {
         Some(self.cmp(other))
@@ -48,13 +48,13 @@ impl PartialOrd for Scheme {
 }
 
 impl Ord for Scheme {
-    ghost cmp = { λ s t. protocol_cmp (protocol s) (protocol t) };
+    ghost cmp = { λ s t. scheme_cmp (owned_scheme s) (owned_scheme t) };
 
-    ghost total = { on_total protocol protocol_total };
+    ghost total = { on_total owned_scheme scheme_total };
 
     ghost matches_partial_cmp = { λ s t. refl };
 
-    ghost matches_eq = { λ s t. protocol_ties (protocol s) (protocol t) };
+    ghost matches_eq = { λ s t. scheme_ties (owned_scheme s) (owned_scheme t) };
 
     /// The order of two schemes: as their kinds are declared, and then by the bytes of their names. It takes no memory.
     fn cmp(&self, other: &Scheme) -> Ordering {
@@ -65,9 +65,9 @@ impl Ord for Scheme {
 }
 
 impl Hash for Scheme {
-    ghost hash_input = { λ s. fed_protocol (protocol s) };
+    ghost hash_input = { λ s. fed_scheme (owned_scheme s) };
 
-    ghost respects_eq = { λ s t. protocols_alike (protocol s) (protocol t) };
+    ghost respects_eq = { λ s t. schemes_alike (owned_scheme s) (owned_scheme t) };
 
     /// Feeds the hasher the kind of the scheme, and its name. It takes no memory.
     fn hash<H: Hasher>(&self, state: &mut H) {
@@ -209,7 +209,7 @@ fn spelling(url: &Url) -> Option<&[u8]>
 
 /// Where the scheme is among the kinds of them, as they are declared.
 fn rank(scheme: &Scheme) -> u8
-    ensures { result ≡ rank (protocol scheme.now) }
+    ensures { result ≡ rank (owned_scheme scheme.now) }
 {
     match scheme {
         Scheme::File => 0,
@@ -225,7 +225,7 @@ fn rank(scheme: &Scheme) -> u8
 
 /// The name that the scheme brings with it, if its kind alone doesn't say which it is.
 fn held_name(scheme: &Scheme) -> Option<&[u8]>
-    ensures { option_map (λ name. name.now) result ≡ held_name (protocol scheme.now) }
+    ensures { option_map (λ name. name.now) result ≡ held_name (owned_scheme scheme.now) }
 {
     match scheme {
         Scheme::Helper(name) | Scheme::HelperUrl(name) => Some(name.as_bytes()),

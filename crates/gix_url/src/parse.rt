@@ -12,9 +12,9 @@ ghost use Rattle.gix_url.specs.Readings.{Reads, Refuses};
 
 mod build;
 mod copies;
-mod made;
-mod meaning;
+mod from_fields;
 mod refusal;
+mod to_location;
 
 use crate::error::Error;
 use crate::location::Url;

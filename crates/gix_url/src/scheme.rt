@@ -1,16 +1,16 @@
 //! Schemes that own their name.
 //!
 //! It uses the borrowed schemes of `git_syntax`, and the errors. Its contract: names and default ports are those of the
-//! definitions, and a scheme's text stands for its protocol to the letter.
+//! definitions, and a scheme's text names it to the letter.
 
 ghost use Rattle.std.specs.Prelude.{◌≡◌, IfErr, IfOk, IsOk, true};
-ghost use Rattle.git_syntax.specs.Internal.SchemeRules.{named_protocol};
-ghost use Rattle.git_syntax.specs.Schemes.{protocol_of, protocol_text, default_port_of, is_known_scheme};
-ghost use Rattle.git_syntax.specs.Views.{lent_protocol};
-ghost use Rattle.gix_url.specs.Views.{protocol};
+ghost use Rattle.git_syntax.specs.Internal.SchemeRules.{scheme_named};
+ghost use Rattle.git_syntax.specs.Schemes.{scheme_of, scheme_text, default_port_of, is_known_scheme};
+ghost use Rattle.git_syntax.specs.Views.{lent_scheme};
+ghost use Rattle.gix_url.specs.Views.{owned_scheme};
 
 use crate::error::Error;
-use git_syntax::scheme::{Protocol, SchemeRef, protocol_of};
+use git_syntax::scheme::{KnownScheme, SchemeRef, scheme_of};
 use serde::{Deserialize, Serialize};
 use std::alloc::{AllocError, Global};
 use std::fmt;
@@ -57,42 +57,43 @@ impl Scheme {
     /// }
     /// ```
     pub fn from_text(alloc: Global, text: &str) -> Result<Scheme, Error>
-        ensures found { IfOk result (λ scheme. protocol scheme ≡ protocol_of text.now) }
+        ensures found { IfOk result (λ scheme. owned_scheme scheme ≡ scheme_of text.now) }
         ensures memory { IfErr result (λ e. e ≡ Error.Memory) }
         ensures known { is_known_scheme text.now ≡ true → IsOk result }
     {
-        Ok(Scheme::of_protocol(alloc, protocol_of(text.as_bytes()), text)?)
+        Ok(Scheme::of_known_scheme(alloc, scheme_of(text.as_bytes()), text)?)
     }
 
-    /// The scheme with this text, which names this protocol. It asks for memory only for one without a name of its own.
-    pub(crate) fn of_protocol(
+    /// The scheme with this text, which names this known one. It asks for memory only for one without a name of its
+    /// own.
+    pub(crate) fn of_known_scheme(
         alloc: Global,
-        named: Protocol,
+        named: KnownScheme,
         text: &str,
     ) -> Result<Scheme, AllocError>
-        ensures found { IfOk result (λ scheme. protocol scheme ≡ named_protocol named text.now) }
-        ensures known { IfErr result (λ e. named ≡ Protocol.Other) }
+        ensures found { IfOk result (λ scheme. owned_scheme scheme ≡ scheme_named named text.now) }
+        ensures known { IfErr result (λ e. named ≡ KnownScheme.Other) }
     {
         match named {
-            Protocol::File => Ok(Scheme::File),
-            Protocol::Git => Ok(Scheme::Git),
-            Protocol::Ssh => Ok(Scheme::Ssh),
-            Protocol::Http => Ok(Scheme::Http),
-            Protocol::Https => Ok(Scheme::Https),
-            Protocol::Ext => Ok(Scheme::Ext),
-            Protocol::Other => Ok(Scheme::HelperUrl(String::from_str(alloc, text)?)),
+            KnownScheme::File => Ok(Scheme::File),
+            KnownScheme::Git => Ok(Scheme::Git),
+            KnownScheme::Ssh => Ok(Scheme::Ssh),
+            KnownScheme::Http => Ok(Scheme::Http),
+            KnownScheme::Https => Ok(Scheme::Https),
+            KnownScheme::Ext => Ok(Scheme::Ext),
+            KnownScheme::Other => Ok(Scheme::HelperUrl(String::from_str(alloc, text)?)),
         }
     }
 
     /// The text that the scheme is written with. It takes no memory. `ssh+git` and `git+ssh` are read as `ssh`.
     ///
     /// ```
-    /// fn protocol_of(url: &Url) -> &str {
+    /// fn scheme_of(url: &Url) -> &str {
     ///     url.scheme.as_str() // `ssh` of `git@host:repo` and of `ssh+git://host/repo`
     /// }
     /// ```
     pub fn as_str(&self) -> &str
-        ensures { result.now ≡ protocol_text (protocol self.now) }
+        ensures { result.now ≡ scheme_text (owned_scheme self.now) }
     {
         self.as_ref().as_str()
     }
@@ -105,7 +106,7 @@ impl Scheme {
     /// }
     /// ```
     pub fn default_port(&self) -> Option<u16>
-        ensures { result ≡ default_port_of (protocol self.now) }
+        ensures { result ≡ default_port_of (owned_scheme self.now) }
     {
         self.as_ref().default_port()
     }
@@ -129,7 +130,7 @@ impl Scheme {
     /// ```
     #[inline(always)]
     pub fn as_ref(&self) -> SchemeRef<'_>
-        ensures { lent_protocol result ≡ protocol self.now }
+        ensures { lent_scheme result ≡ owned_scheme self.now }
     {
         match self {
             Scheme::File => SchemeRef::File,
@@ -147,9 +148,9 @@ impl Scheme {
 impl fmt::Display for Scheme {
     ghost use Rattle.std.specs.Prelude.{Some};
 
-    ghost output = { λ scheme. Some (protocol_text (protocol scheme)) };
+    ghost output = { λ scheme. Some (scheme_text (owned_scheme scheme)) };
 
-    ghost styled_output = { λ scheme _. Some (protocol_text (protocol scheme)) };
+    ghost styled_output = { λ scheme _. Some (scheme_text (owned_scheme scheme)) };
 
     /// The text of [`Scheme::as_str`]. Width, precision and flags change nothing.
     fn fmt<W: fmt::Write>(&self, f: &mut fmt::Formatter<W>) -> fmt::Result {

@@ -15,7 +15,7 @@ use crate::scheme::Scheme;
 use bstr::BString;
 use git_location::display::hidden_password;
 use git_syntax::bytes::append_within;
-use git_syntax::escape::{PATH, begins_with_digits, decoded};
+use git_syntax::escape::{PATH, begins_with_digits, decode};
 use percent_encoding::percent_encode_byte;
 use serde::{Deserialize, Serialize};
 use std::alloc::{AllocError, Global};
@@ -153,7 +153,7 @@ impl Url {
             spelling: stored.path_with_percent_escapes.map(BString::new),
         };
         if url.is_legacy() {
-            url.migrated(alloc)
+            url.migrate(alloc)
         } else {
             Ok(url)
         }
@@ -170,12 +170,12 @@ impl Url {
     }
 
     /// The location with its path taken for a spelled one: decoded, and spelled again.
-    fn migrated(self, alloc: Global) -> Result<Url, Error>
+    fn migrate(self, alloc: Global) -> Result<Url, Error>
         ensures migrated { IfOk result (λ url. url ≡ from_legacy self) }
         ensures memory { IfErr result (λ e. e ≡ Error.Memory) }
     {
-        let spelling = respelled(alloc, self.path.as_bytes())?;
-        let path = decoded(alloc, self.path.as_bytes())?;
+        let spelling = respell(alloc, self.path.as_bytes())?;
+        let path = decode(alloc, self.path.as_bytes())?;
         Ok(Url {
             path: BString::new(path),
             spelling: Some(BString::new(spelling)),
@@ -186,7 +186,7 @@ impl Url {
 
 /// The new spelling of a path: its escapes as they are, and every other byte as it is written in a path. Memory is
 /// asked for once, and a length that no memory has counts as refused.
-fn respelled(alloc: Global, path: &[u8]) -> Result<Vec<u8>, AllocError>
+fn respell(alloc: Global, path: &[u8]) -> Result<Vec<u8>, AllocError>
     ensures { IfOk result (λ spelling. spelling.items ≡ new_spelling path.now) }
 {
     let Ok(len) = usize::try_from(respelled_len(path)) else {

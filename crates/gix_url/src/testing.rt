@@ -5,7 +5,7 @@
 ghost use Rattle.std.specs.Prelude.{◌≡◌, option_map, string_bytes};
 ghost use Rattle.bstr.specs.Owned.{bstring_bytes};
 ghost use Rattle.gix_url.specs.FromParts.{of_parts};
-ghost use Rattle.gix_url.specs.Views.{protocol};
+ghost use Rattle.gix_url.specs.Views.{owned_scheme};
 
 use crate::location::Url;
 use crate::scheme::Scheme;
@@ -38,7 +38,7 @@ pub trait TestUrlExtension {
         path: BString,
         serialize_alternative_form: bool,
     ) -> Url
-        ensures { result ≡ of_parts (protocol scheme) (option_map string_bytes user)
+        ensures { result ≡ of_parts (owned_scheme scheme) (option_map string_bytes user)
             (option_map string_bytes password) (option_map string_bytes host)
             port (bstring_bytes path) serialize_alternative_form };
 }

@@ -181,14 +181,14 @@ fn collect(alloc: Global, pieces: &Pieces<'_>) -> Result<Vec<u8>, AllocError>
 {
     match usize::try_from(pieces.len()) {
         Ok(0) => Ok(Vec::new(alloc)),
-        Ok(len) => filled(alloc, pieces, len),
+        Ok(len) => text_of_pieces(alloc, pieces, len),
         Err(_) => Err(AllocError),
     }
 }
 
 /// The text of the pieces, which has this length.
 #[inline(always)]
-fn filled(alloc: Global, pieces: &Pieces<'_>, len: usize) -> Result<Vec<u8>, AllocError>
+fn text_of_pieces(alloc: Global, pieces: &Pieces<'_>, len: usize) -> Result<Vec<u8>, AllocError>
     requires { len ≡ length (pieces_text pieces.now) }
     ensures { IfOk result (λ s. s.items ≡ pieces_text pieces.now) }
 {

@@ -2,7 +2,7 @@
 use Rattle.std.proofs.Common.{◌≡◌, ℕ, List, Ok, Err, refl}
 use Rattle.git_location.specs.declared.parse_error.ParseError.TheVariants as unread
 use Rattle.git_syntax.specs.declared.refusal.Refusal.TheVariants as refusal
-use Rattle.gix_url.specs.Value.{Location}
+use Rattle.gix_url.specs.Location.{Location}
 use Rattle.gix_url.specs.Readings.{Reads, ReadsIn}
 use Rattle.gix_url.proofs.Unique.ReaderLemmas.{reads_by}
 

@@ -1,8 +1,8 @@
 -- A location is shown where it has a text, and only there: that a password is hidden changes no form.
 use Rattle.std.proofs.Common.{◌≡◌, ℕ, List, Option, Some, None, is_some, is_none, IfSome, Result, Ok, Err, refl, ap, sym, subst}
 use Rattle.git_location.specs.declared.write_error.WriteFault.{WriteFault}
-use Rattle.gix_url.specs.Value.{Protocol, Location}
-use Rattle.gix_url.specs.Value.Protocol.{file, git, ssh, http, https, ext, helper, helper_url}
+use Rattle.gix_url.specs.Location.{Scheme, Location}
+use Rattle.gix_url.specs.Location.Scheme.{file, git, ssh, http, https, ext, helper, helper_url}
 use Rattle.gix_url.specs.Text.{Form, choice, choice_by, in_form, text}
 use Rattle.gix_url.specs.Display.{hidden_password, shown_text, display}
 use Rattle.git_location.specs.Internal.Pieces.{text_length}
@@ -19,7 +19,7 @@ absent (Some p) = refl
 abbrev pub hidden : Location → Location
 hidden v = record v { password = hidden_password v.password }
 
-same_choice : (p : Protocol) (v : Location) → choice_by p (hidden v) ≡ choice_by p v
+same_choice : (p : Scheme) (v : Location) → choice_by p (hidden v) ≡ choice_by p v
 same_choice file v = rw (absent v.password) refl
 same_choice git v = refl
 same_choice ssh v = rw (absent v.password) refl

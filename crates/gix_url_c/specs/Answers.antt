@@ -2,7 +2,7 @@
 use Rattle.std.specs.Prelude.{◌≡◌, ℕ, ◌-◌, ◌^◌, min, Bool, IsTrue, ◌↔◌, List, length, Option, Some, None, Result, Ok, Err}
 use Rattle.gix_url.specs.declared.error.Error.{Error}
 use Rattle.git_location.specs.declared.write_error.WriteFault.{WriteFault}
-use Rattle.gix_url.specs.Value.{Location}
+use Rattle.gix_url.specs.Location.{Location}
 use Rattle.gix_url.specs.Readings.{Reads}
 use Rattle.gix_url.specs.FromParts.{MadeOf}
 use Rattle.gix_url.specs.Settled.{IsSettled}
@@ -12,51 +12,51 @@ use Rattle.gix_url.specs.Display.{display}
 use Rattle.gix_url_c.specs.declared.codes.Problem.{Problem}
 use Rattle.gix_url_c.specs.declared.handed.Made.{Made}
 use Rattle.gix_url_c.specs.Codes.{ok, unwritable, error_code, problem_of, problem_numbered, write_fault_number}
-use Rattle.gix_url_c.specs.Handed.{HandsOut, Puts}
+use Rattle.gix_url_c.specs.Handed.{Returns, Puts}
 
 -- an answer is reported: a location returned, or an error by its numbers
-abbrev pub Tells : Result Location Error → Made → List ℕ → List ℕ → Problem → ℕ → Type 0
-Tells (Ok v) made old new problem code = HandsOut v made old new code
-Tells (Err e) made old new problem code = (code ≡ error_code e) × (problem ≡ problem_of e)
+abbrev pub Reports : Result Location Error → Made → List ℕ → List ℕ → Problem → ℕ → Type 0
+Reports (Ok v) made old new problem code = Returns v made old new code
+Reports (Err e) made old new problem code = (code ≡ error_code e) × (problem ≡ problem_of e)
 
 -- what reading the bytes answers is reported
-abbrev pub TellsRead : List ℕ → Made → List ℕ → List ℕ → Problem → ℕ → Type 0
-TellsRead input made old new problem code = (answer : Result Location Error) × Reads input answer × Tells answer made old new problem code
+abbrev pub ReportsRead : List ℕ → Made → List ℕ → List ℕ → Problem → ℕ → Type 0
+ReportsRead input made old new problem code = (answer : Result Location Error) × Reads input answer × Reports answer made old new problem code
 
 -- what making a location of parts answers is reported
-abbrev pub TellsMade : Location → Made → List ℕ → List ℕ → Problem → ℕ → Type 0
-TellsMade parts made old new problem code = (answer : Result Location Error) × MadeOf parts answer × Tells answer made old new problem code
+abbrev pub ReportsMade : Location → Made → List ℕ → List ℕ → Problem → ℕ → Type 0
+ReportsMade parts made old new problem code = (answer : Result Location Error) × MadeOf parts answer × Reports answer made old new problem code
 
 -- whether the location is settled is reported
-abbrev pub TellsSettled : Location → Bool → ℕ → Type 0
-TellsSettled v settled code = (code ≡ ok) × (IsTrue settled ↔ IsSettled v)
+abbrev pub ReportsSettled : Location → Bool → ℕ → Type 0
+ReportsSettled v settled code = (code ≡ ok) × (IsTrue settled ↔ IsSettled v)
 
 -- whether the location is of the class in whose texts Git reads the same place is reported
-abbrev pub TellsAgreement : Location → Bool → ℕ → Type 0
-TellsAgreement v agrees code = (code ≡ ok) × (IsTrue agrees ↔ AgreesWithGit v)
+abbrev pub ReportsAgreement : Location → Bool → ℕ → Type 0
+ReportsAgreement v agrees code = (code ≡ ok) × (IsTrue agrees ↔ AgreesWithGit v)
 
 -- a fault of writing is reported
-abbrev pub TellsFault : WriteFault → Problem → ℕ → Type 0
-TellsFault f problem code = (code ≡ unwritable) × (problem ≡ problem_numbered 0 (write_fault_number f) 0 0)
+abbrev pub ReportsFault : WriteFault → Problem → ℕ → Type 0
+ReportsFault f problem code = (code ≡ unwritable) × (problem ≡ problem_numbered 0 (write_fault_number f) 0 0)
 
 -- a text is reported
 abbrev pub PutsText : List ℕ → List ℕ → List ℕ → ℕ → ℕ → Type 0
 PutsText t old new len code = (len ≡ length t) × Puts t old new code
 
 -- a length as it is reported: of one that is no number of C's the largest such number, and no room is so large
-abbrev pub told_length : ℕ → ℕ
-told_length n = min n (2 ^ 64 - 1)
+abbrev pub reported_length : ℕ → ℕ
+reported_length n = min n (2 ^ 64 - 1)
 
 -- a text is reported, or the fault for which there is none
-abbrev pub TellsText : Result (List ℕ) WriteFault → List ℕ → List ℕ → ℕ → Problem → ℕ → Type 0
-TellsText (Ok t) old new len problem code = (len ≡ told_length (length t)) × Puts t old new code
-TellsText (Err f) old new len problem code = TellsFault f problem code
+abbrev pub ReportsText : Result (List ℕ) WriteFault → List ℕ → List ℕ → ℕ → Problem → ℕ → Type 0
+ReportsText (Ok t) old new len problem code = (len ≡ reported_length (length t)) × Puts t old new code
+ReportsText (Err f) old new len problem code = ReportsFault f problem code
 
 -- what the location is shown as is reported, or the fault for which it has no text
-abbrev pub TellsShown : Option (List ℕ) → Result (List ℕ) WriteFault → List ℕ → List ℕ → ℕ → Problem → ℕ → Type 0
-TellsShown (Some shown) r old new len problem code = PutsText shown old new len code
-TellsShown None r old new len problem code = (f : WriteFault) × (r ≡ Err f) × TellsFault f problem code
+abbrev pub ReportsShown : Option (List ℕ) → Result (List ℕ) WriteFault → List ℕ → List ℕ → ℕ → Problem → ℕ → Type 0
+ReportsShown (Some shown) r old new len problem code = PutsText shown old new len code
+ReportsShown None r old new len problem code = (f : WriteFault) × (r ≡ Err f) × ReportsFault f problem code
 
 -- the same of this location
-abbrev pub TellsDisplay : Location → List ℕ → List ℕ → ℕ → Problem → ℕ → Type 0
-TellsDisplay v old new len problem code = TellsShown (display v) (text v) old new len problem code
+abbrev pub ReportsDisplay : Location → List ℕ → List ℕ → ℕ → Problem → ℕ → Type 0
+ReportsDisplay v old new len problem code = ReportsShown (display v) (text v) old new len problem code

@@ -1,12 +1,12 @@
 -- A location as C gives it: numbers, and the bytes of each part.
 use Rattle.std.specs.Prelude.{◌≡◌, ℕ, ◌<◌, ◌⊎◌, Bool, true, IsUtf8, ◌==◌, List, Option, Some, None, if◌then◌else◌}
-use Rattle.gix_url.specs.Value.{Protocol, Location}
-use Rattle.gix_url.specs.Value.Protocol.{file, git, ssh, http, https, ext, helper, helper_url}
+use Rattle.gix_url.specs.Location.{Scheme, Location}
+use Rattle.gix_url.specs.Location.Scheme.{file, git, ssh, http, https, ext, helper, helper_url}
 use Rattle.gix_url_c.specs.declared.given.Given.{Given}
 
--- the protocol that a number stands for, with the name that two of them hold
-abbrev pub protocol_numbered : ℕ → List ℕ → Protocol
-protocol_numbered n name =
+-- the scheme that a number stands for, with the name that two of them hold
+abbrev pub scheme_numbered : ℕ → List ℕ → Scheme
+scheme_numbered n name =
     if n == 0 then file else
     if n == 1 then git else
     if n == 2 then ssh else
@@ -22,7 +22,7 @@ present is_there a = if is_there then Some a else None
 -- the location with the parts that are given
 abbrev pub location_of : Given → Location
 location_of given = record {
-  scheme = protocol_numbered given.front.scheme given.name.now;
+  scheme = scheme_numbered given.front.scheme given.name.now;
   user = present given.front.has_user given.user.now;
   password = present given.front.has_password given.password.now;
   host = present given.front.has_host given.host.now;

@@ -1,32 +1,32 @@
 -- A location as C gets it: numbers, and the bytes of all parts one behind the other.
 use Rattle.std.specs.Prelude.{◌≡◌, ℕ, Bool, true, false, MatchBool, nat_lt, List, [], ◌++◌, length, drop, Option, Some, None}
-use Rattle.gix_url.specs.Value.{Protocol, Location}
-use Rattle.gix_url.specs.Value.Protocol.{file, git, ssh, http, https, ext, helper, helper_url}
+use Rattle.gix_url.specs.Location.{Scheme, Location}
+use Rattle.gix_url.specs.Location.Scheme.{file, git, ssh, http, https, ext, helper, helper_url}
 use Rattle.gix_url_c.specs.declared.given.Front.{Front}
 use Rattle.gix_url_c.specs.declared.handed.Made.{Made}
 use Rattle.gix_url_c.specs.Codes.{ok, no_room}
 
--- the number of a protocol
-abbrev pub protocol_number : Protocol → ℕ
-protocol_number file = 0
-protocol_number git = 1
-protocol_number ssh = 2
-protocol_number http = 3
-protocol_number https = 4
-protocol_number ext = 5
-protocol_number (helper name) = 6
-protocol_number (helper_url name) = 7
+-- the number of a scheme
+abbrev pub scheme_number : Scheme → ℕ
+scheme_number file = 0
+scheme_number git = 1
+scheme_number ssh = 2
+scheme_number http = 3
+scheme_number https = 4
+scheme_number ext = 5
+scheme_number (helper name) = 6
+scheme_number (helper_url name) = 7
 
--- the name that a protocol holds, or nothing
-abbrev pub protocol_name : Protocol → List ℕ
-protocol_name file = []
-protocol_name git = []
-protocol_name ssh = []
-protocol_name http = []
-protocol_name https = []
-protocol_name ext = []
-protocol_name (helper name) = name
-protocol_name (helper_url name) = name
+-- the name that a scheme holds, or nothing
+abbrev pub scheme_name : Scheme → List ℕ
+scheme_name file = []
+scheme_name git = []
+scheme_name ssh = []
+scheme_name http = []
+scheme_name https = []
+scheme_name ext = []
+scheme_name (helper name) = name
+scheme_name (helper_url name) = name
 
 -- a part, or nothing
 abbrev pub or_nothing : Option (List ℕ) → List ℕ
@@ -46,7 +46,7 @@ is_there (Some a) = true
 -- the numbers of a location
 abbrev pub front_of : Location → Front
 front_of v = record {
-  scheme = protocol_number v.scheme;
+  scheme = scheme_number v.scheme;
   alternative = v.flag;
   has_user = is_there v.user;
   has_password = is_there v.password;
@@ -60,7 +60,7 @@ front_of v = record {
 abbrev pub made_of : Location → Made
 made_of v = record {
   front = front_of v;
-  name = length (protocol_name v.scheme);
+  name = length (scheme_name v.scheme);
   user = length (or_nothing v.user);
   password = length (or_nothing v.password);
   host = length (or_nothing v.host);
@@ -70,7 +70,7 @@ made_of v = record {
 
 -- the bytes of its parts, one behind the other
 abbrev pub bytes_of : Location → List ℕ
-bytes_of v = ((((protocol_name v.scheme ++ or_nothing v.user) ++ or_nothing v.password) ++ or_nothing v.host) ++ v.path) ++ or_nothing v.spelling
+bytes_of v = ((((scheme_name v.scheme ++ or_nothing v.user) ++ or_nothing v.password) ++ or_nothing v.host) ++ v.path) ++ or_nothing v.spelling
 
 -- the bytes are at the front of the room and the rest of it is as it was; or they don't fit, and all of it is
 abbrev pub Puts : List ℕ → List ℕ → List ℕ → ℕ → Type 0
@@ -80,5 +80,5 @@ Puts bytes old new code =
     ((code ≡ ok) × (new ≡ bytes ++ drop (length bytes) old))
 
 -- the location is returned
-abbrev pub HandsOut : Location → Made → List ℕ → List ℕ → ℕ → Type 0
-HandsOut v made old new code = (made ≡ made_of v) × Puts (bytes_of v) old new code
+abbrev pub Returns : Location → Made → List ℕ → List ℕ → ℕ → Type 0
+Returns v made old new code = (made ≡ made_of v) × Puts (bytes_of v) old new code

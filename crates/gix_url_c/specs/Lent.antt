@@ -2,17 +2,17 @@
 use Rattle.std.specs.Prelude.{◌≡◌, ℕ, List, Result, Ok, Err}
 use Rattle.git_location.specs.declared.parse_error.ParseError.{ParseError}
 use Rattle.git_location.specs.declared.parse_error.ParseError.TheVariants as unread
-use Rattle.gix_url.specs.Value.{Location}
+use Rattle.gix_url.specs.Location.{Location}
 use Rattle.gix_url.specs.Readings.{ReadsIn}
 use Rattle.gix_url_c.specs.declared.codes.Problem.{Problem}
 use Rattle.gix_url_c.specs.declared.given.Given.{Given}
 use Rattle.gix_url_c.specs.Codes.{ok, no_room, no_problem, refusal_code, problem_of_refusal}
-use Rattle.gix_url_c.specs.Handed.{front_of, protocol_name, or_nothing}
+use Rattle.gix_url_c.specs.Handed.{front_of, scheme_name, or_nothing}
 
 -- the location is lent: its numbers, and the bytes of each part, of which there are none where it isn't there
 pub record IsLent (v : Location) (lent : Given) : Type 0 where
   pub front : lent.front ≡ front_of v
-  pub name : lent.name.now ≡ protocol_name v.scheme
+  pub name : lent.name.now ≡ scheme_name v.scheme
   pub user : lent.user.now ≡ or_nothing v.user
   pub password : lent.password.now ≡ or_nothing v.password
   pub host : lent.host.now ≡ or_nothing v.host
@@ -20,11 +20,11 @@ pub record IsLent (v : Location) (lent : Given) : Type 0 where
   pub spelling : lent.spelling.now ≡ or_nothing v.spelling
 
 -- an answer is told: a location that is lent, or by its number why there is none, with what is told of that
-abbrev pub TellsLent : Result Location ParseError → Given → Problem → ℕ → Type 0
-TellsLent (Ok v) lent problem code = (code ≡ ok) × (problem ≡ no_problem) × IsLent v lent
-TellsLent (Err unread.NoRoom) lent problem code = (code ≡ no_room) × (problem ≡ no_problem)
-TellsLent (Err (unread.Refused why)) lent problem code = (code ≡ refusal_code why) × (problem ≡ problem_of_refusal why)
+abbrev pub ReportsLent : Result Location ParseError → Given → Problem → ℕ → Type 0
+ReportsLent (Ok v) lent problem code = (code ≡ ok) × (problem ≡ no_problem) × IsLent v lent
+ReportsLent (Err unread.NoRoom) lent problem code = (code ≡ no_room) × (problem ≡ no_problem)
+ReportsLent (Err (unread.Refused why)) lent problem code = (code ≡ refusal_code why) × (problem ≡ problem_of_refusal why)
 
 -- what reading the bytes answers, where there is room for so many, is told
-abbrev pub TellsReadIn : List ℕ → ℕ → Given → Problem → ℕ → Type 0
-TellsReadIn b room lent problem code = (answer : Result Location ParseError) × ReadsIn b room answer × TellsLent answer lent problem code
+abbrev pub ReportsReadIn : List ℕ → ℕ → Given → Problem → ℕ → Type 0
+ReportsReadIn b room lent problem code = (answer : Result Location ParseError) × ReadsIn b room answer × ReportsLent answer lent problem code

@@ -6,4 +6,4 @@ pub mod Answers
 pub mod Lent
 pub mod Looks
 pub mod Place
-pub mod Parted
+pub mod ComponentNumbers

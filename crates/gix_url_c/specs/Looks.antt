@@ -1,7 +1,7 @@
 -- What C gets of a location without any memory.
 use Rattle.std.specs.Prelude.{◌≡◌, ℕ, Bool, true, false, Option, Some, None, IsTrue, ◌↔◌, [], ◌∷◌, if◌then◌else◌}
 use Rattle.std.specs.Option.{option_or}
-use Rattle.gix_url.specs.Value.{Location}
+use Rattle.gix_url.specs.Location.{Location}
 use Rattle.gix_url.specs.Bytes.{slash}
 use Rattle.gix_url.specs.Arguments.{Judgement, judgement_of, is_path_argument}
 use Rattle.gix_url.specs.Arguments.Judgement.{absent, usable, dangerous}

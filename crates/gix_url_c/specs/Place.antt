@@ -3,7 +3,7 @@ use Rattle.std.specs.Prelude.{◌≡◌, ℕ, List, Result, Ok, Err}
 use Rattle.git_syntax.specs.declared.refusal.Refusal.TheVariants as refusal
 use Rattle.git_location.specs.declared.parse_error.ParseError.{ParseError}
 use Rattle.git_location.specs.declared.parse_error.ParseError.TheVariants as unread
-use Rattle.gix_url.specs.Value.{Location}
+use Rattle.gix_url.specs.Location.{Location}
 use Rattle.gix_url.specs.Readings.{ReadsIn}
 use Rattle.gix_url_c.specs.declared.place.Place.{Place}
 
@@ -22,5 +22,5 @@ place_of (Err (unread.Refused (refusal.TooLong shown total at len))) = place_at 
 place_of (Err (unread.Refused (refusal.BadUrl kind fault at len))) = place_at at len
 
 -- the place of what reading the bytes without room answers is reported
-abbrev pub TellsPlace : List ℕ → Place → Type 0
-TellsPlace b place = (answer : Result Location ParseError) × ReadsIn b 0 answer × (place ≡ place_of answer)
+abbrev pub ReportsPlace : List ℕ → Place → Type 0
+ReportsPlace b place = (answer : Result Location ParseError) × ReadsIn b 0 answer × (place ≡ place_of answer)

@@ -53,16 +53,16 @@ pub(crate) fn error_code(error: &Error) -> u32
 }
 
 /// What is told of an error.
-pub(crate) fn told_of(error: &Error) -> Problem
+pub(crate) fn problem_of(error: &Error) -> Problem
     ensures { result ≡ problem_of error.now }
 {
     match error {
         Error::MissingPath { kind, .. } | Error::NotUtf8 { kind, .. } => {
-            numbered(kind_number(*kind), 0, 0, 0)
+            problem_of_numbers(kind_number(*kind), 0, 0, 0)
         }
-        Error::TooLong { shown, total, .. } => numbered(0, 0, shown.len(), *total),
+        Error::TooLong { shown, total, .. } => problem_of_numbers(0, 0, shown.len(), *total),
         Error::BadUrl { kind, fault, .. } => {
-            numbered(kind_number(*kind), fault_number(*fault), 0, 0)
+            problem_of_numbers(kind_number(*kind), fault_number(*fault), 0, 0)
         }
         Error::Unwritable(fault) => unwritable(*fault),
         Error::Memory
@@ -88,17 +88,17 @@ pub(crate) fn refusal_code(refusal: Refusal<'_>) -> u32
 }
 
 /// What is told of a refusal.
-pub(crate) fn told_of_refusal(refusal: Refusal<'_>) -> Problem
+pub(crate) fn problem_of_refusal(refusal: Refusal<'_>) -> Problem
     ensures { result ≡ problem_of_refusal refusal.entry }
 {
     match refusal {
         Refusal::EmptyLocal => no_problem(),
         Refusal::MissingPath { kind, .. } | Refusal::NotUtf8 { kind, .. } => {
-            numbered(kind_number(kind), 0, 0, 0)
+            problem_of_numbers(kind_number(kind), 0, 0, 0)
         }
-        Refusal::TooLong { shown, total, .. } => numbered(0, 0, shown.len(), total),
+        Refusal::TooLong { shown, total, .. } => problem_of_numbers(0, 0, shown.len(), total),
         Refusal::BadUrl { kind, fault, .. } => {
-            numbered(kind_number(kind), fault_number(fault), 0, 0)
+            problem_of_numbers(kind_number(kind), fault_number(fault), 0, 0)
         }
     }
 }
@@ -107,18 +107,18 @@ pub(crate) fn told_of_refusal(refusal: Refusal<'_>) -> Problem
 pub(crate) fn no_problem() -> Problem
     ensures { result ≡ no_problem }
 {
-    numbered(0, 0, 0, 0)
+    problem_of_numbers(0, 0, 0, 0)
 }
 
 /// What is told of a location without a text.
 pub(crate) fn unwritable(fault: WriteFault) -> Problem
     ensures { result ≡ problem_numbered 0 (write_fault_number fault) 0 0 }
 {
-    numbered(0, write_fault_number(fault), 0, 0)
+    problem_of_numbers(0, write_fault_number(fault), 0, 0)
 }
 
 /// These numbers.
-fn numbered(kind: u8, fault: u8, shown: usize, total: usize) -> Problem
+fn problem_of_numbers(kind: u8, fault: u8, shown: usize, total: usize) -> Problem
     ensures { result ≡ problem_numbered kind fault shown total }
 {
     Problem {

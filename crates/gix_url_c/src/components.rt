@@ -10,17 +10,17 @@ ghost use Rattle.gix_url_c.specs.Codes.{UnlessMemory, UnlessNone, no_room, ok};
 ghost use Rattle.gix_url_c.specs.Given.{IsNone, location_of};
 ghost use Rattle.gix_url_c.specs.Handed.{is_there, or_nothing};
 ghost use Rattle.gix_url_c.specs.Left.{LeavesLengths, LeavesRoom};
-ghost use Rattle.gix_url_c.specs.Parted.{PutsBoth, TellsParts, component_bytes, joined_pair, joined_pairs, lengths_of_pair, pair_lengths, pairs_of, parted};
+ghost use Rattle.gix_url_c.specs.ComponentNumbers.{PutsBoth, ReportsComponents, component_bytes, joined_pair, joined_pairs, lengths_of_pair, pair_lengths, pairs_of, component_numbers};
 
 use crate::codes::{MEMORY, NO_LOCATION, NO_ROOM, OK};
-use crate::given::{Given, located};
+use crate::given::{Given, location_of};
 use gix_url::{PathComponents, QueryText, UrlRef};
 use std::alloc::{AllocError, Global};
 
 /// The components of a path: numbers, and lengths in bytes.
 #[repr(C)]
 #[derive(Clone, Copy)]
-pub struct Parted {
+pub struct ComponentNumbers {
     /// Whether there is a query.
     pub has_query: bool,
     /// Whether there is a fragment.
@@ -44,19 +44,19 @@ pub struct Parted {
 pub extern "C" fn gix_url_c_components(
     alloc: Global,
     given: &Given<'_>,
-    told: &mut Parted,
+    reported: &mut ComponentNumbers,
     room: &mut [u8],
     lengths: &mut [usize],
 ) -> u32
-    ensures told { UnlessNone result (IsNone given.now)
+    ensures reported { UnlessNone result (IsNone given.now)
         (UnlessMemory result
-        (TellsParts (location_of given.now) told.new room.old room.new lengths.old lengths.new result)) }
+        (ReportsComponents (location_of given.now) reported.new room.old room.new lengths.old lengths.new result)) }
     ensures room { LeavesRoom result room.old room.new }
     ensures lengths { LeavesRoom result lengths.old lengths.new }
-    ensures numbers { LeavesLengths result told.old told.new }
+    ensures numbers { LeavesLengths result reported.old reported.new }
 {
-    match located(given) {
-        Some(url) => part(alloc, &url, told, room, lengths),
+    match location_of(given) {
+        Some(url) => part(alloc, &url, reported, room, lengths),
         None => NO_LOCATION,
     }
 }
@@ -65,25 +65,25 @@ pub extern "C" fn gix_url_c_components(
 fn part(
     alloc: Global,
     url: &UrlRef<'_>,
-    told: &mut Parted,
+    reported: &mut ComponentNumbers,
     room: &mut [u8],
     lengths: &mut [usize],
 ) -> u32
-    ensures told { UnlessMemory result (TellsParts url.now told.new room.old room.new lengths.old lengths.new result) }
+    ensures reported { UnlessMemory result (ReportsComponents url.now reported.new room.old room.new lengths.old lengths.new result) }
     ensures room { LeavesRoom result room.old room.new }
     ensures lengths { LeavesRoom result lengths.old lengths.new }
-    ensures numbers { LeavesLengths result told.old told.new }
+    ensures numbers { LeavesLengths result reported.old reported.new }
 {
     let Ok(parts) = PathComponents::of(alloc, url) else {
         return MEMORY;
     };
-    let Ok(bytes) = joined(alloc, &parts) else {
+    let Ok(bytes) = join_bytes(alloc, &parts) else {
         return MEMORY;
     };
     let Ok(measured) = lengths_of(alloc, pairs(&parts)) else {
         return MEMORY;
     };
-    *told = numbered(&parts, bytes.len());
+    *reported = sizes_of(&parts, bytes.len());
     put_both(bytes.as_slice(), measured.as_slice(), room, lengths)
 }
 
@@ -108,7 +108,7 @@ fn fragment<'a>(parts: &PathComponents<'a>) -> &'a [u8]
 }
 
 /// The bytes of the path, of the fragment, and of names and values.
-fn joined(alloc: Global, parts: &PathComponents<'_>) -> Result<Vec<u8>, AllocError>
+fn join_bytes(alloc: Global, parts: &PathComponents<'_>) -> Result<Vec<u8>, AllocError>
     ensures { IfOk result (λ bytes. bytes.items ≡ component_bytes (components parts.now)) }
 {
     let mut bytes = Vec::from_slice(alloc, parts.path.as_bytes())?;
@@ -118,7 +118,7 @@ fn joined(alloc: Global, parts: &PathComponents<'_>) -> Result<Vec<u8>, AllocErr
 }
 
 /// Appends each name with its value.
-#[tactic(auto, using(crate::proofs::PartedLemmas::joined_more))]
+#[tactic(auto, using(crate::proofs::ComponentLemmas::joined_more))]
 fn append_pairs(
     bytes: &mut Vec<u8>,
     pairs: &[(QueryText<'_>, QueryText<'_>)],
@@ -140,7 +140,7 @@ fn append_pair(bytes: &mut Vec<u8>, pair: &(QueryText<'_>, QueryText<'_>)) -> Re
 }
 
 /// The lengths of names and values in turn.
-#[tactic(auto, using(crate::proofs::PartedLemmas::lengths_more))]
+#[tactic(auto, using(crate::proofs::ComponentLemmas::lengths_more))]
 fn lengths_of(
     alloc: Global,
     pairs: &[(QueryText<'_>, QueryText<'_>)],
@@ -169,11 +169,11 @@ fn append_lengths(
 }
 
 /// The numbers of the components.
-fn numbered(parts: &PathComponents<'_>, bytes: usize) -> Parted
+fn sizes_of(parts: &PathComponents<'_>, bytes: usize) -> ComponentNumbers
     requires { bytes ≡ length (component_bytes (components parts.now)) }
-    ensures { result ≡ parted (components parts.now) }
+    ensures { result ≡ component_numbers (components parts.now) }
 {
-    Parted {
+    ComponentNumbers {
         has_query: parts.query.is_some(),
         has_fragment: parts.fragment.is_some(),
         path: parts.path.as_bytes().len(),

@@ -4,8 +4,8 @@
 //! parts, lent as long as they are. It takes no memory.
 
 ghost use Rattle.std.specs.Prelude.{◌≡◌, IfSome, None, option_map};
-ghost use Rattle.gix_url.specs.Views.{lent_protocol};
-ghost use Rattle.gix_url_c.specs.Given.{IsNoScheme, IsNoText, IsNone, location_of, present, protocol_numbered};
+ghost use Rattle.gix_url.specs.Views.{lent_scheme};
+ghost use Rattle.gix_url_c.specs.Given.{IsNoScheme, IsNoText, IsNone, location_of, present, scheme_numbered};
 
 use gix_url::{SchemeRef, UrlRef};
 
@@ -55,7 +55,7 @@ pub struct Given<'a> {
 /// The location with the parts that are given, all of them lent. There is none where the number of the scheme
 /// is none of the eight, or where a name, a user, a password or a host isn't UTF-8.
 #[inline(always)]
-pub(crate) fn located<'a>(given: &Given<'a>) -> Option<UrlRef<'a>>
+pub(crate) fn location_of<'a>(given: &Given<'a>) -> Option<UrlRef<'a>>
     ensures made { IfSome result (λ url. url ≡ location_of given.now) }
     ensures whole { IfSome result (λ _. ¬ IsNone given.now) }
     ensures refused { result ≡ None → IsNone given.now }
@@ -67,7 +67,7 @@ pub(crate) fn located<'a>(given: &Given<'a>) -> Option<UrlRef<'a>>
         host: text(given.front.has_host, given.host)?,
         serialize_alternative_form: given.front.alternative,
         port: present(given.front.has_port, given.front.port),
-        path: moved(given.path),
+        path: reload(given.path),
         spelling: present(given.front.has_spelling, given.spelling),
     })
 }
@@ -75,7 +75,7 @@ pub(crate) fn located<'a>(given: &Given<'a>) -> Option<UrlRef<'a>>
 /// The scheme of this number, and of this name where it holds one.
 #[inline(always)]
 fn scheme(number: u8, name: &[u8]) -> Option<SchemeRef<'_>>
-    ensures made { IfSome result (λ scheme. lent_protocol scheme ≡ protocol_numbered number name.now) }
+    ensures made { IfSome result (λ scheme. lent_scheme scheme ≡ scheme_numbered number name.now) }
     ensures known { IfSome result (λ _. ¬ IsNoScheme number name.now) }
     ensures refused { result ≡ None → IsNoScheme number name.now }
 {
@@ -103,7 +103,7 @@ fn text(is_there: bool, bytes: &[u8]) -> Option<Option<&str>>
         return Some(None);
     }
     match str::from_utf8(bytes) {
-        Ok(text) => Some(Some(moved(text))),
+        Ok(text) => Some(Some(reload(text))),
         Err(_) => None,
     }
 }
@@ -111,7 +111,7 @@ fn text(is_there: bool, bytes: &[u8]) -> Option<Option<&str>>
 /// The slice itself. What a call is handed moves as two numbers. A field that is copied moves as one wide value, for which
 /// the processor waits until both numbers, which were written just before, are in the cache.
 #[inline(always)]
-pub(crate) fn moved<T: Copy>(slice: T) -> T
+pub(crate) fn reload<T: Copy>(slice: T) -> T
     ensures { result ≡ slice }
 {
     slice

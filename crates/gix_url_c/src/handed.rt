@@ -5,9 +5,9 @@
 
 ghost use Rattle.std.specs.Prelude.{◌≡◌, ◌≤◌, ◌⊎◌, ◌++◌, drop, length, option_map};
 ghost use Rattle.std.specs.Option.{option_copied};
-ghost use Rattle.gix_url.specs.Views.{lent_protocol};
+ghost use Rattle.gix_url.specs.Views.{lent_scheme};
 ghost use Rattle.gix_url_c.specs.Codes.{no_room, ok};
-ghost use Rattle.gix_url_c.specs.Handed.{HandsOut, bytes_of, front_of, is_there, made_of, or_nothing, or_zero, protocol_name, protocol_number};
+ghost use Rattle.gix_url_c.specs.Handed.{Returns, bytes_of, front_of, is_there, made_of, or_nothing, or_zero, scheme_name, scheme_number};
 ghost use Rattle.gix_url_c.specs.Left.{LeavesLengths, LeavesRoom};
 
 use crate::codes::{NO_ROOM, OK};
@@ -36,12 +36,12 @@ pub struct Made {
 }
 
 /// Hands the location out, if its parts fit into the room.
-pub(crate) fn hand_out(url: &UrlRef<'_>, made: &mut Made, room: &mut [u8]) -> u32
-    ensures told { HandsOut url.now made.new room.old room.new result }
+pub(crate) fn put_location(url: &UrlRef<'_>, made: &mut Made, room: &mut [u8]) -> u32
+    ensures reported { Returns url.now made.new room.old room.new result }
     ensures room { LeavesRoom result room.old room.new }
     ensures code { (result ≡ ok) ⊎ (result ≡ no_room) }
 {
-    *made = measured(url);
+    *made = made_of(url);
     if (room.len() as u128) < size(url) {
         return NO_ROOM;
     }
@@ -75,7 +75,7 @@ fn put_parts(url: &UrlRef<'_>, room: &mut [u8])
 }
 
 /// The numbers, and the lengths of the parts.
-fn measured(url: &UrlRef<'_>) -> Made
+fn made_of(url: &UrlRef<'_>) -> Made
     ensures { result ≡ made_of url.now }
 {
     Made {
@@ -107,7 +107,7 @@ pub(crate) fn numbers(url: &UrlRef<'_>) -> Front
 
 /// The number of a scheme.
 fn number(scheme: SchemeRef<'_>) -> u8
-    ensures { result ≡ protocol_number (lent_protocol scheme.entry) }
+    ensures { result ≡ scheme_number (lent_scheme scheme.entry) }
 {
     match scheme {
         SchemeRef::File => 0,
@@ -123,7 +123,7 @@ fn number(scheme: SchemeRef<'_>) -> u8
 
 /// The name that a scheme holds, or nothing.
 pub(crate) fn name(scheme: SchemeRef<'_>) -> &[u8]
-    ensures { result.now ≡ protocol_name (lent_protocol scheme.entry) }
+    ensures { result.now ≡ scheme_name (lent_scheme scheme.entry) }
 {
     match scheme {
         SchemeRef::Helper(name) | SchemeRef::HelperUrl(name) => name.as_bytes(),

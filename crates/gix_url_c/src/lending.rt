@@ -7,10 +7,10 @@
 ghost use Rattle.std.specs.Prelude.{◌≡◌, length};
 ghost use Rattle.gix_url_c.specs.Codes.{memory, no_problem};
 ghost use Rattle.gix_url_c.specs.Left.{LeavesProblem, LeavesRoom};
-ghost use Rattle.gix_url_c.specs.Lent.{IsLent, TellsReadIn};
+ghost use Rattle.gix_url_c.specs.Lent.{IsLent, ReportsReadIn};
 
-use crate::codes::{NO_ROOM, OK, Problem, no_problem, refusal_code, told_of_refusal};
-use crate::given::{Given, moved};
+use crate::codes::{NO_ROOM, OK, Problem, no_problem, problem_of_refusal, refusal_code};
+use crate::given::{Given, reload};
 use crate::handed::{name, numbers, part, text};
 use gix_url::{ParseError, UrlRef};
 
@@ -24,14 +24,14 @@ pub extern "C" fn gix_url_c_read_in<'a>(
     input: &'a [u8],
     room: &'a mut [u8],
     lent: &mut Given<'a>,
-    told: &mut Problem,
+    reported: &mut Problem,
 ) -> u32
-    ensures told { TellsReadIn input.now (length room.old) lent.new told.new result }
+    ensures reported { ReportsReadIn input.now (length room.old) lent.new reported.new result }
     ensures left { LeavesRoom result lent.old lent.new }
-    ensures problem { LeavesProblem result no_problem told.new }
+    ensures problem { LeavesProblem result no_problem reported.new }
     ensures no_memory { ¬ (result ≡ memory) }
 {
-    *told = no_problem();
+    *reported = no_problem();
     match UrlRef::parse_in(input, room) {
         Ok(url) => {
             *lent = lent_of(&url);
@@ -39,7 +39,7 @@ pub extern "C" fn gix_url_c_read_in<'a>(
         }
         Err(ParseError::NoRoom) => NO_ROOM,
         Err(ParseError::Refused(refusal)) => {
-            *told = told_of_refusal(refusal);
+            *reported = problem_of_refusal(refusal);
             refusal_code(refusal)
         }
     }
@@ -55,7 +55,7 @@ fn lent_of<'a>(url: &UrlRef<'a>) -> Given<'a>
         user: text(url.user),
         password: text(url.password),
         host: text(url.host),
-        path: moved(url.path),
+        path: reload(url.path),
         spelling: part(url.spelling),
     }
 }

@@ -12,7 +12,7 @@ ghost use Rattle.gix_url_c.specs.Left.{LeavesRoom};
 ghost use Rattle.gix_url_c.specs.Looks.{Looks, judgement_number};
 
 use crate::codes::{NO_LOCATION, OK};
-use crate::given::{Given, located};
+use crate::given::{Given, location_of};
 use gix_url::{ArgumentSafety, UrlRef};
 
 /// What is seen of a location.
@@ -42,12 +42,12 @@ pub struct Seen {
 /// It answers 0, or 101 where the parts are none of a location. It takes no memory.
 #[unsafe(no_mangle)]
 pub extern "C" fn gix_url_c_look(given: &Given<'_>, seen: &mut Seen) -> u32
-    ensures told { UnlessNone result (IsNone given.now)
+    ensures reported { UnlessNone result (IsNone given.now)
         ((result ≡ ok) × Looks (location_of given.now) seen.new) }
     ensures left { LeavesRoom result seen.old seen.new }
     ensures no_memory { ¬ (result ≡ memory) }
 {
-    match located(given) {
+    match location_of(given) {
         Some(url) => {
             *seen = look(&url);
             OK

@@ -11,7 +11,7 @@ ghost use Rattle.gix_url.specs.Arguments.{is_path_argument, judgement_of};
 ghost use Rattle.gix_url.specs.Bytes.{slash};
 ghost use Rattle.gix_url.specs.Schemes.{default_port_of};
 ghost use Rattle.gix_url.specs.Text.{matching_or};
-ghost use Rattle.gix_url_c.specs.Given.{present, protocol_numbered};
+ghost use Rattle.gix_url_c.specs.Given.{present, scheme_numbered};
 ghost use Rattle.gix_url_c.specs.Looks.{judgement_number, port_number, truth};
 
 use gix_url::{SchemeRef, UrlRef};
@@ -64,7 +64,7 @@ pub extern "C" fn gix_url_c_is_spelled(path: &[u8], spelling: &[u8]) -> u32
 #[unsafe(no_mangle)]
 pub extern "C" fn gix_url_c_port_or_default(scheme: u8, has_port: bool, port: u16) -> u32
     ensures { result ≡ port_number
-        (option_or (present has_port port) (default_port_of (protocol_numbered scheme []))) }
+        (option_or (present has_port port) (default_port_of (scheme_numbered scheme []))) }
 {
     if has_port {
         return u32::from(port);
@@ -77,7 +77,7 @@ pub extern "C" fn gix_url_c_port_or_default(scheme: u8, has_port: bool, port: u1
 
 /// The port that the scheme of this number stands for. One that holds a name stands for none.
 fn default_port(scheme: u8) -> Option<u16>
-    ensures { result ≡ default_port_of (protocol_numbered scheme []) }
+    ensures { result ≡ default_port_of (scheme_numbered scheme []) }
 {
     match scheme {
         1 => SchemeRef::Git.default_port(),

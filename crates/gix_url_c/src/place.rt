@@ -3,7 +3,7 @@
 //! It uses the reader that takes no memory. Its contract: the place is that of the refusal which that reader answers.
 
 ghost use Rattle.std.specs.Prelude.{◌≡◌};
-ghost use Rattle.gix_url_c.specs.Place.{TellsPlace, place_at, place_of};
+ghost use Rattle.gix_url_c.specs.Place.{ReportsPlace, place_at, place_of};
 
 use gix_url::{ParseError, Refusal, UrlRef};
 
@@ -21,7 +21,7 @@ pub struct Place {
 /// which bytes these are. Of a text that spells a location the place is the front, and no byte long. It takes no memory.
 #[unsafe(no_mangle)]
 pub extern "C" fn gix_url_c_place(text: &[u8], place: &mut Place)
-    ensures told { TellsPlace text.now place.new }
+    ensures reported { ReportsPlace text.now place.new }
 {
     *place = place_of(UrlRef::parse_in(text, &mut []));
 }

@@ -5,16 +5,16 @@
 
 ghost use Rattle.std.specs.Prelude.{◌≡◌, ◌⊎◌, Err, IfOk, [], option_map, string_bytes};
 ghost use Rattle.gix_url.specs.FromParts.{MadeOf};
-ghost use Rattle.gix_url.specs.Value.{fields};
-ghost use Rattle.gix_url.specs.Views.{lent_protocol, protocol};
-ghost use Rattle.gix_url_c.specs.Answers.{Tells, TellsMade, TellsRead};
+ghost use Rattle.gix_url.specs.Location.{fields};
+ghost use Rattle.gix_url.specs.Views.{lent_scheme, owned_scheme};
+ghost use Rattle.gix_url_c.specs.Answers.{Reports, ReportsMade, ReportsRead};
 ghost use Rattle.gix_url_c.specs.Codes.{UnlessMemory, UnlessNone, no_problem};
 ghost use Rattle.gix_url_c.specs.Given.{IsNone, location_of};
 ghost use Rattle.gix_url_c.specs.Left.{LeavesLengths, LeavesProblem, LeavesRoom};
 
-use crate::codes::{NO_LOCATION, Problem, error_code, no_problem, told_of};
-use crate::given::{Given, located};
-use crate::handed::{Made, hand_out};
+use crate::codes::{NO_LOCATION, Problem, error_code, no_problem, problem_of};
+use crate::given::{Given, location_of};
+use crate::handed::{Made, put_location};
 use bstr::{BStr, BString};
 use gix_url::parse::parse;
 use gix_url::{Error, Scheme, SchemeRef, Url, UrlRef};
@@ -34,21 +34,21 @@ pub extern "C" fn gix_url_c_read(
     input: &[u8],
     made: &mut Made,
     room: &mut [u8],
-    told: &mut Problem,
+    reported: &mut Problem,
 ) -> u32
-    ensures told { TellsRead input.now made.new room.old room.new told.new result }
+    ensures reported { ReportsRead input.now made.new room.old room.new reported.new result }
     ensures room { LeavesRoom result room.old room.new }
     ensures lengths { LeavesLengths result made.old made.new }
-    ensures problem { LeavesProblem result no_problem told.new }
+    ensures problem { LeavesProblem result no_problem reported.new }
 {
     if input.len() <= NEAR {
         let mut near = [0; NEAR];
         if let Ok(url) = UrlRef::parse_in(input, &mut near) {
-            *told = no_problem();
-            return hand_out(&url, made, room);
+            *reported = no_problem();
+            return put_location(&url, made, room);
         }
     }
-    tell(parse(alloc, BStr::new(input)), made, room, told)
+    report(parse(alloc, BStr::new(input)), made, room, reported)
 }
 
 /// Makes the location that the text of these parts means, and hands it out: [`gix_url::Url::from_parts`]. The
@@ -62,19 +62,19 @@ pub extern "C" fn gix_url_c_from_parts(
     given: &Given<'_>,
     made: &mut Made,
     room: &mut [u8],
-    told: &mut Problem,
+    reported: &mut Problem,
 ) -> u32
-    ensures told { let parts = fields (location_of given.now) in
+    ensures reported { let parts = fields (location_of given.now) in
         UnlessNone result (IsNone given.now)
-        (UnlessMemory result (TellsMade parts made.new room.old room.new told.new result)) }
+        (UnlessMemory result (ReportsMade parts made.new room.old room.new reported.new result)) }
     ensures room { LeavesRoom result room.old room.new }
     ensures lengths { LeavesLengths result made.old made.new }
-    ensures problem { LeavesProblem result no_problem told.new }
+    ensures problem { LeavesProblem result no_problem reported.new }
 {
-    match located(given) {
-        Some(parts) => tell(of_parts(alloc, &parts), made, room, told),
+    match location_of(given) {
+        Some(parts) => report(of_parts(alloc, &parts), made, room, reported),
         None => {
-            *told = no_problem();
+            *reported = no_problem();
             NO_LOCATION
         }
     }
@@ -98,7 +98,7 @@ fn of_parts(alloc: Global, parts: &UrlRef<'_>) -> Result<Url, Error>
 
 /// A copy of the scheme.
 fn scheme(alloc: Global, scheme: SchemeRef<'_>) -> Result<Scheme, AllocError>
-    ensures { IfOk result (λ copy. protocol copy ≡ lent_protocol scheme.entry) }
+    ensures { IfOk result (λ copy. owned_scheme copy ≡ lent_scheme scheme.entry) }
 {
     match scheme {
         SchemeRef::File => Ok(Scheme::File),
@@ -123,19 +123,24 @@ fn text(alloc: Global, part: Option<&str>) -> Result<Option<String>, AllocError>
 }
 
 /// Tells an answer: hands a location out, or tells an error by its numbers.
-fn tell(answer: Result<Url, Error>, made: &mut Made, room: &mut [u8], told: &mut Problem) -> u32
-    ensures told { Tells answer made.new room.old room.new told.new result }
+fn report(
+    answer: Result<Url, Error>,
+    made: &mut Made,
+    room: &mut [u8],
+    reported: &mut Problem,
+) -> u32
+    ensures reported { Reports answer made.new room.old room.new reported.new result }
     ensures room { LeavesRoom result room.old room.new }
     ensures lengths { LeavesLengths result made.old made.new }
-    ensures problem { LeavesProblem result no_problem told.new }
+    ensures problem { LeavesProblem result no_problem reported.new }
 {
     match answer {
         Ok(url) => {
-            *told = no_problem();
-            hand_out(&url.as_ref(), made, room)
+            *reported = no_problem();
+            put_location(&url.as_ref(), made, room)
         }
         Err(error) => {
-            *told = told_of(&error);
+            *reported = problem_of(&error);
             error_code(&error)
         }
     }

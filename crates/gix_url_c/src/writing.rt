@@ -6,13 +6,13 @@
 
 ghost use Rattle.std.specs.Prelude.{◌≡◌, if◌then◌else◌, nat_lt};
 ghost use Rattle.gix_url.specs.Text.{text};
-ghost use Rattle.gix_url_c.specs.Answers.{TellsAgreement, TellsDisplay, TellsSettled, TellsText, told_length};
+ghost use Rattle.gix_url_c.specs.Answers.{ReportsAgreement, ReportsDisplay, ReportsSettled, ReportsText, reported_length};
 ghost use Rattle.gix_url_c.specs.Codes.{UnlessMemory, UnlessNone, memory, no_problem, no_room, ok};
 ghost use Rattle.gix_url_c.specs.Given.{IsNone, location_of};
 ghost use Rattle.gix_url_c.specs.Left.{LeavesLengths, LeavesProblem, LeavesRoom};
 
 use crate::codes::{MEMORY, NO_LOCATION, NO_ROOM, OK, Problem, UNWRITABLE, no_problem, unwritable};
-use crate::given::{Given, located};
+use crate::given::{Given, location_of};
 use crate::room::put_text;
 use gix_url::UrlRef;
 use std::alloc::Global;
@@ -22,12 +22,12 @@ use std::alloc::Global;
 /// It answers 0, or 101 where the parts are none of a location. It takes no memory.
 #[unsafe(no_mangle)]
 pub extern "C" fn gix_url_c_is_settled(given: &Given<'_>, settled: &mut bool) -> u32
-    ensures told { UnlessNone result (IsNone given.now)
-        (TellsSettled (location_of given.now) settled.new result) }
+    ensures reported { UnlessNone result (IsNone given.now)
+        (ReportsSettled (location_of given.now) settled.new result) }
     ensures left { LeavesRoom result settled.old settled.new }
     ensures no_memory { ¬ (result ≡ memory) }
 {
-    match located(given) {
+    match location_of(given) {
         Some(url) => {
             *settled = url.is_settled();
             OK
@@ -41,12 +41,12 @@ pub extern "C" fn gix_url_c_is_settled(given: &Given<'_>, settled: &mut bool) ->
 /// It answers 0, or 101 where the parts are none of a location. It takes no memory.
 #[unsafe(no_mangle)]
 pub extern "C" fn gix_url_c_agrees_with_git(given: &Given<'_>, agrees: &mut bool) -> u32
-    ensures told { UnlessNone result (IsNone given.now)
-        (TellsAgreement (location_of given.now) agrees.new result) }
+    ensures reported { UnlessNone result (IsNone given.now)
+        (ReportsAgreement (location_of given.now) agrees.new result) }
     ensures left { LeavesRoom result agrees.old agrees.new }
     ensures no_memory { ¬ (result ≡ memory) }
 {
-    match located(given) {
+    match location_of(given) {
         Some(url) => {
             *agrees = url.agrees_with_git();
             OK
@@ -65,18 +65,18 @@ pub extern "C" fn gix_url_c_write(
     given: &Given<'_>,
     room: &mut [u8],
     len: &mut usize,
-    told: &mut Problem,
+    reported: &mut Problem,
 ) -> u32
-    ensures told { UnlessNone result (IsNone given.now)
-        (TellsText (text (location_of given.now)) room.old room.new len.new told.new result) }
+    ensures reported { UnlessNone result (IsNone given.now)
+        (ReportsText (text (location_of given.now)) room.old room.new len.new reported.new result) }
     ensures room { LeavesRoom result room.old room.new }
     ensures length { LeavesLengths result len.old len.new }
-    ensures problem { LeavesProblem result no_problem told.new }
+    ensures problem { LeavesProblem result no_problem reported.new }
     ensures no_memory { ¬ (result ≡ memory) }
 {
-    *told = no_problem();
-    match located(given) {
-        Some(url) => write(&url, room, len, told),
+    *reported = no_problem();
+    match location_of(given) {
+        Some(url) => write(&url, room, len, reported),
         None => NO_LOCATION,
     }
 }
@@ -91,43 +91,43 @@ pub extern "C" fn gix_url_c_display(
     given: &Given<'_>,
     room: &mut [u8],
     len: &mut usize,
-    told: &mut Problem,
+    reported: &mut Problem,
 ) -> u32
-    ensures told { UnlessNone result (IsNone given.now)
+    ensures reported { UnlessNone result (IsNone given.now)
         (UnlessMemory result
-        (TellsDisplay (location_of given.now) room.old room.new len.new told.new result)) }
+        (ReportsDisplay (location_of given.now) room.old room.new len.new reported.new result)) }
     ensures room { LeavesRoom result room.old room.new }
     ensures length { LeavesLengths result len.old len.new }
-    ensures problem { LeavesProblem result no_problem told.new }
+    ensures problem { LeavesProblem result no_problem reported.new }
 {
-    *told = no_problem();
-    match located(given) {
-        Some(url) => show(alloc, &url, room, len, told),
+    *reported = no_problem();
+    match location_of(given) {
+        Some(url) => show(alloc, &url, room, len, reported),
         None => NO_LOCATION,
     }
 }
 
 /// Puts the text of the location into the room.
-fn write(url: &UrlRef<'_>, room: &mut [u8], len: &mut usize, told: &mut Problem) -> u32
-    ensures told { TellsText (text url.now) room.old room.new len.new told.new result }
+fn write(url: &UrlRef<'_>, room: &mut [u8], len: &mut usize, reported: &mut Problem) -> u32
+    ensures reported { ReportsText (text url.now) room.old room.new len.new reported.new result }
     ensures room { LeavesRoom result room.old room.new }
     ensures length { LeavesLengths result len.old len.new }
-    ensures problem { LeavesProblem result told.old told.new }
+    ensures problem { LeavesProblem result reported.old reported.new }
     ensures no_memory { ¬ (result ≡ memory) }
 {
     let size = room.len();
     match url.write_into(room) {
-        Ok(length) => measured(length, size, len),
+        Ok(length) => report_length(length, size, len),
         Err(fault) => {
-            *told = unwritable(fault);
+            *reported = unwritable(fault);
             UNWRITABLE
         }
     }
 }
 
 /// Tells the length of a text, and whether it fits into room of this size.
-fn measured(length: u128, size: usize, len: &mut usize) -> u32
-    ensures length { len.new ≡ told_length length }
+fn report_length(length: u128, size: usize, len: &mut usize) -> u32
+    ensures length { len.new ≡ reported_length length }
     ensures code { result ≡ (if nat_lt size length then no_room else ok) }
 {
     *len = usize::try_from(length).unwrap_or(usize::MAX);
@@ -140,15 +140,15 @@ fn show(
     url: &UrlRef<'_>,
     room: &mut [u8],
     len: &mut usize,
-    told: &mut Problem,
+    reported: &mut Problem,
 ) -> u32
-    ensures told { UnlessMemory result (TellsDisplay url.now room.old room.new len.new told.new result) }
+    ensures reported { UnlessMemory result (ReportsDisplay url.now room.old room.new len.new reported.new result) }
     ensures room { LeavesRoom result room.old room.new }
     ensures length { LeavesLengths result len.old len.new }
-    ensures problem { LeavesProblem result told.old told.new }
+    ensures problem { LeavesProblem result reported.old reported.new }
 {
     if let Err(fault) = url.text_len() {
-        *told = unwritable(fault);
+        *reported = unwritable(fault);
         return UNWRITABLE;
     }
     match url.to_string(alloc) {

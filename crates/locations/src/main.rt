@@ -13,7 +13,7 @@ use std::io::IsTerminal;
 use std::process::ExitCode;
 
 fn main(rt: HostRuntime) -> ExitCode {
-    let labels = match options::asked(&rt) {
+    let labels = match options::read_options(&rt) {
         Ok(labels) => labels,
         Err(status) => return ExitCode::from(status),
     };

@@ -31,7 +31,7 @@ Examples:
 Exit status: 0 if every line is settled, 1 if one is not, 2 for wrong arguments or a failed run.";
 
 /// What the command line asks for; or the status to end with, once what there is to say was said.
-pub fn asked(rt: &(impl Env + AllocGlobal + Print + Eprint)) -> Result<Labels, u8> {
+pub fn read_options(rt: &(impl Env + AllocGlobal + Print + Eprint)) -> Result<Labels, u8> {
     if is_bare(rt) {
         return Ok(Labels {
             number: false,
@@ -55,7 +55,7 @@ pub fn asked(rt: &(impl Env + AllocGlobal + Print + Eprint)) -> Result<Labels, u
             number: given.get_flag("number"),
             input: given.get_flag("with-input"),
         }),
-        Err(error) => Err(refused(rt, error)),
+        Err(error) => Err(print_instead(rt, error)),
     };
     drop(given);
     labels
@@ -67,7 +67,7 @@ fn is_bare(rt: &impl Env) -> bool {
 }
 
 /// Prints what is printed in place of answers, and returns the status to end with.
-fn refused(rt: &(impl Print + Eprint), error: &clap::Error) -> u8 {
+fn print_instead(rt: &(impl Print + Eprint), error: &clap::Error) -> u8 {
     let _ = match error.kind() {
         ErrorKind::OutOfMemory => rt.eprintln(lines::fault_line(&RunError::Memory)),
         _ => error.print(rt),

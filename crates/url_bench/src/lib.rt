@@ -8,7 +8,7 @@ ghost use Rattle.std.specs.Prelude.{◌≡◌, ◌<◌, ℕ, List, IsTrue, Ok, l
 ghost use Rattle.gix_url.specs.Grammar.{Spells};
 ghost use Rattle.gix_url.specs.Settled.{IsSettled};
 ghost use Rattle.gix_url.specs.Text as spec;
-ghost use Rattle.gix_url.specs.Value.{Location};
+ghost use Rattle.gix_url.specs.Location.{Location};
 
 use bstr::BStr;
 use gix_url::{Url, UrlRef};

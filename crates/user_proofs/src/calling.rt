@@ -10,8 +10,8 @@ ghost use Rattle.gix_url.specs.Grammar.{Spells};
 ghost use Rattle.gix_url.specs.Readings.{IsAgain, Refuses};
 ghost use Rattle.gix_url.specs.Settled.{IsSettled};
 ghost use Rattle.gix_url.specs.Text as spec;
-ghost use Rattle.gix_url.specs.Value.{Location, fields};
-ghost use Rattle.gix_url.specs.Value.Protocol.{ssh};
+ghost use Rattle.gix_url.specs.Location.{Location, fields};
+ghost use Rattle.gix_url.specs.Location.Scheme.{ssh};
 
 use crate::boxes::{boxed, read};
 use bstr::{BStr, BString};

@@ -4,7 +4,7 @@ ghost use Rattle.std.specs.Prelude.{◌≡◌, IfErr, IfOk, IfSome, IsUtf8, None
 ghost use Rattle.std.specs.Fn.{FnOnceTakesAt};
 ghost use Rattle.bstr.specs.Owned.{bstring_bytes};
 ghost use Rattle.gix_url.specs.Readings.{SpellsAgain};
-ghost use Rattle.gix_url.specs.Value.Protocol.{file};
+ghost use Rattle.gix_url.specs.Location.Scheme.{file};
 ghost use Rattle.gix_url.specs.declared.error.Error.TheVariants as error;
 
 use bstr::BString;

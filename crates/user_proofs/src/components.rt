@@ -1,7 +1,7 @@
 //! What a user proves of paths, queries and fragments by the contracts alone: a settled location of HTTP keeps them.
 
 ghost use Rattle.std.specs.Prelude.{◌≡◌, IfErr, IfOk, true};
-ghost use Rattle.gix_url.specs.Components.{Components, PartsOf};
+ghost use Rattle.gix_url.specs.Components.{Components, ComponentsOf};
 ghost use Rattle.gix_url.specs.Settled.{IsSettled, IsWeb};
 ghost use Rattle.gix_url.specs.declared.error.Error.TheVariants as error;
 
@@ -14,7 +14,7 @@ use std::test::Fail;
 
 /// Whether the paths of two locations are made of the same.
 fn are_made_alike(alloc: Global, one: &Url, other: &Url) -> Result<bool, Error>
-    ensures alike { IfOk result (λ alike. (c : Components) → PartsOf one.now c → PartsOf other.now c → alike ≡ true) }
+    ensures alike { IfOk result (λ alike. (c : Components) → ComponentsOf one.now c → ComponentsOf other.now c → alike ≡ true) }
     ensures memory { IfErr result (λ e. e ≡ error.Memory) }
 {
     law_components();

@@ -3,7 +3,7 @@
 ghost use Rattle.std.specs.Prelude.{◌≡◌, ◌↔◌, IfErr, IfOk, IsTrue};
 ghost use Rattle.gix_url.specs.Grammar.{Spells};
 ghost use Rattle.gix_url.specs.Settled.{IsSettled};
-ghost use Rattle.gix_url.specs.Value.{Location, fields};
+ghost use Rattle.gix_url.specs.Location.{Location, fields};
 ghost use Rattle.gix_url.specs.declared.error.Error.TheVariants as error;
 
 use crate::boxes::{boxed, read};

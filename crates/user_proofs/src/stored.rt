@@ -4,7 +4,7 @@ ghost use Rattle.std.specs.Prelude.{◌≡◌, ◌⊎◌, ℕ, List, IfErr, IfOk
 ghost use Rattle.bstr.specs.BStr.{bstr_bytes};
 ghost use Rattle.bstr.specs.Owned.{bstring_bytes};
 ghost use Rattle.gix_url.specs.Grammar.{Spells, SpellsHelper, SpellsLocal};
-ghost use Rattle.gix_url.specs.Value.{Location};
+ghost use Rattle.gix_url.specs.Location.{Location};
 ghost use Rattle.gix_url.specs.declared.error.Error.TheVariants as error;
 
 use crate::boxes::{boxed, read};

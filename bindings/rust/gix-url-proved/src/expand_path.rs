@@ -30,7 +30,7 @@ impl fmt::Debug for ForUser {
     fn fmt(&self, f: &mut fmt::Formatter<'_>) -> fmt::Result {
         match self {
             ForUser::Current => f.write_str("Current"),
-            ForUser::Name(name) => f.debug_tuple("Name").field(&crate::logs::Text(name)).finish(),
+            ForUser::Name(name) => f.debug_tuple("Name").field(&crate::debug::Text(name)).finish(),
         }
     }
 }

@@ -28,12 +28,12 @@ pub use ::bstr;
 pub mod bstr;
 
 mod convert;
+mod debug;
 mod disk;
 pub mod expand_path;
 mod ffi;
 pub mod ipv6;
 mod lent;
-mod logs;
 pub mod parse;
 mod scheme;
 #[cfg(feature = "serde")]

@@ -2,10 +2,10 @@
 use Rattle.std.proofs.Common.{◌≡◌, ◌∙◌, ◌==◌, ◌&&◌, ◌<◌, ℕ, true, false, inl, inr, List, [], ◌∷◌, ◌++◌, Option, Some, None, length, codes, refl, sym, ap, subst, arith, lit<}
 use Rattle.std.proofs.lemmas.Bool.Decides.{nat_tests}
 use Rattle.std.proofs.lemmas.Bool.{false≢true, true≢false}
-use Rattle.git_syntax.specs.Value.{Protocol}
-use Rattle.git_syntax.specs.Value.Protocol.{file, git, ssh}
+use Rattle.git_syntax.specs.Location.{Scheme}
+use Rattle.git_syntax.specs.Location.Scheme.{file, git, ssh}
 use Rattle.git_syntax.specs.Bytes.{tab, newline, slash, colon, at_sign, left_bracket, right_bracket, tilde, FreeOf, Holds, Lacks, StartsPath, begins_with, is_helper_name, is_path_start}
-use Rattle.git_syntax.specs.Schemes.{protocol_of}
+use Rattle.git_syntax.specs.Schemes.{scheme_of}
 use Rattle.git_syntax.specs.Authority.{unless_empty}
 use Rattle.git_location.specs.Arguments.{is_option_like}
 use Rattle.git_laws.specs.Git.{GitReading, on_this_machine, from_tilde, git_decode, host_mark, OpensHost, InBrackets, LacksHostBrackets, HostEnd, CutsPlace, BeforePort, HostAndPort, SecurePort, UserCut, ReachesSecure, ReachesGit, OwnUrl, IsNoUrl, ReadsGiven, GitReads}
@@ -39,7 +39,7 @@ bracket_cut c t front inside between rest h other first = record {
 -- ---- transports
 
 -- a URL whose rest is decoded to this
-url : (p : Protocol) (scheme spelled rest : List ℕ) → protocol_of scheme ≡ p → rest ≡ git_decode spelled → OwnUrl p (scheme ++ (codes "://" ++ spelled)) rest
+url : (p : Scheme) (scheme spelled rest : List ℕ) → scheme_of scheme ≡ p → rest ≡ git_decode spelled → OwnUrl p (scheme ++ (codes "://" ++ spelled)) rest
 url p scheme spelled rest own decoded = record { scheme = scheme; spelled = spelled; own = own; joined = refl; decoded = decoded }
 
 -- what Secure Shell gets
@@ -244,7 +244,7 @@ git_text_rows = (
 -- ---- texts without a reading
 
 -- a text without `://` is no URL
-not_own : {A : Type 0} (p : Protocol) (t rest : List ℕ) → ¬ Holds (codes "://") t → OwnUrl p t rest → A
+not_own : {A : Type 0} (p : Scheme) (t rest : List ℕ) → ¬ Holds (codes "://") t → OwnUrl p t rest → A
 not_own p t rest none h = absurd (none (h.scheme, h.spelled, h.joined))
 
 -- what is neither a URL nor another text that Git reads itself
@@ -252,21 +252,21 @@ neither_read : (t : List ℕ) (reading : GitReading) → ¬ Holds (codes "://") 
 neither_read t reading h2 h3 h4 = grind (arith, nat_tests, not_own)
 
 -- a URL of a transport is cut as it is here
-own_cut : (p : Protocol) (scheme spelled x place path name more : List ℕ) → is_own p ≡ true → protocol_of scheme ≡ p → OwnUrl p (scheme ++ (codes "://" ++ spelled)) x → CutsPlace slash x place path → CutsPlace slash (git_decode spelled) name more → (place ≡ name) × (path ≡ more)
+own_cut : (p : Scheme) (scheme spelled x place path name more : List ℕ) → is_own p ≡ true → scheme_of scheme ≡ p → OwnUrl p (scheme ++ (codes "://" ++ spelled)) x → CutsPlace slash x place path → CutsPlace slash (git_decode spelled) name more → (place ≡ name) × (path ≡ more)
 own_cut p scheme spelled x place path name more own is u c d =
     let rests = (own_unique p p (scheme ++ (codes "://" ++ spelled)) x (git_decode spelled) own own u (url p scheme spelled (git_decode spelled) is refl)).1 in
     place_unique slash (git_decode spelled) place path name more (subst (λ r. CutsPlace slash r place path) rests c) d
 
 -- and is one of no other
-other_own : {A : Type 0} (p q : Protocol) (scheme spelled x : List ℕ) → is_own p ≡ true → is_own q ≡ true → protocol_of scheme ≡ p → ¬ (p ≡ q) → OwnUrl q (scheme ++ (codes "://" ++ spelled)) x → A
+other_own : {A : Type 0} (p q : Scheme) (scheme spelled x : List ℕ) → is_own p ≡ true → is_own q ≡ true → scheme_of scheme ≡ p → ¬ (p ≡ q) → OwnUrl q (scheme ++ (codes "://" ++ spelled)) x → A
 other_own p q scheme spelled x first second is differ u =
     absurd (differ (own_unique p q (scheme ++ (codes "://" ++ spelled)) (git_decode spelled) x first second (url p scheme spelled (git_decode spelled) is refl) u).0)
 
 -- a URL of HTTP is none of a transport
-no_own : {A : Type 0} (p : Protocol) (rest : List ℕ) → is_own p ≡ true → OwnUrl p (codes "http://h/p") rest → A
+no_own : {A : Type 0} (p : Scheme) (rest : List ℕ) → is_own p ≡ true → OwnUrl p (codes "http://h/p") rest → A
 no_own p rest own h =
     let same = (cut_unique colon h.scheme (codes "http") (slash ∷ slash ∷ h.spelled) (codes "//h/p") (own_free p h.scheme h.own own) refl (sym h.joined)).0 in
-    absurd (false≢true (ap (λ s. is_own (protocol_of s)) (sym same) ∙ ap is_own h.own ∙ own))
+    absurd (false≢true (ap (λ s. is_own (scheme_of s)) (sym same) ∙ ap is_own h.own ∙ own))
 
 -- nor is it another text that Git reads itself
 web_row : (reading : GitReading) → ReadsGiven (codes "http://h/p") reading → ⊥

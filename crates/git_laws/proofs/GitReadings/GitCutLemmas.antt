@@ -8,11 +8,11 @@ use Rattle.std.proofs.lemmas.Bool.Decides.{nat_tests}
 use Rattle.percent_encoding.specs.Percent.{is_escape, percent_decode}
 use Rattle.git_syntax.specs.Bytes.{percent_sign, colon, at_sign, left_bracket, right_bracket, plus_sign, hyphen, FreeOf, Holds}
 use Rattle.git_syntax.specs.Hosts.{HoldsTwoColons}
-use Rattle.git_syntax.specs.Hosts.Mode.{bare}
+use Rattle.git_syntax.specs.Hosts.HostSyntax.{git_hosts}
 use Rattle.git_location.specs.Text.{raw_user, port_part}
 use Rattle.git_laws.specs.Git.{escaped_byte, is_git_escape, git_decode, host_mark, OpensHost, InBrackets, LacksHostBrackets, HostEnd, CutsPlace, is_c_space, digits_port, negative_port, signed_port, git_port, BeforePort, HostAndPort, SecurePort}
 use Rattle.git_syntax.proofs.Texts.CutLemmas.{heads, tails, not_free, free_parts, free_head_tail, free_begins, free_or_cut, free-append, free-cons}
-use Rattle.git_syntax.proofs.Readings.HostLemmas.{number_written}
+use Rattle.git_syntax.proofs.Parsing.HostLemmas.{number_written}
 
 -- ---- brackets
 
@@ -166,7 +166,7 @@ git_port_digits (b ∷ bs) some digits small =
 -- what a port is written with is that port
 pub git_port_written : (port : ℕ) → port < 65536 → git_port (decimal port) ≡ Some port
 git_port_written port small =
-    let number = number_written bare port small tt in
+    let number = number_written git_hosts port small tt in
     git_port_digits (decimal port) number.digits.0 number.digits.1 (subst (λ n. n ≤ 65535) number.value number.within) ∙ ap Some (sym number.value)
 
 -- ---- hosts

@@ -2,12 +2,12 @@
 use Rattle.std.proofs.Common.{◌≡◌, ◌∙◌, ℕ, ◌<◌, true, false, ◌⊎◌, inl, inr, List, [], ◌∷◌, ◌++◌, length, ◌==◌, Option, Some, None, Ok, IfSome, IsUtf8, codes, refl, sym, ap, subst, arith, append_assoc}
 use Rattle.std.proofs.lemmas.Bool.Decides.{nat_tests}
 use Rattle.git_syntax.specs.declared.escape.TheConstants.{PASSWORD, USER}
-use Rattle.git_syntax.specs.Value.{Protocol, Location}
-use Rattle.git_syntax.specs.Value.Protocol.{file, git, http, https, ssh}
+use Rattle.git_syntax.specs.Location.{Scheme, Location}
+use Rattle.git_syntax.specs.Location.Scheme.{file, git, http, https, ssh}
 use Rattle.git_syntax.specs.Addresses.{IsIpv6Text}
 use Rattle.git_syntax.specs.Bytes.{percent_sign, slash, colon, at_sign, left_bracket, right_bracket, tilde, FreeOf, Lacks, begins_with}
 use Rattle.git_syntax.specs.Internal.HostPieces.{in_brackets}
-use Rattle.git_syntax.specs.Grammar.{ScpFront, IsNeither, IsScpShaped}
+use Rattle.git_syntax.specs.Grammar.{ScpFront, IsNeither, HasScpForm}
 use Rattle.git_location.specs.Arguments.{is_option_like}
 use Rattle.git_location.specs.Text.{raw_user, raw_host, canonical_text, text}
 use Rattle.git_location.specs.Settled.{IsValue, IsWeb, IsNormalAddress, IsScpName, IsSettledLocal, IsSettledFile, IsSettledScp, IsSettledBy, LooksLikeHelper}
@@ -19,17 +19,17 @@ use Rattle.git_laws.specs.GitWeb.{ReadsOwnOverWeb}
 use Rattle.git_laws.specs.GitClass.{HostForGit, own_reading, ReadsOwnBy, ReadAlike}
 use Rattle.git_syntax.proofs.Texts.CutLemmas.{begins_cut, cut_unique, free-append, free-cons, free_of_lacked, free_or_cut, free_parts, not_free}
 use Rattle.git_syntax.proofs.Addresses.AddressLemmas.{address_free, address_two_colons, is_address_byte}
-use Rattle.git_laws.proofs.Written.FileLemmas.{hostless_text}
-use Rattle.git_laws.proofs.Written.KeptLemmas.{flagged_text}
-use Rattle.git_laws.proofs.Written.WrittenScpLemmas.{address_raw, scp_value_of, scp_written, scp_spelled}
+use Rattle.git_laws.proofs.Writing.FileLemmas.{hostless_text}
+use Rattle.git_laws.proofs.Writing.KeptLemmas.{flagged_text}
+use Rattle.git_laws.proofs.Writing.WrittenScpLemmas.{address_raw, scp_value_of, scp_written, scp_spelled}
 use Rattle.git_laws.proofs.GitReadings.GitCutLemmas.{bracket_first, bracketed_cut, bracketed_place, git_decode_kept, lacks_brackets, nothing_passed, place_cut, place_in_brackets, portless_coloned, portless_free, some_behind}
 use Rattle.git_laws.proofs.GitReadings.GitPieceLemmas.{from_tilde_kept, scp_host_raw}
 use Rattle.git_laws.proofs.GitReadings.GitTransportLemmas.{IsReadBy, own_read, secure_host, secure_reading, word_of, secure_reached, host_safe, own_url, secure_url_alike, git_url_alike}
 use Rattle.git_laws.proofs.GitReadings.WebCredentialLemmas.{credential_own}
 use Rattle.git_laws.proofs.GitReadings.WebTextLemmas.{web_text}
 use Rattle.git_laws.proofs.GitReadings.WebUriLemmas.{uri_own}
-use Rattle.git_location.proofs.Written.WrittenAsUrlLemmas.{one_text}
-use Rattle.git_syntax.proofs.Readings.FormLemmas.{scp_neither}
+use Rattle.git_location.proofs.Writing.WrittenAsUrlLemmas.{one_text}
+use Rattle.git_syntax.proofs.Parsing.FormLemmas.{scp_neither}
 
 -- ---- this machine
 
@@ -57,37 +57,37 @@ file_url_alike v e a none plain h =
     own_read v None (codes "file://" ++ v.path) (on_this_machine v.path) (machine_host v e none) (machine_reading v e h.alone.0 h.alone.2) (hostless_text v e h none) (free-append 0 (codes "file://") v.path refl (path_free v a.plain 0 refl)) refl (file_url_reads v.path rest rooted plain (path_free v a.plain left_bracket refl))
 
 -- without brackets a colon before any `/` would make it the scp form
-unshaped : (t front rest : List ℕ) → FreeOf right_bracket t → IsNeither t → ¬ IsScpShaped t → FreeOf colon front → t ≡ front ++ colon ∷ rest → ¬ FreeOf slash front
-unshaped t front rest plain neither no_scp first e free =
-    no_scp (inl (front, rest, record { joined = e; neither = neither; no_slash = free; shape = ScpFront.plain first (inr plain) }))
+lacks_form : (t front rest : List ℕ) → FreeOf right_bracket t → IsNeither t → ¬ HasScpForm t → FreeOf colon front → t ≡ front ++ colon ∷ rest → ¬ FreeOf slash front
+lacks_form t front rest plain neither no_scp first e free =
+    no_scp (inl (front, rest, record { joined = e; neither = neither; no_slash = free; form = ScpFront.plain first (inr plain) }))
 
 -- so it has no colon, or a `/` before it
-local_text : (t : List ℕ) → FreeOf right_bracket t → IsNeither t → ¬ IsScpShaped t → IsLocal t
+local_text : (t : List ℕ) → FreeOf right_bracket t → IsNeither t → ¬ HasScpForm t → IsLocal t
 local_text t plain neither no_scp =
     elim (free_or_cut colon t) [
       | inl free ↦ inl free
       | inr (x, y, first, e) ↦
           elim (free_or_cut slash x) [
-            | inl free ↦ absurd (unshaped t x y plain neither no_scp first e free)
+            | inl free ↦ absurd (lacks_form t x y plain neither no_scp first e free)
             | inr (p, q, before, cut) ↦
                 inr (p, q ++ colon ∷ y, (free_parts colon p (slash ∷ q) (subst (λ s. FreeOf colon s) cut first)).0, e ∙ ap (λ s. s ++ colon ∷ y) cut ∙ append_assoc p (slash ∷ q) (colon ∷ y))
           ]
     ]
 
 -- such a text is neither a URL nor for a remote helper nor for `rsync`
-local_no_url : (t : List ℕ) → FreeOf right_bracket t → IsNeither t → ¬ IsScpShaped t → IsNoUrl t
+local_no_url : (t : List ℕ) → FreeOf right_bracket t → IsNeither t → ¬ HasScpForm t → IsNoUrl t
 local_no_url t plain neither no_scp = record {
   no_mark = neither.no_mark;
   no_helper = neither.no_helper;
-  no_empty_helper = λ rest e. unshaped t [] (colon ∷ rest) plain neither no_scp refl e refl;
-  no_rsync = λ rest e. unshaped t (codes "rsync") rest plain neither no_scp refl e refl;
+  no_empty_helper = λ rest e. lacks_form t [] (colon ∷ rest) plain neither no_scp refl e refl;
+  no_rsync = λ rest e. lacks_form t (codes "rsync") rest plain neither no_scp refl e refl;
 }
 
 -- a settled local path
 local_alike : (v : Location) → v.scheme ≡ file → AgreesByTransport v → begins_with tilde v.path ≡ false → IsSettledLocal v → IsReadBy file v
 local_alike v e a homeless h =
     let plain = path_free v a.plain right_bracket refl in
-    own_read v None v.path (on_this_machine v.path) (machine_host v e h.bare.2) (machine_reading v e h.bare.1.0 h.bare.1.2) (flagged_text v e h) (path_free v a.plain 0 refl) a.no_option.path (ReadsGiven.local_path [] v.path (local_no_url v.path plain h.shape.neither h.shape.no_scp) (local_text v.path plain h.shape.neither h.shape.no_scp) (nothing_passed v.path (path_free v a.plain left_bracket refl)) h.shape.nonempty a.no_option.path homeless refl)
+    own_read v None v.path (on_this_machine v.path) (machine_host v e h.bare.2) (machine_reading v e h.bare.1.0 h.bare.1.2) (flagged_text v e h) (path_free v a.plain 0 refl) a.no_option.path (ReadsGiven.local_path [] v.path (local_no_url v.path plain h.form.neither h.form.no_scp) (local_text v.path plain h.form.neither h.form.no_scp) (nothing_passed v.path (path_free v a.plain left_bracket refl)) h.form.nonempty a.no_option.path homeless refl)
 
 -- ---- the scp form
 
@@ -271,8 +271,8 @@ scp_alike v e is a suits h =
 
 -- ---- all kinds
 
--- of Git's own transports, by protocol
-transport_read : (p : Protocol) (v : Location) → v.scheme ≡ p → IsValue v → AgreesByTransport v → SuitsTransport p v → IsSettledBy p v → IsReadBy p v
+-- of Git's own transports, by scheme
+transport_read : (p : Scheme) (v : Location) → v.scheme ≡ p → IsValue v → AgreesByTransport v → SuitsTransport p v → IsSettledBy p v → IsReadBy p v
 transport_read file v e is a suits (inl h) = local_alike v e a suits.1 h
 transport_read file v e is a suits (inr h) = file_url_alike v e a suits.0 (suits.2 h.unflagged) h
 transport_read ssh v e is a suits (inl h) = scp_alike v e is a suits h
@@ -287,8 +287,8 @@ web_read v web is a =
     let (uri, reads, own, normal) = uri_own v web is a host there in
     (canonical_text v, web_text v web a, record { host = host; there = there; credential = credential_own v web is a host there; uri = uri; reads = reads; own = own; normal = normal })
 
--- by protocol
-read_by : (p : Protocol) (v : Location) → v.scheme ≡ p → IsValue v → AgreesBy p v → IsReadBy p v
+-- by scheme
+read_by : (p : Scheme) (v : Location) → v.scheme ≡ p → IsValue v → AgreesBy p v → IsReadBy p v
 read_by http v e is a = web_read v (inl e) is a
 read_by https v e is a = web_read v (inr e) is a
 read_by p v e is a = transport_read p v e is a (subst (λ q. SuitsTransport q v) e a.suits) (subst (λ q. IsSettledBy q v) e a.settled)

@@ -10,8 +10,8 @@ use Rattle.percent_encoding.specs.Percent.{percent_decode, percent_encode}
 use Rattle.percent_encoding.proofs.AsciiSetLemmas.{ascii_from_kept, escaped_from_inside, kept_from_outside, outside_from_kept}
 use Rattle.percent_encoding.proofs.PercentLemmas.{percent_encode-nil, percent_encode_kept}
 use Rattle.git_syntax.specs.declared.escape.TheConstants.{PASSWORD, USER}
-use Rattle.git_syntax.specs.Value.{Protocol, Location}
-use Rattle.git_syntax.specs.Value.Protocol.{ssh, git}
+use Rattle.git_syntax.specs.Location.{Scheme, Location}
+use Rattle.git_syntax.specs.Location.Scheme.{ssh, git}
 use Rattle.git_syntax.specs.Addresses.{IsIpv6Text}
 use Rattle.git_syntax.specs.AddressTest.{is_ipv6_text}
 use Rattle.git_syntax.specs.Bytes.{percent_sign, slash, colon, at_sign, tilde, FreeOf, Lacks, begins_with}
@@ -26,8 +26,8 @@ use Rattle.git_syntax.proofs.Addresses.AddressTestLemmas.{ipv6_text_to}
 use Rattle.git_syntax.proofs.Texts.CutLemmas.{lacks-cons, lacks_head_tail, free_head_tail, free-append, free-cons, free_of_all, free_of_lacked, begins_cut}
 use Rattle.git_syntax.proofs.Texts.EscapeLemmas.{decode_byte, decode_kept}
 use Rattle.git_syntax.proofs.Texts.EscapeSets.{password_holds, user_holds}
-use Rattle.git_syntax.proofs.Readings.HostLemmas.{decimal_digits}
-use Rattle.git_laws.proofs.Written.WrittenPathLemmas.{matching_cases}
+use Rattle.git_syntax.proofs.Parsing.HostLemmas.{decimal_digits}
+use Rattle.git_laws.proofs.Writing.WrittenPathLemmas.{matching_cases}
 
 -- ---- bytes that are kept
 
@@ -120,8 +120,8 @@ homeless_second rest other = grind arith
 unrooted_tilde : (path rest : List ℕ) → path ≡ tilde ∷ rest → begins_with slash path ≡ false
 unrooted_tilde path rest e = ap (begins_with slash) e
 
--- both protocols write it so
-record HasPlainPaths (p : Protocol) : Type 0 where
+-- both schemes write it so
+record HasPlainPaths (p : Scheme) : Type 0 where
   roots : requires_path p ≡ true
   plain : (path : List ℕ) → plain_path p path ≡ path
 

@@ -7,11 +7,11 @@ use Rattle.std.proofs.lemmas.Bool.{false≢true, both_ways}
 use Rattle.percent_encoding.specs.AsciiSet.{contains, should_percent_encode}
 use Rattle.percent_encoding.specs.Percent.{percent_decode, percent_encode}
 use Rattle.git_syntax.specs.declared.escape.TheConstants.{PASSWORD, USER}
-use Rattle.git_syntax.specs.Value.{Protocol, Location}
-use Rattle.git_syntax.specs.Value.Protocol.{git, ssh}
+use Rattle.git_syntax.specs.Location.{Scheme, Location}
+use Rattle.git_syntax.specs.Location.Scheme.{git, ssh}
 use Rattle.git_syntax.specs.Addresses.{IsIpv6Text}
 use Rattle.git_syntax.specs.Bytes.{newline, percent_sign, slash, colon, at_sign, left_bracket, right_bracket, FreeOf, Lacks, begins_with}
-use Rattle.git_syntax.specs.Schemes.{protocol_of, protocol_text}
+use Rattle.git_syntax.specs.Schemes.{scheme_of, scheme_text}
 use Rattle.git_syntax.specs.Authority.{unless_empty}
 use Rattle.git_syntax.specs.Grammar.{Unbrackets}
 use Rattle.git_location.specs.Arguments.{is_option_like}
@@ -23,17 +23,17 @@ use Rattle.git_laws.specs.GitClass.{HostForGit, own_reading, ReadsOwnPlace, Read
 use Rattle.git_syntax.proofs.Texts.CutLemmas.{free-append, free-cons, free_begins, free_head_tail, free_of_lacked, free_parts, not_free}
 use Rattle.git_syntax.proofs.Texts.EscapeLemmas.{decode_encode_utf8, decode_kept, decodes_in_parts, encode_sound, sound_free}
 use Rattle.git_syntax.proofs.Addresses.AddressLemmas.{address_free, address_two_colons, is_address_byte}
-use Rattle.git_syntax.proofs.Readings.UrlLemmas.{some_kept}
-use Rattle.git_laws.proofs.Written.WrittenHostLemmas.{address_in_brackets, bracketed_escaped, written_host}
-use Rattle.git_laws.proofs.Written.WrittenUrlLemmas.{authority_text, canonical_cut}
+use Rattle.git_syntax.proofs.Parsing.UrlLemmas.{some_kept}
+use Rattle.git_laws.proofs.Writing.WrittenHostLemmas.{address_in_brackets, bracketed_escaped, written_host}
+use Rattle.git_laws.proofs.Writing.WrittenUrlLemmas.{authority_text, canonical_cut}
 use Rattle.git_laws.proofs.GitReadings.GitCutLemmas.{IsPortless, ReadsPlace, bracketed_cut, bracketed_place, git_decoded, place_cut, place_in_brackets, place_with_port, place_without_port, portless_coloned, portless_free, some_behind}
 use Rattle.git_laws.proofs.GitReadings.GitPieceLemmas.{IsHostRaw, IsPathRaw, IsUserRaw, host_raw, kept_free, path_raw, port_free, unmarked, user_raw}
-use Rattle.git_location.proofs.Written.WrittenAsUrlLemmas.{written_git, written_secure}
+use Rattle.git_location.proofs.Writing.WrittenAsUrlLemmas.{written_git, written_secure}
 
 -- ---- texts
 
--- the location has a text, in which its own parts are read, as they are of the protocol
-abbrev pub IsReadBy : Protocol → Location → Type 0
+-- the location has a text, in which its own parts are read, as they are of the scheme
+abbrev pub IsReadBy : Scheme → Location → Type 0
 IsReadBy p v = (t : List ℕ) × (text v ≡ Ok t) × ReadsOwnBy p t v
 
 -- of Git's own transports, where they are what Git reads in it
@@ -106,8 +106,8 @@ word_read word None small marked portless free = place_without_port word portles
 word_read word (Some p) small marked portless free = place_with_port word p small (marked refl) free
 
 -- the text is a URL of the transport, and this is what the rest is decoded to
-pub own_url : (protocol : Protocol) (scheme spelled rest : List ℕ) → protocol_of scheme ≡ protocol → git_decode spelled ≡ rest → OwnUrl protocol (scheme ++ (codes "://" ++ spelled)) rest
-own_url protocol scheme spelled rest own decoded = record { scheme = scheme; spelled = spelled; own = own; joined = refl; decoded = sym decoded }
+pub own_url : (known : Scheme) (scheme spelled rest : List ℕ) → scheme_of scheme ≡ known → git_decode spelled ≡ rest → OwnUrl known (scheme ++ (codes "://" ++ spelled)) rest
+own_url known scheme spelled rest own decoded = record { scheme = scheme; spelled = spelled; own = own; joined = refl; decoded = sym decoded }
 
 -- ---- URLs of Git's own transports
 
@@ -262,8 +262,8 @@ transport_text v host word h p =
     }
 
 -- the whole text, with its scheme
-transport_whole : (v : Location) (p : Protocol) → v.scheme ≡ p → canonical_text v ≡ protocol_text p ++ (codes "://" ++ (authority_text v ++ canonical_path v))
-transport_whole v p e = canonical_cut v ∙ ap (λ q. protocol_text q ++ (codes "://" ++ (authority_text v ++ canonical_path v))) e
+transport_whole : (v : Location) (p : Scheme) → v.scheme ≡ p → canonical_text v ≡ scheme_text p ++ (codes "://" ++ (authority_text v ++ canonical_path v))
+transport_whole v p e = canonical_cut v ∙ ap (λ q. scheme_text q ++ (codes "://" ++ (authority_text v ++ canonical_path v))) e
 
 -- the parts of a host that is there
 pub host_safe : (v : Location) (host : List ℕ) → v.host ≡ Some host → HasNoOption v → is_option_like host ≡ false

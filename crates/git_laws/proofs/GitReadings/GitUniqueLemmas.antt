@@ -4,13 +4,13 @@ use Rattle.std.proofs.lemmas.Bool.Decides.{nat_tests}
 use Rattle.std.proofs.lemmas.Bool.{both_ways, false≢true}
 use Rattle.std.proofs.lemmas.Option.{none-some}
 use Rattle.std.proofs.lemmas.Slice.Eq.{bytes_eq-Decides}
-use Rattle.git_syntax.specs.Value.{Protocol}
-use Rattle.git_syntax.specs.Value.Protocol.{file, git, ssh}
+use Rattle.git_syntax.specs.Location.{Scheme}
+use Rattle.git_syntax.specs.Location.Scheme.{file, git, ssh}
 use Rattle.git_syntax.specs.Bytes.{slash, colon, at_sign, left_bracket, right_bracket, FreeOf, Holds, begins_with}
-use Rattle.git_syntax.specs.Schemes.{protocol_of, requires_path}
+use Rattle.git_syntax.specs.Schemes.{scheme_of, requires_path}
 use Rattle.git_syntax.specs.Authority.{unless_empty}
 use Rattle.git_laws.specs.Git.{GitReading, OneGitReading, on_this_machine, from_tilde, git_decode, host_mark, OpensHost, InBrackets, LacksHostBrackets, HostEnd, CutsPlace, git_port, BeforePort, HostAndPort, SecurePort, UserCut, ReachesSecure, ReachesGit, OwnUrl, IsNoUrl, IsRemote, IsLocal, ReadsGiven}
-use Rattle.git_syntax.proofs.Readings.SchemeLemmas.{protocol_cases, transport}
+use Rattle.git_syntax.proofs.Parsing.SchemeLemmas.{scheme_cases, transport}
 use Rattle.git_syntax.proofs.Texts.CutLemmas.{heads, tails, different_bytes, cut_unique, free_head_tail, last_cut_unique, not_free, held_cut_unique}
 
 -- ---- brackets
@@ -212,25 +212,25 @@ git_reading_unique place path reading other h k =
 
 -- ---- forms
 
--- the protocol is one of Git's own transports
-abbrev pub is_own : Protocol → Bool
+-- the scheme is one of Git's own transports
+abbrev pub is_own : Scheme → Bool
 is_own file = true
 is_own git = true
 is_own ssh = true
 is_own _ = false
 
 -- the scheme of a transport has no colon
-pub own_free : (p : Protocol) (s : List ℕ) → protocol_of s ≡ p → is_own p ≡ true → FreeOf colon s
-own_free p s h2 h3 = grind (arith, nat_tests, transport, not, protocol_cases, false≢true, bytes_eq-Decides, codes)
+pub own_free : (p : Scheme) (s : List ℕ) → scheme_of s ≡ p → is_own p ≡ true → FreeOf colon s
+own_free p s h2 h3 = grind (arith, nat_tests, transport, not, scheme_cases, false≢true, bytes_eq-Decides, codes)
 
 -- a URL of a transport is one of no other, and one rest stands behind its scheme
-pub own_unique : (p q : Protocol) (t rest other : List ℕ) → is_own p ≡ true → is_own q ≡ true → OwnUrl p t rest → OwnUrl q t other → (p ≡ q) × (rest ≡ other)
+pub own_unique : (p q : Scheme) (t rest other : List ℕ) → is_own p ≡ true → is_own q ≡ true → OwnUrl p t rest → OwnUrl q t other → (p ≡ q) × (rest ≡ other)
 own_unique p q t rest other first second h k =
     let schemes = cut_unique colon h.scheme k.scheme (slash ∷ slash ∷ h.spelled) (slash ∷ slash ∷ k.spelled) (own_free p h.scheme h.own first) (own_free q k.scheme k.own second) (sym h.joined ∙ k.joined) in
-    (sym h.own ∙ ap protocol_of schemes.0 ∙ k.own, h.decoded ∙ ap git_decode (tails (tails schemes.1)) ∙ sym k.decoded)
+    (sym h.own ∙ ap scheme_of schemes.0 ∙ k.own, h.decoded ∙ ap git_decode (tails (tails schemes.1)) ∙ sym k.decoded)
 
 -- a URL is no other text
-own_no_other : {A : Type 0} (p : Protocol) (t rest : List ℕ) → OwnUrl p t rest → IsNoUrl t → A
+own_no_other : {A : Type 0} (p : Scheme) (t rest : List ℕ) → OwnUrl p t rest → IsNoUrl t → A
 own_no_other p t rest h k = absurd (k.no_mark (h.scheme, h.spelled, h.joined))
 
 -- a colon before any `/` isn't behind one
@@ -246,13 +246,13 @@ remote_not_local t h (inl free) = absurd (not_free colon h.front h.rest (subst (
 remote_not_local t h (inr (p, q, free, e)) = absurd (not_both_first h.front h.rest p q h.no_slash free (sym h.joined ∙ e))
 
 -- two URLs of one transport are cut alike
-url_cut_unique : (p : Protocol) (t rest other place name path more : List ℕ) → is_own p ≡ true → OwnUrl p t rest → OwnUrl p t other → CutsPlace slash rest place path → CutsPlace slash other name more → (place ≡ name) × (path ≡ more)
+url_cut_unique : (p : Scheme) (t rest other place name path more : List ℕ) → is_own p ≡ true → OwnUrl p t rest → OwnUrl p t other → CutsPlace slash rest place path → CutsPlace slash other name more → (place ≡ name) × (path ≡ more)
 url_cut_unique p t rest other place name path more own h k c d =
     let same = own_unique p p t rest other own own h k in
     place_unique slash other place path name more (subst (λ r. CutsPlace slash r place path) same.1 c) d
 
 -- and URLs of two transports are two texts
-apart : {A : Type 0} (p q : Protocol) (t rest other : List ℕ) → is_own p ≡ true → is_own q ≡ true → ¬ (p ≡ q) → OwnUrl p t rest → OwnUrl q t other → A
+apart : {A : Type 0} (p q : Scheme) (t rest other : List ℕ) → is_own p ≡ true → is_own q ≡ true → ¬ (p ≡ q) → OwnUrl p t rest → OwnUrl q t other → A
 apart p q t rest other first second differ h k = absurd (differ (own_unique p q t rest other first second h k).0)
 
 -- equal places and paths are reached alike by Secure Shell

@@ -7,9 +7,9 @@ use Rattle.std.proofs.lemmas.Bool.Decides.{nat_tests}
 use Rattle.std.proofs.lemmas.Option.{IfSome_then, same_Some}
 use Rattle.percent_encoding.specs.Percent.{percent_decode, percent_encode, is_escape}
 use Rattle.git_syntax.specs.declared.escape.TheConstants.{PASSWORD, USER}
-use Rattle.git_syntax.specs.Value.{Location}
+use Rattle.git_syntax.specs.Location.{Location}
 use Rattle.git_syntax.specs.Bytes.{newline, percent_sign, slash, colon, at_sign, right_bracket, Lacks, FreeOf, begins_with}
-use Rattle.git_syntax.specs.Schemes.{protocol_text}
+use Rattle.git_syntax.specs.Schemes.{scheme_text}
 use Rattle.git_location.specs.Text.{user_information, port_part, canonical_path, canonical_text}
 use Rattle.git_location.specs.Settled.{begins_with_slashes, first_byte, IsValue, IsWeb}
 use Rattle.git_location.specs.WebClass.{is_control, is_uri_byte, IsDecodedWhole, is_plain_host_byte, IsUnambiguousUser, IsUnambiguousPassword, AgreesOverWeb}
@@ -19,12 +19,12 @@ use Rattle.git_syntax.proofs.Texts.CutLemmas.{begins_cut, free-append, free_head
 use Rattle.git_syntax.proofs.Texts.EscapeLemmas.{decode_byte, decode_kept, encode_free}
 use Rattle.git_syntax.proofs.Texts.EscapeSets.{password_holds, user_holds}
 use Rattle.git_syntax.proofs.Addresses.AddressLemmas.{is_address_byte, address_bytes}
-use Rattle.git_syntax.proofs.Readings.HostLemmas.{decimal_digits}
-use Rattle.git_laws.proofs.Written.PieceTextLemmas.{password_decoded, password_piece, user_decoded, user_no_colon, user_piece}
-use Rattle.git_laws.proofs.Written.WrittenPathLemmas.{starts_alike, web_path_writing}
-use Rattle.git_laws.proofs.Written.WrittenUrlLemmas.{authority_text, canonical_cut}
-use Rattle.git_location.proofs.Closed.SettledLemmas.{settled_as_web}
-use Rattle.git_location.proofs.Closed.WebClassLemmas.{IsWebShape}
+use Rattle.git_syntax.proofs.Parsing.HostLemmas.{decimal_digits}
+use Rattle.git_laws.proofs.Writing.PieceTextLemmas.{password_decoded, password_piece, user_decoded, user_no_colon, user_piece}
+use Rattle.git_laws.proofs.Writing.WrittenPathLemmas.{starts_alike, web_path_writing}
+use Rattle.git_laws.proofs.Writing.WrittenUrlLemmas.{authority_text, canonical_cut}
+use Rattle.git_location.proofs.SettledClass.SettledLemmas.{settled_as_web}
+use Rattle.git_location.proofs.SettledClass.WebClassLemmas.{IsWebForm}
 use Rattle.git_laws.proofs.GitReadings.GitCutLemmas.{git_decode_kept}
 use Rattle.git_laws.proofs.GitReadings.WebTextLemmas.{web_authority, web_scheme}
 
@@ -103,7 +103,7 @@ abbrev is_odd : ℕ → Bool
 is_odd b = is_control b || b == percent_sign
 
 -- of a host of the class neither is a byte
-host_odd : (host : List ℕ) → IsWebShape host → Lacks is_odd host
+host_odd : (host : List ℕ) → IsWebForm host → Lacks is_odd host
 host_odd host (inl bytes) = lacks_of_all is_plain_host_byte is_odd (λ b is. grind (arith, nat_tests)) host bytes
 host_odd host (inr (a, normal, e)) =
     subst (λ t. Lacks is_odd t) (sym e) (lacks-append is_odd a (right_bracket ∷ []) (lacks_of_all is_address_byte is_odd (λ b is. grind (arith, nat_tests)) a (address_bytes a normal.address)) refl)
@@ -114,7 +114,7 @@ port_odd None small = refl
 port_odd (Some p) small = lacks_of_all is_ascii_digit is_odd (λ b is. grind (arith, nat_tests)) (decimal p) (decimal_digits p small).1
 
 -- nor of both
-named_odd : (host : List ℕ) (port : Option ℕ) → IsWebShape host → IfSome port (λ p. p < 65536) → Lacks is_odd (host ++ port_part port)
+named_odd : (host : List ℕ) (port : Option ℕ) → IsWebForm host → IfSome port (λ p. p < 65536) → Lacks is_odd (host ++ port_part port)
 named_odd host port kind small = lacks-append is_odd host (port_part port) (host_odd host kind) (port_odd port small)
 
 -- ---- paths
@@ -175,11 +175,11 @@ path_lines (b ∷ path) h = trimmed_line path (lacks_head_tail is_control b path
 -- ---- the text
 
 -- no byte 0 is written
-text_zero : (v : Location) (named : List ℕ) → FreeOf 0 (protocol_text v.scheme) → authority_text v ≡ user_information v.user v.password ++ named → FreeOf 0 named → FreeOf 0 (canonical_path v) → FreeOf 0 (canonical_text v)
+text_zero : (v : Location) (named : List ℕ) → FreeOf 0 (scheme_text v.scheme) → authority_text v ≡ user_information v.user v.password ++ named → FreeOf 0 named → FreeOf 0 (canonical_path v) → FreeOf 0 (canonical_text v)
 text_zero v named h2 h3 h4 h5 = grind (arith, nat_tests, free-append, information_free, canonical_cut, codes, authority_text)
 
 -- the location's own parts are of one line
-own_lines : (v : Location) (host : List ℕ) → IsOneLine (protocol_text v.scheme) → AgreesOverWeb v → Lacks is_odd (host ++ port_part v.port) → AreOneLine (own_credential v host)
+own_lines : (v : Location) (host : List ℕ) → IsOneLine (scheme_text v.scheme) → AgreesOverWeb v → Lacks is_odd (host ++ port_part v.port) → AreOneLine (own_credential v host)
 own_lines v host scheme a odd = record {
   protocol = scheme;
   user = IfSome_then v.user a.user (λ u parts. one_line u parts.0);
@@ -195,15 +195,15 @@ credential_own v web is a host there =
     let named = host ++ port_part v.port in
     let scheme = web_scheme v web in
     let authority = web_authority v host web is a there in
-    let odd = named_odd host v.port authority.shape is.port in
+    let odd = named_odd host v.port authority.form is.port in
     let writing = web_path_writing v web h.path h.common.path in
     let path = rooted_path v.path (canonical_path v) writing.front writing.decoded a.path.rooted a.path.one_slash in record {
       authority = authority_text v;
       behind = canonical_path v;
       named = named;
-      whole = text_zero v named (scheme_text_free (protocol_text v.scheme) 0 scheme.text refl) authority.written (free_of_lacked is_odd 0 named odd refl) (free_of_all is_uri_byte 0 (canonical_path v) a.path.bytes refl);
+      whole = text_zero v named (scheme_text_free (scheme_text v.scheme) 0 scheme.text refl) authority.written (free_of_lacked is_odd 0 named odd refl) (free_of_all is_uri_byte 0 (canonical_path v) a.path.bytes refl);
       protocol = scheme.nonempty;
-      no_mark = held_free (protocol_text v.scheme) (scheme_text_free (protocol_text v.scheme) colon scheme.text refl);
+      no_mark = held_free (scheme_text v.scheme) (scheme_text_free (scheme_text v.scheme) colon scheme.text refl);
       joined = canonical_cut v;
       before_path = authority.before_path;
       path_start = starts_alike true (canonical_path v) v.path writing.front (inr h.path);

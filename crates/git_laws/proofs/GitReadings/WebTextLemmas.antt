@@ -1,18 +1,18 @@
 -- The text of a location of HTTP of the class, before any reader cuts it: scheme, user information, host, port and path.
 use Rattle.std.proofs.Common.{◌≡◌, ◌∙◌, ℕ, ◌<◌, true, List, ◌++◌, length, Some, Ok, sym, ap, subst, arith}
 use Rattle.std.proofs.lemmas.Option.{same_Some}
-use Rattle.git_syntax.specs.Value.{Location}
+use Rattle.git_syntax.specs.Location.{Location}
 use Rattle.git_syntax.specs.Bytes.{at_sign, Lacks, FreeOf, IsLowercase, is_scheme_text, is_path_start}
-use Rattle.git_syntax.specs.Hosts.Mode.{strict}
-use Rattle.git_syntax.specs.Schemes.{protocol_text}
+use Rattle.git_syntax.specs.Hosts.HostSyntax.{http_hosts}
+use Rattle.git_syntax.specs.Schemes.{scheme_text}
 use Rattle.git_location.specs.Text.{user_information, host_part, port_part, canonical_text, text}
 use Rattle.git_location.specs.Settled.{IsValue, IsWeb, IsWebHost}
 use Rattle.git_location.specs.WebClass.{IsUnambiguousHost, AgreesOverWeb}
 use Rattle.git_laws.specs.GitWeb.{IsOneLine}
-use Rattle.git_laws.proofs.Written.WrittenWebHostLemmas.{web_host_same, web_host_written}
-use Rattle.git_laws.proofs.Written.WrittenUrlLemmas.{authority_text, authority_with_host}
-use Rattle.git_location.proofs.Closed.SettledLemmas.{settled_as_web}
-use Rattle.git_location.proofs.Closed.WebClassLemmas.{IsWebShape, host_shape}
+use Rattle.git_laws.proofs.Writing.WrittenWebHostLemmas.{web_host_same, web_host_written}
+use Rattle.git_laws.proofs.Writing.WrittenUrlLemmas.{authority_text, authority_with_host}
+use Rattle.git_location.proofs.SettledClass.SettledLemmas.{settled_as_web}
+use Rattle.git_location.proofs.SettledClass.WebClassLemmas.{IsWebForm, url_host_form}
 
 -- a location of the class has the text of a URL
 pub web_text : (v : Location) → IsWeb v → AgreesOverWeb v → text v ≡ Ok (canonical_text v)
@@ -26,12 +26,12 @@ pub record IsWebScheme (scheme : List ℕ) : Type 0 where
   pub line : IsOneLine scheme
 
 -- each of HTTP is one
-pub web_scheme : (v : Location) → IsWeb v → IsWebScheme (protocol_text v.scheme)
+pub web_scheme : (v : Location) → IsWeb v → IsWebScheme (scheme_text v.scheme)
 web_scheme v h = grind arith
 
 -- the authority is the user information, and host and port as they are
 pub record IsWebAuthority (v : Location) (host : List ℕ) : Type 0 where
-  pub shape : IsWebShape host
+  pub form : IsWebForm host
   pub written : authority_text v ≡ user_information v.user v.password ++ (host ++ port_part v.port)
   pub no_at : FreeOf at_sign (host ++ port_part v.port)
   pub before_path : Lacks (is_path_start true) (authority_text v)
@@ -45,8 +45,8 @@ web_authority v host web is a there =
     let settled = subst (λ x. IsWebHost v.port x) (same_Some g host (sym given ∙ there)) kind in
     let writes = web_host_written v host web settled w.port is.port in
     let same = ap (λ x. x ++ port_part v.port) (web_host_same v host web settled w.port is.port) in record {
-      shape = host_shape host (subst (λ x. IsUnambiguousHost x) (same_Some o host (sym own ∙ there)) unambiguous);
+      form = url_host_form host (subst (λ x. IsUnambiguousHost x) (same_Some o host (sym own ∙ there)) unambiguous);
       written = ap (λ o. user_information v.user v.password ++ (host_part v o ++ port_part v.port)) there ∙ ap (λ x. user_information v.user v.password ++ x) same;
       no_at = subst (λ x. FreeOf at_sign x) same writes.no_at;
-      before_path = (authority_with_host strict v host host w.common is there writes).1.before_path;
+      before_path = (authority_with_host http_hosts v host host w.common is there writes).1.before_path;
     }

@@ -13,10 +13,10 @@ use Rattle.percent_encoding.specs.Percent.{percent_decode, percent_encode}
 use Rattle.percent_encoding.proofs.AsciiSetLemmas.{ascii_from_kept, outside_from_kept}
 use Rattle.percent_encoding.proofs.PercentLemmas.{All-percent_encode}
 use Rattle.git_syntax.specs.declared.escape.TheConstants.{PASSWORD, USER}
-use Rattle.git_syntax.specs.Value.{Location}
+use Rattle.git_syntax.specs.Location.{Location}
 use Rattle.git_syntax.specs.Bytes.{number_sign, percent_sign, slash, colon, question_mark, at_sign, left_bracket, right_bracket, FreeOf, begins_by, begins_with, IsLowercase}
 use Rattle.git_syntax.specs.Escapes.{is_sound, has_percent, is_password_escaped}
-use Rattle.git_syntax.specs.Schemes.{protocol_text}
+use Rattle.git_syntax.specs.Schemes.{scheme_text}
 use Rattle.git_location.specs.Text.{user_information, port_part, canonical_path, canonical_text}
 use Rattle.git_location.specs.Settled.{IsValue, IsBracketedAddress, IsWeb}
 use Rattle.git_location.specs.WebClass.{is_plain_host_byte, is_uri_byte, is_segment_end, HasDotSegment, AgreesOverWeb}
@@ -26,12 +26,12 @@ use Rattle.git_syntax.proofs.Texts.CutLemmas.{all_weaker, free-append, free-cons
 use Rattle.git_syntax.proofs.Texts.EscapeLemmas.{decode_byte, decode_kept, decodes_in_parts, encode_sound, sound-append, sound_around, sound_free}
 use Rattle.git_syntax.proofs.Texts.DecodingLemmas.{nothing_decoded}
 use Rattle.git_syntax.proofs.Texts.EscapeSets.{password_holds, user_holds}
-use Rattle.git_syntax.proofs.Readings.HostLemmas.{decimal_digits}
-use Rattle.git_laws.proofs.Written.PieceTextLemmas.{user_piece, password_piece, user_no_colon, user_decoded, password_decoded}
-use Rattle.git_laws.proofs.Written.WrittenPathLemmas.{starts_alike, web_path_writing}
-use Rattle.git_laws.proofs.Written.WrittenUrlLemmas.{authority_text, canonical_cut}
-use Rattle.git_location.proofs.Closed.SettledLemmas.{settled_as_web}
-use Rattle.git_location.proofs.Closed.WebClassLemmas.{plain_lowercase}
+use Rattle.git_syntax.proofs.Parsing.HostLemmas.{decimal_digits}
+use Rattle.git_laws.proofs.Writing.PieceTextLemmas.{user_piece, password_piece, user_no_colon, user_decoded, password_decoded}
+use Rattle.git_laws.proofs.Writing.WrittenPathLemmas.{starts_alike, web_path_writing}
+use Rattle.git_laws.proofs.Writing.WrittenUrlLemmas.{authority_text, canonical_cut}
+use Rattle.git_location.proofs.SettledClass.SettledLemmas.{settled_as_web}
+use Rattle.git_location.proofs.SettledClass.WebClassLemmas.{plain_lowercase}
 use Rattle.git_laws.proofs.GitReadings.WebTextLemmas.{web_authority, web_scheme}
 
 -- ---- escaped texts
@@ -193,14 +193,14 @@ uri_own v web is a host there =
     let w = settled_as_web v web a.settled in
     let scheme = web_scheme v web in
     let authority = web_authority v host web is a there in
-    let named = ⊎_elim (plain_host host) (bracketed_host host) authority.shape in
+    let named = ⊎_elim (plain_host host) (bracketed_host host) authority.form in
     let written = web_path_writing v web w.path w.common.path in
     let p = uri_path (canonical_path v) (a.path.bytes, written.escaped.sound) in
     let decoded = ap percent_decode p.joined ∙ written.decoded in
     let whole = sym (query_decoded p.path p.query p.path_bytes.1) ∙ decoded in
     let no_dots : ¬ HasDotSegment (percent_decode p.path) = λ dots. a.path.no_dots (subst HasDotSegment whole (dots_joined (percent_decode p.path) (option_map percent_decode p.query) dots)) in (
       record {
-        scheme = protocol_text v.scheme;
+        scheme = scheme_text v.scheme;
         information = information_text v.user v.password;
         host = host;
         port = option_map decimal v.port;

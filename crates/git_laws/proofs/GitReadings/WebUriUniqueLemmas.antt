@@ -6,7 +6,7 @@ use Rattle.git_laws.specs.Components.{CutsPath}
 use Rattle.git_laws.specs.GitWeb.{UriAuthority, UriPort, UriHost, OneUriReading}
 use Rattle.git_syntax.proofs.Texts.CutLemmas.{tails, class_cut_unique, cut_unique, not_free, path_cut_unique, scheme_text_free}
 use Rattle.git_syntax.proofs.Addresses.AddressLemmas.{address_free}
-use Rattle.git_laws.proofs.Parted.PartsLemmas.{path_unique}
+use Rattle.git_laws.proofs.ComponentCuts.CutComponentLemmas.{path_unique}
 
 -- an authority is cut at its only `@`
 authority_unique : (t : List ℕ) (i j : Option (List ℕ)) (named other : List ℕ) → UriAuthority t i named → UriAuthority t j other → (i ≡ j) × (named ≡ other)

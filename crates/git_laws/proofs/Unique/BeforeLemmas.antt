@@ -1,9 +1,9 @@
--- The shape `user@[address]:path` changed nothing that other texts spell.
+-- The form `user@[address]:path` changed nothing that other texts spell.
 use Rattle.std.proofs.Common.{ℕ, inl, List, arith}
-use Rattle.git_syntax.specs.Value.{Location}
+use Rattle.git_syntax.specs.Location.{Location}
 use Rattle.git_syntax.specs.Grammar.{SpellsLocal, Spells, IsAddressed}
 use Rattle.git_laws.specs.Laws.{SpellsLocalBefore, SpellsBefore}
-use Rattle.git_syntax.proofs.Readings.FormLemmas.{not_scp}
+use Rattle.git_syntax.proofs.Parsing.FormLemmas.{not_scp}
 
 -- what was a local path is one
 was_local : (b : List ℕ) (v : Location) → SpellsLocalBefore b v → SpellsLocal b v

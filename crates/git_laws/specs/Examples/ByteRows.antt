@@ -10,7 +10,7 @@ use Rattle.git_syntax.specs.Addresses.{is_zone_byte}
 use Rattle.git_syntax.specs.Hosts.{is_dns_byte, is_http_host_byte}
 use Rattle.git_syntax.specs.Authority.{is_any_slash}
 use Rattle.git_location.specs.Arguments.{is_option_like}
-use Rattle.git_location.specs.Internal.KeptBytes.{is_ready_in_path, is_ready_in_user}
+use Rattle.git_location.specs.Internal.KeptBytes.{is_unescaped_in_path, is_unescaped_in_user}
 use Rattle.git_laws.specs.Git.{is_c_space}
 use Rattle.git_location.specs.GitClass.{is_contested}
 
@@ -71,8 +71,8 @@ GitByteRows =
 abbrev pub QuickByteRows : Type 0
 QuickByteRows =
     (members is_plain_byte ≡ codes "!\"#$&'()*+,-./0123456789:;<=>?@ABCDEFGHIJKLMNOPQRSTUVWXYZ[\\]^_`abcdefghijklmnopqrstuvwxyz{|}~")
-    × (members is_ready_in_path ≡ codes "&'()*+,-./0123456789:;?@ABCDEFGHIJKLMNOPQRSTUVWXYZ[\\]^_abcdefghijklmnopqrstuvwxyz")
-    × (members is_ready_in_user ≡ codes "&'()*+,-.0123456789ABCDEFGHIJKLMNOPQRSTUVWXYZabcdefghijklmnopqrstuvwxyz")
+    × (members is_unescaped_in_path ≡ codes "&'()*+,-./0123456789:;?@ABCDEFGHIJKLMNOPQRSTUVWXYZ[\\]^_abcdefghijklmnopqrstuvwxyz")
+    × (members is_unescaped_in_user ≡ codes "&'()*+,-.0123456789ABCDEFGHIJKLMNOPQRSTUVWXYZabcdefghijklmnopqrstuvwxyz")
 
 -- the ASCII bytes that a path, a password and a user aren't written with
 abbrev pub EscapedByteRows : Type 0

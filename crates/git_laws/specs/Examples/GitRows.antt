@@ -3,7 +3,7 @@
 -- `ssh://u@x:22` as user `u`, host `x` and port 22 (`ssh -G`). Of `~/x` `git clone` takes another repository than `git fetch`.
 -- A text with byte 0 can't be given to a command. What Git's credential code reads it told by `git credential fill`.
 use Rattle.std.specs.Prelude.{ℕ, List, [], ◌∷◌, ◌++◌, codes, Option, Some, None}
-use Rattle.git_syntax.specs.Value.Protocol.{git, ssh}
+use Rattle.git_syntax.specs.Location.Scheme.{git, ssh}
 use Rattle.git_syntax.specs.Bytes.{tab}
 use Rattle.git_laws.specs.Git.{GitReading, GitReads, on_this_machine}
 use Rattle.git_laws.specs.GitWeb.{CredentialReading, CredentialReads}

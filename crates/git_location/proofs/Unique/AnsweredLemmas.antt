@@ -6,7 +6,7 @@ use Rattle.git_location.specs.declared.parse_error.ParseError.{ParseError}
 use Rattle.git_location.specs.declared.parse_error.ParseError.TheVariants as unread
 use Rattle.git_syntax.specs.declared.refusal.Refusal.{Refusal}
 use Rattle.git_syntax.specs.declared.refusal.Refusal.TheVariants as refusal
-use Rattle.git_syntax.specs.Value.{Location}
+use Rattle.git_syntax.specs.Location.{Location}
 use Rattle.git_syntax.specs.Grammar.{Spells}
 use Rattle.git_location.specs.Readings.{RefusesIn, ReadsIn}
 use Rattle.git_syntax.proofs.Unique.UniqueLemmas.{spells_unique}

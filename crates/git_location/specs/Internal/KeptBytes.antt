@@ -6,10 +6,10 @@ abbrev pub is_between : ℕ → ℕ → ℕ → Bool
 is_between first last b = nat_le first b && nat_le b last
 
 -- a byte from `&` to `;`, from `?` to `_`, or a small letter
-abbrev pub is_ready_in_path : ℕ → Bool
-is_ready_in_path b = is_between 38 59 b || is_between 63 95 b || is_between 97 122 b
+abbrev pub is_unescaped_in_path : ℕ → Bool
+is_unescaped_in_path b = is_between 38 59 b || is_between 63 95 b || is_between 97 122 b
 
 -- a byte from `&` to `.`, a digit or a letter
-abbrev pub is_ready_in_user : ℕ → Bool
-is_ready_in_user b = is_between 38 46 b || is_between 48 57 b || is_between 65 90 b
+abbrev pub is_unescaped_in_user : ℕ → Bool
+is_unescaped_in_user b = is_between 38 46 b || is_between 48 57 b || is_between 65 90 b
     || is_between 97 122 b

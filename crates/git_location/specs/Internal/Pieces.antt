@@ -20,7 +20,7 @@ use Rattle.git_location.specs.declared.writer.form.Form.TheVariants as code
 use Rattle.git_location.specs.declared.write_error.WriteFault.{WriteFault}
 use Rattle.git_syntax.specs.Bytes.{colon, at_sign, left_bracket, right_bracket}
 use Rattle.git_syntax.specs.Escapes.{escaped_percents}
-use Rattle.git_syntax.specs.Value.{Location}
+use Rattle.git_syntax.specs.Location.{Location}
 use Rattle.git_location.specs.Text.{Form, text}
 use Rattle.git_location.specs.Text.Form.{helper_form, path_form, scp_form, canonical_form}
 
@@ -32,9 +32,9 @@ piece_text (piece.Password text) = percent_encode PASSWORD text.now
 piece_text (piece.Percents text) = escaped_percents text.now
 
 -- the scheme and its mark
-abbrev pub scheme_text : SchemePieces → List ℕ
-scheme_text scheme.None = []
-scheme_text (scheme.Marked name mark) = name.now ++ mark.now
+abbrev pub scheme_piece_text : SchemePieces → List ℕ
+scheme_piece_text scheme.None = []
+scheme_piece_text (scheme.Marked name mark) = name.now ++ mark.now
 
 -- the user information
 abbrev pub user_text : UserPieces → List ℕ
@@ -61,7 +61,7 @@ path_end_text (path.Escaped mark bytes) = mark.now ++ percent_encode PATH bytes.
 
 -- the text of all pieces
 abbrev pub pieces_text : Pieces → List ℕ
-pieces_text p = scheme_text p.scheme
+pieces_text p = scheme_piece_text p.scheme
     ++ (user_text p.user ++ (host_text p.host ++ (port_text p.port ++ path_end_text p.path)))
 
 -- ---- forms

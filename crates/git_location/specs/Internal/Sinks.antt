@@ -6,9 +6,9 @@ use Rattle.std.specs.List.{FoldsTo}
 use Rattle.std.proofs.lemmas.List.Folds.{concat-append}
 use Rattle.std.specs.declared.fmt.Formatter.{Formatter}
 use Rattle.std.specs.Fmt.{HasWrittenStyled, IsFlush}
-use Rattle.git_syntax.specs.declared.length.TextWalk.{TextWalk}
+use Rattle.git_syntax.specs.declared.length.LengthCheck.{LengthCheck}
 use Rattle.git_syntax.specs.Bytes.{lossy_text}
-use Rattle.git_syntax.specs.Internal.Walks.{is_text_in_time}
+use Rattle.git_syntax.specs.Internal.LengthChecks.{is_text_in_time}
 
 -- ---- a formatter
 
@@ -75,14 +75,14 @@ module _ {W : Type 0} (took : W → List ℕ → W → Type 0) where
 -- ---- a walk
 
 -- a walk past a text has the outcome that it has with the text before it, whatever comes behind
-abbrev pub WalksPast : TextWalk → List ℕ → TextWalk → Type 0
-WalksPast old text new = (behind : List ℕ)
+abbrev pub ChecksPast : LengthCheck → List ℕ → LengthCheck → Type 0
+ChecksPast old text new = (behind : List ℕ)
     → is_text_in_time new behind ≡ is_text_in_time old (text ++ behind)
 
-pub walks_nothing : (a : TextWalk) → WalksPast a [] a
-walks_nothing a behind = refl
+pub checks_nothing : (a : LengthCheck) → ChecksPast a [] a
+checks_nothing a behind = refl
 
-pub walks_joined : (a b c : TextWalk) (x y : List ℕ) → WalksPast a x b → WalksPast b y c
-    → WalksPast a (x ++ y) c
-walks_joined a b c x y first second behind = second behind ∙ first (y ++ behind) ∙ sym
+pub checks_joined : (a b c : LengthCheck) (x y : List ℕ) → ChecksPast a x b → ChecksPast b y c
+    → ChecksPast a (x ++ y) c
+checks_joined a b c x y first second behind = second behind ∙ first (y ++ behind) ∙ sym
     (ap (is_text_in_time a) (append_assoc x y behind))

@@ -1,13 +1,13 @@
 //! The settled hosts of URLs.
 //!
-//! It uses `parts`, and bytes, escapes and the hosts of `git_syntax`. Its contract: the answer is yes exactly for
+//! It uses `fields`, and bytes, escapes and the hosts of `git_syntax`. Its contract: the answer is yes exactly for
 //! the hosts that the definitions settle. It takes no memory.
 
 ghost use Rattle.std.specs.Prelude.{◌≡◌, ◌↔◌, IsTrue, Option};
 ghost use Rattle.git_location.specs.Settled.{IsBareHost, IsBracketedAddress, IsBracketedHost, IsWebHost, IsWebName};
-ghost use Rattle.git_location.specs.Internal.SettledParts.{IsBracketedLiteral, IsClosedHost, IsNormalLiteral, StripsBrackets};
+ghost use Rattle.git_location.specs.Internal.SettledPieces.{IsBracketedLiteral, IsClosedHost, IsNormalLiteral, StripsBrackets};
 
-use crate::settled::parts::{is_normal, is_normal_address, is_normal_name};
+use crate::settled::fields::{is_normal, is_normal_address, is_normal_name};
 use git_syntax::bytes::{after, before, cut};
 use git_syntax::escape::{has_percent, is_sound};
 use git_syntax::host::bytes::{are_http_host_bytes, is_escaped_zone};

@@ -1,16 +1,16 @@
 //! The settled remote helpers, local paths and file URLs.
 //!
-//! It uses `parts`, `bytes`, `escape`, `text`, and `classify` for the form of a path. Its contract: the answer is yes
+//! It uses `fields`, `bytes`, `escape`, `text`, and `classify` for the form of a path. Its contract: the answer is yes
 //! exactly for those that the definitions settle. It takes no memory.
 
 ghost use Rattle.std.specs.Prelude.{◌↔◌, IsTrue, IfSome};
-ghost use Rattle.git_syntax.specs.Grammar.{LocalShape};
+ghost use Rattle.git_syntax.specs.Grammar.{LocalForm};
 ghost use Rattle.git_location.specs.Settled.{IsFileHost, IsSettledFile, IsSettledHelper, IsSettledLocal};
 
-use crate::settled::parts::{has_at_most_host, has_match, is_flagged_path};
+use crate::settled::fields::{has_at_most_host, has_match, is_flagged_path};
 use crate::url_ref::UrlRef;
 use git_syntax::bytes::{is_free_of, is_helper_name, starts_with_byte};
-use git_syntax::classify::{Shape, classify};
+use git_syntax::classify::{Form, classify};
 use git_syntax::escape::has_percent;
 use git_syntax::text::is_text;
 
@@ -30,9 +30,9 @@ pub(crate) fn is_settled_local(url: &UrlRef<'_>) -> bool
 
 /// Whether the text has the form of a local path.
 fn is_local(text: &[u8]) -> bool
-    ensures { IsTrue result ↔ LocalShape text.now }
+    ensures { IsTrue result ↔ LocalForm text.now }
 {
-    matches!(classify(text), Shape::Local)
+    matches!(classify(text), Form::Local)
 }
 
 /// Whether the location is a settled file URL.

@@ -1,12 +1,12 @@
 //! The settled locations in the scp form.
 //!
-//! It uses `parts`, `bytes`, `escape`, `home`, `host` and `text`. Its contract: the answer is yes exactly for those that the
-//! definitions settle. It takes no memory.
+//! It uses `fields`, `bytes`, `escape`, `home`, `host` and `text`. Its contract: the answer is yes exactly for those
+//! that the definitions settle. It takes no memory.
 
 ghost use Rattle.std.specs.Prelude.{◌↔◌, IsTrue, IfSome};
 ghost use Rattle.git_location.specs.Settled.{HasScpHost, IsScpHost, IsScpName, IsScpPath, IsScpUser, IsSettledScp, LooksLikeHelper};
 
-use crate::settled::parts::{begins_with_slashes, is_normal_address, is_normal_name, lacks_mark};
+use crate::settled::fields::{begins_with_slashes, is_normal_address, is_normal_name, lacks_mark};
 use crate::url_ref::UrlRef;
 use git_syntax::bytes::{is_free_of, is_helper_name, starts_with_byte};
 use git_syntax::escape::lacks_white_space;

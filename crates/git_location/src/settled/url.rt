@@ -1,18 +1,18 @@
 //! The settled URLs, except for those of files.
 //!
-//! It uses `host`, `measure`, `parts`, `bytes`, `escape`, `home`, `scheme` and `text`. Its contract: the answer is yes exactly
-//! for those that the definitions settle. It takes no memory.
+//! It uses `host`, `length_check`, `fields`, `bytes`, `escape`, `home`, `scheme` and `text`. Its contract: the answer
+//! is yes exactly for those that the definitions settle. It takes no memory.
 
 ghost use Rattle.std.specs.Prelude.{◌≡◌, ◌↔◌, IsTrue, IsUtf8, true, IfSome};
-ghost use Rattle.git_syntax.specs.Value.Protocol.{git, helper_url, ssh};
+ghost use Rattle.git_syntax.specs.Location.Scheme.{git, helper_url, ssh};
 ghost use Rattle.git_syntax.specs.Bytes.{begins_by, is_path_start};
 ghost use Rattle.git_location.specs.Internal.Pieces.{AreOwn};
 ghost use Rattle.git_location.specs.Settled.{HasBareHost, HasBracketedHost, HasCredentials, HasFairSpelling, HasUrlPath, HasWebHost, IsBracketedHost, IsFairSpelling, IsHomeless, IsHosted, IsRaw, IsRawPath, IsRootedOrEmpty, IsSettledGit, IsSettledHelperUrl, IsSettledRaw, IsSettledSecure, IsSettledUrl, IsSettledWeb, IsTransportPath, IsWeb, first_byte};
-ghost use Rattle.git_location.specs.Internal.SettledParts.{HasRawPath, IsSettledBesidePath, IsWrittenAsUrl};
+ghost use Rattle.git_location.specs.Internal.SettledPieces.{HasRawPath, IsSettledBesidePath, IsWrittenAsUrl};
 
+use crate::settled::fields::has_match;
 use crate::settled::host::{is_bare_host, is_bracketed_host, is_web_host};
-use crate::settled::measure::has_fitting_text;
-use crate::settled::parts::has_match;
+use crate::settled::length_check::has_fitting_text;
 use crate::url_ref::UrlRef;
 use crate::writer::piece::Pieces;
 use git_syntax::bytes::{is_scheme_text, starts_with_byte};

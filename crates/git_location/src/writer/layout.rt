@@ -4,8 +4,8 @@
 //! pieces of a location make up its text, and a fault is the location's own. It takes no memory.
 
 ghost use Rattle.std.specs.Prelude.{◌≡◌, ℕ, List, ◌++◌, option_map, unwrap_or};
-ghost use Rattle.git_syntax.specs.Value.Protocol.{ssh};
-ghost use Rattle.git_syntax.specs.Views.{lent_protocol};
+ghost use Rattle.git_syntax.specs.Location.Scheme.{ssh};
+ghost use Rattle.git_syntax.specs.Views.{lent_scheme};
 ghost use Rattle.git_syntax.specs.AddressTest.{is_ipv6_text};
 ghost use Rattle.git_location.specs.Text as spec;
 ghost use Rattle.git_location.specs.Text.{text, helper_text, path_form_text, scp_text, canonical_text};
@@ -230,7 +230,7 @@ fn port_digits<'a>(port: Option<u16>, digits: &'a mut Buffer) -> Option<&'a str>
 /// A host outside brackets: as it is, or escaped, except for the colons of an address.
 #[inline(always)]
 fn open_host<'a>(scheme: SchemeRef<'_>, host: &'a str) -> Piece<'a>
-    ensures { piece_text result ≡ spec.open_host (lent_protocol scheme.entry) host.now }
+    ensures { piece_text result ≡ spec.open_host (lent_scheme scheme.entry) host.now }
 {
     match scheme {
         SchemeRef::File | SchemeRef::Http | SchemeRef::Https => Piece::Raw(host),

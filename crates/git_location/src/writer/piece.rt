@@ -1,6 +1,6 @@
 //! The pieces of a text: what a text is made of, in its order, each slice with the way that it is written.
 //!
-//! It uses the crate `percent_encoding`, the sets of `escape`, and this module's siblings `ready` and `sink`. The
+//! It uses the crate `percent_encoding`, the sets of `escape`, and this module's siblings `unescaped` and `sink`. The
 //! pieces are lent from the location. They are the one description of a text: `len` adds them up, and `put` puts them
 //! into any sink. It takes no memory.
 
@@ -9,10 +9,10 @@ ghost use Rattle.percent_encoding.specs.AsciiSet.{should_percent_encode};
 ghost use Rattle.percent_encoding.specs.Percent.{percent_encode};
 ghost use Rattle.git_syntax.specs.declared.escape.TheConstants.{PATH, PASSWORD, USER};
 ghost use Rattle.git_syntax.specs.Bytes.{percent_sign};
-ghost use Rattle.git_location.specs.Internal.Pieces.{host_text, path_end_text, piece_text, pieces_text, port_text, scheme_text, user_text};
+ghost use Rattle.git_location.specs.Internal.Pieces.{host_text, path_end_text, piece_text, pieces_text, port_text, scheme_piece_text, user_text};
 
-use crate::writer::ready::{is_ready_path, is_ready_user};
 use crate::writer::sink::{Sink, put_escaped, put_percents};
+use crate::writer::unescaped::{needs_no_escape, user_needs_no_escape};
 use git_syntax::escape::{PASSWORD, PATH, USER};
 use percent_encoding::AsciiSet;
 
@@ -89,7 +89,7 @@ impl<'a> Piece<'a> {
     pub fn user(text: &'a str) -> Piece<'a>
         ensures { piece_text result ≡ percent_encode USER text.now }
     {
-        if is_ready_user(text.as_bytes()) || is_kept(text.as_bytes(), USER) {
+        if user_needs_no_escape(text.as_bytes()) || is_kept(text.as_bytes(), USER) {
             Piece::Raw(text)
         } else {
             Piece::User(text)
@@ -100,7 +100,7 @@ impl<'a> Piece<'a> {
     pub fn password(text: &'a str) -> Piece<'a>
         ensures { piece_text result ≡ percent_encode PASSWORD text.now }
     {
-        if is_ready_user(text.as_bytes()) || is_kept(text.as_bytes(), PASSWORD) {
+        if user_needs_no_escape(text.as_bytes()) || is_kept(text.as_bytes(), PASSWORD) {
             Piece::Raw(text)
         } else {
             Piece::Password(text)
@@ -140,7 +140,7 @@ impl<'a> SchemePieces<'a> {
     /// The length of the text.
     #[inline(always)]
     fn len(self) -> u128
-        ensures exact { result ≡ length (scheme_text self.entry) }
+        ensures exact { result ≡ length (scheme_piece_text self.entry) }
         ensures bound { result ≤ 2 * 2 ^ 64 }
     {
         match self {
@@ -152,7 +152,7 @@ impl<'a> SchemePieces<'a> {
     /// Puts the text.
     #[inline(always)]
     fn put<T, S: Sink<T>>(self, place: &mut T) -> Result<(), S::Fault>
-        ensures { OnOk result (S.takes place.old (scheme_text self.entry) place.new) }
+        ensures { OnOk result (S.takes place.old (scheme_piece_text self.entry) place.new) }
     {
         match self {
             SchemePieces::None => Ok(()),
@@ -235,7 +235,7 @@ impl<'a> PathPieces<'a> {
     pub fn escaped(mark: &'a str, path: &'a [u8]) -> PathPieces<'a>
         ensures { path_end_text result ≡ mark.now ++ percent_encode PATH path.now }
     {
-        if is_ready_path(path) || is_kept(path, PATH) {
+        if needs_no_escape(path) || is_kept(path, PATH) {
             PathPieces::Raw(mark, path)
         } else {
             PathPieces::Escaped(mark, path)

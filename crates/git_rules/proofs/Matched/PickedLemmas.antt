@@ -2,12 +2,12 @@
 use Rattle.std.proofs.Common.{◌≡◌, ℕ, ◌<◌, ◌⊎◌, inl, inr, List, [], length, refl, sym, ap, subst, ◌∙◌, arith, append_assoc, Bool, true, false, ◌==◌, ◌||◌, Option, Some, None, codes, unwrap_or, option_map, decimal, if◌then◌else◌, IfSome, ◌++◌, ◌∷◌}
 use Rattle.std.proofs.lemmas.Bool.{both_ways, cases_Bool, eqb-true}
 use Rattle.std.specs.Char.{is_ascii_digit, is_ascii_lowercase}
-use Rattle.git_syntax.specs.Value.{Location}
+use Rattle.git_syntax.specs.Location.{Location}
 use Rattle.git_syntax.specs.Addresses.{IsIpv4Text}
 use Rattle.git_syntax.specs.Bytes.{dot, left_bracket, right_bracket, FreeOf, begins_by}
-use Rattle.git_syntax.specs.Hosts.Mode.{bare}
-use Rattle.git_syntax.specs.Schemes.{protocol_text}
-use Rattle.git_syntax.proofs.Readings.HostLemmas.{number_written}
+use Rattle.git_syntax.specs.Hosts.HostSyntax.{git_hosts}
+use Rattle.git_syntax.specs.Schemes.{scheme_text}
+use Rattle.git_syntax.proofs.Parsing.HostLemmas.{number_written}
 use Rattle.git_syntax.proofs.Texts.CutLemmas.{different_bytes, free_of_all, not_free}
 use Rattle.git_location.specs.Settled.{IsBracketedAddress, IsWeb}
 use Rattle.git_location.specs.GitClass.{AgreesBy, AgreesWithGit}
@@ -33,9 +33,9 @@ abbrev pub IsWebText : List ℕ → Type 0
 IsWebText scheme = (scheme ≡ codes "http") ⊎ (scheme ≡ codes "https")
 
 -- the location's own is one
-web_text : (v : Location) → IsWeb v → IsWebText (protocol_text v.scheme)
-web_text v (inl is) = inl (ap protocol_text is)
-web_text v (inr is) = inr (ap protocol_text is)
+web_text : (v : Location) → IsWeb v → IsWebText (scheme_text v.scheme)
+web_text v (inl is) = inl (ap scheme_text is)
+web_text v (inr is) = inr (ap scheme_text is)
 
 -- it isn't that of files
 no_file : (scheme : List ℕ) → IsWebText scheme → ¬ (scheme ≡ codes "file")
@@ -69,9 +69,9 @@ port_same : (scheme : List ℕ) (own number : Option ℕ) → IsWebText scheme �
 port_same scheme None number web within (inl (empty, none)) = sym (ap (reached_port scheme) none)
 port_same scheme None number web within (inr (p, is, there)) = absurd (omega (arith, is.digits.0))
 port_same scheme (Some port) number web within (inl (empty, none)) =
-    absurd (omega (arith, (number_written bare port within tt).digits.0, ap length empty))
+    absurd (omega (arith, (number_written git_hosts port within tt).digits.0, ap length empty))
 port_same scheme (Some port) number web within (inr (p, is, there)) =
-    let same : p ≡ port = is.value ∙ sym (number_written bare port within tt).value in
+    let same : p ≡ port = is.value ∙ sym (number_written git_hosts port within tt).value in
     normal_reached scheme port web ∙ sym (ap (reached_port scheme) (there ∙ ap (λ q. if is_own_port scheme q then None else Some q) same))
 
 -- ---- hosts of the class
@@ -91,7 +91,7 @@ plain_end host front (b ∷ label) (inr (before, free, joined)) begins e =
 ipv4_end : (host front : List ℕ) → IsIpv4Text host → ¬ (host ≡ front ++ dot ∷ [])
 ipv4_end host front h e =
     let octet = h.octets.3 in
-    let number = number_written bare octet.0 (omega (arith, octet.1)) tt in
+    let number = number_written git_hosts octet.0 (omega (arith, octet.1)) tt in
     let free : FreeOf dot h.fourth = subst (FreeOf dot) (sym octet.2) (free_of_all is_ascii_digit dot (decimal octet.0) number.digits.1 refl) in
     let some : 0 < length h.fourth = subst (λ t. 0 < length t) (sym octet.2) number.digits.0 in
     end_apart front (h.first ++ dot ∷ (h.second ++ dot ∷ (h.third ++ dot ∷ []))) h.fourth free some (simp append_assoc (sym h.joined ∙ e))
@@ -120,14 +120,14 @@ no_dot v host front web agrees there =
     no_last_dot host front (subst IsUnambiguousHost same own.2)
 
 -- the location's own scheme, host and port are the pattern's
-own_of : (v : Location) (host : List ℕ) (r : UriReading) (place pattern : NormalPlace) → IsWeb v → IfSome v.port (λ p. p < 65536) → r.scheme ≡ protocol_text v.scheme → r.host ≡ host → r.port ≡ option_map decimal v.port → SamePlace r place → Matches pattern place → FreeOf asterisk pattern.host → ((front : List ℕ) → ¬ (host ≡ front ++ dot ∷ [])) → IsOwnOf pattern (protocol_text v.scheme) host v.port
+own_of : (v : Location) (host : List ℕ) (r : UriReading) (place pattern : NormalPlace) → IsWeb v → IfSome v.port (λ p. p < 65536) → r.scheme ≡ scheme_text v.scheme → r.host ≡ host → r.port ≡ option_map decimal v.port → SamePlace r place → Matches pattern place → FreeOf asterisk pattern.host → ((front : List ℕ) → ¬ (host ≡ front ++ dot ∷ [])) → IsOwnOf pattern (scheme_text v.scheme) host v.port
 own_of v host r place pattern web within scheme named digits same h free none =
-    let own : place.scheme ≡ protocol_text v.scheme = same.scheme ∙ scheme in
-    let ports : PortFor (protocol_text v.scheme) (unwrap_or (option_map decimal v.port) []) place.port = subst (λ d. PortFor (protocol_text v.scheme) (unwrap_or d []) place.port) digits (subst (λ s. PortFor s (unwrap_or r.port []) place.port) scheme same.port) in
+    let own : place.scheme ≡ scheme_text v.scheme = same.scheme ∙ scheme in
+    let ports : PortFor (scheme_text v.scheme) (unwrap_or (option_map decimal v.port) []) place.port = subst (λ d. PortFor (scheme_text v.scheme) (unwrap_or d []) place.port) digits (subst (λ s. PortFor s (unwrap_or r.port []) place.port) scheme same.port) in
     record {
       own_scheme = sym own ∙ h.scheme;
       own_host = own_host pattern.host host none free (subst (MatchesHost pattern.host) (same.host ∙ named) h.host);
-      own_port = port_same (protocol_text v.scheme) v.port place.port (web_text v web) within ports ∙ ap (reached_port (protocol_text v.scheme)) h.port ∙ ap (λ s. reached_port s pattern.port) (sym own ∙ h.scheme);
+      own_port = port_same (scheme_text v.scheme) v.port place.port (web_text v web) within ports ∙ ap (reached_port (scheme_text v.scheme)) h.port ∙ ap (λ s. reached_port s pattern.port) (sym own ∙ h.scheme);
     }
 
 -- what is picked goes to the pattern's own
@@ -135,8 +135,8 @@ pub picked_own : PickedGoesToOwn
 picked_own v t place pattern value web agrees has_text normal h free =
     let both : ReadsOwnOverWeb t v = web_read v t web ((read_same v value agrees).read t has_text) in
     let r = both.uri in
-    let scheme : r.scheme ≡ protocol_text v.scheme = both.own.scheme in
-    let other = no_file (protocol_text v.scheme) (web_text v web) in
+    let scheme : r.scheme ≡ scheme_text v.scheme = both.own.scheme in
+    let other = no_file (scheme_text v.scheme) (web_text v web) in
     let same = place_same t r place both.reads both.normal (λ e. other (sym scheme ∙ e)) normal in
     let hosts : Some r.host ≡ Some both.host = sym both.own.host ∙ both.there in
     let named : r.host ≡ both.host = cc in
@@ -153,6 +153,6 @@ picked_own v t place pattern value web agrees has_text normal h free =
           subst (ConnectsToOwn pattern) (one_uri t r u both.reads reads) (record {
             port = v.port;
             digits = both.own.port;
-            own = subst (λ s. IsOwnOf pattern s r.host v.port) (sym scheme) (subst (λ n. IsOwnOf pattern (protocol_text v.scheme) n v.port) (sym named) own);
+            own = subst (λ s. IsOwnOf pattern s r.host v.port) (sym scheme) (subst (λ n. IsOwnOf pattern (scheme_text v.scheme) n v.port) (sym named) own);
           });
     }

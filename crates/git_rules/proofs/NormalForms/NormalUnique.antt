@@ -9,9 +9,9 @@ use Rattle.git_syntax.specs.Bytes.{colon, at_sign, right_bracket, FreeOf, lowerc
 use Rattle.git_syntax.specs.Escapes.{is_sound}
 use Rattle.git_syntax.specs.Grammar.{or_root}
 use Rattle.git_syntax.specs.Hosts.{Number}
-use Rattle.git_syntax.specs.Hosts.Mode.{strict}
+use Rattle.git_syntax.specs.Hosts.HostSyntax.{http_hosts}
 use Rattle.git_syntax.proofs.Texts.CutLemmas.{class_cut_unique, path_cut_unique, cut_unique, last_cut_unique, not_free, scheme_text_free}
-use Rattle.git_syntax.proofs.Readings.FormLemmas.{scheme_cut_unique}
+use Rattle.git_syntax.proofs.Parsing.FormLemmas.{scheme_cut_unique}
 use Rattle.git_rules.specs.declared.normal.NormalError.{NormalError}
 use Rattle.git_rules.specs.declared.normal.NormalError.TheVariants.{NoRoom, NoUrl, BrokenEscape, NoHost, BadHost, BadPort, AboveRoot}
 use Rattle.git_rules.specs.Normal.{NormalPlace, CutsPort, HostFor, PortFor, HostPort, IsUserOf, NormalAuthority, NormalPath, UrlCut, IsNormalOf, is_own_port, is_host_byte, is_rest_start, lacks_host, normal_text, normal_segments, put_segments, stacked_path}
@@ -42,7 +42,7 @@ host_for_unique scheme text name port host other (HostFor.missing m f n d) (Host
 host_for_unique scheme text name port host other (HostFor.missing l g o e) (HostFor.missing m f n d) = e ∙ sym d
 
 -- no digits are no number
-no_digits : (text : List ℕ) (port : ℕ) → text ≡ [] → Number strict text port → ⊥
+no_digits : (text : List ℕ) (port : ℕ) → text ≡ [] → Number http_hosts text port → ⊥
 no_digits text port e h = let none = ap length e in let some = h.digits.0 in omega (arith, none, some)
 
 -- a port is one
@@ -123,7 +123,7 @@ no_host_refused scheme text name port host lacks other (HostFor.missing m f n d)
 -- a text that is no port has none
 port_refused : (scheme text name port digits host : List ℕ) (p : Option ℕ) → port ≡ digits → IsNoPort port ⊎ ((lacks_host text ≡ true) × ¬ (port ≡ [])) → HostFor scheme text name digits host → PortFor scheme digits p → ⊥
 port_refused scheme text name port digits host p same (inl none) h (inl empty) = none.0 (same ∙ empty.0)
-port_refused scheme text name port digits host p same (inl none) h (inr number) = none.1 number.0 (subst (λ z. Number strict z number.0) (sym same) number.1)
+port_refused scheme text name port digits host p same (inl none) h (inr number) = none.1 number.0 (subst (λ z. Number http_hosts z number.0) (sym same) number.1)
 port_refused scheme text name port digits host p same (inr some) (HostFor.named l e) k = false≢true (sym l ∙ some.0)
 port_refused scheme text name port digits host p same (inr some) (HostFor.missing m f n d) k = some.1 (same ∙ n)
 

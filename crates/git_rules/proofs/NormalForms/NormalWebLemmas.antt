@@ -9,26 +9,26 @@ use Rattle.std.proofs.lemmas.List.{append-nil, append_assoc, length-append, map-
 use Rattle.std.proofs.lemmas.List.Folds.{list_all-append}
 use Rattle.percent_encoding.specs.Percent.{percent_encode}
 use Rattle.git_syntax.specs.declared.escape.TheConstants.{USER, PASSWORD}
-use Rattle.git_syntax.specs.Value.{Location}
+use Rattle.git_syntax.specs.Location.{Location}
 use Rattle.git_syntax.specs.Bytes.{colon, dot, at_sign, left_bracket, right_bracket, percent_sign, FreeOf, IsLowercase, lowercase, begins_by}
 use Rattle.std.specs.Char.{to_ascii_lowercase}
 use Rattle.git_syntax.specs.Escapes.{is_sound}
-use Rattle.git_syntax.specs.Hosts.Mode.{strict}
-use Rattle.git_syntax.specs.Schemes.{protocol_text}
+use Rattle.git_syntax.specs.Hosts.HostSyntax.{http_hosts}
+use Rattle.git_syntax.specs.Schemes.{scheme_text}
 use Rattle.git_syntax.proofs.Texts.CutLemmas.{tails, all_weaker, free-append, free-cons, free_of_all, not_free}
 use Rattle.git_syntax.proofs.Texts.EscapeLemmas.{encode_sound, sound-append, sound_kept}
 use Rattle.git_syntax.proofs.Texts.EscapeSets.{password_holds, user_holds}
 use Rattle.git_syntax.proofs.Addresses.AddressLemmas.{is_address_byte, address_bytes}
-use Rattle.git_syntax.proofs.Readings.HostLemmas.{decimal_digits, number_written}
+use Rattle.git_syntax.proofs.Parsing.HostLemmas.{decimal_digits, number_written}
 use Rattle.git_location.specs.declared.write_error.WriteFault.{WriteFault}
 use Rattle.git_location.specs.Text.{user_information, port_part, canonical_path, canonical_text, text}
 use Rattle.git_location.specs.Settled.{IsValue, IsWeb, IsBracketedAddress}
 use Rattle.git_location.specs.WebClass.{IsUnambiguousHost, is_plain_host_byte, AgreesOverWeb}
-use Rattle.git_location.proofs.Closed.SettledLemmas.{settled_as_web}
-use Rattle.git_location.proofs.Closed.WebClassLemmas.{host_shape, plain_lowercase}
-use Rattle.git_laws.proofs.Written.PieceTextLemmas.{user_piece, password_piece, user_no_colon}
-use Rattle.git_laws.proofs.Written.WrittenPathLemmas.{starts_alike, web_path_writing}
-use Rattle.git_laws.proofs.Written.WrittenUrlLemmas.{authority_text, canonical_cut}
+use Rattle.git_location.proofs.SettledClass.SettledLemmas.{settled_as_web}
+use Rattle.git_location.proofs.SettledClass.WebClassLemmas.{url_host_form, plain_lowercase}
+use Rattle.git_laws.proofs.Writing.PieceTextLemmas.{user_piece, password_piece, user_no_colon}
+use Rattle.git_laws.proofs.Writing.WrittenPathLemmas.{starts_alike, web_path_writing}
+use Rattle.git_laws.proofs.Writing.WrittenUrlLemmas.{authority_text, canonical_cut}
 use Rattle.git_laws.proofs.GitReadings.WebTextLemmas.{web_authority, web_scheme, web_text}
 use Rattle.git_rules.specs.Normal.{NormalPlace, CutsPort, HostFor, HostPort, IsUserOf, NormalAuthority, UrlCut, IsNormalOf, is_host_byte, lacks_host}
 use Rattle.git_rules.specs.NormalLaws.{IsOwnPlace, own_port, own_user}
@@ -146,7 +146,7 @@ unambiguous_own globs host (inl name) =
     plain_own globs host long name.bytes
 unambiguous_own globs host (inr (inl h)) =
     let long : 0 < length host = omega (arith, ap length h.joined, length-append h.first (dot ∷ (h.second ++ dot ∷ (h.third ++ dot ∷ h.fourth)))) in
-    ⊎_elim (plain_own globs host long) (bracketed_own globs host) (host_shape host (inr (inl h)))
+    ⊎_elim (plain_own globs host long) (bracketed_own globs host) (url_host_form host (inr (inl h)))
 unambiguous_own globs host (inr (inr h)) = bracketed_own globs host h
 
 -- the host with its port is that host, and that port where it isn't the scheme's own
@@ -166,7 +166,7 @@ host_port_own globs scheme host (Some p) own small other =
       cut = CutsPort.at_colon refl (free_of_all is_ascii_digit colon (decimal p) digits refl) (free_of_all is_ascii_digit right_bracket (decimal p) digits refl);
       bytes = own.bytes;
       host_form = HostFor.named (own.there (colon ∷ decimal p)) (sym own.lower);
-      port_form = inr (p, number_written strict p small (grind arith), refl);
+      port_form = inr (p, number_written http_hosts p small (grind arith), refl);
     }
 
 -- ---- the text
@@ -184,7 +184,7 @@ pub place_kept : (globs : Bool) (v : Location) (t : List ℕ) (n : NormalPlace) 
 place_kept globs v t n web is a written h =
     let (host, there, unambiguous) = a.host in
     let w = settled_as_web v web a.settled in
-    let scheme = protocol_text v.scheme in
+    let scheme = scheme_text v.scheme in
     let authority = web_authority v host web is a there in
     let path = web_path_writing v web w.path w.common.path in
     let cut : UrlCut t scheme (authority_text v) (canonical_path v) = record {

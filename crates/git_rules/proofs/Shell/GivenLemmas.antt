@@ -6,8 +6,8 @@ use Rattle.std.proofs.lemmas.Option.{IfSome_then}
 use Rattle.std.proofs.lemmas.Slice.Eq.{starts_is}
 use Rattle.percent_encoding.specs.declared.ascii_set.AsciiSet.{AsciiSet}
 use Rattle.percent_encoding.specs.AsciiSet.{contains}
-use Rattle.git_syntax.specs.Value.{Location}
-use Rattle.git_syntax.specs.Value.Protocol.{ssh}
+use Rattle.git_syntax.specs.Location.{Location}
+use Rattle.git_syntax.specs.Location.Scheme.{ssh}
 use Rattle.git_syntax.specs.Bytes.{slash, at_sign, tilde, FreeOf, begins_with}
 use Rattle.git_syntax.specs.Escapes.{password_set, user_set}
 use Rattle.git_syntax.specs.Authority.{unless_empty}

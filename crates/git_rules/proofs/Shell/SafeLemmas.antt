@@ -7,7 +7,7 @@ use Rattle.std.proofs.lemmas.Bool.{both_ways, eq-eqb}
 use Rattle.std.proofs.lemmas.Option.{IfSome_then}
 use Rattle.git_syntax.specs.Bytes.{hyphen, at_sign, FreeOf}
 use Rattle.git_syntax.proofs.Texts.CutLemmas.{heads, tails, free_begins, free_head_tail, free_of_all}
-use Rattle.git_syntax.proofs.Readings.HostLemmas.{decimal_digits}
+use Rattle.git_syntax.proofs.Parsing.HostLemmas.{decimal_digits}
 use Rattle.git_location.specs.Arguments.{is_option_like}
 use Rattle.git_laws.specs.Git.{UserCut}
 use Rattle.git_rules.specs.declared.ssh.SshRefusal.{SshRefusal}

@@ -8,7 +8,7 @@ ghost use Rattle.std.specs.Char.{is_ascii_digit};
 ghost use Rattle.std.specs.List.{list_all};
 ghost use Rattle.git_rules.specs.NormalPieces.{ReadsHost};
 ghost use Rattle.git_syntax.specs.Hosts.{Number};
-ghost use Rattle.git_syntax.specs.Hosts.Mode.{strict};
+ghost use Rattle.git_syntax.specs.Hosts.HostSyntax.{http_hosts};
 ghost use Rattle.git_rules.specs.Normal as spec;
 ghost use Rattle.git_rules.specs.Normal.{CutsPort, PortFor};
 ghost use Rattle.git_rules.specs.NormalFlaws.{HostFlaw, IsNoPort};
@@ -121,8 +121,8 @@ fn is_own_port(scheme: &[u8], port: u16) -> bool
 
 /// The number from 1 to 65,535 that the text spells.
 fn number(digits: &[u8]) -> Option<u16>
-    ensures { MatchOption result ((port : ℕ) → ¬ Number strict digits.now port)
-        (λ port. Number strict digits.now port) }
+    ensures { MatchOption result ((port : ℕ) → ¬ Number http_hosts digits.now port)
+        (λ port. Number http_hosts digits.now port) }
 {
     if !are_digits(digits) {
         return None;

@@ -8,7 +8,7 @@ ghost use Rattle.git_rules.specs.SameHost.{ComparesHosts, HaveSameHost, host_nam
 
 use git_location::parse_error::ParseError;
 use git_location::url_ref::UrlRef;
-use git_syntax::peeled::peeled_text;
+use git_syntax::ssh_host::ssh_host_text;
 
 /// Whether two locations name the same host, so that a program can warn about a remote that a rule moves to another one.
 ///
@@ -66,5 +66,5 @@ pub fn texts_name_same_host<'a>(
 fn is_same_host(a: &[u8], b: &[u8]) -> bool
     ensures { IsTrue result ↔ (host_name a.now ≡ host_name b.now) }
 {
-    peeled_text(a).eq_ignore_ascii_case(peeled_text(b))
+    ssh_host_text(a).eq_ignore_ascii_case(ssh_host_text(b))
 }

@@ -74,14 +74,14 @@ impl Rewritten<'_> {
         ensures { IfOk result (λ text. bstring_bytes text ≡ outcome_text self.now) }
     {
         match self.base {
-            None => joined(alloc, b"", self.rest),
-            Some(base) => joined(alloc, base, self.rest),
+            None => join(alloc, b"", self.rest),
+            Some(base) => join(alloc, base, self.rest),
         }
     }
 }
 
 /// One text and then the other.
-fn joined(alloc: Global, front: &[u8], rest: &[u8]) -> Result<BString, AllocError>
+fn join(alloc: Global, front: &[u8], rest: &[u8]) -> Result<BString, AllocError>
     ensures { IfOk result (λ text. bstring_bytes text ≡ front.now ++ rest.now) }
 {
     let Some(size) = front.len().checked_add(rest.len()) else {

@@ -66,8 +66,8 @@ utf8_past_window bs window rest None size whole char width left read = absurd (c
 utf8_past_window bs window rest (Some c) size whole char width left read =
     let same = ap decoded whole ∙ decoded_window bs in
     let gone : rest ≡ drop (decoded bs).size bs = left ∙ ap (λ n. drop n bs) (width ∙ ap (λ (d : Decoded). d.size) same) in
-    let past = utf8_past_first bs c (sym (char ∙ ap (λ (d : Decoded). d.char) same)) in
-    (λ all. subst IsUtf8 (sym gone) (past.0 all), λ others. past.1 (subst IsUtf8 gone others))
+    let advance = utf8_past_first bs c (sym (char ∙ ap (λ (d : Decoded). d.char) same)) in
+    (λ all. subst IsUtf8 (sym gone) (advance.0 all), λ others. advance.1 (subst IsUtf8 gone others))
 
 -- what is read from a window that is not empty leaves less
 pub shorter_past_window : (bs window rest : List ℕ) (size : ℕ) → window ≡ take 4 bs → 0 < length window → size ≡ (decoded window).size → rest ≡ drop size bs → length rest < length bs

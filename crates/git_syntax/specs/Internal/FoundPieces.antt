@@ -8,18 +8,18 @@ use Rattle.git_syntax.specs.declared.found.Found.TheVariants as found
 use Rattle.git_syntax.specs.declared.found.ScpHost.{ScpHost}
 use Rattle.git_syntax.specs.declared.found.ScpHost.TheVariants as host
 use Rattle.git_syntax.specs.declared.rules.Rules.{Rules}
-use Rattle.git_syntax.specs.declared.simple_url.ParsedUrl.{ParsedUrl}
-use Rattle.git_syntax.specs.Value.{Protocol, Location, path_alone}
-use Rattle.git_syntax.specs.Value.Protocol.{file, git, ssh, http, https, ext, helper, helper_url}
+use Rattle.git_syntax.specs.declared.url_syntax.ParsedUrl.{ParsedUrl}
+use Rattle.git_syntax.specs.Location.{Scheme, Location, path_alone}
+use Rattle.git_syntax.specs.Location.Scheme.{file, git, ssh, http, https, ext, helper, helper_url}
 use Rattle.git_syntax.specs.Bytes.{colon, left_bracket, right_bracket}
 use Rattle.git_syntax.specs.Escapes.{has_percent}
-use Rattle.git_syntax.specs.Schemes.{protocol_of}
+use Rattle.git_syntax.specs.Schemes.{scheme_of}
 use Rattle.git_syntax.specs.Internal.SchemeRules.{AreRulesOf}
 use Rattle.git_syntax.specs.Hosts.{normal_host}
 use Rattle.git_syntax.specs.Internal.HostPieces.{lowercase_address}
-use Rattle.git_syntax.specs.Internal.UrlPieces.{AreTexts, parts_of}
+use Rattle.git_syntax.specs.Internal.UrlPieces.{AreTexts, syntax_of}
 use Rattle.git_syntax.specs.Authority.{unless_empty}
-use Rattle.git_syntax.specs.Grammar.{UrlParts, helper_protocol, path_for, retained_spelling, scp_location}
+use Rattle.git_syntax.specs.Grammar.{UrlSyntax, helper_scheme, path_for, retained_spelling, scp_location}
 
 -- ---- the host that Secure Shell takes
 
@@ -34,17 +34,17 @@ abbrev pub colon_dropped : List ℕ → Option (List ℕ) → List ℕ
 colon_dropped host None = host
 colon_dropped host (Some front) = if list_any (λ b. b == colon) front then host else front
 
--- the host without brackets around it, and without a colon behind it: the one that `Peels` allows
-abbrev pub peeled : List ℕ → List ℕ
-peeled [] = []
-peeled (b ∷ bs) =
+-- the host without brackets around it, and without a colon behind it: the one that `IsSshHost` allows
+abbrev pub ssh_host : List ℕ → List ℕ
+ssh_host [] = []
+ssh_host (b ∷ bs) =
     if b == left_bracket
     then unwrap_or (front_of right_bracket (unwrap_or (front_of colon bs) bs)) (b ∷ bs)
     else colon_dropped (b ∷ bs) (front_of colon (b ∷ bs))
 
--- the host of a location, by its protocol, for the host that its URL names: the one that `HostFor` allows
-abbrev pub host_for : Protocol → Option (List ℕ) → Option (List ℕ)
-host_for ssh named = option_map peeled named
+-- the host of a location, by its scheme, for the host that its URL names: the one that `HostFor` allows
+abbrev pub host_for : Scheme → Option (List ℕ) → Option (List ℕ)
+host_for ssh named = option_map ssh_host named
 host_for file named = named
 host_for git named = named
 host_for http named = named
@@ -55,16 +55,16 @@ host_for (helper_url name) named = named
 
 -- ---- what is found
 
--- the location that the parts of a URL mean, by its protocol: the one that `MeansByProtocol` allows
-abbrev pub url_location : Protocol → UrlParts → Location
-url_location protocol parts = record {
-  scheme = protocol;
+-- the location that the parts of a URL mean, by its scheme: the one that `MeansByScheme` allows
+abbrev pub url_location : Scheme → UrlSyntax → Location
+url_location scheme parts = record {
+  scheme = scheme;
   user = parts.user;
   password = parts.password;
-  host = host_for protocol parts.host;
+  host = host_for scheme parts.host;
   flag = false;
   port = parts.port;
-  path = path_for protocol (percent_decode parts.path);
+  path = path_for scheme (percent_decode parts.path);
   spelling = retained_spelling parts.path;
 }
 
@@ -82,18 +82,18 @@ scp_host_of (host.Kept text) = text.now
 
 -- the location that the slices mean
 abbrev pub meant : Found → Location
-meant (found.Helper name address) = path_alone (helper_protocol name.now) true address.now
+meant (found.Helper name address) = path_alone (helper_scheme name.now) true address.now
 meant (found.Local path) = path_alone file true path.now
 meant (found.File host path) = record (path_alone file false path.now) { host = unless_empty host.now }
 meant (found.Ext text) = path_alone ext true text.now
-meant (found.Url rules url) = url_location (protocol_of url.scheme.now) (parts_of url)
+meant (found.Url rules url) = url_location (scheme_of url.scheme.now) (syntax_of url)
 meant (found.Scp user host path) = scp_location (option_copied user) (scp_host_of host) path.now
 
 -- the rules of a URL are those of its scheme, what becomes text is UTF-8, and it is known whether its path holds a `%`
 pub record IsReadyUrl (rules : Rules) (url : ParsedUrl) : Type 0 where
   pub ruled : AreRulesOf url.scheme.now rules
   pub scheme_text : IsUtf8 url.scheme.now
-  pub texts : AreTexts (parts_of url)
+  pub texts : AreTexts (syntax_of url)
   pub escaped : url.escaped ≡ has_percent url.path.now
 
 -- a user and a host are UTF-8
@@ -118,13 +118,13 @@ optional_length None = 0
 optional_length (Some text) = length text
 
 -- the length of the parts of a URL that are decoded
-abbrev pub parts_length : UrlParts → ℕ
+abbrev pub parts_length : UrlSyntax → ℕ
 parts_length parts = optional_length parts.user + optional_length parts.password
     + optional_length parts.host
     + length (percent_decode parts.path)
 
 -- room for so many bytes is enough for what has other bytes than the text: parts of a URL, and the host of the scp form
 abbrev pub room_for : Found → ℕ
-room_for (found.Url rules url) = parts_length (parts_of url)
+room_for (found.Url rules url) = parts_length (syntax_of url)
 room_for (found.Scp user host path) = length (scp_slice host)
 room_for _ = 0

@@ -4,28 +4,28 @@ use Rattle.std.specs.List.{list_all}
 use Rattle.std.specs.Char.{is_ascii_digit, is_ascii_lowercase, to_ascii_lowercase}
 use Rattle.percent_encoding.specs.Percent.{percent_decode}
 use Rattle.git_syntax.specs.declared.refusal.Fault.{Fault}
-use Rattle.git_syntax.specs.declared.host.Mode as rust
-use Rattle.git_syntax.specs.declared.host.Mode.TheVariants as read
+use Rattle.git_syntax.specs.declared.host.HostSyntax as rust
+use Rattle.git_syntax.specs.declared.host.HostSyntax.TheVariants as read
 use Rattle.git_syntax.specs.declared.host.HostPiece.{HostPiece}
 use Rattle.git_syntax.specs.declared.host.HostPiece.TheVariants.{Simple, Address, Kept, Decoded, Literal, DecodedLiteral, Bracketed}
-use Rattle.git_syntax.specs.declared.host.NamedHost.{NamedHost}
+use Rattle.git_syntax.specs.declared.host.HostPort.{HostPort}
 use Rattle.git_syntax.specs.Bytes.{colon, dot, hyphen, percent_sign, left_bracket, right_bracket, begins_with, lowercase}
 use Rattle.git_syntax.specs.Addresses.{IsZone}
-use Rattle.git_syntax.specs.Hosts.{Mode, Inner, normal_host, Names, Number}
-use Rattle.git_syntax.specs.Hosts.Mode.{strict, bare, loose}
-use Rattle.git_syntax.specs.Flaws.{IsNoPort, NameFlaw}
+use Rattle.git_syntax.specs.Hosts.{HostSyntax, Inner, normal_host, SpellsHostPort, Number}
+use Rattle.git_syntax.specs.Hosts.HostSyntax.{http_hosts, git_hosts, other_hosts}
+use Rattle.git_syntax.specs.Flaws.{IsNoPort, HostPortFlaw}
 
--- the mode that the code names
-abbrev pub strictness : rust.Mode → Mode
-strictness read.Strict = strict
-strictness read.Bare = bare
-strictness read.Loose = loose
+-- the syntax that the code names
+abbrev pub host_syntax : rust.HostSyntax → HostSyntax
+host_syntax read.Http = http_hosts
+host_syntax read.Git = git_hosts
+host_syntax read.Other = other_hosts
 
 -- a lower-case letter, a digit, `-` or `.`
 abbrev pub is_simple_byte : ℕ → Bool
 is_simple_byte b = is_ascii_lowercase b || (is_ascii_digit b || (b == hyphen || b == dot))
 
--- a host that every mode takes as it is
+-- a host that every syntax takes as it is
 pub record IsSimpleHost (text : List ℕ) : Type 0 where
   pub nonempty : 0 < length text
   pub bytes : list_all is_simple_byte text ≡ true
@@ -91,16 +91,16 @@ is_bracketed (DecodedLiteral text) = true
 is_bracketed (Bracketed text) = true
 
 -- the host that was named, with the colon that stays with it
-abbrev pub named_text : NamedHost → List ℕ
+abbrev pub named_text : HostPort → List ℕ
 named_text named = if named.keeps_colon then meant_host named.piece ++ colon ∷ []
     else meant_host named.piece
 
 -- the host of what was read
-abbrev pub host_of : Option NamedHost → Option (List ℕ)
+abbrev pub host_of : Option HostPort → Option (List ℕ)
 host_of named = option_map named_text named
 
 -- the port of what was read
-abbrev pub port_of : Option NamedHost → Option ℕ
+abbrev pub port_of : Option HostPort → Option ℕ
 port_of None = None
 port_of (Some named) = named.port
 
@@ -113,31 +113,31 @@ abbrev pub IsEscapedZone : List ℕ → Type 0
 IsEscapedZone text = (zone : List ℕ) × IsZone zone × (text ≡ codes "25" ++ zone)
 
 -- what the host of a literal holds, which is decoded except for HTTP
-abbrev pub shown_literal : Mode → List ℕ → List ℕ
-shown_literal strict text = lowercase_address text
-shown_literal bare text = lowercase_address (percent_decode text)
-shown_literal loose text = lowercase_address (percent_decode text)
+abbrev pub shown_literal : HostSyntax → List ℕ → List ℕ
+shown_literal http_hosts text = lowercase_address text
+shown_literal git_hosts text = lowercase_address (percent_decode text)
+shown_literal other_hosts text = lowercase_address (percent_decode text)
 
 -- the text between brackets stands for another, and the host is that one in brackets
-abbrev pub IsInner : Mode → List ℕ → List ℕ → Type 0
-IsInner mode text host = (inner : List ℕ) × Inner mode text inner × (host ≡ in_brackets inner)
+abbrev pub IsInner : HostSyntax → List ℕ → List ℕ → Type 0
+IsInner syntax text host = (inner : List ℕ) × Inner syntax text inner × (host ≡ in_brackets inner)
 
 -- nothing follows a host, or a colon that stays with it, or a colon and a port
-pub data Follows (mode : Mode) (base rest : List ℕ) (host : Option (List ℕ))
+pub data Follows (syntax : HostSyntax) (base rest : List ℕ) (host : Option (List ℕ))
     (port : Option ℕ) : Type 0 where
-  nothing : rest ≡ [] → host ≡ Some base → port ≡ None → Follows mode base rest host port
+  nothing : rest ≡ [] → host ≡ Some base → port ≡ None → Follows syntax base rest host port
   lone_colon : rest ≡ colon ∷ [] → host ≡ Some (base ++ colon ∷ []) → port ≡ None
-      → Follows mode base rest host port
-  number : (digits : List ℕ) (n : ℕ) → Number mode digits n → rest ≡ colon ∷ digits
-      → host ≡ Some base → port ≡ Some n → Follows mode base rest host port
+      → Follows syntax base rest host port
+  number : (digits : List ℕ) (n : ℕ) → Number syntax digits n → rest ≡ colon ∷ digits
+      → host ≡ Some base → port ≡ Some n → Follows syntax base rest host port
 
 -- a colon and something that is no port
-abbrev pub IsBadPort : Mode → List ℕ → Type 0
-IsBadPort mode rest = (digits : List ℕ) × IsNoPort mode digits × (rest ≡ colon ∷ digits)
+abbrev pub IsBadPort : HostSyntax → List ℕ → Type 0
+IsBadPort syntax rest = (digits : List ℕ) × IsNoPort syntax digits × (rest ≡ colon ∷ digits)
 
 -- what was read from a piece that isn't empty: the host and the port that it names, or a flaw of it
 -- where it stands
-abbrev pub ReadsName : Mode → List ℕ → Result NamedHost Fault → Type 0
-ReadsName mode piece result = MatchResult result
-    (λ named. Names mode piece (Some (named_text named)) named.port)
-    (λ fault. NameFlaw mode piece fault.kind fault.at fault.len)
+abbrev pub ReadsHostPort : HostSyntax → List ℕ → Result HostPort Fault → Type 0
+ReadsHostPort syntax piece result = MatchResult result
+    (λ named. SpellsHostPort syntax piece (Some (named_text named)) named.port)
+    (λ fault. HostPortFlaw syntax piece fault.kind fault.at fault.len)

@@ -6,8 +6,8 @@ use Rattle.git_syntax.specs.declared.refusal.Fault.{Fault}
 use Rattle.git_syntax.specs.declared.found.ScpHost as rust
 use Rattle.git_syntax.specs.Bytes.{colon, at_sign, right_bracket, FreeOf}
 use Rattle.git_syntax.specs.Escapes.{escaped_percents}
-use Rattle.git_syntax.specs.Hosts.{Names}
-use Rattle.git_syntax.specs.Hosts.Mode.{bare}
+use Rattle.git_syntax.specs.Hosts.{SpellsHostPort}
+use Rattle.git_syntax.specs.Hosts.HostSyntax.{git_hosts}
 use Rattle.git_syntax.specs.Grammar.{ScpUser, ScpHost, Unbrackets}
 use Rattle.git_syntax.specs.Flaws.{ScpNameFlaw, ScpHostFlaw}
 use Rattle.git_syntax.specs.Internal.FoundPieces.{scp_host_of}
@@ -24,16 +24,16 @@ ColonsInside text = FreeOf colon text
     × (text ≡ inside ++ right_bracket ∷ rest))
 
 -- the piece names this host, which may have brackets around it
-pub record NamesHost (piece meant : List ℕ) : Type 0 where
+pub record SpellsHost (piece meant : List ℕ) : Type 0 where
   pub named : List ℕ
-  pub names : Names bare piece (Some named) None
+  pub names : SpellsHostPort git_hosts piece (Some named) None
   pub unbracketed : Unbrackets named meant
 
 -- what is found in a host that isn't empty: what it names where each `%` is read as its own escape, or a flaw of it where it
 -- stands
 abbrev pub ReadsScpPiece : List ℕ → Result rust.ScpHost Fault → Type 0
 ReadsScpPiece host result = MatchResult result
-    (λ found. NamesHost (escaped_percents host) (scp_host_of found))
+    (λ found. SpellsHost (escaped_percents host) (scp_host_of found))
     (λ fault. ScpNameFlaw host fault.at fault.len fault.kind)
 
 -- what is found for the host of the scp form: the one that it stands for, or a flaw of it where it stands

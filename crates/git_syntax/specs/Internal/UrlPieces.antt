@@ -4,14 +4,14 @@ use Rattle.std.specs.Borrow.{Bor}
 use Rattle.percent_encoding.specs.Percent.{percent_decode}
 use Rattle.git_syntax.specs.declared.refusal.Fault.{Fault}
 use Rattle.git_syntax.specs.declared.refusal.UrlFault.TheVariants as kind
-use Rattle.git_syntax.specs.declared.simple_url.ParsedUrl.{ParsedUrl}
-use Rattle.git_syntax.specs.declared.simple_url.AuthorityParts.{AuthorityParts}
-use Rattle.git_syntax.specs.declared.simple_url.CredentialParts.{CredentialParts}
+use Rattle.git_syntax.specs.declared.url_syntax.ParsedUrl.{ParsedUrl}
+use Rattle.git_syntax.specs.declared.url_syntax.AuthoritySlices.{AuthoritySlices}
+use Rattle.git_syntax.specs.declared.url_syntax.CredentialSlices.{CredentialSlices}
 use Rattle.git_syntax.specs.Bytes.{colon, left_bracket, right_bracket, Lacks, FreeOf, is_path_start, StartsPath}
-use Rattle.git_syntax.specs.Hosts.{Mode}
+use Rattle.git_syntax.specs.Hosts.{HostSyntax}
 use Rattle.git_syntax.specs.Schemes.{is_web_scheme}
 use Rattle.git_syntax.specs.Authority.{Credentials, Authority}
-use Rattle.git_syntax.specs.Grammar.{UrlParts}
+use Rattle.git_syntax.specs.Grammar.{UrlSyntax}
 use Rattle.git_syntax.specs.Internal.HostPieces.{host_of, port_of}
 
 -- the text that an escaped piece stands for
@@ -23,8 +23,8 @@ abbrev pub decoded_option : Option (Bor (List ℕ)) → Option (List ℕ)
 decoded_option piece = option_map decoded_piece piece
 
 -- the parts of a URL that was read
-abbrev pub parts_of : ParsedUrl → UrlParts
-parts_of url = record {
+abbrev pub syntax_of : ParsedUrl → UrlSyntax
+syntax_of url = record {
   scheme = url.scheme.now;
   user = decoded_option url.user;
   password = decoded_option url.password;
@@ -40,7 +40,7 @@ pub record CutsRest (scheme rest authority path : List ℕ) : Type 0 where
   pub path_starts : StartsPath (is_web_scheme scheme) path
 
 -- user information holds the user and the password that were read of it
-abbrev pub HoldsCredentials : List ℕ → CredentialParts → Type 0
+abbrev pub HoldsCredentials : List ℕ → CredentialSlices → Type 0
 HoldsCredentials information parts = Credentials information (decoded_option parts.user)
     (decoded_option parts.password)
 
@@ -55,31 +55,31 @@ pub data HasNoText (information : List ℕ) (at len : ℕ) : Type 0 where
       → HasNoText information at len
 
 -- what is read of user information: the user and the password that it holds, or a part of it that decodes to no text
-abbrev pub ReadsCredentials : List ℕ → Result CredentialParts Fault → Type 0
+abbrev pub ReadsCredentials : List ℕ → Result CredentialSlices Fault → Type 0
 ReadsCredentials information result = MatchResult result
     (λ parts. HoldsCredentials information parts)
     (λ fault. (fault.kind ≡ kind.BadCharacter) × HasNoText information fault.at fault.len)
 
 -- an authority holds these, and a host where one is needed
-pub record HoldsHosted (mode : Mode) (needed : Bool) (authority : List ℕ)
+pub record HoldsHosted (syntax : HostSyntax) (needed : Bool) (authority : List ℕ)
     (user password host : Option (List ℕ)) (port : Option ℕ) : Type 0 where
-  pub named : Authority mode authority user password host port
+  pub named : Authority syntax authority user password host port
   pub hosted : needed ≡ true → IsSome host
 
 -- an authority holds the parts that were read of it
-abbrev pub HoldsParts : Mode → Bool → List ℕ → AuthorityParts → Type 0
-HoldsParts mode needed authority parts =
-    HoldsHosted mode needed authority (decoded_option parts.credentials.user)
+abbrev pub HoldsAuthority : HostSyntax → Bool → List ℕ → AuthoritySlices → Type 0
+HoldsAuthority syntax needed authority parts =
+    HoldsHosted syntax needed authority (decoded_option parts.credentials.user)
     (decoded_option parts.credentials.password) (host_of parts.host) (port_of parts.host)
 
 -- an authority holds nothing, or not the host that is needed
-abbrev pub IsNoAuthority : Mode → Bool → List ℕ → Type 0
-IsNoAuthority mode needed authority =
+abbrev pub IsNoAuthority : HostSyntax → Bool → List ℕ → Type 0
+IsNoAuthority syntax needed authority =
     (user password host : Option (List ℕ)) (port : Option ℕ)
-    → ¬ HoldsHosted mode needed authority user password host port
+    → ¬ HoldsHosted syntax needed authority user password host port
 
 -- the user, the password and the host are UTF-8
-pub record AreTexts (parts : UrlParts) : Type 0 where
+pub record AreTexts (parts : UrlSyntax) : Type 0 where
   pub user : IfSome parts.user IsUtf8
   pub password : IfSome parts.password IsUtf8
   pub host : IfSome parts.host IsUtf8

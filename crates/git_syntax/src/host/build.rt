@@ -11,11 +11,11 @@ ghost use Rattle.git_syntax.specs.Internal.HostPieces.{is_bracketed, lowercase_a
 use crate::bytes::{copy_into, cut};
 use crate::escape::decode_into;
 use crate::host::bytes::looks_like_domain;
-use crate::host::{HostPiece, NamedHost};
+use crate::host::{HostPiece, HostPort};
 use crate::text::into_text;
 use std::alloc::{AllocError, Global};
 
-impl NamedHost<'_> {
+impl HostPort<'_> {
     /// The text of the host.
     pub fn build(self, alloc: Global) -> Result<String, AllocError>
         requires { IsUtf8 (named_text self) }

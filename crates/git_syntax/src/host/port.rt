@@ -10,21 +10,25 @@ ghost use Rattle.git_syntax.specs.Bytes.{colon};
 ghost use Rattle.git_syntax.specs.Flaws.{IsNoPort};
 ghost use Rattle.git_syntax.specs.Hosts as spec;
 ghost use Rattle.git_syntax.specs.Hosts.{Number};
-ghost use Rattle.git_syntax.specs.Internal.HostPieces.{EndsHost, Follows, IsBadPort, meant_host, named_text, strictness};
+ghost use Rattle.git_syntax.specs.Internal.HostPieces.{EndsHost, Follows, IsBadPort, meant_host, named_text, host_syntax};
 
 use crate::bytes::{after, starts_with_byte};
-use crate::host::{HostPiece, Mode, NamedHost, alone};
+use crate::host::{HostPiece, HostPort, HostSyntax, alone};
 use crate::text::as_text;
 
 /// A host with what follows it: nothing, or a colon and perhaps a port.
-pub(super) fn with_rest<'a>(mode: Mode, piece: HostPiece<'a>, rest: &[u8]) -> Option<NamedHost<'a>>
+pub(super) fn with_rest<'a>(
+    syntax: HostSyntax,
+    piece: HostPiece<'a>,
+    rest: &[u8],
+) -> Option<HostPort<'a>>
     requires { EndsHost rest.now }
-    ensures { MatchOption result (IsBadPort (strictness mode) rest.now)
-        (λ named. Follows (strictness mode) (meant_host piece.entry) rest.now
+    ensures { MatchOption result (IsBadPort (host_syntax syntax) rest.now)
+        (λ named. Follows (host_syntax syntax) (meant_host piece.entry) rest.now
         (Some (named_text named)) named.port) }
 {
     match after(rest, b':') {
-        Some(digits) => with_port(mode, piece, digits),
+        Some(digits) => with_port(syntax, piece, digits),
         None => Some(alone(piece)),
     }
 }
@@ -38,23 +42,23 @@ pub(super) fn ends_host(rest: &[u8]) -> bool
 
 /// A host with a colon and this text behind it: the colon stays where the text is empty, else the text is the port.
 pub(super) fn with_port<'a>(
-    mode: Mode,
+    syntax: HostSyntax,
     piece: HostPiece<'a>,
     digits: &[u8],
-) -> Option<NamedHost<'a>>
-    ensures { MatchOption result (IsNoPort (strictness mode) digits.now)
-        (λ named. Follows (strictness mode) (meant_host piece.entry) (colon ∷ digits.now)
+) -> Option<HostPort<'a>>
+    ensures { MatchOption result (IsNoPort (host_syntax syntax) digits.now)
+        (λ named. Follows (host_syntax syntax) (meant_host piece.entry) (colon ∷ digits.now)
         (Some (named_text named)) named.port) }
 {
     if digits.is_empty() {
-        return Some(NamedHost {
+        return Some(HostPort {
             piece,
             keeps_colon: true,
             port: None,
         });
     }
-    let port = read_port(mode, digits)?;
-    Some(NamedHost {
+    let port = read_port(syntax, digits)?;
+    Some(HostPort {
         piece,
         keeps_colon: false,
         port: Some(port),
@@ -62,9 +66,9 @@ pub(super) fn with_port<'a>(
 }
 
 /// The port that the digits spell.
-fn read_port(mode: Mode, digits: &[u8]) -> Option<u16>
-    ensures { MatchOption result ((port : ℕ) → ¬ Number (strictness mode) digits.now port)
-        (λ port. Number (strictness mode) digits.now port) }
+fn read_port(syntax: HostSyntax, digits: &[u8]) -> Option<u16>
+    ensures { MatchOption result ((port : ℕ) → ¬ Number (host_syntax syntax) digits.now port)
+        (λ port. Number (host_syntax syntax) digits.now port) }
 {
     if !are_digits(digits) {
         return None;
@@ -72,7 +76,7 @@ fn read_port(mode: Mode, digits: &[u8]) -> Option<u16>
     let Ok(port) = as_text(digits).parse::<u16>() else {
         return None;
     };
-    if allows_port(mode, port) {
+    if allows_port(syntax, port) {
         Some(port)
     } else {
         None
@@ -87,11 +91,11 @@ pub(super) fn are_digits(text: &[u8]) -> bool
 }
 
 /// Whether the port is allowed.
-fn allows_port(mode: Mode, port: u16) -> bool
-    ensures { IsTrue result ↔ spec.AllowsPort (strictness mode) port }
+fn allows_port(syntax: HostSyntax, port: u16) -> bool
+    ensures { IsTrue result ↔ spec.AllowsPort (host_syntax syntax) port }
 {
-    match mode {
-        Mode::Strict => port > 0,
-        Mode::Bare | Mode::Loose => true,
+    match syntax {
+        HostSyntax::Http => port > 0,
+        HostSyntax::Git | HostSyntax::Other => true,
     }
 }

@@ -4,7 +4,7 @@ use Rattle.std.specs.Global.{Global}
 use Rattle.std.specs.String.{string_bytes}
 use Rattle.gix_url.specs.declared.error.Error.{Error}
 use Rattle.gix_url.specs.declared.error.Error.TheVariants as error
-use Rattle.git_syntax.specs.Value.{Location}
+use Rattle.git_syntax.specs.Location.{Location}
 
 -- an answer of the resolver: a text that becomes the path, or none, which is told
 abbrev pub Resolves : (Option (String Global) → Type 0) → Location → Location → Result (Unit {0}) Error → Type 0
@@ -19,5 +19,5 @@ resolved_text answers v w u (Some text, a, h) = (text, a, h.1)
 
 -- where not, it was none
 pub resolved_none : (answers : Option (String Global) → Type 0) (v w : Location) (fault : Error) → Resolves answers v w (Err fault) → (fault ≡ error.Memory) ⊎ ((fault ≡ error.Unresolved) × answers None)
-resolved_none answers v w fault (None, a, h) = let told = h.0 in inr (cc, a)
+resolved_none answers v w fault (None, a, h) = let reported = h.0 in inr (cc, a)
 resolved_none answers v w fault (Some text, a, h) = let wrong = h.0 in cc

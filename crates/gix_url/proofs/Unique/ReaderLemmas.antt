@@ -5,13 +5,13 @@ use Rattle.std.specs.Prelude.{IfOk, IfErr}
 use Rattle.gix_url.specs.declared.error.Error.{Error}
 use Rattle.gix_url.specs.declared.error.Error.TheVariants as error
 use Rattle.git_location.specs.declared.parse_error.ParseError.TheVariants as unread
-use Rattle.git_syntax.specs.Value.{Location}
+use Rattle.git_syntax.specs.Location.{Location}
 use Rattle.git_syntax.specs.Grammar.{Spells}
 use Rattle.gix_url.specs.Flaws.{Flaw}
 use Rattle.gix_url.specs.Readings.{Refuses, Reads}
 use Rattle.gix_url.specs.Laws.{ReadersAgree, SameWithRoom}
 use Rattle.git_syntax.proofs.Unique.UniqueLemmas.{spells_unique}
-use Rattle.git_syntax.proofs.Refused.RefusalLemmas.{flawed_unspelled}
+use Rattle.git_syntax.proofs.Errors.RefusalLemmas.{flawed_unspelled}
 use Rattle.git_location.proofs.Unique.AnsweredLemmas.{answer_spelled}
 use Rattle.std.proofs.Common.{◌≢◌, ℕ, List, refl}
 use Rattle.bstr.specs.Owned.{bstring_bytes}

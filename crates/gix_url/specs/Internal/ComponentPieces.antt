@@ -6,9 +6,9 @@ use Rattle.bstr.specs.Owned.{bstring_bytes}
 use Rattle.gix_url.specs.declared.components.PathComponents.{PathComponents}
 use Rattle.gix_url.specs.declared.components.QueryText.{QueryText}
 use Rattle.gix_url.specs.declared.components.QueryText.TheVariants.{Borrowed, Owned}
-use Rattle.gix_url.specs.declared.components.cuts.Spelled.{Spelled}
+use Rattle.gix_url.specs.declared.components.cuts.EscapedText.{EscapedText}
 use Rattle.git_syntax.specs.Bytes.{plus_sign, FreeOf, ampersand}
-use Rattle.git_syntax.specs.Value.{Location}
+use Rattle.git_syntax.specs.Location.{Location}
 use Rattle.git_syntax.specs.Grammar.{or_root}
 use Rattle.git_laws.specs.Components.{CutsPath, CutsFields, SplitsField, with_spaces}
 use Rattle.git_syntax.specs.Escapes.{matches}
@@ -16,24 +16,24 @@ use Rattle.git_location.specs.Text.{original_path}
 use Rattle.gix_url.specs.Internal.Meanings.{meant_by}
 
 -- the original path of a location, and what it stands for
-abbrev pub SpellsPath : Location → Spelled → Type 0
+abbrev pub SpellsPath : Location → EscapedText → Type 0
 SpellsPath v whole = (whole.text.now ≡ original_path v) × (whole.meant.now ≡ v.path)
     × (whole.escaped ≡ matches v.spelling v.path)
 
 -- the parts of a text around the first c, escaped as the text is
-pub record CutsAround (c : ℕ) (whole front behind : Spelled) : Type 0 where
+pub record CutsAround (c : ℕ) (whole front behind : EscapedText) : Type 0 where
   pub free : FreeOf c front.text.now
   pub joined : whole.text.now ≡ front.text.now ++ c ∷ behind.text.now
   pub front_escaped : front.escaped ≡ whole.escaped
   pub behind_escaped : behind.escaped ≡ whole.escaped
 
 -- the parts around the first c, or none where the text is free of it
-abbrev pub CutsSpelled : ℕ → Spelled → Option (Spelled × Spelled) → Type 0
+abbrev pub CutsSpelled : ℕ → EscapedText → Option (EscapedText × EscapedText) → Type 0
 CutsSpelled c whole parts = MatchOption parts (FreeOf c whole.text.now)
     (λ p. CutsAround c whole p.0 p.1)
 
 -- the part before the first c, and the part behind it where there is one
-abbrev pub CutsOff : ℕ → Spelled → Spelled → Option Spelled → Type 0
+abbrev pub CutsOff : ℕ → EscapedText → EscapedText → Option EscapedText → Type 0
 CutsOff c whole front None = FreeOf c whole.text.now × (front.text.now ≡ whole.text.now)
     × (front.escaped ≡ whole.escaped)
 CutsOff c whole front (Some behind) = CutsAround c whole front behind

@@ -15,7 +15,7 @@ use git_syntax::bytes::cut;
 
 /// A text as it is spelled, together with what it stands for.
 #[derive(Clone, Copy)]
-pub(super) struct Spelled<'a> {
+pub(super) struct EscapedText<'a> {
     /// The text.
     pub(super) text: &'a [u8],
     /// What it stands for.
@@ -25,16 +25,16 @@ pub(super) struct Spelled<'a> {
     ghost meaning: { meant.now ≡ meant_by escaped text.now },
 }
 
-impl<'a> Spelled<'a> {
+impl<'a> EscapedText<'a> {
     ghost use Rattle.gix_url.specs.Internal.ComponentPieces.{CutsAround, CutsOff, CutsSpelled};
 
     /// The text as it is: an escape in it stands for itself.
-    pub(super) fn raw(text: &'a [u8]) -> Spelled<'a>
+    pub(super) fn raw(text: &'a [u8]) -> EscapedText<'a>
         ensures text { result.text.now ≡ text.now }
         ensures meant { result.meant.now ≡ text.now }
         ensures escaped { result.escaped ≡ false }
     {
-        Spelled {
+        EscapedText {
             text,
             meant: text,
             escaped: false,
@@ -42,13 +42,13 @@ impl<'a> Spelled<'a> {
     }
 
     /// The spelling of what it decodes to.
-    pub(super) fn spelling(text: &'a [u8], meant: &'a [u8]) -> Spelled<'a>
+    pub(super) fn spelling(text: &'a [u8], meant: &'a [u8]) -> EscapedText<'a>
         requires { percent_decode text.now ≡ meant.now }
         ensures text { result.text.now ≡ text.now }
         ensures meant { result.meant.now ≡ meant.now }
         ensures escaped { result.escaped ≡ true }
     {
-        Spelled {
+        EscapedText {
             text,
             meant,
             escaped: true,
@@ -56,7 +56,7 @@ impl<'a> Spelled<'a> {
     }
 
     /// The parts before and behind the first `c`, which is neither `%` nor a hexadecimal digit.
-    pub(super) fn cut(self, c: u8) -> Option<(Spelled<'a>, Spelled<'a>)>
+    pub(super) fn cut(self, c: u8) -> Option<(EscapedText<'a>, EscapedText<'a>)>
         requires digit { is_digit c 16 ≡ false }
         requires percent { (c == 37) ≡ false }
         ensures { CutsSpelled c self.entry result }
@@ -67,7 +67,7 @@ impl<'a> Spelled<'a> {
 
     /// The same, where the first `c` is likely to be near.
     #[inline(always)]
-    pub(super) fn cut_near(self, c: u8) -> Option<(Spelled<'a>, Spelled<'a>)>
+    pub(super) fn cut_near(self, c: u8) -> Option<(EscapedText<'a>, EscapedText<'a>)>
         requires digit { is_digit c 16 ≡ false }
         requires percent { (c == 37) ≡ false }
         ensures { CutsSpelled c self.entry result }
@@ -78,7 +78,7 @@ impl<'a> Spelled<'a> {
 
     /// The parts whose texts are these, around the first `c`.
     #[inline(always)]
-    fn around(self, c: u8, front: &'a [u8], behind: &'a [u8]) -> (Spelled<'a>, Spelled<'a>)
+    fn around(self, c: u8, front: &'a [u8], behind: &'a [u8]) -> (EscapedText<'a>, EscapedText<'a>)
         requires digit { is_digit c 16 ≡ false }
         requires percent { (c == 37) ≡ false }
         requires free { FreeOf c front.now }
@@ -87,12 +87,12 @@ impl<'a> Spelled<'a> {
     {
         let at = meant_len(front, self.escaped);
         (
-            Spelled {
+            EscapedText {
                 text: front,
                 meant: self.meant.split_at(at).0,
                 escaped: self.escaped,
             },
-            Spelled {
+            EscapedText {
                 text: behind,
                 meant: self.meant.split_at(at + 1).1,
                 escaped: self.escaped,
@@ -101,7 +101,7 @@ impl<'a> Spelled<'a> {
     }
 
     /// The part before the first `c`, and the part behind it where there is one.
-    pub(super) fn cut_off(self, c: u8) -> (Spelled<'a>, Option<Spelled<'a>>)
+    pub(super) fn cut_off(self, c: u8) -> (EscapedText<'a>, Option<EscapedText<'a>>)
         requires digit { is_digit c 16 ≡ false }
         requires percent { (c == 37) ≡ false }
         ensures { CutsOff c self.entry result.0 result.1 }
@@ -113,11 +113,11 @@ impl<'a> Spelled<'a> {
     }
 
     /// Nothing, as a piece of this text.
-    pub(super) fn nothing(self) -> Spelled<'a>
+    pub(super) fn nothing(self) -> EscapedText<'a>
         ensures text { result.text.now ≡ [] }
         ensures escaped { result.escaped ≡ self.entry.escaped }
     {
-        Spelled {
+        EscapedText {
             text: b"",
             meant: b"",
             escaped: self.escaped,

@@ -8,7 +8,7 @@ ghost use Rattle.git_syntax.specs.Bytes.{FreeOf, ampersand, plus_sign};
 ghost use Rattle.gix_url.specs.Internal.ComponentPieces.{AddsLent, AddsPair, LendsFields, begun_by, begun_in, ends_in, field_count, one_field};
 
 use super::QueryText;
-use crate::components::cuts::Spelled;
+use crate::components::cuts::EscapedText;
 use crate::components::lend::{lend_pair, lent_pair};
 use crate::components::near::cut_near;
 use git_syntax::bytes::is_free_of;
@@ -20,7 +20,7 @@ const PIECE: usize = 255;
 /// The names and values of the query.
 pub(super) fn lend_query<'a>(
     alloc: Global,
-    query: Spelled<'a>,
+    query: EscapedText<'a>,
 ) -> Result<Vec<(QueryText<'a>, QueryText<'a>)>, AllocError>
     ensures { IfOk result
         (λ pairs. LendsFields query.entry.escaped query.entry.text.now pairs.items) }
@@ -35,7 +35,7 @@ pub(super) fn lend_query<'a>(
 /// The names and values of a query in which an escape stands for its byte.
 fn lend_spelled<'a>(
     alloc: Global,
-    query: Spelled<'a>,
+    query: EscapedText<'a>,
 ) -> Result<Vec<(QueryText<'a>, QueryText<'a>)>, AllocError>
     ensures { IfOk result
         (λ pairs. LendsFields query.entry.escaped query.entry.text.now pairs.items) }
@@ -62,10 +62,10 @@ fn lend_raw<'a>(
     let plain = is_free_of(query, b'+');
     let mut rest = query;
     while let Some((field, behind)) = cut_near(rest, b'&') {
-        push_field(alloc, &mut pairs, Spelled::raw(field), plain)?;
+        push_field(alloc, &mut pairs, EscapedText::raw(field), plain)?;
         rest = behind;
     }
-    push_field(alloc, &mut pairs, Spelled::raw(rest), plain)?;
+    push_field(alloc, &mut pairs, EscapedText::raw(rest), plain)?;
     Ok(pairs)
 }
 
@@ -75,7 +75,7 @@ fn lend_raw<'a>(
 fn push_field<'a>(
     alloc: Global,
     pairs: &mut Vec<(QueryText<'a>, QueryText<'a>)>,
-    field: Spelled<'a>,
+    field: EscapedText<'a>,
     plain: bool,
 ) -> Result<(), AllocError>
     requires room { vec_len pairs.old + one_field field.text.now ≤ vec_capacity pairs.old }
@@ -102,7 +102,7 @@ fn push_field<'a>(
 fn push_made<'a>(
     alloc: Global,
     pairs: &mut Vec<(QueryText<'a>, QueryText<'a>)>,
-    field: Spelled<'a>,
+    field: EscapedText<'a>,
 ) -> Result<(), AllocError>
     requires { vec_len pairs.old < vec_capacity pairs.old }
     ensures pairs { OnOk result

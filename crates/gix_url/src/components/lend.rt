@@ -10,14 +10,14 @@ ghost use Rattle.git_laws.specs.Components.{SplitsField, with_spaces};
 ghost use Rattle.gix_url.specs.Internal.Meanings.{meant_by};
 
 use super::QueryText;
-use crate::components::cuts::Spelled;
+use crate::components::cuts::EscapedText;
 use bstr::{BStr, BString};
 use git_syntax::bytes::{append_within, is_free_of};
 use std::alloc::{AllocError, Global};
 
 /// The name and the value of a field, lent as they are in the path.
 #[inline(always)]
-pub(super) fn lent_pair<'a>(field: Spelled<'a>) -> (QueryText<'a>, QueryText<'a>)
+pub(super) fn lent_pair<'a>(field: EscapedText<'a>) -> (QueryText<'a>, QueryText<'a>)
     requires { FreeOf plus_sign field.text.now }
     ensures { LendsPair field.entry.escaped field.entry.text.now result }
 {
@@ -31,7 +31,7 @@ pub(super) fn lent_pair<'a>(field: Spelled<'a>) -> (QueryText<'a>, QueryText<'a>
 /// The name and the value of a field, each lent where no raw `+` is in it.
 pub(super) fn lend_pair<'a>(
     alloc: Global,
-    field: Spelled<'a>,
+    field: EscapedText<'a>,
 ) -> Result<(QueryText<'a>, QueryText<'a>), AllocError>
     ensures { IfOk result (λ pair. LendsPair field.entry.escaped field.entry.text.now pair) }
 {
@@ -41,7 +41,7 @@ pub(super) fn lend_pair<'a>(
 
 /// The pieces of a field before and behind its first `=`; without one, all of it and nothing.
 #[inline(always)]
-fn split_field<'a>(field: Spelled<'a>) -> (Spelled<'a>, Spelled<'a>)
+fn split_field<'a>(field: EscapedText<'a>) -> (EscapedText<'a>, EscapedText<'a>)
     ensures split { SplitsField field.entry.text.now result.0.text.now result.1.text.now }
     ensures name { result.0.escaped ≡ field.entry.escaped }
     ensures value { result.1.escaped ≡ field.entry.escaped }
@@ -53,17 +53,17 @@ fn split_field<'a>(field: Spelled<'a>) -> (Spelled<'a>, Spelled<'a>)
 }
 
 /// The name or the value that the piece stands for.
-fn lend_term<'a>(alloc: Global, piece: Spelled<'a>) -> Result<QueryText<'a>, AllocError>
+fn lend_term<'a>(alloc: Global, piece: EscapedText<'a>) -> Result<QueryText<'a>, AllocError>
     ensures { IfOk result (λ text. LendsTerm piece.entry.escaped piece.entry.text.now text) }
 {
     if is_free_of(piece.text, b'+') {
         return Ok(QueryText::Borrowed(BStr::new(piece.meant)));
     }
-    Ok(QueryText::Owned(BString::new(spaced(alloc, piece)?)))
+    Ok(QueryText::Owned(BString::new(with_spaces(alloc, piece)?)))
 }
 
 /// What the piece stands for with each raw `+` a space.
-fn spaced(alloc: Global, piece: Spelled<'_>) -> Result<Vec<u8>, AllocError>
+fn with_spaces(alloc: Global, piece: EscapedText<'_>) -> Result<Vec<u8>, AllocError>
     ensures { IfOk result
         (λ bytes. bytes.items ≡ meant_by piece.entry.escaped (with_spaces piece.entry.text.now)) }
 {

@@ -1,19 +1,19 @@
 //! Building: the location that found slices mean, with bytes of its own.
 //!
-//! It may use `found`, `bytes`, `copies`, `home`, `host`, `made`, `meaning`, `scheme` and `text`. Its contract: the location is
-//! the one that the slices mean. Memory is asked for once for each part.
+//! It may use `found`, `bytes`, `copies`, `home`, `host`, `from_fields`, `to_location`, `scheme` and `text`. Its
+//! contract: the location is the one that the slices mean. Memory is asked for once for each part.
 
 ghost use Rattle.std.specs.Prelude.{◌≡◌, IfOk, IfSome, IsUtf8, option_map, string_bytes};
 ghost use Rattle.std.specs.Option.{option_copied};
 ghost use Rattle.git_syntax.specs.Internal.FoundPieces.{AreScpTexts, IsReady, meant, scp_host_of};
-ghost use Rattle.git_syntax.specs.Grammar.{helper_protocol, scp_location};
-ghost use Rattle.git_syntax.specs.Value.{path_alone};
-ghost use Rattle.gix_url.specs.Views.{protocol};
+ghost use Rattle.git_syntax.specs.Grammar.{helper_scheme, scp_location};
+ghost use Rattle.git_syntax.specs.Location.{path_alone};
+ghost use Rattle.gix_url.specs.Views.{owned_scheme};
 
 use crate::location::Url;
-use crate::parse::copies::{copied, copied_text, copied_unless_empty};
-use crate::parse::made::{path_alone, plain_location};
-use crate::parse::meaning::url_location;
+use crate::parse::copies::{copy, copy_text, copy_unless_empty};
+use crate::parse::from_fields::{path_alone, plain_location};
+use crate::parse::to_location::url_location;
 use crate::scheme::Scheme;
 use git_syntax::bytes::append_within;
 use git_syntax::found::{Found, ScpHost};
@@ -30,15 +30,15 @@ pub(super) fn build(alloc: Global, found: Found<'_>) -> Result<Url, AllocError>
     match found {
         Found::Helper { name, address } => {
             let scheme = helper_scheme(alloc, name)?;
-            Ok(path_alone(scheme, true, copied(alloc, address)?))
+            Ok(path_alone(scheme, true, copy(alloc, address)?))
         }
-        Found::Local { path } => Ok(path_alone(Scheme::File, true, copied(alloc, path)?)),
+        Found::Local { path } => Ok(path_alone(Scheme::File, true, copy(alloc, path)?)),
         Found::File { host, path } => {
-            let host = copied_unless_empty(alloc, host)?;
-            let path = copied(alloc, path)?;
+            let host = copy_unless_empty(alloc, host)?;
+            let path = copy(alloc, path)?;
             Ok(plain_location(Scheme::File, None, host, false, path))
         }
-        Found::Ext { text } => Ok(path_alone(Scheme::Ext, true, copied(alloc, text)?)),
+        Found::Ext { text } => Ok(path_alone(Scheme::Ext, true, copy(alloc, text)?)),
         Found::Url { rules, url } => url_location(alloc, rules, url),
         Found::Scp { user, host, path } => scp_location(alloc, user, host, path),
     }
@@ -47,12 +47,12 @@ pub(super) fn build(alloc: Global, found: Found<'_>) -> Result<Url, AllocError>
 /// The scheme of a helper with this name.
 fn helper_scheme(alloc: Global, name: &[u8]) -> Result<Scheme, AllocError>
     requires { IsUtf8 name.now }
-    ensures { IfOk result (λ scheme. protocol scheme ≡ helper_protocol name.now) }
+    ensures { IfOk result (λ scheme. owned_scheme scheme ≡ helper_scheme name.now) }
 {
     if name == b"ext".as_slice() {
         return Ok(Scheme::Ext);
     }
-    Ok(Scheme::Helper(copied_text(alloc, name)?))
+    Ok(Scheme::Helper(copy_text(alloc, name)?))
 }
 
 /// A location that Secure Shell reaches, with this user and this host.
@@ -68,7 +68,7 @@ fn scp_location(
 {
     let user = user_text(alloc, user)?;
     let host = host_text(alloc, host)?;
-    let path = copied(alloc, from_home(path))?;
+    let path = copy(alloc, from_home(path))?;
     Ok(plain_location(Scheme::Ssh, user, Some(host), true, path))
 }
 
@@ -79,7 +79,7 @@ fn user_text(alloc: Global, user: Option<&[u8]>) -> Result<Option<String>, Alloc
 {
     match user {
         None => Ok(None),
-        Some(user) => Ok(Some(copied_text(alloc, user)?)),
+        Some(user) => Ok(Some(copy_text(alloc, user)?)),
     }
 }
 

@@ -11,14 +11,14 @@ use git_syntax::text::as_text;
 use std::alloc::{AllocError, Global};
 
 /// The piece as bytes of its own.
-pub(super) fn copied(alloc: Global, piece: &[u8]) -> Result<BString, AllocError>
+pub(super) fn copy(alloc: Global, piece: &[u8]) -> Result<BString, AllocError>
     ensures { IfOk result (λ copy. bstring_bytes copy ≡ piece.now) }
 {
     BString::from_slice(alloc, piece)
 }
 
 /// The piece as a text of its own.
-pub(super) fn copied_text(alloc: Global, piece: &[u8]) -> Result<String, AllocError>
+pub(super) fn copy_text(alloc: Global, piece: &[u8]) -> Result<String, AllocError>
     requires { IsUtf8 piece.now }
     ensures { IfOk result (λ copy. string_bytes copy ≡ piece.now) }
 {
@@ -26,12 +26,12 @@ pub(super) fn copied_text(alloc: Global, piece: &[u8]) -> Result<String, AllocEr
 }
 
 /// The piece as a text of its own, or none where it is empty.
-pub(super) fn copied_unless_empty(alloc: Global, piece: &[u8]) -> Result<Option<String>, AllocError>
+pub(super) fn copy_unless_empty(alloc: Global, piece: &[u8]) -> Result<Option<String>, AllocError>
     requires { IsUtf8 piece.now }
     ensures { IfOk result (λ copy. option_map string_bytes copy ≡ unless_empty piece.now) }
 {
     if piece.is_empty() {
         return Ok(None);
     }
-    Ok(Some(copied_text(alloc, piece)?))
+    Ok(Some(copy_text(alloc, piece)?))
 }

@@ -8,7 +8,7 @@ ghost use Rattle.gix_url.specs.Flaws.{Flaw};
 ghost use Rattle.git_syntax.specs.Flaws.{NamesFlaw};
 
 use crate::error::Error;
-use crate::parse::copies::copied;
+use crate::parse::copies::copy;
 use git_syntax::refusal::Refusal;
 use std::alloc::{AllocError, Global};
 
@@ -18,14 +18,14 @@ pub(super) fn error_of(alloc: Global, input: &[u8], refusal: Refusal<'_>) -> Err
     ensures flaw { Flaw input.now result }
     ensures empty { refusal.entry ≡ Refusal.EmptyLocal → result ≡ Error.EmptyLocal }
 {
-    match told(alloc, input, refusal) {
+    match error_with_copy(alloc, input, refusal) {
         Ok(error) => error,
         Err(_) => Error::Memory,
     }
 }
 
 /// The same, where memory isn't refused.
-fn told(alloc: Global, input: &[u8], refusal: Refusal<'_>) -> Result<Error, AllocError>
+fn error_with_copy(alloc: Global, input: &[u8], refusal: Refusal<'_>) -> Result<Error, AllocError>
     requires { NamesFlaw input.now refusal }
     ensures flaw { IfOk result (λ error. Flaw input.now error) }
     ensures empty { refusal.entry ≡ Refusal.EmptyLocal → result ≡ Ok Error.EmptyLocal }
@@ -34,12 +34,12 @@ fn told(alloc: Global, input: &[u8], refusal: Refusal<'_>) -> Result<Error, Allo
         Refusal::EmptyLocal => Error::EmptyLocal,
         Refusal::MissingPath { kind, at } => Error::MissingPath {
             kind,
-            input: copied(alloc, input)?,
+            input: copy(alloc, input)?,
             at,
         },
         Refusal::NotUtf8 { kind, at } => Error::NotUtf8 {
             kind,
-            input: copied(alloc, input)?,
+            input: copy(alloc, input)?,
             at,
         },
         Refusal::TooLong {
@@ -48,7 +48,7 @@ fn told(alloc: Global, input: &[u8], refusal: Refusal<'_>) -> Result<Error, Allo
             at,
             len,
         } => Error::TooLong {
-            shown: copied(alloc, shown)?,
+            shown: copy(alloc, shown)?,
             total,
             at,
             len,
@@ -61,7 +61,7 @@ fn told(alloc: Global, input: &[u8], refusal: Refusal<'_>) -> Result<Error, Allo
         } => Error::BadUrl {
             kind,
             fault,
-            input: copied(alloc, input)?,
+            input: copy(alloc, input)?,
             at,
             len,
         },

@@ -48,7 +48,7 @@ fn service<'a>(scheme: &'a Scheme, host: &'a str) -> UrlRef<'a> {
 }
 
 /// The protocol of a location, for as long as what lends it.
-fn protocol_of<'a>(url: &UrlRef<'a>) -> &'a str {
+fn scheme_of<'a>(url: &UrlRef<'a>) -> &'a str {
     url.scheme.as_str() // `ssh` of `git@host:repo`
 }
 
@@ -188,7 +188,7 @@ fn parts_of_a_program_are_written(rt: HostRuntime) -> Result<(), Fail> {
     assert_eq!(rt; out.as_slice(), b"https://host/my%20repo".as_slice());
     let port = service(&Scheme::Git, "host");
     assert_eq!(rt; port.port, Some(9418));
-    assert_eq!(rt; protocol_of(&port), "git");
+    assert_eq!(rt; scheme_of(&port), "git");
     assert!(rt; fits(&port, 16) && !fits(&port, 15));
     Ok(())
 }

@@ -77,7 +77,7 @@ fn is_web(alloc: Global, name: &str) -> Result<bool, Error> {
     Ok(matches!(scheme, Scheme::Http | Scheme::Https)) // of `https`, but not of `HTTPS`
 }
 
-fn protocol_of(url: &Url) -> &str {
+fn scheme_of(url: &Url) -> &str {
     url.scheme.as_str() // `ssh` of `git@host:repo` and of `ssh+git://host/repo`
 }
 
@@ -134,7 +134,7 @@ fn schemes_and_hosts_are_told_apart(rt: HostRuntime) -> Result<(), Fail> {
     assert_eq!(rt; port_of(&Scheme::File), 0);
     for text in ["git@host:repo", "ssh+git://host/repo"] {
         let url = Url::from_text(rt.alloc(), text)?;
-        assert_eq!(rt; protocol_of(&url), "ssh", "{text}");
+        assert_eq!(rt; scheme_of(&url), "ssh", "{text}");
     }
     for (text, is) in [("ssh://h:22/p", true), ("h:22/p", false)] {
         let url = Url::from_text(rt.alloc(), text)?;

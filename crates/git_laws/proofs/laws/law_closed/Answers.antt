@@ -1,10 +1,10 @@
 -- Each law is a lemma.
 use Rattle.std.proofs.Common.{inl, inr}
 use Rattle.git_laws.specs.Laws.{Unchanged}
-use Rattle.git_laws.proofs.Closed.ClosedLemmas.{closed, exact}
-use Rattle.git_laws.proofs.Refused.CornerLemmas.{apart}
-use Rattle.git_laws.proofs.Written.KeptLemmas.{helper_unchanged, local_unchanged, kept_exact}
-use Rattle.git_laws.proofs.Closed.WritableLemmas.{writable}
+use Rattle.git_laws.proofs.SettledClass.ClosedLemmas.{closed, exact}
+use Rattle.git_laws.proofs.Errors.ExceptionLemmas.{apart}
+use Rattle.git_laws.proofs.Writing.KeptLemmas.{helper_unchanged, local_unchanged, kept_exact}
+use Rattle.git_laws.proofs.SettledClass.WritableLemmas.{writable}
 use Rattle.git_laws.proofs.laws.law_closed.Goals as goal
 
 -- both forms write what they read

@@ -1,15 +1,15 @@
 -- Each law is a lemma.
-use Rattle.git_laws.specs.Order.{protocol_cmp, protocol_eq}
-use Rattle.git_laws.specs.OrderLaws.{protocol_decides, protocol_ties, protocol_total, protocols_alike}
-use Rattle.git_laws.proofs.Values.HashLemmas.{protocols_apart}
-use Rattle.git_laws.proofs.Values.OrderLemmas.{tied_is_equal}
+use Rattle.git_laws.specs.Order.{scheme_cmp, scheme_eq}
+use Rattle.git_laws.specs.OrderLaws.{scheme_decides, scheme_ties, scheme_total, schemes_alike}
+use Rattle.git_laws.proofs.Order.HashLemmas.{schemes_apart}
+use Rattle.git_laws.proofs.Order.OrderLemmas.{tied_is_equal}
 use Rattle.git_laws.proofs.laws.law_scheme_order.Goals as goal
 
 pub returns : goal.returns
 returns c = record {
-  same = protocol_decides;
-  tied = tied_is_equal protocol_eq protocol_cmp protocol_ties;
-  total = protocol_total;
-  hashed = protocols_alike;
-  hashed_apart = protocols_apart;
+  same = scheme_decides;
+  tied = tied_is_equal scheme_eq scheme_cmp scheme_ties;
+  total = scheme_total;
+  hashed = schemes_alike;
+  hashed_apart = schemes_apart;
 }

@@ -1,5 +1,5 @@
 -- Each law is a lemma.
-use Rattle.git_laws.proofs.Values.RecordLemmas.{respelled_once, keeps_meaning, migrates, migrated_once}
+use Rattle.git_laws.proofs.Records.RecordLemmas.{respelled_once, keeps_meaning, migrates, migrated_once}
 use Rattle.git_laws.proofs.laws.law_stored.Goals as goal
 
 pub returns : goal.returns

@@ -1,6 +1,6 @@
 -- Each law is a lemma.
-use Rattle.git_laws.proofs.Written.StrippedLemmas.{without_password}
-use Rattle.git_laws.proofs.Written.UnspelledLemmas.{web_without_spelling, without_spelling}
+use Rattle.git_laws.proofs.Writing.StrippedLemmas.{without_password}
+use Rattle.git_laws.proofs.Writing.UnspelledLemmas.{web_without_spelling, without_spelling}
 use Rattle.git_laws.proofs.laws.law_stripped.Goals as goal
 
 pub returns : goal.returns

@@ -1,5 +1,5 @@
 use Rattle.std.proofs.Common.{sym, ◌∙◌}
-use Rattle.git_lines.proofs.Values.LineLemmas.{done_step, done_all, done_last, line_alone, within_next}
+use Rattle.git_lines.proofs.LineAnswers.LineLemmas.{done_step, done_all, done_last, line_alone, within_next}
 use Rattle.git_lines.proofs.lines.answers_in.Goals as goal
 
 pub loop-line-preserved : goal.loop-line-preserved

@@ -1,6 +1,6 @@
 use Rattle.std.proofs.Common.{length}
 use Rattle.git_lines.specs.Answers.{HasLinesWithin}
-use Rattle.git_lines.proofs.Values.LineLemmas.{Done}
+use Rattle.git_lines.proofs.LineAnswers.LineLemmas.{Done}
 use Rattle.git_lines.proofs.lines.answers_in.Given as goal
 
 abbrev pub invariant-loop-line : goal.invariant-loop-line

@@ -1,5 +1,5 @@
 use Rattle.std.proofs.Common.{length}
-use Rattle.git_lines.proofs.Values.LineLemmas.{Measured}
+use Rattle.git_lines.proofs.LineAnswers.LineLemmas.{Measured}
 use Rattle.git_lines.proofs.lines.longest_line.Given as goal
 
 abbrev pub invariant-loop-line : goal.invariant-loop-line

@@ -1,5 +1,5 @@
 -- The scp form and local paths, where no address stands between brackets behind a user.
-use Rattle.git_syntax.proofs.Readings.ShapeLemmas.{plain_scp, local_shape, colon_nonempty}
+use Rattle.git_syntax.proofs.Parsing.ClassifierLemmas.{plain_scp, local_form, colon_nonempty}
 use Rattle.git_syntax.proofs.classify.classify_plain.Goals as goal
 
 pub returns-in-Some : goal.returns-in-Some
@@ -8,4 +8,4 @@ returns-in-Some c =
 
 pub returns-in-None : goal.returns-in-None
 returns-in-None c =
-    local_shape c.args.bytes.now (colon_nonempty c.args.bytes.now c.args.front.now c.args.rest.now c.requires.cut) c.requires.neither c.requires.not_addressed c.in-None.ensures
+    local_form c.args.bytes.now (colon_nonempty c.args.bytes.now c.args.front.now c.args.rest.now c.requires.cut) c.requires.neither c.requires.not_addressed c.in-None.ensures

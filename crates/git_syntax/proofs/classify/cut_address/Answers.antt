@@ -1,6 +1,6 @@
 -- The address ends at the first closing bracket, which a colon follows.
 use Rattle.std.proofs.lemmas.Bool.{false≢true}
-use Rattle.git_syntax.proofs.Readings.ShapeLemmas.{addressed_no_path, addressed_other}
+use Rattle.git_syntax.proofs.Parsing.ClassifierLemmas.{addressed_no_path, addressed_other}
 use Rattle.git_syntax.proofs.classify.cut_address.Goals as goal
 use Rattle.git_syntax.proofs.classify.cut_address.Goals.{else-is_free_of-via-then-is_free_of+else-is_address, else-is_free_of-via-else-is_free_of}
 

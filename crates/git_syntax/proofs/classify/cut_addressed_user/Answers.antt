@@ -1,6 +1,6 @@
 -- The user ends at the last `@` before the first colon, which a bracket follows.
 use Rattle.std.proofs.Common.{sym}
-use Rattle.git_syntax.proofs.Readings.ShapeLemmas.{addressed_at, addressed_unbracketed, addressed_bracketed}
+use Rattle.git_syntax.proofs.Parsing.ClassifierLemmas.{addressed_at, addressed_unbracketed, addressed_bracketed}
 use Rattle.git_syntax.proofs.classify.cut_addressed_user.Goals as goal
 
 pub returns-in-None : goal.returns-in-None

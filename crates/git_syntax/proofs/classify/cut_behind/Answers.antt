@@ -1,5 +1,5 @@
 -- The colon of the scp form is the first behind brackets at the front.
-use Rattle.git_syntax.proofs.Readings.ShapeLemmas.{front_unbracketed, front_taken}
+use Rattle.git_syntax.proofs.Parsing.ClassifierLemmas.{front_unbracketed, front_taken}
 use Rattle.git_syntax.proofs.classify.cut_behind.Goals as goal
 
 pub returns-in-None : goal.returns-in-None

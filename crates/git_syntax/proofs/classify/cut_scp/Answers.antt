@@ -1,7 +1,7 @@
 -- The colon of the scp form stands before any slash.
 use Rattle.std.proofs.Common.{refl}
 use Rattle.std.proofs.lemmas.Bool.{false≢true}
-use Rattle.git_syntax.proofs.Readings.ShapeLemmas.{no_scp_cut, no_scp_uncut}
+use Rattle.git_syntax.proofs.Parsing.ClassifierLemmas.{no_scp_cut, no_scp_uncut}
 use Rattle.git_syntax.proofs.classify.cut_scp.Goals as goal
 
 pub returns-in-None : goal.returns-in-None

@@ -1,6 +1,6 @@
 -- Two slashes behind the first colon are the first mark, and without another colon there is no other.
 use Rattle.std.proofs.Common.{refl}
-use Rattle.git_syntax.proofs.Readings.ShapeLemmas.{mark_at_colon, no_mark_at_colon}
+use Rattle.git_syntax.proofs.Parsing.ClassifierLemmas.{mark_at_colon, no_mark_at_colon}
 use Rattle.git_syntax.proofs.classify.cut_url.Goals as goal
 
 pub returns-in-Some : goal.returns-in-Some

@@ -1,6 +1,6 @@
 -- A helper's name stands before the first colon, and another colon follows it.
 use Rattle.std.proofs.Common.{refl, sym}
-use Rattle.git_syntax.proofs.Readings.ShapeLemmas.{no_helper_alone, no_helper_unnamed}
+use Rattle.git_syntax.proofs.Parsing.ClassifierLemmas.{no_helper_alone, no_helper_unnamed}
 use Rattle.git_syntax.proofs.classify.helper_address.Goals as goal
 
 pub returns-in-None : goal.returns-in-None

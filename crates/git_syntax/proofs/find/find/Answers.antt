@@ -2,9 +2,9 @@
 use Rattle.std.proofs.lemmas.Result.{IfErr-weaker}
 use Rattle.git_syntax.specs.Flaws.{NamesFlaw}
 use Rattle.git_syntax.specs.Grammar.{Spells}
-use Rattle.git_syntax.specs.Value.{Location}
-use Rattle.git_syntax.proofs.Readings.ShapeLemmas.{helper_name_utf8}
-use Rattle.git_syntax.proofs.Refused.RefusalLemmas.{refused_unspelled}
+use Rattle.git_syntax.specs.Location.{Location}
+use Rattle.git_syntax.proofs.Parsing.ClassifierLemmas.{helper_name_utf8}
+use Rattle.git_syntax.proofs.Errors.RefusalLemmas.{refused_unspelled}
 use Rattle.git_syntax.proofs.find.find.Goals as goal
 
 pub returns-in-Helper-clause-ready : goal.returns-in-Helper-clause-ready

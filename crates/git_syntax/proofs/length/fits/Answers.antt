@@ -2,8 +2,8 @@
 use Rattle.std.proofs.Common.{◌∙◌, [], length, ap, sym, arith, append-nil}
 use Rattle.std.proofs.lemmas.Bool.{le-leb, or_left}
 use Rattle.git_syntax.specs.declared.length.Stage.TheVariants.{Slashes}
-use Rattle.git_syntax.specs.Internal.Walks.{is_in_time}
-use Rattle.git_syntax.proofs.Readings.LengthLemmas.{fits_tested, long_tested}
+use Rattle.git_syntax.specs.Internal.LengthChecks.{is_in_time}
+use Rattle.git_syntax.proofs.Parsing.LengthLemmas.{fits_tested, long_tested}
 use Rattle.git_syntax.proofs.length.fits.Goals as goal
 
 pub returns-then-rest-le-LIMIT : goal.returns-then-rest-le-LIMIT
@@ -13,7 +13,7 @@ returns-then-rest-le-LIMIT c =
 
 pub returns-else-rest-le-LIMIT : goal.returns-else-rest-le-LIMIT
 returns-else-rest-le-LIMIT c =
-    let walked = c.is_in_time.ensures ∙ c.past_slashes.ensures [] ∙ ap (is_in_time c.args.web Slashes) (append-nil c.args.rest.now)
+    let walked = c.is_in_time.ensures ∙ c.advance_slashes.ensures [] ∙ ap (is_in_time c.args.web Slashes) (append-nil c.args.rest.now)
     ∙ ap (λ web. is_in_time web Slashes c.args.rest.now) c.requires ∙ sym (long_tested _ c.args.rest.now (omega arith)) in
     let test = fits_tested c.args.scheme.now c.args.rest.now (omega arith) in
     (λ yes. test.0 (sym walked ∙ yes), λ fits. walked ∙ test.1 fits)

@@ -1,5 +1,5 @@
 -- The laws are lemmas.
-use Rattle.git_syntax.proofs.Refused.RefusalLemmas.{flawless, refused_unspelled}
+use Rattle.git_syntax.proofs.Errors.RefusalLemmas.{flawless, refused_unspelled}
 use Rattle.git_syntax.proofs.refusal_law.law_refusal.Goals as goal
 
 pub returns : goal.returns

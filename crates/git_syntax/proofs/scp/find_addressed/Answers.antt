@@ -2,25 +2,25 @@
 use Rattle.std.proofs.Common.{refl, sym, ap, subst, Some, IsUtf8}
 use Rattle.git_syntax.specs.Addresses.{Literal}
 use Rattle.git_syntax.specs.Bytes.{lowercase}
-use Rattle.git_syntax.specs.Grammar.{AddressedShape, scp_location}
+use Rattle.git_syntax.specs.Grammar.{AddressedForm, scp_location}
 use Rattle.git_syntax.specs.Flaws.MissesPath.{behind_address}
 use Rattle.git_syntax.proofs.Addresses.AddressLemmas.{address_utf8, address-lowercase}
-use Rattle.git_syntax.proofs.Readings.HostLemmas.{literal_normal, some_tested}
-use Rattle.git_syntax.proofs.Readings.ShapeLemmas.{nil_tested}
-use Rattle.git_syntax.proofs.Readings.RoomLemmas.{address_within}
-use Rattle.git_syntax.proofs.Readings.ScpLemmas.{addressed_user_utf8}
+use Rattle.git_syntax.proofs.Parsing.HostLemmas.{literal_normal, some_tested}
+use Rattle.git_syntax.proofs.Parsing.ClassifierLemmas.{nil_tested}
+use Rattle.git_syntax.proofs.Parsing.RoomLemmas.{address_within}
+use Rattle.git_syntax.proofs.Parsing.ScpLemmas.{addressed_user_utf8}
 use Rattle.git_syntax.proofs.scp.find_addressed.Goals as goal
 
 pub no_path-requires : goal.no_path-requires
 no_path-requires c =
-    behind_address c.args.user.now c.args.address.now (subst (λ p. AddressedShape c.args.input.now c.args.user.now c.args.address.now p) (nil_tested c.args.path.now c.if-is_empty.ensures) c.requires)
+    behind_address c.args.user.now c.args.address.now (subst (λ p. AddressedForm c.args.input.now c.args.user.now c.args.address.now p) (nil_tested c.args.path.now c.if-is_empty.ensures) c.requires)
 
 pub returns-clause-found : goal.returns-clause-found
 returns-clause-found c = record {
   user = c.args.user.now;
   address = c.args.address.now;
   path = c.args.path.now;
-  shape = c.requires;
+  form = c.requires;
   text = c.if-not-is_text.ensures.0 refl;
   pathed = some_tested c.args.path.now c.if-is_empty.ensures;
   value = ap (λ h. scp_location (Some c.args.user.now) h c.args.path.now) (sym (literal_normal c.args.address.now (lowercase c.args.address.now) (Literal.address c.requires.cut.addressed refl)));

@@ -4,8 +4,8 @@ use Rattle.std.proofs.lemmas.Bool.{false≢true}
 use Rattle.git_syntax.specs.Flaws.{ScpHostFlaw}
 use Rattle.git_syntax.specs.Places.{StandsWhite}
 use Rattle.git_syntax.specs.Internal.ScpPieces.{ReadsScpPiece}
-use Rattle.git_syntax.proofs.Readings.ShapeLemmas.{nil_tested}
-use Rattle.git_syntax.proofs.Readings.ScpLemmas.{scp_host_read, simple_scp_host}
+use Rattle.git_syntax.proofs.Parsing.ClassifierLemmas.{nil_tested}
+use Rattle.git_syntax.proofs.Parsing.ScpLemmas.{scp_host_read, simple_scp_host}
 use Rattle.git_syntax.proofs.scp.find_host.Goals as goal
 
 pub returns-then-is_simple_host-clause-read : goal.returns-then-is_simple_host-clause-read

@@ -1,7 +1,7 @@
 -- The bracket that closes is the last byte of the host.
 use Rattle.std.proofs.Common.{refl}
 use Rattle.std.proofs.lemmas.Bool.{false≢true}
-use Rattle.git_syntax.proofs.Readings.ScpLemmas.{open_found, rest_found, literal_found, inner_kept}
+use Rattle.git_syntax.proofs.Parsing.ScpLemmas.{open_found, rest_found, literal_found, inner_kept}
 use Rattle.git_syntax.proofs.scp.find_in_brackets.Goals as goal
 
 pub returns-in_default-clause-read : goal.returns-in_default-clause-read

@@ -1,7 +1,7 @@
 -- The colons of the host mark no port.
 use Rattle.std.proofs.Common.{inl, inr, refl}
 use Rattle.std.proofs.lemmas.Bool.{false≢true}
-use Rattle.git_syntax.proofs.Readings.ScpLemmas.{name_found, colons_found, no_port_found}
+use Rattle.git_syntax.proofs.Parsing.ScpLemmas.{name_found, colons_found, no_port_found}
 use Rattle.git_syntax.proofs.scp.find_name.Goals as goal
 use Rattle.git_syntax.proofs.scp.find_name.Goals.{then-is_empty-via-then-is_empty, then-is_empty-via-else-is_empty+then-not-is_free_of}
 

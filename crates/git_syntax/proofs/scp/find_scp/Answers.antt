@@ -2,25 +2,25 @@
 use Rattle.std.proofs.Common.{refl, subst, arith}
 use Rattle.std.specs.Option.{option_copied}
 use Rattle.git_syntax.specs.Internal.FoundPieces.{scp_host_of}
-use Rattle.git_syntax.specs.Grammar.{ScpShape}
+use Rattle.git_syntax.specs.Grammar.{ScpForm}
 use Rattle.git_syntax.specs.Flaws.MissesPath.{in_scp}
-use Rattle.git_syntax.proofs.Readings.HostLemmas.{some_tested}
-use Rattle.git_syntax.proofs.Readings.ShapeLemmas.{nil_tested}
-use Rattle.git_syntax.proofs.Readings.RoomLemmas.{scp_user_length}
-use Rattle.git_syntax.proofs.Readings.ScpLemmas.{scp_host_flaw_within, scp_host_utf8, scp_user_utf8, scp_meant_utf8, colons_inside_front, colons_inside_host}
+use Rattle.git_syntax.proofs.Parsing.HostLemmas.{some_tested}
+use Rattle.git_syntax.proofs.Parsing.ClassifierLemmas.{nil_tested}
+use Rattle.git_syntax.proofs.Parsing.RoomLemmas.{scp_user_length}
+use Rattle.git_syntax.proofs.Parsing.ScpLemmas.{scp_host_flaw_within, scp_host_utf8, scp_user_utf8, scp_meant_utf8, colons_inside_front, colons_inside_host}
 use Rattle.git_syntax.proofs.scp.find_scp.Goals as goal
 
 pub no_path-requires : goal.no_path-requires
 no_path-requires c =
-    in_scp c.args.front.now (subst (λ p. ScpShape c.args.input.now c.args.front.now p) (nil_tested c.args.path.now c.if-is_empty.ensures) c.requires.shape)
+    in_scp c.args.front.now (subst (λ p. ScpForm c.args.input.now c.args.front.now p) (nil_tested c.args.path.now c.if-is_empty.ensures) c.requires.form)
 
 pub find_host-requires-clause-text : goal.find_host-requires-clause-text
 find_host-requires-clause-text c =
-    scp_host_utf8 c.args.input.now c.args.front.now c.args.path.now _ c.cut_front_user.result.1.now c.requires.shape (c.if-not-is_utf8.ensures.0 refl) c.cut_front_user.ensures.split
+    scp_host_utf8 c.args.input.now c.args.front.now c.args.path.now _ c.cut_front_user.result.1.now c.requires.form (c.if-not-is_utf8.ensures.0 refl) c.cut_front_user.ensures.split
 
 pub find_host-requires-clause-colons : goal.find_host-requires-clause-colons
 find_host-requires-clause-colons c =
-    colons_inside_host c.args.front.now _ c.cut_front_user.result.1.now c.cut_front_user.ensures.split (colons_inside_front c.args.input.now c.args.front.now c.requires.shape.shape)
+    colons_inside_host c.args.front.now _ c.cut_front_user.result.1.now c.cut_front_user.ensures.split (colons_inside_front c.args.input.now c.args.front.now c.requires.form.form)
 
 pub returns-in-Ok-clause-found : goal.returns-in-Ok-clause-found
 returns-in-Ok-clause-found c = record {
@@ -29,7 +29,7 @@ returns-in-Ok-clause-found c = record {
   user = option_copied c.cut_front_user.result.0;
   host = c.cut_front_user.result.1.now;
   meant = scp_host_of c.in-Ok.host;
-  shape = c.requires.shape;
+  form = c.requires.form;
   text = c.if-not-is_utf8.ensures.0 refl;
   pathed = some_tested c.args.path.now c.if-is_empty.ensures;
   split = c.cut_front_user.ensures.split;
@@ -40,7 +40,7 @@ returns-in-Ok-clause-found c = record {
 pub returns-in-Ok-clause-ready : goal.returns-in-Ok-clause-ready
 returns-in-Ok-clause-ready c = record {
   user_text =
-      scp_user_utf8 c.args.input.now c.args.front.now c.args.path.now (option_copied c.cut_front_user.result.0) c.cut_front_user.result.1.now c.requires.shape (c.if-not-is_utf8.ensures.0 refl) c.cut_front_user.ensures.split;
+      scp_user_utf8 c.args.input.now c.args.front.now c.args.path.now (option_copied c.cut_front_user.result.0) c.cut_front_user.result.1.now c.requires.form (c.if-not-is_utf8.ensures.0 refl) c.cut_front_user.ensures.split;
   host_text = scp_meant_utf8 c.in-Ok.ensures.read;
 }
 
@@ -51,7 +51,7 @@ returns-in-Err-clause-flaw c = record {
   path = c.args.path.now;
   user = option_copied c.cut_front_user.result.0;
   host = c.cut_front_user.result.1.now;
-  shape = c.requires.shape;
+  form = c.requires.form;
   split = c.cut_front_user.ensures.split;
   no_at = c.cut_front_user.ensures.no_at;
   place = c.in-Err.fault.at;

@@ -4,8 +4,8 @@ use Rattle.std.proofs.lemmas.Bool.{false≢true}
 use Rattle.git_syntax.specs.Escapes.{escaped_percents}
 use Rattle.git_syntax.specs.Hosts.{IsLiteral}
 use Rattle.git_syntax.proofs.Texts.EscapeLemmas.{escaped_percents_kept}
-use Rattle.git_syntax.proofs.Readings.HostLemmas.{literal_address, literal_alone, literal_zoned}
-use Rattle.git_syntax.proofs.Readings.ScpLemmas.{zone_cut, zone_parts}
+use Rattle.git_syntax.proofs.Parsing.HostLemmas.{literal_address, literal_alone, literal_zoned}
+use Rattle.git_syntax.proofs.Parsing.ScpLemmas.{zone_cut, zone_parts}
 use Rattle.git_syntax.proofs.scp.is_literal.Goals as goal
 
 pub returns-then-is_address : goal.returns-then-is_address

@@ -1,7 +1,7 @@
 -- Where each `%` is escaped, a zone is any text of its bytes.
 use Rattle.std.proofs.Common.{sym, ◌∙◌}
-use Rattle.git_syntax.proofs.Readings.HostLemmas.{some_tested}
-use Rattle.git_syntax.proofs.Readings.ScpLemmas.{zone_found, zone_unescaped}
+use Rattle.git_syntax.proofs.Parsing.HostLemmas.{some_tested}
+use Rattle.git_syntax.proofs.Parsing.ScpLemmas.{zone_found, zone_unescaped}
 use Rattle.git_syntax.proofs.scp.is_zone.Goals as goal
 
 pub returns-then-not-is_empty : goal.returns-then-not-is_empty

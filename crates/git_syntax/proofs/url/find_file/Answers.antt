@@ -1,6 +1,6 @@
 -- The host of a file URL ends at the first slash.
 use Rattle.std.proofs.Common.{refl}
-use Rattle.git_syntax.proofs.Readings.ShapeLemmas.{file_misses_path, file_host_utf8}
+use Rattle.git_syntax.proofs.Parsing.ClassifierLemmas.{file_misses_path, file_host_utf8}
 use Rattle.git_syntax.proofs.url.find_file.Goals as goal
 
 pub returns-in-None-clause-flaw : goal.returns-in-None-clause-flaw

@@ -1,7 +1,7 @@
 -- The text is cut at `#` and its front at `?`, and the pieces stand for what the components are.
 use Rattle.std.proofs.Common.{◌∙◌, option_map, ap}
 use Rattle.git_syntax.specs.Grammar.{or_root}
-use Rattle.gix_url.proofs.Parted.LentLemmas.{cuts_twice, fragment_meant, has_query, meant_as, query_absent, query_present}
+use Rattle.gix_url.proofs.ComponentCuts.LentLemmas.{cuts_twice, fragment_meant, has_query, meant_as, query_absent, query_present}
 use Rattle.gix_url.proofs.components.web_components.Goals as goal
 use Rattle.gix_url.proofs.components.web_components.Goals.{in-None, in-Some+in_ok-lend_query-in-Some}
 

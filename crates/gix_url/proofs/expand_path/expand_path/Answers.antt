@@ -12,6 +12,6 @@ returns-in_ok-folder-in-Some-user-clause-expanded c = λ text.
     let user = user_of c.in-Some-user.user.now in
     let home = HomeFolder (option_copied c.args.home) user in
     let same : c.in-Some.path.now ≡ bstr_bytes c.args.path = c.in-Some.ensures.text.0 ∙ c.as_bytes.ensures in
-    let below = subst (λ p. Expansion home user p c.entered.result) same
-    (expansion_weaker _ home (λ folder e. subst home e c.in_ok-folder-in-Some-user.ensures) user c.in-Some.path.now c.entered.result c.entered.ensures) in
-    rw c.in-Some-user.is (answers_expanded (option_copied c.args.home) user (bstr_bytes c.args.path) c.entered.result below)
+    let below = subst (λ p. Expansion home user p c.enter.result) same
+    (expansion_weaker _ home (λ folder e. subst home e c.in_ok-folder-in-Some-user.ensures) user c.in-Some.path.now c.enter.result c.enter.ensures) in
+    rw c.in-Some-user.is (answers_expanded (option_copied c.args.home) user (bstr_bytes c.args.path) c.enter.result below)

@@ -1,8 +1,8 @@
 -- The laws are lemmas.
 use Rattle.gix_url.proofs.Unique.ReaderLemmas.{exclusive}
-use Rattle.git_syntax.proofs.Refused.RefusalLemmas.{flawless, refused_unspelled}
-use Rattle.git_laws.proofs.Refused.FormDecisions.{decided}
-use Rattle.git_laws.proofs.Refused.WithinLemmas.{refusal_within}
+use Rattle.git_syntax.proofs.Errors.RefusalLemmas.{flawless, refused_unspelled}
+use Rattle.git_laws.proofs.Errors.FormDecisions.{decided}
+use Rattle.git_laws.proofs.Errors.WithinLemmas.{refusal_within}
 use Rattle.gix_url.proofs.laws.law_refusals.Goals as goal
 
 pub returns : goal.returns

@@ -2,7 +2,7 @@
 use Rattle.std.proofs.Common.{◌∙◌, sym, bytes_eq}
 use Rattle.std.specs.Cmp.Lexicographic.{texts_ties}
 use Rattle.git_laws.specs.Order.{bytes_cmp}
-use Rattle.git_laws.proofs.Values.OrderLemmas.{tied_is_equal}
+use Rattle.git_laws.proofs.Order.OrderLemmas.{tied_is_equal}
 use Rattle.gix_url.proofs.order.compare_bytes.Goals as goal
 
 pub returns-then-bytes_equal : goal.returns-then-bytes_equal

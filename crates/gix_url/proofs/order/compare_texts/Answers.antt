@@ -2,7 +2,7 @@
 use Rattle.std.proofs.Common.{◌∙◌, sym, option_map}
 use Rattle.git_laws.specs.Order.{text_cmp, text_eq}
 use Rattle.git_laws.specs.OrderLaws.{text_ties}
-use Rattle.git_laws.proofs.Values.OrderLemmas.{tied_is_equal}
+use Rattle.git_laws.proofs.Order.OrderLemmas.{tied_is_equal}
 use Rattle.gix_url.proofs.order.compare_texts.Goals as goal
 
 pub returns-then-texts_equal : goal.returns-then-texts_equal

@@ -3,7 +3,7 @@ use Rattle.std.proofs.Common.{◌∷◌, [], ap, ◌∙◌, string_bytes}
 use mir.Val.{bool_byte}
 use Rattle.bstr.specs.Owned.{bstring_bytes}
 use Rattle.git_laws.specs.Order.{outline}
-use Rattle.git_laws.proofs.Values.HashLemmas.{byte_fed, there_fed}
+use Rattle.git_laws.proofs.Order.HashLemmas.{byte_fed, there_fed}
 use Rattle.gix_url.proofs.order.outline.Goals as goal
 
 pub returns : goal.returns

@@ -1,6 +1,6 @@
 -- Each byte is spelled as its case has it.
 use Rattle.std.proofs.Common.{sym, ◌∙◌}
-use Rattle.git_laws.proofs.Values.RecordLemmas.{front_begins, front_kept, front_escaped}
+use Rattle.git_laws.proofs.Records.RecordLemmas.{front_begins, front_kept, front_escaped}
 use Rattle.gix_url.proofs.stored.spelled_front.Goals as goal
 
 pub returns-then-begins_escape : goal.returns-then-begins_escape

@@ -1,7 +1,7 @@
 -- What was appended is that of the pairs so far.
 use Rattle.std.proofs.Common.{◌≡◌, ◌++◌, map, take}
 use Rattle.gix_url.specs.ComponentViews.{pair_bytes}
-use Rattle.gix_url_c.specs.Parted.{joined_pairs}
+use Rattle.gix_url_c.specs.ComponentNumbers.{joined_pairs}
 use Rattle.gix_url_c.proofs.components.append_pairs.Given as goal
 
 abbrev pub invariant-loop-pair : goal.invariant-loop-pair

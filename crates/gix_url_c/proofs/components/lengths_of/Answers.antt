@@ -1,7 +1,7 @@
 -- What the next name and value add is what the pairs up to the next place have more.
 use Rattle.std.proofs.Common.{arith, append_assoc}
 use Rattle.std.proofs.lemmas.Grind.{common_steps}
-use Rattle.gix_url_c.proofs.PartedLemmas.{lengths_more}
+use Rattle.gix_url_c.proofs.ComponentLemmas.{lengths_more}
 use Rattle.gix_url_c.proofs.components.lengths_of.Goals as goal
 
 pub loop-pair-preserved : goal.loop-pair-preserved

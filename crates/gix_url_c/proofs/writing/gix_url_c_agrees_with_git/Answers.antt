@@ -4,7 +4,7 @@ use mathlib.Core.Logic.{inr}
 use Rattle.gix_url.specs.GitClass.{AgreesWithGit}
 use Rattle.gix_url_c.proofs.writing.gix_url_c_agrees_with_git.Goals as goal
 
-pub returns-in-Some-clause-told : goal.returns-in-Some-clause-told
-returns-in-Some-clause-told c =
+pub returns-in-Some-clause-reported : goal.returns-in-Some-clause-reported
+returns-in-Some-clause-reported c =
     let seen = subst (λ v. IsTrue c.agrees_with_git.result ↔ AgreesWithGit v) c.in-Some.ensures.made c.agrees_with_git.ensures in
     inr (c.in-Some.ensures.whole, (refl, seen))

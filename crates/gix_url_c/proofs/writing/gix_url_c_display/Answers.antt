@@ -1,16 +1,16 @@
 -- What is told of the location that is made is told of the one that is given.
 use Rattle.std.proofs.Common.{subst}
 use mathlib.Core.Logic.{inr}
-use Rattle.gix_url_c.specs.Answers.{TellsDisplay}
+use Rattle.gix_url_c.specs.Answers.{ReportsDisplay}
 use Rattle.gix_url_c.specs.Codes.{UnlessMemory}
 use Rattle.gix_url_c.proofs.writing.gix_url_c_display.Goals as goal
 
-pub returns-in-Some-clause-told : goal.returns-in-Some-clause-told
-returns-in-Some-clause-told c =
+pub returns-in-Some-clause-reported : goal.returns-in-Some-clause-reported
+returns-in-Some-clause-reported c =
     let after = c.show.new in
     inr (
       c.in-Some.ensures.whole,
       subst
-          (λ v. UnlessMemory c.show.result (TellsDisplay v c.args.room.now after.room after.len after.told c.show.result))
-          c.in-Some.ensures.made c.show.ensures.told,
+          (λ v. UnlessMemory c.show.result (ReportsDisplay v c.args.room.now after.room after.len after.reported c.show.result))
+          c.in-Some.ensures.made c.show.ensures.reported,
     )

@@ -7,13 +7,13 @@ use Rattle.gix_url_c.specs.Answers.{PutsText}
 use Rattle.gix_url_c.proofs.ShownLemmas.{both, shown_as, unshown, unwritten}
 use Rattle.gix_url_c.proofs.writing.show.Goals as goal
 
-pub returns-in-Err-clause-told : goal.returns-in-Err-clause-told
-returns-in-Err-clause-told c =
+pub returns-in-Err-clause-reported : goal.returns-in-Err-clause-reported
+returns-in-Err-clause-reported c =
     let fault = unwritten (text c.args.url.now) c.in-Err.fault (sym c.in-Err.ensures) in
     let nothing = unshown (display c.args.url.now) (text c.args.url.now) c.in-Err.fault (both c.args.url.now) fault in
     inr (rw nothing (c.in-Err.fault, fault, (refl, c.unwritable.ensures)))
 
-pub returns-in-Ok-clause-told : goal.returns-in-Ok-clause-told
-returns-in-Ok-clause-told c =
+pub returns-in-Ok-clause-reported : goal.returns-in-Ok-clause-reported
+returns-in-Ok-clause-reported c =
     let shown = shown_as (display c.args.url.now) (text c.args.url.now) c.in_default.field-0 (string_bytes c.in-Ok.shown) (both c.args.url.now) (sym c.in_default.ensures) c.in-Ok.ensures.ok in
     inr (rw shown (subst (λ t. PutsText t c.args.room.now c.put_text.new.room c.put_text.new.len c.put_text.result) c.as_bytes.ensures.value c.put_text.ensures.put))

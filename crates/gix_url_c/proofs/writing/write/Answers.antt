@@ -4,8 +4,8 @@ use Rattle.gix_url.specs.Text.{text}
 use Rattle.gix_url_c.proofs.ShownLemmas.{unwritten}
 use Rattle.gix_url_c.proofs.writing.write.Goals as goal
 
-pub returns-in-Err-clause-told : goal.returns-in-Err-clause-told
-returns-in-Err-clause-told c =
+pub returns-in-Err-clause-reported : goal.returns-in-Err-clause-reported
+returns-in-Err-clause-reported c =
     let fault = unwritten (text c.args.url.now) c.in-Err.fault (sym c.in-Err.ensures.length) in
     rw fault (refl, c.unwritable.ensures)
 

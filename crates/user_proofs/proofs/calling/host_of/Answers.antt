@@ -1,7 +1,7 @@
 -- A host that is handed out is that of the location, which the text spells.
 use Rattle.std.proofs.Common.{◌≡◌, ℕ, List, Option, Some, None, IfSome, option_map, String, refl, sym, ap}
 use Rattle.std.specs.String.{string_bytes}
-use Rattle.gix_url.specs.Value.{Location}
+use Rattle.gix_url.specs.Location.{Location}
 use Rattle.gix_url.specs.Grammar.{Spells}
 use Rattle.gix_url.specs.Settled.{IsSettled}
 use Rattle.user_proofs.proofs.calling.host_of.Goals as goal

@@ -1,7 +1,7 @@
 -- The text of a settled location spells it again, and what is spelled is what is read, unless memory is refused.
 use Rattle.std.proofs.Common.{◌≡◌, inl, inr, List, ℕ, Result, IfOk, IfErr, refl, sym, subst}
 use Rattle.gix_url.specs.Readings.{Reads, SpellsAgain}
-use Rattle.gix_url.specs.Value.{Location, fields}
+use Rattle.gix_url.specs.Location.{Location, fields}
 use Rattle.gix_url.specs.declared.error.Error.{Error}
 use Rattle.gix_url.specs.declared.error.Error.TheVariants as error
 use Rattle.user_proofs.proofs.reading.through_text.Goals as goal

@@ -1,6 +1,6 @@
 -- What was read isn't taken for a record of the legacy form.
 use Rattle.std.proofs.Common.{◌≡◌, ℕ, List, Result, Ok, Err, IfOk, ap, ◌∙◌}
-use Rattle.gix_url.specs.Value.{Location}
+use Rattle.gix_url.specs.Location.{Location}
 use Rattle.gix_url.specs.Grammar.{Spells}
 use Rattle.gix_url.specs.Laws.{Writable}
 use Rattle.gix_url.specs.Records.{migrated}

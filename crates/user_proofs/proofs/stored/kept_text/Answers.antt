@@ -2,7 +2,7 @@
 use Rattle.std.proofs.Common.{◌≡◌, ◌⊎◌, inl, inr, ℕ, List, Result, Ok, Err, IfOk, sym, ap, ◌∙◌}
 use Rattle.bstr.specs.declared.BString.{BString}
 use Rattle.bstr.specs.Owned.{bstring_bytes}
-use Rattle.gix_url.specs.Value.{Location}
+use Rattle.gix_url.specs.Location.{Location}
 use Rattle.gix_url.specs.Grammar.{SpellsHelper, SpellsLocal, Spells}
 use Rattle.gix_url.specs.Grammar.Spells.{remote_helper, local_path}
 use Rattle.gix_url.specs.Text.{text}

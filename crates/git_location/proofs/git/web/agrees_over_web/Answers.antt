@@ -1,7 +1,7 @@
 -- A location is of the class by its parts, and by what settled URLs have beside their paths.
-use Rattle.git_location.proofs.Closed.SettledLemmas.{first_fails, second_decides}
-use Rattle.git_location.proofs.Closed.WebClassLemmas.{class_by_parts}
-use Rattle.git_location.proofs.Written.WrittenAsUrlLemmas.{written_web}
+use Rattle.git_location.proofs.SettledClass.SettledLemmas.{first_fails, second_decides}
+use Rattle.git_location.proofs.SettledClass.WebClassLemmas.{class_by_parts}
+use Rattle.git_location.proofs.Writing.WrittenAsUrlLemmas.{written_web}
 use Rattle.git_location.proofs.git.web.agrees_over_web.Goals as goal
 
 pub is_settled_beside_path-requires-clause-form : goal.is_settled_beside_path-requires-clause-form

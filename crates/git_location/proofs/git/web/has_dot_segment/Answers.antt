@@ -1,7 +1,7 @@
 -- A dot segment begins at the first `.`, or stands behind it.
 use Rattle.std.proofs.Common.{inl, inr, refl, ⊎_elim}
 use Rattle.std.proofs.lemmas.Bool.{both_ways}
-use Rattle.git_location.proofs.Closed.WebClassLemmas.{no_segment, segment_cut}
+use Rattle.git_location.proofs.SettledClass.WebClassLemmas.{no_segment, segment_cut}
 use Rattle.git_location.proofs.git.web.has_dot_segment.Goals as goal
 
 pub returns-then-is_dot_segment : goal.returns-then-is_dot_segment

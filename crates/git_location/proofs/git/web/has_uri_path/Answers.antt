@@ -1,8 +1,8 @@
 -- The spelling that matches is written, and else the path.
 use Rattle.std.proofs.Common.{◌∙◌, ap, sym}
-use Rattle.git_syntax.specs.Value.{Location}
-use Rattle.git_location.proofs.Closed.SettledLemmas.{first_fails, second_decides}
-use Rattle.git_location.proofs.Closed.WebClassLemmas.{simple_path_text, simple_uri_path, spelled_path, unspelled_path}
+use Rattle.git_syntax.specs.Location.{Location}
+use Rattle.git_location.proofs.SettledClass.SettledLemmas.{first_fails, second_decides}
+use Rattle.git_location.proofs.SettledClass.WebClassLemmas.{simple_path_text, simple_uri_path, spelled_path, unspelled_path}
 use Rattle.git_location.proofs.git.web.has_uri_path.Goals as goal
 
 pub returns-then-is_simple_path : goal.returns-then-is_simple_path

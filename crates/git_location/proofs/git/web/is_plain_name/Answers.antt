@@ -1,7 +1,7 @@
 -- The last label of a name is one.
 use Rattle.std.proofs.Common.{◌∙◌, sym}
-use Rattle.git_location.proofs.Closed.WebClassLemmas.{plain_by_label}
-use Rattle.git_location.proofs.Closed.SettledLemmas.{second_decides}
+use Rattle.git_location.proofs.SettledClass.WebClassLemmas.{plain_by_label}
+use Rattle.git_location.proofs.SettledClass.SettledLemmas.{second_decides}
 use Rattle.git_location.proofs.git.web.is_plain_name.Goals as goal
 
 pub returns-then-are_plain_host_bytes : goal.returns-then-are_plain_host_bytes

@@ -1,6 +1,6 @@
 use Rattle.std.proofs.Common.{◌≡◌, ◌&&◌, drop}
 use Rattle.std.specs.List.{list_all}
-use Rattle.git_location.specs.Internal.WebParts.{is_simple_byte}
+use Rattle.git_location.specs.Internal.WebPieces.{is_simple_byte}
 use Rattle.git_location.proofs.git.web.is_simple_path.Given as goal
 
 -- the answer for all bytes is that so far and that for the bytes that are left

@@ -1,8 +1,8 @@
 -- A path without a spelling is written as a URI by its bytes.
 use Rattle.std.proofs.Common.{sym, ◌∙◌}
 use Rattle.std.proofs.lemmas.Bool.{both_ways, not-true}
-use Rattle.git_location.proofs.Closed.SettledLemmas.{second_decides}
-use Rattle.git_location.proofs.Closed.WebClassLemmas.{uri_path_by_bytes}
+use Rattle.git_location.proofs.SettledClass.SettledLemmas.{second_decides}
+use Rattle.git_location.proofs.SettledClass.WebClassLemmas.{uri_path_by_bytes}
 use Rattle.git_location.proofs.git.web.is_uri_path.Goals as goal
 
 pub returns-then-not-has_stray : goal.returns-then-not-has_stray

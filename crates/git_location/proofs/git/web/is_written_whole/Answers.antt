@@ -1,7 +1,7 @@
 -- A colon is written as itself, and a `%` where a byte is escaped.
 use Rattle.std.proofs.Common.{inl, inr, sym, ◌∙◌, ⊎_elim, eqb-true}
 use Rattle.std.proofs.lemmas.Bool.{both_ways, eq-eqb}
-use Rattle.git_location.proofs.Closed.WebClassLemmas.{colon_written, percent_written}
+use Rattle.git_location.proofs.SettledClass.WebClassLemmas.{colon_written, percent_written}
 use Rattle.git_location.proofs.git.web.is_written_whole.Goals as goal
 
 pub returns-then-is_free_of : goal.returns-then-is_free_of

@@ -1,5 +1,5 @@
 -- The brackets are cut off in one way.
-use Rattle.git_location.proofs.Closed.SettledLemmas.{literal_in_brackets}
+use Rattle.git_location.proofs.SettledClass.SettledLemmas.{literal_in_brackets}
 use Rattle.git_location.proofs.settled.host.is_bracketed_literal.Goals as goal
 
 pub returns-in-Some : goal.returns-in-Some

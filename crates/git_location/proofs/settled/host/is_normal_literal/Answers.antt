@@ -1,5 +1,5 @@
 -- The first `%` parts a literal into address and zone; without one all of it is the address.
-use Rattle.git_location.proofs.Closed.SettledLemmas.{second_decides, first_fails, literal_without_zone, literal_with_zone}
+use Rattle.git_location.proofs.SettledClass.SettledLemmas.{second_decides, first_fails, literal_without_zone, literal_with_zone}
 use Rattle.git_location.proofs.settled.host.is_normal_literal.Goals as goal
 
 pub returns-in-None : goal.returns-in-None

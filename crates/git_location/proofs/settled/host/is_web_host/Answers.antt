@@ -1,5 +1,5 @@
 -- A simple host is settled, beside each port.
-use Rattle.git_location.proofs.Closed.SettledLemmas.{simple_web_host}
+use Rattle.git_location.proofs.SettledClass.SettledLemmas.{simple_web_host}
 use Rattle.git_location.proofs.settled.host.is_web_host.Goals as goal
 
 pub returns-then-is_simple_host : goal.returns-then-is_simple_host

@@ -1,7 +1,7 @@
 -- A simple host is a settled name in the scp form.
 use Rattle.std.proofs.Common.{subst}
 use Rattle.git_syntax.specs.Internal.HostPieces.{IsSimpleHost}
-use Rattle.git_location.proofs.Closed.SettledLemmas.{simple_scp_name}
+use Rattle.git_location.proofs.SettledClass.SettledLemmas.{simple_scp_name}
 use Rattle.git_location.proofs.settled.scp.is_scp_name.Goals as goal
 
 pub returns-then-is_simple_host : goal.returns-then-is_simple_host

@@ -1,8 +1,8 @@
 -- The host that is there decides, beside the port.
 use Rattle.std.proofs.Common.{◌↔◌, ◌∙◌, ap, sym, subst, Some, IsTrue, option_map}
-use Rattle.git_syntax.specs.Value.{Location}
+use Rattle.git_syntax.specs.Location.{Location}
 use Rattle.git_location.specs.Settled.{IsWebHost}
-use Rattle.git_location.proofs.Closed.SettledLemmas.{host_tested}
+use Rattle.git_location.proofs.SettledClass.SettledLemmas.{host_tested}
 use Rattle.git_location.proofs.settled.url.has_web_host.Goals as goal
 
 pub returns-in-Some : goal.returns-in-Some

@@ -1,8 +1,8 @@
 -- A plain path is raw, and without a spelling none matches it.
 use Rattle.std.proofs.Common.{◌≡◌, ◌∙◌, ap, option_map, sym, subst, true}
-use Rattle.git_syntax.specs.Value.{Location}
+use Rattle.git_syntax.specs.Location.{Location}
 use Rattle.git_syntax.specs.Escapes.{is_plain}
-use Rattle.git_location.proofs.Closed.SettledLemmas.{plain_raw_path}
+use Rattle.git_location.proofs.SettledClass.SettledLemmas.{plain_raw_path}
 use Rattle.git_location.proofs.settled.url.is_plain_path.Goals as goal
 
 pub returns-in-None : goal.returns-in-None

@@ -1,5 +1,5 @@
 -- The text is that of a URL.
-use Rattle.git_location.proofs.Written.WrittenAsUrlLemmas.{written_git}
+use Rattle.git_location.proofs.Writing.WrittenAsUrlLemmas.{written_git}
 use Rattle.git_location.proofs.settled.url.is_settled_git.Goals as goal
 
 pub is_settled_raw-requires-clause-form : goal.is_settled_raw-requires-clause-form

@@ -1,5 +1,5 @@
 -- A settled URL with a raw path has its path and what there is beside it.
-use Rattle.git_location.proofs.Closed.SettledLemmas.{first_fails, second_decides, raw_by_parts}
+use Rattle.git_location.proofs.SettledClass.SettledLemmas.{first_fails, second_decides, raw_by_parts}
 use Rattle.git_location.proofs.settled.url.is_settled_raw.Goals as goal
 
 pub returns-then-has_raw_path : goal.returns-then-has_raw_path

@@ -1,7 +1,7 @@
 -- The text is that of a URL.
 use Rattle.std.proofs.Common.{sym, ◌∙◌}
 use Rattle.std.proofs.lemmas.Bool.{false≢true}
-use Rattle.git_location.proofs.Written.WrittenAsUrlLemmas.{written_secure}
+use Rattle.git_location.proofs.Writing.WrittenAsUrlLemmas.{written_secure}
 use Rattle.git_location.proofs.settled.url.is_settled_secure.Goals as goal
 use Rattle.git_location.proofs.settled.url.is_settled_secure.Goals.{then-has_bare_host, else-has_bare_host}
 

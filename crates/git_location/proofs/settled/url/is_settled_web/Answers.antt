@@ -1,5 +1,5 @@
 -- The text is that of a URL.
-use Rattle.git_location.proofs.Written.WrittenAsUrlLemmas.{written_web}
+use Rattle.git_location.proofs.Writing.WrittenAsUrlLemmas.{written_web}
 use Rattle.git_location.proofs.settled.url.is_settled_web.Goals as goal
 
 pub is_settled_url-requires-clause-form : goal.is_settled_url-requires-clause-form

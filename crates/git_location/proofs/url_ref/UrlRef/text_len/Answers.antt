@@ -6,5 +6,5 @@ use Rattle.git_location.proofs.url_ref.UrlRef.text_len.Goals as goal
 
 pub returns-in_err-pieces : goal.returns-in_err-pieces
 returns-in_err-pieces c =
-    let told = err_from_is_err_and c.from_residual.result c.from_residual.ensures.1 in
-    rw (told.1, told.2) (ap text_length c.in_err-pieces.ensures)
+    let reported = err_from_is_err_and c.from_residual.result c.from_residual.ensures.1 in
+    rw (reported.1, reported.2) (ap text_length c.in_err-pieces.ensures)

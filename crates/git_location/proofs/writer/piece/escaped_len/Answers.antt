@@ -1,6 +1,6 @@
 -- Each escape makes a text longer by two.
 use Rattle.std.proofs.Common.{arith}
-use Rattle.git_location.proofs.Written.PieceLemmas.{length_escapes}
+use Rattle.git_location.proofs.Writing.PieceLemmas.{length_escapes}
 use Rattle.git_location.proofs.writer.piece.escaped_len.Goals as goal
 
 pub returns-clause-exact : goal.returns-clause-exact

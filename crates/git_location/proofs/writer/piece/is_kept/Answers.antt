@@ -1,6 +1,6 @@
 -- Where no byte has to be escaped the text stays.
 use Rattle.std.proofs.Common.{sym, ◌∙◌, eqb-true}
-use Rattle.git_location.proofs.Written.PieceLemmas.{kept_text}
+use Rattle.git_location.proofs.Writing.PieceLemmas.{kept_text}
 use Rattle.git_location.proofs.writer.piece.is_kept.Goals as goal
 
 pub returns : goal.returns

@@ -1,5 +1,5 @@
 -- The colon, and the digits behind it.
-use Rattle.git_location.proofs.Written.PieceLemmas.{on_ok}
+use Rattle.git_location.proofs.Writing.PieceLemmas.{on_ok}
 use Rattle.git_location.proofs.writer.piece.put_port.Goals as goal
 
 pub returns-in_ok-put-in-Some : goal.returns-in_ok-put-in-Some

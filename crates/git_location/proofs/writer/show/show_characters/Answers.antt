@@ -1,7 +1,7 @@
 -- None at first, then one character more.
 use Rattle.std.proofs.Common.{[], ◌++◌, encode_utf8, encode_utf8_all, refl, sym, ap, ◌∙◌, append_assoc, true}
 use Rattle.std.proofs.Output.{has_written_styled_nil}
-use Rattle.git_location.proofs.Written.DisplayLemmas.{shown_on}
+use Rattle.git_location.proofs.Writing.DisplayLemmas.{shown_on}
 use Rattle.git_location.proofs.writer.show.show_characters.Goals as goal
 
 pub loop-character-init : goal.loop-character-init

@@ -1,6 +1,6 @@
 -- Pieces that were put to their end were shown, at once or one by one.
 use Rattle.git_location.specs.Internal.Pieces.{pieces_text}
-use Rattle.git_location.proofs.Written.DisplayLemmas.{shown_plain, shown_whole}
+use Rattle.git_location.proofs.Writing.DisplayLemmas.{shown_plain, shown_whole}
 use Rattle.git_location.proofs.writer.show.show_pieces.Goals as goal
 
 pub returns-then-size-clause-writes : goal.returns-then-size-clause-writes

@@ -1,6 +1,6 @@
 -- The parts around the first `%`.
 use Rattle.std.proofs.Common.{arith}
-use Rattle.git_location.proofs.Written.PieceLemmas.{split_cuts}
+use Rattle.git_location.proofs.Writing.PieceLemmas.{split_cuts}
 use Rattle.git_location.proofs.writer.sink.cut_at_percent.Goals as goal
 
 pub returns : goal.returns

@@ -1,6 +1,6 @@
 -- Nothing at first, then one slice more.
 use Rattle.std.proofs.Common.{[], ◌++◌, rules}
-use Rattle.git_location.proofs.Written.PieceLemmas.{handed_on}
+use Rattle.git_location.proofs.Writing.PieceLemmas.{handed_on}
 use Rattle.git_location.proofs.writer.sink.put_escaped.Goals as goal
 
 pub loop-slice-init : goal.loop-slice-init

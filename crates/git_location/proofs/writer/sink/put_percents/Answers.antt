@@ -1,7 +1,7 @@
 -- A front and one escape more, and then the rest.
 use Rattle.std.proofs.Common.{◌++◌, ◌∷◌, [], refl, sym, subst, ◌∙◌, ap, rules}
 use Rattle.git_syntax.proofs.Texts.EscapeLemmas.{escaped_percents_kept}
-use Rattle.git_location.proofs.Written.PieceLemmas.{percents_cut, handed_on, on_ok}
+use Rattle.git_location.proofs.Writing.PieceLemmas.{percents_cut, handed_on, on_ok}
 use Rattle.git_location.proofs.writer.sink.put_percents.Goals as goal
 
 pub loop-front-preserved : goal.loop-front-preserved

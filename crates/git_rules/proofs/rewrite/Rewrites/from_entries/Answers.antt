@@ -8,5 +8,5 @@ loop-entry-preserved c =
 
 pub returns-in_err-add_entry : goal.returns-in_err-add_entry
 returns-in_err-add_entry c =
-    let told = err_from_is_err_and c.from_residual.result c.from_residual.ensures.1 in
-    rw (told.1, told.2) (filled_to c.args.entries.now c.loop-entry.entry-index c.entry-item.result c.loop-entry.rules c.add_entry.new.self _ c.loop-entry-test.true c.entry-item.is c.loop-entry.invariant c.in_err-add_entry.ensures)
+    let reported = err_from_is_err_and c.from_residual.result c.from_residual.ensures.1 in
+    rw (reported.1, reported.2) (filled_to c.args.entries.now c.loop-entry.entry-index c.entry-item.result c.loop-entry.rules c.add_entry.new.self _ c.loop-entry-test.true c.entry-item.is c.loop-entry.invariant c.in_err-add_entry.ensures)

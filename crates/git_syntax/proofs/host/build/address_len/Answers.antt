@@ -1,5 +1,5 @@
 -- What stands before the first `%` is free of it.
-use Rattle.git_syntax.proofs.Readings.HostLemmas.{lowercase_address_cut, lowercase_address_whole}
+use Rattle.git_syntax.proofs.Parsing.HostLemmas.{lowercase_address_cut, lowercase_address_whole}
 use Rattle.git_syntax.proofs.host.build.address_len.Goals as goal
 
 pub returns-in-Some-clause-cut : goal.returns-in-Some-clause-cut

@@ -1,7 +1,7 @@
 -- An address holds no `%`, so the first `%` is where a zone begins.
 use Rattle.std.proofs.Common.{refl}
 use Rattle.std.proofs.lemmas.Bool.{false≢true}
-use Rattle.git_syntax.proofs.Readings.HostLemmas.{literal_address, literal_alone, literal_parts, literal_zoned}
+use Rattle.git_syntax.proofs.Parsing.HostLemmas.{literal_address, literal_alone, literal_parts, literal_zoned}
 use Rattle.git_syntax.proofs.host.bytes.is_literal.Goals as goal
 
 pub returns-then-is_address : goal.returns-then-is_address

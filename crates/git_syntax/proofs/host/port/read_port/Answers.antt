@@ -1,7 +1,7 @@
 -- Digits are text, and std reads them as a number where there is one of 16 bits.
 use Rattle.std.proofs.Common.{sym}
-use Rattle.git_syntax.proofs.Readings.HostLemmas.{digits_utf8, not_parsed}
-use Rattle.git_syntax.specs.Internal.HostPieces.{strictness}
+use Rattle.git_syntax.proofs.Parsing.HostLemmas.{digits_utf8, not_parsed}
+use Rattle.git_syntax.specs.Internal.HostPieces.{host_syntax}
 use Rattle.git_syntax.proofs.host.port.read_port.Goals as goal
 
 pub as_text-requires : goal.as_text-requires
@@ -10,4 +10,4 @@ as_text-requires c = digits_utf8 c.args.digits.now (sym c.if-not-are_digits.ensu
 pub returns-in_default : goal.returns-in_default
 returns-in_default c =
     let fails = rw c.as_text.ensures at c.in_default.ensures.value.0 in
-    not_parsed (strictness c.args.mode) c.args.digits.now (sym c.if-not-are_digits.ensures) fails
+    not_parsed (host_syntax c.args.syntax) c.args.digits.now (sym c.if-not-are_digits.ensures) fails

@@ -1,12 +1,12 @@
 -- What the rooms lend are the components of the location.
 use Rattle.std.proofs.Common.{◌∙◌, inl, inr, ap, sym, ⊎_elim, subst}
-use Rattle.git_syntax.specs.Value.{Location}
-use Rattle.git_syntax.specs.Views.{lent_protocol}
+use Rattle.git_syntax.specs.Location.{Location}
+use Rattle.git_syntax.specs.Views.{lent_scheme}
 use Rattle.git_location.specs.Settled.{IsWeb}
 use Rattle.gix_url.specs.Internal.ComponentPieces.{HasQuery}
 use Rattle.gix_url.specs.ComponentViews.{components}
-use Rattle.git_laws.proofs.Parted.ComponentLemmas.{web_parts}
-use Rattle.gix_url.proofs.Parted.HandedLemmas.{parts_meant, path_lent, query_lent, fragment_lent, query_there, given, whole_meant, lends_whole, path_alone_held}
+use Rattle.git_laws.proofs.ComponentCuts.ComponentLemmas.{web_parts}
+use Rattle.gix_url.proofs.ComponentCuts.HandedLemmas.{parts_meant, path_lent, query_lent, fragment_lent, query_there, given, whole_meant, lends_whole, path_alone_held}
 use Rattle.std.proofs.lemmas.Result.{IfOk-weaker}
 use Rattle.gix_url.proofs.components.PathComponents.of.Goals as goal
 
@@ -18,7 +18,7 @@ returns-in-File-clause-path c =
 is_web : (c : goal.After-web_components) → IsWeb c.args.url.now
 is_web c =
     let seen = sym (ap (λ (v : Location). v.scheme) c.url.view_is) in
-    ⊎_elim (λ e. inl (seen ∙ ap lent_protocol e)) (λ e. inr (seen ∙ ap lent_protocol e)) c.in-Http.is
+    ⊎_elim (λ e. inl (seen ∙ ap lent_scheme e)) (λ e. inr (seen ∙ ap lent_scheme e)) c.in-Http.is
 
 pub returns-in-Http-clause-parts : goal.returns-in-Http-clause-parts
 returns-in-Http-clause-parts c =

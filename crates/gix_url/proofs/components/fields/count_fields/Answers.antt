@@ -3,7 +3,7 @@ use Rattle.std.proofs.Common.{◌≡◌, ◌∙◌, ◌+◌, ◌++◌, ◌==◌,
 use Rattle.std.proofs.lemmas.List.{length-append, take-append-drop}
 use Rattle.git_syntax.specs.Bytes.{ampersand}
 use Rattle.gix_url.specs.Internal.ComponentPieces.{begun_in}
-use Rattle.gix_url.proofs.Parted.LentLemmas.{begun_joined, field_count_begun}
+use Rattle.gix_url.proofs.ComponentCuts.LentLemmas.{begun_joined, field_count_begun}
 use Rattle.gix_url.proofs.components.fields.count_fields.Goals as goal
 
 pub loop-rest-init : goal.loop-rest-init

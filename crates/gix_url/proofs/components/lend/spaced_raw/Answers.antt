@@ -1,7 +1,7 @@
 -- The byte of the turn has its space, those before it have theirs, and those behind it stay.
 use Rattle.std.proofs.Common.{◌<◌, ◌∙◌, arith, length}
 use Rattle.std.proofs.lemmas.List.{length-set}
-use Rattle.gix_url.proofs.Parted.LentLemmas.{left_next, spaced_next}
+use Rattle.gix_url.proofs.ComponentCuts.LentLemmas.{left_next, spaced_next}
 use Rattle.gix_url.proofs.components.lend.spaced_raw.Goals as goal
 
 pub loop-byte-preserved : goal.loop-byte-preserved

@@ -1,7 +1,7 @@
 -- A byte is decoded alone, or with two digits behind a `%`.
 use Rattle.std.proofs.Common.{◌∙◌, ◌+◌, ap, sym, length}
 use Rattle.percent_encoding.specs.Percent.{percent_decode}
-use Rattle.gix_url.proofs.Parted.MeaningLemmas.{decoded_broken, decoded_escape, decoded_other}
+use Rattle.gix_url.proofs.ComponentCuts.MeaningLemmas.{decoded_broken, decoded_escape, decoded_other}
 use Rattle.gix_url.proofs.components.measure.behind_unit.Goals as goal
 
 pub returns-then-first-ne37-clause-decoded : goal.returns-then-first-ne37-clause-decoded

@@ -1,6 +1,6 @@
 -- In the end nothing is left to be counted.
 use Rattle.std.proofs.Common.{◌<◌, arith, length}
-use Rattle.gix_url.proofs.Parted.MeaningLemmas.{decoded_none}
+use Rattle.gix_url.proofs.ComponentCuts.MeaningLemmas.{decoded_none}
 use Rattle.gix_url.proofs.components.measure.decoded_len.Goals as goal
 
 pub returns : goal.returns

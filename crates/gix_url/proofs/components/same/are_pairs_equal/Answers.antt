@@ -4,7 +4,7 @@ use Rattle.std.specs.Cmp.Lexicographic.{pointwise}
 use Rattle.gix_url.specs.declared.components.QueryText.{QueryText}
 use Rattle.git_laws.specs.ComponentEquality.{pair_eq}
 use Rattle.gix_url.specs.ComponentViews.{pair_bytes}
-use Rattle.gix_url.proofs.Parted.SameLemmas.{pointwise_map, pointwise_step, pointwise_end}
+use Rattle.gix_url.proofs.ComponentCuts.SameLemmas.{pointwise_map, pointwise_step, pointwise_end}
 use Rattle.gix_url.proofs.components.same.are_pairs_equal.Goals as goal
 
 -- pairs compared by their bytes

@@ -1,5 +1,5 @@
 -- What is read of the text that a settled location was written as is that location again.
-use Rattle.gix_url.proofs.Written.OwnedLemmas.{read_again}
+use Rattle.gix_url.proofs.Writing.OwnedLemmas.{read_again}
 use Rattle.gix_url.proofs.location.Url.reread.Goals as goal
 
 pub returns-in-Ok-clause-settled : goal.returns-in-Ok-clause-settled

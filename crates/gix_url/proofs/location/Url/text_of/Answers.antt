@@ -2,9 +2,9 @@
 -- again.
 use Rattle.std.proofs.Common.{inr, ap, refl, sym, ◌∙◌, Err}
 use Rattle.gix_url.specs.declared.error.Error.TheVariants.{Unwritable}
-use Rattle.git_location.proofs.Written.PieceLemmas.{same_fault}
-use Rattle.gix_url.proofs.Written.OwnedLemmas.{written_again}
-use Rattle.git_laws.proofs.Written.RereadLemmas.{settled_has_text}
+use Rattle.git_location.proofs.Writing.PieceLemmas.{same_fault}
+use Rattle.gix_url.proofs.Writing.OwnedLemmas.{written_again}
+use Rattle.git_laws.proofs.Writing.RereadLemmas.{settled_has_text}
 use Rattle.gix_url.proofs.location.Url.text_of.Goals as goal
 
 pub returns-in-Ok-clause-fault : goal.returns-in-Ok-clause-fault

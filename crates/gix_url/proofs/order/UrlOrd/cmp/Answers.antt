@@ -2,15 +2,15 @@
 use Rattle.std.proofs.Common.{rules, ◌≡◌, nat_cmp}
 use Rattle.std.specs.Option.{option_cmp}
 use Rattle.std.specs.Ordering.{bool_cmp}
-use Rattle.git_laws.specs.Order.{bytes_cmp, protocol_cmp, text_cmp}
-use Rattle.git_laws.proofs.Values.OrderLemmas.{before, found, known}
+use Rattle.git_laws.specs.Order.{bytes_cmp, scheme_cmp, text_cmp}
+use Rattle.git_laws.proofs.Order.OrderLemmas.{before, found, known}
 use Rattle.gix_url.proofs.order.UrlOrd.cmp.Goals as goal
 
 pub returns : goal.returns
 returns c =
     let v = c.args.self.now in
     let w = c.args.other.now in
-    let scheme : c.compare.result ≡ protocol_cmp v.scheme w.scheme = search rules in
+    let scheme : c.compare.result ≡ scheme_cmp v.scheme w.scheme = search rules in
     let user = found c.compare.result (text_cmp v.user w.user) c.then_with.result c.then_with.ensures (λ h. search rules) in
     let password = found c.then_with.result (text_cmp v.password w.password) c.then_with-2.result c.then_with-2.ensures (λ h. search rules) in
     let host = found c.then_with-2.result (text_cmp v.host w.host) c.then_with-3.result c.then_with-3.ensures (λ h. search rules) in

@@ -1,6 +1,6 @@
 -- The first eight bytes are the same, so the last eight decide.
 use Rattle.std.proofs.Common.{◌∙◌, ◌-◌, ap, sym, arith, drop, length}
-use Rattle.gix_url.proofs.Values.FrontLemmas.{backs_decide}
+use Rattle.gix_url.proofs.Equality.FrontLemmas.{backs_decide}
 use Rattle.gix_url.proofs.order.same.ends_equal.Goals as goal
 
 pub returns-then-words_equal : goal.returns-then-words_equal

@@ -1,6 +1,6 @@
 -- The first 16 bytes are the same, so the last 16 decide.
 use Rattle.std.proofs.Common.{◌∙◌, ◌-◌, sym, arith, length}
-use Rattle.gix_url.proofs.Values.FrontLemmas.{backs_decide}
+use Rattle.gix_url.proofs.Equality.FrontLemmas.{backs_decide}
 use Rattle.gix_url.proofs.order.same.halves_equal.Goals as goal
 
 pub returns-then-ends_equal : goal.returns-then-ends_equal

@@ -1,5 +1,5 @@
 -- The host between its brackets.
-use Rattle.git_location.proofs.Written.PieceLemmas.{on_ok}
+use Rattle.git_location.proofs.Writing.PieceLemmas.{on_ok}
 use Rattle.git_location.proofs.writer.piece.HostPieces.put.Goals as goal
 
 pub returns-in_ok-put-in-Bracketed-2 : goal.returns-in_ok-put-in-Bracketed-2

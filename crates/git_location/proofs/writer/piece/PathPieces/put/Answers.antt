@@ -1,6 +1,6 @@
 -- The mark, the escapes, and nothing behind them.
 use Rattle.std.proofs.Common.{◌++◌, ap, subst, append-nil}
-use Rattle.git_location.proofs.Written.PieceLemmas.{on_ok}
+use Rattle.git_location.proofs.Writing.PieceLemmas.{on_ok}
 use Rattle.git_location.proofs.writer.piece.PathPieces.put.Goals as goal
 
 pub returns-in_ok-put_escaped-in-Escaped : goal.returns-in_ok-put_escaped-in-Escaped

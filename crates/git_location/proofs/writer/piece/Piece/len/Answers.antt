@@ -1,7 +1,7 @@
 -- The length of written percents.
 use Rattle.std.proofs.Common.{ap, ◌∙◌, arith, length}
 use Rattle.git_location.specs.Internal.Pieces.{piece_text}
-use Rattle.git_location.proofs.Written.PieceLemmas.{length_percents}
+use Rattle.git_location.proofs.Writing.PieceLemmas.{length_percents}
 use Rattle.git_location.proofs.writer.piece.Piece.len.Goals as goal
 
 pub returns-in-Percents-clause-exact : goal.returns-in-Percents-clause-exact

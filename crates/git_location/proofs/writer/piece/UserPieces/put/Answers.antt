@@ -1,5 +1,5 @@
 -- A user and a password with their marks.
-use Rattle.git_location.proofs.Written.PieceLemmas.{on_ok}
+use Rattle.git_location.proofs.Writing.PieceLemmas.{on_ok}
 use Rattle.git_location.proofs.writer.piece.UserPieces.put.Goals as goal
 
 pub returns-in_ok-put-in-Both-3 : goal.returns-in_ok-put-in-Both-3

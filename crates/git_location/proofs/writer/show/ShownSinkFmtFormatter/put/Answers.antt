@@ -1,5 +1,5 @@
 -- A text that is UTF-8 is shown as it is.
-use Rattle.git_location.proofs.Written.DisplayLemmas.{shown_text}
+use Rattle.git_location.proofs.Writing.DisplayLemmas.{shown_text}
 use Rattle.git_location.proofs.writer.show.ShownSinkFmtFormatter.put.Goals as goal
 
 pub returns : goal.returns

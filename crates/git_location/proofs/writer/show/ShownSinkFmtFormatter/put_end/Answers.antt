@@ -1,5 +1,5 @@
 -- An end is shown, whatever bytes it is.
-use Rattle.git_location.proofs.Written.DisplayLemmas.{shown_end}
+use Rattle.git_location.proofs.Writing.DisplayLemmas.{shown_end}
 use Rattle.git_location.proofs.writer.show.ShownSinkFmtFormatter.put_end.Goals as goal
 
 pub returns : goal.returns

@@ -1,0 +1,126 @@
+//! What calls are over: locations, records, schemes and users, made of orders.
+//!
+//! A location is a text, or an object of its parts, as a record is: `scheme`, `user`, `password`, `host`, `port`,
+//! `alternative`, `path` and `spelling`. A scheme with a name has it behind it, as in `Helper a`.
+
+use crate::bytes::decode;
+use crate::halt::Halt;
+use crate::order::Order;
+use bstr::{BStr, BString};
+use gix_url::expand_path::ForUser;
+use gix_url::parse::parse;
+use gix_url::stored::StoredUrl;
+use gix_url::{ArgumentSafety, Error, Scheme, Url};
+use std::alloc::Global;
+use std::mem;
+
+/// The location of a member: what its text is read as, or the parts as they are.
+pub fn url(alloc: Global, order: Order<'_>, name: &str) -> Result<Url, Halt> {
+    match order.object(name) {
+        Some(parts) => url_of_parts(alloc, parts),
+        None => {
+            let text = order.bytes(alloc, name)?;
+            parse(alloc, BStr::new(text.as_slice())).map_err(unprepared)
+        }
+    }
+}
+
+/// The location of parts. Its path is put in last: a record whose spelling is its path is one of the older form.
+fn url_of_parts(alloc: Global, parts: Order<'_>) -> Result<Url, Halt> {
+    let mut record = record(alloc, parts)?;
+    let path = mem::replace(&mut record.path, Vec::new(alloc));
+    let mut url = Url::from_stored(alloc, record).map_err(unprepared)?;
+    url.path = BString::new(path);
+    Ok(url)
+}
+
+/// What was not made, whatever the error.
+pub fn unprepared(error: Error) -> Halt {
+    drop(error);
+    Halt::Unprepared
+}
+
+/// The record of parts.
+pub fn record(alloc: Global, parts: Order<'_>) -> Result<StoredUrl, Halt> {
+    let mut record = StoredUrl {
+        scheme: scheme(alloc, parts.needed("scheme")?)?,
+        user: None,
+        password: None,
+        host: None,
+        serialize_alternative_form: parts.is("alternative"),
+        port: port(parts),
+        path: Vec::new(alloc),
+        path_with_percent_escapes: None,
+    };
+    match fill(alloc, &mut record, parts) {
+        Ok(()) => Ok(record),
+        Err(halt) => {
+            drop(record);
+            Err(halt)
+        }
+    }
+}
+
+/// The port of parts, if they have one.
+fn port(parts: Order<'_>) -> Option<u16> {
+    parts
+        .number("port")
+        .and_then(|number| u16::try_from(number).ok())
+}
+
+/// Puts what takes memory into a record.
+fn fill(alloc: Global, record: &mut StoredUrl, parts: Order<'_>) -> Result<(), Halt> {
+    record.user = parts.owned(alloc, "user")?;
+    record.password = parts.owned(alloc, "password")?;
+    record.host = parts.owned(alloc, "host")?;
+    record.path = parts.bytes(alloc, "path")?;
+    if parts.has("spelling") {
+        record.path_with_percent_escapes = Some(parts.bytes(alloc, "spelling")?);
+    }
+    Ok(())
+}
+
+/// The scheme that a text tells.
+pub fn scheme(alloc: Global, given: &str) -> Result<Scheme, Halt> {
+    match given {
+        "File" => Ok(Scheme::File),
+        "Git" => Ok(Scheme::Git),
+        "Ssh" => Ok(Scheme::Ssh),
+        "Http" => Ok(Scheme::Http),
+        "Https" => Ok(Scheme::Https),
+        "Ext" => Ok(Scheme::Ext),
+        _ => named_scheme(alloc, given),
+    }
+}
+
+/// The scheme that a text with a name tells.
+fn named_scheme(alloc: Global, given: &str) -> Result<Scheme, Halt> {
+    match given.split_once(' ') {
+        Some(("Helper", name)) => Ok(Scheme::Helper(String::from_str(alloc, name)?)),
+        Some(("HelperUrl", name)) => Ok(Scheme::HelperUrl(String::from_str(alloc, name)?)),
+        _ => Err(Halt::Unprepared),
+    }
+}
+
+/// The user of a member: `~` is the current one, `~bob` another, and `{"name": ""}` one whose name is empty.
+pub fn user(alloc: Global, order: Order<'_>, name: &str) -> Result<Option<ForUser>, Halt> {
+    if let Some(given) = order.object(name) {
+        return Ok(Some(ForUser::Name(BString::new(given.bytes(alloc, "name")?))));
+    }
+    match order.text(name).and_then(|given| given.strip_prefix('~')) {
+        None => Ok(None),
+        Some("") => Ok(Some(ForUser::Current)),
+        Some(name) => Ok(Some(ForUser::Name(BString::new(decode(alloc, name)?)))),
+    }
+}
+
+/// The judgement of a part that a member tells, as `{"usable": "h"}`; none where the order lacks it.
+pub fn judgement<'a>(order: Order<'a>, name: &str) -> ArgumentSafety<'a> {
+    let Some(given) = order.object(name) else {
+        return ArgumentSafety::Absent;
+    };
+    match given.text("usable") {
+        Some(text) => ArgumentSafety::Usable(text),
+        None => ArgumentSafety::Dangerous(given.text("dangerous").unwrap_or("")),
+    }
+}

@@ -1,0 +1,3 @@
+-- Lines and their answers, each of which is one line, and one split into lines.
+pub mod AnswerLemmas
+pub mod SplitLemmas

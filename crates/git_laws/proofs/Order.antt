@@ -1,0 +1,3 @@
+-- Order and hash of values.
+pub mod OrderLemmas
+pub mod HashLemmas

@@ -1,3 +1,0 @@
--- Components of a path: cut, lent, handed out, compared.
-pub mod PartsLemmas
-pub mod ComponentLemmas

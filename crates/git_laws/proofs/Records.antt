@@ -1,0 +1,2 @@
+-- Stored records.
+pub mod RecordLemmas

@@ -1,0 +1,2 @@
+-- Lines and their answers, each of which is one line, and one split into lines.
+pub mod LineLemmas

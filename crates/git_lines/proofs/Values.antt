@@ -1,2 +1,0 @@
--- Order and hash of values, stored records, lines and their answers, each of which is one line, and one split into lines.
-pub mod LineLemmas

@@ -1,3 +1,0 @@
--- What is read is settled but for corners, and has a text; of four kinds nothing else comes back; the class by its parts.
-pub mod SettledLemmas
-pub mod WebClassLemmas

@@ -1,0 +1,152 @@
+//! The length test of a text that is nowhere as a whole: a walk past its pieces.
+//!
+//! It uses the walk of `length`, the pieces of the writer and `value`. Its contract: the answer is yes exactly where
+//! the text of the location is short enough. The lengths of the parts decide for nearly all. It takes no memory.
+
+ghost use Rattle.std.specs.Prelude.{◌≡◌, ◌≤◌, ◌^◌, ◌↔◌, ◌+◌, IsTrue, Ok, drop, length, option_map};
+ghost use Rattle.git_syntax.specs.Bytes.{FreeOf, colon};
+ghost use Rattle.git_location.specs.Internal.Pieces.{AreOwn, pieces_text};
+ghost use Rattle.git_syntax.specs.Schemes.{scheme_text};
+ghost use Rattle.git_location.specs.Settled.{HasFittingText};
+ghost use Rattle.git_location.specs.Text.{canonical_text, text};
+ghost use Rattle.git_syntax.specs.Schemes as spec;
+ghost use Rattle.git_syntax.specs.Internal.LengthChecks.{is_rest_short, is_text_in_time};
+ghost use Rattle.git_syntax.specs.Internal.FoundPieces.{optional_length};
+ghost use Rattle.git_location.specs.Internal.SettledPieces.{IsPiecesShort};
+ghost use Rattle.git_location.specs.Internal.Sinks.{ChecksPast, checks_joined, checks_nothing};
+
+use crate::url_ref::UrlRef;
+use crate::value::law_lent_value;
+use crate::writer::piece::Pieces;
+use crate::writer::sink::Sink;
+use git_syntax::length::{LIMIT, LengthCheck};
+use itoa::Buffer;
+use std::convert::Infallible;
+
+/// Whether the text of the location, which is that of a URL, is short enough. It is laid out where neither its pieces
+/// are at hand nor its parts are short.
+pub(crate) fn has_fitting_text(url: &UrlRef<'_>, laid: Option<&Pieces<'_>>) -> bool
+    requires no_colon { FreeOf colon (scheme_text url.now.scheme) }
+    requires canonical { text url.now ≡ Ok (canonical_text url.now) }
+    requires laid { AreOwn laid url.now }
+    ensures { IsTrue result ↔ HasFittingText url.now }
+{
+    match laid {
+        Some(pieces) => are_short(url.scheme.as_str().as_bytes(), pieces),
+        None => has_short_parts(url) || is_own_short(url),
+    }
+}
+
+/// Whether the parts of the location are so short that its text is, whatever of them is written as escapes.
+fn has_short_parts(url: &UrlRef<'_>) -> bool
+    requires no_colon { FreeOf colon (scheme_text url.now.scheme) }
+    requires canonical { text url.now ≡ Ok (canonical_text url.now) }
+    ensures { IsTrue result → HasFittingText url.now }
+{
+    longest_len(url) <= LIMIT as u128
+}
+
+/// A length that the location's text as a URL is not longer than: an escape has three bytes, and the marks and the port
+/// have at most 14.
+fn longest_len(url: &UrlRef<'_>) -> u128
+    ensures { length (canonical_text url.now) ≤ result }
+{
+    law_lent_value(url);
+    let kept = url.scheme.as_str().len() as u128 + spelling_len(url.spelling);
+    let escaped = part_len(url.user)
+        + part_len(url.password)
+        + part_len(url.host)
+        + url.path.len() as u128;
+    kept + 3 * escaped + 14
+}
+
+/// The length of the part, where there is one.
+fn part_len(part: Option<&str>) -> u128
+    ensures exact { result ≡ optional_length (option_map (λ t. t.now) part.entry) }
+    ensures bound { result ≤ 2 ^ 64 }
+{
+    match part {
+        None => 0,
+        Some(text) => text.len() as u128,
+    }
+}
+
+/// The length of the spelling, where there is one.
+fn spelling_len(spelling: Option<&[u8]>) -> u128
+    ensures exact { result ≡ optional_length (option_map (λ t. t.now) spelling.entry) }
+    ensures bound { result ≤ 2 ^ 64 }
+{
+    match spelling {
+        None => 0,
+        Some(bytes) => bytes.len() as u128,
+    }
+}
+
+/// Whether the text of the location, which is laid out now, is short enough. Few come here, and the code that all go
+/// through doesn't grow by it.
+#[inline(never)]
+fn is_own_short(url: &UrlRef<'_>) -> bool
+    requires no_colon { FreeOf colon (scheme_text url.now.scheme) }
+    requires canonical { text url.now ≡ Ok (canonical_text url.now) }
+    ensures { IsTrue result ↔ HasFittingText url.now }
+{
+    let mut digits = Buffer::new();
+    match url.own_pieces(&mut digits) {
+        Ok(pieces) => are_short(url.scheme.as_str().as_bytes(), &pieces),
+        Err(_) => false,
+    }
+}
+
+/// Whether a scheme and the pieces of a text with that scheme are short enough.
+fn are_short(scheme: &[u8], pieces: &Pieces<'_>) -> bool
+    ensures { IsTrue result ↔ IsPiecesShort scheme.now (pieces_text pieces.now) }
+{
+    scheme.len() <= LIMIT && is_rest_short(scheme, pieces)
+}
+
+/// Whether what is behind the scheme is short enough. Where it has no more bytes than the limit, none need be
+/// looked at.
+fn is_rest_short(scheme: &[u8], pieces: &Pieces<'_>) -> bool
+    ensures { result ≡ is_rest_short (spec.is_web_scheme scheme.now)
+        (drop (length scheme.now + 3) (pieces_text pieces.now)) }
+{
+    if pieces.len() <= scheme.len() as u128 + 3 + LIMIT as u128 {
+        return true;
+    }
+    is_in_time(LengthCheck::over(scheme), pieces)
+}
+
+/// Whether a path starts in time where the walk goes past the pieces.
+fn is_in_time(walk: LengthCheck, pieces: &Pieces<'_>) -> bool
+    ensures { result ≡ is_text_in_time walk (pieces_text pieces.now) }
+{
+    let mut walk = walk;
+    let Ok(()) = pieces.put::<LengthCheck, LengthSink>(&mut walk);
+    walk.is_in_time()
+}
+
+/// The walk of the length test.
+struct LengthSink;
+
+impl Sink<LengthCheck> for LengthSink {
+    type Fault = Infallible;
+
+    ghost takes = { ChecksPast };
+
+    ghost ends = { ChecksPast };
+
+    fn put(place: &mut LengthCheck, slice: &str) -> Result<(), Infallible> {
+        LengthSink::put_end(place, slice.as_bytes())
+    }
+
+    fn put_end(place: &mut LengthCheck, end: &[u8]) -> Result<(), Infallible> {
+        *place = place.advance(end);
+        Ok(())
+    }
+
+    ghost takes_nothing = { checks_nothing };
+
+    ghost takes_joined = { checks_joined };
+
+    ghost ends_joined = { checks_joined };
+}

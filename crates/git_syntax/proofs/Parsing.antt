@@ -1,0 +1,13 @@
+-- What a text spells: forms, and for each reader that it finds what is there and nothing else.
+pub mod FormLemmas
+pub mod ClassifierLemmas
+pub mod SchemeLemmas
+pub mod SchemeRuleLemmas
+pub mod LengthLemmas
+pub mod HostLemmas
+pub mod UrlLemmas
+pub mod UrlLocationLemmas
+pub mod ScpFrontLemmas
+pub mod FoundLemmas
+pub mod RoomLemmas
+pub mod ScpLemmas

@@ -1,0 +1,68 @@
+-- What the classifier answers: the form of a text, and the pieces that its marks cut it into.
+use Rattle.std.specs.Prelude.{◌≡◌, ℕ, false, ◌⊎◌, List, [], ◌∷◌, ◌++◌}
+use Rattle.git_syntax.specs.declared.classify.Form.{Form}
+use Rattle.git_syntax.specs.declared.classify.Form.TheVariants as form
+use Rattle.git_syntax.specs.Bytes.{slash, colon, at_sign, left_bracket, right_bracket, FreeOf, begins_with}
+use Rattle.git_syntax.specs.Grammar.{HelperCut, ScpFront, ScpForm, AddressedCut, AddressedForm, IsAddressed, LocalForm}
+use Rattle.git_syntax.specs.Flaws.{UrlForm}
+
+-- the pieces around the first colon of the text
+pub record ColonCut (b front rest : List ℕ) : Type 0 where
+  pub joined : b ≡ front ++ colon ∷ rest
+  pub no_colon : FreeOf colon front
+
+-- the text has this before its first colon
+abbrev pub IsColonFront : List ℕ → List ℕ → Type 0
+IsColonFront b front = (rest : List ℕ) × ColonCut b front rest
+
+-- the pieces around the colon of the scp form
+pub record FrontCut (b front path : List ℕ) : Type 0 where
+  pub joined : b ≡ front ++ colon ∷ path
+  pub form : ScpFront b front
+
+-- such a colon is in the text
+abbrev pub HasFrontCut : List ℕ → Type 0
+HasFrontCut b = (front : List ℕ) × (path : List ℕ) × FrontCut b front path
+
+-- no bracket is at the front of the text, or none closes it
+abbrev pub LacksBrackets : List ℕ → Type 0
+LacksBrackets b = (begins_with left_bracket b ≡ false) ⊎ FreeOf right_bracket b
+
+-- the pieces around such a colon, and no `/` before it
+pub record ScpCut (b front path : List ℕ) : Type 0 where
+  pub around : FrontCut b front path
+  pub no_slash : FreeOf slash front
+
+-- such a colon is in the text before any `/`
+abbrev pub HasScpCut : List ℕ → Type 0
+HasScpCut b = (front : List ℕ) × (path : List ℕ) × ScpCut b front path
+
+-- the text is `user@[address]:path`
+abbrev pub HasAddressedCut : List ℕ → Type 0
+HasAddressedCut b = (user : List ℕ) × (address : List ℕ) × (path : List ℕ)
+    × AddressedCut b user address path
+
+-- a user, `@[` and what is behind it
+abbrev pub addressed_text : List ℕ → List ℕ → List ℕ
+addressed_text user behind = user ++ at_sign ∷ (left_bracket ∷ behind)
+
+-- the user, and what is behind its `@[`, of all such pieces that the text may have
+pub record AddressedFront (b user behind : List ℕ) : Type 0 where
+  pub joined : b ≡ user ++ at_sign ∷ (left_bracket ∷ behind)
+  pub no_colon : FreeOf colon user
+  pub only : (u a p : List ℕ) → AddressedCut b u a p
+      → (u ≡ user) × (behind ≡ a ++ right_bracket ∷ (colon ∷ p))
+
+-- the text has the scp form with this front and this path, and not the form `user@[address]:path`
+pub record PlainScp (b front path : List ℕ) : Type 0 where
+  pub form : ScpForm b front path
+  pub not_addressed : ¬ IsAddressed b
+
+-- the text has this form, with these pieces
+abbrev pub Classifies : List ℕ → Form → Type 0
+Classifies b form.Empty = b ≡ []
+Classifies b (form.Helper name address) = HelperCut b name.now address.now
+Classifies b (form.Url scheme rest) = UrlForm b scheme.now rest.now
+Classifies b (form.Addressed user address path) = AddressedForm b user.now address.now path.now
+Classifies b (form.Scp front path) = PlainScp b front.now path.now
+Classifies b form.Local = LocalForm b

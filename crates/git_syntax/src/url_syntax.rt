@@ -1,0 +1,337 @@
+//! The reader of URLs: scheme, user information, host, port and path, as slices of the text.
+//!
+//! It may use `bytes`, `escape`, `host`, `look` and `rules`. Its contract: the parts are read exactly where the definitions
+//! spell a URL with them, and each refusal has its flaw. It takes no memory and copies nothing.
+
+ghost use Rattle.std.specs.Prelude.{◌≡◌, ◌↔◌, ◌⊎◌, IfErr, IfOk, IsTrue, IsUtf8};
+ghost use Rattle.percent_encoding.specs.Percent.{percent_decode};
+ghost use Rattle.git_syntax.specs.Authority as authority;
+ghost use Rattle.git_syntax.specs.Authority.{Fits};
+ghost use Rattle.git_syntax.specs.Escapes as escape;
+ghost use Rattle.git_syntax.specs.Flaws.{AuthorityFlaw, OtherUrlForm, UrlFlaw};
+ghost use Rattle.git_syntax.specs.Grammar.{HasUrlSyntax, UrlSyntax};
+ghost use Rattle.git_syntax.specs.Internal.HostPieces.{host_syntax};
+ghost use Rattle.git_syntax.specs.Internal.Looks.{Looks};
+ghost use Rattle.git_syntax.specs.Internal.SchemeRules.{AreRulesOf};
+ghost use Rattle.git_syntax.specs.Bytes.{FreeOf, LacksWhiteSpace, at_sign, backslash, colon};
+ghost use Rattle.git_syntax.specs.Internal.UrlPieces.{HoldsAuthority, IsNoAuthority, ReadsCredentials, decoded_option, syntax_of};
+
+use crate::bytes::{cut, cut_before_path, is_free_of, is_scheme_text, last_cut};
+use crate::escape::{decodes_to_utf8, decoding_is_utf8, has_percent, is_sound, lacks_white_space};
+use crate::host::{HostPort, HostSyntax, read_host, simple_host};
+use crate::look::Look;
+use crate::places::{broken_escape, first_byte, white_space};
+use crate::refusal::{Fault, UrlFault};
+use crate::rules::Rules;
+
+/// The parts of a URL, as slices of its text: nothing is decoded, nothing is copied.
+#[derive(Clone, Copy)]
+pub struct ParsedUrl<'a> {
+    /// The scheme.
+    pub scheme: &'a [u8],
+    /// The user, if there is one, with its escapes.
+    pub user: Option<&'a [u8]>,
+    /// The password, if there is one, with its escapes. It isn't empty.
+    pub password: Option<&'a [u8]>,
+    /// The host and the port.
+    pub host: Option<HostPort<'a>>,
+    /// The path with its escapes, and with what HTTP has behind it.
+    pub path: &'a [u8],
+    /// Whether the path holds a `%`.
+    pub escaped: bool,
+}
+
+/// What an authority holds, as slices of it.
+#[derive(Clone, Copy)]
+struct AuthoritySlices<'a> {
+    /// The user and the password.
+    credentials: CredentialSlices<'a>,
+    /// The host and the port.
+    host: Option<HostPort<'a>>,
+}
+
+/// What user information holds, as slices of it.
+#[derive(Clone, Copy)]
+struct CredentialSlices<'a> {
+    /// The user, if there is one, with its escapes.
+    user: Option<&'a [u8]>,
+    /// The password, if there is one, with its escapes. It isn't empty.
+    password: Option<&'a [u8]>,
+}
+
+/// Reads the URL with this scheme, of which these are the rules, and this rest behind `://`. It is no file URL, and
+/// no remote helper. What is known of the text isn't looked for again.
+pub(crate) fn read_url_syntax<'a>(
+    text: &'a str,
+    look: Look,
+    rules: Rules,
+    scheme: &'a [u8],
+    rest: &'a [u8],
+) -> Result<ParsedUrl<'a>, Fault>
+    requires look { Looks look text.now }
+    requires form { OtherUrlForm text.now scheme.now rest.now }
+    requires rules { AreRulesOf scheme.now rules }
+    requires fits { Fits scheme.now rest.now }
+    ensures read { IfOk result (λ url. HasUrlSyntax text.now (syntax_of url)) }
+    ensures same_scheme { IfOk result (λ url. url.scheme.now ≡ scheme.now) }
+    ensures escaped { IfOk result (λ url. url.escaped ≡ escape.has_percent url.path.now) }
+    ensures refused { IfErr result (λ fault. (parts : UrlSyntax) → ¬ HasUrlSyntax text.now parts) }
+    ensures flaw { IfErr result (λ fault. UrlFlaw text.now fault.at fault.len fault.kind) }
+{
+    if !has_no_white_space(look, text) {
+        return Err(white_space(text));
+    }
+    if !has_sound_escapes(look, text) {
+        return Err(Fault {
+            kind: UrlFault::BadCharacter,
+            at: broken_escape(text.as_bytes()),
+            len: 1,
+        });
+    }
+    if !is_scheme_text(scheme) {
+        return Err(Fault {
+            kind: UrlFault::NoScheme,
+            at: 0,
+            len: scheme.len(),
+        });
+    }
+    let (authority, path) = cut_before_path(rest, rules.web);
+    if !means_text(look, path) {
+        return Err(Fault {
+            kind: UrlFault::BadCharacter,
+            at: text.len() - path.len(),
+            len: path.len(),
+        });
+    }
+    match read_authority(rules.syntax, rules.needs_host, authority) {
+        Ok(parts) => Ok(join_parts(scheme, parts, path, holds_escape(look, path))),
+        Err(fault) => Err(Fault {
+            kind: fault.kind,
+            at: scheme.len() + 3 + fault.at,
+            len: fault.len,
+        }),
+    }
+}
+
+/// The parts of a URL, from those of its authority.
+fn join_parts<'a>(
+    scheme: &'a [u8],
+    parts: AuthoritySlices<'a>,
+    path: &'a [u8],
+    escaped: bool,
+) -> ParsedUrl<'a>
+    ensures scheme { result.scheme.now ≡ scheme.now }
+    ensures user { result.user ≡ parts.entry.credentials.user }
+    ensures password { result.password ≡ parts.entry.credentials.password }
+    ensures host { result.host ≡ parts.entry.host }
+    ensures path { result.path.now ≡ path.now }
+    ensures escaped { result.escaped ≡ escaped }
+{
+    ParsedUrl {
+        scheme,
+        user: parts.credentials.user,
+        password: parts.credentials.password,
+        host: parts.host,
+        path,
+        escaped,
+    }
+}
+
+/// Whether no character of the text is white space, as in a printable one.
+fn has_no_white_space(look: Look, text: &str) -> bool
+    requires { Looks look text.now }
+    ensures { IsTrue result ↔ LacksWhiteSpace text.now }
+{
+    look.is_printable() || lacks_white_space(text)
+}
+
+/// Whether every `%` of the text has two hexadecimal digits behind it.
+fn has_sound_escapes(look: Look, text: &str) -> bool
+    requires { Looks look text.now }
+    ensures { result ≡ escape.is_sound text.now }
+{
+    look.is_printable() || is_sound(text.as_bytes())
+}
+
+/// Whether the piece decodes to UTF-8, as one does that decodes to ASCII.
+fn means_text(look: Look, piece: &[u8]) -> bool
+    requires { Looks look piece.now }
+    ensures { IsTrue result ↔ IsUtf8 (percent_decode piece.now) }
+{
+    if look.is_ascii() {
+        return true;
+    }
+    if look.is_printable() {
+        return decoding_is_utf8(piece);
+    }
+    decodes_to_utf8(piece)
+}
+
+/// Whether the piece holds a `%`, as a plain one doesn't.
+fn holds_escape(look: Look, piece: &[u8]) -> bool
+    requires { Looks look piece.now }
+    ensures { result ≡ escape.has_percent piece.now }
+{
+    if look.is_plain() {
+        return false;
+    }
+    has_percent(piece)
+}
+
+/// Reads an authority, in which a host may be needed. Mostly it is a simple host.
+fn read_authority(
+    syntax: HostSyntax,
+    needed: bool,
+    authority: &[u8],
+) -> Result<AuthoritySlices<'_>, Fault>
+    ensures read { IfOk result (λ parts. HoldsAuthority (host_syntax syntax) needed authority.now parts) }
+    ensures clean { IfOk result (λ parts. FreeOf backslash authority.now) }
+    ensures refused { IfErr result (λ fault. (¬ FreeOf backslash authority.now)
+        ⊎ IsNoAuthority (host_syntax syntax) needed authority.now) }
+    ensures flaw { IfErr result
+        (λ fault. AuthorityFlaw (host_syntax syntax) needed authority.now fault.at fault.len fault.kind) }
+{
+    if let Some(host) = simple_host(authority) {
+        return Ok(AuthoritySlices {
+            credentials: CredentialSlices {
+                user: None,
+                password: None,
+            },
+            host: Some(host),
+        });
+    }
+    if !is_free_of(authority, b'\\') {
+        return Err(Fault {
+            kind: UrlFault::BadCharacter,
+            at: first_byte(authority, b'\\'),
+            len: 1,
+        });
+    }
+    read_marked(syntax, needed, authority)
+}
+
+/// Reads an authority in which marks may be.
+fn read_marked(
+    syntax: HostSyntax,
+    needed: bool,
+    authority: &[u8],
+) -> Result<AuthoritySlices<'_>, Fault>
+    ensures read { IfOk result (λ parts. HoldsAuthority (host_syntax syntax) needed authority.now parts) }
+    ensures refused { IfErr result (λ fault. IsNoAuthority (host_syntax syntax) needed authority.now) }
+    ensures flaw { IfErr result
+        (λ fault. AuthorityFlaw (host_syntax syntax) needed authority.now fault.at fault.len fault.kind) }
+{
+    let Some((information, piece)) = last_cut(authority, b'@') else {
+        return read_host_alone(syntax, needed, authority);
+    };
+    let credentials = read_credentials(information)?;
+    match read_host(syntax, piece) {
+        Ok(Some(host)) => Ok(AuthoritySlices {
+            credentials,
+            host: Some(host),
+        }),
+        Ok(None) => Err(Fault {
+            kind: UrlFault::BadCharacter,
+            at: authority.len(),
+            len: 0,
+        }),
+        Err(fault) => Err(Fault {
+            kind: fault.kind,
+            at: information.len() + 1 + fault.at,
+            len: fault.len,
+        }),
+    }
+}
+
+/// Reads an authority without user information.
+fn read_host_alone(
+    syntax: HostSyntax,
+    needed: bool,
+    authority: &[u8],
+) -> Result<AuthoritySlices<'_>, Fault>
+    requires { FreeOf at_sign authority.now }
+    ensures read { IfOk result (λ parts. HoldsAuthority (host_syntax syntax) needed authority.now parts) }
+    ensures refused { IfErr result (λ fault. IsNoAuthority (host_syntax syntax) needed authority.now) }
+    ensures flaw { IfErr result
+        (λ fault. AuthorityFlaw (host_syntax syntax) needed authority.now fault.at fault.len fault.kind) }
+{
+    let host = read_host(syntax, authority)?;
+    if needed && host.is_none() {
+        return Err(Fault {
+            kind: UrlFault::HostRequired,
+            at: 0,
+            len: 0,
+        });
+    }
+    Ok(AuthoritySlices {
+        credentials: CredentialSlices {
+            user: None,
+            password: None,
+        },
+        host,
+    })
+}
+
+/// Reads user information: a user, or a user and a password, which decode to text.
+fn read_credentials(information: &[u8]) -> Result<CredentialSlices<'_>, Fault>
+    ensures { ReadsCredentials information.now result }
+{
+    let Some((user, password)) = cut(information, b':') else {
+        return read_user(information);
+    };
+    if !decodes_to_utf8(password) {
+        return Err(Fault {
+            kind: UrlFault::BadCharacter,
+            at: user.len() + 1,
+            len: password.len(),
+        });
+    }
+    if !decodes_to_utf8(user) {
+        return Err(Fault {
+            kind: UrlFault::BadCharacter,
+            at: 0,
+            len: user.len(),
+        });
+    }
+    let password = unless_empty(password);
+    Ok(CredentialSlices {
+        user: user_beside(password, user),
+        password,
+    })
+}
+
+/// Reads user information without a password.
+fn read_user(information: &[u8]) -> Result<CredentialSlices<'_>, Fault>
+    requires { FreeOf colon information.now }
+    ensures { ReadsCredentials information.now result }
+{
+    if !decodes_to_utf8(information) {
+        return Err(Fault {
+            kind: UrlFault::BadCharacter,
+            at: 0,
+            len: information.len(),
+        });
+    }
+    Ok(CredentialSlices {
+        user: unless_empty(information),
+        password: None,
+    })
+}
+
+/// The text, unless it is empty.
+fn unless_empty(text: &[u8]) -> Option<&[u8]>
+    ensures { decoded_option result ≡ authority.unless_empty (percent_decode text.now) }
+{
+    if text.is_empty() { None } else { Some(text) }
+}
+
+/// The user beside a password, or beside none: an empty user counts only beside a password.
+fn user_beside<'a>(password: Option<&'a [u8]>, user: &'a [u8]) -> Option<&'a [u8]>
+    ensures { decoded_option result
+        ≡ authority.user_beside (decoded_option password.entry) (percent_decode user.now) }
+{
+    match password {
+        Some(_) => Some(user),
+        None => unless_empty(user),
+    }
+}

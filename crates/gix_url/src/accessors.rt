@@ -1,0 +1,196 @@
+//! The parts of a location: looked at, exchanged, and the location that has none of them.
+//!
+//! It uses `location` and `scheme`, and takes no memory. Its contracts: what is returned is the field, and of the
+//! spelling of the path whether it is retained; what is stored is there from then on, the old value comes back, and no
+//! other part changes.
+
+ghost use Rattle.std.specs.Prelude.{◌≡◌, ◌↔◌, IsSome, IsTrue, [], ◌∷◌, false, option_map, string_bytes};
+ghost use Rattle.std.specs.Option.{option_or};
+ghost use Rattle.git_syntax.specs.Bytes.{slash};
+ghost use Rattle.git_syntax.specs.Schemes.{default_port_of};
+ghost use Rattle.git_syntax.specs.Location.{fields, path_alone};
+ghost use Rattle.git_syntax.specs.Location.Scheme.{ssh};
+
+use crate::location::Url;
+use crate::scheme::Scheme;
+use bstr::BString;
+use std::alloc::Global;
+use std::mem;
+
+impl Url {
+    /// The location with nothing in it: Secure Shell, an empty path, no other part, and the flag not set. It takes no
+    /// memory, since nothing empty does.
+    ///
+    /// It is a value to put parts into, and not settled as it is: its text is `ssh:///`.
+    ///
+    /// ```
+    /// fn at_host(alloc: Global, host: String) -> Url {
+    ///     let mut url = Url::default_in(alloc);
+    ///     url.host = Some(host);
+    ///     url
+    /// }
+    /// ```
+    pub fn default_in(alloc: Global) -> Url
+        ensures { result ≡ path_alone ssh false [] }
+    {
+        Url {
+            scheme: Scheme::Ssh,
+            user: None,
+            password: None,
+            host: None,
+            serialize_alternative_form: false,
+            port: None,
+            path: BString::new(Vec::new(alloc)),
+            spelling: None,
+        }
+    }
+
+    /// The user, decoded, if there is one. It may be empty. It takes no memory.
+    ///
+    /// A user may begin with `-`: a command gets it by [`Url::user_as_argument`].
+    ///
+    /// ```
+    /// fn is_git(url: &Url) -> bool {
+    ///     url.user() == Some("git") // of `ssh://git@host/repo`
+    /// }
+    /// ```
+    pub fn user(&self) -> Option<&str>
+        ensures { option_map (λ t. t.now) result ≡ self.now.user }
+    {
+        self.user.as_deref()
+    }
+
+    /// The password, decoded, if there is one. It takes no memory.
+    ///
+    /// Neither `Display` nor `Debug` shows this field. The text of the location does, unless there is no user.
+    ///
+    /// ```
+    /// fn asks_for_password(url: &Url) -> bool {
+    ///     url.user().is_some() && url.password().is_none() // of `https://user@host/repo`
+    /// }
+    /// ```
+    pub fn password(&self) -> Option<&str>
+        ensures { option_map (λ t. t.now) result ≡ self.now.password }
+    {
+        self.password.as_deref()
+    }
+
+    /// The host, if there is one. It takes no memory.
+    ///
+    /// Secure Shell has an IPv6 text without its brackets, other schemes with them where the text had them. A host may
+    /// begin with `-`: a command gets it by [`Url::host_as_argument`].
+    ///
+    /// ```
+    /// fn is_here(url: &Url) -> bool {
+    ///     url.host() == Some("::1") // of `ssh://[::1]/repo`, but not of `git://[::1]/repo`
+    /// }
+    /// ```
+    pub fn host(&self) -> Option<&str>
+        ensures { option_map (λ t. t.now) result ≡ self.now.host }
+    {
+        self.host.as_deref()
+    }
+
+    /// The port, or else the one that the scheme stands for, if it stands for one. It takes no memory.
+    ///
+    /// It may be 0: only HTTP's locations are refused with that port when they are read.
+    ///
+    /// ```
+    /// fn is_same_service(one: &Url, other: &Url) -> bool {
+    ///     // `https://host/repo` and `https://host:443/repo` are
+    ///     one.host() == other.host() && one.port_or_default() == other.port_or_default()
+    /// }
+    /// ```
+    pub fn port_or_default(&self) -> Option<u16>
+        ensures { result ≡ option_or self.now.port (default_port_of self.now.scheme) }
+    {
+        self.as_ref().port_or_default()
+    }
+
+    /// Whether the path is `/`. It takes no memory.
+    ///
+    /// So it is of `https://host`, which has no path in its text. Of `https://host/?x` it isn't: an HTTP path holds the
+    /// query and the fragment.
+    ///
+    /// ```
+    /// fn names_a_repository(url: &Url) -> bool {
+    ///     !url.path_is_root()
+    /// }
+    /// ```
+    pub fn path_is_root(&self) -> bool
+        ensures { IsTrue result ↔ (self.now.path ≡ slash ∷ []) }
+    {
+        self.as_ref().path_is_root()
+    }
+
+    /// Whether a spelling of the path is retained, with its escapes. It takes no memory.
+    ///
+    /// Reading retains the spelling of a path in which an escape is. The spelling is no public field, but equality,
+    /// order and hash see it, and the text of the location has it where it still stands for the path. Where there is
+    /// none, the location is its public fields and nothing else: two such locations with the same fields are equal.
+    ///
+    /// ```
+    /// fn is_plain(alloc: Global, text: &str) -> Result<bool, Error> {
+    ///     let url = Url::from_text(alloc, text)?;
+    ///     Ok(!url.has_spelling()) // of `https://host/my`, but not of `https://host/%6dy`
+    /// }
+    /// ```
+    pub fn has_spelling(&self) -> bool
+        ensures retained { IsTrue result ↔ IsSome self.now.spelling }
+        ensures bare { result ≡ false → fields self.now ≡ self.now }
+    {
+        self.spelling.is_some()
+    }
+
+    /// Stores another user, or none, and returns the one before. It takes no memory; no other part changes.
+    ///
+    /// The location may have no text from then on: a user without a host has none.
+    ///
+    /// ```
+    /// fn as_git(alloc: Global, url: &mut Url) -> Result<Option<String>, AllocError> {
+    ///     let git = String::from_str(alloc, "git")?;
+    ///     Ok(url.set_user(Some(git)))
+    /// }
+    /// ```
+    pub fn set_user(&mut self, user: Option<String>) -> Option<String>
+        ensures stored { self.new ≡ record self.old { user = option_map string_bytes user } }
+        ensures before { option_map string_bytes result ≡ self.old.user }
+    {
+        mem::replace(&mut self.user, user)
+    }
+
+    /// Stores another password, or none, and returns the one before. It takes no memory; no other part changes.
+    ///
+    /// A password without a user is not written.
+    ///
+    /// ```
+    /// fn without_password(url: &mut Url) {
+    ///     let _ = url.set_password(None);
+    /// }
+    /// ```
+    pub fn set_password(&mut self, password: Option<String>) -> Option<String>
+        ensures stored { self.new
+            ≡ record self.old { password = option_map string_bytes password } }
+        ensures before { option_map string_bytes result ≡ self.old.password }
+    {
+        mem::replace(&mut self.password, password)
+    }
+
+    /// The same location, asked to be written in the form that is no URL, or not to be. It takes no memory.
+    ///
+    /// `file:///path` is written as `/path` then, and `ssh://host/path` as `host:/path`. Where a location has no such
+    /// form, as with a port, its text stays.
+    ///
+    /// ```
+    /// fn as_path(alloc: Global) -> Result<BString, Error> {
+    ///     let url = Url::from_text(alloc, "file:///path")?.with_request_alternate_form(true);
+    ///     url.to_bstring(alloc) // `/path`
+    /// }
+    /// ```
+    pub fn with_request_alternate_form(mut self, flag: bool) -> Url
+        ensures { result ≡ record self { flag = flag } }
+    {
+        self.serialize_alternative_form = flag;
+        self
+    }
+}

@@ -1,8 +1,0 @@
--- Of an error of which no more is told the problem is all 0.
-use Rattle.std.proofs.Common.{◌∙◌, ap, sym}
-use Rattle.gix_url_c.specs.Codes.{has_problem}
-use Rattle.gix_url_c.proofs.ProblemLemmas.{untold}
-use Rattle.gix_url_c.proofs.reading.tell.Goals as goal
-
-pub returns-in-Err-clause-problem : goal.returns-in-Err-clause-problem
-returns-in-Err-clause-problem c = λ plain. c.told_of.ensures ∙ untold c.in-Err.error (ap has_problem (sym c.error_code.ensures) ∙ plain)

@@ -1,0 +1,58 @@
+-- Components as C gets them: numbers, and the bytes of all of them one behind the other.
+use Rattle.std.specs.Prelude.{◌≡◌, ℕ, MatchBool, nat_lt, ◌||◌, List, [], ◌∷◌, ◌++◌, length, drop, Option, Some, None}
+use Rattle.gix_url.specs.Location.{Location}
+use Rattle.gix_url.specs.Components.{Components, ComponentsOf}
+use Rattle.gix_url_c.specs.declared.components.ComponentNumbers.{ComponentNumbers}
+use Rattle.gix_url_c.specs.Codes.{ok, no_room}
+use Rattle.gix_url_c.specs.Handed.{is_there, or_nothing}
+
+-- the names and values, or none
+abbrev pub pairs_of : Option (List (List ℕ × List ℕ)) → List (List ℕ × List ℕ)
+pairs_of None = []
+pairs_of (Some pairs) = pairs
+
+-- the bytes of a name and of its value
+abbrev pub joined_pair : List ℕ × List ℕ → List ℕ
+joined_pair pair = pair.0 ++ pair.1
+
+-- their lengths
+abbrev pub lengths_of_pair : List ℕ × List ℕ → List ℕ
+lengths_of_pair pair = length pair.0 ∷ length pair.1 ∷ []
+
+-- the bytes of names and values, in order
+abbrev pub joined_pairs : List (List ℕ × List ℕ) → List ℕ
+joined_pairs [] = []
+joined_pairs (pair ∷ pairs) = joined_pair pair ++ joined_pairs pairs
+
+-- the lengths of names and values, in order
+abbrev pub pair_lengths : List (List ℕ × List ℕ) → List ℕ
+pair_lengths [] = []
+pair_lengths (pair ∷ pairs) = lengths_of_pair pair ++ pair_lengths pairs
+
+-- the bytes of the path, of the fragment, and of names and values
+abbrev pub component_bytes : Components → List ℕ
+component_bytes c = (c.path ++ or_nothing c.fragment) ++ joined_pairs (pairs_of c.query)
+
+-- the numbers of components
+abbrev pub component_numbers : Components → ComponentNumbers
+component_numbers c = record {
+  has_query = is_there c.query;
+  has_fragment = is_there c.fragment;
+  path = length c.path;
+  fragment = length (or_nothing c.fragment);
+  pairs = length (pairs_of c.query);
+  bytes = length (component_bytes c);
+}
+
+-- both lists are at the fronts of their rooms, or one of them doesn't fit and both rooms are as they were
+abbrev pub PutsBoth : List ℕ → List ℕ → List ℕ → List ℕ → List ℕ → List ℕ → ℕ → Type 0
+PutsBoth bytes lengths old_room new_room old_lengths new_lengths code =
+    MatchBool (nat_lt (length old_room) (length bytes) || nat_lt (length old_lengths) (length lengths))
+    ((code ≡ no_room) × (new_room ≡ old_room) × (new_lengths ≡ old_lengths))
+    ((code ≡ ok) × (new_room ≡ bytes ++ drop (length bytes) old_room) × (new_lengths ≡ lengths ++ drop (length lengths) old_lengths))
+
+-- the components of the location are reported
+abbrev pub ReportsComponents : Location → ComponentNumbers → List ℕ → List ℕ → List ℕ → List ℕ → ℕ → Type 0
+ReportsComponents v reported old_room new_room old_lengths new_lengths code =
+    (c : Components) × ComponentsOf v c × (reported ≡ component_numbers c)
+    × PutsBoth (component_bytes c) (pair_lengths (pairs_of c.query)) old_room new_room old_lengths new_lengths code
