@@ -220,19 +220,16 @@ def orders(cases):
             text, refused = {"text": text_of(it.url)}, {"refused": True} if isinstance(it.used, str) else None
             config = {"config": text_of(listed(it.entries)), "section": "http", "name": text_of(it.entries[0].name)}
             yield {"call": "entries::best_entry", **config, **text}, refused or (it.used and text_of(it.used))
-            yield from pattern_orders([one.place for one in it.entries], [one.value for one in it.entries], text, it.used, refused)
+            yield from pattern_orders([one.place for one in it.entries], text, it.used, refused)
     yield from normal_orders({it.url for it in cases})
 
 
-def pattern_orders(places, values, text, value, refused):
-    """The calls for one entry, whether it applies, and for two whose URLs are patterns, which of them is used."""
-    if None in places:
-        return
-    if len(places) == 1:
-        yield {"call": "UrlPattern::matches", "pattern": text_of(places[0]), **text}, refused or value is not None
-    if len(places) == 2 and not any(isinstance(normal(it, with_any=True), str) for it in places):
-        index = refused or (None if value is None else values.index(value))
-        yield {"call": "pattern::best", "pattern": text_of(places[0]), "other": text_of(places[1]), **text}, index
+def pattern_orders(places, text, value, refused):
+    """The calls for one entry: whether it applies, and which is used."""
+    if len(places) == 1 and places[0] is not None:
+        pattern = {"pattern": text_of(places[0]), **text}
+        yield {"call": "UrlPattern::matches", **pattern}, refused or value is not None
+        yield {"call": "pattern::best", **pattern}, refused or (None if value is None else 0)
 
 
 def normal_orders(texts):

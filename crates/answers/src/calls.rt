@@ -626,12 +626,12 @@ fn over_two_schemes(
 fn over_path(alloc: Global, order: Order<'_>, out: &mut Out) -> Result<(), Halt> {
     let path = BString::new(order.bytes(alloc, "path")?);
     let user = build::user(alloc, order, "user")?;
-    let before = user.as_ref().map(hashed);
+    let before = user.as_ref().map(hash_of);
     let outcome = match order.call() {
         "expand_path::for_shell" => report_owned(out, expand_path::for_shell(alloc, path)),
         _ => over_home(alloc, order, &user, &path, out),
     };
-    let is_changed = user.as_ref().map(hashed) != before;
+    let is_changed = user.as_ref().map(hash_of) != before;
     drop(user);
     if is_changed {
         Err(Halt::Changed)

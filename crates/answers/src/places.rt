@@ -61,7 +61,7 @@ fn is_pattern(pattern: UrlPattern<'_>) -> bool {
     true
 }
 
-/// Calls over a place and a pattern, and over another pattern beside it; a text that has no normal form is reported.
+/// Calls over a place and a pattern; a text that has no normal form is reported.
 fn over_place(
     alloc: Global,
     order: Order<'_>,
@@ -74,7 +74,7 @@ fn over_place(
         Err(error) => refused(order, error, out),
         Ok(place) => {
             let pattern = UrlPattern::parse_in(text.as_slice(), &mut room);
-            let outcome = over_pattern(alloc, order, &place, pattern, out);
+            let outcome = over_pattern(order, &place, pattern, out);
             drop(place);
             outcome
         }
@@ -94,56 +94,20 @@ fn refused(order: Order<'_>, error: NormalError, out: &mut Out) -> Result<(), Ha
 
 /// Calls over a place and a pattern; a text that isn't a pattern matches nothing.
 fn over_pattern(
-    alloc: Global,
     order: Order<'_>,
     place: &NormalUrl<'_>,
     pattern: Result<UrlPattern<'_>, NormalError>,
     out: &mut Out,
 ) -> Result<(), Halt> {
-    match (order.name(), pattern) {
-        ("pattern::best", Ok(pattern)) => over_patterns(alloc, order, place, pattern, out),
-        (_, Ok(pattern)) => {
+    let (is_match, found) = match pattern {
+        Ok(pattern) => {
             let is_match = pattern.matches(place);
-            drop(pattern);
-            match_of(order, is_match, out)
+            (is_match, best(&[pattern], place))
         }
-        (_, Err(_)) => match_of(order, false, out),
-    }
-}
-
-/// Reports whether a pattern matches, where a call is made.
-fn match_of(order: Order<'_>, is_match: bool, out: &mut Out) -> Result<(), Halt> {
+        Err(_) => (false, None),
+    };
     match order.call() {
         "UrlPattern::matches" => report_lent(out, &is_match),
-        call => unknown(call),
-    }
-}
-
-/// Reports the index of the best of two patterns.
-fn over_patterns(
-    alloc: Global,
-    order: Order<'_>,
-    place: &NormalUrl<'_>,
-    pattern: UrlPattern<'_>,
-    out: &mut Out,
-) -> Result<(), Halt> {
-    let text = order.bytes(alloc, "other")?;
-    let mut room = room_for(alloc, order, text.len())?;
-    let outcome = match UrlPattern::parse_in(text.as_slice(), &mut room) {
-        Err(error) => refused(order, error, out),
-        Ok(other) => {
-            let found = best(&[pattern, other], place);
-            best_of(order, found, out)
-        }
-    };
-    drop(room);
-    drop(text);
-    outcome
-}
-
-/// Reports the index of the best of patterns, where a call is made.
-fn best_of(order: Order<'_>, found: Option<usize>, out: &mut Out) -> Result<(), Halt> {
-    match order.call() {
         "pattern::best" => report_lent(out, &found),
         call => unknown(call),
     }

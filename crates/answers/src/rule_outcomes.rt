@@ -69,11 +69,13 @@ fn report_list<T: Report>(out: &mut Out, items: &[T]) -> io::Result<()> {
 /// Reports what a reader gives in turn, as a list.
 pub fn report_items(out: &mut Out, reader: Reader<'_>) -> io::Result<()> {
     out.write_all(b"[")?;
-    let mut before = "";
+    let mut is_first = true;
     for item in reader {
-        write!(out, "{before}")?;
+        if !is_first {
+            out.write_all(b",")?;
+        }
+        is_first = false;
         item.report(out)?;
-        before = ",";
     }
     out.write_all(b"]")
 }

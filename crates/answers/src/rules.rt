@@ -125,16 +125,31 @@ fn over_protocols(
 ) -> Result<(), Halt> {
     let allow_list = order.some_bytes(alloc, "allow_list")?;
     let from_user = order.some_bytes(alloc, "from_user")?;
-    let protocols = Protocols {
-        entries,
-        allow_list: allow_list.as_deref(),
-        from_user: from_user.as_deref(),
-    };
-    let outcome = permit(order, &protocols, out);
-    drop(protocols);
+    let outcome = permit_by(order, &*entries, &allow_list, &from_user, out);
     drop(allow_list);
     drop(from_user);
     outcome
+}
+
+/// Reports what Git does about a transport by these entries and variables.
+fn permit_by<'a>(
+    order: Order<'_>,
+    entries: &'a [Entry<'a>],
+    allow_list: &'a Option<Vec<u8>>,
+    from_user: &'a Option<Vec<u8>>,
+    out: &mut Out,
+) -> Result<(), Halt> {
+    let protocols = Protocols {
+        entries,
+        allow_list: bytes_of(allow_list),
+        from_user: bytes_of(from_user),
+    };
+    permit(order, &protocols, out)
+}
+
+/// The bytes of a variable, if it is set.
+fn bytes_of(value: &Option<Vec<u8>>) -> Option<&[u8]> {
+    value.as_ref().map(|bytes| bytes.as_slice())
 }
 
 /// Reports what Git does about a transport: by the name of that alone, or with what decides it.
