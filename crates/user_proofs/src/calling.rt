@@ -1,22 +1,22 @@
 //! What users prove by the contracts of the library alone: the callers of `docs/CALLING.md`.
 
-ghost use Rattle.std.specs.Prelude.{◌≡◌, IfErr, IfOk, IfSome, IsSome, Some, false, string_bytes, true};
-ghost use Rattle.bstr.specs.BStr.{bstr_bytes};
+ghost use Rattle.std.specs.Prelude.{◌≡◌, IfErr, IfOk, IfSome, IsSome, Some, string_bytes, true};
 ghost use Rattle.bstr.specs.Owned.{bstring_bytes};
 ghost use Rattle.gix_url.specs.declared.error.Error.TheVariants as error;
-ghost use Rattle.gix_url.specs.Arguments.{is_option_like};
 ghost use Rattle.gix_url.specs.GitClass.{ReadsOwn};
 ghost use Rattle.gix_url.specs.Grammar.{Spells};
 ghost use Rattle.gix_url.specs.Readings.{IsAgain, Refuses};
 ghost use Rattle.gix_url.specs.Settled.{IsSettled};
 ghost use Rattle.gix_url.specs.Text as spec;
 ghost use Rattle.gix_url.specs.Location.{Location, fields};
-ghost use Rattle.gix_url.specs.Location.Scheme.{ssh};
 
 use crate::boxes::{boxed, read};
-use bstr::{BStr, BString};
+use crate::commands::words_to_fetch;
+use crate::credentials::credential_for;
+use bstr::BString;
+use git_rules::config;
 use gix_url::laws::{law_git, law_separation, law_value};
-use gix_url::{Error, Scheme, Url};
+use gix_url::{Error, Url};
 use std::alloc::Global;
 use std::process::Abort;
 use std::test::Fail;
@@ -60,22 +60,6 @@ fn are_alike(alloc: Global, one: &Url, other: &Url) -> Result<bool, Error>
     let text = one.to_bstring(alloc)?;
     let other_text = other.to_bstring(alloc)?;
     Ok(text.as_bytes() == other_text.as_bytes())
-}
-
-/// Host and path for a command of Secure Shell, if that is how the location is reached: they are those of the location,
-/// and neither can be taken for an option.
-fn ssh_arguments(url: &Url) -> Option<(&str, BStr<'_>)>
-    ensures chosen { IsSome result → url.now.scheme ≡ ssh }
-    ensures own { IfSome result (λ a. (url.now.host ≡ Some a.0.now) × (bstr_bytes a.1 ≡ url.now.path)) }
-    ensures safe { IfSome result (λ a. (is_option_like a.0.now ≡ false) × (is_option_like (bstr_bytes a.1) ≡ false)) }
-{
-    match &url.scheme {
-        Scheme::Ssh => {}
-        _ => return None,
-    }
-    let host = url.host_argument_safe()?;
-    let path = url.path_argument_safe()?;
-    Some((host, path))
 }
 
 /// What the text of a location is read as, if the location is settled: its public fields and its text are those of
@@ -227,36 +211,47 @@ fn texts_for_git(rt: HostRuntime) -> Result<(), Fail> {
     Ok(())
 }
 
-/// Texts, and host and path for a command of Secure Shell, where both are usable.
-static COMMANDS: [(&str, Option<(&str, &str)>); 4] = [
-    ("ssh://git@h/p", Some(("h", "/p"))),
-    ("ssh://-h/p", None),
-    ("ssh://h/-p", None),
-    ("https://h/p", None),
-];
-
-/// Checks host and path for a command.
-fn are_arguments(
-    rt: &impl Abort,
-    text: &str,
-    arguments: Option<(&str, BStr<'_>)>,
-    want: Option<(&str, &str)>,
-) {
-    let is_same = match (arguments, want) {
-        (None, None) => true,
-        (Some((host, path)), Some(want)) => host == want.0 && path.as_bytes() == want.1.as_bytes(),
-        _ => false,
-    };
-    assert!(rt; is_same, "a command with {text}");
+/// Checks the last two words of a command that fetches: the destination and the remote command.
+fn ends_in(rt: &impl Abort, mut words: Vec<BString>, destination: &[u8], remote: &[u8]) {
+    let last = words.pop();
+    let before = words.pop();
+    assert!(rt; last.is_some_and(|it| it.as_bytes() == remote));
+    assert!(rt; before.is_some_and(|it| it.as_bytes() == destination));
 }
 
 #[test]
-fn commands_get_no_option(rt: HostRuntime) -> Result<(), Fail> {
-    for &(text, want) in COMMANDS.as_slice() {
-        let url = read(rt.alloc(), text)?;
-        are_arguments(&rt, text, ssh_arguments(&url), want);
-    }
+fn user_and_path_come_through(rt: HostRuntime) -> Result<(), Fail> {
+    let url = read(rt.alloc(), "git@github.com:a/b.git")?;
+    let words = words_to_fetch(rt.alloc(), &url)?;
+    ends_in(&rt, words, b"git@github.com", b"git-upload-pack 'a/b.git'");
+    let url = read(rt.alloc(), "ssh://-h/p")?;
+    assert!(rt; words_to_fetch(rt.alloc(), &url).is_err());
     Ok(())
+}
+
+/// A configuration with credentials: for a place, for all names of a domain, and for all places.
+static CREDENTIALS: &[u8] =
+    b"http.https://h/a.extraheader\na\0http.https://*.h.extraheader\nb\0http.extraheader\nc\0";
+
+/// Checks the credential that is picked for a text's location.
+fn picks(rt: &impl Abort, alloc: Global, text: &str, want: Option<&[u8]>) -> Result<(), Fail> {
+    let (mut room, mut other) = ([0u8; 256], [0u8; 256]);
+    let entries = config::entries(alloc, CREDENTIALS)?;
+    let url = read(alloc, text)?;
+    let picked = match credential_for(&url, &entries, &mut room, &mut other) {
+        None => None,
+        Some(entry) => entry.value,
+    };
+    assert!(rt; picked == want, "the credential for {text}");
+    Ok(())
+}
+
+#[test]
+fn credentials_go_to_their_place(rt: HostRuntime) -> Result<(), Fail> {
+    picks(&rt, rt.alloc(), "https://h/a/b", Some(b"a"))?;
+    picks(&rt, rt.alloc(), "https://g.h/", Some(b"b"))?;
+    picks(&rt, rt.alloc(), "https://h/b", None)?;
+    picks(&rt, rt.alloc(), "ssh://h/a", None)
 }
 
 /// Checks what was read back.

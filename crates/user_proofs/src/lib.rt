@@ -1,4 +1,4 @@
-//! What users of `gix_url` prove by its contracts alone, and the examples of its documents.
+//! What users of `gix_url` and `git_rules` prove by their contracts alone, and the examples of the documents.
 #![tactic(auto)]
 
 #[cfg(test)]
@@ -7,8 +7,10 @@ mod boxes;
 mod calling;
 #[cfg(test)]
 mod changing;
+pub mod commands;
 #[cfg(test)]
 mod components;
+pub mod credentials;
 #[cfg(test)]
 mod reading;
 #[cfg(test)]

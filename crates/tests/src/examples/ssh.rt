@@ -1,4 +1,4 @@
-//! Commands of Secure Shell: the example of docs/CALLING.md, and those of the module `ssh` of `git_rules`.
+//! Commands of Secure Shell: the examples of the module `ssh` of `git_rules`.
 
 use bstr::BString;
 use git_location::url_ref::UrlRef;
@@ -9,17 +9,11 @@ use gix_url::Url;
 use std::alloc::{AllocError, Global};
 use std::test::Fail;
 
-/// The words behind `ssh` with which Git fetches from a location, or why there are none.
-fn words_to_fetch(alloc: Global, url: &Url) -> Result<Vec<BString>, SshError> {
-    let (service, variant) = (Service::UploadPack, SshVariant::Ssh);
-    ssh_words(alloc, &url.as_ref(), service, variant, ProtocolVersion::V2)
-}
-
 /// The words of a text's location, each in brackets; the error in words where there are none.
 fn shown(alloc: Global, text: &str) -> Result<String, Fail> {
     let url = Url::from_text(alloc, text)?;
     let mut out = String::new(alloc);
-    match words_to_fetch(alloc, &url) {
+    match fetch_words(alloc, &url.as_ref()) {
         Err(error) => out.push_str(&format!(in alloc; "{error}")?)?,
         Ok(words) => {
             for it in words.as_slice() {

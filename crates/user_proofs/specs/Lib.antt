@@ -1,0 +1,3 @@
+-- What a user reads.
+pub mod Commands
+pub mod Credentials

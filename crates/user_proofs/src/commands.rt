@@ -1,0 +1,21 @@
+//! The words of a command of Secure Shell: what a program that runs it proves by the contracts of `git_rules` alone.
+
+ghost use Rattle.std.specs.Prelude.{IfErr, IfOk, map};
+ghost use Rattle.bstr.specs.Owned.{bstring_bytes};
+ghost use Rattle.git_rules.specs.SshAnswers.{IsUnmade};
+ghost use Rattle.git_rules.specs.declared.ssh.SshVariant.TheVariants.{Ssh};
+ghost use Rattle.user_proofs.specs.Commands.{FetchesFrom};
+
+use bstr::BString;
+use git_rules::ssh::{ProtocolVersion, Service, SshError, SshVariant, ssh_words};
+use gix_url::Url;
+use std::alloc::Global;
+
+/// The words behind `ssh` with which Git fetches from a location, or why there are none.
+pub fn words_to_fetch(alloc: Global, url: &Url) -> Result<Vec<BString>, SshError>
+    ensures words { IfOk result (λ words. FetchesFrom url.now (map bstring_bytes words.items)) }
+    ensures refused { IfErr result (IsUnmade Ssh url.now) }
+{
+    let (service, variant) = (Service::UploadPack, SshVariant::Ssh);
+    ssh_words(alloc, &url.as_ref(), service, variant, ProtocolVersion::V2)
+}
