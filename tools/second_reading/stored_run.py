@@ -14,7 +14,7 @@ from second_reading.hints import hints
 def answer(number, line):
     v = grammar.spells(line)
     it = {"line": number, "input": shown_line(line), "location": v and told(v), "refusal": refusal_of_line(line) if v is None else None,
-          "hints": hints(line, v)}
+          "hints": hints(line, v), "rules": None}
     return json.dumps(it, separators=(",", ":"), ensure_ascii=False)
 
 

@@ -2,7 +2,7 @@
 //!
 //! `line` finds what of the line may be shown, `location_report` what is reported of a location, `refusal` why a line
 //! is refused,
-//! `hint` what people may have got wrong;
+//! `hint` what people may have got wrong, `rules` what Git does with it by a configuration;
 //! `shown` lays that out for people, `only` one part of it, and with `--json` it goes out as one object. It has no
 //! contract but that it can't abort: the stored run and `scripts/hostile` show its answers.
 
@@ -11,6 +11,7 @@ use crate::line::SeenLine;
 use crate::location_report::{Report, both, fields_of};
 use crate::only::{self, Part};
 use crate::refusal::Refusal;
+use crate::rules::Rules;
 use crate::shown;
 use crate::style::{Layout, Style};
 use bstr::BStr;
@@ -26,7 +27,7 @@ pub struct Line<'a> {
     pub number: u64,
     /// The line without its end.
     pub bytes: &'a [u8],
-    pub style: Style,
+    pub style: Style<'a>,
 }
 
 /// What is answered to a line: a location or why there is none.
@@ -42,6 +43,17 @@ struct Answer<'b, 'a: 'b> {
     refusal: Option<&'b Refusal>,
     /// What may be wrong with the line.
     hints: &'b [Hint],
+    /// What Git does with it by the configuration, if one is given.
+    rules: Option<&'b Rules>,
+}
+
+/// What is reported beside what a line is read as.
+#[derive(Clone, Copy)]
+pub struct Notes<'b> {
+    /// What may be wrong with the line.
+    pub hints: &'b [Hint],
+    /// What Git does with it by the configuration, if one is given.
+    pub rules: Option<&'b Rules>,
 }
 
 impl<'l> Line<'l> {
@@ -64,12 +76,29 @@ impl<'l> Line<'l> {
         let (seen, report) = both(seen, Report::of(alloc, url))?;
         let found = hint::find(alloc, self.bytes, Some(Reading::of(url, &report)));
         let ((seen, report), found) = both((seen, report), found)?;
+        let (((seen, report), found), rules) = both(
+            ((seen, report), found),
+            self.rules(alloc, Some(url)),
+        )?;
         let is_settled = report.settled;
-        let answer = self.laid_out(alloc, url, &report, &seen, found.as_slice());
+        let notes = Notes {
+            hints: found.as_slice(),
+            rules: rules.as_ref(),
+        };
+        let answer = self.laid_out(alloc, url, &report, &seen, notes);
+        drop(rules);
         drop(found);
         drop(report);
         drop(seen);
         Ok((answer?, is_settled))
+    }
+
+    /// What Git does with the line, which is read as this location unless it is refused, by the configuration that is given.
+    fn rules(self, alloc: Global, url: Option<&Url>) -> Result<Option<Rules>, AllocError> {
+        match self.style.config {
+            None => Ok(None),
+            Some(config) => Ok(Some(Rules::of(alloc, config, self.bytes, url)?)),
+        }
     }
 
     /// The answer to a line that is read as a location.
@@ -79,7 +108,7 @@ impl<'l> Line<'l> {
         url: &Url,
         report: &'x Report<'_>,
         seen: &'x SeenLine<'_>,
-        hints: &'x [Hint],
+        notes: Notes<'x>,
     ) -> Result<String, AllocError> {
         match self.style.layout {
             Layout::Json => json(
@@ -89,10 +118,11 @@ impl<'l> Line<'l> {
                     input: seen.text(),
                     location: Some(report),
                     refusal: None,
-                    hints,
+                    hints: notes.hints,
+                    rules: notes.rules,
                 },
             ),
-            _ => shown::location(alloc, self, url, report, seen, hints),
+            _ => shown::location(alloc, self, url, report, seen, notes),
         }
     }
 
@@ -113,7 +143,16 @@ impl<'l> Line<'l> {
         let (seen, refusal) = both(seen, Refusal::of_line(alloc, self.bytes, error))?;
         let found = hint::find(alloc, self.bytes, None);
         let ((seen, refusal), found) = both((seen, refusal), found)?;
-        let answer = self.laid_out_refusal(alloc, &refusal, &seen, found.as_slice());
+        let (((seen, refusal), found), rules) = both(
+            ((seen, refusal), found),
+            self.rules(alloc, None),
+        )?;
+        let notes = Notes {
+            hints: found.as_slice(),
+            rules: rules.as_ref(),
+        };
+        let answer = self.laid_out_refusal(alloc, &refusal, &seen, notes);
+        drop(rules);
         drop(found);
         drop(refusal);
         drop(seen);
@@ -126,7 +165,7 @@ impl<'l> Line<'l> {
         alloc: Global,
         refusal: &'x Refusal,
         seen: &'x SeenLine<'_>,
-        hints: &'x [Hint],
+        notes: Notes<'x>,
     ) -> Result<String, AllocError> {
         match self.style.layout {
             Layout::Json => json(
@@ -136,10 +175,11 @@ impl<'l> Line<'l> {
                     input: seen.text(),
                     location: None,
                     refusal: Some(refusal),
-                    hints,
+                    hints: notes.hints,
+                    rules: notes.rules,
                 },
             ),
-            _ => shown::refusal(alloc, self, refusal, seen, hints),
+            _ => shown::refusal(alloc, self, refusal, seen, notes),
         }
     }
 }

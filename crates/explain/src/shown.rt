@@ -4,7 +4,7 @@
 //! to a terminal. It uses what `location_report`, `danger`, `refusal` and `hint` found, and has no contract:
 //! `scripts/hostile golden` shows its answers.
 
-use crate::answer::Line;
+use crate::answer::{Line, Notes};
 use crate::curl::Curl;
 use crate::danger::dangers;
 use crate::git_report::{HANDED, is_of_web};
@@ -14,6 +14,7 @@ use crate::location_report::Report;
 use crate::paint::{self, Colors};
 use crate::path::{Components, Field, Home};
 use crate::refusal::Refusal;
+use crate::rule_rows;
 use crate::split::Cut;
 use gix_url::Url;
 use std::alloc::{AllocError, Global};
@@ -26,7 +27,7 @@ pub fn location(
     url: &Url,
     report: &Report<'_>,
     seen: &SeenLine<'_>,
-    found: &[Hint],
+    notes: Notes<'_>,
 ) -> Result<String, AllocError> {
     let mut out = String::new(alloc);
     heading(&mut out, line.number, url, report)?;
@@ -37,7 +38,7 @@ pub fn location(
     parts(&mut out, url, report)?;
     components(&mut out, &report.components)?;
     on_files(&mut out, report)?;
-    hints(&mut out, found)?;
+    noted(alloc, &mut out, notes)?;
     Ok(out)
 }
 
@@ -92,14 +93,14 @@ pub fn refusal(
     line: Line<'_>,
     refusal: &Refusal,
     seen: &SeenLine<'_>,
-    found: &[Hint],
+    notes: Notes<'_>,
 ) -> Result<String, AllocError> {
     let mut out = String::new(alloc);
     writeln!(out, "line {}: refused: {}", line.number, refusal.words)?;
     if let Some(cut) = &seen.cut {
         refused_line(&mut out, cut, refusal, line.style.colors)?;
     }
-    hints(&mut out, found)?;
+    noted(alloc, &mut out, notes)?;
     Ok(out)
 }
 
@@ -116,6 +117,14 @@ fn refused_line(
     }
 }
 
+/// The rows of the rules, where a configuration is given, and of the hints.
+fn noted(alloc: Global, out: &mut String, notes: Notes<'_>) -> Result<(), AllocError> {
+    if let Some(rules) = notes.rules {
+        rule_rows::rows(alloc, out, rules)?;
+    }
+    hints(out, notes.hints)
+}
+
 /// The rows of the hints.
 fn hints(out: &mut String, found: &[Hint]) -> Result<(), AllocError> {
     for hint in found {
@@ -125,7 +134,7 @@ fn hints(out: &mut String, found: &[Hint]) -> Result<(), AllocError> {
 }
 
 /// A row: a name, and what it is.
-fn row<D: Display + Drop>(out: &mut String, name: &str, what: D) -> Result<(), AllocError> {
+pub fn row<D: Display + Drop>(out: &mut String, name: &str, what: D) -> Result<(), AllocError> {
     writeln!(out, "    {name:<12}{what}")
 }
 
@@ -170,7 +179,7 @@ fn paths(out: &mut String, url: &Url) -> Result<(), AllocError> {
 }
 
 /// What Git reads in the text of the location, in words.
-fn reading_of_git<'b>(url: &Url, report: &'b Report<'_>) -> &'b str {
+pub fn reading_of_git<'b>(url: &Url, report: &'b Report<'_>) -> &'b str {
     match &report.git_reads {
         _ if report.agrees_with_git && is_of_web(url) => "and curl read the same in its text",
         _ if report.agrees_with_git => "reads the same in its text",

@@ -1,0 +1,124 @@
+//! The rows for people of what Git does with a line by a configuration.
+//!
+//! It uses what `rules` found, and has no contract: `scripts/hostile rules` shows its answers.
+
+use crate::line::Quoted;
+use crate::rules::{Route, Rules};
+use crate::setting::Setting;
+use crate::shown::row;
+use crate::transports::{Transport, Verdict};
+use std::alloc::{AllocError, Global};
+use std::fmt::Write;
+
+/// The rows of the rules.
+pub fn rows(alloc: Global, out: &mut String, rules: &Rules) -> Result<(), AllocError> {
+    route(out, "fetches", &rules.fetch)?;
+    route(out, "pushes", &rules.push)?;
+    settings(alloc, out, "credential", &rules.credential)?;
+    settings(alloc, out, "http", &rules.http)?;
+    transports(alloc, out, rules)
+}
+
+/// The row of where Git goes, with a warning where that is another host than the line's.
+fn route(out: &mut String, name: &str, route: &Route) -> Result<(), AllocError> {
+    let warning = match route.same_host {
+        Some(false) => ", on another host than the line's",
+        _ => "",
+    };
+    match &route.text {
+        None => row(out, name, format_args!("a text that is not shown{warning}")),
+        Some(text) => {
+            let text = Quoted(text.as_str().as_bytes());
+            row(out, name, format_args!("{text}{warning}"))
+        }
+    }
+}
+
+/// The rows of entries.
+fn settings(
+    alloc: Global,
+    out: &mut String,
+    name: &str,
+    found: &[Setting],
+) -> Result<(), AllocError> {
+    for setting in found {
+        let mut words = String::new(alloc);
+        push_entry(&mut words, setting)?;
+        let written = row(out, name, words.as_str());
+        drop(words);
+        written?;
+    }
+    Ok(())
+}
+
+/// Appends an entry in words.
+fn push_entry(out: &mut String, setting: &Setting) -> Result<(), AllocError> {
+    let key = Quoted(setting.key.as_str().as_bytes());
+    match &setting.value {
+        None => write!(out, "{key} has no value"),
+        Some(value) => {
+            let value = Quoted(value.as_str().as_bytes());
+            write!(out, "{key} is {value}")
+        }
+    }
+}
+
+/// The rows of the transports: one where fetching and pushing take the same.
+fn transports(alloc: Global, out: &mut String, rules: &Rules) -> Result<(), AllocError> {
+    let (fetch, push) = (&rules.fetch.transport, &rules.push.transport);
+    if let Some(transport) = fetch {
+        written(alloc, out, transport, "")?;
+    }
+    match push {
+        Some(transport) if !is_same(fetch, transport) => {
+            written(alloc, out, transport, " for pushing")
+        }
+        _ => Ok(()),
+    }
+}
+
+/// Whether both are the same transport, of which then the same holds.
+fn is_same(fetch: &Option<Transport>, push: &Transport) -> bool {
+    match fetch {
+        None => false,
+        Some(fetch) => fetch.name.as_str() == push.name.as_str(),
+    }
+}
+
+/// The row of a transport: its name, what it is for, and whether Git uses it, by what.
+fn written(
+    alloc: Global,
+    out: &mut String,
+    transport: &Transport,
+    what_for: &str,
+) -> Result<(), AllocError> {
+    let reason = reason_of(alloc, transport)?;
+    let (name, words) = (transport.name.as_str(), reason.as_str());
+    let verdict = match transport.permission {
+        Verdict::Allowed => "is allowed",
+        Verdict::Refused => "is refused",
+        Verdict::UnknownAllowance | Verdict::UnknownFromUser => "is not used, as Git stops",
+    };
+    let done = row(
+        out,
+        "transport",
+        format_args!("{name}{what_for} {verdict}{words}"),
+    );
+    drop(reason);
+    done
+}
+
+/// What decides on a transport, in words.
+fn reason_of(alloc: Global, transport: &Transport) -> Result<String, AllocError> {
+    let mut words = String::new(alloc);
+    match (transport.variable, &transport.entry) {
+        (None, None) => words.push_str(" by default")?,
+        (Some(variable), _) => write!(words, " by {variable}")?,
+        (None, Some(_)) => {}
+    }
+    if let Some(entry) = &transport.entry {
+        words.push_str(": ")?;
+        push_entry(&mut words, entry)?;
+    }
+    Ok(words)
+}

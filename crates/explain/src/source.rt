@@ -1,0 +1,79 @@
+//! Where the configuration comes from: the file that `--config` names, or standard input, and two variables.
+//!
+//! It has no contract but that it can't abort: `scripts/hostile rules` shows what is read, and what isn't.
+
+use std::alloc::AllocError;
+use std::env::{self, VarError};
+use std::io::{self, Read};
+use std::{fmt, fs};
+
+/// The configuration of a run, and the variables that Git looks at.
+#[derive(Drop)]
+pub struct Source {
+    /// What `git config --list -z` wrote.
+    pub text: Vec<u8>,
+    /// `GIT_ALLOW_PROTOCOL`, if it is set.
+    pub allow_list: Option<String>,
+    /// `GIT_PROTOCOL_FROM_USER`, if it is set.
+    pub from_user: Option<String>,
+}
+
+/// Why there is no configuration.
+#[derive(Drop)]
+pub enum SourceError {
+    Memory,
+    /// The file can't be read.
+    Unread(io::Error),
+    /// A variable isn't UTF-8.
+    NotUtf8(&'static str),
+}
+
+impl From<AllocError> for SourceError {
+    fn from(_: AllocError) -> SourceError {
+        SourceError::Memory
+    }
+}
+
+impl fmt::Display for SourceError {
+    fn fmt<W: fmt::Write>(&self, f: &mut fmt::Formatter<W>) -> fmt::Result {
+        match self {
+            SourceError::Memory => f.write_str("out of memory"),
+            SourceError::Unread(error) => write!(f, "{error}"),
+            SourceError::NotUtf8(name) => write!(f, "{name} is not UTF-8"),
+        }
+    }
+}
+
+impl Source {
+    /// The configuration in a file; `-` is standard input.
+    pub fn read(rt: &HostRuntime, file: &str) -> Result<Source, SourceError> {
+        let allow_list = variable(rt, "GIT_ALLOW_PROTOCOL")?;
+        let from_user = variable(rt, "GIT_PROTOCOL_FROM_USER")?;
+        let text = text_of(rt, file).map_err(SourceError::Unread)?;
+        Ok(Source {
+            text,
+            allow_list,
+            from_user,
+        })
+    }
+}
+
+/// The bytes of a file; `-` is standard input.
+fn text_of(rt: &HostRuntime, file: &str) -> io::Result<Vec<u8>> {
+    if file != "-" {
+        return fs::read(rt, file);
+    }
+    let mut text = Vec::new(rt.alloc());
+    rt.reader().read_to_end(&mut text)?;
+    Ok(text)
+}
+
+/// The value of a variable of the environment, if it is set.
+fn variable(rt: &HostRuntime, name: &'static str) -> Result<Option<String>, SourceError> {
+    match env::var(rt, name) {
+        Ok(value) => Ok(Some(value)),
+        Err(VarError::NotPresent) => Ok(None),
+        Err(VarError::NotUnicode) => Err(SourceError::NotUtf8(name)),
+        Err(VarError::OutOfMemory) => Err(SourceError::Memory),
+    }
+}
