@@ -11,36 +11,70 @@ use std::fmt::Write;
 /// A user of HTTP without a password that is at least as long may be a token.
 const TOKEN: usize = 20;
 
+/// What may be dangerous in a location.
+#[derive(Clone, Copy)]
+pub enum Danger {
+    /// Git runs the path.
+    Command,
+    /// The user begins with `-`.
+    User,
+    /// The host begins with `-`.
+    Host,
+    /// The path begins with `-`, also behind a `/`.
+    Path,
+    Password,
+    /// The user may be a token.
+    Token,
+}
+
+impl Danger {
+    /// All dangers, in the order in which they are reported.
+    pub const ALL: [Danger; 6] = [
+        Danger::Command,
+        Danger::User,
+        Danger::Host,
+        Danger::Path,
+        Danger::Password,
+        Danger::Token,
+    ];
+
+    /// The danger in words.
+    fn words(self) -> &'static str {
+        match self {
+            Danger::Command => "it runs a command",
+            Danger::User => "the user begins with -",
+            Danger::Host => "the host begins with -",
+            Danger::Path => "the path begins with - or /-",
+            Danger::Password => "it holds a password",
+            Danger::Token => "the user may be a token",
+        }
+    }
+
+    /// Whether the location has this danger.
+    pub fn is_in(self, url: &Url, report: &Report<'_>) -> bool {
+        let Arguments { user, host, path } = report.arguments;
+        match self {
+            Danger::Command => matches!(&url.scheme, Scheme::Ext),
+            Danger::User => is_dangerous(user),
+            Danger::Host => is_dangerous(host),
+            Danger::Path => is_option_path(url, path),
+            Danger::Password => report.password.is_some(),
+            Danger::Token => may_be_token(url),
+        }
+    }
+}
+
 /// Appends the dangers of a location, behind a word that says what they are.
 pub fn dangers(out: &mut String, url: &Url, report: &Report<'_>) -> Result<(), AllocError> {
-    let Arguments { user, host, path } = report.arguments;
-    let found = [
-        (runs_command(url), "it runs a command"),
-        (is_dangerous(user), "the user begins with -"),
-        (is_dangerous(host), "the host begins with -"),
-        (is_option_path(url, path), "the path begins with - or /-"),
-        (report.password.is_some(), "it holds a password"),
-        (may_be_token(url), "the user may be a token"),
-    ];
-    let mut is_first = true;
-    for (is_there, words) in found.as_slice() {
-        if *is_there {
-            danger(out, is_first, words)?;
-            is_first = false;
+    let mut before = "; danger: ";
+    for danger in Danger::ALL.as_slice() {
+        if danger.is_in(url, report) {
+            let words = danger.words();
+            write!(out, "{before}{words}")?;
+            before = ", ";
         }
     }
     Ok(())
-}
-
-/// Appends a danger.
-fn danger(out: &mut String, is_first: bool, words: &str) -> Result<(), AllocError> {
-    let before = if is_first { "; danger: " } else { ", " };
-    write!(out, "{before}{words}")
-}
-
-/// Whether Git runs the path as a command.
-fn runs_command(url: &Url) -> bool {
-    matches!(&url.scheme, Scheme::Ext)
 }
 
 /// Whether a part begins with `-`.

@@ -57,7 +57,7 @@ impl Reread {
                 Ok(Some(another?))
             }
             Err(error) => {
-                let refused = Reread::refused(alloc, &error);
+                let refused = Reread::reread_of_error(alloc, &error);
                 drop(error);
                 Ok(Some(refused?))
             }

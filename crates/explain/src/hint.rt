@@ -110,6 +110,28 @@ impl Hint {
         Hint::Quotes,
     ];
 
+    /// Its name, as programs are given it.
+    pub fn name(self) -> &'static str {
+        match self {
+            Hint::ColonForSlash => "colon_for_slash",
+            Hint::NoScheme => "no_scheme",
+            Hint::WindowsPath => "windows_path",
+            Hint::CapitalScheme => "capital_scheme",
+            Hint::CarriageReturn => "carriage_return",
+            Hint::ByteOrderMark => "byte_order_mark",
+            Hint::OuterBlank => "outer_blank",
+            Hint::RunsCommand => "runs_command",
+            Hint::HomeHere => "home_here",
+            Hint::HomeThere => "home_there",
+            Hint::StoredPassword => "stored_password",
+            Hint::Unencrypted => "unencrypted",
+            Hint::PastedCommand => "pasted_command",
+            Hint::WebPage => "web_page",
+            Hint::SlashForColon => "slash_for_colon",
+            Hint::Quotes => "quotes",
+        }
+    }
+
     /// The hint in words, which hold no byte of the line.
     pub fn sentence(self) -> &'static str {
         match self {

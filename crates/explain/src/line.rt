@@ -244,18 +244,14 @@ fn between(text: &[u8], from: usize, to: usize) -> &[u8] {
 
 /// The text before a place and from there on. A place inside a character means its beginning, one past the end the end.
 pub fn halves(text: &[u8], place: usize) -> (&[u8], &[u8]) {
-    let mut at = place.min(text.len());
-    for _step in 0..3 {
-        if 0 < at && is_continued(text, at) {
-            at -= 1;
+    let mut at = 0usize;
+    for (_from, to, _character) in text.char_indices() {
+        if place < to {
+            break;
         }
+        at = to;
     }
     text.split_at(at.min(text.len()))
-}
-
-/// Whether the byte at the place continues a character.
-fn is_continued(text: &[u8], at: usize) -> bool {
-    matches!(text.get(at), Some(0x80..0xC0))
 }
 
 /// Whether the piece stands for a secret.

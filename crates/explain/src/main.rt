@@ -1,14 +1,19 @@
 //! The program `explain`: reports to a person, or to another program, what texts mean as Git locations.
 //!
-//! It uses the public calls of `gix_url` alone. `options` reads the command line, `answer` finds the answer to a line and
-//! `style` says how it is laid out; here the lines are read and the answers are written, each as soon as its line is read.
+//! It uses the public calls of `gix_url` and `git_rules` alone. `options` reads the command line, `source` a configuration,
+//! `answer` finds the answer to a line and `style` says how it is laid out; here the lines are read and the answers are
+//! written, each as soon as its line is read, except for a page, which `page` collects.
 //! The status is 0 where every line is settled, 1 where one is not, and 2 where the run was cut short, a file can't be
 //! opened or the options are wrong.
 #![tactic(auto)]
 
 mod answer;
+mod article;
+mod config;
+mod counts;
 mod credential;
 mod curl;
+mod cuts;
 mod danger;
 mod difference;
 mod git;
@@ -16,37 +21,136 @@ mod git_report;
 mod hint;
 mod line;
 mod location_report;
+mod markup;
 mod only;
 mod options;
+mod page;
 mod paint;
 mod path;
+mod pieces;
 mod place;
+mod rank;
+mod readers;
 mod refusal;
+mod rule_rows;
+mod rules;
+mod setting;
+mod settings;
 mod shown;
+mod source;
 mod split;
 mod style;
+mod template;
+mod transports;
 mod web;
 
 use answer::Line;
 use clap::ArgMatches;
+use config::{Config, Fault};
+use git_rules::config::entries;
+use git_rules::protocols::Protocols;
 use gix_url::lines::RunError;
 use paint::Colors;
+use source::Source;
 use std::alloc::Global;
 use std::env;
 use std::fs::File;
 use std::io::{BufRead, BufReader, ErrorKind, IsTerminal, Read, Write};
 use std::process::ExitCode;
 use std::rt::Env;
-use style::{Seen, Style};
+use style::{Layout, Seen, Style};
 
 /// Answers what the command line names. Returns the status to end with.
 fn explain(rt: &HostRuntime, given: &ArgMatches<'_>) -> u8 {
     let style = options::style(given, colors_of(rt));
     let mut output = rt.stdout();
-    let mut seen = Seen::NOTHING;
-    let outcome = answer_all(rt, given, &mut output, style, &mut seen);
+    let mut seen = Seen::nothing(rt.alloc());
+    let outcome = match given.get_str("config") {
+        None => answer_all(rt, given, &mut output, style, &mut seen),
+        Some(file) => answer_by_file(rt, given, file, &mut output, style, &mut seen),
+    };
+    let outcome = match outcome {
+        Ok(()) => seen.write_page(style, options::title(given), &mut output),
+        Err(fault) => Err(fault),
+    };
     report(rt, &outcome);
     seen.status(&outcome)
+}
+
+/// Answers what the command line names, by the configuration in a file. Where that can't be read it is reported, and nothing
+/// is answered.
+fn answer_by_file<W: Write>(
+    rt: &HostRuntime,
+    given: &ArgMatches<'_>,
+    file: &str,
+    output: &mut W,
+    style: Style<'_>,
+    seen: &mut Seen,
+) -> Result<(), RunError> {
+    if file == "-" && options::reads_input(given) {
+        let _ = rt.eprintln("explain: --config - needs the lines as arguments or in files");
+        seen.lacks_file = true;
+        return Ok(());
+    }
+    match Source::read(rt, file) {
+        Ok(source) => {
+            let outcome = answer_by_source(rt, given, &source, output, style, seen);
+            drop(source);
+            outcome
+        }
+        Err(error) => {
+            let _ = eprintln!(rt; "explain: cannot read {file}: {error}");
+            drop(error);
+            seen.lacks_file = true;
+            Ok(())
+        }
+    }
+}
+
+/// Answers what the command line names, by a configuration. What isn't understood of it is reported once.
+fn answer_by_source<W: Write>(
+    rt: &HostRuntime,
+    given: &ArgMatches<'_>,
+    source: &Source,
+    output: &mut W,
+    style: Style<'_>,
+    seen: &mut Seen,
+) -> Result<(), RunError> {
+    let entries = entries(rt.alloc(), source.text.as_slice())?;
+    let protocols = Protocols {
+        entries: entries.as_slice(),
+        allow_list: bytes_of(&source.allow_list),
+        from_user: bytes_of(&source.from_user),
+    };
+    let config = Config::of(rt.alloc(), protocols)?;
+    for fault in &config::faults(rt.alloc(), source.text.as_slice())? {
+        report_fault(rt, *fault);
+    }
+    answer_by_config(rt, given, &config, output, style, seen)
+}
+
+/// Answers what the command line names, with what Git does by a configuration.
+fn answer_by_config<W: Write>(
+    rt: &HostRuntime,
+    given: &ArgMatches<'_>,
+    config: &Config<'_>,
+    output: &mut W,
+    style: Style<'_>,
+    seen: &mut Seen,
+) -> Result<(), RunError> {
+    let style = Style {
+        layout: style.layout,
+        colors: style.colors,
+        end: style.end,
+        config: Some(config),
+    };
+    answer_all(rt, given, output, style, seen)
+}
+
+/// Reports on standard error what isn't understood of a configuration.
+fn report_fault(rt: &impl Eprint, fault: Fault) {
+    let Fault { at, words } = fault;
+    let _ = eprintln!(rt; "explain: the entry at byte {at} of the configuration {words}");
 }
 
 /// Whether answers are coloured where the command line leaves it open.
@@ -67,7 +171,7 @@ fn answer_all<W: Write>(
     rt: &HostRuntime,
     given: &ArgMatches<'_>,
     output: &mut W,
-    style: Style,
+    style: Style<'_>,
     seen: &mut Seen,
 ) -> Result<(), RunError> {
     let files = given.get_strs("file").unwrap_or(&[]);
@@ -98,7 +202,7 @@ fn answer_file<W: Write>(
     rt: &HostRuntime,
     file: &str,
     output: &mut W,
-    style: Style,
+    style: Style<'_>,
     seen: &mut Seen,
 ) -> Result<(), RunError> {
     if file == "-" {
@@ -119,7 +223,7 @@ fn answer_reader<R: Read + Drop, W: Write>(
     alloc: Global,
     reader: R,
     output: &mut W,
-    style: Style,
+    style: Style<'_>,
     seen: &mut Seen,
 ) -> Result<(), RunError> {
     match BufReader::new(alloc, reader) {
@@ -135,7 +239,7 @@ fn answer_lines<B: BufRead, W: Write>(
     alloc: Global,
     input: &mut B,
     output: &mut W,
-    style: Style,
+    style: Style<'_>,
     seen: &mut Seen,
 ) -> Result<(), RunError> {
     for _turn in 0..u64::MAX {
@@ -174,7 +278,7 @@ fn answer_line<W: Write>(
     alloc: Global,
     line: &[u8],
     output: &mut W,
-    style: Style,
+    style: Style<'_>,
     seen: &mut Seen,
 ) -> Result<(), RunError> {
     seen.lines = seen.lines.saturating_add(1);
@@ -183,6 +287,11 @@ fn answer_line<W: Write>(
         bytes: line,
         style,
     };
+    if let Layout::Page = style.layout {
+        let is_settled = seen.page.add(line)?;
+        seen.is_settled &= is_settled;
+        return Ok(());
+    }
     let (answer, is_settled) = line.answer(alloc)?;
     seen.is_settled &= is_settled;
     output

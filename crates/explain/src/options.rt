@@ -18,6 +18,9 @@ Examples:
 
 Exit status: 0 if every line is settled, 1 if one is not, 2 for wrong arguments or a run that was cut short.";
 
+/// The title of a page that is given none.
+const TITLE: &str = "Git remotes";
+
 /// The words of the command line, the program's name first.
 pub fn words(rt: &(impl Env + AllocGlobal)) -> io::Result<Vec<String>> {
     Ok(env::args(rt)?.collect(rt.alloc())?)
@@ -32,7 +35,7 @@ pub fn parse_options<'a>(
 }
 
 /// How answers are to be laid out. `auto` decides on colours where the command line leaves that open.
-pub fn style(given: &ArgMatches<'_>, auto: Colors) -> Style {
+pub fn style<'c>(given: &ArgMatches<'_>, auto: Colors) -> Style<'c> {
     Style {
         layout: layout(given),
         colors: match given.get_str("color") {
@@ -41,6 +44,25 @@ pub fn style(given: &ArgMatches<'_>, auto: Colors) -> Style {
             _ => auto,
         },
         end: if given.get_flag("null") { 0 } else { b'\n' },
+        config: None,
+    }
+}
+
+/// Whether standard input is read for lines.
+pub fn reads_input(given: &ArgMatches<'_>) -> bool {
+    let files = given.get_strs("file").unwrap_or(&[]);
+    let texts = given.get_strs("text").unwrap_or(&[]);
+    if files.is_empty() && texts.is_empty() {
+        return true;
+    }
+    files.iter().any(|it| *it == "-") || texts.iter().any(|it| *it == "-")
+}
+
+/// The title of the page.
+pub fn title<'a>(given: &ArgMatches<'a>) -> &'a str {
+    match given.get_str("html") {
+        Some(title) if !title.is_empty() => title,
+        _ => TITLE,
     }
 }
 
@@ -51,6 +73,9 @@ fn layout(given: &ArgMatches<'_>) -> Layout {
     }
     if given.get_flag("quiet") {
         return Layout::Quiet;
+    }
+    if given.contains_id("html") {
+        return Layout::Page;
     }
     match given.get_str("only").and_then(Part::named) {
         Some(part) => Layout::Only(part),
@@ -69,7 +94,9 @@ fn command<'a>(alloc: Global) -> Result<Command<'a>, AllocError> {
         .arg(texts(alloc))?
         .arg(files(alloc))?
         .arg(null(alloc))?
+        .arg(config(alloc)?)?
         .arg(json(alloc)?)?
+        .arg(html(alloc)?)?
         .arg(only(alloc)?)?
         .arg(quiet(alloc))?
         .arg(color(alloc))
@@ -100,11 +127,37 @@ fn null<'a>(alloc: Global) -> Arg<'a> {
         .action(ArgAction::SetTrue)
 }
 
+fn config<'a>(alloc: Global) -> Result<Arg<'a>, AllocError> {
+    Arg::new(alloc, "config")
+        .long("config")
+        .value_name("FILE")
+        .help(
+            "Show what Git does with each line by the output of git config --list -z; - is standard input",
+        )
+        .conflicts_with("only")?
+        .conflicts_with("quiet")
+}
+
 fn json<'a>(alloc: Global) -> Result<Arg<'a>, AllocError> {
     Arg::new(alloc, "json")
         .long("json")
         .help("Print one JSON object a line")
         .action(ArgAction::SetTrue)
+        .conflicts_with("only")?
+        .conflicts_with("quiet")
+}
+
+fn html<'a>(alloc: Global) -> Result<Arg<'a>, AllocError> {
+    Arg::new(alloc, "html")
+        .long("html")
+        .value_name("TITLE")
+        .help(
+            "Print one page in HTML for all lines, with this title: what is directly behind it is one",
+        )
+        .num_args(0..=1)
+        .default_missing_value(TITLE)
+        .conflicts_with("config")?
+        .conflicts_with("json")?
         .conflicts_with("only")?
         .conflicts_with("quiet")
 }

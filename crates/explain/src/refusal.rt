@@ -30,7 +30,7 @@ pub struct Refusal {
 impl Refusal {
     /// The refusal that an error reports.
     pub fn of(alloc: Global, error: &Error) -> Result<Refusal, AllocError> {
-        Ok(Refusal::placed(error, None, error.to_string(alloc)?))
+        Ok(Refusal::with_place(error, None, error.to_string(alloc)?))
     }
 
     /// The refusal of a line, with the place and the words of its fault.
@@ -39,7 +39,7 @@ impl Refusal {
             None => Refusal::of(alloc, error),
             Some(place) => {
                 let words = place.reason.to_string(alloc)?;
-                Ok(Refusal::placed(error, Some(place), words))
+                Ok(Refusal::with_place(error, Some(place), words))
             }
         }
     }

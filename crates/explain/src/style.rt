@@ -1,17 +1,23 @@
 //! How answers are laid out, and what was seen while they were given.
 
+use crate::config::Config;
 use crate::only::Part;
+use crate::page::Page;
 use crate::paint::Colors;
 use gix_url::lines::RunError;
+use std::alloc::Global;
+use std::io::Write;
 
 /// How lines are read and answers laid out.
 #[derive(Clone, Copy)]
-pub struct Style {
+pub struct Style<'c> {
     pub layout: Layout,
     /// Whether answers for people are coloured.
     pub colors: Colors,
     /// The byte that ends a line of the input.
     pub end: u8,
+    /// The configuration by which it is shown what Git does, if one is given.
+    pub config: Option<&'c Config<'c>>,
 }
 
 /// What is printed of a line.
@@ -25,9 +31,11 @@ pub enum Layout {
     Only(Part),
     /// Nothing.
     Quiet,
+    /// A page for all lines together.
+    Page,
 }
 
-impl Style {
+impl Style<'_> {
     /// Whether nothing that follows can change what the run reports.
     pub fn is_over(&self, seen: &Seen) -> bool {
         matches!(self.layout, Layout::Quiet) && !seen.is_settled
@@ -43,15 +51,33 @@ pub struct Seen {
     pub is_settled: bool,
     /// Whether a file could not be opened.
     pub lacks_file: bool,
+    /// The page, where one is asked for.
+    pub page: Page,
 }
 
 impl Seen {
-    /// Nothing yet.
-    pub const NOTHING: Seen = Seen {
-        lines: 0,
-        is_settled: true,
-        lacks_file: false,
-    };
+    /// Nothing yet. It takes no memory.
+    pub fn nothing(alloc: Global) -> Seen {
+        Seen {
+            lines: 0,
+            is_settled: true,
+            lacks_file: false,
+            page: Page::new(alloc),
+        }
+    }
+
+    /// Writes the page with this title, where one is asked for.
+    pub fn write_page<W: Write>(
+        &self,
+        style: Style<'_>,
+        title: &str,
+        output: &mut W,
+    ) -> Result<(), RunError> {
+        match style.layout {
+            Layout::Page => self.page.write(title, output),
+            _ => Ok(()),
+        }
+    }
 
     /// The status to end with: 0 where every line is settled, 1 where one is not, 2 where something could not be read or
     /// written.

@@ -1,0 +1,2 @@
+-- Texts in a page.
+pub mod MarkupLemmas
