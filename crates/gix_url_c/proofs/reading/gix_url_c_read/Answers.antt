@@ -7,5 +7,5 @@ pub returns-in-Ok-clause-reported : goal.returns-in-Ok-clause-reported
 returns-in-Ok-clause-reported c = (
   Ok c.in-Ok.url,
   read_near c.args.input.now 256 c.in-Ok.url c.in-Ok.ensures,
-  c.hand_out.ensures.reported,
+  c.put_location.ensures.reported,
 )

@@ -5,7 +5,7 @@ use Rattle.bstr.specs.Owned.{bstring_bytes}
 use Rattle.gix_url.specs.Homes.{SplitsHome}
 use Rattle.gix_url.specs.HomeReadings.{user_of}
 use Rattle.call_bench.specs.Answers.{IsExpansionLength}
-use Rattle.call_bench.proofs.expanded.Goals as goal
+use Rattle.call_bench.proofs.expand.Goals as goal
 
 pub returns-in-Ok : goal.returns-in-Ok
 returns-in-Ok c = λ more.
