@@ -102,7 +102,8 @@ def contrast_faults(page):
 
 
 def name_faults(page, lines):
-    """What a screen reader has no name for."""
+    """What a screen reader has no name for. The tree has groups of lines that are off the screen only once they are laid out."""
+    page.ask("[...document.querySelectorAll('.g')].forEach(it => { it.style.contentVisibility = 'visible' })")
     page.call("Accessibility.enable")
     nodes = [it for it in page.call("Accessibility.getFullAXTree")["nodes"] if not it["ignored"]]
     page.call("Accessibility.disable")

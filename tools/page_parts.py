@@ -23,6 +23,8 @@ PICTURED = [
 PICTURE = (1152, 900)
 # So many of the remotes are looked at where not all are: each this many.
 STEP = 20
+# How many bytes of a long line are looked at without --whole.
+MOST_LONG = 20_000
 
 
 def texts_that_surprise():
@@ -80,20 +82,21 @@ def answers(browser, room, is_whole):
     return faults, f"{count} lines, read back whole"
 
 
-def hostile(browser, room, _is_whole):
+def hostile(browser, room, is_whole):
     """Hostile lines: they are what the second reading says, and nothing else happens."""
     faults, lines = [], page_hostile.lines()
+    long = page_hostile.LONG if is_whole else [it[:MOST_LONG] for it in page_hostile.LONG]
     with page_of(browser, room, lines, "--null") as page:
         faults += [*page_answers.faults_of(page, lines, second_reading(lines)), *page_markup.faults_of(page)]
         faults += [*page_look.layout_faults(page), *page.found()]
-    for line in page_hostile.LONG:
+    for line in long:
         with page_of(browser, room, [b"h:p", line]) as page:
             faults += [*page_answers.faults_of(page, [b"h:p", line], page_answers.answers([b"h:p", line])), *page_markup.faults_of(page)]
             faults += [*page_look.layout_faults(page), *page.found()]
     for title in page_hostile.TITLES:
         with page_of(browser, room, [b"h:p"], title=title) as page:
             faults += [*page_markup.faults_of(page, title), *page_look.layout_faults(page), *page.found()]
-    return faults, f"{len(lines)} hostile lines, {len(page_hostile.LONG)} long ones, {len(page_hostile.TITLES)} titles"
+    return faults, f"{len(lines)} hostile lines, {len(long)} long ones, {len(page_hostile.TITLES)} titles"
 
 
 def use(browser, room, is_whole):

@@ -19,7 +19,7 @@ TIMES = """JSON.stringify([performance.getEntriesByType('navigation')[0].loadEve
 
 
 def remotes():
-    made = subprocess.run([sys.executable, f"{os.path.dirname(os.path.realpath(__file__))}/remotes.py"], stdout=subprocess.PIPE, check=True, timeout=60)
+    made = subprocess.run([sys.executable, f"{os.path.dirname(os.path.realpath(__file__))}/make_remotes.py"], stdout=subprocess.PIPE, check=True, timeout=60)
     return made.stdout.split(b"\n")[:-1]
 
 

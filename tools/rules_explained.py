@@ -245,7 +245,7 @@ def command_faults(folder):
         (rest, ["--config", file, "--quiet"], 2, None, b"error: "),
     ):
         found, shown, said = run(case, *words)
-        row = re.search(rb'(?m)^    fetches     (".*")$', shown)
+        row = re.search(rb'(?m)^    fetches     ("[^"]*")', shown)
         right = shown == b"" if is_rewritten is None else row and row[1] == (b'"https://h/p"' if is_rewritten else b'"gh:p"')
         if found != status or not right or not said.startswith(reported) or bool(said) != bool(reported):
             yield f"{words}: {found}, {shown!r}, {said!r}"
