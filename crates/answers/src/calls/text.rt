@@ -1,0 +1,114 @@
+//! Calls over a text: those that read it, into memory or into a buffer, and those that answer its lines.
+
+use crate::halt::Halt;
+use crate::order::{Order, unknown};
+use crate::report::{Out, report_lent, report_member, report_name, report_owned};
+use crate::shown::show;
+use bstr::BStr;
+use gix_url::lines::{run, status};
+use gix_url::parse::parse;
+use gix_url::{ParseError, Scheme, Url, UrlRef, expand_path, ipv6};
+use std::alloc::Global;
+use std::io::Write;
+
+/// Calls that read a text, or judge it.
+pub fn over_text(alloc: Global, order: Order<'_>, out: &mut Out) -> Result<(), Halt> {
+    let bytes = order.bytes(alloc, "text")?;
+    let outcome = if is_in_room(order.name()) {
+        over_room(alloc, order, bytes.as_slice(), out)
+    } else {
+        read(alloc, order, BStr::new(bytes.as_slice()), out)
+    };
+    drop(bytes);
+    outcome
+}
+
+/// Whether a call reads into a room, or shows what such a call refuses.
+fn is_in_room(name: &str) -> bool {
+    name == "UrlRef::parse_in" || name == "ParseError:fmt" || name == "Refusal:fmt"
+}
+
+/// Calls over a text and a room: of as many bytes as the order says, and else as the text has. It isn't empty: what the
+/// library leaves there is none of a location.
+fn over_room(alloc: Global, order: Order<'_>, text: &[u8], out: &mut Out) -> Result<(), Halt> {
+    let size = match order.number("room") {
+        Some(size) => usize::try_from(size).unwrap_or(0),
+        None => text.len(),
+    };
+    let mut room = vec![in alloc; b'#'; size]?;
+    let outcome = read_in(order, text, &mut room, out);
+    drop(room);
+    outcome
+}
+
+/// Reads a text into a room, and reports the location or shows the error.
+fn read_in(order: Order<'_>, text: &[u8], room: &mut [u8], out: &mut Out) -> Result<(), Halt> {
+    match order.call() {
+        "UrlRef::parse_in" => report_owned(out, UrlRef::parse_in(text, room)),
+        "ParseError:fmt" => show_unread(order, UrlRef::parse_in(text, room), out),
+        "Refusal:fmt" => show_refused(order, UrlRef::parse_in(text, room), out),
+        call => unknown(call),
+    }
+}
+
+/// Shows why a text was not read.
+fn show_unread(
+    order: Order<'_>,
+    outcome: Result<UrlRef<'_>, ParseError<'_>>,
+    out: &mut Out,
+) -> Result<(), Halt> {
+    match outcome {
+        Ok(_) => Err(Halt::Unprepared),
+        Err(error) => show(out, order.style(), &error),
+    }
+}
+
+/// Shows why a text spells no location.
+fn show_refused(
+    order: Order<'_>,
+    outcome: Result<UrlRef<'_>, ParseError<'_>>,
+    out: &mut Out,
+) -> Result<(), Halt> {
+    match outcome {
+        Err(ParseError::Refused(refusal)) => show(out, order.style(), &refusal),
+        _ => Err(Halt::Unprepared),
+    }
+}
+
+/// Calls over bytes, or over the text that they are.
+fn read(alloc: Global, order: Order<'_>, bytes: BStr<'_>, out: &mut Out) -> Result<(), Halt> {
+    let text = order.needed("text")?;
+    match order.call() {
+        "parse::parse" => report_owned(out, parse(alloc, bytes)),
+        "Url::from_bytes" => report_owned(out, Url::from_bytes(alloc, bytes)),
+        "Url::from_text" => report_owned(out, Url::from_text(alloc, text)),
+        "Scheme::from_text" => report_owned(out, Scheme::from_text(alloc, text)),
+        "ipv6::is_ipv6" => report_lent(out, &ipv6::is_ipv6(text)),
+        "expand_path::parse" => report_owned(out, expand_path::parse(alloc, bytes)),
+        call => unknown(call),
+    }
+}
+
+/// Calls that answer lines. The answers go into memory that is taken before: a line is a byte at the least, and its
+/// answer is at most 40 bytes longer than thrice the line.
+pub fn over_lines(alloc: Global, order: Order<'_>, out: &mut Out) -> Result<(), Halt> {
+    let bytes = order.bytes(alloc, "text")?;
+    let mut answers = Vec::with_capacity(alloc, bytes.len().saturating_mul(44).saturating_add(44))?;
+    if order.call().is_empty() {
+        return Ok(());
+    }
+    let mut left = bytes.as_slice();
+    let outcome = run(alloc, &mut left, &mut answers);
+    let is_cut_short = outcome.is_ok() && !left.is_empty();
+    report_name(out, "{", "outcome")?;
+    report_lent(out, &outcome)?;
+    report_name(out, ",", "status")?;
+    report_lent(out, &status(&outcome))?;
+    drop(outcome);
+    report_name(out, ",", "out")?;
+    report_lent(out, &BStr::new(answers.as_slice()))?;
+    if is_cut_short {
+        report_member(out, "left", &Some(BStr::new(left)))?;
+    }
+    Ok(out.write_all(b"}")?)
+}

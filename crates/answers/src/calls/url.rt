@@ -1,0 +1,237 @@
+//! Calls over a location, owned or borrowed: those that look at it, copy it, write it or cut its components.
+
+use crate::build;
+use crate::calls::change::{change, given_of};
+use crate::calls::compare::{alike, compare, hash_of};
+use crate::halt::Halt;
+use crate::order::{Order, unknown};
+use crate::parts::first_name;
+use crate::report::{Out, Taking, report_lent, report_member, report_name, report_owned};
+use crate::shown::{show, show_display};
+use bstr::{BStr, BString};
+use gix_url::{Error, PathComponents, Url, UrlRef, WriteError, laws};
+use std::alloc::Global;
+use std::io::Write;
+
+/// Calls that look at a location or copy it, and leave it as it was; others take what is made of it, too.
+pub fn over_url(alloc: Global, order: Order<'_>, out: &mut Out) -> Result<(), Halt> {
+    let url = build::url(alloc, order, "url")?;
+    match given_of(order.name()) {
+        Some(name) => change(alloc, order, url, name, out),
+        None => {
+            let before = hash_of(&url);
+            let outcome = look_or_copy(alloc, order, &url, out);
+            let is_changed = hash_of(&url) != before;
+            drop(url);
+            if is_changed {
+                Err(Halt::Changed)
+            } else {
+                outcome
+            }
+        }
+    }
+}
+
+/// Calls over a location, and over another one beside it.
+fn look_or_copy(alloc: Global, order: Order<'_>, url: &Url, out: &mut Out) -> Result<(), Halt> {
+    if order.has("other") {
+        return over_two(alloc, order, url, out);
+    }
+    match order.call() {
+        "Url::clone" => report_owned(out, url.clone(alloc)),
+        "Url:Clone" => report_owned(out, copy_apart(alloc, url)),
+        "Url::reread" => report_owned(out, url.reread(alloc)),
+        "Url::to_bstring" => report_owned(out, url.to_bstring(alloc)),
+        "Url::to_stored" => report_owned(out, url.to_stored(alloc)),
+        "Url::path_query_fragment" => report_owned(out, url.path_query_fragment(alloc)),
+        "Url:fmt" => show(out, order.style(), url),
+        "laws::law_value" => report_lent(out, &laws::law_value(url)),
+        _ => look(alloc, order, url, out),
+    }
+}
+
+/// Whether a copy of a location, made of one that is there no more, is equal to it and has its hash: as it is, and with
+/// another path.
+fn copy_apart(alloc: Global, url: &Url) -> Result<((bool, bool), (bool, bool)), Error> {
+    let original = url.clone(alloc)?;
+    let copied = original.clone(alloc);
+    drop(original);
+    let mut copy = copied?;
+    let before = alike(&copy, url);
+    copy.path = BString::new(Vec::new(alloc));
+    let behind = alike(&copy, url);
+    drop(copy);
+    Ok((before, behind))
+}
+
+/// Calls that look at a location.
+fn look(alloc: Global, order: Order<'_>, url: &Url, out: &mut Out) -> Result<(), Halt> {
+    match order.call() {
+        "Url::is_settled" => report_lent(out, &url.is_settled()),
+        "Url::agrees_with_git" => report_lent(out, &url.agrees_with_git()),
+        "Url::user" => report_lent(out, &url.user()),
+        "Url::password" => report_lent(out, &url.password()),
+        "Url::host" => report_lent(out, &url.host()),
+        "Url::port_or_default" => report_lent(out, &url.port_or_default()),
+        "Url::path_is_root" => report_lent(out, &url.path_is_root()),
+        "Url::original_path" => report_lent(out, &url.original_path()),
+        "Url::has_spelling" => report_lent(out, &url.has_spelling()),
+        "Url::text_len" => report_lent(out, &url.text_len()),
+        _ => hand_out(alloc, order, url, out),
+    }
+}
+
+/// Calls that hand a part of a location to a command, or write it.
+fn hand_out(alloc: Global, order: Order<'_>, url: &Url, out: &mut Out) -> Result<(), Halt> {
+    match order.call() {
+        "Url::user_as_argument" => report_lent(out, &url.user_as_argument()),
+        "Url::host_as_argument" => report_lent(out, &url.host_as_argument()),
+        "Url::user_argument_safe" => report_lent(out, &url.user_argument_safe()),
+        "Url::host_argument_safe" => report_lent(out, &url.host_argument_safe()),
+        "Url::path_argument_safe" => report_lent(out, &url.path_argument_safe()),
+        "Url::write_to" => write_to(url, out),
+        _ => look_at_borrowed(alloc, order, url, out),
+    }
+}
+
+/// Calls that borrow a location, and look at what is borrowed or write it.
+fn look_at_borrowed(alloc: Global, order: Order<'_>, url: &Url, out: &mut Out) -> Result<(), Halt> {
+    let borrowed = url.as_ref();
+    match order.call() {
+        "Url::as_ref" => report_lent(out, &borrowed),
+        "UrlRef::agrees_with_git" => report_lent(out, &borrowed.agrees_with_git()),
+        "UrlRef::is_settled" => report_lent(out, &borrowed.is_settled()),
+        "UrlRef::original_path" => report_lent(out, &borrowed.original_path()),
+        "UrlRef::port_or_default" => report_lent(out, &borrowed.port_or_default()),
+        "UrlRef::path_is_root" => report_lent(out, &borrowed.path_is_root()),
+        "PathComponents::of" => report_owned(out, PathComponents::of(alloc, &borrowed)),
+        "UrlRef:fmt" => show_display(out, &borrowed),
+        "UrlRef::text_len" => report_lent(out, &borrowed.text_len()),
+        "Url::text_of" => report_owned(out, Url::text_of(alloc, &borrowed)),
+        "UrlRef::write_to" => write_borrowed(&borrowed, out),
+        "UrlRef::user_as_argument" => report_lent(out, &borrowed.user_as_argument()),
+        "UrlRef::host_as_argument" => report_lent(out, &borrowed.host_as_argument()),
+        "UrlRef::user_argument_safe" => report_lent(out, &borrowed.user_argument_safe()),
+        "UrlRef::host_argument_safe" => report_lent(out, &borrowed.host_argument_safe()),
+        "UrlRef::path_argument_safe" => report_lent(out, &borrowed.path_argument_safe()),
+        _ => fill_or_cut(alloc, order, url, out),
+    }
+}
+
+/// Calls that put a borrowed location into room, and those over components.
+fn fill_or_cut(alloc: Global, order: Order<'_>, url: &Url, out: &mut Out) -> Result<(), Halt> {
+    if order.name() == "UrlRef::write_into" {
+        fill(alloc, order, &url.as_ref(), out)
+    } else {
+        over_components(alloc, order, url, out)
+    }
+}
+
+/// Puts a location into room that holds these bytes, and reports what the call answers and what the room holds
+/// then.
+fn fill(alloc: Global, order: Order<'_>, url: &UrlRef<'_>, out: &mut Out) -> Result<(), Halt> {
+    let mut room = order.bytes(alloc, "room")?;
+    let outcome = if order.call().is_empty() {
+        Ok(())
+    } else {
+        let answer = url.write_into(room.as_mut_slice());
+        report_lent(out, &(answer, BStr::new(room.as_slice())))
+    };
+    drop(room);
+    outcome
+}
+
+/// Writes a location to a writer that takes no memory.
+fn write_to(url: &Url, out: &mut Out) -> Result<(), Halt> {
+    begin_written(out)?;
+    let outcome = url.write_to(&mut Taking { out });
+    end_written(outcome, out)
+}
+
+/// The same of a location that is borrowed.
+fn write_borrowed(url: &UrlRef<'_>, out: &mut Out) -> Result<(), Halt> {
+    begin_written(out)?;
+    let outcome = url.write_to(&mut Taking { out });
+    end_written(outcome, out)
+}
+
+/// Reports what is before a text that is written.
+fn begin_written(out: &mut Out) -> Result<(), Halt> {
+    report_name(out, "{", "written")?;
+    Ok(out.write_all(b"\"")?)
+}
+
+/// Reports what is behind it, and the fault where there is no text.
+fn end_written(outcome: Result<(), WriteError>, out: &mut Out) -> Result<(), Halt> {
+    out.write_all(b"\"")?;
+    match outcome {
+        Ok(()) => {}
+        Err(WriteError::Fault(fault)) => report_member(out, "fault", &Some(fault))?,
+        Err(WriteError::Io(error)) => return Err(Halt::NotReported(error)),
+    }
+    Ok(out.write_all(b"}")?)
+}
+
+/// Calls over a path, a query and a fragment.
+fn over_components(alloc: Global, order: Order<'_>, url: &Url, out: &mut Out) -> Result<(), Halt> {
+    match order.name() {
+        "PathComponents::clone" | "QueryText::clone" | "QueryText::as_bstr" => {}
+        _ => return unknown(order.call()),
+    }
+    let parts = components(alloc, url)?;
+    let outcome = cut(alloc, order, &parts, out);
+    drop(parts);
+    outcome
+}
+
+/// What the path of a location is made of.
+fn components(alloc: Global, url: &Url) -> Result<PathComponents<'_>, Halt> {
+    url.path_query_fragment(alloc).map_err(build::unprepared)
+}
+
+/// Calls over a path, a query and a fragment, and over the first name of the query.
+fn cut(
+    alloc: Global,
+    order: Order<'_>,
+    parts: &PathComponents<'_>,
+    out: &mut Out,
+) -> Result<(), Halt> {
+    match order.call() {
+        "PathComponents::clone" => report_owned(out, parts.clone(alloc)),
+        "QueryText::clone" => report_owned(out, first_name(parts)?.clone(alloc)),
+        "QueryText::as_bstr" => report_lent(out, &first_name(parts)?.as_bstr()),
+        call => unknown(call),
+    }
+}
+
+/// Calls over two locations.
+fn over_two(alloc: Global, order: Order<'_>, url: &Url, out: &mut Out) -> Result<(), Halt> {
+    let other = build::url(alloc, order, "other")?;
+    let outcome = match order.name() {
+        "PathComponents:Eq" => over_two_paths(alloc, order, url, &other, out),
+        _ => compare(order, url, &other, out),
+    };
+    drop(other);
+    outcome
+}
+
+/// Calls over what two paths are made of.
+fn over_two_paths(
+    alloc: Global,
+    order: Order<'_>,
+    url: &Url,
+    other: &Url,
+    out: &mut Out,
+) -> Result<(), Halt> {
+    let parts = components(alloc, url)?;
+    let others = components(alloc, other)?;
+    let is_made = !order.call().is_empty();
+    let are_equal = is_made && parts == others;
+    drop(parts);
+    drop(others);
+    if is_made {
+        report_lent(out, &are_equal)
+    } else {
+        Ok(())
+    }
+}
