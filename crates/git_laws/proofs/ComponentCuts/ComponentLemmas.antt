@@ -44,7 +44,7 @@ spaces_free (b ∷ x) free =
     let parts = or_parts (b == plus_sign) (list_any (λ c. c == plus_sign) x) free in
     ap (λ c. c ∷ with_spaces x) (cond-false (b == plus_sign) space b parts.0) ∙ ap (λ t. b ∷ t) (spaces_free x parts.1)
 
--- a byte of an escape is no `+`
+-- a byte of an escape isn't `+`
 escape_not_plus : (b : ℕ) → IsEscapeByte b → (b == plus_sign) ≡ false
 escape_not_plus b h = grind (arith, nat_tests)
 
@@ -58,7 +58,7 @@ escaped_not_kept : (b c : ℕ) → c < 128 → is_path_escaped c ≡ false → s
 escaped_not_kept b c ascii out escaped =
     false_from_ne_true (b == c) (λ e. both_ways (should_percent_encode PATH b) (ap (should_percent_encode PATH) (eqb-true b c e) ∙ kept_from_outside PATH c ascii (path_holds c ascii ∙ out)) escaped)
 
--- a byte that is kept in a path is no `%`
+-- a byte that is kept in a path isn't `%`
 kept_not_percent : (b : ℕ) → should_percent_encode PATH b ≡ false → (b == percent_sign) ≡ false
 kept_not_percent b kept =
     false_from_ne_true (b == percent_sign) (λ e. both_ways (contains PATH b) (outside_from_kept PATH b kept) (ap (contains PATH) (eqb-true b percent_sign e) ∙ path_holds percent_sign (omega arith)))
@@ -144,7 +144,7 @@ same_way = record {
   freed = λ c x mark h. h;
 }
 
--- a byte of an escape is no mark
+-- a byte of an escape isn't a mark
 mark_not_escape : (c b : ℕ) → IsMark c → is_escape_byte b ≡ true → (b == c) ≡ false
 mark_not_escape c b mark h = false_from_ne_true (b == c) (λ e. both_ways (is_escape_byte c) mark.no_escape (sym (ap is_escape_byte (eqb-true b c e)) ∙ h))
 
@@ -242,7 +242,7 @@ joined_written f (t ∷ u ∷ us) way =
 fields_written : (f : List ℕ → List ℕ) (t : List ℕ) (fields : List (List ℕ)) → IsWay f → CutsFields t fields → CutsFields (f t) (map f fields)
 fields_written f t fields way cut = record { each = each_written f fields way cut.each; joined = ap f cut.joined ∙ joined_written f fields way }
 
--- one field more stands before others, where there are any
+-- one field more comes before others, where there are any
 joined_more : (f : List ℕ → List ℕ) (c : ℕ) (t : List ℕ) (fields : List (List ℕ)) (k : List ℕ) (ks : List (List ℕ)) → k ∷ ks ≡ map f fields → join_with_byte c (t ∷ fields) ≡ t ++ c ∷ join_with_byte c fields
 joined_more f c t [] k ks e = let wrong : k ∷ ks ≡ [] = e in cc
 joined_more f c t (u ∷ us) k ks e = refl

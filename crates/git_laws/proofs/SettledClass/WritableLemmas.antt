@@ -125,7 +125,7 @@ has_a_text b v (Spells.local_path h) = (b, (local_unchanged b v h).1)
 escape_shorter : (b : ℕ) (bs : List ℕ) → (b == 37) ≡ true → begins_with_digits bs ≡ true → length (percent_decode (b ∷ bs)) < length (b ∷ bs)
 escape_shorter b bs h2 h3 = grind (arith, nat_tests, false≢true, and_parts, length, decode_escape, length-percent_decode)
 
--- where a first byte begins an escape, two digits stand behind it
+-- where a first byte begins an escape, two digits follow it
 digits_behind : (b : ℕ) (bs : List ℕ) → (b == 37) ≡ true → is_sound (b ∷ bs) ≡ true → begins_with_digits bs ≡ true
 digits_behind b bs percent sound = rw percent at (sound_head b bs sound)
 

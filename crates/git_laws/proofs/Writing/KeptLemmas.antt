@@ -1,4 +1,5 @@
--- Remote helpers and local paths: what is read as one is settled and is written as it was read; a settled one comes back, and nothing else does.
+-- Remote helpers and local paths: what is read as one is settled and is written as it was read; a settled one
+-- comes back, and nothing else does.
 use Rattle.std.proofs.Common.{◌≡◌, ℕ, true, false, inl, List, ◌∷◌, ◌++◌, Option, None, Ok, refl, sym, ap, subst, ◌∙◌, codes, bytes_eq, Bool, arith}
 use Rattle.std.proofs.lemmas.Bool.Decides.{nat_tests}
 use Rattle.std.proofs.lemmas.Bool.{false≢true}

@@ -1,4 +1,5 @@
--- A settled location without its password: what is left of its text is short enough, so it is settled, unless its user is empty.
+-- A settled location without its password: what is left of its text is short enough, so it is settled, unless
+-- its user is empty.
 use Rattle.std.proofs.Common.{◌≡◌, ℕ, ◌+◌, ◌<◌, ◌≤◌, Bool, true, false, not, ◌⊎◌, inl, inr, List, [], ◌∷◌, ◌++◌, length, length-append, Option, Some, None, IsSome, IfSome, refl, sym, ap, subst, ◌∙◌, arith}
 use Rattle.std.specs.List.{list_any, list_all}
 use Rattle.std.specs.Char.{is_ascii_whitespace, is_whitespace}
@@ -32,7 +33,7 @@ use Rattle.git_location.proofs.Writing.WrittenAsUrlLemmas.{written_web, written_
 
 -- ---- what is left of a text without its white space
 
--- the length test keeps what is no white space of ASCII
+-- the length test keeps all but white space of ASCII
 abbrev keeps : ℕ → Bool
 keeps b = not (is_ascii_whitespace b)
 
@@ -85,7 +86,7 @@ some_left (b ∷ bs) lacks some = omega (arith, ap length (other_left_in b bs (f
 
 -- ---- the front that counts
 
--- a text that the length test counts, where it stands before a path: it has no slash and no start of a path, and isn't
+-- a text that the length test counts, before a path: it has no slash and no start of a path, and isn't
 -- white space alone
 pub record IsFront (web : Bool) (a : List ℕ) : Type 0 where
   pub no_slash : Lacks is_any_slash a
@@ -226,7 +227,7 @@ at_no_start : (web : Bool) → Lacks (is_path_start web) (at_sign ∷ [])
 at_no_start true = refl
 at_no_start false = refl
 
--- a front without its password, which stands behind the user and before `@`
+-- a front without its password, which is between the user and `@`
 abbrev with_secret : List ℕ → List ℕ → List ℕ → List ℕ
 with_secret user secret host = (user ++ (secret ++ at_sign ∷ [])) ++ host
 

@@ -1,4 +1,5 @@
--- A settled location without its spelling: of URLs outside HTTP and files the path decides whether it is settled, and of all others it is.
+-- A settled location without its spelling: of URLs outside HTTP and files the path decides whether it is
+-- settled, and of all others it is.
 use Rattle.std.proofs.Common.{◌≡◌, ℕ, Bool, true, false, not, ◌==◌, inl, inr, List, [], ◌∷◌, ◌++◌, length, length-append, Option, Some, None, refl, sym, ap, subst, ◌∙◌, arith}
 use Rattle.std.proofs.lemmas.Bool.Decides.{nat_tests}
 use Rattle.std.proofs.lemmas.Bool.{false≢true}

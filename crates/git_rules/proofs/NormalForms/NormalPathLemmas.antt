@@ -19,7 +19,7 @@ use Rattle.git_rules.specs.NormalPieces.{ShowsStack, ShowsFront, CutsBefore}
 
 -- ---- no segment gets a `/`
 
--- a byte of an escape is no `/`
+-- a byte of an escape isn't `/`
 escape_no_slash : (b : ℕ) → IsEscapeByte b → (b == slash) ≡ false
 escape_no_slash b h = grind (arith, nat_tests)
 

@@ -1,4 +1,5 @@
--- How much room what is found takes: no part of a location is longer than the piece of the text that it was read of.
+-- How much room what is found takes: no part of a location is longer than the piece of the text that it was
+-- read of.
 use Rattle.std.proofs.Common.{◌≡◌, ℕ, suc, ◌+◌, ◌<◌, ◌≤◌, true, ◌==◌, List, [], ◌∷◌, ◌++◌, length, take, Option, refl, ap, ◌∙◌, arith, length-append}
 use Rattle.std.proofs.lemmas.Bool.Decides.{nat_tests}
 use Rattle.std.specs.Prelude.{codes}
@@ -56,7 +57,7 @@ normal_host_kept t h = cond_both (list_all is_dns_byte t) (lowercase t) t (λ n.
 pub normal_case_length : (piece : HostPiece) (t : List ℕ) → length (normal_case piece t) ≡ length t
 normal_case_length piece t = grind (arith, nat_tests, lowercase_length, lowercase_address_length, normal_host_length)
 
--- the length of a text between brackets, and of what stands behind them
+-- the length of a text between brackets, and of the text behind them
 brackets_length : (inner rest : List ℕ) → length (left_bracket ∷ (inner ++ right_bracket ∷ rest)) ≡ length inner + 2 + length rest
 brackets_length inner rest = omega (arith, length-append inner (right_bracket ∷ rest))
 

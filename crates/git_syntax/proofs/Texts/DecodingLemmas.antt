@@ -12,7 +12,7 @@ use Rattle.git_syntax.proofs.Texts.AsciiLemmas.{ascii_cons}
 use Rattle.git_syntax.proofs.Texts.EscapeLemmas.{decode_broken, decode_escape}
 use Rattle.std.proofs.lemmas.Str.Ascii.{IsAscii-nil}
 
--- ---- the byte that `%` and what stands behind it begin with
+-- ---- the byte that `%` and what follows begin with
 
 -- a `%` with less than two bytes behind it stays
 pub percent_short : (behind : List ℕ) → length behind < 2 → percent_decode (percent_sign ∷ behind) ≡ percent_sign ∷ percent_decode behind

@@ -52,7 +52,7 @@ invalid_unsettled v name h settled =
     let by_name : IsSettledBy (helper name) v = subst (λ p. IsSettledBy p v) named settled in
     both_ways _ invalid by_name.0.named
 
--- an error that tells such a name is the answer
+-- an error that names such a name is the answer
 pub invalid_made : (v : Location) (r : Result Location Error) (e : Error) → r ≡ Err e → (name : List ℕ) × (invalid_name v.scheme ≡ Some name) × ReportsName name e → MadeOf v r
 invalid_made v r e is (name, invalid, reported) = record {
   helper_name = λ n h. let same : name ≡ n = cc in (e, is, subst (λ m. ReportsName m e) same reported);
