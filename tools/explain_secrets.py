@@ -76,7 +76,7 @@ def columns(text):
 
 
 def runs(row, places):
-    """Where the lines under pieces begin and end: two that touch, the second of one column, are told apart by the names."""
+    """Where the lines under pieces begin and end: two that touch, the second of one column, are distinguished by their names."""
     for run in re.finditer("-+", row):
         cuts = [run.start(), *(it for it in sorted(places) if run.start() < it < run.end()), run.end()]
         yield from zip(cuts, cuts[1:])
@@ -98,7 +98,7 @@ def named(answer):
 
 
 def is_of_fields(v, found, line):
-    """Whether the pieces stand for what is read. What stands on the web behind a path is told by the library's parts."""
+    """Whether the pieces stand for what is read. Behind a path of HTTP they are the library's components."""
     form = explain.form(v)
     if form == "remote_helper":
         return found.get("address", b"") == v.path and found.get("helper", grammar.as_str(v.scheme)) == grammar.as_str(v.scheme)
