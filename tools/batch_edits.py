@@ -152,7 +152,7 @@ def lines_to(crate, place):
 
 
 def begin_of(crate, place):
-    """The line of the first attribute of the function at a place, or else that in which it begins: goals are reported there."""
+    """The line of the first attribute of the function at a place, or else its first line: goals are reported there."""
     *above, _ = lines_to(crate, place)
     while above and above[-1].lstrip().startswith("#["):
         above.pop()
@@ -177,7 +177,7 @@ def owner_of(crate, place):
 
 
 def joined_names(parameters, of_trait, of_type):
-    """A type and a trait as names of functions have them: their last names, each with its arguments except parameters."""
+    """A type and a trait as in names of functions: their last names, each with its arguments except parameters."""
     unnamed, words = {it.split(":")[0].strip() for it in parameters.split(",")}, []
     for it in (of_type, of_trait):
         head, _, arguments = it.partition("<")
@@ -191,7 +191,7 @@ def path_of(crate, place):
 
 
 def bad_answer(crate, places, place, lines):
-    """What is said of the answers of the function at a place, if its name, or its type's, differs from those at the others."""
+    """What is said of the answers of the function at a place, if its name or its type's is unlike those at the others."""
     name, owner, module = name_at(crate, place), owner_of(crate, place), module_of(place)
     alike = [owner_of(crate, it) for it in places if name_at(crate, it) == name]
     for line in lines:

@@ -1,8 +1,8 @@
-"""Fails where a binding answers a line otherwise than the program `explain`: `compare_bindings.py LINES ANSWERS EXPLAINED`.
+"""Fails where a binding answers a line otherwise than `explain`: `compare_bindings.py LINES ANSWERS EXPLAINED`.
 
 ANSWERS are those of `bindings/tests/members.c` or of the example `members` of the Rust crate, EXPLAINED those of
-`explain --json`. Bytes that aren't UTF-8 are U+FFFD in JSON, and are compared so. Whether Git reads the same is compared
-with the rule by hand of `docs/GIT.md`, asked of what a second reading of the grammar finds in the line.
+`explain --json`. Bytes that aren't UTF-8 are U+FFFD in JSON, and are compared so. Whether Git reads the same is
+compared with the rule by hand of `docs/GIT.md`, asked of what a second reading of the grammar finds in the line.
 """
 import json
 import sys

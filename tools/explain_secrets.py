@@ -76,7 +76,7 @@ def columns(text):
 
 
 def runs(row, places):
-    """Where the lines under pieces begin and end: two that touch, the second of one column, are distinguished by their names."""
+    """Where the lines under pieces begin and end: two that touch, the second of one column, differ by their names."""
     for run in re.finditer("-+", row):
         cuts = [run.start(), *(it for it in sorted(places) if run.start() < it < run.end()), run.end()]
         yield from zip(cuts, cuts[1:])

@@ -1,9 +1,9 @@
 """The classes of texts in which Git and this library read different things.
 
-A class gives, for a text and the two readings, the parts in which they differ because of it. A difference belongs to the
-classes that together give all of its parts, and is counted in the first of them: those by which another machine or another
-user is meant come first, then those of another path, of the same place spelled otherwise, and of texts that one side
-alone refuses.
+A class gives, for a text and the two readings, the parts in which they differ because of it. A difference belongs to
+the classes that together give all of its parts, and is counted in the first of them: those by which another machine or
+another user is meant come first, then those of another path, of the same place spelled otherwise, and of texts that one
+side alone refuses.
 """
 import re
 from collections import namedtuple

@@ -149,7 +149,8 @@ ONE_SENTENCE: list = [(2, True, 0, set())] * 2
 
 
 def read_only(tree):
-    """In a folder that can't be written to there is one sentence and no proof; root, which can write to any, runs it as `nobody`."""
+    """In a folder that can't be written to there is one sentence and no proof; root, which can write to any, runs it as
+    `nobody`."""
     made = fresh(tree, "read-only")
     # The user `nobody` must be able to note the calls of the command.
     with open(made.calls, "w", encoding="utf-8"):

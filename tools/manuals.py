@@ -1,6 +1,6 @@
 #!/usr/bin/env python3
-"""Writes the manual pages: gix_url(3) from the comments of bindings/c/include/gix_url.h, and locations(1) and explain(1)
-from what the programs print for --help.
+"""Writes the manual pages: gix_url(3) from the comments of bindings/c/include/gix_url.h, and locations(1) and
+explain(1) from what the programs print for --help.
 
 usage: tools/manuals.py FOLDER     below FOLDER, man1 and man3 get the pages; each call has one that leads to gix_url(3)
 """

@@ -2,7 +2,7 @@
 
 The rows are those of all tables in `vectors/`, and the program `answers` makes the calls, an order a run: one run ends
 before the call and one makes it, so what the call asks for is the difference. Each request goes through
-`refuse_memory.c`, which the toolchain's compiler builds: `rt try --fail-alloc N` counts the same, but builds for each N.
+`refuse_memory.c`, built by the toolchain's compiler: `rt try --fail-alloc N` counts the same, but builds for each N.
 """
 import collections
 import concurrent.futures

@@ -1,15 +1,16 @@
-"""The programs that carry out the orders of `scripts/vectors`: `answers`, or the binding for C, for Python or for Rust, by a
-small program in that language, `bindings/tests/vectors.c`, `bindings/tests/vectors.py` or the example `vectors` of the crate.
+"""The programs that carry out the orders of `scripts/vectors`: `answers`, or the binding for C, for Python or for Rust,
+by a small program in that language, `bindings/tests/vectors.c`, `bindings/tests/vectors.py` or the example `vectors` of
+the crate.
 
 A binding takes an order as one line of members `name=value`, separated by tabs, so that its program needs no reader of
 JSON. A location made of parts is flat, as `url.host=h`. `\\x` with two digits is a control character, a backslash or a
 byte that isn't part of UTF-8. The outcome is JSON as by `answers`, except for bytes past ASCII, each of which is U+EF00
 with the byte added; so outcomes are compared by the bytes that their texts stand for.
 
-No binding reports whether a name or a value of a query is owned: `{"owned": text}` is compared as the text. An error of C
-keeps no bytes, so `kept` is left out, except for a text that is too long, of which it reports how much is to be shown; so
-it is in Python, which uses C. Rust doesn't report where in a text the fault is: `at` and `len` of an error are left out,
-and so they are of what `Debug` shows of it (`PLACES`).
+No binding reports whether a name or a value of a query is owned: `{"owned": text}` is compared as the text. An error of
+C keeps no bytes, so `kept` is left out, except for a text that is too long, of which it reports how much is to be
+shown; so it is in Python, which uses C. Rust doesn't report where in a text the fault is: `at` and `len` of an error
+are left out, and so they are of what `Debug` shows of it (`PLACES`).
 """
 import os
 import re

@@ -228,7 +228,7 @@ def case_faults(case, file):
 
 
 def command_faults(folder):
-    """Where a command line has another outcome than the one that is written by hand: no lines of `explain` except these."""
+    """Where a command line has another outcome than the one written by hand: no lines of `explain` except these."""
     file, line = f"{folder}/given", b"gh:p\n"
     with open(file, "wb") as it:
         it.write(b"url.https://h/.insteadof\ngh:\0")

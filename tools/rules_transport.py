@@ -160,7 +160,8 @@ def cases_of(policies):
 
 
 def named(texts):
-    """The transports that Git names for texts, of which it allows none. Behind `--` a text that begins with `-` isn't an option."""
+    """The transports that Git names for texts, with none allowed. Behind `--` a text that begins with `-` isn't an
+    option."""
     said = ask([([], b"none-of-these", None, it) for it in texts])
     return [Named(text, name_in(text, found)) for text, found in zip(texts, said)]
 

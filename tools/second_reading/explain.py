@@ -180,7 +180,7 @@ def credential(v):
 
 
 def curl(v):
-    """What curl connects to and asks for in the text of a location of HTTP, None where it refuses it. Byte 0 can't be given to it."""
+    """What curl connects to and asks for in the text of a location of HTTP; None where it refuses it, and for byte 0."""
     text = writing.text(v)
     if v.scheme not in grammar.HTTP_SCHEMES or isinstance(text, writing.Fault) or b"\0" in text:
         return None
@@ -195,7 +195,7 @@ def host_spellings(place):
 
 
 def is_spelled_by_a_piece(v, place):
-    """Whether a piece of the text spells the host, case aside: where brackets or a colon that go are escapes, none does."""
+    """Whether a piece of the text spells the host, case aside; none does where brackets or a colon that go are escapes."""
     decoded = (lambda it: it) if v.scheme in grammar.HTTP_SCHEMES else octets.dec
     return any(decoded(it).lower() == v.host.lower() for it in host_spellings(place))
 

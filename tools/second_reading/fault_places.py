@@ -325,6 +325,6 @@ def library_place(b):
         return all_of(s, 0, scheme_faults(s))[0]
     if named == bad("Url", "BadCharacter"):
         return library_url(b, s, rest)[0]
-    # Of each other error a text has one flaw, except bad characters of the scp form, which are listed in the order of the
-    # checks and have no part that is decoded.
+    # Of each other error a text has one flaw, except bad characters of the scp form, which are listed in the order of
+    # the checks and have no part that is decoded.
     return next(it for error, it in faults(b) if error == named)

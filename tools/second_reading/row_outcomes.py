@@ -114,7 +114,7 @@ def from_parts(parts):
 
 
 def record(of):
-    """A location as its record has it: with the spelling that it retains, whether or not that still is one of its path."""
+    """A location as its record has it: with its retained spelling, whether or not that still is one of its path."""
     return told_parts(of, of.spelling)
 
 
