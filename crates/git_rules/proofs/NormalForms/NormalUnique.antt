@@ -189,7 +189,7 @@ cut_refused globs text scheme authority behind e cut (inr flaw) n h =
     let same = url_cut_unique text scheme h.scheme authority h.authority behind h.behind cut h.cut in
     path_refused h.behind n.path e (subst (λ z. PathFlaw z e) same.2 flaw) h.path_form
 
--- a flaw of a part is neither that of the room nor that of the text
+-- a flaw of a part is neither that of the buffer nor that of the text
 room_no_flaw : (globs : Bool) (scheme text behind : List ℕ) → AuthorityFlaw globs scheme text NoRoom ⊎ PathFlaw behind NoRoom → ⊥
 room_no_flaw globs scheme text behind (inl (inl flaw)) = flaw.1
 room_no_flaw globs scheme text behind (inl (inr flaw)) = ⊎_elim (λ b. b) (λ b. b) flaw.4

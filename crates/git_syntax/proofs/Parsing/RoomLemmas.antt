@@ -69,7 +69,7 @@ bracketed_host piece h = grind arith
 pub bracketed_host_length : (piece : HostPiece) → is_bracketed piece ≡ true → length (meant_host piece) ≡ length (unescaped_host piece) + 2
 bracketed_host_length piece h = grind (arith, nat_tests, normal_case_length, bracketed_host, length-append)
 
--- a bracket, a text behind it and the bracket that closes, in the front of a room
+-- a bracket, a text behind it and the bracket that closes, in the front of a buffer
 pub brackets_put : (front behind shown : List ℕ) (size : ℕ) → length front ≡ 1 → size < length behind → take size behind ≡ shown → take (size + 2) (set front 0 left_bracket ++ set behind size right_bracket) ≡ in_brackets shown
 brackets_put [] behind shown size one within e = absurd (omega (arith, one))
 brackets_put (b ∷ d ∷ front) behind shown size one within e = absurd (omega (arith, one))

@@ -1,4 +1,4 @@
--- The front of the room is the path of the stack so far, on which the rest is put as the whole on an empty
+-- The front of the buffer is the path of the stack so far, on which the rest is put as the whole on an empty
 -- one.
 use Rattle.std.proofs.Common.{◌≡◌, ◌≤◌, ◌+◌, ◌*◌, [], List, ℕ, true, length, take}
 use Rattle.git_syntax.specs.Escapes.{is_sound}
