@@ -130,7 +130,7 @@ record HasPlainPaths (p : Scheme) : Type 0 where
 plain_paths : (v : Location) → (v.scheme ≡ ssh) ⊎ (v.scheme ≡ git) → HasPlainPaths v.scheme
 plain_paths v h = grind arith
 
--- what is written for it is decoded to it
+-- the written text for it is decoded to it
 path_decoded : (v : Location) → HasPlainPaths v.scheme → IsRawPath v → percent_decode (matching_or v.spelling v.path (plain_path v.scheme v.path)) ≡ v.path
 path_decoded v facts raw =
     matching_cases (λ t. percent_decode t ≡ v.path) v.spelling v.path (plain_path v.scheme v.path) (λ s is same. same) (λ none. ap percent_decode (facts.plain v.path) ∙ decode_kept v.path (raw none).0)

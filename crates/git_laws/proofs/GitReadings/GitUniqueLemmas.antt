@@ -85,7 +85,7 @@ record ComesOfCut (t front : List ℕ) (port : Option ℕ) : Type 0 where
   joined : t ≡ before ++ colon ∷ behind
   value : both front port ≡ outcome t before behind (git_port behind)
 
--- the text has no colon, and is what is left
+-- the text has no colon, and is the rest
 record ComesOfNone (t front : List ℕ) (port : Option ℕ) : Type 0 where
   free : FreeOf colon t
   value : both front port ≡ both t None

@@ -61,7 +61,7 @@ information_kept set has b kept =
     let raw = false_from_ne_true _ (λ is. both_ways _ (outside_from_kept set b kept) (has b ascii is)) in
     sym (ap (λ p. p || is_information_byte b) raw) ∙ information_byte b ascii
 
--- and what is written by such a set is escaped text of such bytes
+-- and a text written by such a set is escaped text of such bytes
 information_escaped : (set : AsciiSet) (t : List ℕ) → ((b : ℕ) → b < 128 → is_password_escaped b ≡ true → contains set b ≡ true) → IsEscaped is_information_byte (percent_encode set t)
 information_escaped set t has =
     (list_all-from_AllPass is_information_byte (percent_encode set t) (All-percent_encode (λ b. is_information_byte b ≡ true) set t (information_kept set has) (λ b escape. grind (arith, nat_tests))), encode_sound set t (has percent_sign (omega arith) refl))

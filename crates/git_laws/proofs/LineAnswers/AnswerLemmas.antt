@@ -252,7 +252,7 @@ spelled_line line v t free (Spells.scp_form (inl h)) settled is = scp_before_lin
 spelled_line line v t free (Spells.scp_form (inr h)) settled is = scp_addressed_line line v t free h is
 spelled_line line v t free (Spells.local_path h) settled is = subst (λ x. FreeOf newline x) (one_text (local_unchanged line v h).1 is) free
 
--- the scheme of what is spelled holds none, whatever the text is
+-- the scheme of a spelled location holds none, whatever the text is
 abbrev HasSchemeLine : Scheme → Type 0
 HasSchemeLine p = FreeOf newline (scheme_text p)
 

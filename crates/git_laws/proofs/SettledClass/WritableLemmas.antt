@@ -111,7 +111,7 @@ scp_there : (b : List ℕ) (v : Location) → SpellsScp b v → HasText v
 scp_there b v (inl h) = (_, ap (λ l. text l) h.value ∙ scp_written h.user h.meant (from_home h.path) None)
 scp_there b v (inr h) = (_, ap (λ l. text l) h.value ∙ scp_written (Some h.user) (lowercase h.address) (from_home h.path) None)
 
--- what is spelled has a text
+-- a spelled location has a text
 pub has_a_text : (b : List ℕ) (v : Location) → Spells b v → HasText v
 has_a_text b v (Spells.url h) = url_there b v h
 has_a_text b v (Spells.file_url h) = subst HasText (sym h.value) (file_there (unless_empty h.host) h.path)
@@ -196,11 +196,11 @@ scp_unspelled : (b : List ℕ) (v : Location) → SpellsScp b v → v.spelling �
 scp_unspelled b v (inl h) = ap (λ l. l.spelling) h.value
 scp_unspelled b v (inr h) = ap (λ l. l.spelling) h.value
 
--- of what is spelled the spelling isn't the path
+-- of a spelled location the spelling isn't the path
 pub spelling_other : (b : List ℕ) (v : Location) → Spells b v → ¬ (v.spelling ≡ Some v.path)
 spelling_other b v h2 = grind (arith, nat_tests, url_other, unspelled_other, scp_unspelled)
 
--- what is spelled has a text, and stands for itself when it was stored
+-- a spelled location has a text, and stands for itself when it was stored
 pub writable : Writable
 writable b v spelled =
     let other = spelling_other b v spelled in

@@ -1,4 +1,4 @@
--- A settled location without its password: what is left of its text is short enough, so it is settled, unless
+-- A settled location without its password: the rest of its text is short enough, so it is settled, unless
 -- its user is empty.
 use Rattle.std.proofs.Common.{◌≡◌, ℕ, ◌+◌, ◌<◌, ◌≤◌, Bool, true, false, not, ◌⊎◌, inl, inr, List, [], ◌∷◌, ◌++◌, length, length-append, Option, Some, None, IsSome, IfSome, refl, sym, ap, subst, ◌∙◌, arith}
 use Rattle.std.specs.List.{list_any, list_all}
@@ -31,7 +31,7 @@ use Rattle.git_laws.proofs.Writing.AgainLemmas.{web_readable, secure_readable, g
 use Rattle.git_laws.proofs.Writing.WrittenUrlLemmas.{IsReadable, authority_text, canonical_cut, web_starts}
 use Rattle.git_location.proofs.Writing.WrittenAsUrlLemmas.{written_web, written_git, written_secure, written_other}
 
--- ---- what is left of a text without its white space
+-- ---- the rest of a text without its white space
 
 -- the length test keeps all but white space of ASCII
 abbrev keeps : ℕ → Bool
@@ -41,7 +41,7 @@ keeps b = not (is_ascii_whitespace b)
 kept_length : (x y : List ℕ) → length (without_white_space (x ++ y)) ≡ length (without_white_space x) + length (without_white_space y)
 kept_length x y = ap length (filter-append keeps x y) ∙ length-append (without_white_space x) (without_white_space y)
 
--- what a text lacks, what is left of it lacks too
+-- the rest of a text lacks what the text lacks
 lacks_kept : (test : ℕ → Bool) (bs : List ℕ) → Lacks test bs → Lacks test (without_white_space bs)
 lacks_kept test [] h = refl
 lacks_kept test (b ∷ bs) h =
@@ -231,7 +231,7 @@ at_no_start false = refl
 abbrev with_secret : List ℕ → List ℕ → List ℕ → List ℕ
 with_secret user secret host = (user ++ (secret ++ at_sign ∷ [])) ++ host
 
--- what such a text lacks it lacks without the password
+-- such a text lacks the same without the password
 lacks_secret : (test : ℕ → Bool) (user secret host : List ℕ) → Lacks test (at_sign ∷ []) → Lacks test (with_secret user secret host) → Lacks test (with_secret user [] host)
 lacks_secret test user secret host h4 h5 = grind (arith, nat_tests, lacks_parts, lacks-append)
 
@@ -321,11 +321,11 @@ stripped_by ext v user password e known secret some is h = absurd (none-some pas
 stripped_by (helper name) v user password e known secret some is h = absurd (none-some password (sym h.0.bare.1.1 ∙ secret))
 stripped_by (helper_url name) v user password e known secret some is h = other_stripped name v user password v.host refl e known secret some is h
 
--- what is settled is a URL, or has no password, and no user beside none of the flag
+-- a settled location is a URL, or has no password, and no user beside none of the flag
 url_or_plain : (p : Scheme) (v : Location) → IsSettledBy p v → IsSettledUrl v ⊎ ((v.password ≡ None) × (v.flag ≡ false → v.user ≡ None))
 url_or_plain p v h2 = grind (arith, nat_tests, both_ways)
 
--- what is settled and has a password is a URL
+-- a settled location with a password is a URL
 url_with_password : (p : Scheme) (v : Location) (password : List ℕ) → v.password ≡ Some password → IsSettledBy p v → IsSettledUrl v
 url_with_password p v password h3 h4 = grind (arith, nat_tests, url_or_plain, none-some)
 

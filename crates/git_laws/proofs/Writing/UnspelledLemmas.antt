@@ -139,7 +139,7 @@ other_fitting name v (Some host) there e is h raw fits =
 
 -- ---- all kinds
 
--- what is settled without its spelling needs none
+-- a location settled without its spelling needs none
 needs_none : (p : Scheme) (v : Location) → IsSettledBy p (fields v) → is_raw_url p v.flag ≡ true → ((has_percent v.path ≡ false) × LacksWhiteSpace v.path) × HasFittingText (fields v)
 needs_none p v h kind = grind arith
 

@@ -38,11 +38,11 @@ Matches spelling path = (s : List ℕ) × (spelling ≡ Some s) × (percent_deco
 abbrev IsFair : Option (List ℕ) → List ℕ → Type 0
 IsFair spelling path = (s : List ℕ) → spelling ≡ Some s → percent_decode s ≡ path → IsFairSpelling s path
 
--- a spelling that stands for the path is what is written
+-- a spelling that stands for the path is the written text
 pub matched : (s path plain : List ℕ) → percent_decode s ≡ path → matching_or (Some s) path plain ≡ s
 matched s path plain same = cond-true _ _ _ ((bytes_eq-Decides (percent_decode s) path).1 same)
 
--- what is written is a spelling that stands for the path, or the text that replaces it where none does
+-- the written text is a spelling that stands for the path, or the text that replaces it where none does
 pub matching_cases : (P : List ℕ → Type 0) (spelling : Option (List ℕ)) (path plain : List ℕ) → ((s : List ℕ) → spelling ≡ Some s → percent_decode s ≡ path → P s) → (¬ Matches spelling path → P plain) → P (matching_or spelling path plain)
 matching_cases P spelling path plain h4 h5 = grind (arith, nat_tests, none-some, bytes_eq-Decides, matched, both_ways, same_Some, cond-false, cases_Bool, bytes_eq)
 

@@ -186,7 +186,7 @@ name_spelled_front user h path text host u n p other = record {
   value = scp_value_read user h path p.not_home;
 }
 
--- and so does what is written
+-- and so does the written text
 name_spelled : (user : Option (List ℕ)) (h path : List ℕ) → IfSome user IsUtf8 → IsUtf8 h → IfSome user IsScpUser → IsScpName h → IsScpPath path → ¬ LooksLikeHelper (scp_value user h path None) h → SpellsScp (raw_user user ++ (raw_host (Some h) ++ colon ∷ path)) (scp_value user h path None)
 name_spelled user h path named host u n p other =
     let joined = name_joined user h path in
@@ -292,7 +292,7 @@ address_spelled h path a p = inl record {
 abbrev addressed_text : List ℕ → List ℕ → List ℕ → List ℕ
 addressed_text user h path = user ++ at_sign ∷ (left_bracket ∷ (h ++ right_bracket ∷ (colon ∷ path)))
 
--- what is written is that text
+-- the written text is that text
 addressed_written : (user h path : List ℕ) → raw_user (Some user) ++ (in_brackets h ++ colon ∷ path) ≡ addressed_text user h path
 addressed_written user h path =
     append_assoc user (at_sign ∷ []) (in_brackets h ++ colon ∷ path) ∙ ap (λ t. user ++ at_sign ∷ (left_bracket ∷ t)) (append_assoc h (right_bracket ∷ []) (colon ∷ path))
@@ -335,7 +335,7 @@ addressed_spelled user h path named u a p = inr record {
 bracketed_spelled : (user : Option (List ℕ)) (h path : List ℕ) → IfSome user IsUtf8 → IfSome user IsScpUser → IsNormalAddress h → IsScpPath path → SpellsScp (raw_user user ++ (in_brackets h ++ colon ∷ path)) (scp_value user h path None)
 bracketed_spelled user h path h3 h4 h5 h6 = grind (arith, nat_tests, address_spelled, addressed_written, addressed_spelled)
 
--- what is written spells the location
+-- the written text spells the location
 pub scp_spelled : (user : Option (List ℕ)) (h path : List ℕ) → IfSome user IsUtf8 → IsUtf8 h → IfSome user IsScpUser → IsScpName h ⊎ IsNormalAddress h → IsScpPath path → ¬ LooksLikeHelper (scp_value user h path None) h → SpellsScp (raw_user user ++ (raw_host (Some h) ++ colon ∷ path)) (scp_value user h path None)
 scp_spelled user h path named host u (inl n) p other = name_spelled user h path named host u n p other
 scp_spelled user h path named host u (inr a) p other =

@@ -33,7 +33,7 @@ answers_push (l ∷ ls) out good line answer first (a, m, f, o, is, others, join
     and_grouped true y z = refl
     and_grouped false y z = refl
 
--- a line and its end go from what is left to what is done
+-- a line and its end go from the rest to what is done
 pub ended_push : (done : List (List ℕ)) (line rest : List ℕ) → ended_lines (done ++ line ∷ []) ++ rest ≡ ended_lines done ++ (line ++ newline ∷ rest)
 ended_push [] line rest = append_assoc (line ++ newline ∷ []) [] rest ∙ append_assoc line (newline ∷ []) rest
 ended_push (l ∷ ls) line rest =

@@ -165,7 +165,7 @@ segment_cut t front behind free joined = (
   λ has. segment_at_cut front behind free (subst HasDotSegment joined has),
 )
 
--- ---- what is written
+-- ---- the written text
 
 -- a colon is written where the text has one
 pub colon_written : (set : AsciiSet) (t : List ℕ) → contains set 58 ≡ false → FreeOf colon t ↔ FreeOf colon (percent_encode set t)
@@ -205,7 +205,7 @@ percent_written set t has = (λ none. no_percent set t has none, λ free. none_e
 
 -- ---- bytes of paths
 
--- what is written passes a test of each byte that escapes pass, where each byte of the text passes it or is
+-- the written text passes a test of each byte that escapes pass, where each byte of the text passes it or is
 -- escaped
 all_written : (test : ℕ → Bool) (set : AsciiSet) (t : List ℕ) → ((b : ℕ) → IsEscapeByte b → test b ≡ true) → list_all test (percent_encode set t) ≡ list_all (λ b. should_percent_encode set b || test b) t
 all_written test set [] escapes = ap (list_all test) (percent_encode-nil set)

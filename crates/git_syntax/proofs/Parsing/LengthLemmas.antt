@@ -26,7 +26,7 @@ white_left_out b bs white = rw white refl
 pub other_left_in : (b : ℕ) (bs : List ℕ) → is_ascii_whitespace b ≡ false → without_white_space (b ∷ bs) ≡ b ∷ without_white_space bs
 other_left_in b bs other = rw other refl
 
--- a text is no shorter than what is left of it without white space
+-- a text is no shorter than the rest of it without white space
 pub without_shorter : (text : List ℕ) → length (without_white_space text) ≤ length text
 without_shorter text =
     let both = length-filter_both (λ b. not (is_ascii_whitespace b)) (λ b. not (not (is_ascii_whitespace b))) (λ b. refl) text in

@@ -203,7 +203,7 @@ escape_sound : (b : ℕ) (rest : List ℕ) → is_sound rest ≡ true → is_sou
 unfolding percent_encode_byte
 escape_sound b rest sound = grind (arith, nat_tests, glyph_is_digit, and_from)
 
--- what is written by a set that has `%` is sound
+-- a text written by a set that has `%` is sound
 pub encode_sound : (set : AsciiSet) (t : List ℕ) → contains set 37 ≡ true → is_sound (percent_encode set t) ≡ true
 encode_sound set [] has = rw percent_encode-nil refl
 encode_sound set (b ∷ bs) has =
@@ -218,7 +218,7 @@ encode_sound set (b ∷ bs) has =
 escape_byte_passes : (b : ℕ) → IsEscapeByte b → is_escape_byte b ≡ true
 escape_byte_passes b h = grind (arith, nat_tests)
 
--- what is written lacks the bytes that fail the test both as kept bytes and as bytes of an escape
+-- the written text lacks the bytes that fail the test both as kept bytes and as bytes of an escape
 pub encode_lacks : (test : ℕ → Bool) (set : AsciiSet) (t : List ℕ) → ((b : ℕ) → b < 128 → contains set b ≡ false → test b ≡ false) → ((b : ℕ) → is_escape_byte b ≡ true → test b ≡ false) → Lacks test (percent_encode set t)
 encode_lacks test set t kept escapes =
     list_any_none test _ (All-percent_encode (λ b. test b ≡ false) set t (λ b keeps. kept b (ascii_from_kept set b keeps) (outside_from_kept set b keeps)) (λ b escape. escapes b (escape_byte_passes b escape)))
@@ -234,7 +234,7 @@ encode_empty set (b ∷ bs) none =
 pub encode_byte_kept : (set : AsciiSet) (b : ℕ) (bs : List ℕ) → b < 128 → contains set b ≡ false → percent_encode set (b ∷ bs) ≡ b ∷ percent_encode set bs
 encode_byte_kept set b bs ascii out = percent_encode_kept set b bs (kept_from_outside set b ascii out)
 
--- what is written lacks what the text lacks, except the bytes of an escape
+-- the written text lacks what the text lacks, except the bytes of an escape
 pub encode_lacks_kept : (test : ℕ → Bool) (set : AsciiSet) (t : List ℕ) → ((b : ℕ) → is_escape_byte b ≡ true → test b ≡ false) → Lacks test t → Lacks test (percent_encode set t)
 encode_lacks_kept test set [] escapes lacks = rw percent_encode-nil refl
 encode_lacks_kept test set (b ∷ bs) escapes lacks =
@@ -259,7 +259,7 @@ lacks_from_encode test set (b ∷ bs) escaped lacks = ⊎_elim
     or_from _ _ parts.0 (lacks_from_encode test set bs escaped parts.1))
     (cases_Bool (should_percent_encode set b))
 
--- what is written lacks a byte of the set that no escape has
+-- the written text lacks a byte of the set that no escape has
 pub encode_free : (set : AsciiSet) (t : List ℕ) (c : ℕ) → contains set c ≡ true → is_escape_byte c ≡ false → FreeOf c (percent_encode set t)
 encode_free set t c has other = grind (arith, nat_tests, encode_lacks, both_ways, eqb-true, false_from_ne_true)
 
@@ -397,14 +397,14 @@ bytes_from_utf8 t utf8 = subst (All IsByte) utf8.1.1 (small_encodes utf8.0 utf8.
 pub decode_encode_utf8 : (set : AsciiSet) (t : List ℕ) → contains set 37 ≡ true → IsUtf8 t → percent_decode (percent_encode set t) ≡ t
 decode_encode_utf8 set t has utf8 = round_trip set t has (bytes_from_utf8 t utf8)
 
--- what is written is UTF-8
+-- the written text is UTF-8
 pub utf8_encode : (set : AsciiSet) (t : List ℕ) → IsUtf8 (percent_encode set t)
 utf8_encode set t = IsUtf8-from_ascii (percent_encode set t) (IsAscii-percent_encode set t)
 
 space_kept : (set : AsciiSet) (b : ℕ) → ((c : ℕ) → c < 128 → is_whitespace c ≡ true → contains set c ≡ true) → b < 128 → contains set b ≡ false → is_whitespace b ≡ false
 space_kept set b spaces ascii kept = false_from_ne_true _ (λ space. both_ways _ kept (spaces b ascii space))
 
--- what is written by a set that has the ASCII white space lacks white space
+-- a text written by a set that has the ASCII white space lacks white space
 pub white_space_encode : (set : AsciiSet) (t : List ℕ) → ((b : ℕ) → b < 128 → is_whitespace b ≡ true → contains set b ≡ true) → LacksWhiteSpace (percent_encode set t)
 white_space_encode set t spaces =
     white_space_ascii (percent_encode set t) (IsAscii-percent_encode set t) (encode_lacks is_whitespace set t (λ b ascii kept. space_kept set b spaces ascii kept) (λ b escape. grind (arith, nat_tests)))

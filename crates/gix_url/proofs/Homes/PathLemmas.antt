@@ -111,7 +111,7 @@ pub unread_none : (left : Option (Bor (List ℕ))) → ((behind : Bor (List ℕ)
 unread_none None h = refl
 unread_none (Some behind) h = absurd (h behind refl)
 
--- what is left behind a segment is shorter than what was left with the `/` before it
+-- the rest behind a segment is shorter than what was left with the `/` before it
 pub shorter : (left : Option (Bor (List ℕ))) (text : Bor (List ℕ)) (segment : Bor (List ℕ)) (behind : Option (Bor (List ℕ))) → left ≡ Some text → CutsSegment text.now segment behind → length (unread behind) < length (unread left)
 shorter left text segment behind e h = rw (e, segment_cut text.now segment behind h) (omega (arith, length-append segment.now (unread behind)))
 
@@ -133,7 +133,7 @@ separator_more : (done : List (List ℕ)) (piece : List ℕ) → separator_of (d
 separator_more [] piece = refl
 separator_more (x ∷ xs) piece = refl
 
--- the pieces of the start that were read are joined behind the old text; with those of what is left they are
+-- the pieces of the start that were read are joined behind the old text; with those of the rest they are
 -- its pieces
 pub record Gathers (old out separator start left : List ℕ) : Type 0 where
   pub done : List (List ℕ)

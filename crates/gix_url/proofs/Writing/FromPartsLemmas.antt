@@ -83,7 +83,7 @@ url_spelled s other = scheme_cases (λ p. ¬ (p ≡ ext) → is_bare_kind p fals
     (λ not_ext kind. not_ext refl)
     (λ not_ext kind. false≢true kind)
 
--- what is spelled of such a kind has no spelling
+-- a spelled location of such a kind has no spelling
 url_bare : (b : List ℕ) (w : Location) → SpellsUrl b w → is_bare_kind w.scheme w.flag ≡ true → w.spelling ≡ None
 url_bare b w h kind =
     elim (means_cases (scheme_of h.parts.scheme) b h.parts w h.means) [

@@ -1,4 +1,4 @@
--- What is left is unsound, and its first broken escape is that of the text, further on.
+-- The rest is unsound, and its first broken escape is that of the text, further on.
 use Rattle.std.proofs.Common.{◌≡◌, ◌≤◌, ◌+◌, ℕ, false, length}
 use Rattle.git_syntax.specs.Escapes.{is_sound}
 use Rattle.git_syntax.specs.Places.{StandsBroken}
