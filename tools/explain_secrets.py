@@ -1,8 +1,9 @@
 """What of a line is shown: the program `explain` over lines with a marked secret, in both layouts.
 
-The lines are short inputs, remotes as people have them, and changes by chance of lines with a password. The secret never
-goes out where it is read as a password, nor of a refused line where it may be one; the member `input` is what the second
-reading says; and for people each piece stands for the field that the second reading has. No answer holds a control character.
+The lines are short inputs, realistic remotes, and changes by chance of lines with a password. The secret is never shown
+where it is read as a password, nor of a refused line where it may be one; the member `input` is what the second reading
+says; and in the text layout each piece stands for the field that the second reading has. No answer holds a control
+character.
 """
 import collections
 import json
@@ -83,7 +84,7 @@ def runs(row, places):
 
 
 def named(answer):
-    """The pieces with a name of a line that people are shown: the bytes of each."""
+    """The named pieces of a line in the text layout: the bytes of each."""
     rows = [it[4:] for it in answer.split("\n")[1:]]
     shown, below = columns(rows[0]), rows[1:]
     if not re.fullmatch(r"[ -]*-", below[0]):

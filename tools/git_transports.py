@@ -2,8 +2,8 @@
 that Git's commands open on this machine.
 
 Scripts that show what they get and end replace Secure Shell, the connection of `git://` and `git-upload-pack`, so Git
-goes all its way and nothing is connected to. OpenSSH is asked what it makes of a word by `ssh -G`, which connects to
-nothing either. The repositories are made each time in a folder of their own, which holds the home folder too.
+runs to its end and connects to nothing. OpenSSH is asked what it makes of a word by `ssh -G`, which connects to nothing
+either. The repositories are made each time in a folder of their own, which holds the home folder too.
 """
 import os
 import re

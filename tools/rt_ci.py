@@ -3,8 +3,8 @@
 `rt ci` guesses how much memory a check takes by a crate's lines, which is thrice too much for the library with its many
 definitions, and so checks it by one processor. Here slots limit how many run at a time, and all that can begin wait for
 one; edits, most of which take less, come behind them and fill what they leave. A crate below others waits for none. It
-judges as ever, and runs a check again that memory did not suffice for. A static library, of which `rt ci` keeps no file
-for later runs, is proved by each, and compiled of what its check proved, as programs are.
+judges as `rt ci` does, and repeats a check that memory did not suffice for. A static library, of which `rt ci` keeps no
+file for later runs, is proved by each, and compiled of what its check proved, as programs are.
 """
 import os
 import sys

@@ -41,7 +41,7 @@ extern "C" {
 #define GIX_URL_VERSION_PATCH 1
 #define GIX_URL_VERSION "0.40.1"
 
-/* The version of the library that is linked, as GIX_URL_VERSION: the text ends in a byte 0 and stays for good. */
+/* The version of the library that is linked, as GIX_URL_VERSION: the text ends in a byte 0 and is never freed. */
 const char *gix_url_version(void);
 
 /* What a call returns. */
@@ -226,12 +226,12 @@ gix_url_error gix_url_path_query_fragment(const gix_url *url, char *room, size_t
                                           size_t *needed_pairs);
 
 /* The message of an error, in the library's words: "the URL has an invalid port". The problem may be null, or have no
- * details: then the words say less. They show no byte of what was refused, end in a byte 0 and stay for good.
+ * details: then the words say less. They show no byte of what was refused, end in a byte 0 and are never freed.
  * Of GIX_URL_TOO_LONG the library's own words end in ", in a text of N bytes", where N is total of the problem. */
 const char *gix_url_error_words(gix_url_error error, const gix_url_problem *problem);
 
 /* The name of an error, a fault or a form, as EmptyLocal, BadPort or Scp; a number that stands for none is named "?". The
- * names end in a byte 0 and stay for good. */
+ * names end in a byte 0 and are never freed. */
 const char *gix_url_error_name(gix_url_error error);
 const char *gix_url_fault_name(gix_url_fault fault);
 const char *gix_url_write_fault_name(gix_url_write_fault fault);

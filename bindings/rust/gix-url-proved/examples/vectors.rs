@@ -281,7 +281,7 @@ fn told_order<T: Ord + Hash>(one: &T, other: &T) -> String {
     format!("[[{wholly},{partly}],[{},{}]]", one == other, hash(one) == hash(other))
 }
 
-/// Calls that change a location or take it: what the call answers, and what has become of the location.
+/// Calls that change a location or take it: what the call returns, and the location after it.
 fn change(order: &Order, call: &str, mut url: Url) -> Option<String> {
     let old = match call {
         "Url::set_user" => url.set_user(order.text("user")),
