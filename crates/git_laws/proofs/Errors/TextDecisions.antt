@@ -1,5 +1,5 @@
--- Decisions on texts: each test of the definitions passes or fails, and each text is cut at a mark or lacks
--- it.
+-- Decisions on texts: each test of the definitions passes or
+-- fails, and each text is cut at a mark or lacks it.
 use Rattle.std.proofs.Common.{◌≡◌, ℕ, ◌<◌, ◌==◌, ◌&&◌, Bool, true, ◌⊎◌, inl, inr, List, [], ◌∷◌, ◌++◌, length, length-append, refl, sym, ap, subst, ◌∙◌, arith, IsUtf8, eq-eqb}
 use Rattle.std.specs.List.{list_any, list_all}
 use Rattle.std.specs.Str.{chars, is_utf8}

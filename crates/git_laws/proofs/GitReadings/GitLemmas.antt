@@ -105,8 +105,8 @@ user_free : (c : ℕ) (user : Option (List ℕ)) → FreeOf c (at_sign ∷ []) �
 user_free c None mark free = refl
 user_free c (Some u) mark free = free-append c u (at_sign ∷ []) free mark
 
--- a settled location in the scp form has a text with this host, which is neither a URL nor for a remote
--- helper
+-- a settled location in the scp form has a text with this host,
+-- which is neither a URL nor for a remote helper
 record IsScpWritten (v : Location) (spelled : List ℕ) : Type 0 where
   neither : IsNeither (raw_user v.user ++ (spelled ++ colon ∷ v.path))
   written : text v ≡ Ok (raw_user v.user ++ (spelled ++ colon ∷ v.path))

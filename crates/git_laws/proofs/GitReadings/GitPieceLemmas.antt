@@ -1,5 +1,5 @@
--- The pieces of a written text: it holds a plain user and host and the port as they are, and the path is
--- decoded.
+-- The pieces of a written text: it holds a plain user and host and
+-- the port as they are, and the path is decoded.
 use Rattle.std.proofs.Common.{◌≡◌, ◌∙◌, ℕ, ◌<◌, true, false, not, ◌⊎◌, inl, inr, List, [], ◌∷◌, ◌++◌, decimal, Option, Some, None, IfSome, ◌==◌, if◌then◌else◌, refl, sym, ap, subst, arith}
 use Rattle.std.proofs.lemmas.Bool.Decides.{nat_tests}
 use Rattle.std.specs.Prelude.{IsSome}

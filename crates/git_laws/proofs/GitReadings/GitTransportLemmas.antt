@@ -1,5 +1,5 @@
--- Git reads in the text of a URL of one of its own transports the user, the host, the port and the path of
--- the location.
+-- Git reads in the text of a URL of one of its own transports the user,
+-- the host, the port and the path of the location.
 use Rattle.std.proofs.Common.{◌≡◌, ◌∙◌, ℕ, ◌<◌, true, false, ◌⊎◌, inl, inr, List, [], ◌∷◌, ◌++◌, length, ◌==◌, Option, Some, None, Ok, IfSome, IsUtf8, codes, refl, sym, ap, subst, arith, append_assoc}
 use Rattle.std.proofs.lemmas.Bool.Decides.{nat_tests}
 use Rattle.std.specs.Prelude.{IsSome}

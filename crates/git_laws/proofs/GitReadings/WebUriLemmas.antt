@@ -187,8 +187,8 @@ dots_decoded t sound h =
 
 -- ---- the text
 
--- a reader of URIs reads the location's own components in the text of a location of the class, which is in
--- the normal form
+-- a reader of URIs reads the location's own components in the text of a
+-- location of the class, which is in the normal form
 pub uri_own : (v : Location) → IsWeb v → IsValue v → AgreesOverWeb v → (host : List ℕ) → v.host ≡ Some host → (r : UriReading) × UriReads (canonical_text v) r × IsOwnUri v r × IsNormalUri r
 uri_own v web is a host there =
     let w = settled_as_web v web a.settled in

@@ -1,5 +1,5 @@
--- Stored locations: the new spelling of a legacy path is one, and stands for the same bytes; what is migrated
--- stays.
+-- Stored locations: the new spelling of a legacy path is one, and
+-- stands for the same bytes; what is migrated stays.
 use Rattle.std.proofs.Common.{◌≡◌, ℕ, ◌<◌, ◌≤◌, ◌+◌, ◌*◌, ◌/◌, ◌%◌, Bool, true, false, ◌||◌, ◌==◌, nat_lt, ⊎_elim, List, [], ◌∷◌, ◌++◌, take, drop, length, All, Option, Some, None, refl, sym, ap, subst, ◌∙◌, arith, bytes_eq}
 use Rattle.std.specs.Char.{is_digit, digit_value}
 use Rattle.std.specs.Fmt.{digit_glyph}

@@ -1,5 +1,5 @@
--- File URLs: what is read as one is settled with one exception, a settled one comes back, and nothing else
--- does.
+-- File URLs: what is read as one is settled with one exception, a
+-- settled one comes back, and nothing else does.
 use Rattle.std.proofs.Common.{◌≡◌, ℕ, Bool, true, false, not, ◌&&◌, ◌⊎◌, inl, inr, List, [], ◌∷◌, ◌++◌, length, Option, Some, None, Ok, Err, refl, sym, ap, subst, ◌∙◌, arith, codes, lit<, if◌then◌else◌}
 use Rattle.std.proofs.lemmas.Bool.Decides.{nat_tests}
 use Rattle.std.specs.Prelude.{IfSome, IsUtf8, is_some, is_none}
@@ -157,8 +157,8 @@ path_utf8 host path is_text rooted =
     let behind : IsUtf8 (host ++ path) = utf8_behind (codes "file://") (host ++ path) is_text file_mark_utf8 in
     subst IsUtf8 (sym cut) (utf8_seam host rest slash (subst (λ p. IsUtf8 (host ++ p)) cut behind) (lit< tt)).1
 
--- what is read as a file URL is settled, except a host with a colon and an escape that has no bracket at its
--- front
+-- what is read as a file URL is settled, except a host with a colon
+-- and an escape that has no bracket at its front
 pub file_closed : (b : List ℕ) (v : Location) → SpellsFile b v → ((h : List ℕ) → v.host ≡ Some h → StaysOpen h) → IsSettledFile v
 file_closed b v h stays =
     let hosted = host_settled h.host h.no_slash (λ host e. stays host (ap (λ l. l.host) h.value ∙ e)) in

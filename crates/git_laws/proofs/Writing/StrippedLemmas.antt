@@ -1,5 +1,5 @@
--- A settled location without its password: the rest of its text is short enough, so it is settled, unless
--- its user is empty.
+-- A settled location without its password: the rest of its text is short
+-- enough, so it is settled, unless its user is empty.
 use Rattle.std.proofs.Common.{◌≡◌, ℕ, ◌+◌, ◌<◌, ◌≤◌, Bool, true, false, not, ◌⊎◌, inl, inr, List, [], ◌∷◌, ◌++◌, length, length-append, Option, Some, None, IsSome, IfSome, refl, sym, ap, subst, ◌∙◌, arith}
 use Rattle.std.specs.List.{list_any, list_all}
 use Rattle.std.specs.Char.{is_ascii_whitespace, is_whitespace}
@@ -86,8 +86,8 @@ some_left (b ∷ bs) lacks some = omega (arith, ap length (other_left_in b bs (f
 
 -- ---- the front that counts
 
--- a text that the length test counts, before a path: it has no slash and no start of a path, and isn't
--- white space alone
+-- a text that the length test counts, before a path: it has no slash
+-- and no start of a path, and isn't white space alone
 pub record IsFront (web : Bool) (a : List ℕ) : Type 0 where
   pub no_slash : Lacks is_any_slash a
   pub before_path : Lacks (is_path_start web) a

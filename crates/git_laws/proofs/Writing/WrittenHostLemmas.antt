@@ -150,8 +150,8 @@ address_alone scheme a escapes h =
 pub address_in_brackets : (scheme : Scheme) (p : ℕ) (a : List ℕ) → IsIpv6Text a → written_host scheme (Some p) a ≡ left_bracket ∷ (a ++ right_bracket ∷ [])
 address_in_brackets scheme p a h3 = grind (arith, nat_tests, address_wants, escaped_percents_kept, address_free)
 
--- the text is a piece of an authority and names a port and a host out of which Secure Shell takes the given
--- one
+-- the text is a piece of an authority and names a port and a host
+-- out of which Secure Shell takes the given one
 record SpellsSshHost (text : List ℕ) (host : List ℕ) (port : Option ℕ) : Type 0 where
   named : List ℕ
   names : SpellsHostPort git_hosts text (Some named) port

@@ -374,7 +374,7 @@ transport_by v facts (inr home) url raw =
     let h : IsRawHome v = record { home = home.0; none = home.1; text = url.path_text; raw = all } in
     (home_written v facts h, inr (home.0, λ (s, is, same). none-some s (sym (home_none v facts h) ∙ is)), λ none. all)
 
--- the written path of a settled URL of Secure Shell or of Git's own protocol means its path, and is written
--- the same again
+-- the written path of a settled URL of Secure Shell or of Git's own
+-- protocol means its path, and is written the same again
 pub transport_path_written : (v : Location) → (v.scheme ≡ ssh) ⊎ (v.scheme ≡ git) → IsTransportPath v → HasUrlPath v → IsRawPath v → WritesPath false v × IsTransportPath (as_read v) × IsRawPath (as_read v)
 transport_path_written v transport path url raw = transport_by v (homes v transport) path url raw

@@ -115,8 +115,8 @@ name_front_no_bracket : (user : Option (List ℕ)) (h : List ℕ) → IfSome use
 name_front_no_bracket None h u n = free_begins left_bracket h n.normal.unbracketed.no_left_bracket
 name_front_no_bracket (Some user) h u n = begins_before_at user h u.no_bracket
 
--- the text isn't that of a remote helper: its front is the name alone, or holds an `@`, which no helper's
--- name does
+-- the text isn't that of a remote helper: its front is the name
+-- alone, or holds an `@`, which no helper's name does
 name_no_helper : (user : Option (List ℕ)) (h path : List ℕ) → FreeOf colon (name_front user h) → ¬ LooksLikeHelper (scp_value user h path None) h → ¬ HasHelperForm (name_front user h ++ colon ∷ path)
 name_no_helper None h path free other (name, address, k) =
     let same = helper_front _ h path name address k free refl in

@@ -205,8 +205,8 @@ percent_written set t has = (λ none. no_percent set t has none, λ free. none_e
 
 -- ---- bytes of paths
 
--- the written text passes a test of each byte that escapes pass, where each byte of the text passes it or is
--- escaped
+-- the written text passes a test of each byte that escapes pass,
+-- where each byte of the text passes it or is escaped
 all_written : (test : ℕ → Bool) (set : AsciiSet) (t : List ℕ) → ((b : ℕ) → IsEscapeByte b → test b ≡ true) → list_all test (percent_encode set t) ≡ list_all (λ b. should_percent_encode set b || test b) t
 all_written test set [] escapes = ap (list_all test) (percent_encode-nil set)
 all_written test set (b ∷ bs) escapes =

@@ -100,8 +100,8 @@ path_no_option (b ∷ bs) h = (test_false _ _ _ (test_false _ _ _ h).1).0
 digits_no_option : (port : ℕ) → port < 65536 → is_option_like (decimal port) ≡ false
 digits_no_option port small = free_begins hyphen (decimal port) (free_of_all is_ascii_digit hyphen (decimal port) (decimal_digits port small).1 refl)
 
--- no word of the location is an option, Secure Shell cuts its word where it was joined, and a shell reads two
--- words
+-- no word of the location is an option, Secure Shell cuts its word
+-- where it was joined, and a shell reads two words
 pub safe_command : (c : Command) → IsSafe c → IfSome c.port (λ p. p < 65536) → IsSafeCommand c
 safe_command c safe small =
     let all = both_none _ _ (none_from_test _ safe) in

@@ -1,5 +1,5 @@
--- The forms of a text: where its pieces are cut, that they are cut in one way, and that one form excludes the
--- others.
+-- The forms of a text: where its pieces are cut, that they are cut in
+-- one way, and that one form excludes the others.
 use Rattle.std.proofs.Common.{◌≡◌, ℕ, ◌+◌, ◌<◌, true, false, ◌⊎◌, inl, inr, List, [], ◌∷◌, ◌++◌, length, take, drop, refl, sym, ap, subst, ◌∙◌, arith, append_assoc, length-append, ◌==◌, eq-eqb, IsUtf8, codes, bytes_eq}
 use Rattle.std.proofs.Math.Seq.{drop-append-add}
 use Rattle.std.proofs.lemmas.Bool.{eqb-true, both_ways, false≢true}

@@ -1,5 +1,5 @@
--- Hosts and ports: what a piece of an authority looks like, that it names at most one host and port, and none
--- where it has a flaw.
+-- Hosts and ports: what a piece of an authority looks like, that it names at
+-- most one host and port, and none where it has a flaw.
 use Rattle.std.proofs.Common.{◌≡◌, ℕ, ◌+◌, ◌<◌, ◌≤◌, true, false, ◌==◌, ◌⊎◌, inl, inr, List, [], ◌∷◌, ◌++◌, length, take, drop, Option, Some, None, Err, ◌^◌, rules, refl, sym, ap, subst, ◌∙◌, arith, append_assoc, length-append}
 use Rattle.std.specs.List.{list_all}
 use Rattle.std.specs.Char.{is_ascii_digit, to_ascii_lowercase}

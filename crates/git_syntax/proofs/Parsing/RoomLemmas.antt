@@ -1,5 +1,5 @@
--- How much room what is found takes: no part of a location is longer than the piece of the text that it was
--- read of.
+-- How much room what is found takes: no part of a location is longer
+-- than the piece of the text that it was read of.
 use Rattle.std.proofs.Common.{◌≡◌, ℕ, suc, ◌+◌, ◌<◌, ◌≤◌, true, ◌==◌, List, [], ◌∷◌, ◌++◌, length, take, Option, refl, ap, ◌∙◌, arith, length-append}
 use Rattle.std.proofs.lemmas.Bool.Decides.{nat_tests}
 use Rattle.std.specs.Prelude.{codes}

@@ -1,5 +1,5 @@
--- Texts cut around a byte or a mark: what the pieces lack, that the text determines them, and what classes of
--- bytes lack.
+-- Texts cut around a byte or a mark: what the pieces lack, that the
+-- text determines them, and what classes of bytes lack.
 use Rattle.std.proofs.Common.{◌≡◌, ℕ, zero, suc, ◌+◌, ◌<◌, ◌≤◌, Bool, true, false, ◌==◌, ◌⊎◌, inl, inr, List, [], ◌∷◌, ◌++◌, length, take, drop, get_or, refl, sym, ap, subst, ◌∙◌, arith, append_assoc, add-one, eqb, Some, None, bytes_eq}
 use Rattle.std.proofs.lemmas.Bool.Decides.{nat_tests}
 use Rattle.std.specs.List.{list_any, list_all, position_or_len}
@@ -293,8 +293,8 @@ held_free bs h (front, rest, e) = not_free colon front (47 ∷ 47 ∷ rest) (sub
 not_held_behind : (mark : List ℕ) (b : ℕ) (bs : List ℕ) → ¬ Holds mark (b ∷ bs) → ¬ Holds mark bs
 not_held_behind mark b bs h (front, rest, e) = h (b ∷ front, rest, ap (λ z. b ∷ z) e)
 
--- the pieces around a mark that doesn't reach from a text without it into one that follows: the first doesn't
--- hold it
+-- the pieces around a mark that doesn't reach from a text without it
+-- into one that follows: the first doesn't hold it
 pub held_cut_unique : (mark : List ℕ) → ((b : ℕ) (bs x y : List ℕ) → ¬ Holds mark (b ∷ bs) → mark ++ x ≡ b ∷ (bs ++ (mark ++ y)) → ⊥) → (a b x y : List ℕ) → ¬ Holds mark a → ¬ Holds mark b → a ++ (mark ++ x) ≡ b ++ (mark ++ y) → (a ≡ b) × (x ≡ y)
 held_cut_unique mark apart [] [] x y f g e = (refl, append_cancel_left mark x y e)
 held_cut_unique mark apart [] (d ∷ b) x y f g e = absurd (apart d b x y g e)

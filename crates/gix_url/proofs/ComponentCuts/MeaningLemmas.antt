@@ -12,8 +12,8 @@ use Rattle.gix_url.specs.Internal.Meanings.{meant_by}
 use Rattle.git_laws.proofs.ComponentCuts.ComponentLemmas.{spaces_free}
 use Rattle.git_syntax.proofs.Texts.EscapeLemmas.{decode_byte, decode_broken, decode_escape, digits_before}
 
--- a byte that parts a text: it is neither `%` nor a hexadecimal digit, so it neither begins an escape nor
--- ends one
+-- a byte that parts a text: it is neither `%` nor a hexadecimal
+-- digit, so it neither begins an escape nor ends one
 pub record Parts (c : ℕ) : Type 0 where
   pub digit : is_digit c 16 ≡ false
   pub percent : (c == 37) ≡ false

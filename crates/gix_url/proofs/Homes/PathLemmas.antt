@@ -133,8 +133,8 @@ separator_more : (done : List (List ℕ)) (piece : List ℕ) → separator_of (d
 separator_more [] piece = refl
 separator_more (x ∷ xs) piece = refl
 
--- the pieces of the start that were read are joined behind the old text; with those of the rest they are
--- its pieces
+-- the pieces of the start that were read are joined behind the old
+-- text; with those of the rest they are its pieces
 pub record Gathers (old out separator start left : List ℕ) : Type 0 where
   pub done : List (List ℕ)
   pub separated : separator ≡ separator_of done
