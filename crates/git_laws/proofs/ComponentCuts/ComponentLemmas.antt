@@ -1,4 +1,4 @@
--- What is read of a settled location of HTTP has the same components.
+-- Reading a settled location of HTTP again keeps its components.
 use Rattle.std.proofs.Common.{◌≡◌, ℕ, ◌<◌, Bool, true, false, ◌==◌, ◌↔◌, inl, inr, List, [], ◌∷◌, ◌++◌, map, Option, Some, None, Ok, IsUtf8, IfSome, option_map, if◌then◌else◌, All, refl, sym, ap, subst, ◌∙◌, ⊎_elim, arith}
 use Rattle.std.specs.List.{list_any, join_with_byte}
 use Rattle.std.proofs.lemmas.Bool.{cond-true, cond-false, cases_Bool, both_ways, false≢true, or_parts, eqb-true, false_from_ne_true}

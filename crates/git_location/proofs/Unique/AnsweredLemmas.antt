@@ -1,5 +1,5 @@
--- What a reader answers that finds what the bytes spell, and refuses where they spell nothing, with memory or
--- with a buffer; and that both answer alike.
+-- The answers of a reader that finds the location that the bytes spell, or
+-- refuses, with memory or with a buffer: both answer alike.
 use Rattle.std.proofs.Common.{◌≡◌, ◌≤◌, ℕ, List, [], length, Result, Ok, Err, ap, subst, arith}
 use Rattle.std.specs.Prelude.{IfOk, IfErr}
 use Rattle.git_location.specs.declared.parse_error.ParseError.{ParseError}

@@ -1,4 +1,4 @@
--- A location with its path resolved: what the resolver answered, by what came of it.
+-- A location with its path resolved, by the resolver's answer.
 use Rattle.std.proofs.Common.{◌≡◌, ◌⊎◌, inr, Option, Some, None, MatchOption, Result, Ok, Err, String}
 use Rattle.std.specs.Global.{Global}
 use Rattle.std.specs.String.{string_bytes}

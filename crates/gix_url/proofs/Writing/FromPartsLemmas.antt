@@ -1,4 +1,4 @@
--- What is made of parts: a name that no helper can have has no text, and settled parts come back.
+-- Locations made of parts: a name that no helper can have has no text, and settled parts come back.
 use Rattle.std.proofs.Common.{◌≡◌, ℕ, true, false, not, ◌==◌, inl, inr, List, [], ◌∷◌, ◌++◌, codes, bytes_eq, Option, Some, None, Result, Ok, Err, refl, sym, ap, subst, ◌∙◌}
 use Rattle.std.specs.Prelude.{cond, Bool, ◌&&◌}
 use Rattle.std.proofs.lemmas.Bool.{both_ways, cond-false, cond_both, false≢true}
