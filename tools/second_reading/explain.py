@@ -135,7 +135,7 @@ def reread(v):
 
 
 def reading(v):
-    """The location as the classes of Git's readings have it: of what Git hands to another program there are no parts."""
+    """The location as the classes of Git's readings have it: of what Git passes to another program there are no parts."""
     if not is_of_files(v):
         return Reading(f"helper {lossy(grammar.as_str(v.scheme))}", None, None, None, None, None)
     return Reading(v.scheme[0].lower(), v.user, v.password, v.host or None, v.port, v.path)
