@@ -20,7 +20,7 @@ sys.path.append(f"{sys.path[0]}/../tools")
 from rt_api import LAYERS, ROOT, stands_on
 from source_modules import methods, modules, read, sources_of, targets
 
-# What every crate stands on.
+# The crates below every crate.
 ASSUMED = {"std", "core"}
 
 
@@ -31,7 +31,7 @@ def methods_of(layer):
 
 
 def uses(layer):
-    """What each room of a layer uses: rooms at the root, other crates, and of one inside another its neighbours."""
+    """What each module of a layer uses: modules at the root, other crates, and of one inside another its neighbours."""
     known, found = modules(sources_of(layer)), {}
     of_urls = methods_of(layer)
     for room in known:

@@ -138,7 +138,7 @@ def rows():
     return dict(re.findall(r"(?m)^([\w-]+) += (.*)$", block))
 
 
-# A location, each field with its name, its colour in light, and what stands between.
+# A location, each field with its name, its colour in light, and what separates it.
 FIELDS = (("ssh", "scheme", "#8e44ad"), ("://", "", ""), ("git", "user", "#c0392b"), ("@", "", ""), ("example.com", "host", "#1f6fb2"),
           (":", "", ""), ("2222", "port", "#b9770e"), ("/group/repo.git", "path", "#1e8449"))
 

@@ -26,7 +26,7 @@ def edits_touched(folder, edits, changed):
     if any(re.match(r"specs/|proofs/(?:[A-Z]\w*/)?\w+\.antt$", it) for it in changed):
         return edits
     used = uses_of(folder)
-    # The answers for a function stand in a folder that begins with the path of its module.
+    # The answers for a function are in a folder that begins with the path of its module.
     sources = {it for it in used if it in changed or any(other.startswith(f"proofs/{it[4:-3]}/") for other in changed)}
 
     def is_touched(edit):

@@ -4,13 +4,13 @@ Many change the body of one function each, and one check can try them together. 
 the contracts of what it calls, so an edit of one body leaves the goals of all other functions as they are, and the check
 says of each function by itself what is not proved. An edit counts as refused here only where the check names a goal of
 the very function that it changes, or an answer to one of its goals that no longer answers it. The second says less: the
-goal may have another answer, so `refused_by` tells the two apart.
+goal may have another answer, so `refused_by` distinguishes the two.
 
 An edit of anything else, definitions or a constant, has a line `# refused_by: NAME`, the law or function that is not proved
 with it, and is tried by a check of that alone. It counts as refused here only where the check says of this very law or
 function that it is not proved, and of no lemma that it names what the edit took away.
 
-What these checks have nothing to say of is left to be tried alone, as is what doesn't read.
+An edit of which these checks say nothing is left to be tried alone, as is one that doesn't read.
 """
 import re
 
@@ -86,7 +86,7 @@ def groups_of(kit, crate, edits, lanes):
             by_place.setdefault(place, []).append((edit, place))
     number = max([lanes, *map(len, by_place.values())])
     groups = [[] for _ in range(number)]
-    # A function's edits stand next to each other in this order, and so come into different groups.
+    # A function's edits are next to each other in this order, and so come into different groups.
     for at, it in enumerate(it for found in by_place.values() for it in found):
         groups[at % number].append(it)
     return [it for it in groups if it] + [[it] for it in placed if not it[1]]
@@ -95,8 +95,8 @@ def groups_of(kit, crate, edits, lanes):
 def joined(crate, group):
     """The texts of the files with the edits of the group made, and which were made.
 
-    Each is made where its text stands in the file as it is, since another's new text may read the same. One whose text
-    doesn't stand there once is left out.
+    Each is made at its text in the file as it is, since another's new text may read the same. One whose text doesn't
+    occur there exactly once is left out.
     """
     texts, changes, made = {}, {}, []
     for edit, place in group:
@@ -152,7 +152,7 @@ def lines_to(crate, place):
 
 
 def begin_of(crate, place):
-    """The line of the first attribute of the function at a place, or else that in which it begins: goals are told there."""
+    """The line of the first attribute of the function at a place, or else its first line: goals are reported there."""
     *above, _ = lines_to(crate, place)
     while above and above[-1].lstrip().startswith("#["):
         above.pop()
@@ -177,7 +177,7 @@ def owner_of(crate, place):
 
 
 def joined_names(parameters, of_trait, of_type):
-    """A type and a trait as names of functions have them: their last names, each with its arguments, but for parameters."""
+    """A type and a trait as in names of functions: their last names, each with its arguments except parameters."""
     unnamed, words = {it.split(":")[0].strip() for it in parameters.split(",")}, []
     for it in (of_type, of_trait):
         head, _, arguments = it.partition("<")
@@ -186,12 +186,12 @@ def joined_names(parameters, of_trait, of_type):
 
 
 def path_of(crate, place):
-    """The end of the path of the function at a place, which tells it from others: its type or its module, and its name."""
+    """The end of the path of the function at a place, which names no other: its type or its module, and its name."""
     return "::".join(it for it in (owner_of(crate, place) or module_of(place).replace("/", "::"), name_at(crate, place)) if it)
 
 
 def bad_answer(crate, places, place, lines):
-    """What is said of the answers of the function at a place, if its name, or its type's, tells it from those at the others."""
+    """What is said of the answers of the function at a place, if its name or its type's is unlike those at the others."""
     name, owner, module = name_at(crate, place), owner_of(crate, place), module_of(place)
     alike = [owner_of(crate, it) for it in places if name_at(crate, it) == name]
     for line in lines:

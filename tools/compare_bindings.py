@@ -1,8 +1,8 @@
-"""Fails where a binding tells of a line otherwise than the program `explain` does: `compare_bindings.py LINES ANSWERS EXPLAINED`.
+"""Fails where a binding answers a line otherwise than `explain`: `compare_bindings.py LINES ANSWERS EXPLAINED`.
 
-ANSWERS are those of `bindings/tests/members.c` or of the example `members` of the Rust crate, EXPLAINED those of `explain --json`.
-Bytes that are no UTF-8 are U+FFFD in JSON, and are compared so. Whether Git reads the same is compared with the rule by
-hand of `docs/GIT.md`, asked of what a second reading of the grammar finds in the line.
+ANSWERS are those of `bindings/tests/members.c` or of the example `members` of the Rust crate, EXPLAINED those of
+`explain --json`. Bytes that aren't UTF-8 are U+FFFD in JSON, and are compared so. Whether Git reads the same is
+compared with the rule by hand of `docs/GIT.md`, asked of what a second reading of the grammar finds in the line.
 """
 import json
 import sys
@@ -62,7 +62,7 @@ def lines_of(name):
 def main():
     lines, answers, explained = map(lines_of, sys.argv[1:])
     if not len(lines) == len(answers) == len(explained) > 0:
-        sys.exit(f"compare_bindings: {len(answers)} answers and {len(explained)} of explain stand beside {len(lines)} lines")
+        sys.exit(f"compare_bindings: {len(answers)} answers and {len(explained)} of explain for {len(lines)} lines")
     faults = 0
     for number, (line, answer, said) in enumerate(zip(lines, answers, explained), 1):
         binding, wanted = of_binding(answer.decode()), of_explain(json.loads(said), line)
@@ -71,7 +71,7 @@ def main():
             if faults <= 5:
                 print(f"line {number}: {line.decode(errors='replace')}\n  binding: {binding}\n  wanted:  {wanted}", file=sys.stderr)
     if faults:
-        sys.exit(f"compare_bindings: {faults} lines are told otherwise")
+        sys.exit(f"compare_bindings: {faults} lines are answered otherwise")
     print(len(answers))
 
 

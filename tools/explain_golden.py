@@ -1,4 +1,4 @@
-"""What people are shown: the program `explain` over the lines of `crates/explain/golden`, whose answers were written by hand.
+"""The text output of `explain` over the lines of `crates/explain/golden`, whose answers were written by hand.
 
 The crate's one stored run is JSON. Among the lines are some with control characters in each part that is shown, which must
 not reach a terminal. Each line of the file `alarms` raises an alarm, and no plain remote of 10,000 does. A hint is one.
@@ -36,26 +36,26 @@ def written_by_hand():
     wanted = stored("stdout")
     status, answers = shown(stored("stdin").split(b"\n")[:-1])
     found = b"".join(answers)
-    yield from (f"people are shown {it!r}" for it in set(found.split(b"\n")) - set(wanted.split(b"\n")))
+    yield from (f"explain prints {it!r}" for it in set(found.split(b"\n")) - set(wanted.split(b"\n")))
     if re.search(r"[^\n\x20-\x7e\xa0-\U0010ffff]", found.decode("utf-8", "replace")):
-        yield "people are shown a control character as it is"
+        yield "explain prints a control character as it is"
     if status != 1:
         yield f"the status is {status}, and not 1"
     if found != wanted:
-        yield "people are shown other lines, the same in another order, or fewer of them"
+        yield "explain prints other lines, the same in another order, or fewer of them"
 
 
 def in_colours():
     """Where answers in colours are other ones, or the first coloured lines are not as they were written by hand."""
     ran = subprocess.run([program("explain"), "--color=always"], input=stored("stdin"), stdout=subprocess.PIPE, timeout=60)
     if re.sub(rb"\x1b\[[0-9;]*m", b"", ran.stdout) != stored("stdout"):
-        yield "in colours people are shown something else"
+        yield "in colours explain prints something else"
     colored, wanted = [it for it in ran.stdout.splitlines() if b"\x1b" in it], stored("colored").splitlines()
-    yield from (f"in colours people are shown {got!r}, and not {want!r}" for got, want in zip(colored, wanted) if got != want)
+    yield from (f"in colours explain prints {got!r}, and not {want!r}" for got, want in zip(colored, wanted) if got != want)
 
 
 def false_alarms(lines):
-    """The lines about which people are alarmed."""
+    """The lines that raise an alarm."""
     return [line for line, answer in zip(lines, shown(lines)[1]) if ALARM.search(answer)]
 
 

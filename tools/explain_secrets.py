@@ -1,8 +1,9 @@
 """What of a line is shown: the program `explain` over lines with a marked secret, in both layouts.
 
-The lines are short inputs, remotes as people have them, and changes by chance of lines with a password. The secret never
-goes out where it is read as a password, nor of a refused line where it may be one; the member `input` is what the second
-reading says; and for people each piece stands for the field that the second reading has. No answer holds a control character.
+The lines are short inputs, realistic remotes, and changes by chance of lines with a password. The secret is never shown
+where it is read as a password, nor of a refused line where it may be one; the member `input` is what the second reading
+says; and in the text layout each piece stands for the field that the second reading has. No answer holds a control
+character.
 """
 import collections
 import json
@@ -76,14 +77,14 @@ def columns(text):
 
 
 def runs(row, places):
-    """Where the lines under pieces begin and end: two that touch, the second of one column, are told apart by the names."""
+    """Where the lines under pieces begin and end: two that touch, the second of one column, differ by their names."""
     for run in re.finditer("-+", row):
         cuts = [run.start(), *(it for it in sorted(places) if run.start() < it < run.end()), run.end()]
         yield from zip(cuts, cuts[1:])
 
 
 def named(answer):
-    """The pieces with a name of a line that people are shown: the bytes of each."""
+    """The named pieces of a line in the text layout: the bytes of each."""
     rows = [it[4:] for it in answer.split("\n")[1:]]
     shown, below = columns(rows[0]), rows[1:]
     if not re.fullmatch(r"[ -]*-", below[0]):
@@ -98,7 +99,7 @@ def named(answer):
 
 
 def is_of_fields(v, found, line):
-    """Whether the pieces stand for what is read. What stands on the web behind a path is told by the library's parts."""
+    """Whether the pieces stand for what is read. Behind a path of HTTP they are the library's components."""
     form = explain.form(v)
     if form == "remote_helper":
         return found.get("address", b"") == v.path and found.get("helper", grammar.as_str(v.scheme)) == grammar.as_str(v.scheme)

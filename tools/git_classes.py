@@ -1,17 +1,17 @@
 """The classes of texts in which Git and this library read different things.
 
-A class tells by the text and by the two readings in which parts they differ because of it. A difference belongs to the
-classes that together tell all of its parts, and is counted in the first of them: those by which another machine or another
-user is meant come first, then those of another path, of the same place spelled otherwise, and of texts that one side
-alone refuses.
+A class gives, for a text and the two readings, the parts in which they differ because of it. A difference belongs to
+the classes that together give all of its parts, and is counted in the first of them: those by which another machine or
+another user is meant come first, then those of another path, of the same place spelled otherwise, and of texts that one
+side alone refuses.
 """
 import re
 from collections import namedtuple
 from functools import cached_property
 
-# What a side reads: the protocol, `helper NAME` for what Git hands to another program, and the parts that are there.
+# What a side reads: the protocol, `helper NAME` for what Git passes to another program, and the parts that are there.
 Reading = namedtuple("Reading", "protocol user password host port path")
-# What is told in place of a protocol where Git's reading isn't one place: a local path that begins with `~`, of which
+# What replaces the protocol where Git's reading isn't one place: a local path that begins with `~`, of which
 # `git fetch`, `git push` and `git ls-remote` look below a home folder and `git clone` takes the path as it is; and a word
 # that OpenSSH reads as a URL.
 HOME, SECURE_URL = "home", "url of ssh"
@@ -54,13 +54,13 @@ class Case:
 
     @cached_property
     def rest(self):
-        """What stands behind the scheme of a URL."""
+        """What follows the scheme of a URL."""
         found = URL.fullmatch(self.text)
         return found and found[1]
 
     @cached_property
     def authority(self):
-        """What stands before the path of a URL, escapes as they are."""
+        """What comes before the path of a URL, escapes as they are."""
         return None if self.rest is None else self.rest.partition(b"/")[0]
 
     @cached_property
@@ -70,7 +70,7 @@ class Case:
 
     @cached_property
     def is_cut_otherwise(self):
-        """Both sides read the same user, password, host and port one behind the other, and part them at other places."""
+        """Both sides read the same user, password, host and port one behind the other, and cut them at other places."""
         return isinstance(self.git, Reading) and self.protocol is not None and spelled(self.git) == spelled(self.ours)
 
 
@@ -244,7 +244,7 @@ CLASSES = {
 
 
 def is_careful(case, is_same):
-    """What `docs/GIT.md` tells a careful user to ask by hand of a text, before Git gets it for the place that is read here.
+    """The rule by hand of `docs/GIT.md`: what to ask of a text before Git gets it for the place that is read here.
 
     It is what `Url::agrees_with_git` asks of a text that is written as it was read. `is_same` says that the text is settled
     and is what `to_bstring` writes.
@@ -269,7 +269,7 @@ def is_careful(case, is_same):
 
 
 def class_of(case, classes):
-    """The name of the class in which a difference is counted; None where the classes don't tell all of its parts."""
+    """The name of the class in which a difference is counted; None where the classes don't give all of its parts."""
     told = {name: case.differing & frozenset(parts(case)) for name, parts in classes.items()}
     if frozenset().union(*told.values()) < case.differing:
         return None

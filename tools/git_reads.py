@@ -1,15 +1,15 @@
 """A second reading of `GitReads`, the definition of what Git reads in a text (`crates/git_laws/specs/Git.antt`).
 
-Each function is a relation of the definition, and answers all that stands in it to what is given: every cut of the text is
-tried, and what each case asks is asked of it. It takes no word from Git: `scripts/git_witness` lays beside it what Git
-tells. `unread` says why a text has no reading, by the names that `explain` has for it.
+Each function is a relation of the definition, and returns all that it relates to what is given: every cut of the text
+is tried, and what each case asks is asked of it. It asks Git nothing: `scripts/git_witness` compares it with what
+Git reads. `unread` says why a text has no reading, by the names that `explain` has for it.
 """
 import re
 
 from git_classes import Reading
 
 PROTOCOLS = {b"ssh": "ssh", b"git+ssh": "ssh", b"ssh+git": "ssh", b"git": "git", b"file": "file"}
-# An escape, but for that of byte 0.
+# An escape, except that of byte 0.
 GIT_ESCAPE = re.compile(rb"%(?!00)([0-9A-Fa-f]{2})")
 HELPER_FORM = re.compile(rb"[0-9A-Za-z][0-9A-Za-z+.-]*::")
 HELPER_URL = re.compile(rb"([0-9A-Za-z][0-9A-Za-z+.-]*)://")
@@ -17,7 +17,7 @@ ON_THIS_MACHINE = Reading("file", None, None, None, None, b"")
 
 
 def cuts(text, mark):
-    """What stands before a mark and behind it, for each place where one stands."""
+    """The text before a mark and the text behind it, for each mark."""
     return [(text[:at], text[at + len(mark) :]) for at in range(len(text)) if text.startswith(mark, at)]
 
 
@@ -26,14 +26,14 @@ def first_cuts(text, mark):
 
 
 def opens_host(text):
-    """The front before a bracket that opens a host, and what stands behind the bracket."""
+    """The front before a bracket that opens a host, and what follows the bracket."""
     behind_at = [(user + b"@", rest) for user, rest in cuts(text, b"@[") if b"@[" not in user]
     at_front = [(b"", text[1:])] if text[:1] == b"[" and b"@[" not in text else []
     return behind_at + at_front
 
 
 def in_brackets(text):
-    """The front, what is in the brackets, and what stands behind them."""
+    """The front, what is in the brackets, and what follows them."""
     return [(front, inside, behind) for front, rest in opens_host(text) for inside, behind in first_cuts(rest, b"]")]
 
 
@@ -49,7 +49,7 @@ def host_ends(text):
 
 
 def places(mark, text):
-    """The place before a mark that isn't passed over, and what stands behind the mark."""
+    """The place before a mark that isn't passed over, and what follows the mark."""
     return [(passed + between, rest) for passed, end in host_ends(text) for between, rest in first_cuts(end, mark)]
 
 
@@ -61,7 +61,7 @@ def git_port(text):
 
 
 def before_ports(text):
-    """What stands before a port, and the port."""
+    """What comes before a port, and the port."""
     found = [] if b":" in text else [(text, None)]
     for front, digits in first_cuts(text, b":"):
         port = git_port(digits)
@@ -119,17 +119,17 @@ def reads_url(protocol, place, path):
 
 
 def is_remote(text):
-    """Whether a colon stands in the text before any `/`."""
+    """Whether the text has a colon before any `/`."""
     return any(b"/" not in front for front, _ in cuts(text, b":"))
 
 
 def is_other(text):
-    """Whether the text is no URL, and not for a remote helper or `rsync`."""
+    """Whether the text isn't a URL, and not for a remote helper or `rsync`."""
     return not (b"://" in text or HELPER_FORM.match(text) or text.startswith((b"::", b"rsync:")))
 
 
 def reads_other(text):
-    """What is read in a text that is no URL: the scp form and local paths."""
+    """What is read in a text that isn't a URL: the scp form and local paths."""
     if not is_other(text):
         return []
     is_local = b":" not in text or any(b":" not in front for front, _ in cuts(text, b"/"))
@@ -140,7 +140,7 @@ def reads_other(text):
 
 
 def own_urls(text):
-    """The protocol, and what stands behind the `://`, decoded, of a URL of a transport."""
+    """The protocol, and what follows the `://`, decoded, of a URL of a transport."""
     urls = [(PROTOCOLS[scheme], rest) for scheme, rest in cuts(text, b"://") if scheme in PROTOCOLS]
     return [(protocol, GIT_ESCAPE.sub(lambda it: bytes([int(it[1], 16)]), rest)) for protocol, rest in urls]
 
@@ -157,7 +157,7 @@ def git_reads(text):
 # ---- texts without a reading
 
 def is_for_helper(text):
-    """Whether Git hands the text to a remote helper: `name::address`, or a URL of a scheme that isn't Git's own."""
+    """Whether Git passes the text to a remote helper: `name::address`, or a URL of a scheme that isn't Git's own."""
     scheme = HELPER_URL.match(text)
     return HELPER_FORM.match(text) or text.startswith(b"::") or (scheme and scheme[1] not in (*PROTOCOLS, b"rsync"))
 

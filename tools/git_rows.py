@@ -18,7 +18,7 @@ ROW = re.compile(r"GitReads \((codes .*?)\) (?:\((by_ssh|by_git|on_this_machine)
 NAMED = {"tab": 9, "newline": 10}
 # The calls over a text that is read.
 CALLS = ("Url::is_settled", "Url::to_bstring", "Url::agrees_with_git")
-# Where an example stands, its class, its text, and what Git and this library read in it.
+# The place of an example, its class, its text, and what Git and this library read in it.
 Example = namedtuple("Example", "place class_name text git ours")
 
 

@@ -1,9 +1,9 @@
 """What Git's transports come to: the words that Git gives their programs, what OpenSSH makes of them, and the repositories
 that Git's commands open on this machine.
 
-In place of Secure Shell, of the connection of `git://` and of `git-upload-pack` stand scripts that show what they get and
-end, so Git goes all its way and nothing is connected to. OpenSSH is asked what it makes of a word by `ssh -G`, which
-connects to nothing either. The repositories are made anew in a folder of their own, which holds the home folder too.
+Scripts that show what they get and end replace Secure Shell, the connection of `git://` and `git-upload-pack`, so Git
+runs to its end and connects to nothing. OpenSSH is asked what it makes of a word by `ssh -G`, which connects to nothing
+either. The repositories are made each time in a folder of their own, which holds the home folder too.
 """
 import os
 import re
@@ -14,7 +14,7 @@ from concurrent.futures import ThreadPoolExecutor
 
 from git_classes import HOME, SECURE_URL, Reading
 
-# What Git reads, and to which program it hands a text: no transport but `ssh` is allowed.
+# What Git reads, and to which program it passes a text: no transport but `ssh` is allowed.
 ASK_GIT = r"""
 for text; do
   git ls-remote -- "$text" 2>&1; printf '\0'
@@ -112,7 +112,7 @@ def quoted(text):
 
 
 def secure_words(reading):
-    """What Secure Shell gets for a reading: its last two words, and the port that stands among its options."""
+    """What Secure Shell gets for a reading: its last two words, and the port among its options."""
     user = b"" if reading.user is None else reading.user + b"@"
     return user + (reading.host or b""), b"git-upload-pack " + quoted(reading.path), reading.port
 
@@ -186,7 +186,7 @@ def ask_secure_shell(pairs):
 
 def secure_fault(answer, reading):
     """What is wrong with what OpenSSH makes of the word for a reading, if anything is. Its host is the one that it gives
-    itself: beside it stands the host that it would look for, in lower case."""
+    itself, not the host that it would look for, which is in lower case."""
     user = NO_USER if reading.user is None else reading.user
     port = SECURE_PORT if reading.port is None else reading.port
     found = re.search(rb"(?:\A|\n)host (.*?)\nuser (.*?)\nhostname .*?\nport ([0-9]+)\n", answer, re.S)
@@ -235,9 +235,9 @@ def secure_faults(readings, answers):
 # ---- repositories
 
 HERE, HOMES = "here", "home"
-# The repositories, below the room.
+# The repositories, below the folder.
 REPOSITORIES = ("home/x", "here/x", "here/~/x", "here/~no-such-user/x", "here/a:b", "here/]/c", "here/a@[b]/c")
-# A text, with the room's path where `{}` stands; the repository that `git ls-remote`, `git fetch` and `git push` open, and
+# A text, with the folder's path for `{}`; the repository that `git ls-remote`, `git fetch` and `git push` open, and
 # the one that `git clone` takes: none where it is refused.
 OPENED = (
     ("~/x", "home/x", "here/~/x"),

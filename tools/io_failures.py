@@ -1,4 +1,6 @@
-"""Real ends: the program `locations` with streams that fail, or give and take little at a time, and `explain` on a terminal."""
+"""Real streams: the program `locations` with streams that fail, or give and take little at a time, and `explain` on a
+terminal.
+"""
 import os
 import pty
 import subprocess
@@ -13,7 +15,7 @@ CANNOT_READ, CANNOT_WRITE = (2, b"locations: cannot read\n"), (2, b"locations: c
 
 
 def run(path, **how):
-    """Runs the program with these streams, and answers its status and what it says on standard error."""
+    """Runs the program with these streams, and returns its status and what it prints on standard error."""
     ran = subprocess.run([path], stderr=subprocess.PIPE, timeout=60, **how)
     return ran.returncode, ran.stderr
 
@@ -80,7 +82,7 @@ def pipe_closed_early(path):
 
 
 def no_standard_error(path):
-    """Where nothing can be said of a fault, the status still tells."""
+    """Where a fault can't be printed, the status still reports it."""
     with open("/dev/full", "wb") as full:
         ran = subprocess.run([path], input=LINES, stdout=full, preexec_fn=closing(2), timeout=60)
     return ran.returncode, 2
@@ -119,7 +121,7 @@ def end_of_a_terminal(path):
 
 
 def behind_head(path):
-    """Where nobody reads on, nothing is said."""
+    """Where the reader has gone, nothing is printed."""
     lines = b"h:p\n" * 100_000
     reader, writer = os.pipe()
     started = subprocess.Popen([path], stdin=subprocess.PIPE, stdout=writer, stderr=subprocess.PIPE)

@@ -50,8 +50,8 @@ LINE, LINE_ANSWER = b"a\n", b"settled\ta\n"
 LINES = 5_000_000
 CHUNK = 1 << 20
 
-# Calls over texts of some MB: what is repeated in what the call is over, the order by that text, and the outcome by how often
-# it stands there.
+# Calls over texts of some MB: what is repeated in what the call is over, the order by that text, and the outcome by how
+# often it is repeated.
 LARGE_ORDER = 4_000_000
 SMALL_ORDER = LARGE_ORDER // 10
 CALLS = [
@@ -202,7 +202,7 @@ def compared(kind, path, room, name, make, small, large):
 
 
 def compared_lines(room):
-    """The runs of the program `locations`, and what is told of them."""
+    """The runs of the program `locations`, and what is reported of them."""
     path = program("locations")
     found = [compared(Lines, path, room, *it) for it in runs()]
     most = [max(getattr(it, of) for it in found) for of in ("seconds", "growth", "bytes", "reads")]
@@ -211,7 +211,7 @@ def compared_lines(room):
 
 
 def compared_calls(room):
-    """The runs of the program `answers`, and what is told of them."""
+    """The runs of the program `answers`, and what is reported of them."""
     path, found = program("answers"), []
     for call in CALLS:
         name = f"{call[1]('')['call']} over {call[0]}.."

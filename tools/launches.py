@@ -10,7 +10,7 @@ from collections import namedtuple
 
 from rt_api import ROOT
 
-# A command `rt` that notes its calls, takes its time where it is told to, and makes a program that prints its arguments.
+# A command `rt` that notes its calls, takes its time where SLOW is set, and makes a program that prints its arguments.
 RT = """#!/bin/sh
 echo "$*" >>"$CALLS"
 [ "$1" = version ] && [ -n "${BROKEN:-}" ] && exit 1
@@ -99,7 +99,7 @@ def changed_source(tree):
 
 
 def killed(tree):
-    """Nothing goes on behind a launcher that is told to end while it proves."""
+    """Nothing runs on after a launcher that is ended while it proves."""
     started = subprocess.Popen([f"{tree.root}/explain"], env={**tree.environment, "SLOW": "1"}, stderr=subprocess.DEVNULL, start_new_session=True)
     while proofs(tree) <= 2 * STEPS:
         time.sleep(0.05)
@@ -131,7 +131,7 @@ def fresh(tree, room, *edits):
 
 
 def files(tree):
-    """What is in a tree, but for the notes of the command's calls."""
+    """What is in a tree, except the notes of the command's calls."""
     return {f"{at}/{name}" for at, folders, names in os.walk(tree.root) for name in (*folders, *names)} - {tree.calls}
 
 
@@ -149,9 +149,10 @@ ONE_SENTENCE: list = [(2, True, 0, set())] * 2
 
 
 def read_only(tree):
-    """In a folder that can't be written to there is one sentence and no proof; root can write to any, so nobody tries."""
+    """In a folder that can't be written to there is one sentence and no proof; root, which can write to any, runs it as
+    `nobody`."""
     made = fresh(tree, "read-only")
-    # Nobody notes the calls of the command.
+    # The user `nobody` must be able to note the calls of the command.
     with open(made.calls, "w", encoding="utf-8"):
         os.chmod(made.calls, 0o666)
     if os.geteuid():
@@ -167,12 +168,12 @@ def little_disk(tree):
 
 
 def broken_command(tree):
-    """A toolchain that doesn't even tell its version is told in one sentence."""
+    """A toolchain that doesn't report its version is reported in one sentence."""
     return [*refusing(fresh(tree, "broken"), "rt version reports no version", BROKEN="1")], ONE_SENTENCE
 
 
 def of_itself(tree):
-    """Help and version come with no proof and no call of the command, as they stand beside the sources."""
+    """Help and version come with no proof and no call of the command: they are files beside the sources."""
     made, said, wanted = fresh(tree, "of-itself"), [], []
     for name in ("locations", "explain"):
         for option, file in (("--help", "help"), ("-h", "help"), ("--version", "version"), ("-V", "version")):
@@ -183,8 +184,8 @@ def of_itself(tree):
 
 
 def judged(text):
-    """Whether the first line tells minutes, which phases are named, in order, whether each share is no less than the one
-    before, and whether each line of progress tells a share and minutes."""
+    """Whether the first line has minutes, which phases are named, in order, whether each share is no less than the one
+    before, and whether each line of progress has a share and minutes."""
     first, *lines = re.split(r"[\r\n]+", text.replace("\x1b[K", "").strip())
     lines = [it for it in lines if it and "out/locations" not in it]
     told = [re.fullmatch(r"locations: (\d+) %, about \d+ minutes? left: ([a-z_ ]+)(, \d of 3)?, after \d+:\d+", it) for it in lines]
@@ -213,7 +214,7 @@ def progress_on_a_terminal(tree):
         while more := os.read(terminal, 4096):
             said += more
     except OSError:
-        # So the end of a terminal is told.
+        # This is how the end of a terminal is reported.
         os.close(terminal)
     text = said.decode()
     return (started.wait(60), judged(text), text.count("\n"), text.endswith("\r\x1b[K")), (0, JUDGED, 1, True)

@@ -1,5 +1,5 @@
 #!/usr/bin/env python3
-"""Writes 10,000 remotes as people have them: hosts, users, ports and paths in all forms, combined by one rule."""
+"""Writes 10,000 realistic remotes: hosts, users, ports and paths in all forms, combined by one rule."""
 HOSTS = ["github.com", "GitHub.com", "gitlab.example.org", "10.0.3.17", "[2001:db8::17]", "git.sr.ht", "host-1.example",
          "xn--bcher-kva.example", "localhost", "codeberg.org", "salsa.debian.org"]
 USERS = ["", "git@", "alice@", "org-8823@", "jane.doe@", "u%40corp@", "alice:s3cret@", "-oProxy@"]

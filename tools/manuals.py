@@ -1,6 +1,6 @@
 #!/usr/bin/env python3
-"""Writes the manual pages: gix_url(3) from the comments of bindings/c/include/gix_url.h, and locations(1) and explain(1) from what the
-programs print for --help.
+"""Writes the manual pages: gix_url(3) from the comments of bindings/c/include/gix_url.h, and locations(1) and
+explain(1) from what the programs print for --help.
 
 usage: tools/manuals.py FOLDER     below FOLDER, man1 and man3 get the pages; each call has one that leads to gix_url(3)
 """
@@ -14,7 +14,7 @@ from rt_api import ROOT
 PROGRAMS = ("locations", "explain")
 # The pages that each page names, with its own left out.
 PAGES = ("locations(1)", "explain(1)", "gix_url(3)")
-LIBRARY = "gix_url \\- Git locations, read, written and told apart by proved code"
+LIBRARY = "gix_url \\- parses, writes and compares Git remote locations, by proved code"
 
 
 def read(name):
@@ -34,7 +34,7 @@ def verbatim(lines):
 
 
 def prose(lines):
-    """Paragraphs, parted by empty lines; one whose lines are all indented stays as it is."""
+    """Paragraphs, separated by empty lines; one whose lines are all indented stays as it is."""
     for paragraph in re.split(r"\n[ ]*\n", "\n".join(lines)):
         rows = [it for it in paragraph.split("\n") if it.strip()]
         if rows and all(it.startswith("  ") for it in rows):
@@ -58,7 +58,7 @@ def comment(text):
 
 
 def declarations(header):
-    """Each comment of the header with what it stands over, which ends at an empty line."""
+    """Each comment of the header with what follows it, which ends at an empty line."""
     body = header.partition('extern "C" {\n#endif\n')[2].rpartition("#ifdef __cplusplus")[0]
     for block in re.split(r"\n\n+", body.strip()):
         said, _, declared = block.partition("*/\n")

@@ -34,7 +34,7 @@ TITLES = [
 
 
 def lines():
-    """The lines, each once. Some have a line feed, and so all end with byte 0 where they are handed over; that with byte 0 are cut."""
+    """The lines, each once. Some have a line feed, so all end with byte 0 in the input; lines with byte 0 are cut."""
     texts = [part.replace("{}", it) for it in MARKUP for part in PARTS] + OTHERS
     return list(dict.fromkeys([*(it.encode() for it in texts), *(piece for it in BYTES for piece in it.split(b"\0"))]))
 

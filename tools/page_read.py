@@ -8,7 +8,7 @@ import explain_secrets
 from second_reading import octets
 
 # Of the articles from one number to another: the attributes, and of each element with `data-m` its name, classes, attribute
-# `data-v`, text and parts. The names of pieces, `<i>`, are no text of a line.
+# `data-v`, text and parts. The names of pieces, `<i>`, aren't text of a line.
 ARTICLES = """(from, to) => {
   const own = it => it.nodeType === 3 ? it.data : it.nodeName === 'I' ? '' : [...it.childNodes].map(own).join('');
   const value = it => [it.dataset.m, it.className, it.dataset.v ?? '', own(it), [...it.querySelectorAll('q')].map(own)];

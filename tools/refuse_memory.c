@@ -1,4 +1,4 @@
-// Stands before the allocator of the C library, under LD_PRELOAD: each request for memory writes a word to the file
+// Wraps the allocator of the C library, under LD_PRELOAD: each request for memory writes a word to the file
 // descriptor that REQUESTS_TO names, and the request whose number REFUSED names is refused. A word is how many bytes are
 // asked for, and a `+`, or a `-` for the request that was refused: the Nth word is the Nth request.
 

@@ -1,8 +1,8 @@
 """Refused memory: counts the requests of each call and the bytes that they ask for, and refuses each of them in turn.
 
 The rows are those of all tables in `vectors/`, and the program `answers` makes the calls, an order a run: one run ends
-before the call and one makes it, so what the call asks for is the difference. Each request goes by `refuse.c`, which the
-toolchain's compiler builds: `rt try --fail-alloc N` counts the same, but builds anew for each N.
+before the call and one makes it, so what the call asks for is the difference. Each request goes through
+`refuse_memory.c`, built by the toolchain's compiler: `rt try --fail-alloc N` counts the same, but builds for each N.
 """
 import collections
 import concurrent.futures
@@ -15,7 +15,7 @@ import subprocess
 import rows
 from rt_api import ROOT, load_kit, program
 
-# Of the rows that a line stands for, as many are taken at most.
+# At most so many of the rows that a line stands for are taken.
 OF_A_LINE = 20
 # A longer order comes through the pipe in pieces, and then how often memory is asked for to read it is another thing each time.
 LONGEST = 60_000
@@ -44,7 +44,7 @@ class Ran:
 
 
 def build_shim(room):
-    """Builds what stands before the allocator."""
+    """Builds the shim before the allocator."""
     clang, shim = f"{load_kit().rtlib.KIT}/toolchain/bin/clang", f"{room}/refuse.so"
     flags = ["-O1", "-shared", "-fPIC", "-nostdlib", "-fuse-ld=lld"]
     subprocess.run([clang, *flags, "-o", shim, f"{ROOT}/tools/refuse_memory.c"], check=True)
@@ -52,7 +52,7 @@ def build_shim(room):
 
 
 def sampled(table):
-    """The rows, but of those that one line stands for only the first ones, and none with a very long order."""
+    """The rows, of those that one line stands for only the first ones, and none with a very long order."""
     seen = collections.Counter()
     for row in table:
         seen[row.place] += 1
@@ -61,7 +61,7 @@ def sampled(table):
 
 
 def refused_outcome(row):
-    """What the call of a row has to tell where its memory is refused: that, and else what the row expects."""
+    """What the call of a row has to return where its memory is refused: that, and else what the row expects."""
     call = row.members["call"]
     if call == "expand_path::with":
         return [rows.MEMORY, row.expected[1]]
@@ -73,7 +73,7 @@ def refused_outcome(row):
 
 
 def tells_memory(row, ran):
-    """Whether a run told that memory was refused to the call of a row, and nothing else."""
+    """Whether a run reported that memory was refused to the call of a row, and nothing else."""
     try:
         return ran.status == 0 and json.loads(ran.out) == refused_outcome(row)
     except ValueError:
@@ -127,7 +127,7 @@ class Calls:
         if not ran.is_refused():
             yield f"{row.place}: request {number} is not made again: {row.order()}"
         elif not tells_memory(row, ran):
-            yield f"{row.place}: with request {number} refused it tells {ran.out!r}: {row.order()}"
+            yield f"{row.place}: with request {number} refused it returns {ran.out!r}: {row.order()}"
 
 
 def starved_program(shim):
@@ -143,7 +143,7 @@ def starved_program(shim):
 
 
 def lower(row, faults, made):
-    """Tells that a call makes fewer requests than its row says."""
+    """Reports that a call makes fewer requests than its row says."""
     if faults or row.requests is None or made >= row.requests:
         return []
     return [f"{row.place}: makes {made} requests, and the row says {row.requests}"]

@@ -20,7 +20,7 @@ def files_of(crate):
 
 
 def contracts_of(crate):
-    """The contract of each public function of a crate, by its name; all laws are named as of the room `laws`."""
+    """The contract of each public function of a crate, by its name; all laws are named as of the module `laws`."""
     found = {}
     for file in files_of(crate):
         owner = module = os.path.basename(file).removesuffix(".rt")
@@ -76,5 +76,5 @@ def missing_calls(table):
     """The calls of both libraries that have no row, and the calls that rows name and the program doesn't make."""
     named, made = {it.members.get("call") for it in table}, program_calls()
     faults = [f"{it} has no row" for it in sorted((contracts().keys() | made) - named)]
-    faults += [f"{it} is no call that the library passes on" for it in sorted(OF_LAYERS - passed_calls().keys())]
-    return faults + [f"{it} is no call of the program" for it in sorted(map(str, named - made))]
+    faults += [f"{it} isn't a call that the library passes on" for it in sorted(OF_LAYERS - passed_calls().keys())]
+    return faults + [f"{it} isn't a call of the program" for it in sorted(map(str, named - made))]

@@ -25,7 +25,7 @@ COMPARED = {"Url:Ord": "url", "Scheme:Ord": "scheme", "ForUser:Ord": "user"}
 
 
 def pairs(members, values):
-    """The rows of all pairs of values that stand in order."""
+    """The rows of all pairs of values in order."""
     name = COMPARED[members["call"]]
     for one, other in itertools.product(range(len(values)), repeat=2):
         word = "Less" if one < other else "Greater" if one > other else "Equal"
@@ -77,7 +77,7 @@ def each(members, ends):
     if wanted != settled:
         raise ValueError(f"the locations of {settled} of the {len(found)} rows are settled")
     if "is" in members or members.get("from") != "oracle":
-        raise ValueError("the outcomes of a line with each are from the oracle, and not told")
+        raise ValueError("a line with each has its outcomes from the oracle, and no `is`")
     return [{**it, "is": outcome(it)} for it in found]
 
 

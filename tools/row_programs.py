@@ -1,16 +1,16 @@
-"""Who carries out the orders of `scripts/vectors`: the program `answers`, or the binding for C, for Python or for Rust, by a
-small program in that language, `bindings/tests/vectors.c`, `bindings/tests/vectors.py` or the example `vectors` of the crate.
+"""The programs that carry out the orders of `scripts/vectors`: `answers`, or the binding for C, for Python or for Rust,
+by a small program in that language, `bindings/tests/vectors.c`, `bindings/tests/vectors.py` or the example `vectors` of
+the crate.
 
-A binding takes an order as one line of members `name=value`, parted by tabs, so that its program needs no reader of
+A binding takes an order as one line of members `name=value`, separated by tabs, so that its program needs no reader of
 JSON. A location made of parts is flat, as `url.host=h`. `\\x` with two digits is a control character, a backslash or a
-byte that is no part of UTF-8. The outcome is told in JSON as by `answers`, but for bytes past ASCII, each of which is
-told as U+EF00 with the byte added; so outcomes are compared by the bytes that their texts stand for.
+byte that isn't part of UTF-8. The outcome is JSON as by `answers`, except for bytes past ASCII, each of which is U+EF00
+with the byte added; so outcomes are compared by the bytes that their texts stand for.
 
-No binding tells whether a name or a value of a query is owned: `{"owned": text}` is compared as the text. An error
-of C keeps no bytes, so `kept` is left out, but for a text that is too long, of which it tells how much is to be shown; so it is in Python, which
-stands on C.
-Rust doesn't tell where in a text the fault stands: `at` and `len` of an error are left out, and so they are of what
-`Debug` shows of it (`PLACES`).
+No binding reports whether a name or a value of a query is owned: `{"owned": text}` is compared as the text. An error of
+C keeps no bytes, so `kept` is left out, except for a text that is too long, of which it reports how much is to be
+shown; so it is in Python, which uses C. Rust doesn't report where in a text the fault is: `at` and `len` of an error
+are left out, and so they are of what `Debug` shows of it (`PLACES`).
 """
 import os
 import re
@@ -38,7 +38,7 @@ ONLY_RUST = {
 MEMBERS = {
     "call", "text", "url", "other", "record", "scheme", "user", "password", "alternative", "style", "kind", "fault",
     "error"}
-# Members of an error that Rust doesn't tell, and how `Debug` shows them.
+# Members of an error that Rust doesn't report, and how `Debug` shows them.
 PLACES = {"at", "len"}
 SHOWN_PLACES = re.compile(r", (?:at|len): \d+|\n    (?:at|len): \d+,")
 # Members that an order for Rust may have as well.
@@ -46,7 +46,7 @@ MEMBERS_RUST = {"path", "home"}
 # Errors of calls that C doesn't have, and one that Rust doesn't have either: a path is any bytes there.
 FOREIGN_C = {"NoHome", "PathNotUtf8", "Unresolved"}
 FOREIGN_RUST = {"PathNotUtf8"}
-# The bytes past ASCII, by the characters that they are told as, and as Python has them.
+# The bytes past ASCII, by the characters that outcomes have for them, and as Python has them.
 LONE = {0xEF00 + byte: 0xDC00 + byte for byte in range(0x80, 0x100)}
 
 
@@ -67,7 +67,7 @@ def flat(members, front=""):
 
 
 def run(words, **environment):
-    """Runs a command that builds; where it fails it has said why."""
+    """Runs a command that builds; where it fails it has printed why."""
     if subprocess.run(words, cwd=ROOT, env={**os.environ, **environment}, check=False).returncode:
         sys.exit(f"vectors: this failed: {' '.join(words)}")
 
@@ -92,7 +92,7 @@ class Answers:
         return row.order()
 
     def seen(self, outcome):
-        """An outcome, as far as it is told."""
+        """An outcome, as far as it is compared."""
         return outcome
 
 
@@ -127,7 +127,7 @@ class Binding(Answers):
         return {name: self.seen(it) for name, it in outcome.items() if self.tells(name, outcome)}
 
     def tells(self, name, _outcome):
-        """Whether the binding tells a member of an outcome."""
+        """Whether the binding reports a member of an outcome."""
         return name not in PLACES
 
     def built(self):
@@ -163,7 +163,7 @@ class Python(C):
     name = "python"
 
     def makes(self, row):
-        """What C makes, but for an error that no call returned."""
+        """What C makes, except an error that no call returned."""
         return super().makes(row) and "error" not in row.members
 
     def command(self):

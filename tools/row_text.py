@@ -1,12 +1,12 @@
 """Bytes as the texts of rows, and texts and lists that a row spells in pieces."""
 
-# The characters of rows for bytes that are no part of UTF-8, by those that Python has for them.
+# The characters of rows for bytes that aren't part of UTF-8, by those that Python has for them.
 CHARACTERS = {0xDC00 + byte: 0xEF00 + byte for byte in range(0x80, 0x100)}
 ESCAPED = {character: code for code, character in CHARACTERS.items()}
 
 
 def text_of(given):
-    """Bytes as a text of a row: one that is no part of UTF-8 is the character U+EF00 with that byte added."""
+    """Bytes as a text of a row: one that isn't part of UTF-8 is the character U+EF00 with that byte added."""
     return given.decode("utf-8", "surrogateescape").translate(CHARACTERS)
 
 
@@ -18,7 +18,7 @@ def bytes_of(text):
 def joined(value):
     """A value with its texts and its lists put together.
 
-    `{"joined": [..]}` is the text of these pieces, each a text, or a text and how often it stands there;
+    `{"joined": [..]}` is the text of these pieces, each a text, or a text and how often it occurs;
     `{"repeated": [value, count]}` is the list that has the value so often; and `{"entries": [[key, value], [key]]}` is the
     text that `git config --list -z` writes for the entries.
     """

@@ -1,13 +1,13 @@
 """The rows of the tables in `vectors/`: a line of JSON each, a call with what it is over, and the outcome that is expected.
 
 Beside the call and its members a row has `is`, the outcome, `from`, where the expectation comes from, and `requests` and
-`bytes` where the requests of the call for memory are counted, and the bytes that they ask for. How a line spells long texts
-is told in `row_text.py`, and how it stands for many rows in `row_expansion.py`.
+`bytes` where the requests of the call for memory are counted, and the bytes that they ask for. `row_text.py` says how a
+line spells long texts, and `row_expansion.py` how it stands for many rows.
 
 Of JSON that is refused a row may expect less than the whole: `{"refused": true}`, whatever the words are; words that end
-in `…`, which are the front of those that are told; and a `column` of two numbers, between which that column lies.
-The rows of `vectors/git.jsonl` that read a text have `class` and `git`, of which `git_rows.py` tells, or of HTTP `class`,
-`credential` and `curl`, of which `web_rows.py` does.
+in `…`, which are the front of those that are returned; and a `column` of two numbers, between which that column lies.
+The rows of `vectors/git.jsonl` that read a text have `class` and `git` (`git_rows.py`), or of HTTP `class`,
+`credential` and `curl` (`web_rows.py`).
 """
 import glob
 import json
@@ -20,9 +20,9 @@ from rt_api import ROOT
 from second_reading.row_outcomes import recomputed_fault
 
 FOLDER = f"{ROOT}/vectors"
-# Where an expectation may come from, and nothing in this library is among it.
+# Where an expectation may come from: nothing in this library.
 SOURCES = {"crate", "oracle", "reading", "git", "hand", "rfc"}
-# The members of a row that are no part of the order.
+# The members of a row that aren't part of the order.
 OWN = {"is", "from", "requests", "bytes", "note", "class", "git", "credential", "curl"}
 # Errors that keep the text that they are about.
 KEEPING = ("MissingPath", "NotUtf8", "BadUrl")
@@ -66,24 +66,24 @@ class Row:
         self.credential, self.curl = members.get("credential"), members.get("curl")
         self.members = {name: joined(it) for name, it in members.items() if name not in OWN}
         expected = joined(members.get("is"))
-        # What is read into a room keeps nothing.
+        # What is read into a buffer keeps nothing.
         self.expected = expected if members.get("call") == "UrlRef::parse_in" else keeps(expected, self.members.get("text"))
 
     def order(self, **more):
         return json.dumps({**self.members, **more})
 
     def fault(self, line, seen=lambda outcome: outcome):
-        """What is wrong with what was told, if anything is, by what is seen of an outcome."""
+        """What is wrong with an outcome, if anything is, by what is compared of it."""
         try:
             if fits(seen(self.expected), seen(json.loads(line))):
                 return None
         except ValueError:
             pass
-        return f"{self.place}: {self.order()}\n  expected {json.dumps(self.expected)}\n  told     {line}"
+        return f"{self.place}: {self.order()}\n  expected {json.dumps(self.expected)}\n  returned {line}"
 
 
 def lines(topic):
-    """The lines of a table that tell rows: where each stands, and its members."""
+    """The lines of a table that are rows: the place of each, and its members."""
     file = f"{FOLDER}/{topic}.jsonl"
     with open(file, encoding="utf-8") as it:
         for number, line in enumerate(it, 1):

@@ -16,14 +16,14 @@ import subprocess
 import sys
 
 ROOT = os.path.dirname(os.path.dirname(os.path.realpath(__file__)))
-# What the gate built of the sources whose number stands beside it, and what scripts/bundle packed, by the same rule.
+# What the gate built of the sources whose number is beside it, and what scripts/bundle packed, by the same rule.
 BUILT = f"{ROOT}/out/built"
 PACKED = f"{ROOT}/dist/built"
 
 
 @functools.cache
 def lines_of_crates():
-    """What crates.txt says of each crate: its line, and what it stands on."""
+    """What crates.txt says of each crate: its line, and the crates that it uses."""
     with open(f"{ROOT}/crates.txt", encoding="utf-8") as it:
         lines = [line for line in it if line.strip() and not line.startswith("#")]
     return {re.match(r"\w+", line)[0]: (line, line.partition(":")[2].split()) for line in lines}
@@ -115,7 +115,7 @@ def crates_of_tests():
 
 
 def is_proved(name):
-    """Whether a file stands in none of those crates."""
+    """Whether a file is in none of those crates."""
     return not name.startswith(tuple(f"crates/{it}/" for it in crates_of_tests()))
 
 

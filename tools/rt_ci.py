@@ -1,10 +1,10 @@
 """`rt ci`, whose checks wait for slots that they share with the edits: `rt_ci.py READ WRITE`, the ends of the pipe of slots.
 
 `rt ci` guesses how much memory a check takes by a crate's lines, which is thrice too much for the library with its many
-definitions, and so checks it by one processor. Here slots say how many run at a time, and all that can begin stand in line
-for one; edits, most of which take less, come behind them and fill what they leave. A crate that others stand on waits for
-none. It judges as ever, and runs a check again that memory did not suffice for. A static library, of which `rt ci` keeps
-no file for later runs, is proved by each, and compiled of what its check proved, as programs are.
+definitions, and so checks it by one processor. Here slots limit how many run at a time, and all that can begin wait for
+one; edits, most of which take less, come behind them and fill what they leave. A crate below others waits for none. It
+judges as `rt ci` does, and repeats a check that memory did not suffice for. A static library, of which `rt ci` keeps no
+file for later runs, is proved by each, and compiled of what its check proved, as programs are.
 """
 import os
 import sys
@@ -13,7 +13,7 @@ import tempfile
 sys.dont_write_bytecode = True
 from rt_api import Slots, load_kit, processor_minutes
 
-# More than there are checks: how many run at a time is said by slots, for which the memory was counted.
+# More than there are checks: slots limit how many run at a time, by the memory that they take.
 ALL = 64
 # A program of more lines than these is still being proved when all else has ended, so two processors prove it.
 LONG = 4000

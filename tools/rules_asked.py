@@ -1,8 +1,8 @@
-"""Entries of a configuration, as a file has them and as `git config --list -z` writes them, and rooms in which Git is asked.
+"""Entries of a configuration, as a file has them and as `git config --list -z` writes them, and folders to ask Git in.
 
-A room is a folder with a home of its own and a folder of configurations; each of them is a repository without commits, so
+Such a folder has a home of its own and a folder of configurations; each of them is a repository without commits, so
 that its entries are the repository's own. Git gets no other settings. Its helper programs are looked for in an empty
-folder, so that none is started but those that the configuration has.
+folder, so that only those of the configuration are started.
 """
 import os
 import re
@@ -12,7 +12,7 @@ from contextlib import contextmanager
 
 from git_transports import alone, answers_of
 
-# The subsection is `place`, None where the section has none; the value is None where the key stands alone.
+# The subsection is `place`, None where the section has none; the value is None where the key is alone.
 Entry = namedtuple("Entry", "section place name value")
 
 
@@ -45,7 +45,7 @@ def is_named(entry, section, *names):
 
 @contextmanager
 def rooms(configurations, **more):
-    """A room with a repository for each list of entries: the room, an environment, and the folders of the repositories."""
+    """A folder with a repository for each list of entries: it, an environment, and the folders of the repositories."""
     with tempfile.TemporaryDirectory(prefix="rules-") as room:
         for it in ("home", "empty"):
             os.makedirs(f"{room}/{it}")

@@ -63,7 +63,7 @@ def written(it):
 
 
 def fits(wanted, found):
-    """Whether the parts that are wanted are equal."""
+    """Whether the parts that the entry has are equal."""
     return all(a is None or a == b for a, b in zip(wanted, found))
 
 
@@ -202,7 +202,7 @@ def answer(said):
 
 
 def cases_of(configurations):
-    """The cases, as Git answers them; behind the entries stands a helper that shows the user."""
+    """The cases, as Git answers them; a helper behind the entries shows the user."""
     last = Entry(b"credential", None, b"helper", SHOW_USER)
     with rooms([[*entries, last] for entries, _ in configurations]) as (room, environment, folders):
         words = [word for folder, (_, urls) in zip(folders, configurations) for url in urls for word in (folder, url)]

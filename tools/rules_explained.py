@@ -2,8 +2,9 @@
 
 What a line is rewritten to, which settings apply to that and whether its transport may be used is asked of the rules by hand
 (`rules_rewrite.py`, `rules_match.py`, `rules_transport.py`), which `rules_witness` compares with Git; what a text is read as,
-of `second_reading`. Of each case all JSON is compared, and what is reported on standard error. Configurations are written by hand,
-and taken from those that Git is asked about. What people are shown was written by hand (`crates/explain/golden/by_config`).
+of `second_reading`. Of each case all JSON is compared, and what is reported on standard error. Configurations are
+written by hand, and taken from those that Git is asked about. The text output was written by hand
+(`crates/explain/golden/by_config`).
 """
 import json
 import os
@@ -228,7 +229,7 @@ def case_faults(case, file):
 
 
 def command_faults(folder):
-    """Where a command line has another outcome than the one that is written by hand: no lines of `explain` but for these."""
+    """Where a command line has another outcome than the one written by hand: no lines of `explain` except these."""
     file, line = f"{folder}/given", b"gh:p\n"
     with open(file, "wb") as it:
         it.write(b"url.https://h/.insteadof\ngh:\0")
@@ -264,13 +265,13 @@ def stored(name):
 
 
 def people_faults():
-    """Where people are shown otherwise than it was written by hand."""
+    """Where the text output differs from the one written by hand."""
     shown = run(Case([], stored("stdin").splitlines()), "--config", f"{STORED}/config")[1]
     rows = [it for it in shown.splitlines() if re.match(rb"line |    (fetches|pushes|credential|http|transport) ", it)]
     wanted = stored("stdout").splitlines()
-    yield from (f"people are shown {got!r}, and not {want!r}" for got, want in zip(rows, wanted) if got != want)
+    yield from (f"explain prints {got!r}, and not {want!r}" for got, want in zip(rows, wanted) if got != want)
     if len(rows) != len(wanted):
-        yield f"people are shown {len(rows)} rows, and not {len(wanted)}"
+        yield f"explain prints {len(rows)} rows, and not {len(wanted)}"
 
 
 def check(folder):

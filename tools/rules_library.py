@@ -42,4 +42,4 @@ def library_faults(expected):
         print(f"the library's {call} was asked {len(orders):,} times")
         for order, is_so, outcome in zip(orders, wanted, found):
             if not rows.fits(is_so, outcome):
-                yield f"{json.dumps(order)}\n  expected {json.dumps(is_so)}\n  told     {json.dumps(outcome)}"
+                yield f"{json.dumps(order)}\n  expected {json.dumps(is_so)}\n  returned {json.dumps(outcome)}"

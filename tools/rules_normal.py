@@ -68,7 +68,7 @@ def port(scheme, digits):
 
 
 def place(scheme, named, with_any):
-    """The host and the port: a host is needed but for `file`, which may have no port without it."""
+    """The host and the port: a host is needed except for `file`, which may have no port without it."""
     if named[:1] in (b"", b":"):
         if scheme != b"file":
             raise Refused("host")

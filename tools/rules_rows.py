@@ -106,7 +106,7 @@ def outcomes(some):
 
 
 def line_of(row, outcome):
-    """A row with its outcome; a character for a byte that is no part of UTF-8 is an escape."""
+    """A row with its outcome; a character for a byte that isn't part of UTF-8 is an escape."""
     given = {name: it for name, it in row.items() if name not in ("is", "from", "note")}
     whole = {**given, "is": outcome, "from": "git", **({"note": row["note"]} if "note" in row else {})}
     return re.sub("[\ue000-\uf8ff]", lambda it: f"\\u{ord(it[0]):04x}", json.dumps(whole, ensure_ascii=False))

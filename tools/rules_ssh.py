@@ -1,7 +1,7 @@
 """The words with which Git runs Secure Shell: a rule by hand for a location and for a text, and what Git says.
 
 git-config(1), `ssh.variant`: OpenSSH gets a port by `-p`, `plink`, `putty` and `tortoiseplink` by `-P`, `tortoiseplink` also
-`-batch`, and `simple` has no options at all. Where OpenSSH is to hand the protocol's version on, it gets `-o
+`-batch`, and `simple` has no options at all. Where OpenSSH is to pass the protocol's version on, it gets `-o
 SendEnv=GIT_PROTOCOL` (gitprotocol-v2(5)); by version 2 Git doesn't push. Then come the user and the host in one word, and the
 command: the service, and the path in single quotes, in which `'` and `!` are taken out of the quotes, behind a backslash.
 
@@ -75,7 +75,7 @@ def option_words(run, port):
 
 
 def variable(run):
-    """The value of `GIT_PROTOCOL` that OpenSSH is to hand on; empty where there is none."""
+    """The value of `GIT_PROTOCOL` that OpenSSH is to pass on; empty where there is none."""
     is_pushed_by_2 = run.version == 2 and run.service == "git-receive-pack"
     return b"version=%d" % run.version if run.variant == "ssh" and run.version and not is_pushed_by_2 else b""
 
@@ -119,7 +119,7 @@ def text_words(text, run):
 # ---- Git
 
 def with_number(found):
-    """The words with the port as a number: Git hands it on as it is written."""
+    """The words with the port as a number: Git passes it on as it is written."""
     at = next((at + 1 for at, it in enumerate(found[:-2]) if it in (b"-p", b"-P")), None)
     return found if at is None else [*found[:at], b"%d" % int(found[at]), *found[at + 1 :]]
 

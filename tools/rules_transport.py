@@ -33,7 +33,7 @@ while [ $# -gt 0 ]; do
 done
 """
 NAMED = re.compile(rb"^fatal: transport '(.*)' not allowed$", re.M | re.S)
-# Why Git ends before it decides: a value that is no policy, none, and a variable that is no truth value.
+# Why Git ends before it decides: a value that isn't a policy, none, and a variable that isn't a truth value.
 ENDS = {b"unknown value for config": "unknown policy", b"bad config variable": "no value", b"bad boolean config value": "no truth value"}
 # What Git refuses before it looks at the transport.
 REFUSALS = (b"no path specified", b"strange pathname", b"is not supported", b"git-over-rsync", b"newline is forbidden")
@@ -160,7 +160,8 @@ def cases_of(policies):
 
 
 def named(texts):
-    """The transports that Git names for texts, of which it allows none. A text that begins with `-` is no option behind `--`."""
+    """The transports that Git names for texts, with none allowed. Behind `--` a text that begins with `-` isn't an
+    option."""
     said = ask([([], b"none-of-these", None, it) for it in texts])
     return [Named(text, name_in(text, found)) for text, found in zip(texts, said)]
 

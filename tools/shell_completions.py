@@ -1,7 +1,7 @@
 """What shells complete of `locations` and `explain`, by the files of `completions/`.
 
-Bash is asked itself. The files for zsh and fish are read by these shells where they are installed, which is said. In each file
-stand the long options that the program's help names, and no others.
+Bash is asked itself. The files for zsh and fish are read by these shells where they are installed, which is reported.
+Each file has exactly the long options that the program's help names.
 """
 import re
 import shutil

@@ -35,7 +35,7 @@ class WebCase:
 
     @cached_property
     def information(self):
-        """What stands before the last `@`, None where there is none."""
+        """What comes before the last `@`, None where there is none."""
         front, at, _ = self.authority.rpartition(b"@")
         return front if at else None
 

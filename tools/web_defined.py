@@ -2,7 +2,7 @@
 in the text of a location of HTTP (`crates/git_laws/specs/GitWeb.antt`).
 
 Each function is a relation of the definitions, and answers all that it relates to what is given: every cut of a text is
-tried, and what each case asks is asked of it. It takes no word from Git and libcurl: `scripts/web_witness` compares.
+tried, and what each case asks is asked of it. It asks Git and libcurl nothing: `scripts/web_witness` compares.
 """
 from collections import namedtuple
 

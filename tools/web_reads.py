@@ -16,7 +16,7 @@ Web = namedtuple("Web", "scheme user password host port path")
 PARTS = Web._fields
 HTTP = (("Http",), ("Https",))
 HOST_AND_PORT = re.compile(rb"(.*?)(?::([0-9]+))?", re.S)
-# An escape, but for that of byte 0, which neither Git nor libcurl decodes.
+# An escape, except that of byte 0, which neither Git nor libcurl decodes.
 ESCAPE = re.compile(rb"%(?!00)([0-9A-Fa-f]{2})")
 # What libcurl refuses in each part of a URL, and in a decoded host.
 CONTROL = re.compile(rb"[\x01-\x20\x7f]")

@@ -1,6 +1,6 @@
 /* The calls of gix_url.h over the exports of the static library crates/gix_url_c.
  *
- * What is here is glue: null pointers are answered, parts become pointers and lengths, and what comes back as lengths
+ * What is here is glue: null pointers become errors, parts become pointers and lengths, and what comes back as lengths
  * becomes pointers into the caller's room. Each export and its types are declared as crates/gix_url_c/src has them; a
  * slice of that library is a pointer that isn't null and a length. */
 #include "gix_url.h"
@@ -71,7 +71,7 @@ static gix_url_text bytes_of(gix_url_text text) {
     return text.at ? text : none;
 }
 
-/* The parts of a location. A scheme that is no byte becomes one that is none of the eight. */
+/* The parts of a location. A scheme that isn't a byte becomes one that is none of the eight. */
 static inline given given_of(const gix_url *url) {
     return (given){
         .front = {
@@ -100,7 +100,7 @@ static gix_url_text next_part(const char **room, size_t len, bool is_there) {
     return part;
 }
 
-/* The location whose parts stand in the room, in the order in which they are handed out. */
+/* The location whose parts are in the room, in the order in which they are returned. */
 static gix_url located(const made *made, const char *room) {
     gix_url url;
     memset(&url, 0, sizeof url);
@@ -117,7 +117,7 @@ static gix_url located(const made *made, const char *room) {
     return url;
 }
 
-/* What is told of an error. */
+/* Stores the details of an error. */
 static void tell(uint32_t error, const told *told, gix_url_problem *problem) {
     if (!problem) return;
     memset(problem, 0, sizeof *problem);
@@ -128,7 +128,7 @@ static void tell(uint32_t error, const told *told, gix_url_problem *problem) {
     problem->total = told->total;
 }
 
-/* Tells where in an input the fault is that it is refused for. */
+/* Stores where in an input the fault is that it is refused for. */
 static void locate(const char *input, size_t len, gix_url_error error, gix_url_problem *problem) {
     if (!problem || error < GIX_URL_MISSING_PATH || error > GIX_URL_BAD_URL) return;
     place place = {0};
@@ -137,13 +137,13 @@ static void locate(const char *input, size_t len, gix_url_error error, gix_url_p
     problem->len = place.len;
 }
 
-/* A pointer is null that may not be, of which there is no more to tell. */
+/* A pointer is null that may not be: an error without details. */
 static gix_url_error null_pointer(gix_url_problem *problem) {
     if (problem) memset(problem, 0, sizeof *problem);
     return GIX_URL_NULL;
 }
 
-/* Hands out what was made in the room, or tells the error. */
+/* Returns what was made in the room, or the error. */
 static gix_url_error hand_out(uint32_t error, const made *made, const char *room, gix_url *url, size_t *needed,
                               const told *told, gix_url_problem *problem) {
     if (error == GIX_URL_OK) *url = located(made, room);

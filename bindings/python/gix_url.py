@@ -1,4 +1,4 @@
-"""Git locations, read, written and told apart, by the shared library gix_url, whose answers are proved.
+"""Parses, writes and compares Git locations, by the shared library gix_url, whose answers are proved.
 
 >>> url = parse(b"ssh://git@Example.com:22/~/repo%20x")
 >>> url.host, url.port, url.path, url.is_settled()
@@ -111,7 +111,7 @@ class Url:
         return bytes(_in_room(_library.gix_url_write, _ref(self._lent())))
 
     def __str__(self) -> str:
-        """The text for people to see, with `redacted` for the password; a secret in another part is shown."""
+        """The text for display, with `redacted` for the password; a secret in another part is shown."""
         return bytes(_in_room(_library.gix_url_display, _ref(self._lent()))).decode()
 
     def scheme_text(self) -> str:
@@ -147,7 +147,7 @@ class Url:
     def _lent(self):
         """The struct of this location, which keeps the bytes that it points to."""
         if self.port is not None and not 0 <= self.port <= 65535:
-            raise ValueError("gix_url: the port is no port")
+            raise ValueError("gix_url: the port is out of range")
         lent = _Url(scheme=self.scheme, alternative=self.alternative, has_port=self.port is not None, port=self.port or 0)
         parts = {it: getattr(self, it) for it in ("name", "user", "password", "host", "path", "spelling")}
         lent.kept = {name: it.encode() if isinstance(it, str) else bytes(it) for name, it in parts.items() if it is not None}
@@ -176,7 +176,7 @@ def _check(error, problem=None):
 
 
 def _in_room(call, *given, stored=()):
-    """The room that a call filled, which first tells how many bytes it takes."""
+    """The buffer that a call filled, which first returns how many bytes it takes."""
     needed, problem, room = _size(), _Problem(), None
     for _ in range(2):
         _check(call(*given, room, needed, *stored, _ref(needed), _ref(problem)), problem)
@@ -185,7 +185,7 @@ def _in_room(call, *given, stored=()):
 
 
 def _located(call, *given):
-    """The location that a call puts into room."""
+    """The location that a call puts into a buffer."""
     url = _Url()
     _kept = _in_room(call, *given, stored=(_ref(url),))
     texts = map(_bytes, (url.name, url.user, url.password, url.host))

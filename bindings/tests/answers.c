@@ -1,5 +1,5 @@
-/* Answers each line of the standard input as the program `locations` does, by calls of the library, and looks whether
- * the calls agree with one another. */
+/* Answers each line of the standard input as the program `locations` does, by calls of the library, and checks that the
+ * calls agree with one another. */
 #include "told.h"
 
 #include <string.h>
@@ -29,7 +29,7 @@ static void comes_back(const gix_url *url, gix_url_text text) {
     free(room);
 }
 
-/* No text that begins with - is handed out as usable, and the original path is one of the two. */
+/* No text that begins with - is returned as usable, and the original path is one of the two. */
 static void is_seen(const gix_url *url) {
     gix_url_seen seen;
     HOLDS(gix_url_look(url, &seen) == GIX_URL_OK);
@@ -48,8 +48,8 @@ static bool holds(gix_url_text text, char byte) {
     return text.len > 0 && memchr(text.at, byte, text.len);
 }
 
-/* What Git is told to read alike is settled. It is of one of Git's own three transports, and without a password or an option;
- * or of HTTP, with a host, a user without a colon, and a path from a slash on without a fragment. */
+/* What agrees with Git is settled. It is of one of Git's own three transports, and without a password or an option; or
+ * of HTTP, with a host, a user without a colon, and a path from a slash on without a fragment. */
 static void is_for_git(const gix_url *url, bool settled) {
     bool agrees;
     gix_url_seen seen;

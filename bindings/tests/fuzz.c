@@ -1,8 +1,8 @@
-/* Makes every call of gix_url.h over what a fuzzer hands in, and looks at what each promises: LLVMFuzzerTestOneInput is
+/* Makes every call of gix_url.h over the input of a fuzzer, and checks what each promises: LLVMFuzzerTestOneInput is
  * called by libFuzzer, or by bindings/tests/fuzz_driver.c. scripts/fuzz builds and runs it.
  *
  * The first byte says what the others are: a text, or a location, whose parts are slices of the same bytes, which overlap.
- * Rooms end at memory that can't be touched, and are just large enough, one byte short and of no bytes at all. */
+ * Buffers end at memory that can't be touched, and are just large enough, one byte short and of no bytes at all. */
 #include "told.h"
 
 #include <pthread.h>
@@ -10,7 +10,7 @@
 
 enum { THREADS = 4, THREADED = 64 };
 
-/* The next byte of what was handed in; 0 behind its end. */
+/* The next byte of the input; 0 behind its end. */
 static uint8_t next(gix_url_text *from) {
     if (from->len == 0) return 0;
     from->len--;

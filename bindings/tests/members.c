@@ -1,5 +1,5 @@
-/* Tells of each line of the standard input what the calls of the library answer, in words parted by a space: bytes in
- * hexadecimal digits behind a `.`, and `-` for what isn't there. tools/compare_bindings.py lays it beside explain's. */
+/* Prints for each line of the standard input what the calls return, in words separated by a space: bytes in hexadecimal
+ * digits behind a `.`, and `-` for what isn't there. tools/compare_bindings.py compares it with explain's. */
 #define _GNU_SOURCE
 #include "told.h"
 

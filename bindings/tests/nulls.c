@@ -1,5 +1,5 @@
 /* What each call leaves behind: with each pointer null in turn, with structs that hold no location, with a location without a
- * text, and with room that is one too small. All that a call may store into is compared byte by byte with what stood there. */
+ * text, and with room that is one too small. Each byte that a call may store into is compared with what was there. */
 #include "told.h"
 
 #include <string.h>
@@ -199,7 +199,7 @@ static void of_tables(void) {
     }
 }
 
-/* Room for pairs whose size is no number counts as none. */
+/* Room for pairs whose size isn't a number counts as none. */
 static void of_pair_room(void) {
     const gix_url url = {.scheme = GIX_URL_HTTP, .host = TEXT("h"), .path = TEXT("/?b=c")};
     static const size_t rooms[] = {SIZE_MAX, SIZE_MAX / 2 + 2, SIZE_MAX / sizeof(gix_url_pair) + 1};
@@ -215,7 +215,7 @@ static void of_pair_room(void) {
     }
 }
 
-/* Long parts are no reason for an error. */
+/* Long parts aren't an error. */
 static void of_long_parts(void) {
     static char bytes[100000];
     memset(bytes, 'a', sizeof bytes);
@@ -230,7 +230,7 @@ static void of_long_parts(void) {
         }
 }
 
-/* A text that is too long tells how much of it is shown, its length, and what of it is too long. */
+/* The error of a text that is too long has how much of it is shown, its length, and what of it is too long. */
 static void of_length(void) {
     static char input[2000], room[8192];
     gix_url url;
@@ -290,7 +290,7 @@ static void of_names(void) {
     HOLDS(strcmp(gix_url_version(), "0.40.1") == 0 && strcmp(gix_url_version(), GIX_URL_VERSION) == 0);
 }
 
-/* Each error says something to people, with no problem too, and no two say the same. */
+/* Each error has a message, with no problem too, and no two have the same. */
 static void of_words(void) {
     static const gix_url_error errors[] = {
         GIX_URL_OK, GIX_URL_MEMORY, GIX_URL_EMPTY_LOCAL, GIX_URL_MISSING_PATH, GIX_URL_NOT_UTF8, GIX_URL_TOO_LONG, GIX_URL_BAD_URL,

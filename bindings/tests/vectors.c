@@ -1,5 +1,5 @@
-/* Carries out the orders of the standard input, a line each, by the calls of gix_url.h, and tells how each call ended,
- * in a line of JSON, as the program `answers` does. tools/row_programs.py writes orders and says how they are written. */
+/* Carries out the orders of the standard input, a line each, by the calls of gix_url.h, and prints the outcome of each
+ * call, a line of JSON, as the program `answers` does. tools/row_programs.py writes and describes orders. */
 #define _GNU_SOURCE
 #include "told.h"
 
@@ -55,7 +55,7 @@ static bool is_word(gix_url_text text, const char *word) {
 
 static const char *const schemes[] = {"File", "Git", "Ssh", "Http", "Https", "Ext", "Helper", "HelperUrl"};
 
-/* Stores the scheme that is told, with the name behind a space. */
+/* Stores the scheme of this text, which has the name behind a space. */
 static void set_scheme(gix_url *url, gix_url_text told) {
     HOLDS(told.at);
     const char *space = memchr(told.at, ' ', told.len);
@@ -142,7 +142,7 @@ static void tell_url(line *out, const gix_url *url) {
     put_word(out, "}");
 }
 
-/* Tells where in a text the fault of an error is. */
+/* Prints where in a text the fault of an error is. */
 static void tell_place(line *out, gix_url_error error, const gix_url_problem *problem) {
     if (error < GIX_URL_MISSING_PATH || error > GIX_URL_BAD_URL) return;
     put_word(out, ",\"at\":"), put_number(out, problem->at);
@@ -150,7 +150,7 @@ static void tell_place(line *out, gix_url_error error, const gix_url_problem *pr
     put_word(out, ",\"len\":"), put_number(out, problem->len);
 }
 
-/* Tells an error by its names. Of a text that is too long the front is told that is fit to be shown. */
+/* Prints an error by its names. Of a text that is too long the front is printed that is fit to be shown. */
 static void tell_error(line *out, gix_url_error error, const gix_url_problem *problem, gix_url_text refused) {
     put_word(out, "{\"error\":\""), put_word(out, gix_url_error_name(error));
     if (problem->fault) put_word(out, " "), put_word(out, gix_url_fault_name(problem->fault));
@@ -261,7 +261,7 @@ static void tell_judged(line *out, gix_url_argument judged, gix_url_text text) {
     put_word(out, "}");
 }
 
-/* Tells a part of a location, or what is seen of it, if the call is one of those. */
+/* Prints a part of a location, or what is seen of it, if the call is one of those. */
 static bool tell_part(line *out, gix_url_text call, const gix_url *url) {
     gix_url_seen seen = seen_of(url);
     if (is_word(call, "Url::user")) put_quoted(out, url->user);
@@ -280,7 +280,7 @@ static bool tell_part(line *out, gix_url_text call, const gix_url *url) {
     return true;
 }
 
-/* Tells what a call over a location answers; what isn't settled is not for Git. */
+/* Prints what a call over a location returns; what isn't settled is not for Git. */
 static void tell_call(line *out, gix_url_text call, const gix_url *url) {
     bool settled, agrees;
     HOLDS(gix_url_is_settled(url, &settled) == GIX_URL_OK);
@@ -309,7 +309,7 @@ static void over_url(line *out, gix_url_text call, const order *order) {
     free(room);
 }
 
-/* The error of these names, and what they tell of it. */
+/* The error of these names, with its details. */
 static gix_url_error named_error(gix_url_text names, gix_url_problem *problem) {
     gix_url_error error = GIX_URL_OK;
     const char *end = names.at + names.len;
@@ -329,7 +329,7 @@ static gix_url_error named_error(gix_url_text names, gix_url_problem *problem) {
 }
 
 /* The words of the error that a text is refused with, or of the error of these names; the length of a text that is too
- * long, which the library says too, is told beside them. */
+ * long, which the library says too, is returned with them. */
 static void fmt_error(line *out, const order *order) {
     gix_url url;
     gix_url_problem problem = {.total = 2016};

@@ -1,6 +1,6 @@
 #!/usr/bin/env python3
-"""Carries out the orders of the standard input, a line each, by the module gix_url, and tells how each call ended, in a line
-of JSON, as the program `answers` does. tools/row_programs.py writes orders and says how they are written."""
+"""Carries out the orders of the standard input, a line each, by the module gix_url, and prints the outcome of each
+call, a line of JSON, as the program `answers` does. tools/row_programs.py writes and describes orders."""
 import json
 import os
 import re
@@ -35,7 +35,7 @@ def location(order, whole):
 
 
 def told(value):
-    """A value as it is told: each byte past ASCII as U+EF00 with the byte added, and nothing where there is none."""
+    """A value as it is printed: each byte past ASCII as U+EF00 with the byte added, and nothing where there is none."""
     if isinstance(value, str):
         value = value.encode()
     return "".join(chr(it if it < 128 else 0xEF00 + it) for it in value) if isinstance(value, bytes) else value
@@ -82,7 +82,7 @@ def shown(url):
         return {"shown": "", "failed": True}
 
 
-# What each call over a location tells.
+# What each call over a location returns.
 CALLS = {
     "Url::agrees_with_git": lambda url: url.agrees_with_git(),
     "Url::host": lambda url: told(url.host),
@@ -105,7 +105,7 @@ CALLS = {
 
 
 def refused_parts(parts, error):
-    """The error for which parts are refused; where the fault is in their text, reading that tells."""
+    """The error for which parts are refused; where the fault is in their text, the error of reading that."""
     try:
         text = bytes(parts)
         gix_url.parse(text)

@@ -16,7 +16,7 @@ def refused(name, kind=None, fault=None):
 
 
 def url_shapes(b):
-    """All (scheme, rest) around the first `://` of what is no helper form."""
+    """All (scheme, rest) around the first `://` of what isn't a helper form."""
     return [] if has_helper_form(b) else [(s, r) for s, r in cuts(b, b"://") if b"://" not in s]
 
 
@@ -177,7 +177,7 @@ def bracketed_address(b):
 
 
 def scp_colon(b):
-    """Where the colon of the scp form would stand, -1 where nowhere."""
+    """Where the colon of the scp form would be, -1 where nowhere."""
     closing = b.find(b"]") if b.startswith(b"[") else -1
     return b.find(b":", closing + 1) if closing >= 0 else b.find(b":")
 

@@ -90,7 +90,7 @@ def components(v):
 
 
 def refusal(t):
-    """Why a text is refused that is no line: it has no place."""
+    """Why a text is refused that isn't a line: it has no place."""
     name, kind, fault = errors.refusal(t)
     words = {"EmptyLocal": "the location is empty",
              "TooLong": f"the scheme or the authority of the URL is longer than 1024 bytes, in a text of {len(t)} bytes",
@@ -135,7 +135,7 @@ def reread(v):
 
 
 def reading(v):
-    """The location as the classes of Git's readings have it: of what Git hands to another program there are no parts."""
+    """The location as the classes of Git's readings have it: of what Git passes to another program there are no parts."""
     if not is_of_files(v):
         return Reading(f"helper {lossy(grammar.as_str(v.scheme))}", None, None, None, None, None)
     return Reading(v.scheme[0].lower(), v.user, v.password, v.host or None, v.port, v.path)
@@ -152,7 +152,7 @@ def agrees_with_git(v):
 def read_by_git(v):
     """What Git reads in the text of the location by the second reading of its definition, unless that is known to be the same.
 
-    A password stands in what is read, which isn't told then. Of HTTP it is told what may be read otherwise.
+    A reading with a password isn't reported. Of HTTP it is reported what may be read otherwise.
     """
     text, is_web = writing.text(v), v.scheme in grammar.HTTP_SCHEMES
     if not (is_web or is_of_files(v)) or agrees_with_git(v) or isinstance(text, writing.Fault):
@@ -180,7 +180,7 @@ def credential(v):
 
 
 def curl(v):
-    """What curl connects to and asks for in the text of a location of HTTP, None where it refuses it. Byte 0 can't be handed to it."""
+    """What curl connects to and asks for in the text of a location of HTTP; None where it refuses it, and for byte 0."""
     text = writing.text(v)
     if v.scheme not in grammar.HTTP_SCHEMES or isinstance(text, writing.Fault) or b"\0" in text:
         return None
@@ -189,13 +189,13 @@ def curl(v):
 
 
 def host_spellings(place):
-    """The texts that may spell the host in what stands behind the `@`: with and without a port, a colon and brackets."""
+    """The texts that may spell the host in what follows the `@`: with and without a port, a colon and brackets."""
     fronts = [place] + ([place.rpartition(b":")[0]] if b":" in place else [])
     return fronts + [it[1:-1] for it in fronts if len(it) > 1 and it.startswith(b"[") and it.endswith(b"]")]
 
 
 def is_spelled_by_a_piece(v, place):
-    """Whether a piece of the text spells the host, but for upper case: where brackets or a colon that go are escapes, none does."""
+    """Whether a piece of the text spells the host, case aside; none does where brackets or a colon that go are escapes."""
     decoded = (lambda it: it) if v.scheme in grammar.HTTP_SCHEMES else octets.dec
     return any(decoded(it).lower() == v.host.lower() for it in host_spellings(place))
 

@@ -44,7 +44,7 @@ WEB = [
     b"https://h/a%09b", b"https://h/p#f", b"https://h/a%23b", b"https://h/a/../b", b"https://h/%2e", b"https://h/a%2F..%2Fb", b"https://h/p?a/./b",
     b"https://h/.?q", b"https://h/..a/b..", b"https://h/p?", b"https://h/p%3F", b"https://h/p?q", b"https://h/a|b", b"https://h/a%41:b", b"https://h/a:b",
     b"https://h/a%3Ab", b"https://h/a%20b?c=d%20e", b"https://H:0443/p", b"https://h/a/../b#f", b"https://u%3Av@127.1/p#f", b"https://-h/-r"]
-# Hosts and paths that curl changes or refuses, and hosts that it takes for no number.
+# Hosts and paths that curl changes or refuses, and hosts that it doesn't take for a number.
 CURL = [
     b"http://%41/", b"http://%2F/p", b"http://h%00/", b"http://h%25/p", b"http://h|x%7C/p", b"http://0x7F.0377.65535:8080/p", b"http://1.2.3.0x4/p", b"http://08.1/p",
     b"http://1.256.3.4/p", b"http://4294967296/p", b"http://0x/p", b"http://1.2.3.4./p", b"http://[0:0::1]/p", b"http://[::1.2.3.4]/p", b"http://[::102:304]/p",

@@ -94,7 +94,7 @@ def marks(t, mark, at, reason):
 # Hosts and ports
 
 def port_faults(mode, digits, at):
-    """What is wrong with what stands in a port's place, where anything does."""
+    """What is wrong with what is in a port's place, where anything is."""
     if digits == b"" or hosts.num(mode, digits) is not None:
         return []
     if any(b not in octets.DIGITS for b in digits):
@@ -196,7 +196,7 @@ def authority_faults(s, a, at):
 
 
 def url_faults(b, s, rest):
-    """Each flaw of a URL that is no file URL, with the error that names it."""
+    """Each flaw of a URL that isn't a file URL, with the error that names it."""
     yield from ((errors.refused("TooLong"), it) for it in length_faults(s, rest))
     if not octets.is_utf8(b):
         return
@@ -220,7 +220,7 @@ def url_faults(b, s, rest):
 # All texts
 
 def scp_faults(f):
-    """Each flaw of what stands before the colon of the scp form, with the error that names it."""
+    """Each flaw of what comes before the colon of the scp form, with the error that names it."""
     user, sign, host = f.rpartition(b"@")
     at = len(user + sign)
     wrong, ports = host_faults(hosts.BARE, host.replace(b"%", b"\x01"), at)
@@ -325,6 +325,6 @@ def library_place(b):
         return all_of(s, 0, scheme_faults(s))[0]
     if named == bad("Url", "BadCharacter"):
         return library_url(b, s, rest)[0]
-    # Of each other error a text has one flaw, but for bad characters of the scp form, which are listed in the order of the
-    # checks and have no part that is decoded.
+    # Of each other error a text has one flaw, except bad characters of the scp form, which are listed in the order of
+    # the checks and have no part that is decoded.
     return next(it for error, it in faults(b) if error == named)

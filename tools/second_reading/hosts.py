@@ -93,7 +93,7 @@ def num(mode, digits):
 
 
 def is_plain_front(h):
-    """What may stand before a port without brackets."""
+    """What may precede a port without brackets."""
     return h != b"" and b":" not in h and not h.startswith(b"[")
 
 

@@ -59,9 +59,9 @@ def text_faults(b):
     if bool(found) == (named is not None):
         yield f"refused {named}, though {found} is spelled" if found else "read, though nothing is spelled"
     if named is not None and named not in stand:
-        yield f"refused {named}, which doesn't stand among {stand}"
+        yield f"refused {named}, which isn't among the flaws {stand}"
     if found and stand:
-        yield f"spelled, and yet {stand} stand"
+        yield f"spelled, and yet it has the flaws {stand}"
     before = spells_scp(b, before=True)
     if address_scp_shapes(b):
         if not plain_scp_shapes(b):

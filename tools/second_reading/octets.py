@@ -28,7 +28,7 @@ def is_utf8(t):
 
 
 def has_white_space(t):
-    """Whether a character of White_Space stands in the bytes (UTF-8 never hides one inside another character)."""
+    """Whether the bytes hold a character of White_Space (UTF-8 never hides one inside another character)."""
     return any(space in t for space in WHITE_SPACE)
 
 

@@ -11,7 +11,7 @@ from second_reading import grammar, octets
 # ---------------------------------------------------------------------------------------------------------------
 # What the path of a URL is made of
 
-# The place behind a mark, by the place where the mark stands. In any other place it is a byte as others are.
+# The place behind a mark, by the place of the mark. In any other place it is a byte as others are.
 BEHIND = {
     ("path", b"?"): "name", ("name", b"="): "value", ("name", b"&"): "name", ("value", b"&"): "name",
     ("path", b"#"): "fragment", ("name", b"#"): "fragment", ("value", b"#"): "fragment"}
@@ -67,7 +67,7 @@ def components(path, is_spelled):
 # Home folders and paths of files
 
 def lossy(text):
-    """The text, with U+FFFD for what is no UTF-8."""
+    """The text, with U+FFFD for what isn't UTF-8."""
     return text.decode("utf-8", "replace").encode()
 
 
@@ -126,11 +126,11 @@ def expanded(name, path, home):
 # Random paths
 
 SEED = 0x9E37_79B9_7F4A_7C15
-# What random paths of URLs are put together from: behind the first 21 stand broken escapes and a byte past ASCII.
+# What random paths of URLs are put together from: broken escapes and a byte past ASCII follow the first 21.
 PARTS = (b"/", b"?", b"#", b"&", b"=", b"+", b"a", b"4", b"%41", b"%2b", b"%2B", b"%26", b"%3d", b"%3F", b"%23", b"%20",
          b"%C3%B6", b"&&", b"=&", b"?&", b"b", b"%", b"%2", b"\xff")
 WHOLE_PARTS = PARTS[:21]
-# The bytes of random paths of files: the two of `ö` among them, which are no text apart.
+# The bytes of random paths of files: the two of `ö` among them, which aren't text apart.
 BYTES = b"////..~~abc\xc3\xb6\xb6\xffd"
 
 
@@ -159,7 +159,7 @@ def file_path(numbers):
 
 
 def file_paths(number):
-    """So many paths, each with a home folder, which is a text: what is no ASCII is left out of it."""
+    """So many paths, each with a home folder, which is a text: what isn't ASCII is left out of it."""
     numbers = Numbers(SEED)
     for _ in range(number):
         path = file_path(numbers)
@@ -171,7 +171,7 @@ def file_paths(number):
 
 def web_location(path):
     """A location of HTTP with this path, what it is read from, and whether that is a spelling: what a URL with the path
-    is read as, or where it is no URL a location that has the path and no spelling."""
+    is read as, or where it isn't a URL a location that has the path and no spelling."""
     url = b"http://h/" + path
     read = grammar.spells(url)
     if read is None:

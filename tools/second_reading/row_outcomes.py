@@ -1,7 +1,7 @@
 """What the second reading of this package, and of `fault_places` for places, gives for rows of the tables in
 `vectors/`.
 
-A row whose expectation is from `oracle` is worked out again here, so that no such expectation stands by its word alone.
+A row whose expectation is from `oracle` is worked out again here, so that each such expectation is checked.
 The table of calls names those that the second reading knows, each with the function that gives the outcome of a row.
 """
 import json
@@ -11,7 +11,7 @@ from second_reading import errors, fault_places, git_class, grammar, hosts, laws
 
 
 def scheme(told):
-    """The scheme that a row tells, as in `Http` or `Helper a`."""
+    """The scheme that a row names, as in `Http` or `Helper a`."""
     variant, mark, name = told.partition(" ")
     return (variant, bytes_of(name)) if mark else (variant,)
 
@@ -21,7 +21,7 @@ def told_scheme(of):
 
 
 def location(told):
-    """The location that a row tells: what a text is read as, or parts as they are."""
+    """The location that a row has: what a text is read as, or parts as they are."""
     if isinstance(told, str):
         found = grammar.spells(bytes_of(told))
         if found is None:
@@ -34,7 +34,7 @@ def location(told):
 
 
 def told_location(of):
-    """A location as rows tell it: the parts that are there, and the spelling where it is another than the path."""
+    """A location as rows have it: the parts that are there, and the spelling where it is another than the path."""
     return told_parts(of, None if writing.matching(of) == of.path else writing.matching(of))
 
 
@@ -69,7 +69,7 @@ def read(given):
 
 
 def read_in(row):
-    """What reading a text into a room gives; an error keeps nothing of the text but the front of one that is too long."""
+    """What reading a text into a buffer gives; an error keeps of the text only the front of one that is too long."""
     given = bytes_of(row["text"])
     found = grammar.spells(given)
     if found is None:
@@ -114,7 +114,7 @@ def from_parts(parts):
 
 
 def record(of):
-    """A location as its record is told: with the spelling that it retains, whether or not that still is one of its path."""
+    """A location as its record has it: with its retained spelling, whether or not that still is one of its path."""
     return told_parts(of, of.spelling)
 
 

@@ -74,6 +74,6 @@ def text(v):
 
 
 def display(v):
-    """What a person is shown: a word in place of the password; None where there is no text."""
+    """What `Display` shows: a word in place of the password; None where there is no text."""
     shown = text(v if v.password is None else v._replace(password=b"redacted"))
     return None if isinstance(shown, Fault) else shown.decode("utf-8", "replace")

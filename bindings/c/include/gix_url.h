@@ -1,19 +1,19 @@
-/* Git locations: remote helpers (name::address), URLs, the scp form (user@host:path) and local paths, read, written and
- * told apart by the library gix_url, whose answers are proved.
+/* Parses, writes and compares Git locations: remote helpers (name::address), URLs, the scp form (user@host:path) and
+ * local paths, by the library gix_url, whose answers are proved.
  *
- * Link libgix_url, which scripts/bindings builds and installs, and nothing else but the C library.
+ * Link libgix_url, which scripts/bindings builds and installs, and nothing else except the C library.
  *
  * A location is a plain struct of parts, and each part is a pointer and a length in bytes. Parts may hold any bytes,
- * byte 0 among them, and don't end in one. Nothing here has to be freed: what a call answers goes into room that
- * the caller hands in, and memory that a call takes is for its work alone. gix_url_is_settled,
- * gix_url_agrees_with_git, gix_url_write, gix_url_look and gix_url_scheme_text take none, and never return
- * GIX_URL_MEMORY. A location that was read points into that room, so the room has to stay as long as the location is
+ * byte 0 among them, and don't end in one. Nothing here has to be freed: what a call returns goes into the room, a
+ * buffer that the caller supplies, and a call allocates memory only for its own work. gix_url_is_settled,
+ * gix_url_agrees_with_git, gix_url_write, gix_url_look and gix_url_scheme_text allocate none, and never return
+ * GIX_URL_MEMORY. A location that was read points into the room, so the room has to stay as long as the location is
  * used. No call keeps a pointer past its return. Calls may run in several threads, as long as no room is shared.
  *
  * Any pointer may be null: a null part is a part that isn't there, a null input or path is empty, null room has no bytes
  * and null pairs no places, whatever the length beside them; where needed, needed_pairs or problem is null, it is not
  * stored. Any other null pointer is an error, GIX_URL_NULL. A pointer that isn't null points to as many bytes as its
- * length says. Room, and what an answer is stored in, lie apart from what the call reads.
+ * length says. Room, and what an answer is stored in, must not overlap what the call reads.
  *
  * Each call returns GIX_URL_OK (0) or an error, and leaves behind:
  *
@@ -21,9 +21,9 @@
  *   GIX_URL_NO_ROOM  the lengths that are needed (needed, needed_pairs, len), and a problem that is all 0
  *   any other error  the problem, which for GIX_URL_NULL is all 0, and nothing else
  *
- * So a problem is set by each call that is handed one, whatever it returns. All else keeps each byte that it held: the room, pairs, url, settled, agrees, len, seen, components, needed and
- * needed_pairs. So a call that fails leaves no part of a location in the room, and no password. On GIX_URL_OK the bytes of
- * the room behind the answer are kept. */
+ * So a problem is set by each call that is given one, whatever it returns. All else keeps each byte that it held: the
+ * room, pairs, url, settled, agrees, len, seen, components, needed and needed_pairs. So a call that fails leaves no
+ * part of a location in the room, and no password. On GIX_URL_OK the bytes of the room behind the answer are kept. */
 #ifndef GIX_URL_H
 #define GIX_URL_H
 
@@ -41,30 +41,30 @@ extern "C" {
 #define GIX_URL_VERSION_PATCH 1
 #define GIX_URL_VERSION "0.40.1"
 
-/* The version of the library that is linked, as GIX_URL_VERSION: the text ends in a byte 0 and stays for good. */
+/* The version of the library that is linked, as GIX_URL_VERSION: the text ends in a byte 0 and is never freed. */
 const char *gix_url_version(void);
 
-/* What a call answers. */
+/* What a call returns. */
 typedef enum gix_url_error {
     GIX_URL_OK = 0,
     GIX_URL_MEMORY = 1,        /* memory was refused; the same call can succeed later */
     GIX_URL_EMPTY_LOCAL = 2,   /* the text is empty */
-    GIX_URL_MISSING_PATH = 3,  /* a path is wanted and there is none */
+    GIX_URL_MISSING_PATH = 3,  /* a path is required and there is none */
     GIX_URL_NOT_UTF8 = 4,      /* the text is not UTF-8 */
     GIX_URL_TOO_LONG = 5,      /* the scheme or the authority is too long */
-    GIX_URL_BAD_URL = 6,       /* the text is no URL, or the host of the scp form is none */
-    GIX_URL_HELPER_NAME = 7,   /* the name of a remote helper is no such name */
+    GIX_URL_BAD_URL = 6,       /* the text isn't a URL, or the host of the scp form isn't valid */
+    GIX_URL_HELPER_NAME = 7,   /* the name of a remote helper isn't valid */
     GIX_URL_UNWRITABLE = 8,    /* the location has no text */
     GIX_URL_NO_LOCATION = 101, /* the struct holds no location: its scheme is none of the eight, or its user, its password,
                                   its host or the name that its scheme takes is there and is not UTF-8. Each call that
                                   is given such a struct returns this, and with another struct none does */
-    GIX_URL_NO_ROOM = 102,     /* the answer doesn't fit into the room; how much is needed is told */
+    GIX_URL_NO_ROOM = 102,     /* the answer doesn't fit into the room; the call stores how much is needed */
     GIX_URL_NULL = 103         /* a pointer that may not be null is */
 } gix_url_error;
 
 /* The form that a refused text was taken for. */
 typedef enum gix_url_kind {
-    GIX_URL_KIND_NONE = 0, /* none is told */
+    GIX_URL_KIND_NONE = 0, /* none is reported */
     GIX_URL_KIND_URL = 1,
     GIX_URL_KIND_SCP = 2,
     GIX_URL_KIND_LOCAL = 3
@@ -73,29 +73,29 @@ typedef enum gix_url_kind {
 /* What is wrong with a URL, or with the host of the scp form: of GIX_URL_BAD_URL. */
 typedef enum gix_url_fault {
     GIX_URL_FAULT_NONE = 0,
-    GIX_URL_NO_SCHEME = 1,     /* what stands before :// is no scheme */
-    GIX_URL_BAD_PORT = 2,      /* what stands in a port's place is no port */
+    GIX_URL_NO_SCHEME = 1,     /* what is before :// isn't a scheme */
+    GIX_URL_BAD_PORT = 2,      /* what is in a port's place isn't a port */
     GIX_URL_BAD_CHARACTER = 3, /* a byte, a character or an escape that is not allowed */
-    GIX_URL_HOST_REQUIRED = 4  /* a host is wanted and there is none */
+    GIX_URL_HOST_REQUIRED = 4  /* a host is required and there is none */
 } gix_url_fault;
 
 /* Why a location has no text: of GIX_URL_UNWRITABLE. */
 typedef enum gix_url_write_fault {
     GIX_URL_WRITE_FAULT_NONE = 0,
-    GIX_URL_WRITE_HELPER_NAME = 1,    /* the name of the remote helper is no such name */
+    GIX_URL_WRITE_HELPER_NAME = 1,    /* the name of the remote helper isn't valid */
     GIX_URL_WRITE_HELPER_PARTS = 2,   /* a remote helper has a user, a password, a host or a port */
     GIX_URL_WRITE_RELATIVE_SSH = 3,   /* a relative path of Secure Shell without a host, or with a password or a port */
     GIX_URL_WRITE_USER_WITHOUT_HOST = 4
 } gix_url_write_fault;
 
-/* What is told of an error beside its number. What doesn't belong to the error is 0; for GIX_URL_OK it all is. */
+/* The details of an error. What doesn't belong to the error is 0; for GIX_URL_OK it all is. */
 typedef struct gix_url_problem {
     gix_url_kind kind;               /* MISSING_PATH, NOT_UTF8, BAD_URL */
     gix_url_fault fault;             /* BAD_URL */
     gix_url_write_fault write_fault; /* UNWRITABLE */
     size_t shown;                    /* TOO_LONG: how many bytes of the input's front are fit to be shown */
     size_t total;                    /* TOO_LONG: the length of the input */
-    size_t at;  /* of gix_url_parse, but for EMPTY_LOCAL: how many bytes of the input stand before what is wrong */
+    size_t at;  /* of gix_url_parse, except EMPTY_LOCAL: how many bytes of the input come before what is wrong */
     size_t len; /* TOO_LONG, BAD_URL, as at: the length of what is wrong, in bytes; 0 where something is missing */
 } gix_url_problem;
 
@@ -118,14 +118,14 @@ typedef struct gix_url_text {
 } gix_url_text;
 
 /* A location. Its fields may be changed by hand: the location may have no text then, or one that is read as something
- * else, which gix_url_is_settled tells. */
+ * else: see gix_url_is_settled. */
 typedef struct gix_url {
     gix_url_scheme scheme;
     gix_url_text name;     /* of GIX_URL_HELPER and GIX_URL_HELPER_URL: UTF-8 */
     gix_url_text user;     /* decoded, UTF-8. It may be empty, and may begin with -: ask gix_url_look */
     gix_url_text password; /* decoded, UTF-8 */
     gix_url_text host;     /* UTF-8. It may be empty, and may begin with -: ask gix_url_look */
-    bool alternative;      /* asks for the form that is no URL, where there is one: host:path, or a path */
+    bool alternative;      /* asks for the form that isn't a URL, where there is one: host:path, or a path */
     bool has_port;
     uint16_t port;
     gix_url_text path;     /* decoded, any bytes. Of HTTP with query and fragment */
@@ -133,21 +133,21 @@ typedef struct gix_url {
                               still stands for the path */
 } gix_url;
 
-/* Ample room for the parts of what is read of a text of this many bytes: no byte of it stands in more than two parts. */
+/* Ample room for the parts of what is read of a text of this many bytes: no byte of it is in more than two parts. */
 #define GIX_URL_ROOM(len) (2 * (size_t)(len) + 32)
 
 /* Reads the one location that the bytes spell.
  *
- * On GIX_URL_OK url points into the room. On GIX_URL_NO_ROOM there is a location, and needed tells how many bytes of room
- * it takes; needed is stored on GIX_URL_OK too, and may be null. Else the error says why the bytes spell no location, and
- * problem, which may be null, what is told of it. */
+ * On GIX_URL_OK url points into the room. On GIX_URL_NO_ROOM there is a location, and needed is how many bytes of room
+ * it takes; needed is stored on GIX_URL_OK too, and may be null. Else the error says why the bytes spell no location,
+ * and problem, which may be null, has the details. */
 gix_url_error gix_url_parse(const char *input, size_t len, char *room, size_t room_len, gix_url *url, size_t *needed,
                             gix_url_problem *problem);
 
 /* Makes the location that the text of these parts means: they are written as one text, and that is read. What comes out
  * may have other parts than were given; settled parts come back as they are. HTTP keeps the given path unless it is
  * empty. The spelling of the parts is not looked at. Room, needed and problem are as of gix_url_parse; parts and url may
- * be the same struct. GIX_URL_HELPER_NAME and GIX_URL_UNWRITABLE are answered too. */
+ * be the same struct. GIX_URL_HELPER_NAME and GIX_URL_UNWRITABLE may be returned too. */
 gix_url_error gix_url_from_parts(const gix_url *parts, char *room, size_t room_len, gix_url *url, size_t *needed,
                                  gix_url_problem *problem);
 
@@ -159,27 +159,27 @@ gix_url_error gix_url_is_settled(const gix_url *url, bool *settled);
  * yes, and Git would give Secure Shell the word @h, which it refuses. What Git reads is a definition. No proof says that
  * Git keeps to it: a second reading of it was compared with git 2.39.5 on Linux.
  *
- * Git hands a text of HTTP to curl, and asks its credential code for a password. Of such a location, yes says that in the
- * text this code reads the location's own scheme, user, password, host with port, and path, and that the text is a URI of
- * RFC 3986 in the normal form, whose components are the location's own. Such a location is settled. Its host is a name of
- * lower-case letters, digits, -, . and _ whose last label begins with a letter, an IPv4 address, or an IPv6 address in
- * brackets. Neither user, password nor path has a control character, and the user has no colon. The path begins with one
- * slash, and has no #, no ? at its end and no segment . or .., not in the query either; it is written in the bytes that a
- * path and a query of a URI have. Neither what is written for the password nor what is written for the path holds both a
- * colon and an escape.
+ * Git passes a text of HTTP to curl, and asks its credential code for a password. Of such a location, yes says that in
+ * the text this code reads the location's own scheme, user, password, host with port, and path, and that the text is a
+ * URI of RFC 3986 in the normal form, whose components are the location's own. Such a location is settled. Its host is
+ * a name of lower-case letters, digits, -, . and _ whose last label begins with a letter, an IPv4 address, or an IPv6
+ * address in brackets. Neither user, password nor path has a control character, and the user has no colon. The path
+ * begins with one slash, and has no #, no ? at its end and no segment . or .., not in the query either; it is written
+ * in the bytes that a path and a query of a URI have. Neither what is written for the password nor what is written for
+ * the path holds both a colon and an escape.
  *
- * The answer is no for what Git hands to another remote helper, for an empty user of Secure Shell, for a local path that
- * begins with ~, for what isn't settled, and for some texts that Git reads alike: but for HTTP, among them those with
- * an escape before the path, or with brackets that aren't around an address; docs/GIT.md has the cases. The brackets
- * around an address don't count: of git://[::1]/p the host here is [::1], and Git connects to ::1. */
+ * It is false for what Git passes to another remote helper, for an empty user of Secure Shell, for a local path that
+ * begins with ~, for what isn't settled, and for some texts that Git reads alike: outside HTTP, among them those
+ * with an escape before the path, or with brackets that aren't around an address; docs/GIT.md has the cases. The
+ * brackets around an address don't count: of git://[::1]/p the host here is [::1], and Git connects to ::1. */
 gix_url_error gix_url_agrees_with_git(const gix_url *url, bool *agrees);
 
 /* Puts the text of the location into the room, and stores its length, on GIX_URL_NO_ROOM too: SIZE_MAX where that is
- * no size_t. No byte 0 is added. GIX_URL_UNWRITABLE says that there is none, and problem, which may be null, why. */
+ * not a size_t. No byte 0 is added. GIX_URL_UNWRITABLE says that there is none, and problem, which may be null, why. */
 gix_url_error gix_url_write(const gix_url *url, char *room, size_t room_len, size_t *len, gix_url_problem *problem);
 
-/* The same with redacted in place of the part password, and U+FFFD in place of what is no UTF-8. It is for people to see:
- * a secret in another part, as in a path or a query, is shown. */
+/* The same with redacted in place of the part password, and U+FFFD in place of what isn't UTF-8. It is for display: a
+ * secret in another part, as in a path or a query, is shown. */
 gix_url_error gix_url_display(const gix_url *url, char *room, size_t room_len, size_t *len, gix_url_problem *problem);
 
 /* What a part is to a command line. */
@@ -214,24 +214,24 @@ typedef struct gix_url_components {
     gix_url_text path;
     gix_url_text fragment; /* null where there is none */
     gix_url_text query;    /* each name with its value, in order, one behind the other; null where there is no query */
-    size_t pair_count;     /* how many names with their values there are, whose lengths stand in the caller's pairs */
+    size_t pair_count;     /* how many names with their values there are, whose lengths are in the caller's pairs */
 } gix_url_components;
 
 /* Takes the path of a location apart. The components point into the room, and the lengths of names and values are stored
- * in pairs, which has pair_room places; a number of places past SIZE_MAX bytes counts as 0. On GIX_URL_NO_ROOM nothing is
- * stored but needed and needed_pairs, which tell how many bytes of room and how many places it takes; they are stored on
+ * in pairs, which has pair_room places; a number of places past SIZE_MAX bytes counts as 0. On GIX_URL_NO_ROOM only
+ * needed and needed_pairs are stored, how many bytes of room and how many places it takes; they are stored on
  * GIX_URL_OK too, and may be null. */
 gix_url_error gix_url_path_query_fragment(const gix_url *url, char *room, size_t room_len, gix_url_pair *pairs,
                                           size_t pair_room, gix_url_components *components, size_t *needed,
                                           size_t *needed_pairs);
 
-/* What an error says to people, in the library's words: "the URL has an invalid port". The problem may be null, or tell
- * nothing of the error: then the words say less. They show no byte of what was refused, end in a byte 0 and stay for good.
+/* The message of an error, in the library's words: "the URL has an invalid port". The problem may be null, or have no
+ * details: then the words say less. They show no byte of what was refused, end in a byte 0 and are never freed.
  * Of GIX_URL_TOO_LONG the library's own words end in ", in a text of N bytes", where N is total of the problem. */
 const char *gix_url_error_words(gix_url_error error, const gix_url_problem *problem);
 
 /* The name of an error, a fault or a form, as EmptyLocal, BadPort or Scp; a number that stands for none is named "?". The
- * names end in a byte 0 and stay for good. */
+ * names end in a byte 0 and are never freed. */
 const char *gix_url_error_name(gix_url_error error);
 const char *gix_url_fault_name(gix_url_fault fault);
 const char *gix_url_write_fault_name(gix_url_write_fault fault);

@@ -1,3 +1,3 @@
--- Components of a path: cut, lent, handed out, compared.
+-- Components of a path: cut, lent, returned, compared.
 pub mod CutComponentLemmas
 pub mod ComponentLemmas

@@ -1,4 +1,4 @@
--- What spells no location has a flaw, what has a flaw spells none, and no settled location is an exception.
+-- A text spells no location exactly where it has a flaw, and no settled location is an exception.
 pub mod TextDecisions
 pub mod HostDecisions
 pub mod UrlDecisions

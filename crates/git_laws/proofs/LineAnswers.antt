@@ -1,3 +1,3 @@
--- Lines and their answers, each of which is one line, and one split into lines.
+-- Lines and their answers: each answer is one line, and a text has one split into lines.
 pub mod AnswerLemmas
 pub mod SplitLemmas

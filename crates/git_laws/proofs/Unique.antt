@@ -1,2 +1,2 @@
--- What bytes spelled before another form came in, they spell still.
+-- Bytes spell what they spelled before the last form was added.
 pub mod BeforeLemmas

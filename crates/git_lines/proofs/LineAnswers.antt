@@ -1,2 +1,2 @@
--- Lines and their answers, each of which is one line, and one split into lines.
+-- Lines and their answers: each answer is one line, and a text has one split into lines.
 pub mod LineLemmas

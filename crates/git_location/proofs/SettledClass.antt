@@ -1,4 +1,4 @@
--- What is read is settled with exceptions, and has a text; of four kinds nothing else comes back; the class by its
--- parts.
+-- Locations that were read have a text and are settled, with exceptions; of four
+-- kinds only settled ones come back; the class by its parts.
 pub mod SettledLemmas
 pub mod WebClassLemmas

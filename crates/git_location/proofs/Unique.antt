@@ -1,2 +1,2 @@
--- Bytes spell one location at most.
+-- Bytes spell at most one location.
 pub mod AnsweredLemmas

@@ -1,3 +1,4 @@
--- What allows a transport: lists of names, cut at their colons, the last of the entries that set a key, and the decision.
+-- Whether a transport is allowed: lists of names, cut at their colons, the
+-- last of the entries that set a key, and the decision.
 pub mod ListedLemmas
 pub mod DecisionLemmas

@@ -1,2 +1,2 @@
--- What spells no location has a flaw, what has a flaw spells none, and no settled location is an exception.
+-- A text spells no location exactly where it has a flaw, and no settled location is an exception.
 pub mod RefusalLemmas

@@ -1,4 +1,4 @@
--- Names and values up to the next place: those up to this one, and the one that stands here.
+-- Names and values up to the next place: those up to this one, and the one here.
 use Rattle.std.proofs.Common.{◌≡◌, ◌∙◌, ℕ, zero, suc, add-one, ◌+◌, ◌<◌, List, [], ◌∷◌, ◌++◌, length, take, get_or, map, refl, sym, ap, arith, append_assoc, append-nil}
 use Rattle.gix_url.specs.declared.components.QueryText.{QueryText}
 use Rattle.gix_url.specs.ComponentViews.{pair_bytes}

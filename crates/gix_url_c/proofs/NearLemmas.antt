@@ -1,4 +1,4 @@
--- The location that is read without memory is the one that reading answers.
+-- The location that is read without memory is the one that reading returns.
 use Rattle.std.proofs.Common.{◌≡◌, ℕ, List, Ok, Err, refl}
 use Rattle.git_location.specs.declared.parse_error.ParseError.TheVariants as unread
 use Rattle.git_syntax.specs.declared.refusal.Refusal.TheVariants as refusal

@@ -1,4 +1,4 @@
--- Beside the number of an error of which no more is told stands a problem that is all 0.
+-- Beside the number of an error without details the problem is all 0.
 use Rattle.std.proofs.Common.{◌≡◌, false, refl}
 use Rattle.gix_url.specs.declared.error.Error.{Error}
 use Rattle.gix_url.specs.declared.error.Error.TheVariants as error

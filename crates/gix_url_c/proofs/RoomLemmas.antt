@@ -1,9 +1,9 @@
--- Bytes that are put one behind the other at the front of a room.
+-- Bytes that are put one behind the other at the front of a buffer.
 use Rattle.std.proofs.Common.{◌≡◌, ℕ, ◌+◌, List, ◌++◌, length, take, drop, ap, sym, ◌∙◌, append_assoc, length-append}
 use Rattle.std.proofs.Math.Seq.{drop-append_seam, take-append_seam}
 use Rattle.std.proofs.lemmas.List.{drop-drop}
 
--- the room begins with this front, which ends at this place, and what is behind it is as it was
+-- the buffer begins with this front, which ends at this place, and what is behind it is as it was
 pub record BeginsWith (front old new : List ℕ) (at : ℕ) : Type 0 where
   pub here : at ≡ length front
   pub begins : new ≡ front ++ drop (length front) old

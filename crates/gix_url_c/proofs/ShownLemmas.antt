@@ -1,4 +1,4 @@
--- A location is shown where it has a text, and only there: that a password is hidden changes no form.
+-- A location is shown exactly where it has a text: hiding a password changes no form.
 use Rattle.std.proofs.Common.{◌≡◌, ℕ, List, Option, Some, None, is_some, is_none, IfSome, Result, Ok, Err, refl, ap, sym, subst}
 use Rattle.git_location.specs.declared.write_error.WriteFault.{WriteFault}
 use Rattle.gix_url.specs.Location.{Scheme, Location}

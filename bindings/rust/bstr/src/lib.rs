@@ -1,4 +1,4 @@
-//! Stands for the crate `bstr` in builds inside of this repository, which need no registry: the byte strings that
+//! Replaces the crate `bstr` in builds inside of this repository, which need no registry: the byte strings that
 //! `gix-url-proved` has of its own.
 
 #[path = "../../gix-url-proved/src/bytes.rs"]

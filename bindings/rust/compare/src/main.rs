@@ -1,6 +1,6 @@
-//! Asks `gix-url` and `gix-url-proved` the same questions about the same texts, and prints each text of which they tell
-//! different things: `compare COUNT FILE..` takes the lines of the files, and so many texts that are changed from them by
-//! chance. Its status is 1 where there is a difference, but for the form `user@[address]:path`, which is counted.
+//! Asks `gix-url` and `gix-url-proved` the same questions about the same texts, and prints each text for which the
+//! answers differ: `compare COUNT FILE..` takes the lines of the files, and so many texts that are changed from them by
+//! chance. Its status is 1 where there is a difference, except for the form `user@[address]:path`, which is counted.
 //!
 //! `compare price PASSES` prints how many nanoseconds each call of both takes a line of the standard input.
 
@@ -24,7 +24,7 @@ mod price {
     }
 }
 
-/// What one of the two crates tells of a text: the same code for both, as for any program that changes its dependency.
+/// What one of the two crates says of a text: the same code for both, as for any program that changes its dependency.
 macro_rules! told_by {
     ($name:ident) => {
         mod $name {

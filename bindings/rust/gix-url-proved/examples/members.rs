@@ -1,5 +1,5 @@
-//! Tells of each line of the standard input what the calls of the library answer, in words parted by a space: bytes in
-//! hexadecimal digits behind a `.`, and `-` for what isn't there.
+//! Prints for each line of the standard input what the calls of the library return, in words separated by a space:
+//! bytes in hexadecimal digits behind a `.`, and `-` for what isn't there.
 
 use gix_url_proved::parse::Error;
 use gix_url_proved::{parse, ArgumentSafety, PathComponents, Url};

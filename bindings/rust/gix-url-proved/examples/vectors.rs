@@ -1,5 +1,5 @@
-//! Carries out the orders of the standard input, a line each, by the calls of the crate, and tells how each call ended,
-//! in a line of JSON, as the program `answers` does. `tools/row_programs.py` writes orders and says how they are written.
+//! Carries out the orders of the standard input, a line each, by the calls of the crate, and prints the outcome of each
+//! call, a line of JSON, as the program `answers` does. `tools/row_programs.py` writes and describes orders.
 
 use gix_url_proved::bstr::BString;
 use gix_url_proved::expand_path::{self, ForUser};
@@ -94,7 +94,7 @@ impl Order {
     }
 }
 
-/// The scheme that a text tells, with its name behind a space.
+/// The scheme of a text, which has the name behind a space.
 fn scheme(told: &str) -> Scheme {
     match told.split_once(' ') {
         Some(("Helper", name)) => Scheme::Helper(name.to_owned()),
@@ -131,7 +131,7 @@ fn quoted(bytes: impl AsRef<[u8]>) -> String {
     format!("\"{}\"", bytes.as_ref().iter().map(character).collect::<String>())
 }
 
-/// What is told of a value that may be missing.
+/// What is printed for a value that may be missing.
 fn or_null(told: Option<String>) -> String {
     told.unwrap_or("null".to_owned())
 }
@@ -239,7 +239,7 @@ fn told_written(url: &Url) -> String {
     object([("written", Some(quoted(written))), ("fault", error.as_ref().map(told_error))])
 }
 
-/// The text of a location, which each call that writes it tells alike.
+/// The text of a location, which each call that writes it returns alike.
 fn told_text(url: &Url) -> String {
     match url.text() {
         Ok(text) => {
@@ -281,7 +281,7 @@ fn told_order<T: Ord + Hash>(one: &T, other: &T) -> String {
     format!("[[{wholly},{partly}],[{},{}]]", one == other, hash(one) == hash(other))
 }
 
-/// Calls that change a location or take it: what the call answers, and what has become of the location.
+/// Calls that change a location or take it: what the call returns, and the location after it.
 fn change(order: &Order, call: &str, mut url: Url) -> Option<String> {
     let old = match call {
         "Url::set_user" => url.set_user(order.text("user")),

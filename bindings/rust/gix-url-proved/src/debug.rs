@@ -2,7 +2,7 @@
 //!
 //! A location shows every part but that field; an error shows the length of a text that was refused, and never its
 //! bytes. Otherwise the shape is the one that a derive gives, with bytes as a text. Nothing else is hidden: a secret may
-//! also stand where the grammar puts no password, as the user of `https://token@h/p`, and a log shows it there.
+//! also be where the grammar puts no password, as the user of `https://token@h/p`, and a log shows it there.
 
 use crate::expand_path::ForUser;
 use crate::parse::Error;

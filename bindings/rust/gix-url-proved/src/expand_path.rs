@@ -36,7 +36,7 @@ impl fmt::Debug for ForUser {
 }
 
 /// The user whose home folder the path means, and the path below it. A path that doesn't begin with `/~` means none, and
-/// is copied. What stands behind the user is shown with U+FFFD in place of what is not UTF-8.
+/// is copied. What follows the user is shown with U+FFFD in place of what is not UTF-8.
 ///
 /// ```
 /// use gix_url_proved::expand_path::{self, ForUser};
@@ -59,7 +59,7 @@ pub fn parse(path: &BStr) -> Result<(Option<ForUser>, BString), Error> {
     Ok((Some(user), String::from_utf8_lossy(below).into_owned().into()))
 }
 
-/// The path as a shell takes it: `~user/repo` for `/~user/repo`. Any other path is handed back.
+/// The path as a shell takes it: `~user/repo` for `/~user/repo`. Any other path is returned as it is.
 ///
 /// ```
 /// use gix_url_proved::expand_path;
@@ -76,7 +76,7 @@ pub fn for_shell(path: BString) -> BString {
     }
 }
 
-/// Where the path lies in the home folder that the closure answers for this user; the path itself without a user, and
+/// Where the path lies in the home folder that the closure returns for this user; the path itself without a user, and
 /// the closure isn't called then.
 ///
 /// ```
@@ -89,7 +89,7 @@ pub fn for_shell(path: BString) -> BString {
 ///
 /// # Errors
 ///
-/// [`Error::NoHome`] where the closure answers none.
+/// [`Error::NoHome`] where the closure returns none.
 pub fn with(
     user: Option<&ForUser>,
     path: &BStr,

@@ -1,10 +1,10 @@
-//! The calls of the static library: the only `unsafe` code, but for byte strings where they are this crate's own.
+//! The calls of the static library: the only `unsafe` code, except byte strings where they are this crate's own.
 //!
 //! Each declaration says what `crates/gix_url_c/src` exports: a slice is a pointer that isn't null and a length, and what
-//! an answer is stored in lies apart from what is read. Each call hands over slices and structs that live until it
-//! returns, and the library keeps no pointer. What comes back is numbers, bytes in room of ours, of which no more is looked
-//! at than the library says it filled, and of a text that is read its parts, as slices of the text and of such room. Room is
-//! on the stack where that is enough, so a question takes no memory.
+//! an answer is stored in must not overlap what is read. Each call passes slices and structs that live until it
+//! returns, and the library keeps no pointer. It returns numbers, bytes in buffers of this crate, of which no more is
+//! read than the library says it filled, and for a text that is read its parts, as slices of the text and of such
+//! buffers. Buffers are on the stack where that is enough, so a question allocates nothing.
 
 use crate::bstr::BString;
 use crate::lent::lent;
@@ -15,11 +15,11 @@ use std::mem::MaybeUninit;
 
 const OK: u32 = 0;
 const NO_ROOM: u32 = 102;
-/// What room holds before a call in a debug build, which looks for it behind each error: a byte that is rarely written.
+/// What a buffer holds before a call in a debug build, which checks it after each error: a rarely written byte.
 const BLANK: u8 = 0xA5;
-/// How many bytes of room there are on the stack.
+/// How many bytes a buffer on the stack has.
 const NEAR: usize = 1024;
-/// How many lengths of names and values there is room for on the stack.
+/// How many lengths of names and values fit on the stack.
 const NEAR_LENGTHS: usize = 32;
 
 /// What of a location is a number.
@@ -49,7 +49,7 @@ struct Made {
     spelling: usize,
 }
 
-/// What is told of an error beside its number.
+/// The details of an error.
 #[repr(C)]
 #[derive(Clone, Copy, Default)]
 struct Problem {
@@ -134,7 +134,7 @@ impl<'a> Given<'a> {
         }
     }
 
-    /// The parts that stand in the bytes, one behind the other.
+    /// The parts in the bytes, one behind the other.
     fn made(made: &Made, mut bytes: &'a [u8]) -> Given<'a> {
         let mut part = |len| Bytes::of(next(&mut bytes, len));
         Given {
@@ -177,7 +177,7 @@ impl<'a> Given<'a> {
             + self.spelling.len
     }
 
-    /// The location without all that has no say in its components.
+    /// The location with only what determines its components.
     fn path_of(url: &'a Url) -> Given<'a> {
         let given = Given::of(url);
         let (scheme, has_spelling) = (given.front.scheme, given.front.has_spelling);
@@ -227,8 +227,8 @@ fn scheme(number: u8, name: Bytes<'_>) -> Scheme {
     }
 }
 
-/// Makes a call that fills the front of the room. It answers its number and how many bytes it needs; an error leaves the
-/// room as it was.
+/// Makes a call that fills the front of the room. It returns its number and how many bytes it needs; an error leaves
+/// the room as it was.
 fn fill(room: &mut [MaybeUninit<u8>], call: &mut impl FnMut(*mut u8, usize) -> (u32, usize)) -> (u32, usize) {
     if cfg!(debug_assertions) {
         room.fill(MaybeUninit::new(BLANK));
@@ -242,7 +242,7 @@ fn fill(room: &mut [MaybeUninit<u8>], call: &mut impl FnMut(*mut u8, usize) -> (
     (code, needed)
 }
 
-/// Fills memory with what a call answers, and once more with as much as is needed where it was too little.
+/// Fills memory with what a call returns, and once more with as much as is needed where it was too little.
 fn filled(ample: usize, mut call: impl FnMut(*mut u8, usize) -> (u32, usize)) -> (u32, Vec<u8>) {
     let mut bytes = Vec::with_capacity(ample);
     let (mut code, mut needed) = fill(bytes.spare_capacity_mut(), &mut call);
@@ -258,7 +258,7 @@ fn filled(ample: usize, mut call: impl FnMut(*mut u8, usize) -> (u32, usize)) ->
     (code, bytes)
 }
 
-/// Room for what a call answers: on the stack, and in memory where that is too little.
+/// A buffer for what a call returns: on the stack, and in memory where that is too little.
 struct Room {
     near: [MaybeUninit<u8>; NEAR],
     far: Vec<u8>,
@@ -292,7 +292,7 @@ pub(crate) fn next<'a>(bytes: &mut &'a [u8], len: usize) -> &'a [u8] {
     front
 }
 
-/// A text of the library, which hands out no other.
+/// A name, a user, a password or a host of the library, as a text.
 fn text(bytes: Bytes<'_>) -> String {
     String::from_utf8(bytes.get().to_vec()).expect("names, users, passwords and hosts are UTF-8")
 }
@@ -362,7 +362,7 @@ fn error(code: u32, told: &Problem, input: impl FnOnce() -> BString, name: &[u8]
     }
 }
 
-/// What the bytes are read as. Their parts are lent by the bytes, and by room for what has other bytes, and are copied.
+/// What the bytes are read as. The parts are slices of the bytes, or of a buffer where they differ, and are copied.
 pub(crate) fn read(input: &[u8]) -> Result<Url, Error> {
     let (mut lent, mut told) = (Given::none(), Problem::default());
     let (mut near, mut far) = ([MaybeUninit::<u8>::uninit(); NEAR], Vec::<u8>::new());
@@ -412,7 +412,7 @@ pub(crate) fn agrees_with_git(url: &Url) -> bool {
     is_answered(call!(gix_url_c_agrees_with_git, &Given::of(url), &mut agrees)) && agrees
 }
 
-/// Whether a call was answered that has no error but that what it is given is no location: every value here is one.
+/// Whether a call succeeded. Its only error is that its argument isn't a location, and every value here is one.
 fn is_answered(code: u32) -> bool {
     debug_assert!(code == OK, "every value of this crate is a location");
     code == OK
@@ -433,7 +433,7 @@ pub(crate) fn write(url: &Url) -> Result<Vec<u8>, Error> {
     }
 }
 
-/// The length of the text of the location, which an empty room tells.
+/// The length of the text of the location, which a call with an empty buffer returns.
 pub(crate) fn text_len(url: &Url) -> Result<usize, WriteFault> {
     let (mut len, mut told) = (0, Problem::default());
     match call!(gix_url_c_write, &Given::of(url), [].as_mut_ptr(), 0, &mut len, &mut told) {
@@ -442,12 +442,12 @@ pub(crate) fn text_len(url: &Url) -> Result<usize, WriteFault> {
     }
 }
 
-/// Hands over the text of the location, without memory where it is short.
+/// Passes on the text of the location, without memory where it is short.
 pub(crate) fn with_text<T>(url: &Url, take: impl FnOnce(&[u8]) -> T) -> Result<T, Error> {
     with_text_of(&Given::of(url), take)
 }
 
-/// Hands over what the location is shown as: the text that it has with another password, if it has one.
+/// Passes on what the location is shown as: the text that it has with another password, if it has one.
 pub(crate) fn display<T>(url: &Url, take: impl FnOnce(&[u8]) -> T) -> Result<T, Error> {
     let mut given = Given::of(url);
     if url.password.is_some() {
@@ -479,7 +479,7 @@ pub(crate) fn argument(part: Option<&str>) -> ArgumentSafety<'_> {
     }
 }
 
-/// Whether a path may be handed to a command.
+/// Whether a path may be passed to a command.
 pub(crate) fn is_path_argument(path: &[u8]) -> bool {
     call!(gix_url_c_path_argument, path.as_ptr(), path.len()) == 1
 }
@@ -500,7 +500,7 @@ pub(crate) fn port_or_default(scheme: &Scheme, port: Option<u16>) -> Option<u16>
     u16::try_from(told).ok()
 }
 
-/// Takes the path of the location apart. What the library copies into room is found again in the path, and lent.
+/// Takes the path of the location apart. What the library copies into a buffer is found in the path, and borrowed.
 pub(crate) fn components(url: &Url) -> Result<PathComponents<'_>, Error> {
     let given = Given::path_of(url);
     let (mut told, mut room) = (Parted::default(), Room::new());

@@ -9,7 +9,7 @@ use std::borrow::Cow;
 /// query is.
 const EMPTY_FIELDS: usize = 8;
 
-/// The components that stand in these bytes, as far as they can be, lent by the path that they are of.
+/// The components in these bytes, borrowed from the path that they are of as far as they can be.
 pub(crate) fn lent<'a>(whole: &'a [u8], told: &Parted, mut bytes: &[u8], lengths: &[usize]) -> PathComponents<'a> {
     // The path of a location that has none is not a part of it, and is `/`.
     let path = if whole.starts_with(next(&mut bytes, told.path)) { &whole[..told.path] } else { b"/" };
@@ -25,7 +25,7 @@ pub(crate) fn lent<'a>(whole: &'a [u8], told: &Parted, mut bytes: &[u8], lengths
     }
 }
 
-/// A name or a value, lent where it stands behind separators in the query, which then goes on behind it.
+/// A name or a value, borrowed where it follows separators in the query, which then goes on behind it.
 fn lent_part<'a>(query: &mut &'a [u8], part: &[u8]) -> Cow<'a, BStr> {
     let is_same = |(raw, byte): (&u8, &u8)| raw == byte || (*raw, *byte) == (b'+', b' ');
     let separators = if part.first() == Some(&b'&') { EMPTY_FIELDS } else { query.len() };

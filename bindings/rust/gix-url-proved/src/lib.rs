@@ -1,10 +1,10 @@
-//! Git locations: remote helpers, URLs, the scp form and local paths, read, written and told apart.
+//! Parses, writes and compares Git locations: remote helpers, URLs, the scp form and local paths.
 //!
 //! The surface is that of `gix-url` 0.40.1, by the same names, so that a program changes the line that names its
 //! dependency and little else; `docs/FROM_RUST.md` of the repository has each line that changes. The answers come from the
 //! library `gix_url`, whose code is proved, by the static library that is linked in; what is here turns values into
-//! pointers and lengths and back. All `unsafe` code is in the module `ffi`, and in the byte strings that stand in for
-//! those of the crate `bstr` without the feature `bstr`.
+//! pointers and lengths and back. All `unsafe` code is in the module `ffi`, and in the byte strings that replace those
+//! of the crate `bstr` without the feature `bstr`.
 //!
 //! ```
 //! let url = gix_url_proved::parse("ssh://git@example.com/gitoxide")?;

@@ -21,7 +21,7 @@ use std::fmt;
 ///
 /// # Errors
 ///
-/// Exactly where the bytes spell no location; the error names a flaw that stands in them.
+/// Exactly where the bytes spell no location; the error names a flaw in them.
 pub fn parse(input: impl AsRef<[u8]>) -> Result<Url, Error> {
     ffi::read(input.as_ref())
 }
@@ -29,7 +29,7 @@ pub fn parse(input: impl AsRef<[u8]>) -> Result<Url, Error> {
 /// The form that a text was taken for.
 #[derive(Clone, Copy, Debug, PartialEq, Eq)]
 pub enum UrlKind {
-    /// A URL: `://` stands in it.
+    /// A URL: it has a `://`.
     Url,
     /// The form `user@host:path` of `scp`.
     Scp,
@@ -40,11 +40,11 @@ pub enum UrlKind {
 /// What is wrong with a URL, or with the host of the scp form.
 #[derive(Clone, Copy, Debug, PartialEq, Eq)]
 pub enum UrlFault {
-    /// What stands before `://` is no scheme.
+    /// What is before `://` isn't a scheme.
     NoScheme,
-    /// What stands in a port's place is no port.
+    /// What is in a port's place isn't a port.
     BadPort,
-    /// A byte or a character stands where it is not allowed, or an escape is broken or stands for no text.
+    /// A byte or a character is where it is not allowed, or an escape is broken or stands for no text.
     BadCharacter,
     /// The scheme, or the scp form, needs a host.
     HostRequired,
@@ -53,7 +53,7 @@ pub enum UrlFault {
 /// Why a location has no text.
 #[derive(Clone, Copy, Debug, PartialEq, Eq)]
 pub enum WriteFault {
-    /// The name of the remote helper is no such name.
+    /// The name of the remote helper isn't valid.
     HelperName,
     /// A remote helper has a user, a password, a host or a port.
     HelperParts,
@@ -71,7 +71,7 @@ pub enum Error {
     Memory,
     /// The text is empty.
     EmptyLocal,
-    /// A path is wanted and there is none.
+    /// A path is required and there is none.
     MissingPath {
         /// The form that the text was taken for.
         kind: UrlKind,
@@ -92,7 +92,7 @@ pub enum Error {
         /// The length of the text, in bytes.
         total: usize,
     },
-    /// The text is no URL, or the host of the scp form is none.
+    /// The text isn't a URL, or the host of the scp form isn't valid.
     BadUrl {
         /// The form that the text was taken for.
         kind: UrlKind,
@@ -101,7 +101,7 @@ pub enum Error {
         /// The text.
         input: BString,
     },
-    /// The name of a remote helper is no such name.
+    /// The name of a remote helper isn't valid.
     HelperName {
         /// The name.
         name: BString,

@@ -28,7 +28,7 @@ pub enum Scheme {
     Ext,
     /// Another remote helper, by its name, as in `name::address`.
     Helper(String),
-    /// The scheme of any other URL, which Git hands to the remote helper of that name.
+    /// The scheme of any other URL, which Git passes to the remote helper of that name.
     HelperUrl(String),
 }
 

@@ -94,14 +94,14 @@ fn migrated(path: Vec<u8>, spelling: Option<Vec<u8>>) -> (Vec<u8>, Option<Vec<u8
     (decoded, Some(escaped))
 }
 
-/// The byte of the escape that stands at the front: `%` and two hexadecimal digits.
+/// The byte of the escape at the front: `%` and two hexadecimal digits.
 fn escape(bytes: &[u8]) -> Option<u8> {
     let digit = |at: usize| char::from(*bytes.get(at)?).to_digit(16);
     let value = 16 * digit(1)? + digit(2)?;
     u8::try_from(value).ok().filter(|_| bytes.first() == Some(&b'%'))
 }
 
-/// Appends a byte of the path of a URL, as an escape where it may not stand there itself.
+/// Appends a byte of the path of a URL, as an escape where it may not be there itself.
 fn push_escaped(escaped: &mut Vec<u8>, byte: u8) {
     match byte {
         0..=b' ' | b'"' | b'%' | b'<' | b'>' | b'`' | b'{' | b'}' | 127.. => {

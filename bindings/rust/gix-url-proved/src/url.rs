@@ -11,7 +11,7 @@ use std::os::unix::ffi::{OsStrExt, OsStringExt};
 use std::path::Path;
 
 /// A Git location. Its fields may be changed by hand: the location may have no text then, or one that is read as
-/// something else, which [`Url::is_settled`] tells.
+/// something else: see [`Url::is_settled`].
 ///
 /// Equality, order and hash are those of the fields in declared order, with the retained spelling of the path last.
 ///
@@ -32,7 +32,7 @@ pub struct Url {
     pub password: Option<String>,
     /// The host. It may be empty, and may begin with `-`: see [`Url::host_as_argument`].
     pub host: Option<String>,
-    /// Whether the form that is no URL is asked for, where the location has one: `host:path`, or a path.
+    /// Whether the form that isn't a URL is asked for, where the location has one: `host:path`, or a path.
     pub serialize_alternative_form: bool,
     /// The port, if there is one.
     pub port: Option<u16>,
@@ -56,9 +56,9 @@ pub enum ArgumentSafety<'a> {
 /// A name of a query and its value, decoded.
 pub type QueryPair<'a> = (Cow<'a, BStr>, Cow<'a, BStr>);
 
-/// The path of a location with the query and the fragment that stand in it, decoded where the spelling has escapes. All is
-/// borrowed from the location, but names and values with a `+` that is a space; and maybe a name that begins with an escaped
-/// `&`, behind more than eight empty fields.
+/// The path of a location with the query and the fragment in it, decoded where the spelling has escapes. All is
+/// borrowed from the location, except names and values with a `+` that is a space; and maybe a name that begins with an
+/// escaped `&`, behind more than eight empty fields.
 #[derive(Clone, Debug, PartialEq, Eq)]
 pub struct PathComponents<'a> {
     /// The path before the query and the fragment.
@@ -69,7 +69,7 @@ pub struct PathComponents<'a> {
     pub fragment: Option<&'a BStr>,
 }
 
-/// The answer of a call that can be refused memory alone.
+/// The result of a call whose only error is refused memory.
 fn unless_memory<T>(answer: Result<T, Error>) -> T {
     answer.unwrap_or_else(|error| panic!("{error}"))
 }
@@ -125,7 +125,7 @@ impl Url {
         self.host.as_deref()
     }
 
-    /// Stores another user, or none, and hands back the one before.
+    /// Stores another user, or none, and returns the one before.
     ///
     /// ```
     /// let mut url = gix_url_proved::parse("ssh://git@host/repo")?;
@@ -137,12 +137,12 @@ impl Url {
         std::mem::replace(&mut self.user, user)
     }
 
-    /// Stores another password, or none, and hands back the one before.
+    /// Stores another password, or none, and returns the one before.
     pub fn set_password(&mut self, password: Option<String>) -> Option<String> {
         std::mem::replace(&mut self.password, password)
     }
 
-    /// The same location, asked to be written in the form that is no URL, or not to be.
+    /// The same location, asked to be written in the form that isn't a URL, or not to be.
     ///
     /// ```
     /// let url = gix_url_proved::parse("file:///path")?.with_request_alternate_form(true);
@@ -248,14 +248,15 @@ impl Url {
 
     /// Whether Git reads this very place in the text of the location: the same protocol, user, host, port and path.
     ///
-    /// Hand Git the text that [`Url::to_bstring`] writes, and not another one that was read as the location: of
+    /// Give Git the text that [`Url::to_bstring`] writes, and not another one that was read as the location: of
     /// `ssh://@h/p`, which is written as `ssh://h/p`, the answer is yes, and Git would give Secure Shell the word `@h`,
     /// which it refuses. What Git reads is a definition. No proof says that Git keeps to it: a second reading of it was
     /// compared with git 2.39.5 on Linux.
     ///
-    /// Git hands a text of HTTP to curl, and asks its credential code for a password. Of such a location, yes says that in
-    /// the text this code reads the location's own scheme, user, password, host with port, and path, and that the text is a
-    /// URI of RFC 3986 in the normal form, whose components are the location's own. Such a location is settled, and
+    /// Git passes a text of HTTP to curl, and asks its credential code for a password. Of such a location, yes says
+    /// that in the text this code reads the location's own scheme, user, password, host with port, and path, and that
+    /// the text is a URI of RFC 3986 in the normal form, whose components are the location's own. Such a location is
+    /// settled, and
     ///
     /// - its host is a name of lower-case letters, digits, `-`, `.` and `_` whose last label begins with a letter, an IPv4
     ///   address, or an IPv6 address in brackets;
@@ -264,10 +265,10 @@ impl Url {
     ///   it is written in the bytes that a path and a query of a URI have;
     /// - neither what is written for the password nor what is written for the path holds both a `:` and an escape.
     ///
-    /// The answer is no for what Git hands to another remote helper, for an empty user of Secure Shell, for a local path
-    /// that begins with `~`, and for what isn't settled. It is no for some texts that Git reads alike: but for HTTP, among
-    /// them those with an escape before the path, or with brackets that aren't around an address. The brackets around an
-    /// address don't count: of `git://[::1]/p` the host here is `[::1]`, and Git connects to `::1`.
+    /// It is false for what Git passes to another remote helper, for an empty user of Secure Shell, for a local path
+    /// that begins with `~`, for what isn't settled, and for some texts that Git reads alike: outside HTTP, among them
+    /// those with an escape before the path, or with brackets that aren't around an address. The brackets
+    /// around an address don't count: of `git://[::1]/p` the host here is `[::1]`, and Git connects to `::1`.
     ///
     /// ```
     /// use gix_url_proved::{parse, Url};
@@ -300,7 +301,7 @@ impl Url {
     ///
     /// # Panics
     ///
-    /// Where the location has no text: [`Url::text`] answers that as an error.
+    /// Where the location has no text: [`Url::text`] returns that as an error.
     pub fn to_bstring(&self) -> BString {
         unless_memory(self.text())
     }

@@ -1,8 +1,8 @@
 //! The same questions to `gix-url` 0.40.1 and to this crate, by the program `bindings/rust/compare` of the repository, where
-//! `gix-url` is installed: `cargo test --features compare`. Where it isn't, that is said, and nothing is compared.
+//! `gix-url` is installed: `cargo test --features compare`. Where it isn't, that is printed, and nothing is compared.
 //!
 //! The program is built in the folder `GIX_URL_COMPARE_IN`, or in that of temporary files, since inside of the repository
-//! other crates stand for those of a registry. A `.cargo/config.toml` of that folder may name a source.
+//! other crates replace those of a registry. A `.cargo/config.toml` of that folder may name a source.
 #![cfg(feature = "compare")]
 
 use std::env;

@@ -1,6 +1,6 @@
 //! Code as it is written for `gix-url` 0.40.1, its public items one by one, which compiles unchanged here: the first lines
 //! alone say that the dependency has another name. `docs/FROM_RUST.md` lists what changes in a program.
-// What is handed in has each type on purpose.
+// Arguments have each type on purpose.
 #![allow(clippy::unnecessary_to_owned, clippy::needless_borrows_for_generic_args)]
 
 use gix_url_proved as gix_url;

@@ -20,7 +20,7 @@ fn printed(example: &str) -> String {
     String::from_utf8(ran.stdout).unwrap()
 }
 
-/// What the example in C prints, but for the place of a fault, which this crate doesn't tell.
+/// What the example in C prints, except the place of a fault, which this crate doesn't report.
 fn wanted(example: &str) -> String {
     let wanted = fs::read_to_string(file(&format!("c/{example}.wanted"))).unwrap();
     let line = |line: &str| match line.strip_prefix("refused at byte ").and_then(|it| it.split_once(": ")) {

@@ -13,7 +13,7 @@ thread_local! {
     static REQUESTS: Cell<usize> = const { Cell::new(0) };
 }
 
-// SAFETY: all is handed on to the allocator of the system.
+// SAFETY: all is passed on to the allocator of the system.
 unsafe impl GlobalAlloc for Counts {
     unsafe fn alloc(&self, layout: Layout) -> *mut u8 {
         REQUESTS.set(REQUESTS.get() + 1);
@@ -37,7 +37,7 @@ fn requests<T>(call: impl FnOnce() -> T) -> usize {
     REQUESTS.get() - before
 }
 
-/// Asks each question of a location that is no call for memory.
+/// Asks each question about a location that takes no memory.
 fn ask(url: &Url) {
     black_box((url.user(), url.password(), url.host(), url.port_or_default(), url.path_is_root()));
     black_box((url.user_as_argument(), url.host_as_argument(), url.user_argument_safe(), url.host_argument_safe()));

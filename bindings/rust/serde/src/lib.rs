@@ -1,4 +1,4 @@
-//! Stands for the crate `serde` in builds inside of this repository, which need no registry. The feature `serde` of
+//! Replaces the crate `serde` in builds inside of this repository, which need no registry. The feature `serde` of
 //! `gix-url-proved` needs the real one.
 
 compile_error!("the feature serde needs a registry: call cargo outside of this repository, as docs/FROM_RUST.md says");

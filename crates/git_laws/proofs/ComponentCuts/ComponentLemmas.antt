@@ -1,4 +1,4 @@
--- What is read of a settled location of HTTP has the same components.
+-- Reading a settled location of HTTP again keeps its components.
 use Rattle.std.proofs.Common.{◌≡◌, ℕ, ◌<◌, Bool, true, false, ◌==◌, ◌↔◌, inl, inr, List, [], ◌∷◌, ◌++◌, map, Option, Some, None, Ok, IsUtf8, IfSome, option_map, if◌then◌else◌, All, refl, sym, ap, subst, ◌∙◌, ⊎_elim, arith}
 use Rattle.std.specs.List.{list_any, join_with_byte}
 use Rattle.std.proofs.lemmas.Bool.{cond-true, cond-false, cases_Bool, both_ways, false≢true, or_parts, eqb-true, false_from_ne_true}
@@ -44,7 +44,7 @@ spaces_free (b ∷ x) free =
     let parts = or_parts (b == plus_sign) (list_any (λ c. c == plus_sign) x) free in
     ap (λ c. c ∷ with_spaces x) (cond-false (b == plus_sign) space b parts.0) ∙ ap (λ t. b ∷ t) (spaces_free x parts.1)
 
--- a byte of an escape is no `+`
+-- a byte of an escape isn't `+`
 escape_not_plus : (b : ℕ) → IsEscapeByte b → (b == plus_sign) ≡ false
 escape_not_plus b h = grind (arith, nat_tests)
 
@@ -58,7 +58,7 @@ escaped_not_kept : (b c : ℕ) → c < 128 → is_path_escaped c ≡ false → s
 escaped_not_kept b c ascii out escaped =
     false_from_ne_true (b == c) (λ e. both_ways (should_percent_encode PATH b) (ap (should_percent_encode PATH) (eqb-true b c e) ∙ kept_from_outside PATH c ascii (path_holds c ascii ∙ out)) escaped)
 
--- a byte that is kept in a path is no `%`
+-- a byte that is kept in a path isn't `%`
 kept_not_percent : (b : ℕ) → should_percent_encode PATH b ≡ false → (b == percent_sign) ≡ false
 kept_not_percent b kept =
     false_from_ne_true (b == percent_sign) (λ e. both_ways (contains PATH b) (outside_from_kept PATH b kept) (ap (contains PATH) (eqb-true b percent_sign e) ∙ path_holds percent_sign (omega arith)))
@@ -144,7 +144,7 @@ same_way = record {
   freed = λ c x mark h. h;
 }
 
--- a byte of an escape is no mark
+-- a byte of an escape isn't a mark
 mark_not_escape : (c b : ℕ) → IsMark c → is_escape_byte b ≡ true → (b == c) ≡ false
 mark_not_escape c b mark h = false_from_ne_true (b == c) (λ e. both_ways (is_escape_byte c) mark.no_escape (sym (ap is_escape_byte (eqb-true b c e)) ∙ h))
 
@@ -174,9 +174,9 @@ ampersand_mark = record { ascii = omega arith; out = refl; no_escape = refl }
 equals_sign_mark : IsMark equals_sign
 equals_sign_mark = record { ascii = omega arith; out = refl; no_escape = refl }
 
--- ---- cuts of what is written
+-- ---- cuts of the written text
 
--- a cut of what is written is written of a cut
+-- a cut of the written text is written of a cut
 cut_back : (f : List ℕ → List ℕ) (c : ℕ) (t front rest : List ℕ) → IsWay f → IsMark c → FreeOf c front → f t ≡ front ++ c ∷ rest → (x : List ℕ) × (y : List ℕ) × FreeOf c x × (t ≡ x ++ c ∷ y) × (front ≡ f x) × (rest ≡ f y)
 cut_back f c t front rest way mark free e =
     elim (free_or_cut c t) [
@@ -186,19 +186,19 @@ cut_back f c t front rest way mark free e =
           (x, y, lone, cut, both.0, both.1)
     ]
 
--- the parts around a first mark are written as those of what is written
+-- the parts around a first mark are written as those of the written text
 off_written : (f : List ℕ → List ℕ) (c : ℕ) (t front : List ℕ) (behind : Option (List ℕ)) → IsWay f → IsMark c → CutsText c t front behind → CutsText c (f t) (f front) (option_map f behind)
 off_written f c t front None way mark (free, e) = (way.free c t mark free, ap f e)
 off_written f c t front (Some x) way mark (free, e) = (way.free c front mark free, ap f e ∙ way.around c front x mark)
 
--- those of what is written are written of parts of the text
+-- those of the written text are written of parts of the text
 off_back : (f : List ℕ → List ℕ) (c : ℕ) (t front : List ℕ) (behind : Option (List ℕ)) → IsWay f → IsMark c → CutsText c (f t) front behind → (x : List ℕ) × (y : Option (List ℕ)) × (front ≡ f x) × (behind ≡ option_map f y) × CutsText c t x y
 off_back f c t front None way mark (free, e) = (t, None, e, refl, (way.freed c t mark free, refl))
 off_back f c t front (Some r) way mark (free, e) =
     let (x, y, lone, cut, is_x, is_y) = cut_back f c t front r way mark free e in
     (x, Some y, is_x, ap Some is_y, (lone, cut))
 
--- the pieces of a path are written as those of what is written
+-- the pieces of a path are written as those of the written text
 cuts_written : (f : List ℕ → List ℕ) (t front : List ℕ) (query fragment : Option (List ℕ)) → IsWay f → CutsPath t front query fragment → CutsPath (f t) (f front) (option_map f query) (option_map f fragment)
 cuts_written f t front query fragment way (middle, first, second) = (
   f middle,
@@ -206,7 +206,7 @@ cuts_written f t front query fragment way (middle, first, second) = (
   off_written f question_mark middle front query way question_mark_mark second,
 )
 
--- these pieces of what is written are written of pieces of the path
+-- these pieces of the written text are written of pieces of the path
 record IsCutBack (f : List ℕ → List ℕ) (t front : List ℕ) (query fragment : Option (List ℕ)) : Type 0 where
   first : List ℕ
   second : Option (List ℕ)
@@ -216,7 +216,7 @@ record IsCutBack (f : List ℕ → List ℕ) (t front : List ℕ) (query fragmen
   is_fragment : fragment ≡ option_map f third
   cut : CutsPath t first second third
 
--- the pieces of what is written are
+-- the pieces of the written text are
 cuts_back : (f : List ℕ → List ℕ) (t front : List ℕ) (query fragment : Option (List ℕ)) → IsWay f → CutsPath (f t) front query fragment → IsCutBack f t front query fragment
 cuts_back f t front query fragment way (middle, first, second) =
     let (outer, third, is_middle, is_fragment, off) = off_back f number_sign t middle fragment way number_sign_mark first in
@@ -224,7 +224,7 @@ cuts_back f t front query fragment way (middle, first, second) =
     let (inner, asked, is_front, is_query, cut) = off_back f question_mark outer front query way question_mark_mark inside in
     record { first = inner; second = asked; third = third; is_front = is_front; is_query = is_query; is_fragment = is_fragment; cut = (outer, off, cut) }
 
--- ---- fields of what is written
+-- ---- fields of the written text
 
 -- fields without `&` are written without it
 each_written : (f : List ℕ → List ℕ) (fields : List (List ℕ)) → IsWay f → All (FreeOf ampersand) fields → All (FreeOf ampersand) (map f fields)
@@ -238,16 +238,16 @@ joined_written f (t ∷ []) way = refl
 joined_written f (t ∷ u ∷ us) way =
     way.around ampersand t (join_with_byte ampersand (u ∷ us)) ampersand_mark ∙ ap (λ z. f t ++ ampersand ∷ z) (joined_written f (u ∷ us) way)
 
--- the fields of a text are written as those of what is written
+-- the fields of a text are written as those of the written text
 fields_written : (f : List ℕ → List ℕ) (t : List ℕ) (fields : List (List ℕ)) → IsWay f → CutsFields t fields → CutsFields (f t) (map f fields)
 fields_written f t fields way cut = record { each = each_written f fields way cut.each; joined = ap f cut.joined ∙ joined_written f fields way }
 
--- one field more stands before others, where there are any
+-- one field more comes before others, where there are any
 joined_more : (f : List ℕ → List ℕ) (c : ℕ) (t : List ℕ) (fields : List (List ℕ)) (k : List ℕ) (ks : List (List ℕ)) → k ∷ ks ≡ map f fields → join_with_byte c (t ∷ fields) ≡ t ++ c ∷ join_with_byte c fields
 joined_more f c t [] k ks e = let wrong : k ∷ ks ≡ [] = e in cc
 joined_more f c t (u ∷ us) k ks e = refl
 
--- the fields of what is written are written of fields of the text
+-- the fields of the written text are written of fields of the text
 fields_back : (f : List ℕ → List ℕ) (given : List (List ℕ)) (t : List ℕ) → IsWay f → All (FreeOf ampersand) given → f t ≡ join_with_byte ampersand given → (fields : List (List ℕ)) × CutsFields t fields × (given ≡ map f fields)
 fields_back f [] t way each e = ([], record { each = All-nil (FreeOf ampersand); joined = way.empty t e }, refl)
 fields_back f (g ∷ []) t way each e =
@@ -260,11 +260,11 @@ fields_back f (g ∷ k ∷ ks) t way each e =
     let whole = cut ∙ ap (λ z. x ++ ampersand ∷ z) rest.joined ∙ sym (joined_more f ampersand x fields k ks same) in
     (x ∷ fields, record { each = All-cons (FreeOf ampersand) x fields lone rest.each; joined = whole }, (λ i. is_x i ∷ same i))
 
--- name and value of a field are written as those of what is written
+-- name and value of a field are written as those of the written text
 split_written : (f : List ℕ → List ℕ) (field name value : List ℕ) → IsWay f → SplitsField field name value → SplitsField (f field) (f name) (f value)
 split_written f field name value h4 h5 = grind (arith, nat_tests, equals_sign_mark)
 
--- name and value of what is written are written of those of the field
+-- name and value of the written text are written of those of the field
 split_back : (f : List ℕ → List ℕ) (field name value : List ℕ) → IsWay f → SplitsField (f field) name value → (first : List ℕ) × (second : List ℕ) × (name ≡ f first) × (value ≡ f second) × SplitsField field first second
 split_back f field name value way (SplitsField.name_alone free e j) =
     (field, [], e, j ∙ sym way.nil, SplitsField.name_alone (way.freed equals_sign field equals_sign_mark free) refl refl)
@@ -345,7 +345,7 @@ fragment_written f v w (Some t) h small = ap Some (h.meant t small)
 
 -- ---- the components
 
--- the components of what is written are those of the path
+-- the components of the written text are those of the path
 parts_written : (f : List ℕ → List ℕ) (v w : Location) (components : Components) → IsRewritten f v w → WebComponents v components → WebComponents w components
 parts_written f v w components h parts =
     let (front, query, fragment) = bytes_cut (original_path v) parts.front parts.query parts.fragment h.bytes parts.cut in record {
@@ -358,7 +358,7 @@ parts_written f v w components h parts =
       fragment_meant = parts.fragment_meant ∙ sym (fragment_written f v w parts.fragment h fragment);
     }
 
--- and those of the path are those of what is written
+-- and those of the path are those of the written text
 parts_back : (f : List ℕ → List ℕ) (v w : Location) (components : Components) → IsRewritten f v w → WebComponents w components → WebComponents v components
 parts_back f v w components h parts =
     let back = cuts_back f (original_path v) parts.front parts.query parts.fragment h.way (subst (λ t. CutsPath t parts.front parts.query parts.fragment) h.original parts.cut) in

@@ -1,4 +1,4 @@
--- Decisions on whole texts: each spells a location, or a flaw stands in it.
+-- Decisions on whole texts: each spells a location, or a flaw is in it.
 use Rattle.std.proofs.Common.{◌≡◌, ℕ, ◌<◌, ◌-◌, ◌==◌, true, false, ◌⊎◌, inl, inr, List, ◌∷◌, ◌++◌, ◌+◌, length, drop, Option, Some, None, refl, sym, ap, subst, ◌∙◌, arith, IsUtf8}
 use Rattle.std.proofs.lemmas.Bool.{cases_Bool}
 use Rattle.git_syntax.specs.declared.refusal.UrlKind.TheVariants as kind
@@ -234,7 +234,7 @@ front_or_not b =
           ]
     ]
 
--- such a colon stands before any `/`, or not
+-- such a colon comes before any `/`, or not
 scp_or_not : (b : List ℕ) → Decides (HasScpCut b)
 scp_or_not b =
     elim (front_or_not b) [
@@ -267,7 +267,7 @@ neither_decided b neither =
           ]
     ]
 
--- each text spells a location, or a flaw stands in it
+-- each text spells a location, or a flaw is in it
 pub decided : Decided
 decided b =
     elim (helper_or_not b) [

@@ -185,7 +185,7 @@ many_named git_hosts piece open_front many =
     ]
 many_named other_hosts piece open_front many = other_named other_hosts piece loose_not_strict (λ r. loose_not_bare r.0) open_front many
 
--- what stands around the first colon
+-- the text on both sides of the first colon
 around_colon : (syntax : HostSyntax) (front rest : List ℕ) → FreeOf colon front → begins_with left_bracket (front ++ colon ∷ rest) ≡ false → NamesOrFlawed syntax (front ++ colon ∷ rest)
 around_colon syntax [] rest free open_front = many_named syntax (colon ∷ rest) open_front (inl refl)
 around_colon syntax (b ∷ front) rest free open_front =

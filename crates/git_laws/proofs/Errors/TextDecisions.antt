@@ -1,4 +1,5 @@
--- Decisions on texts: each test of the definitions passes or fails, and each text is cut at a mark or lacks it.
+-- Decisions on texts: each test of the definitions passes or
+-- fails, and each text is cut at a mark or lacks it.
 use Rattle.std.proofs.Common.{◌≡◌, ℕ, ◌<◌, ◌==◌, ◌&&◌, Bool, true, ◌⊎◌, inl, inr, List, [], ◌∷◌, ◌++◌, length, length-append, refl, sym, ap, subst, ◌∙◌, arith, IsUtf8, eq-eqb}
 use Rattle.std.specs.List.{list_any, list_all}
 use Rattle.std.specs.Str.{chars, is_utf8}
@@ -40,7 +41,7 @@ nil_or_some (b ∷ t) = inr (omega arith)
 pub free_or_not : (c : ℕ) (t : List ℕ) → Decides (FreeOf c t)
 free_or_not c t = elim (cases_Bool (list_any (λ b. b == c) t)) [ inl held ↦ inr (λ free. both_ways _ free held) | inr free ↦ inl free ]
 
--- white space stands in a text, or not
+-- white space is in a text, or not
 pub white_or_not : (t : List ℕ) → Decides (LacksWhiteSpace t)
 white_or_not t = elim (cases_Bool (list_any is_whitespace (chars t))) [ inl held ↦ inr (λ lacks. both_ways _ lacks held) | inr lacks ↦ inl lacks ]
 
@@ -112,7 +113,7 @@ literal_or_not t =
 
 -- ---- cuts
 
--- a text is free of a byte, or is what stands before the last such byte, the byte, and what stands behind it
+-- a text is free of a byte, or is the text before the last such byte, the byte, and the text behind it
 pub free_or_last_cut : (c : ℕ) (bs : List ℕ) → FreeOf c bs ⊎ ((x : List ℕ) × (y : List ℕ) × FreeOf c y × (bs ≡ x ++ c ∷ y))
 free_or_last_cut c [] = inl refl
 free_or_last_cut c (b ∷ bs) =
@@ -153,7 +154,7 @@ held_behind b bs (c ∷ front, rest, e) = inr (front, rest, tails e)
 starts_further : (b : ℕ) (front behind bs : List ℕ) → bs ≡ front ++ behind → StartsAtMark (b ∷ front) → StartsAtMark (b ∷ bs)
 starts_further b front behind bs e (rest, is) = (rest ++ behind, ap (λ t. b ∷ t) e ∙ ap (λ t. t ++ behind) is)
 
--- a text holds no `://`, or is what stands before the first one, the mark, and what stands behind it
+-- a text holds no `://`, or is the text before the first one, the mark, and the text behind it
 pub mark_or_cut : (bs : List ℕ) → (¬ Holds url_mark bs) ⊎ ((front : List ℕ) × (rest : List ℕ) × (¬ Holds url_mark front) × (bs ≡ front ++ (url_mark ++ rest)))
 mark_or_cut [] = inl (λ (front, rest, e). absurd (omega (arith, ap length e, length-append front (url_mark ++ rest))))
 mark_or_cut (b ∷ bs) =

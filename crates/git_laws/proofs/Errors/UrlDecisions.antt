@@ -1,4 +1,4 @@
--- Decisions on URLs: each has a meaning, or a flaw stands in it.
+-- Decisions on URLs: each has a meaning, or a flaw is in it.
 use Rattle.std.proofs.Common.{◌≡◌, ℕ, ◌<◌, Bool, true, false, ◌⊎◌, inl, inr, List, ◌∷◌, ◌++◌, length, take, drop, Option, Some, None, refl, sym, ap, subst, ◌∙◌, codes, bytes_eq, IsUtf8}
 use Rattle.std.specs.List.{position_or_len}
 use Rattle.std.proofs.lemmas.Bool.{both_ways, false≢true, cases_Bool}
@@ -30,7 +30,7 @@ use Rattle.git_laws.proofs.Errors.HostDecisions.{named_or_flawed}
 
 -- ---- authorities
 
--- user information holds a user and a password, or what is no text
+-- user information holds a user and a password, or what isn't text
 credentials_or_not : (text : List ℕ) → ((user : Option (List ℕ)) × (password : Option (List ℕ)) × Credentials text user password) ⊎ ((at : ℕ) × (len : ℕ) × HasNoText text at len)
 credentials_or_not text =
     elim (free_or_cut colon text) [
@@ -149,7 +149,7 @@ meaning (helper_url name) b parts pathed = by_scheme (helper_url name) parts pat
 
 -- ---- URLs
 
--- the text spells a location, or a flaw stands in it
+-- the text spells a location, or a flaw is in it
 abbrev pub SpelledOrFlawed : List ℕ → Type 0
 SpelledOrFlawed b = ((v : Location) × Spells b v) ⊎ HasFlaw b
 
@@ -173,7 +173,7 @@ too_long_decided b front rest form unfit =
     let (at, len, place) = too_long_placed b front rest form.form.joined in
     HasFlaw.too_long _ _ at len (record { front = front; rest = rest; form = form; unfit = unfit; front_shown = refl; length_reported = refl; place = place })
 
--- a URL that is no file URL
+-- a URL that isn't a file URL
 other_decided : (b front rest : List ℕ) → OtherUrlForm b front rest → SpelledOrFlawed b
 other_decided b front rest form =
     elim (fits_or_not front rest) [

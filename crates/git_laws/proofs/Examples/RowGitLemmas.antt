@@ -66,7 +66,7 @@ plain_word word host path user unbracketed free split first second other =
     let portless = portless_free word free in
     reached word path word word host None None user (HostAndPort.none (lacks_brackets word unbracketed) portless.before) portless.secure split first second other
 
--- a place in brackets, with nothing but the place's own rest behind them
+-- a place in brackets, with only the place's own rest behind them
 enclosed : (place front inside behind dropped : List ℕ) (found : Option ℕ) → InBrackets place front inside behind → BeforePort behind dropped found → HostAndPort place (front ++ inside) found
 enclosed place front inside behind dropped found h port = HostAndPort.brackets front inside behind dropped h refl port
 
@@ -148,7 +148,7 @@ git_url_rows = (
       let inner = at_front (codes "::1") (codes ":22") (not_held host_mark place refl) refl in
       let word = reached place (codes "/p") (codes "::1") (codes "::1") (codes "::1") (Some 22) (Some 22) None (enclosed place [] (codes "::1") (codes ":22") [] (Some 22) inner (BeforePort.marked (codes "22") 22 refl refl refl refl)) (SecurePort.behind 22 refl refl refl) (UserCut.host_alone refl refl refl) refl refl refl in
       record { whole = refl; no_option = refl; reads = ReadsGiven.secure_url (codes "[::1]:22/p") place (codes "p") (url ssh (codes "ssh") (codes "[::1]:22/p") (codes "[::1]:22/p") refl refl) (bracket_cut slash (codes "[::1]:22/p") [] (codes "::1") (codes ":22") (codes "p") opened refl refl) word },
-  -- what stands behind a bracket is dropped
+  -- the text behind a bracket is dropped
   let place = codes "[x]u@h" in
       let opened = at_front (codes "x") (codes "u@h/p") (not_held host_mark (codes "[x]u@h/p") refl) refl in
       let inner = at_front (codes "x") (codes "u@h") (not_held host_mark place refl) refl in
@@ -176,7 +176,7 @@ git_url_rows = (
 
 -- ---- other texts
 
--- a text with a colon that neither a helper's name nor `rsync` stands before
+-- a text with a colon behind neither a helper's name nor `rsync`
 no_url : (t front rest : List ℕ) → t ≡ front ++ colon ∷ rest → FreeOf colon front → ¬ Holds (codes "://") t → (is_helper_name front && begins_with colon rest) ≡ false → ¬ (front ≡ []) → ¬ (front ≡ codes "rsync") → IsNoUrl t
 no_url t front rest e free none other some apart = record {
   no_mark = none;
@@ -243,7 +243,7 @@ git_text_rows = (
 
 -- ---- texts without a reading
 
--- a text without `://` is no URL
+-- a text without `://` isn't a URL
 not_own : {A : Type 0} (p : Scheme) (t rest : List ℕ) → ¬ Holds (codes "://") t → OwnUrl p t rest → A
 not_own p t rest none h = absurd (none (h.scheme, h.spelled, h.joined))
 

@@ -47,6 +47,6 @@ upper_row (IsException.web_host front web there open_front escaped) = other_byte
 upper_row (IsException.web_length web long) =
     long (codes "https://H/p", refl, record { scheme = codes "https"; rest = codes "H/p"; no_colon = refl; joined = refl; fits = fits_row (codes "https") (codes "H") (codes "/p") refl refl refl refl (inr refl) (leb-true _ _ refl) })
 
--- unsettled locations that stand in none
+-- unsettled locations that are in none
 pub no_exception_rows : NoExceptionRows
 no_exception_rows = grind (arith, nat_tests, other_row, file_row, upper_row)

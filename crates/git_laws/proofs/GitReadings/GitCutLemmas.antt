@@ -56,7 +56,7 @@ in_brackets : (user : Option (List ℕ)) (inside behind t : List ℕ) → t ≡ 
 in_brackets user inside behind t e free left right =
     subst (λ x. InBrackets x (raw_user user) inside behind) (sym e) record { opened = opens_host user (inside ++ right_bracket ∷ behind) free left; next = right }
 
--- a user, a host in brackets and what stands behind these
+-- a user, a host in brackets and the text behind these
 abbrev pub bracketed_place : Option (List ℕ) → List ℕ → List ℕ → List ℕ
 bracketed_place user inside between = raw_user user ++ left_bracket ∷ (inside ++ right_bracket ∷ between)
 
@@ -118,7 +118,7 @@ git_decoded (b ∷ high ∷ low ∷ rest) free =
 
 -- ---- ports
 
--- a text with a colon is no port
+-- a text with a colon isn't a port
 digits_colon : (x y : List ℕ) → list_all is_ascii_digit (x ++ colon ∷ y) ≡ false
 digits_colon [] y = refl
 digits_colon (b ∷ x) y = and_right (is_ascii_digit b) _ (digits_colon x y)
@@ -171,7 +171,7 @@ git_port_written port small =
 
 -- ---- hosts
 
--- of two colons one stands behind the first
+-- of two colons one follows the first
 second_colon : (a b x y z : List ℕ) → FreeOf colon a → a ++ colon ∷ b ≡ x ++ colon ∷ (y ++ colon ∷ z) → (p : List ℕ) × (q : List ℕ) × (b ≡ p ++ colon ∷ q)
 second_colon [] b [] y z free e = (y, z, tails e)
 second_colon [] b (d ∷ x) y z free e = (x, y ++ colon ∷ z, tails e)
@@ -247,7 +247,7 @@ place_in_brackets user inside port small free left right portless = record {
   secure = secure_behind (raw_user user ++ inside) port portless;
 }
 
--- a text with such brackets isn't one whose first colon stands behind a word without them
+-- a text with such brackets isn't one whose first colon follows a word without them
 pub bracket_first : (front behind word rest : List ℕ) → FreeOf colon front → FreeOf left_bracket word → ¬ (front ++ left_bracket ∷ behind ≡ word ++ colon ∷ rest)
 bracket_first [] behind [] rest free plain e = both_ways (left_bracket == colon) refl (eq-eqb left_bracket colon (heads e))
 bracket_first [] behind (b ∷ word) rest free plain e =

@@ -45,7 +45,7 @@ machine_reading v scheme user port = λ i. record { protocol = scheme i; user = 
 machine_host : (v : Location) → v.scheme ≡ file → v.host ≡ None → HostForGit v.scheme v.host None
 machine_host v scheme none = subst (λ p. HostForGit p v.host None) (sym scheme) (sym none)
 
--- behind `file://` stands the path alone
+-- only the path follows `file://`
 file_url_reads : (path rest : List ℕ) → path ≡ slash ∷ rest → FreeOf percent_sign path → FreeOf left_bracket path → ReadsGiven (codes "file://" ++ path) (on_this_machine path)
 file_url_reads path rest e plain left =
     ReadsGiven.file_url path [] rest (own_url file (codes "file") path path refl (git_decode_kept path plain)) (place_cut slash path [] rest left refl e) (ap on_this_machine e)
@@ -105,7 +105,8 @@ user_free : (c : ℕ) (user : Option (List ℕ)) → FreeOf c (at_sign ∷ []) �
 user_free c None mark free = refl
 user_free c (Some u) mark free = free-append c u (at_sign ∷ []) free mark
 
--- a settled location in the scp form has a text with this host, which is neither a URL nor for a remote helper
+-- a settled location in the scp form has a text with this host,
+-- which is neither a URL nor for a remote helper
 record IsScpWritten (v : Location) (spelled : List ℕ) : Type 0 where
   neither : IsNeither (raw_user v.user ++ (spelled ++ colon ∷ v.path))
   written : text v ≡ Ok (raw_user v.user ++ (spelled ++ colon ∷ v.path))
@@ -167,7 +168,7 @@ scp_reads v host h t a second other named free =
     let reached = secure_reached v.user host None word v.path (HostAndPort.none (lacks_brackets word front) portless.before) portless.secure t.no_slash t.name.no_at t.name.normal.unbracketed.nonempty named a.no_option.user (host_safe v host t.there a.no_option) a.no_option.path in
     ReadsGiven.scp_form word v.path (scp_no_url v host h t other) record { front = word; rest = v.path; joined = refl; no_slash = t.no_slash } (place_cut colon (word ++ colon ∷ v.path) word v.path free t.no_colon refl) (subst (λ p. ReachesSecure word p (secure_reading v.user (Some host) None v.path)) (sym (from_tilde_kept v.path second)) reached)
 
--- with a path behind it a word is no option where it is none itself
+-- with a path behind it a word isn't an option where it isn't one itself
 word_option : (user : Option (List ℕ)) (host path : List ℕ) → 0 < length host → IfSome user (λ u. is_option_like u ≡ false) → is_option_like host ≡ false → is_option_like (word_of user host ++ colon ∷ path) ≡ false
 word_option user host path h3 h4 h5 = grind (arith, nat_tests)
 
@@ -216,7 +217,7 @@ addressed_free : (v : Location) (host : List ℕ) → IsAddressedText v host →
 addressed_free v host t c other left right free =
     free-append c (raw_user v.user) (left_bracket ∷ (host ++ right_bracket ∷ [])) free (free-cons c left_bracket (host ++ right_bracket ∷ []) left (free-append c host (right_bracket ∷ []) (address_free c host other t.address) (free-cons c right_bracket [] right refl)))
 
--- no word without a bracket stands before its first colon
+-- no word without a bracket comes before its first colon
 addressed_word : (v : Location) (host word rest : List ℕ) → IsAddressedText v host → FreeOf left_bracket word → ¬ (bracketed_place v.user host [] ++ colon ∷ v.path ≡ word ++ colon ∷ rest)
 addressed_word v host word rest t plain e =
     bracket_first (raw_user v.user) ((host ++ right_bracket ∷ []) ++ colon ∷ v.path) word rest t.no_colon plain (sym (append_assoc (raw_user v.user) (in_brackets host) (colon ∷ v.path)) ∙ e)
@@ -246,7 +247,7 @@ addressed_reads v host t a second named =
     let reached = secure_reached v.user host None place v.path read.cut read.secure (free-append slash (raw_user v.user) host t.no_slash (free slash refl)) (free at_sign refl) (address_nonempty host t.address) named a.no_option.user (host_safe v host t.there a.no_option) a.no_option.path in
     ReadsGiven.scp_form place v.path (addressed_no_url v host t) record { front = place; rest = v.path; joined = refl; no_slash = addressed_free v host t slash refl refl refl t.no_slash } (bracketed_cut colon v.user host [] v.path t.no_left (closed (colon ∷ v.path) (path_free v a.plain left_bracket refl)) (free right_bracket refl) refl) (subst (λ p. ReachesSecure place p (secure_reading v.user (Some host) None v.path)) (sym (from_tilde_kept v.path second)) reached)
 
--- a bracket or a user stands in front, so the text is no option where the user is none
+-- a bracket or a user comes first, so the text isn't an option where the user isn't
 addressed_option : (user : Option (List ℕ)) (inside path : List ℕ) → IfSome user (λ u. is_option_like u ≡ false) → is_option_like (bracketed_place user inside [] ++ colon ∷ path) ≡ false
 addressed_option user inside path h3 = grind (arith, nat_tests)
 

@@ -1,4 +1,5 @@
--- The pieces of a written text: a plain user and host and the port stand in it as they are, and the path is decoded.
+-- The pieces of a written text: it holds a plain user and host and
+-- the port as they are, and the path is decoded.
 use Rattle.std.proofs.Common.{◌≡◌, ◌∙◌, ℕ, ◌<◌, true, false, not, ◌⊎◌, inl, inr, List, [], ◌∷◌, ◌++◌, decimal, Option, Some, None, IfSome, ◌==◌, if◌then◌else◌, refl, sym, ap, subst, arith}
 use Rattle.std.proofs.lemmas.Bool.Decides.{nat_tests}
 use Rattle.std.specs.Prelude.{IsSome}
@@ -42,7 +43,7 @@ unescaped set (b ∷ bs) kept =
 pub kept_free : (set : AsciiSet) (t : List ℕ) → Lacks (should_percent_encode set) t → (c : ℕ) → contains set c ≡ true → FreeOf c t
 kept_free set t kept c inside = free_of_lacked (should_percent_encode set) c t kept (escaped_from_inside set c inside)
 
--- a byte of a user is written as it is where that of a password is, but for a colon
+-- a byte of a user is written as it is where that of a password is, except a colon
 user_byte_kept : (b : ℕ) → should_percent_encode PASSWORD b ≡ false → (b == colon) ≡ false → should_percent_encode USER b ≡ false
 user_byte_kept b kept other =
     let ascii = ascii_from_kept PASSWORD b kept in
@@ -59,7 +60,7 @@ user_kept (b ∷ bs) kept free =
 
 -- ---- the user
 
--- the user stands in the text as it is
+-- the text holds the user as it is
 pub record IsUserRaw (user : Option (List ℕ)) : Type 0 where
   pub written : user_information user None ≡ raw_user user
   pub free : (c : ℕ) → contains USER c ≡ true → (at_sign == c) ≡ false → FreeOf c (raw_user user)
@@ -70,7 +71,7 @@ user_raw user kept = grind (arith, nat_tests, unescaped, kept_free, free-append,
 
 -- ---- the host
 
--- the host stands in the text as it is
+-- the text holds the host as it is
 pub record IsHostRaw (v : Location) (host : List ℕ) : Type 0 where
   pub written : canonical_host v host ≡ host
   pub free : (c : ℕ) → contains PASSWORD c ≡ true → FreeOf c host
@@ -87,13 +88,13 @@ host_raw v host escapes unmarked kept kind = grind (arith, nat_tests, kept_free,
 pub unmarked : (port : Option ℕ) (host : List ℕ) → FreeOf percent_sign host → (IsSome port → FreeOf colon host) → needs_brackets port host ≡ false
 unmarked port host free beside = grind arith
 
--- the host of the scp form stands in the text as it is where it has no colon
+-- the text holds the host of the scp form as it is where it has no colon
 pub scp_host_raw : (host : List ℕ) → FreeOf colon host → raw_host (Some host) ≡ host
 scp_host_raw host free = cond-false _ _ _ (and_left _ _ free)
 
 -- ---- the port
 
--- digits are free of what is no digit
+-- digits are free of what isn't a digit
 pub port_free : (c : ℕ) (port : Option ℕ) → is_ascii_digit c ≡ false → (colon == c) ≡ false → IfSome port (λ p. p < 65536) → FreeOf c (port_part port)
 port_free c None other mark small = refl
 port_free c (Some p) other mark small =
@@ -108,7 +109,7 @@ pub record IsPathRaw (v : Location) : Type 0 where
   pub meant : from_tilde (slash ∷ rest) ≡ v.path
   pub free : (c : ℕ) → (slash == c) ≡ false → FreeOf c v.path → FreeOf c (slash ∷ rest)
 
--- a path whose second byte is no `~` stays
+-- a path whose second byte isn't `~` stays
 pub from_tilde_kept : (path : List ℕ) → is_tilde_second path ≡ false → from_tilde path ≡ path
 from_tilde_kept path other = grind arith
 
@@ -129,12 +130,12 @@ record HasPlainPaths (p : Scheme) : Type 0 where
 plain_paths : (v : Location) → (v.scheme ≡ ssh) ⊎ (v.scheme ≡ git) → HasPlainPaths v.scheme
 plain_paths v h = grind arith
 
--- what is written for it is decoded to it
+-- the written text for it is decoded to it
 path_decoded : (v : Location) → HasPlainPaths v.scheme → IsRawPath v → percent_decode (matching_or v.spelling v.path (plain_path v.scheme v.path)) ≡ v.path
 path_decoded v facts raw =
     matching_cases (λ t. percent_decode t ≡ v.path) v.spelling v.path (plain_path v.scheme v.path) (λ s is same. same) (λ none. ap percent_decode (facts.plain v.path) ∙ decode_kept v.path (raw none).0)
 
--- by where the path stands
+-- by where the path is
 path_raw_by : (v : Location) → requires_path v.scheme ≡ true → percent_decode (matching_or v.spelling v.path (plain_path v.scheme v.path)) ≡ v.path → IsTransportPath v → IsPathRaw v
 path_raw_by v roots same (inl (rooted, homeless)) =
     let (rest, e) = begins_cut slash v.path rooted in

@@ -1,4 +1,5 @@
--- Git reads in the text of a URL of one of its own transports the user, the host, the port and the path of the location.
+-- Git reads in the text of a URL of one of its own transports the user,
+-- the host, the port and the path of the location.
 use Rattle.std.proofs.Common.{◌≡◌, ◌∙◌, ℕ, ◌<◌, true, false, ◌⊎◌, inl, inr, List, [], ◌∷◌, ◌++◌, length, ◌==◌, Option, Some, None, Ok, IfSome, IsUtf8, codes, refl, sym, ap, subst, arith, append_assoc}
 use Rattle.std.proofs.lemmas.Bool.Decides.{nat_tests}
 use Rattle.std.specs.Prelude.{IsSome}
@@ -62,7 +63,7 @@ secure_reading name place number whole = record { protocol = ssh; user = name; h
 abbrev pub word_of : Option (List ℕ) → List ℕ → List ℕ
 word_of user host = raw_user user ++ host
 
--- the word is no option where user and host are none
+-- the word isn't an option where user and host aren't
 word_safe : (user : Option (List ℕ)) (host : List ℕ) → IfSome user (λ u. is_option_like u ≡ false) → is_option_like host ≡ false → is_option_like (word_of user host) ≡ false
 word_safe user host h2 h3 = grind (arith, nat_tests)
 
@@ -76,7 +77,7 @@ word_split (Some (b ∷ u)) host named free = UserCut.with_user (b ∷ u) (omega
 nonempty_kept : (t : List ℕ) → 0 < length t → unless_empty t ≡ Some t
 nonempty_kept t some = some_kept t (λ e. absurd (omega (arith, ap length e, some)))
 
--- without a `/` it is no URL
+-- without a `/` it isn't a URL
 no_secure_url : (word : List ℕ) → FreeOf slash word → (rest : List ℕ) → ¬ (word ≡ codes "ssh://" ++ rest)
 no_secure_url word free rest e = not_free slash (codes "ssh:") (slash ∷ rest) (subst (λ t. FreeOf slash t) e free)
 
@@ -111,7 +112,7 @@ own_url known scheme spelled rest own decoded = record { scheme = scheme; spelle
 
 -- ---- URLs of Git's own transports
 
--- what stands before the path is decoded to a place, which Git reads as this word and the port
+-- the text before the path is decoded to a place, which Git reads as this word and the port
 pub record HasPlace (v : Location) (word : List ℕ) : Type 0 where
   pub place : List ℕ
   pub decoded : (t : List ℕ) → percent_decode (authority_text v ++ t) ≡ place ++ percent_decode t
@@ -163,7 +164,7 @@ place_decoded v place h2 h3 t = grind (arith, nat_tests, decodes_in_parts, sound
 
 -- ---- places without brackets
 
--- the place is free of a byte that is written as an escape and is no mark of it
+-- the place is free of a byte that is written as an escape and isn't a mark of it
 place_free : (v : Location) (host : List ℕ) → IfSome v.port (λ p. p < 65536) → IsUserRaw v.user → IsHostRaw v host → (c : ℕ) → contains USER c ≡ true → contains PASSWORD c ≡ true → (at_sign == c) ≡ false → (colon == c) ≡ false → is_ascii_digit c ≡ false → FreeOf c (word_of v.user host ++ port_part v.port)
 place_free v host small user hosted c in_user in_host other mark digit =
     free-append c (word_of v.user host) (port_part v.port) (free-append c (raw_user v.user) host (user.free c in_user other) (hosted.free c in_host)) (port_free c v.port digit mark small)
@@ -193,7 +194,7 @@ name_place v host is h kept free =
 
 -- ---- addresses
 
--- a place with an address in brackets is free of what is written as an escape, and is no mark of the place
+-- a place with an address in brackets is free of what is written as an escape, and isn't a mark of the place
 address_free_place : (user : Option (List ℕ)) (address : List ℕ) (port : Option ℕ) → IsIpv6Text address → IfSome port (λ p. p < 65536) → IsUserRaw user → (c : ℕ) → contains USER c ≡ true → is_address_byte c ≡ false → (at_sign == c) ≡ false → (left_bracket == c) ≡ false → (right_bracket == c) ≡ false → (colon == c) ≡ false → is_ascii_digit c ≡ false → FreeOf c (bracketed_place user address (port_part port))
 address_free_place user address port h small raw c in_user other mark left right separator digit =
     free-append c (raw_user user) (left_bracket ∷ (address ++ right_bracket ∷ port_part port)) (raw.free c in_user mark) (free-cons c left_bracket (address ++ right_bracket ∷ port_part port) left (free-append c address (right_bracket ∷ port_part port) (address_free c address other h) (free-cons c right_bracket (port_part port) right (port_free c port digit separator small))))
@@ -220,7 +221,7 @@ address_place v address is h user decoded =
       read = place_in_brackets v.user address v.port is.port front (address_closed address (port_part v.port) h ported) right (portless_coloned (raw_user v.user) address (user.free colon refl refl) (address_two_colons address h));
     }
 
--- a host in brackets and what stands behind it, joined
+-- a host in brackets and the text behind it, joined
 brackets_joined : (address behind : List ℕ) → (left_bracket ∷ (address ++ right_bracket ∷ [])) ++ behind ≡ left_bracket ∷ (address ++ right_bracket ∷ behind)
 brackets_joined address behind = ap (λ t. left_bracket ∷ t) (append_assoc address (right_bracket ∷ []) behind)
 

@@ -71,7 +71,7 @@ place_unique c t place rest other more h k =
 abbrev both : List ℕ → Option ℕ → List ℕ × Option ℕ
 both text port = (text, port)
 
--- what the first colon of a text and what stands behind it make of the text
+-- what the first colon of a text and the text behind it make of the text
 abbrev outcome : List ℕ → List ℕ → List ℕ → Option ℕ → List ℕ × Option ℕ
 outcome t front behind (Some number) = (front, Some number)
 outcome t front [] None = (front, None)
@@ -85,12 +85,12 @@ record ComesOfCut (t front : List ℕ) (port : Option ℕ) : Type 0 where
   joined : t ≡ before ++ colon ∷ behind
   value : both front port ≡ outcome t before behind (git_port behind)
 
--- the text has no colon, and is what is left
+-- the text has no colon, and is the rest
 record ComesOfNone (t front : List ℕ) (port : Option ℕ) : Type 0 where
   free : FreeOf colon t
   value : both front port ≡ both t None
 
--- what is no port leaves the text as it is
+-- what isn't a port leaves the text as it is
 unmarked_outcome : (t front behind : List ℕ) → 0 < length behind → outcome t front behind None ≡ both t None
 unmarked_outcome t front [] some = absurd (omega arith)
 unmarked_outcome t front (b ∷ bs) some = refl
@@ -122,7 +122,7 @@ before_comes t front port (BeforePort.no_colon free whole p) = inr record { free
 comes_unique : (t front other : List ℕ) (port number : Option ℕ) → ComesOfCut t front port ⊎ ComesOfNone t front port → ComesOfCut t other number ⊎ ComesOfNone t other number → both front port ≡ both other number
 comes_unique t front other port number h5 h6 = grind (arith, nat_tests, cut_unique, not_free)
 
--- so one port stands behind one front
+-- so one port follows one front
 before_unique : (t front other : List ℕ) (port number : Option ℕ) → BeforePort t front port → BeforePort t other number → (front ≡ other) × (port ≡ number)
 before_unique t front other port number h k =
     let same = comes_unique t front other port number (before_comes t front port h) (before_comes t other number k) in
@@ -223,13 +223,13 @@ is_own _ = false
 pub own_free : (p : Scheme) (s : List ℕ) → scheme_of s ≡ p → is_own p ≡ true → FreeOf colon s
 own_free p s h2 h3 = grind (arith, nat_tests, transport, not, scheme_cases, false≢true, bytes_eq-Decides, codes)
 
--- a URL of a transport is one of no other, and one rest stands behind its scheme
+-- a URL of a transport is one of no other, and one rest follows its scheme
 pub own_unique : (p q : Scheme) (t rest other : List ℕ) → is_own p ≡ true → is_own q ≡ true → OwnUrl p t rest → OwnUrl q t other → (p ≡ q) × (rest ≡ other)
 own_unique p q t rest other first second h k =
     let schemes = cut_unique colon h.scheme k.scheme (slash ∷ slash ∷ h.spelled) (slash ∷ slash ∷ k.spelled) (own_free p h.scheme h.own first) (own_free q k.scheme k.own second) (sym h.joined ∙ k.joined) in
     (sym h.own ∙ ap scheme_of schemes.0 ∙ k.own, h.decoded ∙ ap git_decode (tails (tails schemes.1)) ∙ sym k.decoded)
 
--- a URL is no other text
+-- a URL isn't another text
 own_no_other : {A : Type 0} (p : Scheme) (t rest : List ℕ) → OwnUrl p t rest → IsNoUrl t → A
 own_no_other p t rest h k = absurd (k.no_mark (h.scheme, h.spelled, h.joined))
 

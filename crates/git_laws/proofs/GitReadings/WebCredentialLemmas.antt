@@ -133,7 +133,7 @@ trimmed_lacks test (b ∷ t) h =
 trimmed_line : (t : List ℕ) → Lacks is_control t → IfSome (trimmed_path t) IsOneLine
 trimmed_line t h1 = grind (arith, nat_tests, lacks_head_tail, one_line, lacks-cons, trimmed_lacks)
 
--- what stands behind the one `/` of a written path
+-- the text behind the one `/` of a written path
 record IsRootedPath (path written : List ℕ) : Type 0 where
   rest : List ℕ
   joined : written ≡ slash ∷ rest

@@ -1,4 +1,5 @@
--- The text of a location of HTTP of the class, before any reader cuts it: scheme, user information, host, port and path.
+-- The text of a location of HTTP of the class, before any reader cuts
+-- it: scheme, user information, host, port and path.
 use Rattle.std.proofs.Common.{◌≡◌, ◌∙◌, ℕ, ◌<◌, true, List, ◌++◌, length, Some, Ok, sym, ap, subst, arith}
 use Rattle.std.proofs.lemmas.Option.{same_Some}
 use Rattle.git_syntax.specs.Location.{Location}

@@ -40,7 +40,7 @@ use Rattle.git_laws.proofs.GitReadings.WebTextLemmas.{web_authority, web_scheme}
 escaped-append : (test : ℕ → Bool) (x y : List ℕ) → IsEscaped test x → IsEscaped test y → IsEscaped test (x ++ y)
 escaped-append test x y front back = (list_all-append test x y ∙ and_from _ _ front.0 back.0, sound-append x y front.1 back.1)
 
--- one that is cut around a byte that is no hexadecimal digit is two
+-- one that is cut around a byte that isn't a hexadecimal digit is two
 escaped_around : (test : ℕ → Bool) (x y : List ℕ) (c : ℕ) → is_digit c 16 ≡ false → IsEscaped test (x ++ c ∷ y) → IsEscaped test x × IsEscaped test y
 escaped_around test x y c other h = grind (arith, nat_tests, and_parts, list_all-append, sound_around)
 
@@ -61,7 +61,7 @@ information_kept set has b kept =
     let raw = false_from_ne_true _ (λ is. both_ways _ (outside_from_kept set b kept) (has b ascii is)) in
     sym (ap (λ p. p || is_information_byte b) raw) ∙ information_byte b ascii
 
--- and what is written by such a set is escaped text of such bytes
+-- and a text written by such a set is escaped text of such bytes
 information_escaped : (set : AsciiSet) (t : List ℕ) → ((b : ℕ) → b < 128 → is_password_escaped b ≡ true → contains set b ≡ true) → IsEscaped is_information_byte (percent_encode set t)
 information_escaped set t has =
     (list_all-from_AllPass is_information_byte (percent_encode set t) (All-percent_encode (λ b. is_information_byte b ≡ true) set t (information_kept set has) (λ b escape. grind (arith, nat_tests))), encode_sound set t (has percent_sign (omega arith) refl))
@@ -94,7 +94,7 @@ information_own None (Some p) text secret beside = absurd (false≢true beside.1
 information_own (Some u) None text secret beside = IsOwnInformation.user_alone u (percent_encode USER u) refl refl refl (user_no_colon u) (user_decoded u text)
 information_own (Some u) (Some p) text secret beside = IsOwnInformation.with_password u p (percent_encode USER u) (percent_encode PASSWORD p) refl refl refl (user_no_colon u) (user_decoded u text) (password_decoded p secret)
 
--- and stands before the `@` of an authority
+-- and comes before the `@` of an authority
 information_cut : (user password : Option (List ℕ)) (named : List ℕ) → FreeOf at_sign named → UriAuthority (user_information user password ++ named) (information_text user password) named
 information_cut None password named free = UriAuthority.host_alone free refl refl
 information_cut (Some u) None named free = UriAuthority.informed (percent_encode USER u) (user_piece u).no_at free (append_assoc (percent_encode USER u) (at_sign ∷ []) named) refl
@@ -187,7 +187,8 @@ dots_decoded t sound h =
 
 -- ---- the text
 
--- a reader of URIs reads the location's own components in the text of a location of the class, which is in the normal form
+-- a reader of URIs reads the location's own components in the text of a
+-- location of the class, which is in the normal form
 pub uri_own : (v : Location) → IsWeb v → IsValue v → AgreesOverWeb v → (host : List ℕ) → v.host ≡ Some host → (r : UriReading) × UriReads (canonical_text v) r × IsOwnUri v r × IsNormalUri r
 uri_own v web is a host there =
     let w = settled_as_web v web a.settled in

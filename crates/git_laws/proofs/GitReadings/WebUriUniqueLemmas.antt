@@ -12,23 +12,23 @@ use Rattle.git_laws.proofs.ComponentCuts.CutComponentLemmas.{path_unique}
 authority_unique : (t : List ℕ) (i j : Option (List ℕ)) (named other : List ℕ) → UriAuthority t i named → UriAuthority t j other → (i ≡ j) × (named ≡ other)
 authority_unique t i j named other h k = grind (arith, nat_tests, cut_unique, not_free)
 
--- nothing or a colon stands behind a host
+-- nothing or a colon follows a host
 port_begins : (behind : List ℕ) (port : Option (List ℕ)) → UriPort behind port → (behind ≡ []) ⊎ (begins_by (λ b. b == colon) behind ≡ true)
 port_begins behind port h = grind arith
 
--- one port stands there
+-- only one port does
 port_unique : (behind beyond : List ℕ) (port other : Option (List ℕ)) → behind ≡ beyond → UriPort behind port → UriPort beyond other → port ≡ other
 port_unique behind beyond port other same h k = grind arith
 
--- what stands behind `[` where a host is in brackets
+-- the text behind `[` where a host is in brackets
 behind_bracket : (named host inside behind : List ℕ) → host ≡ left_bracket ∷ (inside ++ right_bracket ∷ []) → named ≡ host ++ behind → named ≡ left_bracket ∷ (inside ++ right_bracket ∷ behind)
 behind_bracket named host inside behind is e = e ∙ ap (λ h. h ++ behind) is ∙ ap (λ t. left_bracket ∷ t) (append_assoc inside (right_bracket ∷ []) behind)
 
--- no other host stands there
+-- only one host does
 open_apart : (rest host behind : List ℕ) (port : Option (List ℕ)) → begins_with left_bracket host ≡ false → UriPort behind port → left_bracket ∷ rest ≡ host ++ behind → ⊥
 open_apart rest host behind port other p is = grind arith
 
--- one host stands before a port
+-- one host comes before a port
 host_unique : (t host other behind beyond : List ℕ) (port more : Option (List ℕ)) → UriPort behind port → UriPort beyond more → UriHost t host behind → UriHost t other beyond → (host ≡ other) × (behind ≡ beyond)
 host_unique t host other behind beyond port more p q (UriHost.bracketed x address is e) (UriHost.bracketed y address' is' e') =
     let same = cut_unique right_bracket x y behind beyond (address_free right_bracket x refl address) (address_free right_bracket y refl address') (tails (sym (behind_bracket t host x behind is e) ∙ behind_bracket t other y beyond is' e')) in

@@ -1,4 +1,4 @@
--- The answer to a line is one line: what is told of a line without byte 10 holds none.
+-- The answer to a line is one line: what is printed for a line without byte 10 holds none.
 use Rattle.std.proofs.Common.{◌≡◌, ℕ, ◌<◌, ◌==◌, Bool, false, not, ◌⊎◌, inl, inr, ⊎_elim, List, [], ◌∷◌, ◌++◌, append_assoc, append-nil, All, Option, Some, None, IfSome, IsUtf8, Ok, codes, refl, sym, ap, subst, ◌∙◌, arith}
 use Rattle.std.proofs.lemmas.Bool.Decides.{nat_tests}
 use Rattle.std.specs.Prelude.{◌&&◌}
@@ -221,7 +221,7 @@ scp_host_line host is (inr h) = address_free newline host refl h.address
 settled_host_line : (user : Option (List ℕ)) (host path : List ℕ) → IsUtf8 host → IsSettled (scp_location user host path) → FreeOf newline host
 settled_host_line user host path h3 h4 = grind (arith, nat_tests, scp_host_line, same_Some, false≢true)
 
--- the scp form, but for `user@[address]:path`
+-- the scp form, except `user@[address]:path`
 scp_before_line : (b : List ℕ) (v : Location) (t : List ℕ) → FreeOf newline b → SpellsScpBefore b v → IsSettled v → text v ≡ Ok t → FreeOf newline t
 scp_before_line b v t free h settled is =
     let (front, rest) = free_parts newline h.front (colon ∷ h.path) (subst (λ x. FreeOf newline x) h.form.joined free) in
@@ -252,7 +252,7 @@ spelled_line line v t free (Spells.scp_form (inl h)) settled is = scp_before_lin
 spelled_line line v t free (Spells.scp_form (inr h)) settled is = scp_addressed_line line v t free h is
 spelled_line line v t free (Spells.local_path h) settled is = subst (λ x. FreeOf newline x) (one_text (local_unchanged line v h).1 is) free
 
--- the scheme of what is spelled holds none, whatever the text is
+-- the scheme of a spelled location holds none, whatever the text is
 abbrev HasSchemeLine : Scheme → Type 0
 HasSchemeLine p = FreeOf newline (scheme_text p)
 
@@ -281,7 +281,7 @@ said_line : (word of_what answer : List ℕ) → FreeOf newline word → FreeOf 
 said_line word of_what answer word_free free e =
     (word ++ tab ∷ of_what, free-append newline word (tab ∷ of_what) word_free (free-cons newline tab of_what refl free), e ∙ sym (append_assoc word (tab ∷ of_what) (newline ∷ [])))
 
--- what is told of a location that a line spells is one line
+-- what is printed for a location that a line spells is one line
 location_line : (line answer : List ℕ) (v : Location) (good : Bool) → FreeOf newline line → Spells line v → IsReported v answer good → IsOneLine answer
 location_line line answer v good free spelled (IsReported.settled t is settled e k) = said_line (codes "settled") t answer refl (spelled_line line v t free spelled settled is) e
 location_line line answer v good free spelled (IsReported.unsettled t is other e k) = said_line (codes "unsettled") (scheme_text v.scheme) answer refl (scheme_line line v spelled) e

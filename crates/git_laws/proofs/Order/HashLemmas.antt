@@ -1,4 +1,4 @@
--- What a hasher is fed tells values apart: what is fed alike is one value.
+-- A hasher is fed the same only for equal values.
 use Rattle.std.proofs.Common.{◌≡◌, ℕ, ◌<◌, Bool, List, [], ◌∷◌, ◌++◌, Option, IfSome, is_some, option_map, ap, arith}
 use Rattle.std.proofs.lemmas.Bool.Decides.{nat_tests}
 use Rattle.std.specs.Hash as fed

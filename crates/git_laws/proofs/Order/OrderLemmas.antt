@@ -1,4 +1,4 @@
--- Orders that decide one behind the other, and the laws of equality, order and hash.
+-- Lexicographic orders, and the laws of equality, order and hash.
 use Rattle.std.proofs.Common.{◌≡◌, Bool, Ordering, Less, Equal, Greater, sym, ap, ◌∙◌, nat_cmp, arith}
 use Rattle.std.proofs.lemmas.Bool.Decides.{nat_tests}
 use Rattle.std.specs.Cmp.{Equal-is}

@@ -1,4 +1,5 @@
--- Stored locations: the new spelling of a legacy path is one, and stands for the same bytes; what is migrated stays.
+-- Stored locations: the new spelling of a legacy path is one, and
+-- stands for the same bytes; what is migrated stays.
 use Rattle.std.proofs.Common.{◌≡◌, ℕ, ◌<◌, ◌≤◌, ◌+◌, ◌*◌, ◌/◌, ◌%◌, Bool, true, false, ◌||◌, ◌==◌, nat_lt, ⊎_elim, List, [], ◌∷◌, ◌++◌, take, drop, length, All, Option, Some, None, refl, sym, ap, subst, ◌∙◌, arith, bytes_eq}
 use Rattle.std.specs.Char.{is_digit, digit_value}
 use Rattle.std.specs.Fmt.{digit_glyph}
@@ -67,7 +68,7 @@ respelled_escape high low path h3 h4 = grind (arith, nat_tests, respelled_begin,
 front_itself : (b : ℕ) (path behind front rest : List ℕ) → path ≡ b ∷ behind → front ≡ take 1 path → rest ≡ drop 1 path → new_spelling (b ∷ behind) ≡ b ∷ new_spelling behind → SpellsFront path front rest
 front_itself b path behind front rest h5 h6 h7 h8 = grind (arith, nat_tests, take, drop, length)
 
--- a byte that begins an escape stands there
+-- a byte that begins an escape is there
 pub front_begins : (b : ℕ) (path behind front rest : List ℕ) → path ≡ b ∷ behind → front ≡ take 1 path → rest ≡ drop 1 path → begins_escape b behind ≡ true → SpellsFront path front rest
 front_begins b path behind front rest whole first last begins = front_itself b path behind front rest whole first last (respelled_begin b behind begins)
 

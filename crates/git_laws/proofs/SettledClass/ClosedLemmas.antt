@@ -1,4 +1,4 @@
--- What is read is settled with exceptions, and of these kinds what comes back is settled.
+-- Locations that were read are settled, with exceptions, and of these kinds only settled ones come back.
 use Rattle.std.proofs.Common.{◌≡◌, ℕ, Bool, true, false, ◌⊎◌, inl, inr, List, [], ◌∷◌, ◌++◌, Option, Some, None, Ok, refl, sym, ap, subst, ◌∙◌, ◌+◌, length, drop, arith}
 use Rattle.std.specs.Prelude.{is_some, IsSome}
 use Rattle.std.proofs.lemmas.Bool.{false≢true, or_left}

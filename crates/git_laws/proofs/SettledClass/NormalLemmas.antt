@@ -1,4 +1,4 @@
--- Normal forms of hosts and of literals, taken again, stay.
+-- The normal forms of hosts and of literals are idempotent.
 use Rattle.std.proofs.Common.{◌≡◌, ℕ, Bool, List, ◌++◌, refl, sym, ap, subst, ◌∙◌, codes, arith}
 use Rattle.std.proofs.lemmas.Bool.Decides.{nat_tests}
 use Rattle.std.specs.List.{list_all}

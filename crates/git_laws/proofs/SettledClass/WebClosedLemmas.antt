@@ -90,7 +90,8 @@ none_not_zero port none zero = absurd (none-some 0 (sym (sym zero ∙ none)))
 port_not_zero : (port : Option ℕ) (number : ℕ) → port ≡ Some number → 0 < number → port ≢ Some 0
 port_not_zero port number is some zero = omega (arith, some, same_Some number 0 (sym is ∙ zero))
 
--- a host and a port that a sound piece names in HTTP are settled, but for a name with `%` and a colon behind it
+-- a host and a port that a sound piece names in HTTP are settled,
+-- except a name with `%` and a colon behind it
 pub web_host_closed : (piece host : List ℕ) (port : Option ℕ) → is_sound piece ≡ true → SpellsHostPort http_hosts piece (Some host) port → IsApart host → IsWebHost port host × (port ≢ Some 0)
 web_host_closed piece host port sound (nothing e named_as at) apart = absurd (none-some host (sym named_as))
 web_host_closed piece host port sound (bracketed x inner free spelled e named_as at) apart =
@@ -187,7 +188,7 @@ authority_names syntax text user password host port sound (with_user information
 
 -- ---- paths
 
--- a start of a path is no hexadecimal digit
+-- a start of a path isn't a hexadecimal digit
 start_no_digit : (c : ℕ) → is_path_start true c ≡ true → is_digit c 16 ≡ false
 start_no_digit c h = grind (arith, nat_tests)
 
@@ -245,7 +246,7 @@ path_closed front path h2 h3 h4 h5 h6 = grind (arith, nat_tests, no_path, append
 
 -- ---- locations
 
--- what stands at the end of a sound text is sound
+-- what is at the end of a sound text is sound
 pub sound_behind : (xs ys : List ℕ) → is_sound (xs ++ ys) ≡ true → is_sound ys ≡ true
 sound_behind [] ys sound = sound
 sound_behind (x ∷ xs) ys sound = sound_behind xs ys (sound_tail x (xs ++ ys) sound)
@@ -288,7 +289,8 @@ parts_closed {b} {parts} scheme web h apart fits =
       path = way.meant_starts;
     }
 
--- a location of HTTP that is read is settled where its text is short enough, but for a host with `%` and a colon behind it
+-- a location of HTTP that is read is settled where its text is short
+-- enough, except for a host with `%` and a colon behind it
 pub web_closed : (b : List ℕ) (v : Location) → SpellsUrl b v → IsWeb v → ((h : List ℕ) → v.host ≡ Some h → IsApart h) → HasFittingText v → IsSettledWeb v
 web_closed b v h web apart fits =
     let (is_web, value) = web_read b v h web in
@@ -305,7 +307,8 @@ spelled_as v spelling = record v { spelling = spelling }
 same_paths : (v : Location) (spelling : Option (List ℕ)) → IsWeb v → v.flag ≡ false → IsHosted v → text (spelled_as v spelling) ≡ text v → matching_or spelling v.path (plain_path v.scheme v.path) ≡ matching_or v.spelling v.path (plain_path v.scheme v.path)
 same_paths v spelling h2 h3 h4 h5 = grind (arith, nat_tests, written_web, one_text, append_cancel_left, codes)
 
--- a location of HTTP that is written as a settled one with another spelling is settled, unless its spelling is its path
+-- a location of HTTP that is written as a settled one with another
+-- spelling is settled, unless its spelling is its path
 exact_as : (v : Location) (spelling : Option (List ℕ)) → IsWeb v → ¬ (v.spelling ≡ Some v.path) → text (spelled_as v spelling) ≡ text v → IsSettledWeb (spelled_as v spelling) → IsSettledWeb v
 exact_as v spelling web other same h =
     let c = h.common in
@@ -326,6 +329,7 @@ exact_as v spelling web other same h =
       path = h.path;
     }
 
--- a location of HTTP with the fields and the text of a settled one is settled, unless its spelling is its path
+-- a location of HTTP with the fields and the text of a settled one
+-- is settled, unless its spelling is its path
 pub web_exact_spelling : (v w : Location) → IsWeb v → ¬ (v.spelling ≡ Some v.path) → fields w ≡ fields v → text w ≡ text v → IsSettledWeb w → IsSettledWeb v
 web_exact_spelling v w h2 h3 h4 h5 h6 = grind (arith, nat_tests, exact_as)

@@ -39,7 +39,7 @@ use Rattle.git_syntax.proofs.Parsing.HostLemmas.{strict_not_bare}
 abbrev ends_host : ℕ → Bool
 ends_host b = b == at_sign || is_path_start true b
 
--- a byte of a host of HTTP is no such byte
+-- a byte of a host of HTTP isn't such a byte
 host_byte_inside : (b : ℕ) → is_http_host_byte b ≡ true → ends_host b ≡ false
 host_byte_inside b h = grind (arith, nat_tests)
 
@@ -52,7 +52,8 @@ no_colon_behind host front named bytes same ends =
 lacks_before_colon : (host named : List ℕ) → host ≡ named ++ colon ∷ [] → Lacks ends_host named → Lacks ends_host host
 lacks_before_colon host named e lacks = subst (λ t. Lacks ends_host t) (sym e) (lacks-append ends_host named (colon ∷ []) lacks refl)
 
--- a host with a colon at its end and without a bracket at its front comes without a port, and is free of `@` and of path starts
+-- a host with a colon at its end and without a bracket at its front comes
+-- without a port, and is free of `@` and of path starts
 colon_named : (piece host front : List ℕ) (port : Option ℕ) → SpellsHostPort http_hosts piece (Some host) port → host ≡ front ++ colon ∷ [] → begins_with left_bracket host ≡ false → (port ≡ None) × Lacks ends_host host
 colon_named piece host front port (nothing e named_as at) ends no_bracket = absurd (none-some host (sym named_as))
 colon_named piece host front port (bracketed x inner free spelled e named_as at) ends no_bracket = absurd (both_ways _ no_bracket (ap (begins_with left_bracket) (same_Some _ _ named_as)))
@@ -98,7 +99,8 @@ brackets_no_at host lacks = free_of_lacked ends_host at_sign (in_brackets host) 
 brackets_before_path : (host : List ℕ) → Lacks ends_host host → Lacks (is_path_start true) (in_brackets host)
 brackets_before_path host lacks = lacks_weaker (is_path_start true) ends_host (λ b e. or_right (b == at_sign) _ e) (in_brackets host) (brackets_lack host lacks)
 
--- a host with a colon at its end and an escape in it, and without a bracket at its front, is written in brackets
+-- a host with a colon at its end and an escape in it, and without a
+-- bracket at its front, is written in brackets
 brackets_needed : (port : Option ℕ) (host front : List ℕ) → host ≡ front ++ colon ∷ [] → begins_with left_bracket host ≡ false → has_percent host ≡ true → needs_brackets port host ≡ true
 brackets_needed port host front ends no_bracket escaped =
     and_from (wants_brackets host) _ (and_from (has_colon host) _ (ap has_colon ends ∙ holds_colon front []) (ap not no_bracket)) (or_right (is_some port) _ escaped)
@@ -159,7 +161,8 @@ canonical_shown : (t : List ℕ) (scheme : Scheme) (parts : UrlSyntax) → IsWeb
 canonical_shown t scheme parts web hosted written =
     one_text ((written_web (web_meant scheme parts) web).canonical refl (λ given. hosted, λ given. hosted)) written
 
--- a host with an escape and a colon at its end, and without a bracket at its front, isn't written as it was read
+-- a host with an escape and a colon at its end, and without a
+-- bracket at its front, isn't written as it was read
 no_exception_syntax : {t : List ℕ} {parts : UrlSyntax} → (scheme : Scheme) → IsWeb (web_meant scheme parts) → is_web_scheme parts.scheme ≡ true → HasUrlSyntax t parts → text (web_meant scheme parts) ≡ Ok t → (host front : List ℕ) → parts.host ≡ Some host → host ≡ front ++ colon ∷ [] → begins_with left_bracket host ≡ false → has_percent host ≡ true → ⊥
 no_exception_syntax {t} {parts} scheme web is_web h written host front hosted ends no_bracket escaped =
     let w = web_meant scheme parts in

@@ -111,7 +111,7 @@ scp_there : (b : List ℕ) (v : Location) → SpellsScp b v → HasText v
 scp_there b v (inl h) = (_, ap (λ l. text l) h.value ∙ scp_written h.user h.meant (from_home h.path) None)
 scp_there b v (inr h) = (_, ap (λ l. text l) h.value ∙ scp_written (Some h.user) (lowercase h.address) (from_home h.path) None)
 
--- what is spelled has a text
+-- a spelled location has a text
 pub has_a_text : (b : List ℕ) (v : Location) → Spells b v → HasText v
 has_a_text b v (Spells.url h) = url_there b v h
 has_a_text b v (Spells.file_url h) = subst HasText (sym h.value) (file_there (unless_empty h.host) h.path)
@@ -125,7 +125,7 @@ has_a_text b v (Spells.local_path h) = (b, (local_unchanged b v h).1)
 escape_shorter : (b : ℕ) (bs : List ℕ) → (b == 37) ≡ true → begins_with_digits bs ≡ true → length (percent_decode (b ∷ bs)) < length (b ∷ bs)
 escape_shorter b bs h2 h3 = grind (arith, nat_tests, false≢true, and_parts, length, decode_escape, length-percent_decode)
 
--- where a first byte begins an escape, two digits stand behind it
+-- where a first byte begins an escape, two digits follow it
 digits_behind : (b : ℕ) (bs : List ℕ) → (b == 37) ≡ true → is_sound (b ∷ bs) ≡ true → begins_with_digits bs ≡ true
 digits_behind b bs percent sound = rw percent at (sound_head b bs sound)
 
@@ -196,11 +196,11 @@ scp_unspelled : (b : List ℕ) (v : Location) → SpellsScp b v → v.spelling �
 scp_unspelled b v (inl h) = ap (λ l. l.spelling) h.value
 scp_unspelled b v (inr h) = ap (λ l. l.spelling) h.value
 
--- of what is spelled the spelling isn't the path
+-- of a spelled location the spelling isn't the path
 pub spelling_other : (b : List ℕ) (v : Location) → Spells b v → ¬ (v.spelling ≡ Some v.path)
 spelling_other b v h2 = grind (arith, nat_tests, url_other, unspelled_other, scp_unspelled)
 
--- what is spelled has a text, and stands for itself when it was stored
+-- a spelled location has a text, and stands for itself when it was stored
 pub writable : Writable
 writable b v spelled =
     let other = spelling_other b v spelled in

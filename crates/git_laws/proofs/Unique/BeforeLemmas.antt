@@ -17,6 +17,6 @@ spelled_from_before b v (SpellsBefore.remote_helper h) = Spells.remote_helper h
 spelled_from_before b v (SpellsBefore.scp_form h) = Spells.scp_form (inl h)
 spelled_from_before b v (SpellsBefore.local_path h) = Spells.local_path (was_local b v h)
 
--- what is spelled was, but for the shape
+-- a spelled location was spelled before, except in that form
 pub spelled_to_before : (b : List ℕ) (v : Location) → ¬ IsAddressed b → Spells b v → SpellsBefore b v
 spelled_to_before b v other h = grind arith

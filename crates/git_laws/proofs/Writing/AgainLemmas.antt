@@ -1,4 +1,4 @@
--- Settled locations come back, of every kind.
+-- Settled locations of every kind come back.
 use Rattle.std.proofs.Common.{◌≡◌, ℕ, true, false, inl, inr, List, Option, Some, None, refl, sym, ap, subst, ◌∙◌, arith}
 use Rattle.std.proofs.lemmas.Bool.Decides.{nat_tests}
 use Rattle.std.proofs.lemmas.Bool.{or_from, cond-false}

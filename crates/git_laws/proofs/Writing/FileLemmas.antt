@@ -1,4 +1,5 @@
--- File URLs: what is read as one is settled with one exception, a settled one comes back, and nothing else does.
+-- File URLs: what is read as one is settled with one exception, a
+-- settled one comes back, and nothing else does.
 use Rattle.std.proofs.Common.{◌≡◌, ℕ, Bool, true, false, not, ◌&&◌, ◌⊎◌, inl, inr, List, [], ◌∷◌, ◌++◌, length, Option, Some, None, Ok, Err, refl, sym, ap, subst, ◌∙◌, arith, codes, lit<, if◌then◌else◌}
 use Rattle.std.proofs.lemmas.Bool.Decides.{nat_tests}
 use Rattle.std.specs.Prelude.{IfSome, IsUtf8, is_some, is_none}
@@ -62,7 +63,7 @@ no_spelling host path (s, e, d) = none-some s e
 file_text : (host : Option (List ℕ)) (path : List ℕ) (spelling : Option (List ℕ)) → text (at_file host path spelling) ≡ Ok (codes "file://" ++ (host_part (at_file host path spelling) host ++ matching_or spelling path path))
 file_text host path spelling = refl
 
--- the host as it stands in a file URL
+-- the host as a file URL spells it
 abbrev as_it_is : Option (List ℕ) → List ℕ
 as_it_is None = []
 as_it_is (Some host) = host
@@ -140,7 +141,7 @@ file_again v scheme valid h =
 
 -- ---- what is read is settled
 
--- a bracket stands at the front of the host, or it has no colon or no escape
+-- a bracket begins the host, or it has no colon or no escape
 abbrev pub StaysOpen : List ℕ → Type 0
 StaysOpen host = (begins_with left_bracket host ≡ true) ⊎ (FreeOf colon host ⊎ (has_percent host ≡ false))
 
@@ -156,7 +157,8 @@ path_utf8 host path is_text rooted =
     let behind : IsUtf8 (host ++ path) = utf8_behind (codes "file://") (host ++ path) is_text file_mark_utf8 in
     subst IsUtf8 (sym cut) (utf8_seam host rest slash (subst (λ p. IsUtf8 (host ++ p)) cut behind) (lit< tt)).1
 
--- what is read as a file URL is settled, but for a host with a colon and an escape that has no bracket at its front
+-- what is read as a file URL is settled, except a host with a colon
+-- and an escape that has no bracket at its front
 pub file_closed : (b : List ℕ) (v : Location) → SpellsFile b v → ((h : List ℕ) → v.host ≡ Some h → StaysOpen h) → IsSettledFile v
 file_closed b v h stays =
     let hosted = host_settled h.host h.no_slash (λ host e. stays host (ap (λ l. l.host) h.value ∙ e)) in
@@ -174,7 +176,7 @@ canonical_by v t false e = one_text refl e
 file_canonical : (v : Location) (t : List ℕ) → v.scheme ≡ file → v.flag ≡ false → text v ≡ Ok t → canonical_text v ≡ t
 file_canonical v t h2 h3 h4 = grind (arith, nat_tests, cond-false, and_left, canonical_by)
 
--- what stands behind `://` in the text of a URL
+-- the text behind `://` in the text of a URL
 abbrev behind_mark : Location → List ℕ
 behind_mark v = user_information v.user v.password ++ (host_part v v.host ++ (port_part v.port ++ canonical_path v))
 

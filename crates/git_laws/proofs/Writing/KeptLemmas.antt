@@ -1,4 +1,5 @@
--- Remote helpers and local paths: what is read as one is settled and is written as it was read; a settled one comes back, and nothing else does.
+-- Remote helpers and local paths: what is read as one is settled and is written as it was read; a settled one
+-- comes back, and nothing else does.
 use Rattle.std.proofs.Common.{◌≡◌, ℕ, true, false, inl, List, ◌∷◌, ◌++◌, Option, None, Ok, refl, sym, ap, subst, ◌∙◌, codes, bytes_eq, Bool, arith}
 use Rattle.std.proofs.lemmas.Bool.Decides.{nat_tests}
 use Rattle.std.proofs.lemmas.Bool.{false≢true}
@@ -45,7 +46,7 @@ local_written path spelling = refl
 pub flagged_text : (v : Location) → v.scheme ≡ file → IsSettledLocal v → text v ≡ Ok v.path
 flagged_text v scheme h = grind arith
 
--- ---- what is spelled is settled, and written as it was read
+-- ---- a spelled location is settled, and written as it was read
 
 -- a remote helper without a spelling is settled
 helper_settled : (name path : List ℕ) → is_helper_name name ≡ true → IsSettled (path_alone (helper_scheme name) true path)
@@ -81,7 +82,7 @@ url_kept b v h keeps = grind (arith, nat_tests, url_loses, means_cases)
 scp_not_kept : (b : List ℕ) (v : Location) → SpellsScp b v → KeepsBytes v → ⊥
 scp_not_kept b v h keeps = grind arith
 
--- what is spelled and keeps its bytes is settled
+-- a spelled location that keeps its bytes is settled
 pub kept_closed : (b : List ℕ) (v : Location) → Spells b v → KeepsBytes v → IsSettled v
 kept_closed b v (Spells.url h) keeps = subst (λ l. IsSettled l) (sym (url_kept b v h keeps)) (helper_settled (codes "ext") b refl)
 kept_closed b v (Spells.file_url h) keeps = absurd (false≢true (subst (λ l. KeepsBytes l) h.value keeps))

@@ -102,7 +102,7 @@ port_piece (Some p) small =
 password_has : (b : ℕ) → b < 128 → (is_whitespace b || is_path_start true b) ≡ true → is_password_escaped b ≡ true
 password_has b ascii h = grind (arith, nat_tests)
 
--- what is written by a set that has the bytes escaped in a password is such a piece
+-- a text written by a set that has the bytes escaped in a password is such a piece
 encoded_piece : (set : AsciiSet) (t : List ℕ) → ((b : ℕ) → b < 128 → is_password_escaped b ≡ true → contains set b ≡ true) → IsHostPiece (percent_encode set t)
 encoded_piece set t has = record {
   no_at = encode_free set t at_sign (has at_sign (omega arith) refl) refl;

@@ -1,4 +1,5 @@
--- A settled location without its password: what is left of its text is short enough, so it is settled, unless its user is empty.
+-- A settled location without its password: the rest of its text is short
+-- enough, so it is settled, unless its user is empty.
 use Rattle.std.proofs.Common.{◌≡◌, ℕ, ◌+◌, ◌<◌, ◌≤◌, Bool, true, false, not, ◌⊎◌, inl, inr, List, [], ◌∷◌, ◌++◌, length, length-append, Option, Some, None, IsSome, IfSome, refl, sym, ap, subst, ◌∙◌, arith}
 use Rattle.std.specs.List.{list_any, list_all}
 use Rattle.std.specs.Char.{is_ascii_whitespace, is_whitespace}
@@ -30,9 +31,9 @@ use Rattle.git_laws.proofs.Writing.AgainLemmas.{web_readable, secure_readable, g
 use Rattle.git_laws.proofs.Writing.WrittenUrlLemmas.{IsReadable, authority_text, canonical_cut, web_starts}
 use Rattle.git_location.proofs.Writing.WrittenAsUrlLemmas.{written_web, written_git, written_secure, written_other}
 
--- ---- what is left of a text without its white space
+-- ---- the rest of a text without its white space
 
--- the length test keeps what is no white space of ASCII
+-- the length test keeps all but white space of ASCII
 abbrev keeps : ℕ → Bool
 keeps b = not (is_ascii_whitespace b)
 
@@ -40,7 +41,7 @@ keeps b = not (is_ascii_whitespace b)
 kept_length : (x y : List ℕ) → length (without_white_space (x ++ y)) ≡ length (without_white_space x) + length (without_white_space y)
 kept_length x y = ap length (filter-append keeps x y) ∙ length-append (without_white_space x) (without_white_space y)
 
--- what a text lacks, what is left of it lacks too
+-- the rest of a text lacks what the text lacks
 lacks_kept : (test : ℕ → Bool) (bs : List ℕ) → Lacks test bs → Lacks test (without_white_space bs)
 lacks_kept test [] h = refl
 lacks_kept test (b ∷ bs) h =
@@ -85,8 +86,8 @@ some_left (b ∷ bs) lacks some = omega (arith, ap length (other_left_in b bs (f
 
 -- ---- the front that counts
 
--- a text that the length test counts, where it stands before a path: it has no slash and no start of a path, and isn't
--- white space alone
+-- a text that the length test counts, before a path: it has no slash
+-- and no start of a path, and isn't white space alone
 pub record IsFront (web : Bool) (a : List ℕ) : Type 0 where
   pub no_slash : Lacks is_any_slash a
   pub before_path : Lacks (is_path_start web) a
@@ -226,11 +227,11 @@ at_no_start : (web : Bool) → Lacks (is_path_start web) (at_sign ∷ [])
 at_no_start true = refl
 at_no_start false = refl
 
--- a front without its password, which stands behind the user and before `@`
+-- a front without its password, which is between the user and `@`
 abbrev with_secret : List ℕ → List ℕ → List ℕ → List ℕ
 with_secret user secret host = (user ++ (secret ++ at_sign ∷ [])) ++ host
 
--- what such a text lacks it lacks without the password
+-- such a text lacks the same without the password
 lacks_secret : (test : ℕ → Bool) (user secret host : List ℕ) → Lacks test (at_sign ∷ []) → Lacks test (with_secret user secret host) → Lacks test (with_secret user [] host)
 lacks_secret test user secret host h4 h5 = grind (arith, nat_tests, lacks_parts, lacks-append)
 
@@ -320,11 +321,11 @@ stripped_by ext v user password e known secret some is h = absurd (none-some pas
 stripped_by (helper name) v user password e known secret some is h = absurd (none-some password (sym h.0.bare.1.1 ∙ secret))
 stripped_by (helper_url name) v user password e known secret some is h = other_stripped name v user password v.host refl e known secret some is h
 
--- what is settled is a URL, or has no password, and no user beside none of the flag
+-- a settled location is a URL, or has no password, and no user beside none of the flag
 url_or_plain : (p : Scheme) (v : Location) → IsSettledBy p v → IsSettledUrl v ⊎ ((v.password ≡ None) × (v.flag ≡ false → v.user ≡ None))
 url_or_plain p v h2 = grind (arith, nat_tests, both_ways)
 
--- what is settled and has a password is a URL
+-- a settled location with a password is a URL
 url_with_password : (p : Scheme) (v : Location) (password : List ℕ) → v.password ≡ Some password → IsSettledBy p v → IsSettledUrl v
 url_with_password p v password h3 h4 = grind (arith, nat_tests, url_or_plain, none-some)
 

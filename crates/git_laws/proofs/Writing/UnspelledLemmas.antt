@@ -1,4 +1,5 @@
--- A settled location without its spelling: of URLs outside HTTP and files the path decides whether it is settled, and of all others it is.
+-- A settled location without its spelling: of URLs outside HTTP and files the path decides whether it is
+-- settled, and of all others it is.
 use Rattle.std.proofs.Common.{◌≡◌, ℕ, Bool, true, false, not, ◌==◌, inl, inr, List, [], ◌∷◌, ◌++◌, length, length-append, Option, Some, None, refl, sym, ap, subst, ◌∙◌, arith}
 use Rattle.std.proofs.lemmas.Bool.Decides.{nat_tests}
 use Rattle.std.proofs.lemmas.Bool.{false≢true}
@@ -138,7 +139,7 @@ other_fitting name v (Some host) there e is h raw fits =
 
 -- ---- all kinds
 
--- what is settled without its spelling needs none
+-- a location settled without its spelling needs none
 needs_none : (p : Scheme) (v : Location) → IsSettledBy p (fields v) → is_raw_url p v.flag ≡ true → ((has_percent v.path ≡ false) × LacksWhiteSpace v.path) × HasFittingText (fields v)
 needs_none p v h kind = grind arith
 

@@ -1,4 +1,4 @@
--- The written host and port of a settled URL, but for those of HTTP, name the same host and port.
+-- The written host and port of a settled URL, except those of HTTP, name the same host and port.
 use Rattle.std.proofs.Common.{◌≡◌, ℕ, ◌<◌, true, false, inl, inr, List, [], ◌∷◌, ◌++◌, length, Option, Some, None, refl, sym, ap, subst, ◌∙◌, arith, lit<, append_assoc, append-nil, if◌then◌else◌}
 use Rattle.std.specs.Prelude.{IfSome, IsUtf8, decimal}
 use Rattle.std.specs.List.{list_all}
@@ -55,7 +55,7 @@ plain_named syntax text host (Some p) other is h small = SpellsHostPort.plain_po
 abbrev pub written_host : Scheme → Option ℕ → List ℕ → List ℕ
 written_host scheme port host = if needs_brackets port host then left_bracket ∷ (escaped_percents host ++ right_bracket ∷ []) else open_host scheme host
 
--- a host that is no address and goes without brackets is escaped as a user
+-- a host that isn't an address and goes without brackets is escaped as a user
 written_as_user : (scheme : Scheme) (port : Option ℕ) (host : List ℕ) → keeps_host scheme ≡ false → wants_brackets host ≡ false → is_ipv6_text host ≡ false → written_host scheme port host ≡ percent_encode USER host
 written_as_user scheme port host escapes unmarked other = rw (unmarked, escapes, other) refl
 
@@ -70,7 +70,7 @@ open_host_written syntax v host other escapes some normal unmarked no_address ut
       piece = piece.piece;
     }
 
--- a text with a bracket in front is no address
+-- a text with a bracket in front isn't an address
 bracket_no_address : (t : List ℕ) → is_ipv6_text (left_bracket ∷ t) ≡ false
 bracket_no_address t =
     ipv6_text_fails (left_bracket ∷ t) (λ h. true≢false (free_head_tail left_bracket left_bracket t (address_free left_bracket (left_bracket ∷ t) refl h)).0)
@@ -102,7 +102,7 @@ bracketed_host_written syntax v host other escapes (inr (a, address, e)) utf8 sm
 ssh_host_itself : (host : List ℕ) → FreeOf left_bracket host → ((front : List ℕ) → FreeOf colon front → ¬ (host ≡ front ++ colon ∷ [])) → IsSshHost host host
 ssh_host_itself host h1 h2 = grind (arith, nat_tests, true≢false, free_head_tail)
 
--- no colon stands behind the only colon of a text
+-- no colon follows the only colon of a text
 nothing_behind : (front x rest : List ℕ) → FreeOf colon front → front ++ colon ∷ [] ≡ x ++ colon ∷ rest → FreeOf colon rest
 nothing_behind front x rest free e = elim (free_or_cut colon x) [
   | inl none ↦ subst (λ t. FreeOf colon t) (cut_unique colon front x [] rest free none e).1 refl
@@ -117,7 +117,7 @@ address_colons a front h free e =
     let (x, y, z, is) = address_two_colons a h in
     not_free colon y z (nothing_behind front x (y ++ colon ∷ z) free (sym e ∙ is))
 
--- an address wants brackets
+-- an address needs brackets
 address_wants : (a : List ℕ) → IsIpv6Text a → wants_brackets a ≡ true
 address_wants a h =
     let closed = free_begins left_bracket a (address_free left_bracket a refl h) in
@@ -150,7 +150,8 @@ address_alone scheme a escapes h =
 pub address_in_brackets : (scheme : Scheme) (p : ℕ) (a : List ℕ) → IsIpv6Text a → written_host scheme (Some p) a ≡ left_bracket ∷ (a ++ right_bracket ∷ [])
 address_in_brackets scheme p a h3 = grind (arith, nat_tests, address_wants, escaped_percents_kept, address_free)
 
--- the text is a piece of an authority and names a port and a host out of which Secure Shell takes the given one
+-- the text is a piece of an authority and names a port and a host
+-- out of which Secure Shell takes the given one
 record SpellsSshHost (text : List ℕ) (host : List ℕ) (port : Option ℕ) : Type 0 where
   named : List ℕ
   names : SpellsHostPort git_hosts text (Some named) port

@@ -38,11 +38,11 @@ Matches spelling path = (s : List ℕ) × (spelling ≡ Some s) × (percent_deco
 abbrev IsFair : Option (List ℕ) → List ℕ → Type 0
 IsFair spelling path = (s : List ℕ) → spelling ≡ Some s → percent_decode s ≡ path → IsFairSpelling s path
 
--- a spelling that stands for the path is what is written
+-- a spelling that stands for the path is the written text
 pub matched : (s path plain : List ℕ) → percent_decode s ≡ path → matching_or (Some s) path plain ≡ s
 matched s path plain same = cond-true _ _ _ ((bytes_eq-Decides (percent_decode s) path).1 same)
 
--- what is written is a spelling that stands for the path, or what stands in where none does
+-- the written text is a spelling that stands for the path, or the text that replaces it where none does
 pub matching_cases : (P : List ℕ → Type 0) (spelling : Option (List ℕ)) (path plain : List ℕ) → ((s : List ℕ) → spelling ≡ Some s → percent_decode s ≡ path → P s) → (¬ Matches spelling path → P plain) → P (matching_or spelling path plain)
 matching_cases P spelling path plain h4 h5 = grind (arith, nat_tests, none-some, bytes_eq-Decides, matched, both_ways, same_Some, cond-false, cases_Bool, bytes_eq)
 
@@ -59,7 +59,7 @@ fair_writing s path plain fair decoded = record {
   unescaped = λ none. absurd (both_ways _ none fair.escaped);
 }
 
--- a matching spelling or what stands in for it is a writing of the path
+-- a matching spelling or the text that replaces it is a writing of the path
 matching_writing : (spelling : Option (List ℕ)) (path plain : List ℕ) → IsFair spelling path → (¬ Matches spelling path → IsWriting path plain plain) → IsWriting path plain (matching_or spelling path plain)
 matching_writing spelling path plain fair other = matching_cases (IsWriting path plain) spelling path plain (λ s is same. fair_writing s path plain (fair s is same) same) other
 
@@ -275,7 +275,7 @@ other_path_written v name e rooted url raw = rawly_written v record {
 
 -- ---- Secure Shell and Git's own protocol
 
--- what the scheme says of a path that may stand below a home folder
+-- what the scheme says of a path that may be below a home folder
 record HasHomes (scheme : Scheme) : Type 0 where
   roots : requires_path scheme ≡ true
   plain : (path : List ℕ) → plain_path scheme path ≡ path
@@ -364,7 +364,7 @@ home_written v facts h =
       fair = λ s is same. absurd (none-some s (sym none ∙ is));
     }
 
--- by where the path stands
+-- by where the path is
 transport_by : (v : Location) → HasHomes v.scheme → IsTransportPath v → HasUrlPath v → IsRawPath v → WritesPath false v × IsTransportPath (as_read v) × IsRawPath (as_read v)
 transport_by v facts (inl rooted) url raw =
     let both = rawly_written v (rooted_rawly v facts rooted.0 rooted.1) url raw in
@@ -374,6 +374,7 @@ transport_by v facts (inr home) url raw =
     let h : IsRawHome v = record { home = home.0; none = home.1; text = url.path_text; raw = all } in
     (home_written v facts h, inr (home.0, λ (s, is, same). none-some s (sym (home_none v facts h) ∙ is)), λ none. all)
 
--- the written path of a settled URL of Secure Shell or of Git's own protocol means its path, and is written the same again
+-- the written path of a settled URL of Secure Shell or of Git's own
+-- protocol means its path, and is written the same again
 pub transport_path_written : (v : Location) → (v.scheme ≡ ssh) ⊎ (v.scheme ≡ git) → IsTransportPath v → HasUrlPath v → IsRawPath v → WritesPath false v × IsTransportPath (as_read v) × IsRawPath (as_read v)
 transport_path_written v transport path url raw = transport_by v (homes v transport) path url raw

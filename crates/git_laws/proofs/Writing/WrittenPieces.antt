@@ -17,7 +17,7 @@ pub record IsEscapedPiece (t : List ℕ) : Type 0 where
   pub sound : is_sound t ≡ true
   pub no_white_space : LacksWhiteSpace t
 
--- such text that may stand in an authority
+-- such text that may occur in an authority
 pub record IsAuthorityPiece (t : List ℕ) : Type 0 where
   pub escaped : IsEscapedPiece t
   pub no_backslash : FreeOf backslash t

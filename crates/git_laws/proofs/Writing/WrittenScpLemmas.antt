@@ -78,7 +78,7 @@ no_mark_at (b ∷ front) path (c ∷ x) rest free other none e = no_mark_at fron
 no_mark_joined : (front path : List ℕ) → FreeOf slash front → IsScpPath path → ¬ Holds (codes "://") (front ++ colon ∷ path)
 no_mark_joined front path free p (x, rest, e) = no_mark_at front path x rest free p.not_slashes p.no_mark e
 
--- a text in whose front an `@` stands isn't that of a remote helper
+-- a text with an `@` in its front isn't that of a remote helper
 no_helper_at : (user behind path : List ℕ) → FreeOf colon (user ++ at_sign ∷ behind) → ¬ HasHelperForm ((user ++ at_sign ∷ behind) ++ colon ∷ path)
 no_helper_at user behind path free (name, address, h) =
     let same = (helper_front _ (user ++ at_sign ∷ behind) path name address h free refl).0 in
@@ -91,7 +91,7 @@ abbrev name_front : Option (List ℕ) → List ℕ → List ℕ
 name_front None h = h
 name_front (Some user) h = user ++ at_sign ∷ h
 
--- a name wants no brackets
+-- a name needs no brackets
 name_raw : (h : List ℕ) → IsScpName h → raw_host (Some h) ≡ h
 name_raw h n = let plain : wants_brackets h ≡ false = rw n.normal.unbracketed.no_colon refl in cond-false _ _ _ plain
 
@@ -115,7 +115,8 @@ name_front_no_bracket : (user : Option (List ℕ)) (h : List ℕ) → IfSome use
 name_front_no_bracket None h u n = free_begins left_bracket h n.normal.unbracketed.no_left_bracket
 name_front_no_bracket (Some user) h u n = begins_before_at user h u.no_bracket
 
--- the text isn't that of a remote helper: its front is the name alone, or holds an `@`, which no helper's name does
+-- the text isn't that of a remote helper: its front is the name
+-- alone, or holds an `@`, which no helper's name does
 name_no_helper : (user : Option (List ℕ)) (h path : List ℕ) → FreeOf colon (name_front user h) → ¬ LooksLikeHelper (scp_value user h path None) h → ¬ HasHelperForm (name_front user h ++ colon ∷ path)
 name_no_helper None h path free other (name, address, k) =
     let same = helper_front _ h path name address k free refl in
@@ -185,7 +186,7 @@ name_spelled_front user h path text host u n p other = record {
   value = scp_value_read user h path p.not_home;
 }
 
--- and so does what is written
+-- and so does the written text
 name_spelled : (user : Option (List ℕ)) (h path : List ℕ) → IfSome user IsUtf8 → IsUtf8 h → IfSome user IsScpUser → IsScpName h → IsScpPath path → ¬ LooksLikeHelper (scp_value user h path None) h → SpellsScp (raw_user user ++ (raw_host (Some h) ++ colon ∷ path)) (scp_value user h path None)
 name_spelled user h path named host u n p other =
     let joined = name_joined user h path in
@@ -199,7 +200,7 @@ pub holds_colon : (x y : List ℕ) → has_colon (x ++ colon ∷ y) ≡ true
 holds_colon [] y = refl
 holds_colon (b ∷ x) y = or_right (b == colon) (has_colon (x ++ colon ∷ y)) (holds_colon x y)
 
--- an address wants brackets
+-- an address needs brackets
 pub address_raw : (h : List ℕ) → IsNormalAddress h → raw_host (Some h) ≡ in_brackets h
 address_raw h h1 = grind (arith, nat_tests, address_cut, holds_colon, free_begins, address_free, and_from, not, cond-true)
 
@@ -224,7 +225,7 @@ all_address_bytes P each (b ∷ t) h =
     let parts = and_parts (is_address_byte b) (list_all is_address_byte t) h in
     All-cons P b t (each b parts.0) (all_address_bytes P each t parts.1)
 
--- such a byte is no white space
+-- such a byte isn't white space
 address_byte_no_space : (b : ℕ) → is_address_byte b ≡ true → is_whitespace b ≡ false
 address_byte_no_space b h = grind (arith, nat_tests)
 
@@ -291,12 +292,12 @@ address_spelled h path a p = inl record {
 abbrev addressed_text : List ℕ → List ℕ → List ℕ → List ℕ
 addressed_text user h path = user ++ at_sign ∷ (left_bracket ∷ (h ++ right_bracket ∷ (colon ∷ path)))
 
--- what is written is that text
+-- the written text is that text
 addressed_written : (user h path : List ℕ) → raw_user (Some user) ++ (in_brackets h ++ colon ∷ path) ≡ addressed_text user h path
 addressed_written user h path =
     append_assoc user (at_sign ∷ []) (in_brackets h ++ colon ∷ path) ∙ ap (λ t. user ++ at_sign ∷ (left_bracket ∷ t)) (append_assoc h (right_bracket ∷ []) (colon ∷ path))
 
--- that text isn't that of a remote helper: its first colon stands in the address
+-- that text isn't that of a remote helper: its first colon is in the address
 addressed_no_helper : (user h path : List ℕ) → IsScpUser user → IsNormalAddress h → ¬ HasHelperForm (addressed_text user h path)
 addressed_no_helper user h path u a =
     let (x, y, free, e) = address_cut h a.address in
@@ -334,7 +335,7 @@ addressed_spelled user h path named u a p = inr record {
 bracketed_spelled : (user : Option (List ℕ)) (h path : List ℕ) → IfSome user IsUtf8 → IfSome user IsScpUser → IsNormalAddress h → IsScpPath path → SpellsScp (raw_user user ++ (in_brackets h ++ colon ∷ path)) (scp_value user h path None)
 bracketed_spelled user h path h3 h4 h5 h6 = grind (arith, nat_tests, address_spelled, addressed_written, addressed_spelled)
 
--- what is written spells the location
+-- the written text spells the location
 pub scp_spelled : (user : Option (List ℕ)) (h path : List ℕ) → IfSome user IsUtf8 → IsUtf8 h → IfSome user IsScpUser → IsScpName h ⊎ IsNormalAddress h → IsScpPath path → ¬ LooksLikeHelper (scp_value user h path None) h → SpellsScp (raw_user user ++ (raw_host (Some h) ++ colon ∷ path)) (scp_value user h path None)
 scp_spelled user h path named host u (inl n) p other = name_spelled user h path named host u n p other
 scp_spelled user h path named host u (inr a) p other =

@@ -42,6 +42,7 @@ both_written user password first second some =
       piece = (joined_hosts name (colon ∷ secret) (user_piece user) (joined_hosts (colon ∷ []) secret (host_piece (colon ∷ []) refl refl) (password_piece password))).piece;
     }
 
--- the written user information is read as the same user and password, where neither is an empty text that would be read as none
+-- the written user information is read as the same user and password,
+-- where neither is an empty text that would be read as none
 pub information_written : (user : List ℕ) (password : Option (List ℕ)) → IsUtf8 user → IfSome password IsUtf8 → IfSome password (λ p. 0 < length p) → (user ≡ [] → IsSome password) → WritesInformation user password
 information_written user password text secret some given = grind (arith, nat_tests, alone_written, both_written)

@@ -36,7 +36,7 @@ literal_piece t n (zoned a z h zone is e) =
 name_piece : (t : List ℕ) → IsWebName t → IsHostPiece t
 name_piece t h = host_piece t (all_weaker is_http_host_byte is_host_byte (λ b is. grind (arith, nat_tests)) t h.bytes) h.sound
 
--- ---- what stands between brackets
+-- ---- the text between brackets
 
 -- a literal holds no `]`
 literal_no_bracket : (t n : List ℕ) → Literal t n → FreeOf right_bracket t
@@ -81,7 +81,7 @@ name_named (Some p) t h other within = SpellsHostPort.plain_port t t (decimal p)
 name_colon_named : (t : List ℕ) → IsWebName t → SpellsHostPort http_hosts ((t ++ colon ∷ []) ++ []) (Some (t ++ colon ∷ [])) None
 name_colon_named t h = SpellsHostPort.plain_colon t t (name_plain t h) (name_text t h) (append-nil (t ++ colon ∷ [])) refl refl
 
--- ---- brackets that aren't wanted
+-- ---- brackets that aren't needed
 
 -- a text that begins with `[` takes no more brackets
 bracketed_unwanted : (port : Option ℕ) (t : List ℕ) → needs_brackets port (left_bracket ∷ t) ≡ false

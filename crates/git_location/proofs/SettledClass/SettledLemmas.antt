@@ -1,4 +1,4 @@
--- The settled class by its tests: what the small tests tell, joined.
+-- The settled class by its tests: the results of the small tests, joined.
 use Rattle.std.proofs.Common.{⊎_elim, ◌≡◌, ◌↔◌, ℕ, Bool, true, false, not, ◌≤◌, ◌⊎◌, inl, inr, List, [], ◌∷◌, ◌++◌, ◌+◌, drop, refl, sym, ap, subst, ◌∙◌, append_assoc, arith, codes, length, length-append, Option, Some, None, Ok, IsTrue}
 use Rattle.std.specs.List.{list_all}
 use Rattle.std.specs.Option.{is_some}
@@ -48,7 +48,7 @@ second_needed a b fails first second either = (
   λ all. ⊎_elim (λ x. absurd (both_ways a fails (first.1 x))) (λ y. second.1 y) (either.1 all),
 )
 
--- `is_none` tells that there is no value
+-- `is_none` is true exactly where there is no value
 pub none_tested : {A : Type 0} (o : Option A) (b : Bool) → is_some o ≡ not b → IsTrue b ↔ (o ≡ None)
 none_tested None b e = (λ yes. refl, λ none. not-false b (sym e))
 none_tested (Some x) b e = (λ yes. absurd (true≢false (e ∙ ap not yes)), λ none. cc)
@@ -82,7 +82,7 @@ parts_of_literal t a e free joined (zoned b z addressed zone same normal) =
       (z, zone, cuts.1),
     )
 
--- a text with `%` is a settled literal where an address and a zone stand around its first `%`
+-- a text with `%` is a settled literal where an address comes before its first `%` and a zone follows
 pub literal_with_zone : (t a e : List ℕ) → FreeOf percent_sign a → t ≡ a ++ percent_sign ∷ e → (IsNormalAddress a × IsEscapedZone e) ↔ IsNormalLiteral t
 literal_with_zone t a e free joined =
     (λ parts. literal_of_parts t a e joined parts.0 parts.1, λ l. parts_of_literal t a e free joined l)
@@ -91,7 +91,7 @@ literal_with_zone t a e free joined =
 inside_brackets : (x y : List ℕ) → left_bracket ∷ (x ++ right_bracket ∷ []) ≡ left_bracket ∷ (y ++ right_bracket ∷ []) → x ≡ y
 inside_brackets x y e = (same_from_push x y right_bracket right_bracket (tails e)).0
 
--- brackets hold a literal that stays as it is where what stands between them is one
+-- brackets hold a literal that stays as it is where the text between them is one
 pub literal_in_brackets : (b : Bool) (host inner : List ℕ) → host ≡ left_bracket ∷ (inner ++ right_bracket ∷ []) → (IsTrue b ↔ IsNormalLiteral inner) → IsTrue b ↔ IsBracketedLiteral host
 literal_in_brackets b host inner joined test = (
   λ yes. (inner, test.0 yes, joined),
@@ -110,7 +110,7 @@ name_or_colon host front name e =
     let all = sym (list_all-append is_http_host_byte front (colon ∷ [])) ∙ ap (list_all is_http_host_byte) (sym e) ∙ name.bytes in
     absurd (false≢true (and_parts _ _ all).1)
 
--- the colon behind brackets stands behind what they are part of
+-- the colon behind brackets follows what they are part of
 colon_behind : (n : List ℕ) → left_bracket ∷ (n ++ right_bracket ∷ (colon ∷ [])) ≡ (left_bracket ∷ (n ++ right_bracket ∷ [])) ++ colon ∷ []
 colon_behind n = sym (append_assoc (left_bracket ∷ n) (right_bracket ∷ []) (colon ∷ []))
 
@@ -247,7 +247,7 @@ short_text v free canonical short =
     let fits = fits_tested (scheme_text v.scheme) behind (omega (arith, whole, short)) in
     (fitting_text v (canonical_text v) free canonical (sym canonical)).0 (fits.0 (or_left _ _ (le-leb (length behind) 1024 few)))
 
--- and a test of its scheme and of what it is made of tells it
+-- and a test of its scheme and of what it is made of decides it
 pub text_tested : (v : Location) (s t : List ℕ) (b : Bool) → s ≡ scheme_text v.scheme → FreeOf colon (scheme_text v.scheme) → text v ≡ Ok (canonical_text v) → Ok t ≡ text v
     → (IsTrue b ↔ IsPiecesShort s t) → IsTrue b ↔ HasFittingText v
 text_tested v s t b same_scheme free canonical is test =

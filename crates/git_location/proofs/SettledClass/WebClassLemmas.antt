@@ -1,5 +1,5 @@
--- The class of HTTP locations by its tests: hosts by their last label, paths by their bytes and segments, and what is written
--- for a text by what stands in it.
+-- The class of HTTP locations by its tests: hosts by their last label, paths by their bytes and segments, and
+-- what is written for a text by what it holds.
 use Rattle.std.proofs.Common.{⊎_elim, ◌≡◌, ◌≢◌, ◌↔◌, ◌∙◌, ◌<◌, ℕ, Bool, true, false, not, ◌&&◌, ◌||◌, ◌==◌, ◌⊎◌, inl, inr, List, [], ◌∷◌, ◌++◌, length, codes, decimal, Option, Some, None, IfSome, IsUtf8, if◌then◌else◌, refl, sym, ap, subst, append_assoc, length-append, arith}
 use Rattle.std.specs.List.{list_all, list_any, count_by}
 use Rattle.std.specs.Char.{is_ascii_digit, is_ascii_lowercase, to_ascii_lowercase}
@@ -126,7 +126,7 @@ dots_to : (dots rest : List ℕ) → (dots ≡ codes ".") ⊎ (dots ≡ codes ".
 dots_to dots rest (inl one) end = (rest, ap (λ x. x ++ rest) one, inl (ends_from_cases rest end))
 dots_to dots rest (inr two) end = (dot ∷ rest, ap (λ x. x ++ rest) two, inr (rest, refl, ends_from_cases rest end))
 
--- a dot segment of what stands behind a front is one of the whole
+-- a dot segment of the text behind a front is one of the whole
 dots_behind : (front behind : List ℕ) → HasDotSegment behind → HasDotSegment (front ++ dot ∷ behind)
 dots_behind front behind h = record {
   front = front ++ dot ∷ h.front;
@@ -143,7 +143,7 @@ no_segment t free h =
     let (behind, joined, ends) = dots_to h.dots h.behind h.segment h.end in
     not_free dot (h.front ++ slash ∷ []) behind (subst (λ x. FreeOf dot x) (h.joined ∙ ap (λ x. h.front ++ slash ∷ x) joined ∙ sym (append_assoc h.front (slash ∷ []) (dot ∷ behind))) free)
 
--- at the first `.` a dot segment begins, or one stands behind it
+-- a dot segment begins at the first `.`, or follows it
 segment_at_cut : (front behind : List ℕ) → FreeOf dot front → HasDotSegment (front ++ dot ∷ behind) → IsDotSegment front behind ⊎ HasDotSegment behind
 segment_at_cut front behind free h = elim (free_or_cut dot h.front) [
   | inl none ↦
@@ -156,7 +156,7 @@ segment_at_cut front behind free h = elim (free_or_cut dot h.front) [
       inr (record { front = y; dots = h.dots; behind = h.behind; joined = (cut_unique dot front x behind (y ++ slash ∷ (h.dots ++ h.behind)) free none whole).1; segment = h.segment; end = h.end })
 ]
 
--- so a text with a `.` has one exactly where it begins at the first `.`, or stands behind that
+-- so a text with a `.` has one exactly where it begins at the first `.`, or follows that
 pub segment_cut : (t front behind : List ℕ) → FreeOf dot front → t ≡ front ++ dot ∷ behind → (IsDotSegment front behind ⊎ HasDotSegment behind) ↔ HasDotSegment t
 segment_cut t front behind free joined = (
   λ either. subst HasDotSegment (sym joined) (⊎_elim
@@ -165,9 +165,9 @@ segment_cut t front behind free joined = (
   λ has. segment_at_cut front behind free (subst HasDotSegment joined has),
 )
 
--- ---- what is written
+-- ---- the written text
 
--- a colon is written where one stands in the text
+-- a colon is written where the text has one
 pub colon_written : (set : AsciiSet) (t : List ℕ) → contains set 58 ≡ false → FreeOf colon t ↔ FreeOf colon (percent_encode set t)
 colon_written set t out = (
   λ free. encode_lacks_kept (λ b. b == colon) set t (λ b escape. grind (arith, nat_tests)) free,
@@ -205,7 +205,8 @@ percent_written set t has = (λ none. no_percent set t has none, λ free. none_e
 
 -- ---- bytes of paths
 
--- what is written passes a test of each byte that escapes pass, where each byte of the text passes it or is escaped
+-- the written text passes a test of each byte that escapes pass,
+-- where each byte of the text passes it or is escaped
 all_written : (test : ℕ → Bool) (set : AsciiSet) (t : List ℕ) → ((b : ℕ) → IsEscapeByte b → test b ≡ true) → list_all test (percent_encode set t) ≡ list_all (λ b. should_percent_encode set b || test b) t
 all_written test set [] escapes = ap (list_all test) (percent_encode-nil set)
 all_written test set (b ∷ bs) escapes =
@@ -231,7 +232,7 @@ stray_in_ascii b stray = grind (arith, nat_tests)
 strays : (b : ℕ) → b < 128 → is_stray b ≡ (is_control b || (b == number_sign || not (contains PATH b || is_uri_byte b)))
 strays b ascii = agree_below_at is_stray (λ c. is_control c || (c == number_sign || not (contains PATH c || is_uri_byte c))) 128 b refl ascii
 
--- a byte that is no stray is written as a URI
+-- a byte that isn't a stray is written as a URI
 written_from : (b : ℕ) → is_stray b ≡ false → is_written_as_uri b ≡ true
 written_from b other = elim (cases_Bool (should_percent_encode PATH b)) [
   | inl escaped ↦ ap (λ x. x || is_uri_byte b) escaped
@@ -241,7 +242,7 @@ written_from b other = elim (cases_Bool (should_percent_encode PATH b)) [
       ap (λ x. x || is_uri_byte b) (kept ∙ sym (outside_from_kept PATH b kept)) ∙ either
 ]
 
--- and a byte that is, and neither a control nor `#`, is no stray
+-- and a byte that is, and neither a control nor `#`, isn't a stray
 no_stray : (b : ℕ) → is_control b ≡ false → (b == number_sign) ≡ false → is_written_as_uri b ≡ true → is_stray b ≡ false
 no_stray b control fragment written = false_from_ne_true _ (λ stray.
     let ascii = stray_in_ascii b stray in

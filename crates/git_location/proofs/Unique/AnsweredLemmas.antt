@@ -1,5 +1,5 @@
--- What a reader answers that finds what the bytes spell, and refuses where they spell nothing, with memory or with a room;
--- and that both answer alike.
+-- The answers of a reader that finds the location that the bytes spell, or
+-- refuses, with memory or with a buffer: both answer alike.
 use Rattle.std.proofs.Common.{◌≡◌, ◌≤◌, ℕ, List, [], length, Result, Ok, Err, ap, subst, arith}
 use Rattle.std.specs.Prelude.{IfOk, IfErr}
 use Rattle.git_location.specs.declared.parse_error.ParseError.{ParseError}
@@ -11,24 +11,24 @@ use Rattle.git_syntax.specs.Grammar.{Spells}
 use Rattle.git_location.specs.Readings.{RefusesIn, ReadsIn}
 use Rattle.git_syntax.proofs.Unique.UniqueLemmas.{spells_unique}
 
--- ---- reading into a room
+-- ---- reading into a buffer
 
 -- what is answered is spelled
 pub answer_spelled : {E : Type 0} (b : List ℕ) (r : Result Location E) → IfOk r (Spells b) → (v : Location) → r ≡ Ok v → Spells b v
 answer_spelled {E} b r found v e = let Found : Result Location E → Type 0 = λ answer. IfOk answer (Spells b) in subst Found e found
 
--- what is spelled is answered where there is room for as many bytes
+-- a spelled location is answered where there is room for as many bytes
 spelled_answered : (b : List ℕ) (room : ℕ) (r : Result Location ParseError) → IfOk r (Spells b) → IfErr r (RefusesIn b room) → length b ≤ room → (v : Location) → Spells b v → r ≡ Ok v
 spelled_answered b room (Ok w) found refused enough v spelled = ap Ok (spells_unique b w v found spelled)
 spelled_answered b room (Err unread.NoRoom) found (some, short) enough v spelled = absurd (omega (arith, short, enough))
 spelled_answered b room (Err (unread.Refused why)) found (none, flaw) enough v spelled = absurd (none v spelled)
 
--- a refusal of what is found, as reading into a room answers it
+-- a refusal of what is found, as reading into a buffer answers it
 abbrev pub refused_in : {A : Type 0} → Result A Refusal → Result Location ParseError
 refused_in (Ok found) = Err unread.NoRoom
 refused_in (Err refused) = Err (unread.Refused refused)
 
--- so such an answer is that of reading into a room
+-- so such an answer is that of reading into a buffer
 pub reads_in_by : (b : List ℕ) (room : ℕ) (r : Result Location ParseError) → IfOk r (Spells b) → IfErr r (RefusesIn b room) → (b ≡ [] → r ≡ Err (unread.Refused refusal.EmptyLocal)) → ReadsIn b room r
 reads_in_by b room r found refused empty = record { found = found; refused = refused; empty = empty; exact = λ enough v. (answer_spelled b r found v, spelled_answered b room r found refused enough v) }
 

@@ -98,7 +98,8 @@ path_longest v =
     let whole = length-append (root_part v) (matching_or v.spelling v.path written) in
     omega (arith, root, plain, matching, whole)
 
--- the text of a URL is at most as long as its scheme and its spelling, three times its other parts, and 14 bytes
+-- the text of a URL is at most as long as its scheme and its
+-- spelling, three times its other parts, and 14 bytes
 pub text_longest : (v : Location) → IfSome v.port (λ p. p < 65536)
     → length (canonical_text v) ≤ length (scheme_text v.scheme) + optional_length v.spelling + 3 * (optional_length v.user + optional_length v.password + optional_length v.host + length v.path) + 14
 text_longest v small =

@@ -77,7 +77,7 @@ kept_text set (b ∷ bs) none =
 
 -- ---- percents
 
--- a text is written as what stands before the first `%`, its escape, and what is written behind it
+-- a text is written as the text before the first `%`, its escape, and what is written behind it
 pub percents_cut : (t x y : List ℕ) → FreeOf percent_sign x → t ≡ x ++ percent_sign ∷ y → escaped_percents t ≡ x ++ 37 ∷ 50 ∷ 53 ∷ escaped_percents y
 percents_cut t x y free whole =
     ap escaped_percents whole ∙ escaped_percents-append x (percent_sign ∷ y) ∙ ap (λ z. z ++ escaped_percents (percent_sign ∷ y)) (escaped_percents_kept x free)
@@ -98,7 +98,7 @@ split_cuts c bs (Some x) h small =
 
 -- ---- texts that are put
 
--- a text of which one slice more was handed out
+-- a text of which one slice more was returned
 pub handed_on : (whole done rest chunk left : List ℕ) → whole ≡ done ++ rest → rest ≡ chunk ++ left → whole ≡ (done ++ chunk) ++ left
 handed_on whole done rest chunk left first second = first ∙ (ap (λ x. done ++ x) second ∙ sym (append_assoc done chunk left))
 
@@ -109,6 +109,6 @@ pub on_ok : {T E P Q : Type 0} (r : Result T E) → (P → Q) → OnOk r P → O
 on_ok (Ok x) follows h = follows h
 on_ok (Err e) follows h = tt
 
--- equal results tell the same fault
+-- equal results have the same fault
 pub same_fault : {A : Type 0} (r : Result A WriteFault) (f g : WriteFault) → Err f ≡ r → r ≡ Err g → f ≡ g
 same_fault r f g h k = let e : Err f ≡ Err g = h ∙ k in cc

@@ -29,7 +29,7 @@ no_form text room BadHost other h = h.2
 no_form text room BadPort other h = h.2
 no_form text room AboveRoot other h = h.2
 
--- or the room is too short
+-- or the buffer is too short
 pub too_short : (text : List ℕ) (room : ℕ) (e : NormalError) → e ≡ NoRoom → NormalizesIn true text room (Err e) → room < 3 * length text + 1
 too_short text room e same h = subst (λ x. NormalizesIn true text room (Err x)) same h
 

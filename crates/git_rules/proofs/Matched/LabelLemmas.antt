@@ -44,7 +44,7 @@ pub nothing_left : (rest : List ℕ) → MatchesHost [] rest → rest ≡ []
 nothing_left [] h = refl
 nothing_left (b ∷ bs) h = absurd (labels_some b bs (none_match (labels_of (b ∷ bs)) h))
 
--- what is left of a host behind a `.` is shorter
+-- the rest of a host behind a `.` is shorter
 pub shorter_behind : (host label rest : List ℕ) → host ≡ label ++ dot ∷ rest → length rest < length host
 shorter_behind host label rest whole = omega (arith, ap length whole, length-append label (dot ∷ rest))
 

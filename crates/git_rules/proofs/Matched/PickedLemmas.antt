@@ -1,4 +1,5 @@
--- What a pattern picks for the text of a location of the class goes to the pattern's own scheme, host and port.
+-- What a pattern picks for the text of a location of the class
+-- goes to the pattern's own scheme, host and port.
 use Rattle.std.proofs.Common.{◌≡◌, ℕ, ◌<◌, ◌⊎◌, inl, inr, List, [], length, refl, sym, ap, subst, ◌∙◌, arith, append_assoc, Bool, true, false, ◌==◌, ◌||◌, Option, Some, None, codes, unwrap_or, option_map, decimal, if◌then◌else◌, IfSome, ◌++◌, ◌∷◌}
 use Rattle.std.proofs.lemmas.Bool.{both_ways, cases_Bool, eqb-true}
 use Rattle.std.specs.Char.{is_ascii_digit, is_ascii_lowercase}

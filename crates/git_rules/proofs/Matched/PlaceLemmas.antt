@@ -1,4 +1,5 @@
--- The normal form of a text that a reader of URIs reads in the normal form has the same scheme, host and port.
+-- The normal form of a text that a reader of URIs reads in the
+-- normal form has the same scheme, host and port.
 use Rattle.std.proofs.Common.{◌≡◌, ℕ, ◌<◌, ◌⊎◌, inl, inr, List, [], ◌∷◌, ◌++◌, length, refl, sym, ap, subst, ◌∙◌, arith, append-nil, length-append, true, false, Option, codes, unwrap_or}
 use Rattle.std.specs.List.{list_all}
 use Rattle.std.specs.Char.{is_ascii_digit}

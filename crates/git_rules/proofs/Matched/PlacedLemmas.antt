@@ -1,4 +1,4 @@
--- The normal form of a text at the front of a room.
+-- The normal form of a text at the front of a buffer.
 use Rattle.std.proofs.Common.{◌≡◌, ℕ, ◌+◌, ◌≤◌, List, ◌++◌, length, take, drop, ap, subst, ◌∙◌, arith, false, nat_lt, inl, inr, Result, Ok, Err}
 use Rattle.std.proofs.lemmas.Bool.{cases_Bool, ltb-true}
 use Rattle.std.proofs.Math.Seq.{take-append_seam}
@@ -13,7 +13,7 @@ use Rattle.git_rules.specs.Normal.{NormalPlace}
 use Rattle.git_rules.specs.NormalFlaws.{NormalizesIn}
 use Rattle.git_rules.specs.Places.{FrontPlacesIn, PlacesIn}
 
--- what a text is refused for with the rest of the room
+-- what a text is refused for with the rest of the buffer
 front_refused : (t : List ℕ) (room rest : ℕ) (e : NormalError) → length t + rest ≡ room → NormalizesIn false t rest (Err e) → FrontPlacesIn t room (Err (Normal e))
 front_refused t room rest NoRoom whole h = omega (arith, h)
 front_refused t room rest NoUrl whole h = (omega (arith, h.0), h.1, h.2)
@@ -23,7 +23,7 @@ front_refused t room rest BadHost whole h = (omega (arith, h.0), h.1, h.2)
 front_refused t room rest BadPort whole h = (omega (arith, h.0), h.1, h.2)
 front_refused t room rest AboveRoot whole h = (omega (arith, h.0), h.1, h.2)
 
--- the same by the two parts of the room
+-- the same by the two parts of the buffer
 pub front_refused_by : (room front back : List ℕ) (len : ℕ) (e : NormalError) → front ≡ take len room → length front ≡ len → length back + len ≡ length room → NormalizesIn false front (length back) (Err e) → FrontPlacesIn (take len room) (length room) (Err (Normal e))
 front_refused_by room front back len e same long whole h =
     subst (λ t. FrontPlacesIn t (length room) (Err (Normal e))) same (front_refused front (length room) (length back) e (omega (arith, long, whole)) h)
@@ -42,7 +42,7 @@ front_text t old new fits placed =
           ap (take (length t)) filled ∙ take-append_seam t (drop (length t) old)
     ]
 
--- the text of a location, read at the front of a room
+-- the text of a location, read at the front of a buffer
 pub read_front : (t : Result (List ℕ) WriteFault) (len : ℕ) (old new : List ℕ) (r : Result NormalPlace PlaceError) → Ok len ≡ text_length t → Placed t old new → len ≤ length old → length new ≡ length old → FrontPlacesIn (take len new) (length new) r → PlacesIn t (length old) r
 read_front (Ok t) len old new r same placed fits size h =
     let long : len ≡ length t = cc in

@@ -19,7 +19,7 @@ use Rattle.git_rules.specs.NormalPieces.{ShowsStack, ShowsFront, CutsBefore}
 
 -- ---- no segment gets a `/`
 
--- a byte of an escape is no `/`
+-- a byte of an escape isn't `/`
 escape_no_slash : (b : ℕ) → IsEscapeByte b → (b == slash) ≡ false
 escape_no_slash b h = grind (arith, nat_tests)
 
@@ -102,15 +102,15 @@ top_cut path front back (top ∷ below) shows free e =
     let pieces = last_cut_unique slash front (stacked_path below) back top free shows.1.0 (sym e ∙ shows.0) in
     (below, refl, (ap (take (length front)) e ∙ take-append_seam front (slash ∷ back) ∙ pieces.0, shows.1.1))
 
--- ---- a segment in a room
+-- ---- a segment in a buffer
 
--- what is written between two places of a room
+-- what is written between two places of a buffer
 pub written_between : (room front form : List ℕ) (start end : ℕ) → take end room ≡ front ++ form → length front ≡ start → start ≤ end → end ≤ length room → take (end - start) (drop start room) ≡ form
 written_between room front form start end whole place order within =
     let sum : start + (end - start) ≡ end = omega (arith, order) in
     sym (drop-take start (end - start) room) ∙ ap (λ n. drop start (take n room)) sum ∙ ap (drop start) whole ∙ ap (λ n. drop n (front ++ form)) (sym place) ∙ drop-append_seam front form
 
--- the front of a room before what was written behind it
+-- the front of a buffer before what was written behind it
 pub front_kept : (room front form : List ℕ) (at end : ℕ) → take end room ≡ front ++ form → length front ≡ at → at ≤ end → take at room ≡ front
 front_kept room front form at end whole place order =
     sym (take-take at end room order) ∙ ap (take at) whole ∙ ap (λ n. take n (front ++ form)) (sym place) ∙ take-append_seam front form

@@ -11,7 +11,7 @@ use Rattle.git_syntax.proofs.Texts.EscapeLemmas.{sound_tail}
 use Rattle.git_rules.specs.Normal.{normal_byte, normal_text, escaped_byte}
 use Rattle.git_rules.specs.NormalPieces.{SplitsNormal}
 
--- a byte that is no `%` is written by itself
+-- a byte that isn't `%` is written by itself
 pub normal_kept : (b : ℕ) (rest : List ℕ) → (b == percent_sign) ≡ false → normal_text (b ∷ rest) ≡ normal_byte false b ++ normal_text rest
 unfolding normal_text
 normal_kept b [] other = sym (append-nil (normal_byte false b))
@@ -23,7 +23,7 @@ pub normal_escape : (high low : ℕ) (rest : List ℕ) → normal_text (percent_
 unfolding normal_text
 normal_escape high low rest = refl
 
--- a first byte that is no `%`
+-- a first byte that isn't `%`
 pub splits_kept : (text behind : List ℕ) (b : ℕ) → text ≡ b ∷ behind → (b == percent_sign) ≡ false → is_sound text ≡ true → SplitsNormal text b false behind
 splits_kept text behind b e other sound = record {
   joined = ap normal_text e ∙ normal_kept b behind other;

@@ -1,4 +1,4 @@
--- A text has one normal form at most, and none where it has a flaw.
+-- A text has at most one normal form, and none where it has a flaw.
 use Rattle.std.proofs.Common.{◌≡◌, ◌∙◌, ◌+◌, ◌*◌, ◌≤◌, ◌++◌, ℕ, Bool, true, false, List, [], length, refl, sym, ap, subst, arith, ◌⊎◌, inl, inr, ⊎_elim, Option, Some, None, Result, Ok, Err, MatchResult, codes}
 use Rattle.std.specs.Prelude.{if◌then◌else◌, option_map}
 use Rattle.std.specs.List.{list_all}
@@ -41,7 +41,7 @@ host_for_unique scheme text name port host other (HostFor.named l e) (HostFor.mi
 host_for_unique scheme text name port host other (HostFor.missing m f n d) (HostFor.named l e) = absurd (false≢true (sym l ∙ m))
 host_for_unique scheme text name port host other (HostFor.missing l g o e) (HostFor.missing m f n d) = e ∙ sym d
 
--- no digits are no number
+-- no digits aren't a number
 no_digits : (text : List ℕ) (port : ℕ) → text ≡ [] → Number http_hosts text port → ⊥
 no_digits text port e h = let none = ap length e in let some = h.digits.0 in omega (arith, none, some)
 
@@ -120,7 +120,7 @@ no_host_refused : (scheme text name port host : List ℕ) → lacks_host text �
 no_host_refused scheme text name port host lacks other (HostFor.named l e) = false≢true (sym l ∙ lacks)
 no_host_refused scheme text name port host lacks other (HostFor.missing m f n d) = other f
 
--- a text that is no port has none
+-- a text that isn't a port has none
 port_refused : (scheme text name port digits host : List ℕ) (p : Option ℕ) → port ≡ digits → IsNoPort port ⊎ ((lacks_host text ≡ true) × ¬ (port ≡ [])) → HostFor scheme text name digits host → PortFor scheme digits p → ⊥
 port_refused scheme text name port digits host p same (inl none) h (inl empty) = none.0 (same ∙ empty.0)
 port_refused scheme text name port digits host p same (inl none) h (inr number) = none.1 number.0 (subst (λ z. Number http_hosts z number.0) (sym same) number.1)
@@ -189,7 +189,7 @@ cut_refused globs text scheme authority behind e cut (inr flaw) n h =
     let same = url_cut_unique text scheme h.scheme authority h.authority behind h.behind cut h.cut in
     path_refused h.behind n.path e (subst (λ z. PathFlaw z e) same.2 flaw) h.path_form
 
--- a flaw of a part is neither that of the room nor that of the text
+-- a flaw of a part is neither that of the buffer nor that of the text
 room_no_flaw : (globs : Bool) (scheme text behind : List ℕ) → AuthorityFlaw globs scheme text NoRoom ⊎ PathFlaw behind NoRoom → ⊥
 room_no_flaw globs scheme text behind (inl (inl flaw)) = flaw.1
 room_no_flaw globs scheme text behind (inl (inr flaw)) = ⊎_elim (λ b. b) (λ b. b) flaw.4

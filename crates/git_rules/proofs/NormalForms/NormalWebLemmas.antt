@@ -1,4 +1,5 @@
--- The text of a location of HTTP in whose text all readers agree has the location's own place as its normal form.
+-- The text of a location of HTTP in whose text all readers agree
+-- has the location's own place as its normal form.
 use Rattle.std.proofs.Common.{◌≡◌, ◌≢◌, ◌∙◌, ◌<◌, ◌∷◌, ◌++◌, ℕ, Bool, true, false, ◌==◌, List, [], length, refl, sym, ap, subst, arith, ◌⊎◌, inl, inr, ⊎_elim, Option, Some, None, Result, Ok, Err, decimal}
 use Rattle.std.specs.Prelude.{IfSome}
 use Rattle.std.specs.List.{list_all}

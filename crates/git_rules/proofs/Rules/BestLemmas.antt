@@ -21,12 +21,12 @@ none_more : (text : List ℕ) (items : List Ranked) (x : Ranked) → NoItemAppli
 none_more text [] x h worse = (worse, tt)
 none_more text (y ∷ items) x h worse = (h.0, none_more text items x h.1 worse)
 
--- one more that is no better
+-- one more that isn't better
 better_more : (text : List ℕ) (b : Ranked) (items : List Ranked) (x : Ranked) → NoneBetter text b items → (Applies text (rule_of x) → IsNoBetter x b) → NoneBetter text b (items ++ x ∷ [])
 better_more text b [] x h worse = (worse, tt)
 better_more text b (y ∷ items) x h worse = (h.0, better_more text b items x h.1 worse)
 
--- what is no better than a rule is no better than a better one
+-- what isn't better than a rule isn't better than a better one
 no_better_than : (a b c : Ranked) → IsNoBetter a b → IsNoBetter b c → IsNoBetter a c
 no_better_than a b c (inl h) (inl k) = inl (omega arith)
 no_better_than a b c (inl h) (inr k) = inl (omega (arith, k.0))

@@ -26,7 +26,7 @@ rule_among b [] h = absurd h
 rule_among b (x ∷ items) (inl same) = inl (ap rule_of same)
 rule_among b (x ∷ items) (inr h) = inr (rule_among b items h)
 
--- a rule that an item is no better than is preferred to that item's
+-- a rule is preferred to that of an item that isn't better
 preferred : (rules : List Rule) (b x : Ranked) → HasRank rules b.base.now b.rank → HasRank rules x.base.now x.rank → IsNoBetter x b → IsPreferred rules (rule_of b) (rule_of x)
 preferred rules b x h k (inl shorter) = inl shorter
 preferred rules b x h k (inr (same, lower)) = inr (same, no_later rules b.base.now x.base.now b.rank x.rank h k lower)

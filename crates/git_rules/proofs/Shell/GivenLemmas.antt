@@ -89,7 +89,7 @@ path_accepted : (path : List ℕ) → 0 < length path → FreeOf 0 path → is_o
 path_accepted [] some free safe = absurd (omega (arith, some))
 path_accepted (b ∷ bs) some free safe = rw free (rw safe refl)
 
--- nor a destination that is no URL
+-- nor a destination that isn't a URL
 url_accepted : (user : Option (List ℕ)) (host : List ℕ) → ((rest : List ℕ) → ¬ (destination user host ≡ codes "ssh://" ++ rest)) → url_refusal user (Some host) ≡ None
 url_accepted None host never = rw (not_url host never) refl
 url_accepted (Some user) host never = rw (not_url user (λ rest e. never (rest ++ at_sign ∷ host) (ap (λ u. u ++ at_sign ∷ host) e))) refl

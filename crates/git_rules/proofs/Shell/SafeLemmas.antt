@@ -73,14 +73,14 @@ mark_before (m ∷ mark) (a ∷ user) host rest free e =
 url_found : (text rest : List ℕ) → text ≡ codes "ssh://" ++ rest → is_url_like text ≡ true
 url_found text rest e = subst (λ t. is_url_like t ≡ true) (sym e) refl
 
--- the destination is no URL
+-- the destination isn't a URL
 destination_no_url : (user : Option (List ℕ)) (host : List ℕ) → url_refusal user (Some host) ≡ None → (rest : List ℕ) → ¬ (destination user host ≡ codes "ssh://" ++ rest)
 destination_no_url None host h rest e = both_ways (is_url_like host) (test_false _ _ _ h).0 (url_found host rest e)
 destination_no_url (Some user) host h rest e =
     let (r, is) = mark_before (codes "ssh://") user host rest refl e in
     both_ways (is_url_like user) (test_false _ _ _ h).0 (url_found user r is)
 
--- it is no option
+-- it isn't an option
 destination_no_option : (user : Option (List ℕ)) (host : List ℕ) → user_refusal user ≡ None → IsGoodHost host → is_option_like (destination user host) ≡ false
 destination_no_option None host h good = good.no_option
 destination_no_option (Some []) host h good = refl
@@ -91,16 +91,17 @@ destination_cut : (user : Option (List ℕ)) (host : List ℕ) → user_refusal 
 destination_cut None host h good = UserCut.host_alone good.no_at refl refl
 destination_cut (Some user) host h good = UserCut.with_user user (good_user user h).some good.no_at refl refl
 
--- a path that is not refused is no option
+-- a path that is not refused isn't an option
 path_no_option : (path : List ℕ) → path_refusal path ≡ None → is_option_like path ≡ false
 path_no_option [] h = refl
 path_no_option (b ∷ bs) h = (test_false _ _ _ (test_false _ _ _ h).1).0
 
--- the digits of a port are no option
+-- the digits of a port aren't an option
 digits_no_option : (port : ℕ) → port < 65536 → is_option_like (decimal port) ≡ false
 digits_no_option port small = free_begins hyphen (decimal port) (free_of_all is_ascii_digit hyphen (decimal port) (decimal_digits port small).1 refl)
 
--- no word of the location is an option, Secure Shell cuts its word where it was joined, and a shell reads two words
+-- no word of the location is an option, Secure Shell cuts its word
+-- where it was joined, and a shell reads two words
 pub safe_command : (c : Command) → IsSafe c → IfSome c.port (λ p. p < 65536) → IsSafeCommand c
 safe_command c safe small =
     let all = both_none _ _ (none_from_test _ safe) in

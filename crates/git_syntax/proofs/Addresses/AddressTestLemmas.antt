@@ -253,7 +253,7 @@ pub ipv6_text_to : (t : List ℕ) → IsIpv6Text t → is_ipv6_text t ≡ true
 unfolding is_ipv6_text
 ipv6_text_to t h = grind (arith, nat_tests, short_to, or_left, or_right, items_to)
 
--- what is no IPv6 text fails
+-- what isn't an IPv6 text fails
 pub ipv6_text_fails : (t : List ℕ) → ¬ IsIpv6Text t → is_ipv6_text t ≡ false
 ipv6_text_fails t other = false_from_ne_true (is_ipv6_text t) (λ passes. other (ipv6_text_from t passes))
 

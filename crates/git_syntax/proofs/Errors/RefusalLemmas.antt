@@ -1,4 +1,4 @@
--- Refusals: bytes in which a flaw stands spell no location.
+-- Refusals: bytes that hold a flaw spell no location.
 use Rattle.std.proofs.Common.{◌≡◌, ℕ, ◌==◌, Bool, true, false, ◌⊎◌, inl, inr, List, [], ◌∷◌, ◌++◌, length, Option, Some, None, refl, sym, ap, subst, ◌∙◌, arith, length-append, IsUtf8, codes}
 use Rattle.std.proofs.lemmas.Bool.{both_ways}
 use Rattle.std.specs.List.{list_any}
@@ -31,7 +31,7 @@ use Rattle.git_syntax.proofs.Parsing.ScpFrontLemmas.{front_of_addressed}
 
 -- ---- authorities
 
--- user information with a part that is no text holds nothing
+-- user information with a part that isn't text holds nothing
 pub bad_user_refutes : (syntax : HostSyntax) (needed : Bool) (authority : List ℕ) (at len : ℕ) → HasBadUser authority at len → IsNoAuthority syntax needed authority
 bad_user_refutes syntax needed authority at len (HasBadUser.user u piece f g e bad a l) =
     no_text_before syntax needed authority u piece at len f e (HasNoText.user g bad a l)
@@ -99,7 +99,7 @@ scp_flaw_refutes b named at len v h k =
 
 -- ---- paths
 
--- a path that starts with nothing but a `/` is none, or a `/` and what follows
+-- a path that starts with only a `/` is none, or a `/` and what follows
 slash_or_none : (path : List ℕ) → StartsPath false path → (path ≡ []) ⊎ ((rest : List ℕ) × (path ≡ slash ∷ rest))
 slash_or_none path h = grind arith
 
@@ -146,7 +146,7 @@ no_path_spelled b k v (MissesPath.behind_address user address form) s =
 
 -- ---- all errors
 
--- bytes that are no text are no URL, and not of the scp form
+-- bytes that aren't text aren't a URL, and not of the scp form
 no_text_spelled : (b : List ℕ) (k : UrlKind) (v : Location) → ¬ IsUtf8 b → HasForm b k → ¬ Spells b v
 no_text_spelled b k v bad form s = grind arith
 
@@ -156,7 +156,7 @@ kind_flaw_refutes b kind.Url named at len v h = url_flaw_refutes b at len named 
 kind_flaw_refutes b kind.Scp named at len v h = scp_flaw_refutes b named at len v h
 kind_flaw_refutes b kind.Local named at len v h = absurd h
 
--- bytes in which a flaw stands spell no location
+-- bytes that hold a flaw spell no location
 pub flawed_unspelled : (b : List ℕ) (v : Location) → HasFlaw b → ¬ Spells b v
 flawed_unspelled b v (HasFlaw.empty e) = subst (λ t. ¬ Spells t v) (sym e) (empty_unspelled v)
 flawed_unspelled b v (HasFlaw.no_path k h) = no_path_spelled b k v h

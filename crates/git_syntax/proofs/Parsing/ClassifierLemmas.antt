@@ -1,4 +1,5 @@
--- The forms of a text: where its pieces are cut, that they are cut in one way, and that one form excludes the others.
+-- The forms of a text: where its pieces are cut, that they are cut in
+-- one way, and that one form excludes the others.
 use Rattle.std.proofs.Common.{◌≡◌, ℕ, ◌+◌, ◌<◌, true, false, ◌⊎◌, inl, inr, List, [], ◌∷◌, ◌++◌, length, take, drop, refl, sym, ap, subst, ◌∙◌, arith, append_assoc, length-append, ◌==◌, eq-eqb, IsUtf8, codes, bytes_eq}
 use Rattle.std.proofs.Math.Seq.{drop-append-add}
 use Rattle.std.proofs.lemmas.Bool.{eqb-true, both_ways, false≢true}
@@ -60,7 +61,7 @@ no_mark_at_colon b front rest cut other none (f, r, e) = elim (free_or_cut colon
 
 -- ---- the colon of the scp form
 
--- brackets around a part of the front stand around that part of the whole
+-- brackets around a part of the front are around that part of the whole
 pub bracketed_joined : (b front path inside after : List ℕ) → b ≡ front ++ colon ∷ path → front ≡ left_bracket ∷ (inside ++ right_bracket ∷ after) → b ≡ left_bracket ∷ (inside ++ right_bracket ∷ (after ++ colon ∷ path))
 bracketed_joined b front path inside after e f = grind (arith, nat_tests, append_assoc)
 
@@ -88,7 +89,7 @@ front_taken b inside behind rest path free none e f =
     let same : take place b ≡ front = ap (take place) joined ∙ take_at front (colon ∷ path) place (omega (arith, length-append inside (right_bracket ∷ rest))) in
     subst (λ x. FrontCut b x path) (sym same) record { joined = joined; form = bracketed inside rest free none refl }
 
--- no front where no colon stands behind the brackets
+-- no front where no colon follows the brackets
 no_front : (b inside behind front path : List ℕ) → FreeOf right_bracket inside → b ≡ left_bracket ∷ (inside ++ right_bracket ∷ behind) → FreeOf colon behind → b ≡ front ++ colon ∷ path → ScpFront b front → ⊥
 no_front b inside behind front path free e none k (plain _ h) = plain_apart b front path inside behind k h e
 no_front b inside behind front path free e none k (bracketed i a free' _ m) =
@@ -115,13 +116,13 @@ no_scp_uncut b none (f, p, k) = none (f, p, k.around)
 pub addressed_free : (b : List ℕ) → FreeOf colon b → ¬ HasAddressedCut b
 addressed_free b free h = grind (arith, nat_tests, free_parts, not_free)
 
--- the first colon of such a text stands in the address
+-- the first colon of such a text is in the address
 pub addressed_front : (b front rest u a p : List ℕ) → AddressedCut b u a p → FreeOf colon front → b ≡ front ++ colon ∷ rest → (x : List ℕ) × FreeOf at_sign x × (front ≡ u ++ at_sign ∷ (left_bracket ∷ x))
 addressed_front b front rest u a p h free e =
     let (x, y, none, two) = address_cut a h.addressed in
     (x, address_front_free at_sign a x y refl h.addressed two, (cut_unique colon front (u ++ at_sign ∷ (left_bracket ∷ x)) rest (y ++ right_bracket ∷ (colon ∷ p)) free (addressed_front_free u x h.no_colon none) (sym e ∙ h.joined ∙ addressed_joined u a p x y two)).0)
 
--- an `@` stands before it
+-- an `@` comes before it
 pub addressed_at : (b front rest : List ℕ) → FreeOf colon front → b ≡ front ++ colon ∷ rest → FreeOf at_sign front → ¬ HasAddressedCut b
 addressed_at b front rest free e none (u, a, p, h) =
     let (x, no_at, is) = addressed_front b front rest u a p h free e in
@@ -265,7 +266,7 @@ empty_unspelled v h = grind (arith, nat_tests, joined_nonempty)
 url_form_not_neither : (b front rest : List ℕ) → UrlForm b front rest → ¬ IsNeither b
 url_form_not_neither b front rest s n = n.no_mark (front, rest, s.joined)
 
--- the scheme of a URL stands before the first `://`
+-- the scheme of a URL is what comes before the first `://`
 pub url_pieces : (b front rest : List ℕ) (v : Location) → UrlForm b front rest → (h : SpellsUrl b v) → (h.parts.scheme ≡ front) × (h.spelled.authority ++ h.parts.path ≡ rest)
 url_pieces b front rest v s h =
     mark_cut_unique h.parts.scheme front (h.spelled.authority ++ h.parts.path) rest (held_free h.parts.scheme (scheme_text_free h.parts.scheme colon h.spelled.scheme_text refl)) s.first (sym h.spelled.joined ∙ s.joined)

@@ -12,7 +12,7 @@ use Rattle.git_syntax.proofs.Addresses.AddressLemmas.{is_address_byte, address_f
 
 -- ---- marks
 
--- what stands before `://` and holds no colon is determined, and so is what stands behind
+-- what is before `://` and holds no colon is determined, and so is what follows
 pub scheme_cut_unique : (s t x y : List ℕ) → FreeOf colon s → FreeOf colon t → s ++ (url_mark ++ x) ≡ t ++ (url_mark ++ y) → (s ≡ t) × (x ≡ y)
 scheme_cut_unique s t x y f g e = grind (arith, nat_tests, cut_unique)
 
@@ -33,11 +33,11 @@ address_cut t h = elim (free_or_cut colon t) [
   | inr found ↦ found
 ]
 
--- the text around its first colon, which stands in the address
+-- the text around its first colon, which is in the address
 pub addressed_joined : (user address path x y : List ℕ) → address ≡ x ++ colon ∷ y → user ++ at_sign ∷ (left_bracket ∷ (address ++ right_bracket ∷ (colon ∷ path))) ≡ (user ++ at_sign ∷ (left_bracket ∷ x)) ++ colon ∷ (y ++ right_bracket ∷ (colon ∷ path))
 addressed_joined user address path x y e = grind (arith, nat_tests, append_assoc)
 
--- what stands before that colon holds none
+-- the text before that colon holds none
 pub addressed_front_free : (user x : List ℕ) → FreeOf colon user → FreeOf colon x → FreeOf colon (user ++ at_sign ∷ (left_bracket ∷ x))
 addressed_front_free user x f g = free-append colon user (at_sign ∷ (left_bracket ∷ x)) f g
 
@@ -59,7 +59,7 @@ address_back_free c t x y other h e = (free_head_tail c colon y (address_pieces_
 pub url_scheme_free : {b : List ℕ} {v : Location} (h : SpellsUrl b v) → FreeOf colon h.parts.scheme
 url_scheme_free h = scheme_text_free h.parts.scheme colon h.spelled.scheme_text refl
 
--- a URL hasn't the scp form and is no local path
+-- a URL doesn't have the scp form and isn't a local path
 pub url_not_neither : {b : List ℕ} {v : Location} → SpellsUrl b v → IsNeither b → ⊥
 url_not_neither h k = k.no_mark (h.parts.scheme, h.spelled.authority ++ h.parts.path, h.spelled.joined)
 

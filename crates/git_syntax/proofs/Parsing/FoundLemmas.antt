@@ -20,7 +20,7 @@ use Rattle.git_syntax.proofs.Parsing.UrlLocationLemmas.{ssh_host_utf8, spelled_u
 abbrev pub EndsNot : ℕ → List ℕ → Type 0
 EndsNot c t = (front : List ℕ) → ¬ (t ≡ front ++ c ∷ [])
 
--- what is told of a front before a last c
+-- how a front before a last c is reported
 abbrev pub ReportsFront : ℕ → List ℕ → Option (List ℕ) → Type 0
 ReportsFront c t found = MatchOption found (EndsNot c t) (λ front. t ≡ front ++ c ∷ [])
 
@@ -45,7 +45,7 @@ front_of_more c b d bs None none = ends_not
     ends_not [] e = absurd cc
     ends_not (x ∷ front) e = none front (tails e)
 
--- the front before a last c is told as it is
+-- the front before a last c is reported as it is
 front_reported : (c : ℕ) (t : List ℕ) → ReportsFront c t (front_of c t)
 front_reported c [] = ends_not
   where
@@ -104,6 +104,6 @@ host_utf8 (helper_url name) named h = h
 pub means_location : (scheme : Scheme) (parts : UrlSyntax) → (requires_path scheme ≡ true → 0 < length parts.path) → MeansByScheme scheme parts (url_location scheme parts)
 means_location scheme parts pathed = grind (arith, nat_tests, peels)
 
--- a URL spells it, but for one of the helper `ext`
+-- a URL spells it, except one of the helper `ext`
 pub found_url : {b : List ℕ} {parts : UrlSyntax} → HasUrlSyntax b parts → ¬ (scheme_of parts.scheme ≡ ext) → (requires_path (scheme_of parts.scheme) ≡ true → 0 < length parts.path) → SpellsUrl b (url_location (scheme_of parts.scheme) parts)
 found_url {b} {parts} h other pathed = spelled_url h refl other (means_location (scheme_of parts.scheme) parts pathed)

@@ -1,4 +1,5 @@
--- Hosts and ports: what a piece of an authority looks like, that it names one host and one port at most, and none where a flaw stands.
+-- Hosts and ports: what a piece of an authority looks like, that it names at
+-- most one host and port, and none where it has a flaw.
 use Rattle.std.proofs.Common.{◌≡◌, ℕ, ◌+◌, ◌<◌, ◌≤◌, true, false, ◌==◌, ◌⊎◌, inl, inr, List, [], ◌∷◌, ◌++◌, length, take, drop, Option, Some, None, Err, ◌^◌, rules, refl, sym, ap, subst, ◌∙◌, arith, append_assoc, length-append}
 use Rattle.std.specs.List.{list_all}
 use Rattle.std.specs.Char.{is_ascii_digit, to_ascii_lowercase}
@@ -44,7 +45,7 @@ loose_not_bare e = cc
 
 -- ---- ports
 
--- a text of decimal digits, as std tells them
+-- a text of decimal digits, as std defines them
 digits_model : IsNumeralModel (λ ds. list_all is_ascii_digit ds ≡ true) (digits_value 10)
 digits_model = numerals_by_value (λ ds. list_all is_ascii_digit ds ≡ true) (search rules)
 
@@ -88,7 +89,7 @@ lowercase_address_before (b ∷ a) z h =
     let (other, more) = free_head_tail percent_sign b a h in
     cond-false (b == percent_sign) _ _ other ∙ ap (λ t. to_ascii_lowercase b ∷ t) (lowercase_address_before a z more)
 
--- the same by the length of what stands before the `%`
+-- the same by the length of the text before the `%`
 pub lowercase_address_cut : (t a z : List ℕ) → FreeOf percent_sign a → t ≡ a ++ percent_sign ∷ z → lowercase_address t ≡ lowercase (take (length a) t) ++ drop (length a) t
 lowercase_address_cut t a z free e =
     let front : take (length a) t ≡ a = ap (λ x. take (length a) x) e ∙ take-append_seam a (percent_sign ∷ z) in
@@ -132,7 +133,7 @@ host_text_unique other_hosts t m n h k = h.1 ∙ sym k.1
 follows_place : {syntax : HostSyntax} {base rest : List ℕ} {host : Option (List ℕ)} {port : Option ℕ} → Follows syntax base rest host port → IsPortPlace rest
 follows_place h = grind (arith, nat_tests, free_of_all)
 
--- what follows a host tells what is added to it, and the port
+-- what follows a host decides what is added to it, and the port
 follows_unique : {syntax : HostSyntax} {rest : List ℕ} (base other : List ℕ) (host second : Option (List ℕ)) (port last : Option ℕ) → base ≡ other → Follows syntax base rest host port → Follows syntax other rest second last → (host ≡ second) × (port ≡ last)
 follows_unique base other host second port last same h k = grind arith
 
@@ -163,7 +164,7 @@ many_some piece (inr (x, y, z, e)) none = absurd (omega (arith, length-append x 
 bracket_begins : (piece behind : List ℕ) → piece ≡ left_bracket ∷ behind → begins_with left_bracket piece ≡ true
 bracket_begins piece behind e = ap (begins_with left_bracket) e
 
--- behind the only colon of a text stands none
+-- no colon follows the only colon of a text
 behind_colon_free : (text digits x y : List ℕ) → FreeOf colon text → FreeOf colon digits → text ++ colon ∷ digits ≡ x ++ colon ∷ y → FreeOf colon y
 behind_colon_free [] digits [] y f g e = subst (λ t. FreeOf colon t) (tails e) g
 behind_colon_free [] digits (c ∷ x) y f g e = absurd (not_free colon x y (subst (λ t. FreeOf colon t) (tails e) g))
@@ -240,7 +241,7 @@ name_form (SpellsHostPort.colons named s r b m t is p) = Form.many (b, m) (ManyN
 
 -- and every shape has a name
 
--- the shape of a name tells the host and the port
+-- the form of a name decides the host and the port
 many_unique : (syntax : HostSyntax) (piece : List ℕ) (host second : Option (List ℕ)) → ManyNames syntax piece host → ManyNames syntax piece second → host ≡ second
 many_unique syntax piece host second h k = grind arith
 
@@ -283,7 +284,7 @@ names_unique syntax piece host second port last h k = form_unique syntax piece h
 
 -- ---- flaws
 
--- what stands in a port's place and is no port follows no host
+-- what is in a port's place and isn't a port follows no host
 no_port_follows : {syntax : HostSyntax} {base digits rest : List ℕ} {host : Option (List ℕ)} {port : Option ℕ} → IsNoPort syntax digits → rest ≡ colon ∷ digits → Follows syntax base rest host port → ⊥
 no_port_follows h e k = grind arith
 
@@ -333,7 +334,7 @@ named_whole syntax piece host port b (Form.many m n p) = n
 pub strict_not_bare : ¬ (http_hosts ≡ git_hosts)
 strict_not_bare e = cc
 
--- where no port stands in its place, nothing is named
+-- where no port is in its place, nothing is named
 bad_port_unnamed : (syntax : HostSyntax) (piece : List ℕ) (host : Option (List ℕ)) (port : Option ℕ) → (at len : ℕ) → HasBadPort syntax piece at len → Form syntax piece host port → ⊥
 bad_port_unnamed syntax piece host port at len (HasBadPort.plain front digits h free e none _ _) s =
     let place : IsPortPlace (colon ∷ digits) = inr (digits, free, refl) in
@@ -385,11 +386,11 @@ flawed_unnamed syntax piece fault.HostRequired at len h host port n = h
 
 -- ---- the places of flaws
 
--- a bad host stands within its piece
+-- a bad host is within its piece
 bad_host_within : (syntax : HostSyntax) (piece : List ℕ) (at len : ℕ) → HasBadHost syntax piece at len → at + len ≤ length piece
 bad_host_within syntax piece at len h = grind (arith, nat_tests, length-append)
 
--- the flaw of a piece stands within it
+-- the flaw of a piece is within it
 pub name_flaw_within : (syntax : HostSyntax) (piece : List ℕ) (named : UrlFault) (at len : ℕ) → HostPortFlaw syntax piece named at len → at + len ≤ length piece
 name_flaw_within syntax piece named at len h = grind (arith, nat_tests, bad_host_within, length-append)
 
@@ -470,11 +471,11 @@ colon_first piece (b ∷ front) rest none e = absurd (omega (arith, eqb-true (le
 pub colon_again : (piece front rest : List ℕ) → ¬ FreeOf colon rest → piece ≡ front ++ colon ∷ rest → IsManyColoned piece
 colon_again piece front rest held e = grind (arith, nat_tests, free_or_cut)
 
--- what stands before the first colon, if anything, is a host outside brackets
+-- the text before the first colon, if anything, is a host outside brackets
 pub plain_front : (piece front rest : List ℕ) → false ≡ (length front == 0) → FreeOf colon front → begins_with left_bracket piece ≡ false → piece ≡ front ++ rest → IsPlainHost front
 plain_front piece front rest some free none e = grind arith
 
--- a byte that is no digit spells no port
+-- a byte that isn't a digit spells no port
 pub not_digits : (syntax : HostSyntax) (digits : List ℕ) → false ≡ list_all is_ascii_digit digits → IsNoPort syntax digits
 not_digits syntax [] e = absurd (false≢true e)
 not_digits syntax (b ∷ digits) e = (omega arith, λ port n. both_ways _ (sym e) n.digits.1)
@@ -494,7 +495,7 @@ plain_name syntax piece front rest named host port h e t (Follows.nothing f is p
 plain_name syntax piece front rest named host port h e t (Follows.lone_colon f is p) = SpellsHostPort.plain_colon front named h t (e ∙ ap (λ x. front ++ x) f) is p
 plain_name syntax piece front rest named host port h e t (Follows.number d n k f is p) = SpellsHostPort.plain_port front named d n h t k (e ∙ ap (λ x. front ++ x) f) is p
 
--- what is no end of a host isn't empty, and begins with another byte than a colon
+-- what isn't an end of a host isn't empty, and begins with another byte than a colon
 no_end_begins : (rest : List ℕ) → ¬ EndsHost rest → (0 < length rest) × (begins_with colon rest ≡ false)
 no_end_begins rest h = grind arith
 
@@ -560,7 +561,7 @@ literal_normal_utf8 t n (zoned a z h zone is e) =
     subst IsUtf8 (sym e) (IsUtf8-append (lowercase a) (percent_sign ∷ (50 ∷ (53 ∷ z))) (address_utf8 (lowercase a) (address-lowercase a h))
     (utf8_cons percent_sign _ (omega arith) (utf8_cons 50 _ (omega arith) (utf8_cons 53 z (omega arith) text))))
 
--- what stands between brackets is text
+-- the text between brackets is text
 inner_utf8 : (syntax : HostSyntax) (t n : List ℕ) → Inner syntax t n → IsUtf8 n
 inner_utf8 http_hosts t n h = literal_normal_utf8 t n h
 inner_utf8 git_hosts t n (spec.Bracketed.literal x h e u) = u

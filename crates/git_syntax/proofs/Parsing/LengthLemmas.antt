@@ -26,7 +26,7 @@ white_left_out b bs white = rw white refl
 pub other_left_in : (b : ℕ) (bs : List ℕ) → is_ascii_whitespace b ≡ false → without_white_space (b ∷ bs) ≡ b ∷ without_white_space bs
 other_left_in b bs other = rw other refl
 
--- a text is no shorter than what is left of it without white space
+-- a text is no shorter than the rest of it without white space
 pub without_shorter : (text : List ℕ) → length (without_white_space text) ≤ length text
 without_shorter text =
     let both = length-filter_both (λ b. not (is_ascii_whitespace b)) (λ b. not (not (is_ascii_whitespace b))) (λ b. refl) text in
@@ -99,7 +99,7 @@ none_left web left bs none = ap (λ n. is_in_time web (Front n) bs) none
 pub starts_in_time : (web : Bool) (left : ℕ) (path y : List ℕ) → 0 < left → StartsPath web path → (length path == 0) ≡ false → is_in_time web (Front left) (path ++ y) ≡ true
 starts_in_time web left path y some starts there = grind arith
 
--- where no path starts in the window, what stands behind it is left
+-- where no path starts in the window, the text behind it is left
 pub window_behind : (web : Bool) (left : ℕ) (path y : List ℕ) → (length path == 0) ≡ true → is_in_time web (Front left) y ≡ is_in_time web (Front left) (path ++ y)
 window_behind web left [] y there = refl
 window_behind web left (b ∷ path) y there = let none = eqb-true (length (b ∷ path)) 0 there in absurd (omega (arith, none))
@@ -108,9 +108,9 @@ window_behind web left (b ∷ path) y there = let none = eqb-true (length (b ∷
 pub drop_joined : (n : ℕ) (x y : List ℕ) → length x ≤ n → drop n (x ++ y) ≡ drop (n - length x) y
 drop_joined n x y short = grind (arith, nat_tests, drop-append-add)
 
--- ---- the parts that the test tells apart
+-- ---- the parts that the test distinguishes
 
--- a text without white space: slashes, a front, and what stands behind it
+-- a text without white space: slashes, a front, and the text behind it
 record Parts (web : Bool) (text : List ℕ) : Type 0 where
   slashes : List ℕ
   front : List ℕ
@@ -211,6 +211,6 @@ long_tested web rest long = ap (λ b. b || is_in_time web Slashes rest) (lt-leb 
 pub fits_from_text : (scheme rest t : List ℕ) → FreeOf colon scheme → t ≡ scheme ++ (codes "://" ++ rest) → FitsText t → Fits scheme rest
 fits_from_text scheme rest t free joined text = grind (arith, nat_tests, cut_unique)
 
--- a text with a scheme is short enough where the scheme and what stands behind its mark are
+-- a text with a scheme is short enough where the scheme and the text behind its mark are
 pub fits_text : (scheme rest t : List ℕ) → FreeOf colon scheme → t ≡ scheme ++ (codes "://" ++ rest) → Fits scheme (drop (length scheme + 3) t) ↔ FitsText t
 fits_text scheme rest t free joined = grind (arith, nat_tests, fits_from_text, drop-append-add)

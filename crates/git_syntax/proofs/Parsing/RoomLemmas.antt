@@ -1,4 +1,5 @@
--- How much room what is found takes: no part of a location is longer than the piece of the text that it was read of.
+-- How much room what is found takes: no part of a location is longer
+-- than the piece of the text that it was read of.
 use Rattle.std.proofs.Common.{◌≡◌, ℕ, suc, ◌+◌, ◌<◌, ◌≤◌, true, ◌==◌, List, [], ◌∷◌, ◌++◌, length, take, Option, refl, ap, ◌∙◌, arith, length-append}
 use Rattle.std.proofs.lemmas.Bool.Decides.{nat_tests}
 use Rattle.std.specs.Prelude.{codes}
@@ -56,7 +57,7 @@ normal_host_kept t h = cond_both (list_all is_dns_byte t) (lowercase t) t (λ n.
 pub normal_case_length : (piece : HostPiece) (t : List ℕ) → length (normal_case piece t) ≡ length t
 normal_case_length piece t = grind (arith, nat_tests, lowercase_length, lowercase_address_length, normal_host_length)
 
--- the length of a text between brackets, and of what stands behind them
+-- the length of a text between brackets, and of the text behind them
 brackets_length : (inner rest : List ℕ) → length (left_bracket ∷ (inner ++ right_bracket ∷ rest)) ≡ length inner + 2 + length rest
 brackets_length inner rest = omega (arith, length-append inner (right_bracket ∷ rest))
 
@@ -68,7 +69,7 @@ bracketed_host piece h = grind arith
 pub bracketed_host_length : (piece : HostPiece) → is_bracketed piece ≡ true → length (meant_host piece) ≡ length (unescaped_host piece) + 2
 bracketed_host_length piece h = grind (arith, nat_tests, normal_case_length, bracketed_host, length-append)
 
--- a bracket, a text behind it and the bracket that closes, in the front of a room
+-- a bracket, a text behind it and the bracket that closes, in the front of a buffer
 pub brackets_put : (front behind shown : List ℕ) (size : ℕ) → length front ≡ 1 → size < length behind → take size behind ≡ shown → take (size + 2) (set front 0 left_bracket ++ set behind size right_bracket) ≡ in_brackets shown
 brackets_put [] behind shown size one within e = absurd (omega (arith, one))
 brackets_put (b ∷ d ∷ front) behind shown size one within e = absurd (omega (arith, one))

@@ -1,5 +1,5 @@
--- Texts in the scp form: one user and one host in a front, one user and one address in the form `user@[address]:path`,
--- and which fronts such a text has.
+-- Texts in the scp form: one user and one host in a front, one user and one address in the form
+-- `user@[address]:path`, and which fronts such a text has.
 use Rattle.std.proofs.Common.{◌≡◌, ℕ, ◌==◌, ◌⊎◌, inl, inr, false, List, [], ◌∷◌, ◌++◌, Option, Some, None, sym, ap, subst, ◌∙◌, refl, append_assoc, arith}
 use Rattle.std.proofs.lemmas.Bool.Decides.{nat_tests}
 use Rattle.std.proofs.lemmas.Bool.{false≢true}

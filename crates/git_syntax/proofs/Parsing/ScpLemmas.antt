@@ -33,7 +33,7 @@ use Rattle.git_syntax.proofs.Parsing.ScpFrontLemmas.{scp_user_unique, addressed_
 
 -- ---- the colons of the front
 
--- around two different bytes: one stands behind the other
+-- around two different bytes: one follows the other
 pub either_behind : (c d : ℕ) (a x y n : List ℕ) → (c == d) ≡ false → a ++ c ∷ x ≡ y ++ d ∷ n → ((z : List ℕ) × (x ≡ z ++ d ∷ n) × (y ≡ a ++ c ∷ z)) ⊎ ((z : List ℕ) × (n ≡ z ++ c ∷ x))
 either_behind c d [] x [] n h e = absurd (both_ways (c == d) h (eq-eqb c d (heads e)))
 either_behind c d [] x (b ∷ y) n h e = inl (y, tails e, ap (λ t. t ∷ y) (sym (heads e)))
@@ -43,7 +43,7 @@ either_behind c d (b ∷ a) x (k ∷ y) n h e = elim (either_behind c d a x y n 
   | inr found ↦ inr found
 ]
 
--- the colons of a front stand inside brackets
+-- the colons of a front are inside brackets
 pub colons_inside_front : (b front : List ℕ) → ScpFront b front → ColonsInside front
 colons_inside_front b front (plain free h) = inl free
 colons_inside_front b front (bracketed inside after h free e) = inr (left_bracket ∷ inside, after, h, free, e)
@@ -171,7 +171,7 @@ colon_enclosed host front behind e (inr (inside, rest, closed, free, k)) =
       | inr (z, is) ↦ absurd (not_free colon z behind (subst (λ t. FreeOf colon t) is free))
     ]
 
--- so the host is no address without brackets
+-- so the host isn't an address without brackets
 no_address : (host front behind : List ℕ) → host ≡ front ++ colon ∷ behind → ColonsInside host → ¬ ReadsAddress git_hosts (escaped_percents host)
 no_address host front behind e colons (_, address) =
     let (z, rest, is) = colon_enclosed host front behind e colons in
@@ -204,11 +204,11 @@ colons_found host front behind open_front text colons e many = record {
               inr (escaped_percents front, escaped_percents y, escaped_percents z, escaped ∙ ap (λ t. escaped_percents front ++ colon ∷ t) (ap escaped_percents k ∙ escaped_percents-append y (colon ∷ z)))
         ]
 
--- a flaw of a host where each `%` is read as its own escape, told of the host as it stands
+-- a flaw of a host where each `%` is read as its own escape, for the host as it is
 escaped_flaw : (host before here behind : List ℕ) (named : UrlFault) (at len start size : ℕ) → host ≡ before ++ (here ++ behind) → HostPortFlaw git_hosts (escaped_percents host) named start size → start ≡ length (escaped_percents before) → size ≡ length (escaped_percents here) → at ≡ length before → len ≡ length here → ScpNameFlaw host at len named
 escaped_flaw host before here behind named at len start size e h first second offset reported = grind arith
 
--- what stands in a port's place behind one colon is no port
+-- what is in a port's place behind one colon isn't a port
 pub no_port_found : (host front behind : List ℕ) → begins_with left_bracket host ≡ false → ColonsInside host → FreeOf colon front → host ≡ front ++ colon ∷ behind → false ≡ (length front == 0) → FreeOf colon behind → ScpNameFlaw host (length front + 1) (length behind) fault.BadPort
 no_port_found host front behind open_front colons first e some last =
     escaped_flaw host (front ++ colon ∷ []) behind [] fault.BadPort (length front + 1) (length behind) (length (escaped_percents front) + 1) (length (escaped_percents behind))
@@ -338,7 +338,7 @@ pub scp_host_read : (host : List ℕ) (r : Result rust.ScpHost Fault) → FreeOf
 scp_host_read host (Ok found) at back white h = scp_host_found host (escaped_percents host) (scp_host_of found) at back white refl h
 scp_host_read host (Err fault) at back white h = ScpHostFlaw.bad_name fault.kind h
 
--- the flaw of a host stands within it
+-- the flaw of a host is within it
 pub scp_host_flaw_within : (host : List ℕ) (at len : ℕ) (named : UrlFault) → ScpHostFlaw host at len named → at + len ≤ length host
 scp_host_flaw_within host at len named h = grind (arith, nat_tests, length-append, stands_within, white_within)
 
@@ -361,7 +361,7 @@ simple_byte_ascii b h = grind (arith, nat_tests)
 simple_byte_no_space : (b : ℕ) → is_simple_byte b ≡ true → is_whitespace b ≡ false
 simple_byte_no_space b h = grind (arith, nat_tests)
 
--- a simple host is no text in brackets
+-- a simple host isn't a text in brackets
 simple_unbracketed : (t : List ℕ) → IsSimpleHost t → ¬ IsBracketed t
 simple_unbracketed t h k = grind arith
 

@@ -76,7 +76,7 @@ authority_alone syntax text user password host port free (host_alone f h u p) = 
 authority_alone syntax text user password host port free (with_user information piece f e i h s) =
     absurd (not_free at_sign information piece (subst (λ x. FreeOf at_sign x) e free))
 
--- what stands around the last `@` of an authority is user information, and a host and a port
+-- the text around the last `@` of an authority is user information, and a host and a port
 pub authority_cut : (syntax : HostSyntax) (text information piece : List ℕ) (user password host : Option (List ℕ)) (port : Option ℕ) → FreeOf at_sign piece → text ≡ information ++ at_sign ∷ piece → Authority syntax text user password host port → Credentials information user password × SpellsHostPort syntax piece host port × IsSome host
 authority_cut syntax text information piece user password host port free joined (host_alone f h u p) =
     absurd (not_free at_sign information piece (subst (λ x. FreeOf at_sign x) joined f))
@@ -84,33 +84,33 @@ authority_cut syntax text information piece user password host port free joined 
     let pieces = last_cut_unique at_sign i information p piece f free (sym e ∙ joined) in
     (subst (λ x. Credentials x user password) pieces.0 c, subst (λ x. SpellsHostPort syntax x host port) pieces.1 h, s)
 
--- no authority stands where its piece without user information names nothing
+-- there is no authority where its piece without user information names nothing
 pub no_name_alone : (syntax : HostSyntax) (needed : Bool) (text : List ℕ) → FreeOf at_sign text → ((host : Option (List ℕ)) (port : Option ℕ) → ¬ SpellsHostPort syntax text host port) → IsNoAuthority syntax needed text
 no_name_alone syntax needed text free none user password host port h =
     none host port (authority_alone syntax text user password host port free h.named)
 
--- no authority stands where the piece behind the user information names nothing
+-- there is no authority where the piece behind the user information names nothing
 pub no_name_behind : (syntax : HostSyntax) (needed : Bool) (text information piece : List ℕ) → FreeOf at_sign piece → text ≡ information ++ at_sign ∷ piece → ((host : Option (List ℕ)) (port : Option ℕ) → ¬ SpellsHostPort syntax piece host port) → IsNoAuthority syntax needed text
 no_name_behind syntax needed text information piece free joined none user password host port h =
     none host port (authority_cut syntax text information piece user password host port free joined h.named).1
 
--- no authority stands where the user information holds what is no text
+-- there is no authority where the user information holds what isn't text
 pub no_text_before : (syntax : HostSyntax) (needed : Bool) (text information piece : List ℕ) (at len : ℕ) → FreeOf at_sign piece → text ≡ information ++ at_sign ∷ piece → HasNoText information at len → IsNoAuthority syntax needed text
 no_text_before syntax needed text information piece at len free joined bad user password host port h =
     no_text_refutes information at len user password bad (authority_cut syntax text information piece user password host port free joined h.named).0
 
--- no authority stands where nothing follows the user information
+-- there is no authority where nothing follows the user information
 pub no_host_behind : (syntax : HostSyntax) (needed : Bool) (text information piece : List ℕ) → FreeOf at_sign piece → text ≡ information ++ at_sign ∷ piece → piece ≡ [] → IsNoAuthority syntax needed text
 no_host_behind syntax needed text information piece free joined empty user password host port h =
     let pieces = authority_cut syntax text information piece user password host port free joined h.named in
     none_not_some host (empty_names_nothing syntax piece host port empty pieces.1) pieces.2
 
--- no authority stands where a host is needed and there is nothing
+-- there is no authority where a host is needed and there is nothing
 pub no_host_alone : (syntax : HostSyntax) (needed : Bool) (text : List ℕ) → needed ≡ true → FreeOf at_sign text → text ≡ [] → IsNoAuthority syntax needed text
 no_host_alone syntax needed text need free empty user password host port h =
     none_not_some host (empty_names_nothing syntax text host port empty (authority_alone syntax text user password host port free h.named)) (h.hosted need)
 
--- user information that holds what is no text is a flaw of its authority
+-- user information that holds what isn't text is a flaw of its authority
 pub bad_user_flaw : (syntax : HostSyntax) (needed : Bool) (text information piece : List ℕ) (at len : ℕ) → FreeOf at_sign piece → text ≡ information ++ at_sign ∷ piece → HasNoText information at len → AuthorityFlaw syntax needed text at len fault.BadCharacter
 bad_user_flaw syntax needed text information piece at len free joined (HasNoText.user f bad a l) =
     AuthorityFlaw.bad_user (HasBadUser.user information piece free f joined bad a l)
@@ -121,7 +121,7 @@ bad_user_flaw syntax needed text information piece at len free joined (HasNoText
 
 -- ---- the places of flaws
 
--- a user or a password stands within its authority
+-- a user or a password is within its authority
 bad_user_within : (authority : List ℕ) (at len : ℕ) → HasBadUser authority at len → at + len ≤ length authority
 bad_user_within authority at len h = grind (arith, nat_tests, length-append)
 
@@ -129,7 +129,7 @@ bad_user_within authority at len h = grind (arith, nat_tests, length-append)
 piece_start : (authority piece : List ℕ) (start : ℕ) → PieceOf authority piece start → start + length piece ≡ length authority
 piece_start authority piece start h = grind (arith, nat_tests, length-append)
 
--- the flaw of an authority stands within it
+-- the flaw of an authority is within it
 pub authority_flaw_within : (syntax : HostSyntax) (needed : Bool) (authority : List ℕ) (at len : ℕ) (named : UrlFault) → AuthorityFlaw syntax needed authority at len named → at + len ≤ length authority
 authority_flaw_within syntax needed authority at len named (AuthorityFlaw.holds_backslash h l) = omega (arith, l, h.offset, ap length h.joined, length-append h.before (backslash ∷ h.behind))
 authority_flaw_within syntax needed authority at len named (AuthorityFlaw.bad_user h) = bad_user_within authority at len h
@@ -146,7 +146,7 @@ path_end b scheme authority path e = grind (arith, nat_tests, length-append)
 pub shown_mark : (b scheme rest : List ℕ) → b ≡ scheme ++ (codes "://" ++ rest) → length scheme + 3 ≤ length (take (length scheme + 1027) b)
 shown_mark b scheme rest e = omega (arith, length-take (length scheme + 1027) b, ap length e, length-append scheme (codes "://" ++ rest))
 
--- the scheme of a URL is too long, or what is shown behind `://` is told
+-- the scheme of a URL is too long, or what is shown behind `://` is reported
 pub too_long_placed : (b scheme rest : List ℕ) → b ≡ scheme ++ (codes "://" ++ rest) → (at : ℕ) × (len : ℕ) × TooLongAt scheme (take (length scheme + 1027) b) at len
 too_long_placed b scheme rest e =
     elim (cases_lt 1024 (length scheme)) [
@@ -160,7 +160,7 @@ too_long_placed b scheme rest e =
 pub scheme_no_mark : (s : List ℕ) → is_scheme_text s ≡ true → ¬ Holds url_mark s
 scheme_no_mark s h = held_free s (scheme_text_free s colon h refl)
 
--- the scheme of a URL is what stands before its first `://`
+-- the scheme of a URL is the text before its first `://`
 pub scheme_cut : (b front rest : List ℕ) (parts : UrlSyntax) → OtherUrlForm b front rest → (h : HasUrlSyntax b parts) → (parts.scheme ≡ front) × (h.authority ++ parts.path ≡ rest)
 scheme_cut b front rest parts form h = grind (arith, nat_tests, scheme_no_mark, mark_cut_unique)
 
@@ -185,22 +185,22 @@ url_cut form named cut = grind arith
 pub spelled : {b scheme authority path : List ℕ} {user password host : Option (List ℕ)} {port : Option ℕ} → UrlCut b scheme authority path → IsUtf8 b → LacksWhiteSpace b → true ≡ is_sound b → FreeOf backslash authority → Fits scheme (authority ++ path) → HoldsHosted (host_syntax_of scheme) (requires_host scheme) authority user password host port → IsUtf8 (percent_decode path) → HasUrlSyntax b (record { scheme = scheme; user = user; password = password; host = host; port = port; path = path })
 spelled cut text no_white_space sound no_backslash fits held path_text = grind arith
 
--- no URL stands where what is before `://` is no scheme
+-- there is no URL where what is before `://` isn't a scheme
 pub no_scheme_refutes : (b front rest : List ℕ) (parts : UrlSyntax) → OtherUrlForm b front rest → is_scheme_text front ≡ false → ¬ HasUrlSyntax b parts
 no_scheme_refutes b front rest parts form bad h =
     both_ways (is_scheme_text front) bad (ap is_scheme_text (sym (scheme_cut b front rest parts form h).0) ∙ h.scheme_text)
 
--- no URL stands where its path decodes to no text
+-- there is no URL where its path decodes to no text
 pub bad_path_refutes : (b scheme authority path : List ℕ) (parts : UrlSyntax) → UrlCut b scheme authority path → ¬ IsUtf8 (percent_decode path) → ¬ HasUrlSyntax b parts
 bad_path_refutes b scheme authority path parts cut bad h =
     bad (subst (λ p. IsUtf8 (percent_decode p)) (parts_cut b scheme authority path parts cut h).2 h.path_text)
 
--- no URL stands where its authority holds a backslash
+-- there is no URL where its authority holds a backslash
 pub backslash_refutes : (b scheme authority path : List ℕ) (parts : UrlSyntax) → UrlCut b scheme authority path → ¬ FreeOf backslash authority → ¬ HasUrlSyntax b parts
 backslash_refutes b scheme authority path parts cut bad h =
     bad (subst (λ a. FreeOf backslash a) (parts_cut b scheme authority path parts cut h).1 h.no_backslash)
 
--- no URL stands where its authority is none
+-- there is no URL where its authority is none
 pub no_authority_refutes : (b scheme authority path : List ℕ) (parts : UrlSyntax) → UrlCut b scheme authority path → IsNoAuthority (host_syntax_of scheme) (requires_host scheme) authority → ¬ HasUrlSyntax b parts
 no_authority_refutes b scheme authority path parts cut none h =
     let pieces = parts_cut b scheme authority path parts cut h in

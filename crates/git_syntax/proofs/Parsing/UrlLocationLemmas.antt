@@ -36,7 +36,7 @@ path_meant path some = grind (arith, nat_tests, decode_empty)
 
 -- ---- hosts
 
--- text behind an opening bracket, without a last colon and then without a last bracket, stands in brackets
+-- text behind an opening bracket, without a last colon and then without a last bracket, is in brackets
 pub inside_brackets : (host behind closed : List ℕ) (found : Option (Bor (List ℕ))) → host ≡ left_bracket ∷ behind → DropsLast colon behind closed → StripsLast right_bracket closed found → MatchOption found ((inside : List ℕ) → ¬ InBrackets host inside) (λ inside. InBrackets host inside.now)
 inside_brackets host behind closed None e (DropsLast.dropped d) none =
     λ inside brackets. elim brackets [

@@ -38,7 +38,7 @@ printable_parts x y printable = and_parts _ _ (sym (list_all-append is_printable
 
 -- ---- the first `%`
 
--- a text is sound where its first `%` has two digits behind it and what stands behind the `%` is sound
+-- a text is sound where its first `%` has two digits behind it and the text behind the `%` is sound
 pub sound_at_cut : (front behind : List ℕ) → FreeOf percent_sign front → is_sound (front ++ percent_sign ∷ behind) ≡ (begins_with_digits behind && is_sound behind)
 sound_at_cut [] behind free = sound_step percent_sign behind
 sound_at_cut (b ∷ front) behind free =

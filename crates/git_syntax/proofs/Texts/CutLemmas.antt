@@ -1,4 +1,5 @@
--- Texts cut around a byte or a mark: what the pieces lack, that the text determines them, and what classes of bytes lack.
+-- Texts cut around a byte or a mark: what the pieces lack, that the
+-- text determines them, and what classes of bytes lack.
 use Rattle.std.proofs.Common.{◌≡◌, ℕ, zero, suc, ◌+◌, ◌<◌, ◌≤◌, Bool, true, false, ◌==◌, ◌⊎◌, inl, inr, List, [], ◌∷◌, ◌++◌, length, take, drop, get_or, refl, sym, ap, subst, ◌∙◌, arith, append_assoc, add-one, eqb, Some, None, bytes_eq}
 use Rattle.std.proofs.lemmas.Bool.Decides.{nat_tests}
 use Rattle.std.specs.List.{list_any, list_all, position_or_len}
@@ -113,7 +114,7 @@ free_of_all test c bs h k = grind (arith, nat_tests, lacks_of_all, both_ways, eq
 pub free_of_lacked : (test : ℕ → Bool) (c : ℕ) (bs : List ℕ) → Lacks test bs → test c ≡ true → FreeOf c bs
 free_of_lacked test c bs h k = lacks_weaker (λ b. b == c) test (λ b e. ap test (eqb-true b c e) ∙ k) bs h
 
--- a text is free of a byte, or is what stands before the first such byte, the byte, and what stands behind it
+-- a text is free of a byte, or is the text before the first such byte, the byte, and the text behind it
 pub free_or_cut : (c : ℕ) (bs : List ℕ) → FreeOf c bs ⊎ ((x : List ℕ) × (y : List ℕ) × FreeOf c x × (bs ≡ x ++ c ∷ y))
 free_or_cut c [] = inl refl
 free_or_cut c (b ∷ bs) =
@@ -161,7 +162,7 @@ not_free c x y h = grind (arith, nat_tests, free_parts, free_head_tail, both_way
 
 -- ---- cuts at a byte
 
--- a text is what stands before a byte, the byte, and what stands behind it
+-- a text is the text before a byte, the byte, and the text behind it
 joined_around : (c : ℕ) (bs : List ℕ) (n : ℕ) → n < length bs → (get_or bs n 0 == c) ≡ true → bs ≡ take n bs ++ c ∷ drop (n + 1) bs
 joined_around c [] n l h = absurd (omega arith)
 joined_around c (b ∷ bs) zero l h = ap (λ d. d ∷ bs) (eqb-true b c h)
@@ -172,7 +173,7 @@ joined_around c (b ∷ bs) (suc n) l h =
 pub first_found : (c : ℕ) (bs : List ℕ) (n : ℕ) → IsFirstByte (is_byte c) bs (Some n) → FreeOf c (take n bs) × (bs ≡ take n bs ++ c ∷ drop (n + 1) bs)
 first_found c bs n h = grind (arith, nat_tests, lacks_before, joined_around)
 
--- a byte that has no first place stands nowhere
+-- a byte that has no first place isn't in the text
 pub none_found : (c : ℕ) (bs : List ℕ) → IsFirstByte (is_byte c) bs None → FreeOf c bs
 none_found c bs h = lacks_after (is_byte c) bs 0 (λ k l m. h k l m)
 
@@ -180,13 +181,13 @@ none_found c bs h = lacks_after (is_byte c) bs 0 (λ k l m. h k l m)
 pub last_found : (c : ℕ) (bs : List ℕ) (n : ℕ) → IsLastByte (is_byte c) bs (Some n) → FreeOf c (drop (n + 1) bs) × (bs ≡ take n bs ++ c ∷ drop (n + 1) bs)
 last_found c bs n h = (lacks_after (is_byte c) bs (n + 1) h.0.after, joined_around c bs n h.0.high h.1)
 
--- a byte that has no last place stands nowhere
+-- a byte that has no last place isn't in the text
 pub none_last : (c : ℕ) (bs : List ℕ) → IsLastByte (is_byte c) bs None → FreeOf c bs
 none_last c bs h = lacks_after (is_byte c) bs 0 (λ k l m. h k l m)
 
 -- ---- cuts at a mark
 
--- a mark that stands at a place cuts the text there
+-- a mark at a place cuts the text there
 pub occurs_cut : (hay needle : List ℕ) (k : ℕ) → OccursAt hay needle k → hay ≡ take k hay ++ (needle ++ drop (k + length needle) hay)
 occurs_cut hay needle k h =
     let fits : k + length needle ≤ length hay = h.fits in
@@ -197,18 +198,18 @@ occurs_cut hay needle k h =
     let back : needle ++ drop (k + length needle) hay ≡ drop k hay = cc (take-append-drop (length needle) (drop k hay)) in
     cc (take-append-drop k hay)
 
--- a mark within joined pieces stands at the place where the first piece ends
+-- a mark within joined pieces is at the place where the first piece ends
 pub cut_occurs : (front needle rest : List ℕ) → OccursAt (front ++ (needle ++ rest)) needle (length front)
 cut_occurs front needle rest = grind (arith, nat_tests, get_or-append-add, get_or_append_left, length-append)
 
--- a mark that stands at no place before k isn't in the text up to k
+-- a mark that is at no place before k isn't in the text up to k
 pub none_held_before : (hay needle : List ℕ) (k : ℕ) → 0 < length needle → ((j : ℕ) → j < k → ¬ OccursAt hay needle j) → ¬ Holds needle (take k hay)
 none_held_before hay needle k some h (front, rest, e) =
     let whole : hay ≡ front ++ (needle ++ (rest ++ drop k hay)) =
     sym (take-append-drop k hay) ∙ ap (λ x. x ++ drop k hay) e ∙ append_assoc front (needle ++ rest) (drop k hay) ∙ ap (λ x. front ++ x) (append_assoc needle rest (drop k hay)) in
     h (length front) (omega (arith, length-take k hay, ap length e, length-append front (needle ++ rest), length-append needle rest)) (subst (λ x. OccursAt x needle (length front)) (sym whole) (cut_occurs front needle (rest ++ drop k hay)))
 
--- a mark that stands at no place isn't in the text
+-- a mark that is at no place isn't in the text
 pub none_held : (hay needle : List ℕ) → ((j : ℕ) → j < length hay + 1 → ¬ OccursAt hay needle j) → ¬ Holds needle hay
 none_held hay needle h (front, rest, e) =
     h (length front) (omega (arith, ap length e, length-append front (needle ++ rest))) (subst (λ x. OccursAt x needle (length front)) (sym e) (cut_occurs front needle rest))
@@ -217,7 +218,7 @@ none_held hay needle h (front, rest, e) =
 pub mark_found : (bs : List ℕ) (n : ℕ) → FindsNeedle bs url_mark 0 (Some n) → (¬ Holds url_mark (take n bs)) × (bs ≡ take n bs ++ (url_mark ++ drop (n + 3) bs))
 mark_found bs n h = (none_held_before bs url_mark n (omega arith) (λ j l. h.0.before j (omega arith) l), occurs_cut bs url_mark n h.1)
 
--- `://` that has no first place stands nowhere
+-- `://` that has no first place isn't in the text
 pub no_mark_found : (bs : List ℕ) → FindsNeedle bs url_mark 0 None → ¬ Holds url_mark bs
 no_mark_found bs h = none_held bs url_mark (λ j l. h j (omega arith) l)
 
@@ -292,7 +293,8 @@ held_free bs h (front, rest, e) = not_free colon front (47 ∷ 47 ∷ rest) (sub
 not_held_behind : (mark : List ℕ) (b : ℕ) (bs : List ℕ) → ¬ Holds mark (b ∷ bs) → ¬ Holds mark bs
 not_held_behind mark b bs h (front, rest, e) = h (b ∷ front, rest, ap (λ z. b ∷ z) e)
 
--- the pieces around a mark that doesn't reach from a text without it into one that follows: the first doesn't hold it
+-- the pieces around a mark that doesn't reach from a text without it
+-- into one that follows: the first doesn't hold it
 pub held_cut_unique : (mark : List ℕ) → ((b : ℕ) (bs x y : List ℕ) → ¬ Holds mark (b ∷ bs) → mark ++ x ≡ b ∷ (bs ++ (mark ++ y)) → ⊥) → (a b x y : List ℕ) → ¬ Holds mark a → ¬ Holds mark b → a ++ (mark ++ x) ≡ b ++ (mark ++ y) → (a ≡ b) × (x ≡ y)
 held_cut_unique mark apart [] [] x y f g e = (refl, append_cancel_left mark x y e)
 held_cut_unique mark apart [] (d ∷ b) x y f g e = absurd (apart d b x y g e)
@@ -330,6 +332,6 @@ helper_name_free s c h k = free_of_all is_name_byte c s (helper_name_bytes s h) 
 pub scheme_helper_name : (s : List ℕ) → is_scheme_text s ≡ true → is_helper_name s ≡ true
 scheme_helper_name s h = grind arith
 
--- a scheme is free of each byte that is no byte of a name
+-- a scheme is free of each byte that isn't a byte of a name
 pub scheme_text_free : (s : List ℕ) (c : ℕ) → is_scheme_text s ≡ true → is_name_byte c ≡ false → FreeOf c s
 scheme_text_free s c h k = helper_name_free s c (scheme_helper_name s h) k

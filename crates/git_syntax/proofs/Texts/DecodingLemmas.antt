@@ -12,7 +12,7 @@ use Rattle.git_syntax.proofs.Texts.AsciiLemmas.{ascii_cons}
 use Rattle.git_syntax.proofs.Texts.EscapeLemmas.{decode_broken, decode_escape}
 use Rattle.std.proofs.lemmas.Str.Ascii.{IsAscii-nil}
 
--- ---- the byte that `%` and what stands behind it begin with
+-- ---- the byte that `%` and what follows begin with
 
 -- a `%` with less than two bytes behind it stays
 pub percent_short : (behind : List ℕ) → length behind < 2 → percent_decode (percent_sign ∷ behind) ≡ percent_sign ∷ percent_decode behind
@@ -63,7 +63,7 @@ all_in_window window rest text count joined e small =
     let done = all_decoded (take count window) rest text joined e in
     done ∙ sym (take_all 4 (percent_decode text) (omega (arith, ap length done, length-take count window, small)))
 
--- what is left behind one byte more
+-- the rest behind one byte more
 pub one_more : (whole rest left : List ℕ) (n : ℕ) → percent_decode left ≡ drop 1 (percent_decode rest) → percent_decode rest ≡ drop n (percent_decode whole) → percent_decode left ≡ drop (n + 1) (percent_decode whole)
 one_more whole rest left n step so_far = step ∙ ap (drop 1) so_far ∙ drop-drop 1 n (percent_decode whole)
 

@@ -81,11 +81,11 @@ not_utf8_at_window bs window found whole some char read all = not_utf8 all.0 win
 
 -- ---- soundness
 
--- a byte that is no `%` begins no escape
+-- a byte that isn't `%` begins no escape
 pub sound_kept : (b : ℕ) (bs : List ℕ) → (b == 37) ≡ false → is_sound (b ∷ bs) ≡ is_sound bs
 sound_kept b bs other = grind arith
 
--- a hexadecimal digit is no `%`
+-- a hexadecimal digit isn't `%`
 pub digit_not_percent : (b : ℕ) → is_digit b 16 ≡ true → (b == 37) ≡ false
 digit_not_percent b digit = grind (arith, nat_tests)
 
@@ -97,7 +97,7 @@ sound_step b bs = grind (arith, nat_tests)
 pub sound_head : (b : ℕ) (bs : List ℕ) → is_sound (b ∷ bs) ≡ true → (not (b == 37) || begins_with_digits bs) ≡ true
 sound_head b bs sound = (and_parts _ _ (sym (sound_step b bs) ∙ sound)).0
 
--- what stands behind the first byte of a sound text is sound
+-- the text behind the first byte of a sound text is sound
 pub sound_tail : (b : ℕ) (bs : List ℕ) → is_sound (b ∷ bs) ≡ true → is_sound bs ≡ true
 sound_tail b bs sound = (and_parts _ _ (sym (sound_step b bs) ∙ sound)).1
 
@@ -119,7 +119,7 @@ sound-append (x ∷ xs) ys front rest =
     let head = ⊎_elim (λ h. or_left _ _ h) (λ h. or_right _ _ (digits-append xs ys h)) (or_cases _ _ (sound_head x xs front)) in
     sound_cons x (xs ++ ys) head (sound-append xs ys (sound_tail x xs front) rest)
 
--- a sound text cut before a byte that is no hexadecimal digit is sound on both sides
+-- a sound text cut before a byte that isn't a hexadecimal digit is sound on both sides
 pub sound_parts : (xs ys : List ℕ) (c : ℕ) → is_digit c 16 ≡ false → is_sound (xs ++ c ∷ ys) ≡ true → (is_sound xs ≡ true) × (is_sound (c ∷ ys) ≡ true)
 sound_parts [] ys c other sound = (refl, sound)
 sound_parts (x ∷ xs) ys c other sound =
@@ -127,7 +127,7 @@ sound_parts (x ∷ xs) ys c other sound =
     let head = ⊎_elim (λ h. or_left _ _ h) (λ h. or_right _ _ (digits_before xs ys c other h)) (or_cases _ _ (sound_head x (xs ++ c ∷ ys) sound)) in
     (sound_cons x xs head parts.0, parts.1)
 
--- the same around a byte that is no hexadecimal digit, left out of both sides
+-- the same around a byte that isn't a hexadecimal digit, left out of both sides
 pub sound_around : (xs ys : List ℕ) (c : ℕ) → is_digit c 16 ≡ false → is_sound (xs ++ c ∷ ys) ≡ true → (is_sound xs ≡ true) × (is_sound ys ≡ true)
 sound_around xs ys c other sound = grind (arith, nat_tests, sound_tail, sound_parts)
 
@@ -140,7 +140,7 @@ sound_free (x ∷ xs) free =
 
 -- ---- decoding
 
--- a byte that is no `%` stays
+-- a byte that isn't `%` stays
 pub decode_byte : (b : ℕ) (bs : List ℕ) → (b == 37) ≡ false → percent_decode (b ∷ bs) ≡ b ∷ percent_decode bs
 decode_byte b bs other = percent_decode_not_percent b bs (eqb-false b 37 other)
 
@@ -203,7 +203,7 @@ escape_sound : (b : ℕ) (rest : List ℕ) → is_sound rest ≡ true → is_sou
 unfolding percent_encode_byte
 escape_sound b rest sound = grind (arith, nat_tests, glyph_is_digit, and_from)
 
--- what is written by a set that has `%` is sound
+-- a text written by a set that has `%` is sound
 pub encode_sound : (set : AsciiSet) (t : List ℕ) → contains set 37 ≡ true → is_sound (percent_encode set t) ≡ true
 encode_sound set [] has = rw percent_encode-nil refl
 encode_sound set (b ∷ bs) has =
@@ -218,7 +218,7 @@ encode_sound set (b ∷ bs) has =
 escape_byte_passes : (b : ℕ) → IsEscapeByte b → is_escape_byte b ≡ true
 escape_byte_passes b h = grind (arith, nat_tests)
 
--- what is written lacks the bytes that fail the test both as kept bytes and as bytes of an escape
+-- the written text lacks the bytes that fail the test both as kept bytes and as bytes of an escape
 pub encode_lacks : (test : ℕ → Bool) (set : AsciiSet) (t : List ℕ) → ((b : ℕ) → b < 128 → contains set b ≡ false → test b ≡ false) → ((b : ℕ) → is_escape_byte b ≡ true → test b ≡ false) → Lacks test (percent_encode set t)
 encode_lacks test set t kept escapes =
     list_any_none test _ (All-percent_encode (λ b. test b ≡ false) set t (λ b keeps. kept b (ascii_from_kept set b keeps) (outside_from_kept set b keeps)) (λ b escape. escapes b (escape_byte_passes b escape)))
@@ -234,7 +234,7 @@ encode_empty set (b ∷ bs) none =
 pub encode_byte_kept : (set : AsciiSet) (b : ℕ) (bs : List ℕ) → b < 128 → contains set b ≡ false → percent_encode set (b ∷ bs) ≡ b ∷ percent_encode set bs
 encode_byte_kept set b bs ascii out = percent_encode_kept set b bs (kept_from_outside set b ascii out)
 
--- what is written lacks what the text lacks, but for the bytes of an escape
+-- the written text lacks what the text lacks, except the bytes of an escape
 pub encode_lacks_kept : (test : ℕ → Bool) (set : AsciiSet) (t : List ℕ) → ((b : ℕ) → is_escape_byte b ≡ true → test b ≡ false) → Lacks test t → Lacks test (percent_encode set t)
 encode_lacks_kept test set [] escapes lacks = rw percent_encode-nil refl
 encode_lacks_kept test set (b ∷ bs) escapes lacks =
@@ -259,7 +259,7 @@ lacks_from_encode test set (b ∷ bs) escaped lacks = ⊎_elim
     or_from _ _ parts.0 (lacks_from_encode test set bs escaped parts.1))
     (cases_Bool (should_percent_encode set b))
 
--- what is written lacks a byte of the set that no escape has
+-- the written text lacks a byte of the set that no escape has
 pub encode_free : (set : AsciiSet) (t : List ℕ) (c : ℕ) → contains set c ≡ true → is_escape_byte c ≡ false → FreeOf c (percent_encode set t)
 encode_free set t c has other = grind (arith, nat_tests, encode_lacks, both_ways, eqb-true, false_from_ne_true)
 
@@ -275,7 +275,7 @@ decode_escaped_percents (b ∷ bs) =
     (λ other. rw other (decode_byte b (escaped_percents bs) other ∙ rest))
     (cases_Bool (b == 37))
 
--- a text with its `%` as escapes lacks what the text lacks, but for `%`, `2` and `5`
+-- a text with its `%` as escapes lacks what the text lacks, except `%`, `2` and `5`
 pub lacks_escaped_percents : (test : ℕ → Bool) (t : List ℕ) → test 37 ≡ false → test 50 ≡ false → test 53 ≡ false → Lacks test t → Lacks test (escaped_percents t)
 lacks_escaped_percents test [] sign two five lacks = refl
 lacks_escaped_percents test (b ∷ bs) sign two five lacks =
@@ -360,7 +360,7 @@ white_space-append xs ys front first second = grind (arith, nat_tests, chars-app
 pub white_space_ascii : (t : List ℕ) → IsAscii t → list_any is_whitespace t ≡ false → LacksWhiteSpace t
 white_space_ascii t ascii lacks = ap (list_any is_whitespace) (chars-IsAscii t ascii) ∙ lacks
 
--- an ASCII byte that is no white space
+-- an ASCII byte that isn't white space
 pub white_space_byte : (c : ℕ) → c < 128 → is_whitespace c ≡ false → LacksWhiteSpace (c ∷ [])
 white_space_byte c ascii other = white_space_ascii (c ∷ []) (ascii_byte c ascii) (or_from _ _ other refl)
 
@@ -397,14 +397,14 @@ bytes_from_utf8 t utf8 = subst (All IsByte) utf8.1.1 (small_encodes utf8.0 utf8.
 pub decode_encode_utf8 : (set : AsciiSet) (t : List ℕ) → contains set 37 ≡ true → IsUtf8 t → percent_decode (percent_encode set t) ≡ t
 decode_encode_utf8 set t has utf8 = round_trip set t has (bytes_from_utf8 t utf8)
 
--- what is written is UTF-8
+-- the written text is UTF-8
 pub utf8_encode : (set : AsciiSet) (t : List ℕ) → IsUtf8 (percent_encode set t)
 utf8_encode set t = IsUtf8-from_ascii (percent_encode set t) (IsAscii-percent_encode set t)
 
 space_kept : (set : AsciiSet) (b : ℕ) → ((c : ℕ) → c < 128 → is_whitespace c ≡ true → contains set c ≡ true) → b < 128 → contains set b ≡ false → is_whitespace b ≡ false
 space_kept set b spaces ascii kept = false_from_ne_true _ (λ space. both_ways _ kept (spaces b ascii space))
 
--- what is written by a set that has the ASCII white space lacks white space
+-- a text written by a set that has the ASCII white space lacks white space
 pub white_space_encode : (set : AsciiSet) (t : List ℕ) → ((b : ℕ) → b < 128 → is_whitespace b ≡ true → contains set b ≡ true) → LacksWhiteSpace (percent_encode set t)
 white_space_encode set t spaces =
     white_space_ascii (percent_encode set t) (IsAscii-percent_encode set t) (encode_lacks is_whitespace set t (λ b ascii kept. space_kept set b spaces ascii kept) (λ b escape. grind (arith, nat_tests)))

@@ -17,7 +17,7 @@ use Rattle.git_syntax.proofs.Texts.PlainLemmas.{plain_free, plain_means_utf8, pl
 
 -- ---- high escapes
 
--- a byte that is no `%` begins none
+-- a byte that isn't `%` begins none
 high_kept : (b : ℕ) (bs : List ℕ) → (b == percent_sign) ≡ false → has_high_escape (b ∷ bs) ≡ has_high_escape bs
 high_kept b bs other = rw other refl
 
@@ -26,20 +26,20 @@ pub high_free : (t : List ℕ) → FreeOf percent_sign t → has_high_escape t �
 high_free [] free = refl
 high_free (b ∷ bs) free = let (other, more) = free_head_tail percent_sign b bs free in high_kept b bs other ∙ high_free bs more
 
--- the first `%` decides, and what stands behind it
+-- the first `%` and what follows decide
 pub high_at_cut : (front behind : List ℕ) → FreeOf percent_sign front → has_high_escape (front ++ percent_sign ∷ behind) ≡ (begins_high behind || has_high_escape behind)
 high_at_cut [] behind free = refl
 high_at_cut (b ∷ front) behind free =
     let (other, more) = free_head_tail percent_sign b front free in high_kept b (front ++ percent_sign ∷ behind) other ∙ high_at_cut front behind more
 
--- what stands behind a front has none where the whole has none
+-- the text behind a front has none where the whole has none
 high_behind : (front behind : List ℕ) → has_high_escape (front ++ behind) ≡ false → has_high_escape behind ≡ false
 high_behind [] behind low = low
 high_behind (b ∷ front) behind low = high_behind front behind (or_parts _ _ low).1
 
 -- ---- one `%` after the other
 
--- where the first escape is low, what stands behind it decides whether all are
+-- where the first escape is low, the text behind it decides whether all are
 pub low_past : (ascii high : Bool) (text rest front behind : List ℕ) → rest ≡ front ++ percent_sign ∷ behind → FreeOf percent_sign front → high ≡ begins_high behind
     → (ascii ≡ true → has_high_escape rest ≡ has_high_escape text) → (ascii && not high) ≡ true → has_high_escape behind ≡ has_high_escape text
 low_past ascii high text rest front behind e free is same both =

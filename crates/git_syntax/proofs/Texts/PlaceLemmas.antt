@@ -14,11 +14,11 @@ use Rattle.git_syntax.proofs.Texts.EscapeLemmas.{sound_cons, sound_free, sound_s
 
 -- ---- bytes
 
--- a text in which a byte stands isn't free of it
+-- a text that holds a byte isn't free of it
 pub stands_not_free : (c : ℕ) (text : List ℕ) (at : ℕ) → StandsFirst c text at → ¬ FreeOf c text
 stands_not_free c text at h free = not_free c h.before h.behind (subst (λ t. FreeOf c t) h.joined free)
 
--- the byte stands within the text
+-- the byte is within the text
 pub stands_within : (c : ℕ) (text : List ℕ) (at : ℕ) → StandsFirst c text at → at + 1 ≤ length text
 stands_within c text at h = omega (arith, h.offset, ap length h.joined, length-append h.before (c ∷ h.behind))
 
@@ -51,7 +51,7 @@ broken_behind c text at head h = record {
     kept true k = digits_before text h.before h.behind h.joined k
     kept false k = refl
 
--- a broken escape behind bytes that are no `%`
+-- a broken escape behind bytes other than `%`
 pub broken_behind_free : (front text : List ℕ) (at : ℕ) → FreeOf percent_sign front → StandsBroken text at → StandsBroken (front ++ text) (length front + at)
 broken_behind_free [] text at free h = subst (λ n. StandsBroken text n) (omega arith) h
 broken_behind_free (b ∷ front) text at free h =
@@ -89,7 +89,7 @@ unsound_stands (b ∷ text) h =
 
 -- ---- white space
 
--- white space stands within its text
+-- white space is within its text
 pub white_within : (text : List ℕ) (at len : ℕ) → StandsWhite text at len → at + len ≤ length text
 white_within text at len h = grind (arith, nat_tests, encode_utf8, encode_utf8_all, length-append)
 

@@ -1,4 +1,4 @@
--- Plain texts: printable ASCII without `%`. What the other looks at a text would tell of them.
+-- Plain texts: printable ASCII without `%`. What the other looks at a text would return for them.
 use Rattle.std.proofs.Common.{◌≡◌, ◌∙◌, ◌<◌, ◌++◌, ℕ, true, List, refl, sym, arith}
 use Rattle.std.specs.Str.{IsUtf8}
 use Rattle.std.proofs.lemmas.Bool.{and_parts}

@@ -1,4 +1,5 @@
--- Bytes spell one location at most: inside each form the bytes determine the pieces, and the forms exclude one another.
+-- Bytes spell at most one location: inside each form the bytes
+-- determine the pieces, and the forms exclude one another.
 use Rattle.std.proofs.Common.{◌≡◌, ℕ, inl, inr, true, false, List, [], ◌∷◌, ◌++◌, Option, Some, None, refl, sym, ap, subst, ◌∙◌, append_assoc, arith}
 use Rattle.std.proofs.lemmas.Bool.Decides.{nat_tests}
 use Rattle.std.proofs.lemmas.Bool.{eqb-false}

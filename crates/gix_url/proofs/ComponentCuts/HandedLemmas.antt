@@ -1,4 +1,4 @@
--- Components that are handed out: they are those of the location, and what is lent stands in its path.
+-- Components that are returned: they are those of the location, and what is lent is part of its path.
 use Rattle.std.proofs.Common.{◌≡◌, ◌∙◌, ℕ, Bool, true, false, ◌⊎◌, inl, inr, List, [], ◌∷◌, ◌++◌, map, length, Option, Some, None, option_map, IfSome, All, Result, Ok, Err, IsOk, IsErr, refl, sym, ap, subst, append_assoc, arith, ⊎_elim}
 use Rattle.std.specs.List.{join_with_byte}
 use Rattle.std.proofs.lemmas.Bool.{cases_Bool}
@@ -51,18 +51,18 @@ no_spelling spelling path h = ⊎_elim
     (λ none. none)
     (cases_Bool (matches spelling path))
 
--- ---- what stands in the path
+-- ---- what is part of the path
 
--- a text stands in itself
+-- a text is part of itself
 held_self : (t : List ℕ) → Holds t t
 held_self t = ([], [], sym (append-nil t))
 
--- what stands in a text that stands in another stands in that
+-- a part of a part of a text is part of the text
 held_within : (a b c : List ℕ) → Holds a b → Holds b c → Holds a c
 held_within a b c (x, y, e) (z, w, k) =
     (z ++ x, y ++ w, k ∙ ap (λ t. z ++ (t ++ w)) e ∙ ap (λ t. z ++ t) (append_assoc x (a ++ y) w ∙ ap (λ t. x ++ t) (append_assoc a y w)) ∙ sym (append_assoc z x (a ++ (y ++ w))))
 
--- what the texts around a delimiter stand for stands in what the whole stands for
+-- what the texts around a delimiter stand for is part of what the whole stands for
 held_around : (escaped : Bool) (text x y : List ℕ) (c : ℕ) → Parts c → text ≡ x ++ c ∷ y → Holds (meant_by escaped x) (meant_by escaped text) × Holds (meant_by escaped y) (meant_by escaped text)
 held_around escaped text x y c parts cut =
     let split = ap (meant_by escaped) cut ∙ meant_around escaped x y c parts in (
@@ -78,13 +78,13 @@ question_parts = record { digit = refl; percent = refl }
 number_parts : Parts number_sign
 number_parts = record { digit = refl; percent = refl }
 
--- what the parts of a text around its first c stand for stands in what the text stands for
+-- what the parts of a text around its first c stand for is part of what the text stands for
 held_off : (escaped : Bool) (text front : List ℕ) (behind : Option (List ℕ)) (c : ℕ) → Parts c → CutsText c text front behind → Holds (meant_by escaped front) (meant_by escaped text) × IfSome behind (λ x. Holds (meant_by escaped x) (meant_by escaped text))
 held_off escaped text front None c parts (free, e) =
     (subst (λ t. Holds (meant_by escaped front) (meant_by escaped t)) e (held_self (meant_by escaped front)), tt)
 held_off escaped text front (Some x) c parts (free, e) = held_around escaped text front x c parts e
 
--- what the pieces of a path stand for stands in what the path stands for
+-- what the pieces of a path stand for is part of what the path stands for
 record HoldsPieces (escaped : Bool) (whole front : List ℕ) (query fragment : Option (List ℕ)) : Type 0 where
   front_held : Holds (meant_by escaped front) whole
   query_held : IfSome query (λ q. Holds (meant_by escaped q) whole)
@@ -99,11 +99,11 @@ held_pieces escaped text front query fragment (middle, first, second) =
     λ t inside. held_within (meant_by escaped t) (meant_by escaped middle) (meant_by escaped text) inside middle_held in
     record { front_held = held front front_held; query_held = IfSome_then query query_held held; fragment_held = fragment_held }
 
--- what each of these texts stands for stands in the path
+-- what each of these texts stands for is part of the path
 abbrev AreHeld : Bool → List ℕ → List (List ℕ) → Type 0
 AreHeld escaped path texts = All (λ t. Holds (meant_by escaped t) path) texts
 
--- what the fields of a text stand for stands in what the text stands for
+-- what the fields of a text stand for is part of what the text stands for
 held_fields : (escaped : Bool) (path : List ℕ) (fields : List (List ℕ)) → Holds (meant_by escaped (join_with_byte ampersand fields)) path → AreHeld escaped path fields
 held_fields escaped path [] held = All-nil (λ t. Holds (meant_by escaped t) path)
 held_fields escaped path (t ∷ []) held = All-cons (λ x. Holds (meant_by escaped x) path) t [] held (All-nil (λ x. Holds (meant_by escaped x) path))
@@ -113,7 +113,7 @@ held_fields escaped path (t ∷ u ∷ us) held =
     let parts = held_around escaped whole t rest ampersand (record { digit = refl; percent = refl }) refl in
     All-cons (λ x. Holds (meant_by escaped x) path) t (u ∷ us) (held_within (meant_by escaped t) (meant_by escaped whole) path parts.0 held) (held_fields escaped path (u ∷ us) (held_within (meant_by escaped rest) (meant_by escaped whole) path parts.1 held))
 
--- what name and value stand for stands in what the field stands for
+-- what name and value stand for is part of what the field stands for
 held_split : (escaped : Bool) (path field name value : List ℕ) → SplitsField field name value → Holds (meant_by escaped field) path → Holds (meant_by escaped name) path × Holds (meant_by escaped value) path
 held_split escaped path field name value (SplitsField.name_alone free e j) (x, y, k) =
     (subst (λ t. Holds (meant_by escaped t) path) (sym e) (x, y, k), subst (λ t. Holds (meant_by escaped t) path) (sym j) (subst (λ t. Holds t path) (sym (meant-nil escaped)) ([], path, refl)))
@@ -128,7 +128,7 @@ term_meant : (v : Location) (piece : List ℕ) (text : QueryText) → LendsTerm 
 term_meant v piece (Borrowed text) h = h.1 ∙ sym (meant_spaces (matches v.spelling v.path) piece h.0)
 term_meant v piece (Owned text) h = h.1
 
--- and stands in the path where it is lent
+-- and is part of the path where it is lent
 term_lent : (v : Location) (piece : List ℕ) (text : QueryText) → LendsTerm (matches v.spelling v.path) piece text → Holds (meant_by (matches v.spelling v.path) piece) v.path → LentTerm v piece text
 term_lent v piece (Borrowed text) h held = (h.0, subst (λ t. Holds t v.path) (sym h.1) held)
 term_lent v piece (Owned text) h held = h.0
@@ -142,7 +142,7 @@ pairs_meant v ((b ∷ bs) ∷ fields) pairs (pair, others, lends, rest, e) =
     let value = term_meant v lends.value pair.1 lends.value_lent in
     (lends.name, lends.value, map pair_bytes others, lends.split, pairs_meant v fields others rest, ap (map pair_bytes) e ∙ (λ i. (name i, value i) ∷ map pair_bytes others))
 
--- and stand in the path where they are lent
+-- and are part of the path where they are lent
 pairs_lent : (v : Location) (fields : List (List ℕ)) (pairs : List (QueryText × QueryText)) → LendsPairs (matches v.spelling v.path) fields pairs → AreHeld (matches v.spelling v.path) v.path fields → LentPairs v fields pairs
 pairs_lent v [] pairs h held = h
 pairs_lent v ([] ∷ fields) pairs h held = pairs_lent v fields pairs h (All-tail (λ t. Holds (meant_by (matches v.spelling v.path) t) v.path) [] fields held)
@@ -180,7 +180,7 @@ viewed : {A B C : Type 0} (f : A → B) (g : B → C) (o : Option A) → option_
 viewed f g None = refl
 viewed f g (Some x) = refl
 
--- what was handed out are the components of a location of HTTP
+-- what was returned are the components of a location of HTTP
 pub parts_meant : (v : Location) (parts : PathComponents) → LendsParts (matches v.spelling v.path) (original_path v) parts → WebComponents v (components parts)
 parts_meant v parts h = record {
   front = h.front;
@@ -192,18 +192,18 @@ parts_meant v parts h = record {
   fragment_meant = h.fragment_meant;
 }
 
--- what the pieces of a location's original path stand for stands in its path
+-- what the pieces of a location's original path stand for is part of its path
 held_parts : (v : Location) (front : List ℕ) (query fragment : Option (List ℕ)) → meant_by (matches v.spelling v.path) (original_path v) ≡ v.path → CutsPath (original_path v) front query fragment → HoldsPieces (matches v.spelling v.path) v.path front query fragment
 held_parts v front query fragment whole cut =
     let held = held_pieces (matches v.spelling v.path) (original_path v) front query fragment cut in
     subst (λ path. HoldsPieces (matches v.spelling v.path) path front query fragment) whole held
 
--- a path that stands for nothing is the root, and any other stands where it does
+-- a path that stands for nothing is the root, and any other is part of what it was part of
 rooted : (t path b : List ℕ) → Holds t path → b ≡ or_root t → Holds b path ⊎ (b ≡ slash ∷ [])
 rooted [] path b held e = inr e
 rooted (c ∷ t) path b held e = inl (subst (λ x. Holds x path) (sym e) held)
 
--- the path stands in the location's, or is the root
+-- the path is part of the location's, or is the root
 pub path_lent : (v : Location) (parts : PathComponents) → LendsParts (matches v.spelling v.path) (original_path v) parts → meant_by (matches v.spelling v.path) (original_path v) ≡ v.path → Holds (bstr_bytes parts.path) v.path ⊎ (bstr_bytes parts.path ≡ slash ∷ [])
 path_lent v parts h whole = rooted (meant_by (matches v.spelling v.path) h.front) v.path (bstr_bytes parts.path) (held_parts v h.front h.query h.fragment whole h.cut).front_held h.path_meant
 
@@ -211,7 +211,7 @@ path_lent v parts h whole = rooted (meant_by (matches v.spelling v.path) h.front
 pub query_lent : (v : Location) (parts : PathComponents) → LendsParts (matches v.spelling v.path) (original_path v) parts → meant_by (matches v.spelling v.path) (original_path v) ≡ v.path → LentQuery v (option_map (λ pairs. pairs.items) parts.query)
 query_lent v parts h whole = query_handed v h.front h.fragment h.query (option_map (λ pairs. pairs.items) parts.query) h.cut (held_parts v h.front h.query h.fragment whole h.cut).query_held h.query_lent
 
--- a fragment stands where what it stands for does
+-- a fragment is part of what its text is part of
 fragment_in : (escaped : Bool) (path : List ℕ) (given : Option BStr) (fragment : Option (List ℕ)) → option_map bstr_bytes given ≡ option_map (meant_by escaped) fragment → IfSome fragment (λ f. Holds (meant_by escaped f) path) → IfSome given (λ f. Holds (bstr_bytes f) path)
 fragment_in escaped path None fragment e held = tt
 fragment_in escaped path (Some f) None e held = absurd (cc)
@@ -219,7 +219,7 @@ fragment_in escaped path (Some f) (Some g) e held =
     let same : bstr_bytes f ≡ meant_by escaped g = cc in
     subst (λ t. Holds t path) (sym same) held
 
--- the fragment stands in the location's path
+-- the fragment is part of the location's path
 pub fragment_lent : (v : Location) (parts : PathComponents) → LendsParts (matches v.spelling v.path) (original_path v) parts → meant_by (matches v.spelling v.path) (original_path v) ≡ v.path → IfSome parts.fragment (λ f. Holds (bstr_bytes f) v.path)
 fragment_lent v parts h whole = fragment_in (matches v.spelling v.path) v.path parts.fragment h.fragment h.fragment_meant (held_parts v h.front h.query h.fragment whole h.cut).fragment_held
 
@@ -248,6 +248,6 @@ pub lends_whole : (v : Location) (whole : EscapedText) (parts : PathComponents) 
 lends_whole v whole parts (text, meant, syntax) h =
     subst (λ b. LendsParts b (original_path v) parts) syntax (subst (λ t. LendsParts whole.escaped t parts) text h)
 
--- a path alone stands in the location's
+-- a path alone is part of the location's
 pub path_alone_held : (t path : List ℕ) → t ≡ path → Holds t path
 path_alone_held t path e = subst (Holds t) e (held_self t)

@@ -34,7 +34,7 @@ plus_parts = record { digit = refl; percent = refl }
 
 -- ---- spaces
 
--- what was made grows by what stands before the next `+`, and a space
+-- what was made grows by the text before the next `+`, and a space
 pub spaced_more : (escaped : Bool) (whole made rest front behind meant new : List ℕ) → FreeOf plus_sign front → rest ≡ front ++ plus_sign ∷ behind → meant ≡ meant_by escaped front → whole ≡ made ++ meant_by escaped (with_spaces rest) → new ≡ (made ++ meant) ++ space ∷ [] → whole ≡ new ++ meant_by escaped (with_spaces behind)
 spaced_more escaped whole made rest front behind meant new free cut is before grown =
     let last = meant_by escaped (with_spaces behind) in
@@ -45,7 +45,7 @@ spaced_more escaped whole made rest front behind meant new free cut is before gr
     ∙ sym (append_assoc (made ++ meant) (space ∷ []) last)
     ∙ ap (λ t. t ++ last) (sym grown)
 
--- and is whole with what stands behind the last
+-- and is whole with the text behind the last
 pub spaced_whole : (escaped : Bool) (whole made rest meant : List ℕ) → FreeOf plus_sign rest → meant ≡ meant_by escaped rest → whole ≡ made ++ meant_by escaped (with_spaces rest) → made ++ meant ≡ whole
 spaced_whole escaped whole made rest meant free is before =
     ap (λ t. made ++ t) (is ∙ sym (meant_spaces escaped rest free)) ∙ sym before
@@ -69,7 +69,7 @@ left_next text items i y left =
     ∙ ap (drop 1) left
     ∙ drop-drop 1 i text
 
--- what stands behind a delimiter in a text without `+` has none
+-- the text behind a delimiter in a text without `+` has none
 pub behind_free : (text front behind : List ℕ) → text ≡ front ++ ampersand ∷ behind → FreeOf plus_sign text → FreeOf plus_sign behind
 behind_free text front behind cut free =
     (free_head_tail plus_sign ampersand behind (free_parts plus_sign front (ampersand ∷ behind) (subst (FreeOf plus_sign) cut free)).1).1
@@ -230,7 +230,7 @@ cuts_twice whole front path query fragment h k =
       fragment_escaped = first.behind_escaped;
     }
 
--- ---- what was handed out
+-- ---- what was returned
 
 -- the meaning of a fragment, by whether the escapes of the whole stand for their bytes
 pub fragment_meant : (escaped : Bool) (fragment : Option EscapedText) → IfSome fragment (λ p. p.escaped ≡ escaped) → option_map (λ p. p.meant.now) fragment ≡ option_map (meant_by escaped) (option_map (λ p. p.text.now) fragment)

@@ -12,7 +12,8 @@ use Rattle.gix_url.specs.Internal.Meanings.{meant_by}
 use Rattle.git_laws.proofs.ComponentCuts.ComponentLemmas.{spaces_free}
 use Rattle.git_syntax.proofs.Texts.EscapeLemmas.{decode_byte, decode_broken, decode_escape, digits_before}
 
--- a byte that parts a text: it is neither `%` nor a hexadecimal digit, so it neither begins an escape nor ends one
+-- a byte that parts a text: it is neither `%` nor a hexadecimal
+-- digit, so it neither begins an escape nor ends one
 pub record Parts (c : ℕ) : Type 0 where
   pub digit : is_digit c 16 ≡ false
   pub percent : (c == 37) ≡ false
@@ -93,7 +94,7 @@ meant_front escaped whole meant xs ys c at parts e cut size =
     let split = e ∙ ap (meant_by escaped) cut ∙ meant_around escaped xs ys c parts in
     ap (take at) split ∙ take_at (meant_by escaped xs) (c ∷ meant_by escaped ys) at (sym size)
 
--- what stands behind the delimiter
+-- the text behind the delimiter
 pub meant_behind : (escaped : Bool) (whole meant xs ys : List ℕ) (c at : ℕ) → Parts c → meant ≡ meant_by escaped whole → whole ≡ xs ++ c ∷ ys → at ≡ length (meant_by escaped xs) → drop (at + 1) meant ≡ meant_by escaped ys
 meant_behind escaped whole meant xs ys c at parts e cut size =
     let front = meant_by escaped xs in

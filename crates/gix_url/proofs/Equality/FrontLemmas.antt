@@ -4,7 +4,7 @@ use Rattle.std.specs.Bool.{one_answer}
 use Rattle.std.specs.Cmp.Lexicographic.{bytes_decides}
 use Rattle.std.proofs.lemmas.List.{take-append-drop}
 
--- what is behind a front is told by a back that begins within it
+-- what is behind a front is determined by a back that begins within it
 rest_reported : (n m : ℕ) (a b : List ℕ) → m ≤ n → drop m a ≡ drop m b → drop n a ≡ drop n b
 rest_reported n m a b within backs =
     let at : m + (n - m) ≡ n = omega arith in

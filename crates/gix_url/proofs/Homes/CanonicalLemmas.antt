@@ -1,4 +1,4 @@
--- A location with its path resolved: what the resolver answered, by what came of it.
+-- A location with its path resolved, by the resolver's answer.
 use Rattle.std.proofs.Common.{◌≡◌, ◌⊎◌, inr, Option, Some, None, MatchOption, Result, Ok, Err, String}
 use Rattle.std.specs.Global.{Global}
 use Rattle.std.specs.String.{string_bytes}
@@ -6,7 +6,7 @@ use Rattle.gix_url.specs.declared.error.Error.{Error}
 use Rattle.gix_url.specs.declared.error.Error.TheVariants as error
 use Rattle.git_syntax.specs.Location.{Location}
 
--- an answer of the resolver: a text that becomes the path, or none, which is told
+-- an answer of the resolver: a text that becomes the path, or none, which is reported
 abbrev pub Resolves : (Option (String Global) → Type 0) → Location → Location → Result (Unit {0}) Error → Type 0
 Resolves answers v w r =
     (answer : Option (String Global)) × answers answer

@@ -11,7 +11,7 @@ use Rattle.gix_url.proofs.Homes.PathUniqueLemmas.{parent_unique, some_parent, jo
 
 -- ---- splits
 
--- what a split is: a user and what is left
+-- what a split is: a user and the rest
 abbrev pub Split : Type 0
 Split = Option HomeUser × List ℕ
 

@@ -19,7 +19,7 @@ use Rattle.git_syntax.proofs.Texts.CutLemmas.{lacks_after, free_begins, last_cut
 free_of_char : (c : ℕ) (bs : List ℕ) → c < 128 → NoCharPasses (λ d. d == c) bs → FreeOf c bs
 free_of_char c bs small h = lacks_after (λ b. b == c) bs 0 (λ k l m e. NoCharPasses-char c bs k h small m (eqb-true _ _ e))
 
--- a text is what stands before a character of one byte, that byte, and what stands behind it
+-- a text is the text before a character of one byte, that byte, and the text behind it
 char_cut : (c : ℕ) (bs : List ℕ) (i j : ℕ) → c < 128 → HasCharAt c bs i j → bs ≡ take i bs ++ c ∷ drop j bs
 char_cut c bs i j small h = sym (take-append-drop i bs) ∙ ap (λ r. take i bs ++ r) (drop_at_char c bs i j h small)
 
@@ -59,7 +59,7 @@ piece_behind text above last free e (inl (EndsInPiece.lone_piece h some)) = absu
 piece_behind text [] last free e (inr h) = let wrong = sym h ∙ e in cc
 piece_behind text (a ∷ above) last free e (inr h) = let wrong = sym h ∙ e in cc
 
--- the last piece stands in a folder that ends in another, or in the root
+-- the last piece is in a folder that ends in another, or in the root
 parent_in : (text upper gap piece tail : List ℕ) → EndsInPiece upper ⊎ (upper ≡ []) → IsIdle gap → IsPiece piece → IsIdle tail → text ≡ upper ++ (gap ++ (slash ∷ (piece ++ tail))) → IsParent text (Some (or_root upper))
 parent_in text [] gap piece tail h g p t e = IsParent.in_root gap piece tail g p t e refl
 parent_in text (b ∷ bs) gap piece tail (inl h) g p t e = IsParent.above_last (b ∷ bs) gap piece tail h g p t e refl
@@ -91,7 +91,7 @@ opens_name folder some no_slash =
 
 -- ---- pieces, one after another
 
--- what a reader of segments has still to read: the `/` that it passed, and what stands behind
+-- what a reader of segments has still to read: the `/` that it passed, and what follows
 abbrev pub unread : Option (Bor (List ℕ)) → List ℕ
 unread None = []
 unread (Some behind) = slash ∷ behind.now
@@ -101,7 +101,7 @@ abbrev pub separator_of : List (List ℕ) → List ℕ
 separator_of [] = []
 separator_of (piece ∷ others) = slash ∷ []
 
--- a segment and what stands behind it
+-- a segment and the text behind it
 pub segment_cut : (text : List ℕ) (segment : Bor (List ℕ)) (behind : Option (Bor (List ℕ))) → CutsSegment text segment behind → text ≡ segment.now ++ unread behind
 segment_cut text segment None h = h.1 ∙ sym (append-nil segment.now)
 segment_cut text segment (Some more) h = h.1
@@ -111,7 +111,7 @@ pub unread_none : (left : Option (Bor (List ℕ))) → ((behind : Bor (List ℕ)
 unread_none None h = refl
 unread_none (Some behind) h = absurd (h behind refl)
 
--- what is left behind a segment is shorter than what was left with the `/` before it
+-- the rest behind a segment is shorter than what was left with the `/` before it
 pub shorter : (left : Option (Bor (List ℕ))) (text : Bor (List ℕ)) (segment : Bor (List ℕ)) (behind : Option (Bor (List ℕ))) → left ≡ Some text → CutsSegment text.now segment behind → length (unread behind) < length (unread left)
 shorter left text segment behind e h = rw (e, segment_cut text.now segment behind h) (omega (arith, length-append segment.now (unread behind)))
 
@@ -133,7 +133,8 @@ separator_more : (done : List (List ℕ)) (piece : List ℕ) → separator_of (d
 separator_more [] piece = refl
 separator_more (x ∷ xs) piece = refl
 
--- the pieces of the start that were read are joined behind the old text; with those of what is left they are its pieces
+-- the pieces of the start that were read are joined behind the old
+-- text; with those of the rest they are its pieces
 pub record Gathers (old out separator start left : List ℕ) : Type 0 where
   pub done : List (List ℕ)
   pub separated : separator ≡ separator_of done

@@ -184,7 +184,7 @@ record ShowsParent (text : List ℕ) (parent : Option (List ℕ)) : Type 0 where
   whole : text ≡ first ++ behind_slashes segments
   shown : parent ≡ above first (last_piece segments)
 
--- a piece in segments that stand in two parts
+-- a piece in segments that are in two parts
 in_parts : (first : List ℕ) (xs gaps tails : List (List ℕ)) (piece gap tail : List ℕ) → gap ≡ behind_slashes gaps → tail ≡ behind_slashes tails → (first ++ behind_slashes xs) ++ (gap ++ (slash ∷ (piece ++ tail))) ≡ first ++ behind_slashes ((xs ++ gaps) ++ piece ∷ tails)
 in_parts first xs gaps tails piece gap tail e f =
     rw (e, f) (append_assoc first (behind_slashes xs) (behind_slashes gaps ++ (slash ∷ (piece ++ behind_slashes tails)))

@@ -1,5 +1,5 @@
--- What a reader answers that finds what the bytes spell, and refuses where they spell nothing, with memory or with a room;
--- and that both answer alike.
+-- The answers of a reader that finds the location that the bytes spell, or
+-- refuses, with memory or with a buffer: both answer alike.
 use Rattle.std.proofs.Common.{◌≡◌, ◌⊎◌, inl, inr, ℕ, List, [], Result, Ok, Err, ap, subst}
 use Rattle.std.specs.Prelude.{IfOk, IfErr}
 use Rattle.gix_url.specs.declared.error.Error.{Error}
@@ -54,7 +54,7 @@ same_with_room b room owned lent enough reads reads_in ample v = (
   λ is. answer_owned b owned reads ample v ((reads_in.exact enough v).0 is),
 )
 
--- each error but want of memory names a flaw
+-- each error except `Memory` names a flaw
 named_flaw : (b : List ℕ) (e : Error) → e ≢ error.Memory → Flaw b e → HasFlaw b
 named_flaw b error.Memory other h = absurd (other refl)
 named_flaw b error.EmptyLocal other h = HasFlaw.empty h
@@ -64,6 +64,6 @@ named_flaw b (error.TooLong shown total at len) other h = HasFlaw.too_long (bstr
 named_flaw b (error.BadUrl k named input at len) other h = HasFlaw.bad_url k named at len h.0
 named_flaw b _ other h = absurd h
 
--- and bytes in which it stands spell no location
+-- and bytes that hold it spell no location
 pub exclusive : Exclusive
 exclusive b e v other h = flawed_unspelled b v (named_flaw b e other h)

@@ -1,4 +1,4 @@
--- What is made of parts: a name that no helper can have has no text, and settled parts come back.
+-- Locations made of parts: a name that no helper can have has no text, and settled parts come back.
 use Rattle.std.proofs.Common.{◌≡◌, ℕ, true, false, not, ◌==◌, inl, inr, List, [], ◌∷◌, ◌++◌, codes, bytes_eq, Option, Some, None, Result, Ok, Err, refl, sym, ap, subst, ◌∙◌}
 use Rattle.std.specs.Prelude.{cond, Bool, ◌&&◌}
 use Rattle.std.proofs.lemmas.Bool.{both_ways, cond-false, cond_both, false≢true}
@@ -52,7 +52,7 @@ invalid_unsettled v name h settled =
     let by_name : IsSettledBy (helper name) v = subst (λ p. IsSettledBy p v) named settled in
     both_ways _ invalid by_name.0.named
 
--- an error that tells such a name is the answer
+-- an error that names such a name is the answer
 pub invalid_made : (v : Location) (r : Result Location Error) (e : Error) → r ≡ Err e → (name : List ℕ) × (invalid_name v.scheme ≡ Some name) × ReportsName name e → MadeOf v r
 invalid_made v r e is (name, invalid, reported) = record {
   helper_name = λ n h. let same : name ≡ n = cc in (e, is, subst (λ m. ReportsName m e) same reported);
@@ -83,7 +83,7 @@ url_spelled s other = scheme_cases (λ p. ¬ (p ≡ ext) → is_bare_kind p fals
     (λ not_ext kind. not_ext refl)
     (λ not_ext kind. false≢true kind)
 
--- what is spelled of such a kind has no spelling
+-- a spelled location of such a kind has no spelling
 url_bare : (b : List ℕ) (w : Location) → SpellsUrl b w → is_bare_kind w.scheme w.flag ≡ true → w.spelling ≡ None
 url_bare b w h kind =
     elim (means_cases (scheme_of h.parts.scheme) b h.parts w h.means) [

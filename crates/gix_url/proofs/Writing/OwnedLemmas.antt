@@ -12,7 +12,7 @@ use Rattle.gix_url.specs.Readings.{Reads, WritesAgain, ReadsAgain}
 use Rattle.git_location.specs.Readings.{SpellsAgain}
 use Rattle.git_laws.proofs.Writing.RereadLemmas.{text_again}
 
--- what writing a settled location into memory answers: its text, or want of memory
+-- what writing a settled location into memory returns: its text, or `Memory`
 pub written_again : (v : Location) (t : List ℕ) (r : Result BString Error) → IsValue v → Ok t ≡ text v → IfOk r (λ s. bstring_bytes s ≡ t) → IfErr r (λ e. e ≡ error.Memory)
     → IsSettled v → WritesAgain v r
 written_again v t (Ok s) is written same memory h = text_again v (bstring_bytes s) is h (sym written ∙ ap Ok (sym same))

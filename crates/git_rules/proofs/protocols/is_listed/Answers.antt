@@ -1,4 +1,4 @@
--- The list is its first name and what is left, or the last name alone.
+-- The list is its first name and the rest, or the last name alone.
 use Rattle.std.proofs.Common.{◌≡◌, ◌∙◌, true, false, ap, sym}
 use Rattle.std.specs.Prelude.{◌||◌, bytes_eq}
 use Rattle.git_rules.specs.Protocols.{is_listed}

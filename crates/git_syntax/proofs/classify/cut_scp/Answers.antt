@@ -1,4 +1,4 @@
--- The colon of the scp form stands before any slash.
+-- The colon of the scp form is before any slash.
 use Rattle.std.proofs.Common.{refl}
 use Rattle.std.proofs.lemmas.Bool.{false≢true}
 use Rattle.git_syntax.proofs.Parsing.ClassifierLemmas.{no_scp_cut, no_scp_uncut}

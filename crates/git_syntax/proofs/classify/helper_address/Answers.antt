@@ -1,4 +1,4 @@
--- A helper's name stands before the first colon, and another colon follows it.
+-- A helper's name is before the first colon, and another colon follows it.
 use Rattle.std.proofs.Common.{refl, sym}
 use Rattle.git_syntax.proofs.Parsing.ClassifierLemmas.{no_helper_alone, no_helper_unnamed}
 use Rattle.git_syntax.proofs.classify.helper_address.Goals as goal

@@ -1,4 +1,4 @@
--- The text decodes to UTF-8 where what is left of it does.
+-- The text decodes to UTF-8 where the rest of it does.
 use Rattle.std.proofs.Common.{◌↔◌, length}
 use Rattle.std.specs.Str.{IsUtf8}
 use Rattle.percent_encoding.specs.Percent.{percent_decode}

@@ -1,4 +1,4 @@
--- A byte that is no `%` stays.
+-- A byte that isn't `%` stays.
 use Rattle.git_syntax.proofs.Texts.DecodingLemmas.{first_kept}
 use Rattle.git_syntax.proofs.escape.split_decoded.Goals as goal
 

@@ -1,4 +1,4 @@
--- A literal is decoded but for HTTP.
+-- A literal is decoded except in HTTP.
 use Rattle.std.proofs.Common.{refl}
 use Rattle.git_syntax.specs.Internal.HostPieces.{shown_literal, host_syntax}
 use Rattle.git_syntax.proofs.Parsing.HostLemmas.{literal_inner}

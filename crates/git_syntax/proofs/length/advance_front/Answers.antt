@@ -1,4 +1,5 @@
--- A window is counted up to where a path starts: that fixes the outcome, or what stands behind the window is looked at.
+-- A window is counted up to where a path starts: that fixes the
+-- outcome, or the text behind the window is looked at.
 use Rattle.std.proofs.Common.{◌∙◌, ◌++◌, sym, arith}
 use Rattle.git_syntax.proofs.Parsing.LengthLemmas.{past_window, none_left, starts_in_time, window_behind}
 use Rattle.git_syntax.proofs.length.advance_front.Goals as goal

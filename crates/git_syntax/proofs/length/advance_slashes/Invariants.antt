@@ -3,7 +3,7 @@ use Rattle.git_syntax.specs.declared.length.Stage.TheVariants.{Slashes}
 use Rattle.git_syntax.specs.Internal.LengthChecks.{is_in_time}
 use Rattle.git_syntax.proofs.length.advance_slashes.Given as goal
 
--- what is left has the outcome of all bytes
+-- the rest has the outcome of all bytes
 abbrev pub invariant-loop-rest : goal.invariant-loop-rest
 invariant-loop-rest l = (behind : List ℕ)
     → is_in_time l.web Slashes (l.rest ++ behind) ≡ is_in_time l.web Slashes (l.bytes ++ behind)

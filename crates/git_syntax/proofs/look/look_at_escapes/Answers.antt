@@ -1,4 +1,4 @@
--- The first `%` decides, and what stands behind it.
+-- The first `%` and what follows decide.
 use Rattle.std.proofs.Common.{◌&&◌, ◌∙◌, ap, sym}
 use Rattle.git_syntax.specs.Escapes.{is_sound}
 use Rattle.git_syntax.proofs.Texts.AsciiLemmas.{sound_at_cut}

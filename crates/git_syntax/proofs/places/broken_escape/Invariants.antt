@@ -1,4 +1,4 @@
--- What is left is unsound, and where its first broken escape stands the text has it, further on.
+-- The rest is unsound, and its first broken escape is that of the text, further on.
 use Rattle.std.proofs.Common.{◌≡◌, ◌≤◌, ◌+◌, ℕ, false, length}
 use Rattle.git_syntax.specs.Escapes.{is_sound}
 use Rattle.git_syntax.specs.Places.{StandsBroken}

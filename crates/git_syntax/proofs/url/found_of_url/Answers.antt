@@ -1,4 +1,5 @@
--- The scheme decides: `ext` keeps the text, a missing path is told, and any other URL means what its parts do.
+-- The scheme decides: `ext` keeps the text, a missing path is
+-- reported, and any other URL means what its parts do.
 use Rattle.std.proofs.Common.{refl, sym, ◌∙◌}
 use Rattle.std.proofs.lemmas.Bool.{both_ways, false≢true}
 use Rattle.git_syntax.proofs.Parsing.HostLemmas.{some_tested}

@@ -1,4 +1,4 @@
--- User information, and a host and a port, are what stands around the last `@`.
+-- User information, and a host and a port, are the texts around the last `@`.
 use Rattle.std.proofs.Common.{◌∷◌, ◌++◌, refl, ap, ◌∙◌}
 use Rattle.std.proofs.lemmas.Result.{err_from_is_err_and}
 use Rattle.git_syntax.specs.Bytes.{at_sign}

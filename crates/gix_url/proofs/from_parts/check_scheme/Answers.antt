@@ -1,4 +1,4 @@
--- The name that is told is the scheme's, and no helper's.
+-- The name that is reported is the scheme's, and not a helper's.
 use Rattle.std.proofs.Common.{sym, ap, ◌∙◌}
 use Rattle.std.proofs.lemmas.Bool.{cond-false}
 use Rattle.git_syntax.specs.Bytes.{is_helper_name}

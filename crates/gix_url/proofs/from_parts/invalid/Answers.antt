@@ -1,4 +1,4 @@
--- The bytes of the name are told.
+-- The bytes of the name are reported.
 use Rattle.std.proofs.Common.{refl, ap, ◌∙◌}
 use Rattle.gix_url.proofs.from_parts.invalid.Goals as goal
 

@@ -1,4 +1,4 @@
--- The location that is read without memory is the one that reading answers.
+-- The location that is read without memory is the one that reading returns.
 use Rattle.std.proofs.Common.{Ok}
 use Rattle.gix_url_c.proofs.NearLemmas.{read_near}
 use Rattle.gix_url_c.proofs.reading.gix_url_c_read.Goals as goal

@@ -1,4 +1,4 @@
--- Of an error of which no more is told the problem is all 0.
+-- For an error without details the problem is all 0.
 use Rattle.std.proofs.Common.{◌∙◌, ap, sym}
 use Rattle.gix_url_c.specs.Codes.{has_problem}
 use Rattle.gix_url_c.proofs.ProblemLemmas.{unreported}

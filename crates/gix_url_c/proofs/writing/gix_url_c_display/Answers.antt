@@ -1,4 +1,4 @@
--- What is told of the location that is made is told of the one that is given.
+-- What is answered for the location that is made is answered for the one that is given.
 use Rattle.std.proofs.Common.{subst}
 use mathlib.Core.Logic.{inr}
 use Rattle.gix_url_c.specs.Answers.{ReportsDisplay}

@@ -1,4 +1,4 @@
--- A host that is handed out is that of the location, which the text spells.
+-- A host that is returned is that of the location, which the text spells.
 use Rattle.std.proofs.Common.{◌≡◌, ℕ, List, Option, Some, None, IfSome, option_map, String, refl, sym, ap}
 use Rattle.std.specs.String.{string_bytes}
 use Rattle.gix_url.specs.Location.{Location}

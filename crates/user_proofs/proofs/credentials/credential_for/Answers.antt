@@ -1,4 +1,5 @@
--- The entry that is picked is the best, so its URL is a pattern that stands for the place, and the law is for that.
+-- The entry that is picked is the best, so its URL is a pattern that
+-- stands for the place, and the law is for that.
 use Rattle.std.proofs.Common.{◌≡◌, ◌∙◌, ℕ, false, List, ◌∷◌, ◌++◌, get_or, length, codes, Some, Ok, Bor, option_map, refl, sym, ap, subst}
 use Rattle.std.proofs.Math.Seq.{get_or-append_seam}
 use Rattle.gix_url.specs.GitClass.{AgreesWithGit}

@@ -1,4 +1,4 @@
--- A dot segment begins at the first `.`, or stands behind it.
+-- A dot segment begins at the first `.`, or follows it.
 use Rattle.std.proofs.Common.{inl, inr, refl, ⊎_elim}
 use Rattle.std.proofs.lemmas.Bool.{both_ways}
 use Rattle.git_location.proofs.SettledClass.WebClassLemmas.{no_segment, segment_cut}

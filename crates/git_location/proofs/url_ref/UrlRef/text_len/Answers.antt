@@ -1,4 +1,4 @@
--- The fault is told as it is.
+-- The fault is returned as it is.
 use Rattle.std.proofs.Common.{ap}
 use Rattle.std.proofs.lemmas.Result.{err_from_is_err_and}
 use Rattle.git_location.specs.Internal.Pieces.{text_length}

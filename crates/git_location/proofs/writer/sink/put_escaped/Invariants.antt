@@ -1,4 +1,4 @@
--- What was handed out was put.
+-- What was returned was put.
 use Rattle.std.proofs.Common.{◌≡◌, List, ℕ, ◌++◌}
 use Rattle.percent_encoding.specs.Percent.{percent_encode}
 use Rattle.percent_encoding.specs.Iter.{encoded_text}

@@ -1,4 +1,4 @@
--- What stands before the rest was put.
+-- The text before the rest was put.
 use Rattle.std.proofs.Common.{◌≡◌, List, ℕ, ◌++◌, length}
 use denote.Text.{Utf8}
 use denote.Shadow.{shadow}

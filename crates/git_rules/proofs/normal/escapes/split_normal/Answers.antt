@@ -1,4 +1,4 @@
--- A byte that is no `%` is written by itself.
+-- A byte that isn't `%` is written by itself.
 use Rattle.std.proofs.Common.{◌==◌, ◌≡◌, false}
 use Rattle.std.proofs.lemmas.Bool.{false_from_ne_true, eqb-true}
 use Rattle.git_syntax.specs.Bytes.{percent_sign}

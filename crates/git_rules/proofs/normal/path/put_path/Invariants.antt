@@ -1,4 +1,5 @@
--- The front of the room is the path of the stack so far, on which the rest is put as the whole on an empty one.
+-- The front of the buffer is the path of the stack so far, on which
+-- the rest is put as the whole on an empty one.
 use Rattle.std.proofs.Common.{◌≡◌, ◌≤◌, ◌+◌, ◌*◌, [], List, ℕ, true, length, take}
 use Rattle.git_syntax.specs.Escapes.{is_sound}
 use Rattle.git_rules.specs.Normal.{normal_segments, put_segments}

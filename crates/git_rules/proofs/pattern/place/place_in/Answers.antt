@@ -1,4 +1,4 @@
--- The text is at the front of the room, if there is one.
+-- The text is at the front of the buffer, if there is one.
 use Rattle.std.proofs.Common.{arith, length}
 use Rattle.git_location.specs.Text.{text}
 use Rattle.git_rules.proofs.Matched.PlacedLemmas.{no_text, read_front}

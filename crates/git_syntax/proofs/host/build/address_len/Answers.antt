@@ -1,4 +1,4 @@
--- What stands before the first `%` is free of it.
+-- The text before the first `%` is free of it.
 use Rattle.git_syntax.proofs.Parsing.HostLemmas.{lowercase_address_cut, lowercase_address_whole}
 use Rattle.git_syntax.proofs.host.build.address_len.Goals as goal
 

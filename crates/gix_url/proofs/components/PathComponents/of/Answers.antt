@@ -1,4 +1,4 @@
--- What the rooms lend are the components of the location.
+-- What the buffers lend are the components of the location.
 use Rattle.std.proofs.Common.{◌∙◌, inl, inr, ap, sym, ⊎_elim, subst}
 use Rattle.git_syntax.specs.Location.{Location}
 use Rattle.git_syntax.specs.Views.{lent_scheme}

@@ -1,4 +1,4 @@
--- The names and values of the next field stand before those of the rest.
+-- The names and values of the next field come before those of the rest.
 use Rattle.std.proofs.Common.{ap, arith, false, subst, sym}
 use Rattle.gix_url.specs.Internal.ComponentPieces.{LendsFields, one_field}
 use Rattle.gix_url.proofs.ComponentCuts.LentLemmas.{adds_field, adds_last, adds_raw, behind_free, field_count_cut}

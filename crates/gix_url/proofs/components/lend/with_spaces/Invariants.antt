@@ -1,4 +1,5 @@
--- What was made so far and what the rest stands for, with its spaces, make the whole, and there is room for the rest.
+-- What was made so far and what the rest stands for, with its spaces,
+-- make the whole, and there is room for the rest.
 use Rattle.std.proofs.Common.{◌≡◌, ◌++◌, ◌+◌, ◌≤◌, length, vec_len, vec_capacity}
 use Rattle.git_laws.specs.Components.{with_spaces}
 use Rattle.gix_url.specs.Internal.Meanings.{meant_by}

@@ -1,4 +1,4 @@
--- A path that doesn't begin with `/` stands behind the folder made ready.
+-- A path that doesn't begin with `/` follows the folder made ready.
 use Rattle.std.proofs.Common.{sym, ap, ◌∙◌}
 use Rattle.git_syntax.specs.Bytes.{slash, begins_with}
 use Rattle.gix_url.specs.Paths.{Joins}

@@ -1,4 +1,4 @@
--- The name of no helper is told; else the text is read, and the path kept.
+-- The name of no helper is reported; else the text is read, and the path kept.
 use Rattle.std.proofs.Common.{refl, ap, ◌∙◌, Err}
 use Rattle.std.proofs.lemmas.Result.{err_from_is_err_and}
 use Rattle.gix_url.proofs.Writing.FromPartsLemmas.{invalid_made, read_made, refused_made}

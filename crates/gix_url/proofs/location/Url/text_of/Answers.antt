@@ -1,5 +1,5 @@
--- A text and a fault exclude each other, and a fault is told as it is; a settled location has a text, which spells it
--- again.
+-- A text and a fault exclude each other, and a fault is returned as it is;
+-- a settled location has a text, which spells it again.
 use Rattle.std.proofs.Common.{inr, ap, refl, sym, ◌∙◌, Err}
 use Rattle.gix_url.specs.declared.error.Error.TheVariants.{Unwritable}
 use Rattle.git_location.proofs.Writing.PieceLemmas.{same_fault}
