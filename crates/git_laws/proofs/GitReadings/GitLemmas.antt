@@ -1,7 +1,6 @@
 -- Git reads the same place: in the text of each location of the class it reads the location's own parts.
 use Rattle.std.proofs.Common.{◌≡◌, ◌∙◌, ℕ, ◌<◌, true, false, ◌⊎◌, inl, inr, List, [], ◌∷◌, ◌++◌, length, ◌==◌, Option, Some, None, Ok, IfSome, IsUtf8, codes, refl, sym, ap, subst, arith, append_assoc}
 use Rattle.std.proofs.lemmas.Bool.Decides.{nat_tests}
-use Rattle.git_syntax.specs.declared.escape.TheConstants.{PASSWORD, USER}
 use Rattle.git_syntax.specs.Location.{Scheme, Location}
 use Rattle.git_syntax.specs.Location.Scheme.{file, git, http, https, ssh}
 use Rattle.git_syntax.specs.Addresses.{IsIpv6Text}
@@ -13,7 +12,7 @@ use Rattle.git_location.specs.Text.{raw_user, raw_host, canonical_text, text}
 use Rattle.git_location.specs.Settled.{IsValue, IsWeb, IsNormalAddress, IsScpName, IsSettledLocal, IsSettledFile, IsSettledScp, IsSettledBy, LooksLikeHelper}
 use Rattle.std.proofs.lemmas.Option.{IfSome_then}
 use Rattle.git_laws.specs.Git.{HostAndPort, on_this_machine, IsNoUrl, IsLocal, ReachesSecure, ReadsGiven}
-use Rattle.git_location.specs.GitClass.{is_contested, IsPlainPart, IsPlainHost, HasPlainParts, is_tilde_second, IsRsync, SuitsTransport, AgreesByTransport, AgreesBy}
+use Rattle.git_location.specs.GitClass.{is_contested, HasPlainParts, is_tilde_second, IsRsync, SuitsTransport, AgreesByTransport, AgreesBy}
 use Rattle.git_location.specs.WebClass.{AgreesOverWeb}
 use Rattle.git_laws.specs.GitWeb.{ReadsOwnOverWeb}
 use Rattle.git_laws.specs.GitClass.{HostForGit, own_reading, ReadsOwnBy, ReadAlike}

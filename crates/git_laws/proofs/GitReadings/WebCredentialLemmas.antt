@@ -1,6 +1,6 @@
 -- Git's credential code reads in the text of a location of HTTP of the class the location's own parts.
 use Rattle.std.proofs.Common.{◌≡◌, ◌∙◌, ℕ, ◌<◌, Bool, true, false, not, ◌||◌, ◌==◌, inl, inr, List, [], ◌∷◌, ◌++◌, length, decimal, Option, Some, None, IfSome, IsUtf8, codes, refl, sym, ap, subst, arith, append_assoc}
-use Rattle.std.specs.Prelude.{IsSome, is_some}
+use Rattle.std.specs.Prelude.{IsSome}
 use Rattle.std.specs.Char.{is_ascii_digit}
 use Rattle.std.proofs.lemmas.Bool.{cases_Bool, cond-true, cond-false, and_left, and_from, false≢true, both_ways, or_left}
 use Rattle.std.proofs.lemmas.Bool.Decides.{nat_tests}

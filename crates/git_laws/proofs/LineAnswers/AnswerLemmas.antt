@@ -1,29 +1,26 @@
 -- The answer to a line is one line: what is printed for a line without byte 10 holds none.
-use Rattle.std.proofs.Common.{◌≡◌, ℕ, ◌<◌, ◌==◌, Bool, false, not, ◌⊎◌, inl, inr, ⊎_elim, List, [], ◌∷◌, ◌++◌, append_assoc, append-nil, All, Option, Some, None, IfSome, IsUtf8, Ok, codes, refl, sym, ap, subst, ◌∙◌, arith}
+use Rattle.std.proofs.Common.{◌≡◌, ℕ, ◌<◌, Bool, false, not, ◌⊎◌, inl, inr, List, [], ◌∷◌, ◌++◌, append_assoc, append-nil, All, Option, Some, IfSome, IsUtf8, Ok, codes, refl, sym, ap, subst, ◌∙◌, arith}
 use Rattle.std.proofs.lemmas.Bool.Decides.{nat_tests}
-use Rattle.std.specs.Prelude.{◌&&◌}
 use Rattle.std.proofs.lemmas.Bool.{and_left, both_ways, cases_Bool, cond-true, cond-false, false≢true}
 use Rattle.std.proofs.lemmas.List.Elements.{All-append, All-cons, All-head, All-nil, All-tail}
 use Rattle.std.proofs.lemmas.Option.{same_Some}
 use Rattle.percent_encoding.specs.Percent.{percent_decode, percent_encode}
-use Rattle.git_syntax.specs.declared.escape.TheConstants.{PATH, PASSWORD, USER}
+use Rattle.git_syntax.specs.declared.escape.TheConstants.{PATH}
 use Rattle.git_syntax.specs.declared.refusal.UrlFault.{UrlFault}
 use Rattle.git_syntax.specs.declared.refusal.UrlFault.TheVariants as fault
 use Rattle.git_syntax.specs.declared.refusal.Refusal.{Refusal}
 use Rattle.git_syntax.specs.declared.refusal.Refusal.TheVariants as refusal
-use Rattle.git_syntax.specs.Location.{Scheme, Location, path_alone}
-use Rattle.git_syntax.specs.Location.Scheme.{file, git, ssh, http, https, helper_url}
-use Rattle.git_syntax.specs.Bytes.{tab, newline, slash, tilde, colon, at_sign, left_bracket, right_bracket, FreeOf, begins_with, lowercase}
-use Rattle.git_syntax.specs.Escapes.{escaped_percents}
-use Rattle.git_syntax.specs.Addresses.{Literal, is_zone_byte}
-use Rattle.git_syntax.specs.Addresses.Literal.{address, zoned}
-use Rattle.git_syntax.specs.AddressTest.{is_ipv6_text}
+use Rattle.git_syntax.specs.Location.{Scheme, Location}
+use Rattle.git_syntax.specs.Location.Scheme.{git, ssh, http, https, helper_url}
+use Rattle.git_syntax.specs.Bytes.{tab, newline, colon, at_sign, left_bracket, right_bracket, FreeOf, lowercase}
+use Rattle.git_syntax.specs.Addresses.{Literal}
+use Rattle.git_syntax.specs.Addresses.Literal.{address}
 use Rattle.git_syntax.specs.Hosts.{HostSyntax, Number, SpellsHostPort, is_http_host_byte}
-use Rattle.git_syntax.specs.Schemes.{scheme_of, scheme_text, host_syntax_of, requires_path}
+use Rattle.git_syntax.specs.Schemes.{scheme_of, scheme_text, host_syntax_of}
 use Rattle.git_syntax.specs.Authority.{unless_empty, Authority}
 use Rattle.git_syntax.specs.Authority.Authority.{host_alone, with_user}
 use Rattle.git_syntax.specs.Grammar.{UrlSyntax, HasUrlSyntax, MeansByScheme, MeansAs, SpellsFile, SpellsScpBefore, SpellsScpAddressed, ScpUser, Spells, scp_location, from_home}
-use Rattle.git_location.specs.Text.{keeps_host, open_host, needs_brackets, wants_brackets, canonical_host, host_part, user_information, port_part, root_part, plain_path, matching_or, canonical_path, raw_user, raw_host, text}
+use Rattle.git_location.specs.Text.{keeps_host, open_host, canonical_host, host_part, user_information, port_part, root_part, plain_path, matching_or, canonical_path, raw_user, raw_host, text}
 use Rattle.git_location.specs.Settled.{HasMatch, IsRawPath, IsWeb, IsWebHost, IsNormalName, IsBareHost, IsBracketedHost, IsScpName, IsNormalAddress, IsSettledUrl, IsSettledWeb, IsSettledSecure, IsSettledGit, IsSettledHelperUrl, IsSettledBy, IsSettled}
 use Rattle.git_location.specs.Settled.IsWebHost.{literal, literal_colon, named, named_colon}
 use Rattle.git_location.specs.Internal.SettledPieces.{IsWrittenAsUrl}

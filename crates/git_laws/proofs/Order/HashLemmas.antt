@@ -1,5 +1,5 @@
 -- A hasher is fed the same only for equal values.
-use Rattle.std.proofs.Common.{◌≡◌, ℕ, ◌<◌, Bool, List, [], ◌∷◌, ◌++◌, Option, IfSome, is_some, option_map, ap, arith}
+use Rattle.std.proofs.Common.{◌≡◌, ℕ, ◌<◌, Bool, List, ◌∷◌, ◌++◌, Option, IfSome, is_some, option_map, arith}
 use Rattle.std.proofs.lemmas.Bool.Decides.{nat_tests}
 use Rattle.std.specs.Hash as fed
 use Rattle.std.specs.Hash.{HashWrites, le_bytes}

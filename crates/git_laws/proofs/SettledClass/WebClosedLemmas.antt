@@ -1,5 +1,5 @@
 -- Locations of HTTP: what is read is settled, with two exceptions.
-use Rattle.std.proofs.Common.{◌≡◌, ◌≢◌, ℕ, ◌<◌, Bool, true, false, ◌==◌, ◌⊎◌, inl, inr, List, [], ◌∷◌, ◌++◌, length, Option, Some, None, Ok, IsSome, IsUtf8, refl, sym, ap, subst, ◌∙◌, arith, append_assoc, codes, lit<}
+use Rattle.std.proofs.Common.{◌≡◌, ◌≢◌, ℕ, ◌<◌, Bool, true, false, ◌==◌, ◌⊎◌, inl, inr, List, [], ◌∷◌, ◌++◌, length, Option, Some, None, IsSome, IsUtf8, refl, sym, ap, subst, ◌∙◌, arith, append_assoc, codes, lit<}
 use Rattle.std.specs.Prelude.{IfSome}
 use Rattle.std.specs.List.{list_all}
 use Rattle.std.specs.Char.{to_ascii_lowercase, is_digit}
@@ -16,12 +16,11 @@ use Rattle.git_syntax.specs.Escapes.{is_sound, has_percent}
 use Rattle.git_syntax.specs.Hosts.{HostSyntax, is_dns_byte, is_http_host_byte, normal_host, HostText, SpellsHostPort}
 use Rattle.git_syntax.specs.Hosts.HostSyntax.{http_hosts}
 use Rattle.git_syntax.specs.Hosts.SpellsHostPort.{nothing, bracketed, bracketed_colon, bracketed_port, unbracketed, plain, plain_colon, plain_port, colons}
-use Rattle.git_syntax.specs.Schemes.{is_web_scheme, scheme_of, scheme_text, host_syntax_of}
+use Rattle.git_syntax.specs.Schemes.{is_web_scheme, scheme_of, host_syntax_of}
 use Rattle.git_syntax.specs.Authority.{unless_empty, user_beside, Credentials, Authority}
-use Rattle.git_syntax.specs.Authority.Credentials.{user_alone, with_password}
 use Rattle.git_syntax.specs.Authority.Authority.{host_alone, with_user}
 use Rattle.git_syntax.specs.Grammar.{UrlSyntax, HasUrlSyntax, or_root, retained_spelling, MeansAs, SpellsUrl}
-use Rattle.git_location.specs.Text.{user_information, host_part, port_part, root_part, plain_path, matching_or, canonical_text, text}
+use Rattle.git_location.specs.Text.{plain_path, matching_or, text}
 use Rattle.git_location.specs.Settled.{first_byte, IsFairSpelling, HasFittingText, IsWebName, IsWebHost, IsSettledWeb, IsWeb, IsHosted}
 use Rattle.git_location.specs.Settled.IsWebHost.{literal, literal_colon, named, named_colon}
 use Rattle.git_syntax.proofs.Texts.CutLemmas.{free-append, free_begins, free_of_all, free_parts}

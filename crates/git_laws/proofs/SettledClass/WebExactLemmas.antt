@@ -17,7 +17,7 @@ use Rattle.git_syntax.specs.Schemes.{is_web_scheme, scheme_of, scheme_text, host
 use Rattle.git_syntax.specs.Authority.{Authority, FitsText}
 use Rattle.git_syntax.specs.Authority.Authority.{host_alone, with_user}
 use Rattle.git_syntax.specs.Grammar.{UrlSyntax, HasUrlSyntax, SpellsUrl, Spells}
-use Rattle.git_location.specs.Text.{has_colon, wants_brackets, needs_brackets, user_information, host_part, port_part, canonical_path, canonical_text, text}
+use Rattle.git_location.specs.Text.{has_colon, wants_brackets, needs_brackets, user_information, canonical_path, canonical_text, text}
 use Rattle.git_location.specs.Settled.{IsSettledWeb, IsWeb}
 use Rattle.git_laws.proofs.Writing.WrittenPieces.{WritesInformation}
 use Rattle.git_syntax.proofs.Texts.CutLemmas.{begins-append, lacks-append, lacks-cons, lacks_of_all, free_of_all, free_of_lacked, held_free, lacks_weaker, mark_cut_unique, not_free, path_cut_unique, scheme_text_free}

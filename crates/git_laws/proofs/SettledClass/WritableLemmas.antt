@@ -1,5 +1,5 @@
 -- What is read has a text, and isn't taken for a stored location of the legacy form.
-use Rattle.std.proofs.Common.{◌≡◌, ℕ, ◌<◌, ◌≤◌, true, false, ◌==◌, ◌&&◌, inl, inr, ◌⊎◌, ⊎_elim, List, [], ◌∷◌, ◌++◌, length, Option, Some, None, Ok, IsSome, refl, sym, ap, subst, ◌∙◌, arith, codes}
+use Rattle.std.proofs.Common.{◌≡◌, ℕ, ◌<◌, ◌≤◌, true, false, ◌==◌, inl, inr, ◌⊎◌, ⊎_elim, List, [], ◌∷◌, ◌++◌, length, Option, Some, None, Ok, IsSome, refl, sym, ap, subst, ◌∙◌, arith, codes}
 use Rattle.std.proofs.lemmas.Bool.Decides.{nat_tests}
 use Rattle.std.specs.Option.{is_some}
 use Rattle.std.proofs.lemmas.Bool.{cond-true, cond-false, cases_Bool, and_parts, or_cases, both_ways, false≢true}
@@ -11,7 +11,7 @@ use Rattle.git_syntax.specs.Location.Scheme.{file, git, ssh, http, https, helper
 use Rattle.git_syntax.specs.Bytes.{slash, tilde, begins_with, lowercase, StartsPath}
 use Rattle.git_syntax.specs.Escapes.{is_sound, has_percent, begins_with_digits}
 use Rattle.git_syntax.specs.Hosts.{HostSyntax}
-use Rattle.git_syntax.specs.Schemes.{is_ssh_scheme, is_web_scheme, scheme_of, host_syntax_of}
+use Rattle.git_syntax.specs.Schemes.{is_ssh_scheme, is_web_scheme, host_syntax_of}
 use Rattle.git_syntax.specs.Authority.{unless_empty, Authority}
 use Rattle.git_syntax.specs.Authority.Authority.{host_alone, with_user}
 use Rattle.git_syntax.specs.Grammar.{HostFor, UrlSyntax, HasUrlSyntax, MeansByScheme, MeansAs, SpellsUrl, SpellsScp, Spells, from_home, or_root, path_for, retained_spelling}

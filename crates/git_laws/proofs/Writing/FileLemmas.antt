@@ -1,8 +1,8 @@
 -- File URLs: what is read as one is settled with one exception, a
 -- settled one comes back, and nothing else does.
-use Rattle.std.proofs.Common.{◌≡◌, ℕ, Bool, true, false, not, ◌&&◌, ◌⊎◌, inl, inr, List, [], ◌∷◌, ◌++◌, length, Option, Some, None, Ok, Err, refl, sym, ap, subst, ◌∙◌, arith, codes, lit<, if◌then◌else◌}
+use Rattle.std.proofs.Common.{◌≡◌, ℕ, Bool, true, false, not, ◌&&◌, ◌⊎◌, inr, List, [], ◌∷◌, ◌++◌, length, Option, Some, None, Ok, Err, refl, sym, ap, subst, ◌∙◌, arith, codes, lit<, if◌then◌else◌}
 use Rattle.std.proofs.lemmas.Bool.Decides.{nat_tests}
-use Rattle.std.specs.Prelude.{IfSome, IsUtf8, is_some, is_none}
+use Rattle.std.specs.Prelude.{IfSome, IsUtf8}
 use Rattle.std.specs.Result.{is_ok}
 use Rattle.std.proofs.lemmas.Bool.{cond-true, cond-false, and_left, and_right, and_parts, not-true, false≢true}
 use Rattle.std.proofs.lemmas.List.{append_cancel_left}
@@ -12,13 +12,11 @@ use Rattle.percent_encoding.specs.Percent.{percent_decode}
 use Rattle.git_location.specs.declared.write_error.WriteFault.TheVariants.{UserWithoutHost}
 use Rattle.git_syntax.specs.Location.{Location, fields, path_alone}
 use Rattle.git_syntax.specs.Location.Scheme.{file}
-use Rattle.git_syntax.specs.Bytes.{slash, colon, left_bracket, right_bracket, FreeOf, begins_with}
-use Rattle.git_syntax.specs.Internal.Cuts.{url_mark}
-use Rattle.git_syntax.specs.Escapes.{has_percent, escaped_percents}
-use Rattle.git_syntax.specs.Schemes.{scheme_text}
+use Rattle.git_syntax.specs.Bytes.{slash, colon, left_bracket, FreeOf, begins_with}
+use Rattle.git_syntax.specs.Escapes.{has_percent}
 use Rattle.git_syntax.specs.Authority.{unless_empty}
 use Rattle.git_syntax.specs.Grammar.{SpellsFile, Spells}
-use Rattle.git_location.specs.Text.{with_host, choice_by, choice, has_colon, wants_brackets, needs_brackets, user_information, host_part, port_part, matching_or, canonical_path, canonical_text, in_form, text}
+use Rattle.git_location.specs.Text.{has_colon, needs_brackets, user_information, host_part, port_part, matching_or, canonical_path, canonical_text, in_form, text}
 use Rattle.git_location.specs.Text.Form.{canonical_form}
 use Rattle.git_location.specs.Settled.{IsValue, HasMatch, IsFileHost, IsSettledFile, IsSettled}
 use Rattle.git_laws.specs.Laws.{ComesBack}

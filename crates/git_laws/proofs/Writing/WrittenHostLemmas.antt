@@ -15,7 +15,7 @@ use Rattle.git_syntax.specs.Escapes.{has_percent, is_password_escaped, escaped_p
 use Rattle.git_syntax.specs.Addresses.{IsIpv6Text, Literal}
 use Rattle.git_syntax.specs.AddressTest.{is_ipv6_text}
 use Rattle.git_syntax.specs.Hosts.{HostSyntax, normal_host, HostText, AllowsPort, Bracketed, IsPlainHost, SpellsHostPort}
-use Rattle.git_syntax.specs.Hosts.HostSyntax.{http_hosts, git_hosts, other_hosts}
+use Rattle.git_syntax.specs.Hosts.HostSyntax.{http_hosts, git_hosts}
 use Rattle.git_syntax.specs.Grammar.{IsSshHost}
 use Rattle.git_location.specs.Text.{has_colon, wants_brackets, keeps_host, open_host, needs_brackets, port_part}
 use Rattle.git_location.specs.Settled.{IsNormalName, IsNormalAddress, IsBareHost, IsBracketedHost}
