@@ -80,7 +80,7 @@ fn fill(alloc: Global, record: &mut StoredUrl, parts: Order<'_>) -> Result<(), H
     Ok(())
 }
 
-/// The scheme that a text tells.
+/// The scheme that a text has.
 pub fn scheme(alloc: Global, given: &str) -> Result<Scheme, Halt> {
     match given {
         "File" => Ok(Scheme::File),
@@ -93,7 +93,7 @@ pub fn scheme(alloc: Global, given: &str) -> Result<Scheme, Halt> {
     }
 }
 
-/// The scheme that a text with a name tells.
+/// The scheme that a text with a name has.
 fn named_scheme(alloc: Global, given: &str) -> Result<Scheme, Halt> {
     match given.split_once(' ') {
         Some(("Helper", name)) => Ok(Scheme::Helper(String::from_str(alloc, name)?)),
@@ -114,7 +114,7 @@ pub fn user(alloc: Global, order: Order<'_>, name: &str) -> Result<Option<ForUse
     }
 }
 
-/// The judgement of a part that a member tells, as `{"usable": "h"}`; none where the order lacks it.
+/// The judgement of a part in a member, as `{"usable": "h"}`; none where the order lacks it.
 pub fn judgement<'a>(order: Order<'a>, name: &str) -> ArgumentSafety<'a> {
     let Some(given) = order.object(name) else {
         return ArgumentSafety::Absent;

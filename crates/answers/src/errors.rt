@@ -275,7 +275,7 @@ fn bare_error(name: &str, rest: &str) -> Result<Error, Halt> {
     }
 }
 
-/// The error of a stream with the kind and the words that an order tells.
+/// The error of a stream with the kind and the words in an order.
 fn stream_error(order: Order<'_>) -> io::Error {
     let kind = match order.text("kind") {
         Some("BrokenPipe") => ErrorKind::BrokenPipe,
@@ -289,7 +289,7 @@ fn stream_error(order: Order<'_>) -> io::Error {
     }
 }
 
-/// The error of a run that an order tells.
+/// The error of a run in an order.
 pub fn run_error(order: Order<'_>) -> Result<RunError, Halt> {
     match order.needed("error")? {
         "Memory" => Ok(RunError::Memory),
@@ -299,7 +299,7 @@ pub fn run_error(order: Order<'_>) -> Result<RunError, Halt> {
     }
 }
 
-/// The error of writing that an order tells: a fault, or that of a stream.
+/// The error of writing in an order: a fault, or that of a stream.
 pub fn write_error(order: Order<'_>) -> Result<WriteError, Halt> {
     match order.text("fault") {
         Some(name) => Ok(WriteError::Fault(write_fault(name)?)),
@@ -307,7 +307,7 @@ pub fn write_error(order: Order<'_>) -> Result<WriteError, Halt> {
     }
 }
 
-/// The outcome of a run that an order tells.
+/// The outcome of a run in an order.
 pub fn outcome(order: Order<'_>) -> Result<Result<bool, RunError>, Halt> {
     if order.has("error") {
         return Ok(Err(run_error(order)?));

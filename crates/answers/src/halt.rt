@@ -10,7 +10,7 @@ pub enum Halt {
     Unread,
     /// It names no call, or not over what it says.
     Unknown,
-    /// What the call is over was not made: memory was refused, or the order tells no such thing.
+    /// What the call is over was not made: memory was refused, or the order has no such member.
     Unprepared,
     /// The call changed what it only borrows.
     Changed,

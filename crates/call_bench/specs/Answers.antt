@@ -1,4 +1,4 @@
--- What the exports return: numbers, which are told by what they say of a location.
+-- What the exports return: numbers, defined by what they say of a location.
 use Rattle.std.specs.Prelude.{◌≡◌, ◌<◌, ℕ, List, Option, IsUtf8, codes, length, None, Some, Ok}
 use Rattle.gix_url.specs.Components.{Components, ComponentsOf}
 use Rattle.gix_url.specs.Display.{display}

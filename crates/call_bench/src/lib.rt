@@ -23,7 +23,7 @@ use gix_url::{ParseError, Refusal, Url, UrlRef, expand_path};
 use std::alloc::Global;
 use std::cmp::Ordering;
 
-/// The length of the text of the location, told without the text.
+/// The length of the text of the location, without the text.
 #[unsafe(no_mangle)]
 pub extern "C" fn call_bench_text_len(alloc: Global, bytes: &[u8]) -> usize
     ensures { SaysOf IsTextLength bytes.now result }

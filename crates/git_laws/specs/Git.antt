@@ -1,6 +1,6 @@
 -- What Git reads in a text that it is given for a place, on Linux: the place of one of its own transports. A text that Git
 -- hands to a remote helper, takes for an option or refuses has no such reading, nor has one of which Secure Shell refuses
--- the user. No proof says that Git keeps to it: `scripts/git_witness` compares a second reading of it with what Git tells.
+-- the user. No proof says that Git keeps to it: `scripts/git_witness` compares a second reading of it with Git.
 use Rattle.std.specs.Prelude.{◌≡◌, ℕ, zero, suc, ◌+◌, ◌*◌, ◌<◌, Bool, false, not, ◌&&◌, ◌||◌, ◌==◌, nat_le, ◌⊎◌, List, [], ◌∷◌, ◌++◌, length, codes, Option, Some, None, if◌then◌else◌}
 use Rattle.std.specs.List.{list_all}
 use Rattle.std.specs.Char.{digit_value, is_ascii_digit}

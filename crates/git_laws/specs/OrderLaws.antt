@@ -120,7 +120,7 @@ location_total =
     (then_total (on_total (λ v. v.path) nat_list_cmp_total)
     (on_total (λ v. v.spelling) text_total)))))))
 
--- ---- what is equal is what the order doesn't tell apart
+-- ---- what is equal is what the order doesn't distinguish
 
 -- of what may be missing, too
 options_tie : {K : Type 0} (E : K → K → Bool) (R : K → K → Ordering)

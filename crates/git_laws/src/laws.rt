@@ -16,7 +16,7 @@ ghost use Rattle.git_laws.specs.Order.{fed_location, fed_scheme, location_cmp, l
 ghost use Rattle.git_laws.specs.Records.{KeepsMeaning, MigratedOnce, Migrates, RespelledOnce};
 ghost use Rattle.git_laws.specs.Safeguards.{SettledWithoutPassword, SettledWithoutSpelling, WebSettledWithoutSpelling};
 
-/// Texts tell locations apart.
+/// Texts distinguish locations.
 ///
 /// - `unique`: no bytes spell two locations, the retained spelling included. So what `parse` answers is the one
 ///   location of its input.
@@ -103,10 +103,10 @@ pub fn law_closed()
 ///   that `==` does.
 /// - `total`: the order is total. Of two locations one comes first or they are equal, whatever is between them.
 /// - `hashed`: equal locations feed a hasher the same. So a `HashMap` finds what `==` does.
-/// - `hashed_apart`: and no others do. No part is left out, so a good hasher tells any two locations apart. (Each `Url`
+/// - `hashed_apart`: and no others do. No part is left out, so a good hasher distinguishes any two locations. (Each `Url`
 ///   is such a value: `law_value`.)
-/// - `spelling_last`: the public fields decide the order, and the retained spelling only where they are all equal. Who
-///   wants to compare the public fields alone finds them side by side in a sorted list.
+/// - `spelling_last`: the public fields decide the order, and the retained spelling only where they are all equal. So
+///   those with equal public fields are side by side in a sorted list.
 ///
 /// Equality is no test for one repository: it knows nothing of default ports, of letter case in paths or of how two
 /// texts of one location differ.

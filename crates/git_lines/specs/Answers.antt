@@ -114,13 +114,13 @@ IsBeforeWriting run.Memory = Unit {0}
 IsBeforeWriting (run.Read e) = Unit {0}
 IsBeforeWriting (run.Write e) = ⊥
 
--- the call appended the answer to the line, and told whether it is settled, or memory was refused
+-- the call appended the answer to the line, and reported whether it is settled, or memory was refused
 abbrev pub AppendsAnswer : List ℕ → List ℕ → List ℕ → Result Bool RunError → Type 0
 AppendsAnswer line old new (Ok good) = (answer : List ℕ) × IsAnswer line answer good
     × (new ≡ old ++ answer)
 AppendsAnswer line old new (Err fault) = fault ≡ run.Memory
 
--- the call appended what is reported of the location, and told whether it is settled, or memory was refused
+-- the call appended what is reported of the location, and returned whether it is settled, or memory was refused
 abbrev pub Reports : Location → List ℕ → List ℕ → Result Bool RunError → Type 0
 Reports v old new (Ok good) = (answer : List ℕ) × IsReported v answer good × (new ≡ old ++ answer)
 Reports v old new (Err fault) = fault ≡ run.Memory

@@ -43,7 +43,7 @@ pub record SpellsAgain (v : Location) (b : List ℕ) : Type 0 where
   pub again : IsAgain v back
 
 -- what a call left that wrote a text to a writer: on `Ok` the text is appended; where there is none the fault is
--- told and the writer is as it was
+-- reported and the writer is as it was
 abbrev pub Written : {W : Type 0} → (W → Option (List ℕ)) → W → W → Result (List ℕ) WriteFault
     → Result (Unit {0}) WriteError → Type 0
 Written contents old new (Ok t) (Ok u) = Appends (contents old) (contents new) t

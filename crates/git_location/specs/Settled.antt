@@ -48,7 +48,7 @@ pub record IsOpenName (host : List ℕ) : Type 0 where
   pub no_left_bracket : FreeOf left_bracket host
   pub no_right_bracket : FreeOf right_bracket host
 
--- the location has neither user nor password nor port, so that before its path at most a host stands
+-- the location has neither user nor password nor port, so that before its path there is at most a host
 abbrev pub HasAtMostHost : Location → Type 0
 HasAtMostHost v = (v.user ≡ None) × (v.password ≡ None) × (v.port ≡ None)
 

@@ -81,7 +81,7 @@ abbrev pub raw_user : Option (List ℕ) → List ℕ
 raw_user None = []
 raw_user (Some user) = user ++ at_sign ∷ []
 
--- the host, raw, in brackets where it wants them
+-- the host, raw, in brackets where it needs them
 abbrev pub raw_host : Option (List ℕ) → List ℕ
 raw_host None = []
 raw_host (Some host) = if wants_brackets host then left_bracket ∷ (host ++ right_bracket ∷ [])
@@ -121,7 +121,7 @@ open_host scheme host = if keeps_host scheme then host
     else (if is_ipv6_text host then percent_encode password_set host
     else percent_encode user_set host)
 
--- the host goes between brackets: it wants them, and there is a port, or a `%` in it
+-- the host goes between brackets: it needs them, and there is a port, or a `%` in it
 abbrev pub needs_brackets : Option ℕ → List ℕ → Bool
 needs_brackets port host = wants_brackets host && (is_some port || has_percent host)
 

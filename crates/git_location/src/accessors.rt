@@ -1,4 +1,4 @@
-//! The parts of a borrowed location that its scheme or its path tell: the port, and whether the path is the root.
+//! The parts of a borrowed location that follow from its scheme or its path: the port, and whether the path is the root.
 //!
 //! It uses `url_ref` alone, and takes no memory. Its contract: the answers are those of the fields.
 
@@ -29,7 +29,7 @@ impl UrlRef<'_> {
         }
     }
 
-    /// Whether the path is `/`, as [`Url::path_is_root`] tells. It takes no memory.
+    /// Whether the path is `/`, as [`Url::path_is_root`] reports. It takes no memory.
     ///
     /// ```
     /// fn names_a_repository(url: &UrlRef<'_>) -> bool {

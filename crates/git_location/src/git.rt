@@ -21,7 +21,7 @@ use percent_encoding::AsciiSet;
 use web::agrees_over_web;
 
 impl UrlRef<'_> {
-    /// Whether Git reads this very place in the text of the location, as [`Url::agrees_with_git`] tells. It takes no
+    /// Whether Git reads this very place in the text of the location, as [`Url::agrees_with_git`] reports. It takes no
     /// memory.
     ///
     /// ```

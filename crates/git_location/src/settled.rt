@@ -25,7 +25,7 @@ use scp::is_settled_scp;
 use url::{is_settled_git, is_settled_helper_url, is_settled_secure, is_settled_web};
 
 impl UrlRef<'_> {
-    /// Whether the location is of the settled class, as [`Url::is_settled`] tells. It takes no memory.
+    /// Whether the location is of the settled class, as [`Url::is_settled`] reports. It takes no memory.
     ///
     /// ```
     /// /// Writes the location if others read it as the same.

@@ -2,7 +2,7 @@
 //!
 //! The text is laid out once, as pieces: slices of the location with the way that each is written. `form`
 //! chooses the form, `layout` the pieces, `piece` adds up their lengths and puts them into a sink, `unescaped`
-//! tells texts that need no escape, and `sink`, `fill` and `show` are the sinks. The contract of each public
+//! finds texts that need no escape, and `sink`, `fill` and `show` are the sinks. The contract of each public
 //! call is the text of the definitions.
 
 ghost use Rattle.std.specs.Prelude.{◌≡◌, [], Ok, Err, IsOk, IfOk, IfErr, length};
@@ -78,7 +78,7 @@ impl<'a> UrlRef<'a> {
     }
 
     /// Puts the text of the location at the front of the room, if it fits, and answers its length. The rest
-    /// of the room is as it was; so is all of it where the text doesn't fit, which the length tells, or where
+    /// of the room is as it was; so is all of it where the text doesn't fit, which the length shows, or where
     /// there is none. It takes no memory.
     ///
     /// ```

@@ -121,7 +121,7 @@ fn is_enough(text: usize, room: usize) -> bool
 }
 
 /// A text has one normal form at most; and where all readers agree in the text of a location of HTTP, as
-/// [`git_location::url_ref::UrlRef::agrees_with_git`] tells, its normal form has the location's own scheme and host, the
+/// [`git_location::url_ref::UrlRef::agrees_with_git`] reports, its normal form has the location's own scheme and host, the
 /// location's port where that isn't the scheme's own, and its user as it is written.
 pub fn law_normal_form()
     ensures one { OneNormalForm }

@@ -254,7 +254,7 @@ KindFlaw b kind.Url named at len = UrlFlaw b at len named
 KindFlaw b kind.Scp named at len = ScpFlaw b named at len
 KindFlaw b kind.Local named at len = ⊥
 
--- the flaw that the refusal names is in the bytes, at the place that it tells: a missing path would be at the end,
+-- the flaw that the refusal names is in the bytes, at the place that it reports: a missing path would be at the end,
 -- and what is no UTF-8 is reported by its first byte
 abbrev pub NamesFlaw : List ℕ → Refusal → Type 0
 NamesFlaw b refusal.EmptyLocal = b ≡ []

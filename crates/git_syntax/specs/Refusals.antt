@@ -8,11 +8,11 @@ use Rattle.git_syntax.specs.Location.{Location}
 use Rattle.git_syntax.specs.Grammar.{Spells}
 use Rattle.git_syntax.specs.Flaws.{MissesPath, HasForm, IsTooLong, KindFlaw, NamesFlaw}
 
--- nor by bytes in which the flaw of a refusal stands
+-- nor by bytes in which the flaw of a refusal is
 abbrev pub RefusalExclusive : Type 0
 RefusalExclusive = (b : List ℕ) (r : Refusal) (v : Location) → NamesFlaw b r → ¬ Spells b v
 
--- where the place ends that a refusal tells
+-- where the place ends that a refusal reports
 abbrev pub place_end : Refusal → ℕ
 place_end refusal.EmptyLocal = 0
 place_end (refusal.MissingPath kind at) = at

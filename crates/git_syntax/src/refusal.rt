@@ -65,7 +65,7 @@ pub struct Fault {
 }
 
 /// Why a text spells no location, and where: `len` bytes of the text are wrong, behind its first `at`. It borrows from the
-/// text, which isn't told with it except for a front.
+/// text, of which it holds at most a front.
 ///
 /// The place is what is there and should not be: the character that is white space, the `%` of a broken escape, the first
 /// backslash of an authority, the user, the password or the path that decodes to no text, the host that is none, or all of a

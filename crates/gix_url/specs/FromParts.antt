@@ -63,7 +63,7 @@ GivesBack given (Err e) = e ≡ error.Memory
 
 -- what making a location of parts answers
 pub record MadeOf (given : Location) (result : Result Location Error) : Type 0 where
-  -- a name that no remote helper can have is refused, and told
+  -- a name that no remote helper can have is refused, and reported
   pub helper_name : (name : List ℕ) → invalid_name given.scheme ≡ Some name
       → (e : Error) × (result ≡ Err e) × ReportsName name e
   -- else a fault of their text

@@ -57,7 +57,7 @@ user_equiv = decided user_eq user_decides
 pub user_total : IsTotalOrder user_cmp
 user_total = on_total user_name text_total
 
--- what is equal is what the order doesn't tell apart
+-- what is equal is what the order doesn't distinguish
 pub user_ties : (u v : HomeUser) → user_eq u v ≡ eq_by_cmp user_cmp u v
 user_ties u v = text_ties (user_name u) (user_name v)
 

@@ -15,7 +15,7 @@ use thiserror::Error;
 /// Why a text or a value was refused.
 ///
 /// `Display` says it in words, `Debug` by its fields. Neither shows bytes of a text that was refused, which may hold a
-/// password: `Debug` shows their length, and the user of `NoHome` as it is. Who wants the bytes finds them in the fields.
+/// password: `Debug` shows their length, and the user of `NoHome` as it is. The bytes are in the fields.
 ///
 /// The errors of reading report where the text is wrong, as a [`Refusal`](crate::Refusal) does: `len` bytes of it, behind its
 /// first `at`.

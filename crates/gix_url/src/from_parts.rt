@@ -25,7 +25,7 @@ impl Url {
     /// meant another path, what comes out may be unsettled, see [`Url::is_settled`]. The last argument asks for the form
     /// that is no URL, where the scheme has one; what comes out has the form of the text.
     ///
-    /// What to know of the parts: a path of HTTP holds the query and the fragment; an IPv6 text of Secure Shell stands
+    /// What to know of the parts: a path of HTTP holds the query and the fragment; an IPv6 text of Secure Shell is
     /// without brackets; the port can be 0 outside of HTTP; user and host can begin with `-`, so ask before they go
     /// into a command line.
     ///

@@ -38,7 +38,7 @@ pub fn law_readers()
 ///   So no reader that keeps to these definitions takes what [`parse`](crate::parse::parse) refuses.
 /// - `refusal`: so it is with the flaw of a [`Refusal`](crate::Refusal), which reading into a room names, and the answer to
 ///   a line.
-/// - `within`: the place that a refusal tells is in its text, so the text can be cut there.
+/// - `within`: the place that a refusal reports is in its text, so the text can be cut there.
 /// - `flawless`: no flaw is in bytes that spell a location, whether or not there is an error that holds a copy of
 ///   them.
 /// - `decided`: bytes spell a location, or one of these flaws is in them. There is no third case, and by `flawless`

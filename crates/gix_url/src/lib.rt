@@ -1,4 +1,4 @@
-//! Git locations: remote helpers, URLs, the scp form and local paths, read, written and told apart.
+//! Parses, writes and compares Git locations: remote helpers, URLs, the scp form and local paths.
 //!
 //! [`parse::parse`] reads bytes and [`Url::from_text`] text; [`Url::write_to`] and [`Url::to_bstring`] write a
 //! location, and one that [`Url::is_settled`] accepts comes back with the same public fields and the same text.

@@ -17,7 +17,7 @@ use std::marker::Model;
 /// Contracts see all eight parts of it as one value, the retained spelling of its path among them.
 ///
 /// The fields may be changed by hand. A location may have no text then, or one that is read as something else:
-/// [`Url::is_settled`] tells. `Debug` and `Display` show `redacted` in place of the field `password`, and hide nothing
+/// [`Url::is_settled`] reports. `Debug` and `Display` show `redacted` in place of the field `password`, and hide nothing
 /// else: a secret that is in a path or a query, or in the user's place, is shown.
 ///
 /// ```
@@ -46,7 +46,7 @@ pub struct Url {
     /// The port. It may be 0, which only HTTP's locations are refused with when they are read.
     pub port: Option<u16>,
     /// The path, decoded. It may be any bytes, and may begin with `-`. The path of an HTTP location holds its query and its
-    /// fragment too, where a decoded `?` or `#` looks like one that separates them: [`Url::path_query_fragment`] tells them
+    /// fragment too, where a decoded `?` or `#` looks like one that separates them: [`Url::path_query_fragment`] keeps them
     /// apart. A home folder of Secure Shell and Git is at its front without a `/`, as in `~user/repo`.
     pub path: BString,
     /// The escaped spelling of the path, where the text had one. It counts while it still stands for the path.

@@ -71,7 +71,7 @@ write_fault_number unwritten.UserWithoutHost = 4
 abbrev pub problem_numbered : ℕ → ℕ → ℕ → ℕ → Problem
 problem_numbered kind fault shown total = record { kind = kind; fault = fault; shown = shown; total = total }
 
--- what is reported where there is no more to tell than the number
+-- what is reported where the number says all
 abbrev pub no_problem : Problem
 no_problem = problem_numbered 0 0 0 0
 

@@ -11,7 +11,7 @@ use Rattle.gix_url_c.specs.declared.place.Place.{Place}
 abbrev pub place_at : ℕ → ℕ → Place
 place_at at len = record { at = at; len = len }
 
--- the place that an answer tells: where a fault has no length, or there is none, it is no byte long
+-- the place that an answer reports: where a fault has no length, or there is none, it is no byte long
 abbrev pub place_of : Result Location ParseError → Place
 place_of (Ok v) = place_at 0 0
 place_of (Err unread.NoRoom) = place_at 0 0

@@ -1,4 +1,4 @@
-//! The numbers by which C is told what a call answers.
+//! The numbers that C gets for what a call returns.
 //!
 //! It uses the library's errors alone. Its contract: the numbers are those of the definitions, which the header repeats.
 
@@ -19,13 +19,13 @@ pub const NO_LOCATION: u32 = 101;
 /// The answer doesn't fit into the room.
 pub const NO_ROOM: u32 = 102;
 
-/// What is told of an error beside its number.
+/// What is reported of an error beside its number.
 #[repr(C)]
 #[derive(Drop)]
 pub struct Problem {
-    /// The form that a text was taken for: 1 a URL, 2 the scp form, 3 a local path; 0 where none is told.
+    /// The form that a text was taken for: 1 a URL, 2 the scp form, 3 a local path; 0 where none is reported.
     pub kind: u8,
-    /// The fault of a URL, or the fault of writing: 1 to 4; 0 where none is told.
+    /// The fault of a URL, or the fault of writing: 1 to 4; 0 where none is reported.
     pub fault: u8,
     /// Of a text that is too long, the length of the front that is shown.
     pub shown: usize,
@@ -52,7 +52,7 @@ pub(crate) fn error_code(error: &Error) -> u32
     }
 }
 
-/// What is told of an error.
+/// What is reported of an error.
 pub(crate) fn problem_of(error: &Error) -> Problem
     ensures { result ≡ problem_of error.now }
 {
@@ -87,7 +87,7 @@ pub(crate) fn refusal_code(refusal: Refusal<'_>) -> u32
     }
 }
 
-/// What is told of a refusal.
+/// What is reported of a refusal.
 pub(crate) fn problem_of_refusal(refusal: Refusal<'_>) -> Problem
     ensures { result ≡ problem_of_refusal refusal.entry }
 {
@@ -103,14 +103,14 @@ pub(crate) fn problem_of_refusal(refusal: Refusal<'_>) -> Problem
     }
 }
 
-/// What is told where there is no more to tell than the number.
+/// What is reported where the number says all.
 pub(crate) fn no_problem() -> Problem
     ensures { result ≡ no_problem }
 {
     problem_of_numbers(0, 0, 0, 0)
 }
 
-/// What is told of a location without a text.
+/// What is reported of a location without a text.
 pub(crate) fn unwritable(fault: WriteFault) -> Problem
     ensures { result ≡ problem_numbered 0 (write_fault_number fault) 0 0 }
 {

@@ -108,7 +108,7 @@ fn text(is_there: bool, bytes: &[u8]) -> Option<Option<&str>>
     }
 }
 
-/// The slice itself. What a call is handed moves as two numbers. A field that is copied moves as one wide value, for which
+/// The slice itself. What a call takes moves as two numbers. A field that is copied moves as one wide value, for which
 /// the processor waits until both numbers, which were written just before, are in the cache.
 #[inline(always)]
 pub(crate) fn reload<T: Copy>(slice: T) -> T

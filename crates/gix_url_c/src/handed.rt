@@ -1,7 +1,7 @@
 //! The location that C gets: numbers, and the bytes of all parts one behind the other in the caller's room.
 //!
-//! It uses the library's borrowed locations, `codes` and `room`. Its contract: all parts are handed out, or none, and then
-//! their lengths are told all the same. It takes no memory.
+//! It uses the library's borrowed locations, `codes` and `room`. Its contract: all parts are returned, or none, and then
+//! their lengths are reported all the same. It takes no memory.
 
 ghost use Rattle.std.specs.Prelude.{◌≡◌, ◌≤◌, ◌⊎◌, ◌++◌, drop, length, option_map};
 ghost use Rattle.std.specs.Option.{option_copied};
@@ -15,7 +15,7 @@ use crate::given::Front;
 use crate::room::put_at;
 use gix_url::{SchemeRef, UrlRef};
 
-/// A location: its numbers, and the lengths of its parts, whose bytes stand in this order in the caller's room.
+/// A location: its numbers, and the lengths of its parts, whose bytes are in this order in the caller's room.
 #[repr(C)]
 #[derive(Clone, Copy)]
 pub struct Made {

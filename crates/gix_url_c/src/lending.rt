@@ -1,7 +1,7 @@
-//! The export that reads and lends: each part stays in the text where it has the text's bytes, and stands in the caller's
+//! The export that reads and lends: each part stays in the text where it has the text's bytes, and is in the caller's
 //! room else, so that a caller who copies the parts copies them once.
 //!
-//! It uses the reader that takes no memory, `codes`, `given` and `handed`. Its contract: what is told is what that reader
+//! It uses the reader that takes no memory, `codes`, `given` and `handed`. Its contract: what is reported is what that reader
 //! answers; unless it is a location, the parts are as they were. It takes no memory.
 
 ghost use Rattle.std.specs.Prelude.{◌≡◌, length};
@@ -17,7 +17,7 @@ use gix_url::{ParseError, UrlRef};
 /// Reads the one location that the bytes spell, and lends its parts: [`gix_url::UrlRef::parse_in`]. Room for as many bytes
 /// as the text has is enough. Of what is in the room behind the call nothing is said but where a part is lent from it.
 ///
-/// It answers 0, or why there is no location: 2 to 6, with what is told of it. 102 says that there is a location, and that
+/// It answers 0, or why there is no location: 2 to 6, with what is reported of it. 102 says that there is a location, and that
 /// the room is shorter than the text. It takes no memory.
 #[unsafe(no_mangle)]
 pub extern "C" fn gix_url_c_read_in<'a>(

@@ -2,7 +2,7 @@
 //!
 //! A location is numbers and the bytes of its parts ([`given::Given`]), all of them the caller's: no call
 //! keeps a pointer, and nothing has to be freed. What a call answers goes into the caller's room, if it fits.
-//! Each export lends a location of what is given (`given`), makes one call of the library, and tells its
+//! Each export lends a location of what is given (`given`), makes one call of the library, and reports its
 //! answer by numbers (`codes`) and bytes (`handed`, `room`); its contract says what that call promises, and
 //! that all else is as it was with an error. The exports of `part` are over one part alone.
 //!

@@ -19,7 +19,7 @@ use gix_url::{SchemeRef, UrlRef};
 /// No port.
 const NO_PORT: u32 = 65_536;
 
-/// What a user or a host is to a command line: 0 there is none, 1 it may be handed over, 2 it may be taken
+/// What a user or a host is to a command line: 0 there is none, 1 it may be passed, 2 it may be taken
 /// for an option.
 #[unsafe(no_mangle)]
 pub extern "C" fn gix_url_c_argument(is_there: bool, text: &[u8]) -> u32
@@ -34,7 +34,7 @@ pub extern "C" fn gix_url_c_argument(is_there: bool, text: &[u8]) -> u32
     }
 }
 
-/// Whether a path may be handed to a command, 1 or 0: [`gix_url::UrlRef::path_argument_safe`].
+/// Whether a path may be passed to a command, 1 or 0: [`gix_url::UrlRef::path_argument_safe`].
 #[unsafe(no_mangle)]
 pub extern "C" fn gix_url_c_path_argument(path: &[u8]) -> u32
     ensures { result ≡ truth (is_path_argument path.now) }

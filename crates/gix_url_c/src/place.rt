@@ -1,4 +1,4 @@
-//! The export that tells where in a refused text the fault is.
+//! The export that reports where in a refused text the fault is.
 //!
 //! It uses the reader that takes no memory. Its contract: the place is that of the refusal which that reader answers.
 
@@ -11,7 +11,7 @@ use gix_url::{ParseError, Refusal, UrlRef};
 #[repr(C)]
 #[derive(Clone, Copy)]
 pub struct Place {
-    /// How many bytes stand before it.
+    /// How many bytes are before it.
     pub at: usize,
     /// Its length, in bytes.
     pub len: usize,
@@ -26,7 +26,7 @@ pub extern "C" fn gix_url_c_place(text: &[u8], place: &mut Place)
     *place = place_of(UrlRef::parse_in(text, &mut []));
 }
 
-/// The place that an answer tells.
+/// The place that an answer reports.
 fn place_of(answer: Result<UrlRef<'_>, ParseError<'_>>) -> Place
     ensures { result ≡ place_of answer.entry }
 {

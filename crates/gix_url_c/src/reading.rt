@@ -1,6 +1,6 @@
 //! The exports that make a location: of bytes that are read, and of parts.
 //!
-//! They use `given` and `handed`. Their contracts: what is told is what the library's call answers. With an error the room
+//! They use `given` and `handed`. Their contracts: what is reported is what the library's call returns. With an error the room
 //! is as it was, and the numbers are, except with 102; the problem is that of the error, and all 0 where there is none.
 
 ghost use Rattle.std.specs.Prelude.{◌≡◌, ◌⊎◌, Err, IfOk, [], option_map, string_bytes};
@@ -26,8 +26,8 @@ const NEAR: usize = 256;
 /// Reads the one location that the bytes spell, and hands it out: [`gix_url::parse::parse`]. Memory is only taken where
 /// the text is longer than 256 bytes, or is refused.
 ///
-/// It answers 0, or why there is no location: 1 to 6, with what is told of it. 102 says that there is a location, and
-/// that its parts don't fit into the room; their lengths are told.
+/// It answers 0, or why there is no location: 1 to 6, with what is reported of it. 102 says that there is a location, and
+/// that its parts don't fit into the room; their lengths are reported.
 #[unsafe(no_mangle)]
 pub extern "C" fn gix_url_c_read(
     alloc: Global,
@@ -54,8 +54,8 @@ pub extern "C" fn gix_url_c_read(
 /// Makes the location that the text of these parts means, and hands it out: [`gix_url::Url::from_parts`]. The
 /// spelling is not looked at.
 ///
-/// It answers 0, or why there is no location: 1 to 8, with what is told of it; 101 where the parts are none. 102 says that
-/// there is a location, and that its parts don't fit into the room; their lengths are told.
+/// It answers 0, or why there is no location: 1 to 8, with what is reported of it; 101 where the parts are none. 102 says that
+/// there is a location, and that its parts don't fit into the room; their lengths are reported.
 #[unsafe(no_mangle)]
 pub extern "C" fn gix_url_c_from_parts(
     alloc: Global,
@@ -122,7 +122,7 @@ fn text(alloc: Global, part: Option<&str>) -> Result<Option<String>, AllocError>
     }
 }
 
-/// Tells an answer: hands a location out, or tells an error by its numbers.
+/// Reports a result: the location, or an error by its numbers.
 fn report(
     answer: Result<Url, Error>,
     made: &mut Made,

@@ -1,7 +1,7 @@
 //! The caller's room for bytes.
 //!
 //! It uses `codes`. Its contract: bytes go to the front of the room, all of them, or the room is as it was; and bytes go
-//! behind what stands at the front, where there is room for them.
+//! behind what is at the front, where there is room for them.
 
 ghost use Rattle.std.specs.Prelude.{◌≡◌, ◌≤◌, ◌+◌, ◌++◌, ◌⊎◌, drop, length, take};
 ghost use Rattle.gix_url_c.specs.Answers.{PutsText};
@@ -25,7 +25,7 @@ pub(crate) fn put(bytes: &[u8], room: &mut [u8]) -> u32
     OK
 }
 
-/// The same, and tells how many bytes there are.
+/// The same, and reports how many bytes there are.
 pub(crate) fn put_text(bytes: &[u8], room: &mut [u8], len: &mut usize) -> u32
     ensures put { PutsText bytes.now room.old room.new len.new result }
     ensures room { LeavesRoom result room.old room.new }

@@ -1,7 +1,7 @@
 //! The exports that look at the text of a location: whether it is settled, whether Git reads the same in it, the text, and
 //! what is shown of it.
 //!
-//! They use `given` and `room`. Their contracts: what is told is what the library's call answers. With an error the room
+//! They use `given` and `room`. Their contracts: what is reported is what the library's call returns. With an error the room
 //! and the answer are as they were, and the length is, except with 102; the problem is the fault with 8, and else all 0.
 
 ghost use Rattle.std.specs.Prelude.{◌≡◌, if◌then◌else◌, nat_lt};
@@ -55,11 +55,11 @@ pub extern "C" fn gix_url_c_agrees_with_git(given: &Given<'_>, agrees: &mut bool
     }
 }
 
-/// Puts the text of the location into the room, and tells its length: [`gix_url::UrlRef::write_into`].
+/// Puts the text of the location into the room, and reports its length: [`gix_url::UrlRef::write_into`].
 ///
 /// It answers 0; 8 where there is no text, with the fault; 101 where the parts are none of a location; 102
 /// where the text doesn't fit. It takes no memory. Of a text that is longer than a number of C's the largest
-/// such number is told.
+/// such number is reported.
 #[unsafe(no_mangle)]
 pub extern "C" fn gix_url_c_write(
     given: &Given<'_>,
@@ -81,7 +81,7 @@ pub extern "C" fn gix_url_c_write(
     }
 }
 
-/// Puts what the location is shown as into the room, and tells its length: the `Display` of [`gix_url::UrlRef`].
+/// Puts what the location is shown as into the room, and reports its length: the `Display` of [`gix_url::UrlRef`].
 ///
 /// It answers 0; 1 where memory is refused; 8 where the location has no text, with the fault; 101 where the parts are
 /// none of a location; 102 where it doesn't fit.

@@ -104,7 +104,7 @@ impl<'a> UrlRef<'a> {
         }
     }
 
-    /// The host as it is, between brackets where it wants them.
+    /// The host as it is, between brackets where it needs them.
     fn raw_host(&self) -> HostPieces<'_>
         ensures { host_text result ≡ spec.raw_host self.now.host }
     {
@@ -275,7 +275,7 @@ fn has_colon(host: &[u8]) -> bool
     host.contains(&b':')
 }
 
-/// Whether the host of a URL goes between brackets: it wants them, and there is a port, or a `%` in it.
+/// Whether the host of a URL goes between brackets: it needs them, and there is a port, or a `%` in it.
 fn needs_brackets(port: Option<u16>, host: &[u8]) -> bool
     ensures { result ≡ spec.needs_brackets port host.now }
 {

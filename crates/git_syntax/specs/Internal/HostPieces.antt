@@ -136,7 +136,7 @@ abbrev pub IsBadPort : HostSyntax → List ℕ → Type 0
 IsBadPort syntax rest = (digits : List ℕ) × IsNoPort syntax digits × (rest ≡ colon ∷ digits)
 
 -- what was read from a piece that isn't empty: the host and the port that it names, or a flaw of it
--- where it stands
+-- where it is
 abbrev pub ReadsHostPort : HostSyntax → List ℕ → Result HostPort Fault → Type 0
 ReadsHostPort syntax piece result = MatchResult result
     (λ named. SpellsHostPort syntax piece (Some (named_text named)) named.port)

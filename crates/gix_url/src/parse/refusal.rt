@@ -1,7 +1,7 @@
 //! The errors of reading: the one place where a refusal becomes an error, which keeps a copy of the text.
 //!
 //! It uses `copies` and the errors. Its contract: the flaw that the refusal names is the one that the error
-//! tells. It asks for memory once, for the copy, and where that is refused the error is `Memory`.
+//! reports. It asks for memory once, for the copy, and where that is refused the error is `Memory`.
 
 ghost use Rattle.std.specs.Prelude.{◌≡◌, IfOk, Ok};
 ghost use Rattle.gix_url.specs.Flaws.{Flaw};

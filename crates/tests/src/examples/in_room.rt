@@ -42,7 +42,7 @@ fn hosts_are_read_into_one_room(rt: HostRuntime) -> Result<(), Fail> {
     Ok(())
 }
 
-/// Whether a text is refused for its port, and whether it wants more room.
+/// Whether a text is refused for its port, and whether it needs more room.
 fn faults_of(text: &[u8], room: &mut [u8]) -> (bool, bool) {
     match UrlRef::parse_in(text, room) {
         Ok(_) => (false, false),

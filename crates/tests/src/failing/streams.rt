@@ -29,7 +29,7 @@ pub fn ways() -> impl Iterator<Item = Option<Fault>> {
     FAULTS.iter().copied().map(Some).chain([None])
 }
 
-/// Checks that an error is the one that a stream failed by. Of a writer that took nothing the kind of error tells.
+/// Checks that an error is the one that a stream failed by. Of a writer that took nothing only the kind is compared.
 pub fn comes_back(
     rt: &(impl Abort + AllocGlobal),
     error: io::Error,
