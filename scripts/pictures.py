@@ -1,6 +1,6 @@
 #!/usr/bin/env python3
-"""Draws the pictures of the documents: a railroad diagram for each row of the grammar in docs/GRAMMAR.md, and a location cut
-into its fields.
+"""Draws the pictures of the documents: a railroad diagram for each row of the grammar in docs/GRAMMAR.md, a location cut
+into its fields, and the layers of the library.
 
 usage: scripts/pictures.py      writes docs/pictures/*.svg
 
@@ -14,6 +14,7 @@ from html import escape
 
 sys.dont_write_bytecode = True
 sys.path.append(f"{sys.path[0]}/../tools")
+import layers_picture
 from rt_api import ROOT
 
 FOLDER = f"{ROOT}/docs/pictures"
@@ -157,7 +158,7 @@ def location():
 
 
 def pictures():
-    return {"location": location(), **{name: diagram(terms) for name, terms in rows().items()}}
+    return {"location": location(), "layers": framed(*layers_picture.drawn()), **{name: diagram(terms) for name, terms in rows().items()}}
 
 
 def faults():
