@@ -1,6 +1,6 @@
 #!/usr/bin/env python3
-"""Draws the pictures of the documents: a railroad diagram for each row of the grammar in docs/GRAMMAR.md, a location cut
-into its fields, and the layers of the library.
+"""Draws the pictures of the documents: a railroad diagram for each row of the grammar in docs/GRAMMAR.md, locations cut into
+their fields, and the layers of the library.
 
 usage: scripts/pictures.py      writes docs/pictures/*.svg
 
@@ -139,26 +139,42 @@ def rows():
     return dict(re.findall(r"(?m)^([\w-]+) += (.*)$", block))
 
 
-# A location, each field with its name, its colour in light, and what separates it.
-FIELDS = (("ssh", "scheme", "#8e44ad"), ("://", "", ""), ("git", "user", "#c0392b"), ("@", "", ""), ("example.com", "host", "#1f6fb2"),
-          (":", "", ""), ("2222", "port", "#b9770e"), ("/group/repo.git", "path", "#1e8449"))
+# Locations, each text with the name of its field, or none for what separates fields.
+LOCATIONS = (
+    (("ssh", "scheme"), ("://", ""), ("git", "user"), ("@", ""), ("example.com", "host"), (":", ""), ("2222", "port"), ("/group/repo.git", "path")),
+    (("https", "scheme"), ("://", ""), ("user", "user"), (":", ""), ("secret", "password"), ("@", ""), ("example.com", "host"),
+     ("/path?query#fragment", "path")),
+)
+COLOURS = {"scheme": "#8e44ad", "user": "#c0392b", "password": "#148f8f", "host": "#1f6fb2", "port": "#b9770e", "path": "#1e8449"}
+# The columns of a character of a location.
+WIDE = 12
 
 
-def location():
-    """A location cut into its coloured fields, with their names below."""
-    marks, x = [], 2 * GAP
-    for text, name, colour in FIELDS:
-        width = 12 * len(text)
+def fields(location, y):
+    """A location cut into its coloured fields, with their names below, and over a path with a query the names of its components."""
+    x = 2 * GAP
+    for text, name in location:
+        width, colour = WIDE * len(text), COLOURS.get(name, "")
         fill = f' style="fill:{colour}"' if colour else ""
-        marks.append(f'<text x="{x + width / 2:g}" y="24" textLength="{width}" font-size="20"{fill}>{escape(text)}</text>')
+        yield f'<text x="{x + width / 2:g}" y="{y}" textLength="{width}" font-size="20"{fill}>{escape(text)}</text>'
         if name:
-            marks.append(f'<path d="M{x + 1} 42h{width - 2}" style="stroke:{colour};stroke-width:3"/><text x="{x + width / 2:g}" y="58"{fill}>{name}</text>')
+            yield f'<path d="M{x + 1} {y + 18}h{width - 2}" style="stroke:{colour};stroke-width:3"/>'
+            yield f'<text x="{x + width / 2:g}" y="{y + 34}"{fill}>{name}</text>'
+        if "?" in text:
+            for it in re.finditer(r"[^?#]+", text):
+                start, length = x + WIDE * it.start(), WIDE * len(it[0])
+                yield f'<path d="M{start + 1} {y - 15}h{length - 2}"/><text x="{start + length / 2:g}" y="{y - 26}">{it[0].strip("/")}</text>'
         x += width
-    return framed(x + 2 * GAP, 74, marks)
+
+
+def locations():
+    """The locations, each below the other."""
+    width = WIDE * max(sum(len(text) for text, _ in it) for it in LOCATIONS)
+    return framed(width + 4 * GAP, 188, [mark for number, it in enumerate(LOCATIONS) for mark in fields(it, 24 + 114 * number)])
 
 
 def pictures():
-    return {"location": location(), "layers": framed(*layers_picture.drawn()), **{name: diagram(terms) for name, terms in rows().items()}}
+    return {"location": locations(), "layers": framed(*layers_picture.drawn()), **{name: diagram(terms) for name, terms in rows().items()}}
 
 
 def faults():

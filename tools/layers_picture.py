@@ -7,18 +7,21 @@ from rt_api import ROOT, lines_of_crates, stands_on
 
 # The height of a line, the width of a lane, and the columns that characters of a name and of a purpose take.
 LINE, LANE, NAME, WORD = 24, 14, 8.5, 6
+# How many characters of a purpose a line holds.
+LONGEST = 120
 COLOURS = ("#1f6fb2", "#b9770e", "#1e8449", "#c0392b", "#8e44ad", "#148f8f")
 
 
 def purpose(name):
-    """The first sentence of the head of a crate."""
+    """The first sentence of the head of a crate, up to a comma if it is too long for a line."""
     for file in ("lib", "main"):
         try:
             with open(f"{ROOT}/crates/{name}/src/{file}.rt", encoding="utf-8") as it:
                 head = " ".join(re.findall(r"(?m)^//! ?(.*)$", it.read().split("\n//!\n")[0]))
         except FileNotFoundError:
             continue
-        return re.sub(r"\[?`(?:\w+::)*([^`]*)`\]?", r"\1", re.match(r".*?\.(?= |$)|.*", head)[0])
+        words = re.sub(r"\[?`(?:\w+::)*([^`]*)`\]?", r"\1", re.match(r".*?\.(?= |$)|.*", head)[0])
+        return words if len(words) <= LONGEST else words[:LONGEST].rpartition(",")[0] + "."
     return ""
 
 
