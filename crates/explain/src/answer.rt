@@ -6,15 +6,15 @@
 //! `shown` lays that out for people, `only` one part of it, and with `--json` it goes out as one object. It has no
 //! contract but that it can't abort: the stored run and `scripts/hostile` show its answers.
 
-use crate::hint::{self, Hint, Reading};
-use crate::line::SeenLine;
-use crate::location_report::{Report, both, fields_of};
 use crate::only::{self, Part};
-use crate::refusal::Refusal;
-use crate::rules::Rules;
 use crate::shown;
 use crate::style::{Layout, Style};
 use bstr::BStr;
+use explain_report::hint::{self, Hint, Reading};
+use explain_report::location_report::{Report, both, fields_of};
+use explain_report::refusal::Refusal;
+use explain_rules::rules::Rules;
+use explain_text::line::SeenLine;
 use gix_url::parse::parse;
 use gix_url::{Error, Url};
 use serde::Serialize;
