@@ -1,8 +1,7 @@
 //! Answers laid out for people: a heading, and a row for each thing that is reported.
 //!
 //! Texts are in quotes with their control characters escaped, each byte in one way, so that no line of input can speak
-//! to a terminal. It uses what `location_report`, `danger`, `refusal` and `hint` found, and has no contract:
-//! `scripts/hostile golden` shows its answers.
+//! to a terminal. It uses what `explain_report` found, and has no contract: `scripts/hostile golden` shows its answers.
 
 use crate::answer::{Line, Notes};
 use crate::paint::short::is_long;

@@ -1,9 +1,10 @@
 //! What curl reads in the text of a location of HTTP: the host and the port that it connects to, and the path that it asks
 //! for.
 //!
-//! It uses `bstr`, the addresses of `std::net`, `git` for escapes and digits, and a location of `gix_url` to compare with. What libcurl reads has no definition: each
-//! function is a step of libcurl 7.88.1, and has no contract but that it can't abort. The stored run has what `curl_reads` of
-//! `tools/web_reads.py` says, a rule by hand that `scripts/web_witness` compares with libcurl itself.
+//! It uses `bstr`, the addresses of `std::net`, `git` of `explain_text` for escapes and digits, and a location of `gix_url` to
+//! compare with. What libcurl reads has no definition: each function is a step of libcurl 7.88.1, and has no contract but that
+//! it can't abort. The stored run has what `curl_reads` of `tools/web_reads.py` says, a rule by hand that `scripts/web_witness`
+//! compares with libcurl itself.
 
 use crate::location_report::both;
 use bstr::{BStr, ByteSlice};

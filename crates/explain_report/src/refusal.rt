@@ -1,6 +1,6 @@
 //! Why a line, or the text of a location, is refused: by name, for programs, and in words; and where in a line.
 //!
-//! It uses the errors of `gix_url`, and `place`. It has no contract: the stored run shows its answers.
+//! It uses the errors of `gix_url`, and `place` of `explain_text`. It has no contract: the stored run shows its answers.
 
 use explain_text::place::{Form, Place, Refused, find_place};
 use gix_url::parse::UrlKind;

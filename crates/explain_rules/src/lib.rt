@@ -1,4 +1,5 @@
-//! What `explain` reports of what Git does with a line by a configuration: where it goes, by which transport, with which settings.
+//! What Git does with a line by a configuration, as `explain` reports it: where it goes, by which transport, with which
+//! settings.
 //!
 //! [`config`] is the configuration, read once for all lines; [`rules`] asks it about a line, [`transports`] and [`settings`]
 //! about what the line is rewritten to, and [`setting`] shows an entry without what may be a secret. It uses the public calls
