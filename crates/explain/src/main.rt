@@ -1,9 +1,10 @@
 //! The program `explain`: reports to a person, or to another program, what texts mean as Git locations.
 //!
 //! It uses the public calls of `gix_url` and `git_rules` alone, by the crates below: `explain_report` finds what is reported
-//! of a line, `explain_rules` what Git does with it by a configuration, and `explain_page` writes the page. `options` reads
-//! the command line, `source` a configuration, `answer` finds the answer to a line and `style` says how it is laid out; here
-//! the lines are read and the answers are written, each as soon as its line is read, except for a page, which is collected.
+//! of a line, `explain_advice` its dangers and hints, `explain_rules` what Git does with it by a configuration, and
+//! `explain_page` writes the page. `options` reads the command line, `source` a configuration, `answer` finds the answer to a
+//! line and `style` says how it is laid out; here the lines are read and the answers are written, each as soon as its line is
+//! read, except for a page, which is collected.
 //! The status is 0 where every line is settled, 1 where one is not, and 2 where the run was cut short, a file can't be
 //! opened or the options are wrong.
 #![tactic(auto)]

@@ -1,16 +1,17 @@
 //! Answers laid out for people: a heading, and a row for each thing that is reported.
 //!
 //! Texts are in quotes with their control characters escaped, each byte in one way, so that no line of input can speak
-//! to a terminal. It uses what `explain_report` found, and has no contract: `scripts/hostile golden` shows its answers.
+//! to a terminal. It uses what `explain_report` and `explain_advice` found, and has no contract: `scripts/hostile golden`
+//! shows its answers.
 
 use crate::answer::{Line, Notes};
 use crate::paint::short::is_long;
 use crate::paint::{self, Colors, marks};
 use crate::rule_rows;
+use explain_advice::danger::dangers;
+use explain_advice::hint::Hint;
 use explain_report::curl::Curl;
-use explain_report::danger::dangers;
 use explain_report::git_report::is_of_web;
-use explain_report::hint::Hint;
 use explain_report::location_report::{Report, reading_of_git};
 use explain_report::path::{Components, Field, Home};
 use explain_report::refusal::Refusal;

@@ -7,8 +7,8 @@
 
 use crate::markup::Markup;
 use crate::{cuts, pieces, readers};
-use explain_report::danger::dangers;
-use explain_report::hint::Hint;
+use explain_advice::danger::dangers;
+use explain_advice::hint::Hint;
 use explain_report::location_report::{Arguments, Report, Safety};
 use explain_report::path::{Components, Field, Home};
 use explain_report::refusal::Refusal;

@@ -9,7 +9,7 @@ use crate::markup::Markup;
 use crate::rank::Rank;
 use crate::template::{PAGE, Part, Slot};
 use bstr::BStr;
-use explain_report::hint::{self, Reading};
+use explain_advice::hint::{self, Reading};
 use explain_report::location_report::{Report, both, fields_of};
 use explain_report::refusal::Refusal;
 use explain_text::line::SeenLine;

@@ -4,8 +4,8 @@
 //! the form, and has no contract but that it can't abort: the stored run shows which hints are found, and
 //! `scripts/hostile golden` their sentences, and that no plain remote gets one.
 
-use crate::location_report::Report;
 use bstr::ByteSlice;
+use explain_report::location_report::Report;
 use explain_text::split::Form;
 use gix_url::Url;
 use serde::Serialize;
