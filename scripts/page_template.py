@@ -1,10 +1,10 @@
 #!/usr/bin/env python3
 """Writes the template of the page that `explain --html` makes, as code: the program can't read a file when it is built.
 
-usage: scripts/page_template.py             writes crates/explain/src/template.rt
+usage: scripts/page_template.py             writes crates/explain_page/src/template.rt
        scripts/page_template.py --check     reports whether that is current
 
-The template is crates/explain/page/page.html. A slot is `<!-- name -->`, outside of style and script. The slot `policy` becomes
+The template is crates/explain_page/page/page.html. A slot is `<!-- name -->`, outside of style and script. The slot `policy` becomes
 the content security policy, which allows the style and the script of the template by their hashes and nothing else; the others
 are filled in by the program. `scripts/documents` asks for `faults()`.
 """
@@ -18,7 +18,7 @@ sys.dont_write_bytecode = True
 sys.path.append(f"{sys.path[0]}/../tools")
 from rt_api import ROOT
 
-SOURCE, CODE = (f"{ROOT}/crates/explain/{it}" for it in ("page/page.html", "src/template.rt"))
+SOURCE, CODE = (f"{ROOT}/crates/explain_page/{it}" for it in ("page/page.html", "src/template.rt"))
 SLOTS = ("title", "lines", "verdicts", "forms", "hosts", "remotes")
 SLOT = re.compile(r"<!-- (\w+) -->")
 INLINE = re.compile(r"<(style|script)>(.*?)</\1>", re.S)
@@ -85,9 +85,9 @@ def read(path):
 
 def faults():
     html = read(SOURCE)
-    yield from (f"crates/explain/page/page.html: {it}" for it in template_faults(html))
+    yield from (f"crates/explain_page/page/page.html: {it}" for it in template_faults(html))
     if read(CODE) != code(html):
-        yield "crates/explain/src/template.rt isn't what scripts/page_template.py writes"
+        yield "crates/explain_page/src/template.rt isn't what scripts/page_template.py writes"
 
 
 def main(words):

@@ -1,20 +1,19 @@
 //! The answer to a line: what it is read as or why it is refused, in the layout that is asked for.
 //!
-//! `line` finds what of the line may be shown, `location_report` what is reported of a location, `refusal` why a line
-//! is refused,
-//! `hint` what people may have got wrong, `rules` what Git does with it by a configuration;
-//! `shown` lays that out for people, `only` one part of it, and with `--json` it goes out as one object. It has no
-//! contract but that it can't abort: the stored run and `scripts/hostile` show its answers.
+//! `explain_text` finds what of the line may be shown, `explain_report` what is reported of a location or why a line is refused,
+//! `explain_advice` what people may have got wrong, and `explain_rules` what Git does with it by a configuration. `shown` lays
+//! that out for people, `only` one part of it, and with `--json` it goes out as one object. It has no contract but that it
+//! can't abort: the stored run and `scripts/hostile` show its answers.
 
-use crate::hint::{self, Hint, Reading};
-use crate::line::SeenLine;
-use crate::location_report::{Report, both, fields_of};
 use crate::only::{self, Part};
-use crate::refusal::Refusal;
-use crate::rules::Rules;
 use crate::shown;
 use crate::style::{Layout, Style};
 use bstr::BStr;
+use explain_advice::hint::{self, Hint, Reading};
+use explain_report::location_report::{Report, both, fields_of};
+use explain_report::refusal::Refusal;
+use explain_rules::rules::Rules;
+use explain_text::line::SeenLine;
 use gix_url::parse::parse;
 use gix_url::{Error, Url};
 use serde::Serialize;

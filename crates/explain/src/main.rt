@@ -1,52 +1,26 @@
 //! The program `explain`: reports to a person, or to another program, what texts mean as Git locations.
 //!
-//! It uses the public calls of `gix_url` and `git_rules` alone. `options` reads the command line, `source` a configuration,
-//! `answer` finds the answer to a line and `style` says how it is laid out; here the lines are read and the answers are
-//! written, each as soon as its line is read, except for a page, which `page` collects.
+//! It uses the public calls of `gix_url` and `git_rules` alone, by the crates below: `explain_report` finds what is reported
+//! of a line, `explain_advice` its dangers and hints, `explain_rules` what Git does with it by a configuration, and
+//! `explain_page` writes the page. `options` reads the command line, `source` a configuration, `answer` finds the answer to a
+//! line and `style` says how it is laid out; here the lines are read and the answers are written, each as soon as its line is
+//! read, except for a page, which is collected.
 //! The status is 0 where every line is settled, 1 where one is not, and 2 where the run was cut short, a file can't be
 //! opened or the options are wrong.
 #![tactic(auto)]
 
 mod answer;
-mod article;
-mod config;
-mod counts;
-mod credential;
-mod curl;
-mod cuts;
-mod danger;
-mod difference;
-mod git;
-mod git_report;
-mod hint;
-mod line;
-mod location_report;
-mod markup;
 mod only;
 mod options;
-mod page;
 mod paint;
-mod path;
-mod pieces;
-mod place;
-mod rank;
-mod readers;
-mod refusal;
 mod rule_rows;
-mod rules;
-mod setting;
-mod settings;
 mod shown;
 mod source;
-mod split;
 mod style;
-mod template;
-mod transports;
-mod web;
 
 use answer::Line;
 use clap::ArgMatches;
-use config::{Config, Fault};
+use explain_rules::config::{self, Config, Fault};
 use git_rules::config::entries;
 use git_rules::protocols::Protocols;
 use gix_url::lines::RunError;
@@ -288,7 +262,7 @@ fn answer_line<W: Write>(
         style,
     };
     if let Layout::Page = style.layout {
-        let is_settled = seen.page.add(line)?;
+        let is_settled = seen.page.add(line.number, line.bytes)?;
         seen.is_settled &= is_settled;
         return Ok(());
     }

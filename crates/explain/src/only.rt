@@ -3,10 +3,10 @@
 //! It uses the public calls of `gix_url`, and has no contract but that it can't abort: `scripts/hostile golden` shows its
 //! answers. A password is no part that can be asked for.
 
-use crate::line::write_shown;
-use crate::location_report::text_of;
-use crate::path::no_memory;
 use bstr::ByteSlice;
+use explain_report::location_report::text_of;
+use explain_report::path::no_memory;
+use explain_text::line::write_shown;
 use gix_url::{PathComponents, Scheme, Url};
 use std::alloc::{AllocError, Global};
 use std::fmt::Write;

@@ -2,11 +2,11 @@
 //!
 //! It uses what `rules` found, and has no contract: `scripts/hostile rules` shows its answers.
 
-use crate::line::Quoted;
-use crate::rules::{Route, Rules};
-use crate::setting::Setting;
 use crate::shown::row;
-use crate::transports::{Transport, Verdict};
+use explain_rules::rules::{Route, Rules};
+use explain_rules::setting::Setting;
+use explain_rules::transports::{Transport, Verdict};
+use explain_text::line::Quoted;
 use std::alloc::{AllocError, Global};
 use std::fmt::Write;
 

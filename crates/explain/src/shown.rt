@@ -1,21 +1,22 @@
 //! Answers laid out for people: a heading, and a row for each thing that is reported.
 //!
 //! Texts are in quotes with their control characters escaped, each byte in one way, so that no line of input can speak
-//! to a terminal. It uses what `location_report`, `danger`, `refusal` and `hint` found, and has no contract:
-//! `scripts/hostile golden` shows its answers.
+//! to a terminal. It uses what `explain_report` and `explain_advice` found, and has no contract: `scripts/hostile golden`
+//! shows its answers.
 
 use crate::answer::{Line, Notes};
-use crate::curl::Curl;
-use crate::danger::dangers;
-use crate::git_report::{HANDED, is_of_web};
-use crate::hint::Hint;
-use crate::line::{Quoted, SeenLine};
-use crate::location_report::Report;
-use crate::paint::{self, Colors};
-use crate::path::{Components, Field, Home};
-use crate::refusal::Refusal;
+use crate::paint::short::is_long;
+use crate::paint::{self, Colors, marks};
 use crate::rule_rows;
-use crate::split::Cut;
+use explain_advice::danger::dangers;
+use explain_advice::hint::Hint;
+use explain_report::curl::Curl;
+use explain_report::git_report::is_of_web;
+use explain_report::location_report::{Report, reading_of_git};
+use explain_report::path::{Components, Field, Home};
+use explain_report::refusal::Refusal;
+use explain_text::line::{Quoted, SeenLine};
+use explain_text::split::Cut;
 use gix_url::Url;
 use std::alloc::{AllocError, Global};
 use std::fmt::{Display, Write};
@@ -82,7 +83,7 @@ fn text(
 /// Whether the line was shown whole, and is this text.
 fn is_shown(seen: &SeenLine<'_>, text: &str) -> bool {
     match (&seen.cut, seen.text()) {
-        (Some(cut), Some(line)) => line == text && !paint::is_long(cut),
+        (Some(cut), Some(line)) => line == text && !is_long(cut),
         _ => false,
     }
 }
@@ -112,7 +113,7 @@ fn refused_line(
     colors: Colors,
 ) -> Result<(), AllocError> {
     match (refusal.at, refusal.len) {
-        (Some(at), Some(len)) => paint::caret(out, cut, at, len, colors),
+        (Some(at), Some(len)) => marks::caret(out, cut, at, len, colors),
         _ => paint::line(out, cut, colors),
     }
 }
@@ -176,16 +177,6 @@ fn paths(out: &mut String, url: &Url) -> Result<(), AllocError> {
         return Ok(());
     }
     row(out, "spelled", Quoted(spelled.as_bytes()))
-}
-
-/// What Git reads in the text of the location, in words.
-pub fn reading_of_git<'b>(url: &Url, report: &'b Report<'_>) -> &'b str {
-    match &report.git_reads {
-        _ if report.agrees_with_git && is_of_web(url) => "and curl read the same in its text",
-        _ if report.agrees_with_git => "reads the same in its text",
-        Some(reads) => reads.words.as_str(),
-        None => HANDED,
-    }
 }
 
 /// The rows of what Git's credential code asks helpers for in a text of HTTP, where that is not the location's own.

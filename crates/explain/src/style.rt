@@ -1,9 +1,9 @@
 //! How answers are laid out, and what was seen while they were given.
 
-use crate::config::Config;
 use crate::only::Part;
-use crate::page::Page;
 use crate::paint::Colors;
+use explain_page::page::Page;
+use explain_rules::config::Config;
 use gix_url::lines::RunError;
 use std::alloc::Global;
 use std::io::Write;

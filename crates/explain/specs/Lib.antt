@@ -1,5 +1,0 @@
-pub mod Differences
-pub mod Markup
-pub mod Places
-pub mod Secrets
-pub mod Rules

@@ -1,0 +1,126 @@
+//! A refused line, with a caret under what is wrong.
+//!
+//! It uses `line`, `split` and `short`, and has no contract but that it can't abort.
+
+use crate::paint::short::{INDENT, Keep, fill, is_long, write_kept};
+use crate::paint::{Colors, DANGER, PLAIN, is_empty};
+use explain_text::line::{halves, is_hidden};
+use explain_text::split::{Cut, Piece};
+use std::alloc::AllocError;
+
+/// The columns between some bytes of a line.
+#[derive(Clone, Copy)]
+struct Marked {
+    from: Option<usize>,
+    columns: usize,
+}
+
+/// The bytes of a line that are marked.
+#[derive(Clone, Copy)]
+struct Region {
+    at: usize,
+    len: usize,
+}
+
+/// Appends the line, and below it a caret under the byte `at` with a line under the rest of `len` bytes. A place in what
+/// is hidden is under the word. Nothing is appended for an empty line.
+pub fn caret(
+    out: &mut String,
+    cut: &Cut<'_>,
+    at: usize,
+    len: usize,
+    colors: Colors,
+) -> Result<(), AllocError> {
+    if is_empty(cut) {
+        return Ok(());
+    }
+    let marked = write_marked(out, cut, Region { at, len })?;
+    out.push_str(INDENT)?;
+    let column = fill(out, 0, marked.from.unwrap_or(0), ' ')?;
+    if matches!(colors, Colors::On) {
+        out.push_str(DANGER)?;
+    }
+    out.push('^')?;
+    fill(
+        out,
+        column.saturating_add(1),
+        column.saturating_add(marked.columns),
+        '~',
+    )?;
+    if matches!(colors, Colors::On) {
+        out.push_str(PLAIN)?;
+    }
+    out.push('\n')
+}
+
+/// Appends the line, and returns the columns of the region.
+fn write_marked(out: &mut String, cut: &Cut<'_>, region: Region) -> Result<Marked, AllocError> {
+    let is_long = is_long(cut);
+    let mut marked = Marked {
+        from: None,
+        columns: 0,
+    };
+    let (mut place, mut column) = (0usize, 0usize);
+    out.push_str(INDENT)?;
+    for piece in cut.pieces() {
+        let own = Region {
+            at: region.at.saturating_sub(place),
+            len: region.len.saturating_sub(place.saturating_sub(region.at)),
+        };
+        let is_before = region.at < place;
+        column = column.saturating_add(if is_hidden(piece) {
+            write_hidden(out, piece, own, is_before, column, &mut marked)?
+        } else {
+            write_open(out, piece, own, is_long, column, &mut marked)?
+        });
+        place = place.saturating_add(piece.len());
+    }
+    if marked.from.is_none() {
+        marked.from = Some(column);
+    }
+    out.push('\n')?;
+    Ok(marked)
+}
+
+/// Appends a piece, and marks the part of it that the region takes.
+fn write_open(
+    out: &mut String,
+    piece: &Piece<'_>,
+    own: Region,
+    is_long: bool,
+    column: usize,
+    marked: &mut Marked,
+) -> Result<usize, AllocError> {
+    let (before, rest) = halves(piece.shown(), own.at);
+    let (inside, behind) = halves(rest, own.len);
+    let before = write_kept(out, before, is_long.then_some(Keep::End))?;
+    let inside = write_kept(out, inside, is_long.then_some(Keep::Both))?;
+    let behind = write_kept(out, behind, is_long.then_some(Keep::Front))?;
+    if own.at < piece.len() && marked.from.is_none() {
+        marked.from = Some(column.saturating_add(before));
+    }
+    marked.columns = marked.columns.saturating_add(inside);
+    Ok(before.saturating_add(inside).saturating_add(behind))
+}
+
+/// Appends the word for a piece that is hidden, and marks it where the region takes some of the piece.
+fn write_hidden(
+    out: &mut String,
+    piece: &Piece<'_>,
+    own: Region,
+    is_before: bool,
+    column: usize,
+    marked: &mut Marked,
+) -> Result<usize, AllocError> {
+    let taken = write_kept(out, piece.shown(), None)?;
+    let is_inside = own.at < piece.len() && (!is_before || 0 < own.len);
+    if is_inside {
+        if marked.from.is_none() {
+            marked.from = Some(column);
+        }
+        if 0 < own.len {
+            marked.columns = marked.columns.saturating_add(taken);
+        }
+    }
+    Ok(taken)
+}

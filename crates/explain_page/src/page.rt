@@ -1,0 +1,217 @@
+//! The page that `--html` writes: the template, filled in with counts and with an article for each line.
+//!
+//! Articles are kept by rank until all lines are read, so that the most urgent are first and those of one rank in the order
+//! of their lines. It uses `article`, `counts`, `rank` and `template`, and has no contract but that it can't abort.
+
+use crate::article;
+use crate::counts::Counts;
+use crate::markup::Markup;
+use crate::rank::Rank;
+use crate::template::{PAGE, Part, Slot};
+use bstr::BStr;
+use explain_advice::hint::{self, Reading};
+use explain_report::location_report::{Report, both, fields_of};
+use explain_report::refusal::Refusal;
+use explain_text::line::SeenLine;
+use gix_url::lines::RunError;
+use gix_url::parse::parse;
+use gix_url::{Error, Url};
+use std::alloc::{AllocError, Global};
+use std::io::Write;
+
+/// How many bytes the articles of a group have, or a few more.
+const GROUP: usize = 160_000;
+
+/// What is known of the lines so far.
+#[derive(Drop)]
+pub struct Page {
+    alloc: Global,
+    counts: Counts,
+    options: Markup,
+    commands: Markup,
+    secrets: Markup,
+    other_hosts: Markup,
+    refused: Markup,
+    unsettled: Markup,
+    readers: Markup,
+    plain: Markup,
+}
+
+impl Page {
+    /// No line yet.
+    pub fn new(alloc: Global) -> Page {
+        Page {
+            alloc,
+            counts: Counts::new(alloc),
+            options: Markup::new(alloc),
+            commands: Markup::new(alloc),
+            secrets: Markup::new(alloc),
+            other_hosts: Markup::new(alloc),
+            refused: Markup::new(alloc),
+            unsettled: Markup::new(alloc),
+            readers: Markup::new(alloc),
+            plain: Markup::new(alloc),
+        }
+    }
+
+    /// Adds a line, which has this number from 1. Returns whether it is settled.
+    pub fn add(&mut self, number: u64, line: &[u8]) -> Result<bool, AllocError> {
+        let read = parse(self.alloc, BStr::new(line));
+        let added = match &read {
+            Ok(url) => self.add_location(number, line, url),
+            Err(Error::Memory) => Err(AllocError),
+            Err(error) => self.add_refused(number, line, error),
+        };
+        drop(read);
+        added
+    }
+
+    /// Adds a line that is read as a location.
+    fn add_location(&mut self, number: u64, line: &[u8], url: &Url) -> Result<bool, AllocError> {
+        let alloc = self.alloc;
+        let seen = SeenLine::located(alloc, line, &fields_of(url))?;
+        let (seen, report) = both(seen, Report::of(alloc, url))?;
+        let found = hint::find(alloc, line, Some(Reading::of(url, &report)));
+        let ((seen, report), found) = both((seen, report), found)?;
+        let out = self.of_rank(Rank::of(url, &report));
+        let before = out.as_bytes().len();
+        let is_dangerous = article::location(
+            alloc,
+            out,
+            number,
+            url,
+            &report,
+            &seen,
+            found.as_slice(),
+        );
+        let grouped = group(out, before);
+        drop(found);
+        drop(seen);
+        let counted = match is_dangerous {
+            Ok(is_dangerous) => self.counts.add(alloc, &report, is_dangerous),
+            Err(error) => Err(error),
+        };
+        let is_settled = report.settled;
+        drop(report);
+        counted?;
+        grouped?;
+        Ok(is_settled)
+    }
+
+    /// Adds a line that is refused.
+    fn add_refused(&mut self, number: u64, line: &[u8], error: &Error) -> Result<bool, AllocError> {
+        let alloc = self.alloc;
+        let seen = SeenLine::refused(alloc, line)?;
+        let (seen, refusal) = both(seen, Refusal::of_line(alloc, line, error))?;
+        let found = hint::find(alloc, line, None);
+        let ((seen, refusal), found) = both((seen, refusal), found)?;
+        let out = &mut self.refused;
+        let before = out.as_bytes().len();
+        let added = article::refusal(out, number, &refusal, &seen, found.as_slice());
+        let grouped = group(out, before);
+        drop(found);
+        drop(refusal);
+        drop(seen);
+        self.counts.add_refused();
+        added?;
+        grouped?;
+        Ok(false)
+    }
+
+    /// The articles of a rank, to be added to.
+    fn of_rank(&mut self, rank: Rank) -> &mut Markup {
+        match rank {
+            Rank::Option => &mut self.options,
+            Rank::Command => &mut self.commands,
+            Rank::Secret => &mut self.secrets,
+            Rank::OtherHost => &mut self.other_hosts,
+            Rank::Refused => &mut self.refused,
+            Rank::Unsettled => &mut self.unsettled,
+            Rank::Readers => &mut self.readers,
+            Rank::Plain => &mut self.plain,
+        }
+    }
+
+    /// The articles of a rank.
+    fn articles(&self, rank: Rank) -> &Markup {
+        match rank {
+            Rank::Option => &self.options,
+            Rank::Command => &self.commands,
+            Rank::Secret => &self.secrets,
+            Rank::OtherHost => &self.other_hosts,
+            Rank::Refused => &self.refused,
+            Rank::Unsettled => &self.unsettled,
+            Rank::Readers => &self.readers,
+            Rank::Plain => &self.plain,
+        }
+    }
+
+    /// Writes the page with this title.
+    pub fn write<W: Write>(&self, title: &str, output: &mut W) -> Result<(), RunError> {
+        for part in PAGE.as_slice() {
+            match part {
+                Part::Text(text) => put(output, text.as_bytes())?,
+                Part::Slot(Slot::Remotes) => self.write_articles(output)?,
+                Part::Slot(slot) => self.write_slot(*slot, title, output)?,
+            }
+        }
+        Ok(())
+    }
+
+    /// Writes what a slot is filled in with.
+    fn write_slot<W: Write>(
+        &self,
+        slot: Slot,
+        title: &str,
+        output: &mut W,
+    ) -> Result<(), RunError> {
+        let mut out = Markup::new(self.alloc);
+        let filled = self.fill(slot, title, &mut out);
+        let written = match filled {
+            Ok(()) => put(output, out.as_bytes()),
+            Err(_) => Err(RunError::Memory),
+        };
+        drop(out);
+        written
+    }
+
+    /// Appends what a slot is filled in with, except for the articles.
+    fn fill(&self, slot: Slot, title: &str, out: &mut Markup) -> Result<(), AllocError> {
+        match slot {
+            Slot::Title => out.push_shown(title.as_bytes()),
+            Slot::Lines => out.push_value(self.counts.lines()),
+            Slot::Verdicts => self.counts.verdicts(out),
+            Slot::Forms => self.counts.forms(out),
+            Slot::Hosts => self.counts.hosts(self.alloc, out),
+            Slot::Remotes => Ok(()),
+        }
+    }
+
+    /// Writes the articles, those of each rank below its heading.
+    fn write_articles<W: Write>(&self, output: &mut W) -> Result<(), RunError> {
+        for rank in Rank::ALL.as_slice() {
+            let articles = self.articles(*rank).as_bytes();
+            if !articles.is_empty() {
+                put(output, b"<section class=k><h2>")?;
+                put(output, rank.heading().as_bytes())?;
+                put(output, b"</h2>\n<div class=g>")?;
+                put(output, articles)?;
+                put(output, b"</div></section>\n")?;
+            }
+        }
+        Ok(())
+    }
+}
+
+/// Ends a group of articles where the last one, before which they had so many bytes, made it long enough.
+fn group(out: &mut Markup, before: usize) -> Result<(), AllocError> {
+    if out.as_bytes().len() / GROUP == before / GROUP {
+        return Ok(());
+    }
+    out.push_template("</div><div class=g>")
+}
+
+/// Writes bytes.
+fn put<W: Write>(output: &mut W, bytes: &[u8]) -> Result<(), RunError> {
+    output.write_all(bytes).map_err(RunError::Write)
+}

@@ -1,0 +1,327 @@
+//! What curl reads in the text of a location of HTTP: the host and the port that it connects to, and the path that it asks
+//! for.
+//!
+//! It uses `bstr`, the addresses of `std::net`, `git` of `explain_text` for escapes and digits, and a location of `gix_url` to
+//! compare with. What libcurl reads has no definition: each function is a step of libcurl 7.88.1, and has no contract but that
+//! it can't abort. The stored run has what `curl_reads` of `tools/web_reads.py` says, a rule by hand that `scripts/web_witness`
+//! compares with libcurl itself.
+
+use crate::location_report::both;
+use bstr::{BStr, ByteSlice};
+use explain_text::git::bytes;
+use explain_text::split::spelling;
+use gix_url::Url;
+use serde::Serialize;
+use std::alloc::{AllocError, Global};
+use std::fmt::Write;
+use std::net::{Ipv4Addr, Ipv6Addr};
+
+/// How many bytes a zone has at most.
+const LONGEST_ZONE: usize = 15;
+
+/// What curl connects to and asks for. User and password are no part of it.
+#[derive(Drop, Serialize)]
+pub struct Curl {
+    /// A name without escapes, or an address: four decimal numbers, or IPv6 in brackets.
+    pub host: String,
+    /// The port, where one is written.
+    pub port: Option<u16>,
+    /// The path and the query as they are sent.
+    pub path: String,
+}
+
+/// The pieces that the text is cut into. No query is an empty one.
+#[derive(Clone, Copy)]
+struct Pieces<'a> {
+    host: &'a [u8],
+    port: Option<u16>,
+    path: &'a [u8],
+    query: &'a [u8],
+}
+
+impl Curl {
+    /// What curl reads in this text: nothing where it refuses the text.
+    pub fn in_text(alloc: Global, text: &[u8]) -> Result<Option<Curl>, AllocError> {
+        let Some(pieces) = cut(text) else {
+            return Ok(None);
+        };
+        let mut room = Vec::new(alloc);
+        let found = read(alloc, pieces, &mut room);
+        drop(room);
+        found
+    }
+
+    /// Whether it connects to the host and the port of the location, whose text it reads: how an IPv6 address is spelled
+    /// doesn't count.
+    pub fn has_own_host(&self, url: &Url) -> bool {
+        let host = url.host().unwrap_or("");
+        let is_address = host.starts_with('[') && !host.contains('%');
+        url.port == self.port && (is_address || self.host.as_str() == host)
+    }
+
+    /// Whether it asks for the path of the location, as an escape of it or not.
+    pub fn has_own_path(&self, url: &Url) -> bool {
+        spelling::decodes_to(self.path.as_str().as_bytes(), url.path.as_bytes())
+    }
+}
+
+/// The pieces of a text, unless curl refuses one of them. A third slash is passed over.
+fn cut(text: &[u8]) -> Option<Pieces<'_>> {
+    let (_, rest) = text.split_once_str(b"://")?;
+    let rest = rest.strip_prefix(b"/").unwrap_or(rest);
+    let (authority, rest) = match rest.find_byteset(b"/?#") {
+        Some(at) => rest.split_at(at),
+        None => (rest, b"".as_slice()),
+    };
+    let (host, port) = host_and_port(behind_user(authority)?)?;
+    let (path, query) = path_and_query(rest)?;
+    Some(Pieces {
+        host,
+        port,
+        path,
+        query,
+    })
+}
+
+/// What follows user and password, which the first `@` ends. A user without a password may not have an escape of byte 0.
+fn behind_user(authority: &[u8]) -> Option<&[u8]> {
+    let Some((information, named)) = authority.split_once_str(b"@") else {
+        return Some(authority);
+    };
+    let is_user_alone = !information.contains(&b':');
+    if has_control(information) || (is_user_alone && information.contains_str(b"%00")) {
+        return None;
+    }
+    Some(named)
+}
+
+/// The host, which a colon or its brackets end, and the port.
+fn host_and_port(named: &[u8]) -> Option<(&[u8], Option<u16>)> {
+    let (host, behind) = match named {
+        [b'[', ..] => named.split_at(named.find_byte(b']')? + 1),
+        _ => match named.find_byte(b':') {
+            Some(at) => named.split_at(at),
+            None => (named, b"".as_slice()),
+        },
+    };
+    match behind {
+        [] | [b':'] => Some((host, None)),
+        [b':', digits @ ..] => Some((host, Some(bytes::digits_port(digits)?))),
+        _ => None,
+    }
+}
+
+/// The path and the query before any fragment. No control character may be in any of them.
+fn path_and_query(rest: &[u8]) -> Option<(&[u8], &[u8])> {
+    if has_control(rest) {
+        return None;
+    }
+    let front = match rest.split_once_str(b"#") {
+        Some((front, _)) => front,
+        None => rest,
+    };
+    match front.split_once_str(b"?") {
+        None => Some((front, b"")),
+        found => found,
+    }
+}
+
+/// Whether there is a space or a control character of ASCII.
+fn has_control(part: &[u8]) -> bool {
+    part.iter().any(|byte| matches!(byte, 0..=b' ' | 0x7f))
+}
+
+/// What curl reads, by the pieces.
+fn read(alloc: Global, pieces: Pieces<'_>, room: &mut Vec<u8>) -> Result<Option<Curl>, AllocError> {
+    let Some(host) = host_of(alloc, pieces.host, room)? else {
+        return Ok(None);
+    };
+    let (host, path) = both(host, target(alloc, pieces, room))?;
+    Ok(Some(Curl {
+        host,
+        port: pieces.port,
+        path,
+    }))
+}
+
+// ---- hosts
+
+/// The host that curl connects to, unless it refuses it.
+fn host_of(alloc: Global, host: &[u8], room: &mut Vec<u8>) -> Result<Option<String>, AllocError> {
+    if has_control(host) {
+        return Ok(None);
+    }
+    if host.starts_with(b"[") {
+        return literal(alloc, host);
+    }
+    match ipv4(host) {
+        Some(address) => Ok(Some(address.to_string(alloc)?)),
+        None => name(alloc, host, room),
+    }
+}
+
+/// A name, decoded. Each `%` that is left is an escape again, since all of the URL is asked for before a transfer.
+fn name(alloc: Global, host: &[u8], room: &mut Vec<u8>) -> Result<Option<String>, AllocError> {
+    room.clear();
+    bytes::decode_behind(room, host)?;
+    let is_name = !room.is_empty() && room.iter().all(|byte| is_in_names(*byte));
+    if !is_name || host.contains_str(b"%00") {
+        return Ok(None);
+    }
+    let decoded = room.as_slice().replace(alloc, b"%", b"%25")?;
+    let name = decoded.as_slice().as_bstr().to_string(alloc);
+    drop(decoded);
+    Ok(Some(name?))
+}
+
+/// Whether a decoded name may have the byte.
+fn is_in_names(byte: u8) -> bool {
+    b' ' < byte && !b"\"/:#?!@{}[]\\$'^`*<>=;,+&()".contains(&byte)
+}
+
+/// The address that is written in one to four numbers, as C's `inet_aton` has it: the last fills all bytes that are left.
+fn ipv4(host: &[u8]) -> Option<Ipv4Addr> {
+    let (mut fronts, mut limit, mut rest) = (0u64, 0x1_0000_0000u64, host);
+    for _number in 0..3 {
+        let Some((front, behind)) = rest.split_once_str(b".") else {
+            break;
+        };
+        limit /= 256;
+        let byte = u8::try_from(number(front)?).ok()?;
+        fronts = fronts.saturating_add(u64::from(byte).saturating_mul(limit));
+        rest = behind;
+    }
+    let last = number(rest)?;
+    if limit <= last {
+        return None;
+    }
+    let bits = u32::try_from(fronts.saturating_add(last)).ok()?;
+    Some(Ipv4Addr::from_bits(bits))
+}
+
+/// The number that a text writes for C's `strtoul`, in the base that it begins with.
+fn number(text: &[u8]) -> Option<u64> {
+    match text {
+        [] => None,
+        [b'0', b'x' | b'X', digits @ ..] if !digits.is_empty() => number_in(16, digits),
+        [b'0', ..] => number_in(8, text),
+        _ => number_in(10, text),
+    }
+}
+
+/// The number that digits write in a base, or the largest one.
+fn number_in(base: u8, digits: &[u8]) -> Option<u64> {
+    let mut value = 0u64;
+    for byte in digits {
+        let digit = bytes::digit(*byte)?;
+        if base <= digit {
+            return None;
+        }
+        value = value
+            .saturating_mul(u64::from(base))
+            .saturating_add(u64::from(digit));
+    }
+    Some(value)
+}
+
+/// An IPv6 address in brackets, in its shortest form, or as it is written where that is as short.
+fn literal(alloc: Global, host: &[u8]) -> Result<Option<String>, AllocError> {
+    let Some((written, zone)) = address_and_zone(host) else {
+        return Ok(None);
+    };
+    let Ok(address) = Ipv6Addr::parse_ascii(written) else {
+        return Ok(None);
+    };
+    let mut text = String::new(alloc);
+    let spelled = write_literal(&mut text, address, written, zone);
+    let (text, ()) = both(text, spelled)?;
+    Ok(Some(text))
+}
+
+/// What brackets hold before a `%` and behind it, or behind the `%25` that stands for one.
+fn address_and_zone(host: &[u8]) -> Option<(&[u8], &[u8])> {
+    let inside = host.strip_prefix(b"[")?.strip_suffix(b"]")?;
+    let (address, zone) = match inside.split_once_str(b"%") {
+        None => (inside, b"".as_slice()),
+        Some((_, [])) => return None,
+        Some((address, [b'2', b'5', zone @ ..])) if !zone.is_empty() => (address, zone),
+        Some(found) => found,
+    };
+    (zone.len() <= LONGEST_ZONE).then_some((address, zone))
+}
+
+/// Appends an address in brackets, which is written so, with its zone. An IPv4 address at its end has dots.
+fn write_literal(
+    out: &mut String,
+    address: Ipv6Addr,
+    written: &[u8],
+    zone: &[u8],
+) -> Result<(), AllocError> {
+    match (address.segments(), address.to_ipv4()) {
+        ([0, 0, 0, 0, 0, 0, (1..), _], Some(ipv4)) => write!(out, "[::{ipv4}"),
+        _ => write!(out, "[{address}"),
+    }?;
+    if written.len() < out.len() {
+        let written = BStr::new(written);
+        out.clear();
+        write!(out, "[{written}")?;
+    }
+    if !zone.is_empty() {
+        let zone = BStr::new(zone);
+        write!(out, "%{zone}")?;
+    }
+    out.push(']')
+}
+
+// ---- paths
+
+/// The path and the query that curl asks for.
+fn target(alloc: Global, pieces: Pieces<'_>, room: &mut Vec<u8>) -> Result<String, AllocError> {
+    room.clear();
+    without_dots(room, pieces.path)?;
+    let mut text = String::new(alloc);
+    let written = write_target(&mut text, room.as_slice(), pieces.query);
+    let (text, ()) = both(text, written)?;
+    Ok(text)
+}
+
+/// Appends a path without its segments `.` and `..`, which take the segment before them out.
+fn without_dots(out: &mut Vec<u8>, path: &[u8]) -> Result<(), AllocError> {
+    let mut ends_with_dots = false;
+    for segment in path.split_str(b"/").skip(1) {
+        ends_with_dots = matches!(segment, b"." | b"..");
+        match segment {
+            b"." => {}
+            b".." => out.truncate(out.as_slice().rfind_byte(b'/').unwrap_or(0)),
+            _ => {
+                out.push(b'/')?;
+                out.extend_from_slice(segment)?;
+            }
+        }
+    }
+    if ends_with_dots || out.is_empty() {
+        out.push(b'/')?;
+    }
+    Ok(())
+}
+
+/// Appends a path and a query.
+fn write_target(out: &mut String, path: &[u8], query: &[u8]) -> Result<(), AllocError> {
+    write_escaped(out, path)?;
+    if query.is_empty() {
+        return Ok(());
+    }
+    out.push('?')?;
+    write_escaped(out, query)
+}
+
+/// Appends a text with escapes in place of the bytes past 127.
+fn write_escaped(out: &mut String, text: &[u8]) -> Result<(), AllocError> {
+    for byte in text {
+        match byte {
+            0..0x80 => out.push(char::from(*byte))?,
+            _ => write!(out, "%{byte:02x}")?,
+        }
+    }
+    Ok(())
+}

@@ -1,0 +1,243 @@
+//! What the own text of a location is read as, where the location isn't settled.
+//!
+//! It reads the text again by `Url::reread` and looks for the first of the public fields, in declared order, that is
+//! another one. Its contract, memory permitting: there is an answer exactly where the location isn't settled, and a
+//! difference names a public field and reports it of the location and of the one that its text spells, a password as the
+//! word `redacted`. That the field is the first, and the words, are no part of it.
+
+ghost use Rattle.std.specs.Prelude.{◌≡◌, ◌↔◌, IfOk, IfSome, IsNone, decimal, option_map, string_bytes};
+ghost use Rattle.gix_url.specs.Settled.{IsSettled};
+ghost use Rattle.gix_url.specs.Views.{owned_scheme};
+ghost use Rattle.explain_report.specs.Differences.{ReportsField, ReportsReread, flag_word, scheme_words};
+
+use crate::location_report::hidden_password;
+use crate::refusal::Refusal;
+use bstr::ByteSlice;
+use explain_text::line::Quoted;
+use gix_url::{Error, Scheme, Url};
+use serde::Serialize;
+use std::alloc::{AllocError, Global};
+
+/// What the own text of a location is read as in place of the location. With neither difference nor refusal it is read
+/// as the same fields, though no promise covers that.
+#[derive(Drop, Serialize)]
+pub struct Reread {
+    /// The first field that is another one.
+    pub difference: Option<Difference>,
+    /// Why the text is refused.
+    pub refusal: Option<Refusal>,
+    /// The same in words.
+    pub words: String,
+}
+
+/// A field that isn't read as it is.
+#[derive(Drop, Serialize)]
+pub struct Difference {
+    /// The name of the field.
+    pub field: &'static str,
+    /// What it is, if there is anything.
+    pub here: Option<String>,
+    /// What it is read as, if there is anything.
+    pub instead: Option<String>,
+}
+
+impl Reread {
+    /// What the text of the location is read as, unless the location is settled.
+    pub fn of(alloc: Global, url: &Url) -> Result<Option<Reread>, AllocError>
+        ensures settled { IfOk result (λ reread. IsNone reread ↔ IsSettled url.now) }
+        ensures report { IfOk result (λ reread. IfSome reread (λ it. IfSome it.difference (ReportsReread url.now))) }
+    {
+        if url.is_settled() {
+            return Ok(None);
+        }
+        match url.reread(alloc) {
+            Ok(other) => {
+                let another = Reread::another(alloc, url, &other);
+                drop(other);
+                Ok(Some(another?))
+            }
+            Err(error) => {
+                let refused = Reread::reread_of_error(alloc, &error);
+                drop(error);
+                Ok(Some(refused?))
+            }
+        }
+    }
+
+    /// What is reported where the text is read as this location.
+    fn another(alloc: Global, url: &Url, other: &Url) -> Result<Reread, AllocError>
+        ensures { IfOk result (λ it. IfSome it.difference (ReportsField url.now other.now)) }
+    {
+        let difference = first_difference(alloc, url, other)?;
+        Ok(Reread {
+            words: words(alloc, &difference)?,
+            difference,
+            refusal: None,
+        })
+    }
+
+    /// What is reported where the text is refused so, unless it is memory that was refused.
+    fn reread_of_error(alloc: Global, error: &Error) -> Result<Reread, AllocError>
+        ensures { IfOk result (λ it. IsNone it.difference) }
+    {
+        if matches!(error, Error::Memory) {
+            return Err(AllocError);
+        }
+        Ok(Reread {
+            words: format!(in alloc; "its own text is refused: {error}")?,
+            difference: None,
+            refusal: Some(Refusal::of(alloc, error)?),
+        })
+    }
+}
+
+/// The first public field in which the two differ.
+fn first_difference(alloc: Global, url: &Url, other: &Url) -> Result<Option<Difference>, AllocError>
+    ensures { IfOk result (λ difference. IfSome difference (ReportsField url.now other.now)) }
+{
+    if url.scheme != other.scheme {
+        return Ok(Some(Difference {
+            field: "scheme",
+            here: Some(scheme_name(alloc, &url.scheme)?),
+            instead: Some(scheme_name(alloc, &other.scheme)?),
+        }));
+    }
+    if url.user() != other.user() {
+        return part_difference(alloc, "user", url.user(), other.user());
+    }
+    if url.password() != other.password() {
+        let (here, instead) = (hidden_password(url), hidden_password(other));
+        return part_difference(alloc, "password", here, instead);
+    }
+    if url.host() != other.host() {
+        return part_difference(alloc, "host", url.host(), other.host());
+    }
+    later_difference(alloc, url, other)
+}
+
+/// The first of the public fields behind the host in which the two differ.
+fn later_difference(alloc: Global, url: &Url, other: &Url) -> Result<Option<Difference>, AllocError>
+    ensures { IfOk result (λ difference. IfSome difference (ReportsField url.now other.now)) }
+{
+    if url.serialize_alternative_form != other.serialize_alternative_form {
+        let (here, instead) = (flag_text(url), flag_text(other));
+        return part_difference(
+            alloc,
+            "serialize_alternative_form",
+            Some(here),
+            Some(instead),
+        );
+    }
+    if url.port != other.port {
+        return Ok(Some(Difference {
+            field: "port",
+            here: port_text(alloc, url.port)?,
+            instead: port_text(alloc, other.port)?,
+        }));
+    }
+    if url.path.as_bytes() != other.path.as_bytes() {
+        return Ok(Some(Difference {
+            field: "path",
+            here: Some(url.path.as_bstr().to_string(alloc)?),
+            instead: Some(other.path.as_bstr().to_string(alloc)?),
+        }));
+    }
+    Ok(None)
+}
+
+/// A field with its two texts.
+fn part_difference(
+    alloc: Global,
+    field: &'static str,
+    here: Option<&str>,
+    instead: Option<&str>,
+) -> Result<Option<Difference>, AllocError>
+    ensures named { IfOk result (λ difference. IfSome difference (λ found. found.field.now ≡ field.now)) }
+    ensures here { IfOk result (λ difference. IfSome difference (λ found.
+        option_map string_bytes found.here ≡ option_map (λ text. text.now) here.entry)) }
+    ensures instead { IfOk result (λ difference. IfSome difference (λ found.
+        option_map string_bytes found.instead ≡ option_map (λ text. text.now) instead.entry)) }
+{
+    Ok(Some(Difference {
+        field,
+        here: owned(alloc, here)?,
+        instead: owned(alloc, instead)?,
+    }))
+}
+
+/// A text of its own.
+fn owned(alloc: Global, text: Option<&str>) -> Result<Option<String>, AllocError>
+    ensures { IfOk result (λ copy. option_map string_bytes copy ≡ option_map (λ it. it.now) text.entry) }
+{
+    match text {
+        None => Ok(None),
+        Some(text) => Ok(Some(String::from_str(alloc, text)?)),
+    }
+}
+
+/// The scheme by its text, and a remote helper as such.
+fn scheme_name(alloc: Global, scheme: &Scheme) -> Result<String, AllocError>
+    ensures { IfOk result (λ name. string_bytes name ≡ scheme_words (owned_scheme scheme.now)) }
+{
+    match scheme {
+        Scheme::Ext | Scheme::Helper(_) => format!(in alloc; "helper {scheme}"),
+        Scheme::File
+        | Scheme::Git
+        | Scheme::Ssh
+        | Scheme::Http
+        | Scheme::Https
+        | Scheme::HelperUrl(_) => scheme.to_string(alloc),
+    }
+}
+
+/// The port in decimal.
+fn port_text(alloc: Global, port: Option<u16>) -> Result<Option<String>, AllocError>
+    ensures { IfOk result (λ text. option_map string_bytes text ≡ option_map decimal port) }
+{
+    match port {
+        None => Ok(None),
+        Some(port) => Ok(Some(port.to_string(alloc)?)),
+    }
+}
+
+/// The flag of the location in a word.
+fn flag_text(url: &Url) -> &'static str
+    ensures { result.now ≡ flag_word url.now.flag }
+{
+    if url.serialize_alternative_form {
+        "true"
+    } else {
+        "false"
+    }
+}
+
+/// The difference in words.
+fn words(alloc: Global, difference: &Option<Difference>) -> Result<String, AllocError> {
+    let Some(it) = difference else {
+        return String::from_str(
+            alloc,
+            "its own text is read as the same fields, which no promise covers",
+        );
+    };
+    let field = it.field;
+    match (quoted(&it.here), quoted(&it.instead)) {
+        (Some(here), Some(instead)) => {
+            format!(in alloc; "its own text is read with the {field} {instead} in place of {here}")
+        }
+        (Some(here), None) => {
+            format!(in alloc; "its own text is read with no {field} in place of {here}")
+        }
+        (None, Some(instead)) => {
+            format!(in alloc; "its own text is read with the {field} {instead} in place of none")
+        }
+        (None, None) => format!(in alloc; "its own text is read with another {field}"),
+    }
+}
+
+/// The text in quotes.
+fn quoted(text: &Option<String>) -> Option<Quoted<'_>> {
+    match text {
+        None => None,
+        Some(text) => Some(Quoted(text.as_str().as_bytes())),
+    }
+}

@@ -1,0 +1,196 @@
+//! What Git does with a line by a configuration: where it fetches from and pushes to, by which transport, with which settings.
+//!
+//! It uses the rules of `git_rules` that `config` filled, and `transports` and `settings` for the answers about what the line
+//! is rewritten to. It has no contract but that it can't abort: `scripts/hostile rules` shows its answers.
+
+use crate::config::Config;
+use crate::setting::Setting;
+use crate::settings::settings_for;
+use crate::transports::Transport;
+use bstr::BString;
+use explain_report::git_report::is_of_web;
+use explain_report::location_report::{both, fields_of};
+use explain_text::line;
+use explain_text::split::Cut;
+use git_rules::protocols::transport;
+use git_rules::rewrite::host::names_same_host;
+use git_rules::rewrite::outcome::Rewritten;
+use gix_url::parse::parse;
+use gix_url::{Error, Url};
+use serde::Serialize;
+use std::alloc::{AllocError, Global};
+
+/// What Git does with a line by a configuration.
+#[derive(Drop, Serialize)]
+pub struct Rules {
+    /// Where a remote with this URL is fetched from.
+    pub fetch: Route,
+    /// Where it is pushed to.
+    pub push: Route,
+    /// The entries of `credential.*` that Git uses for the text that is fetched from, in their order.
+    pub credential: Vec<Setting>,
+    /// The entry of each name of `http.*` that Git uses for that text.
+    pub http: Vec<Setting>,
+}
+
+/// Where Git goes.
+#[derive(Drop, Serialize)]
+pub struct Route {
+    /// The text, with `redacted` for its password, unless it may not be shown.
+    pub text: Option<String>,
+    /// Whether a rule has rewritten it.
+    pub rewritten: bool,
+    /// Whether it names the host that the line names, where both are locations.
+    pub same_host: Option<bool>,
+    /// The transport, where it is a location.
+    pub transport: Option<Transport>,
+}
+
+impl Rules {
+    /// What Git does with a line, which is read as this location unless it is refused.
+    pub fn of(
+        alloc: Global,
+        config: &Config<'_>,
+        line: &[u8],
+        url: Option<&Url>,
+    ) -> Result<Rules, AllocError> {
+        let fetch = Goal::of(alloc, &config.rewrites.rewrite_fetch(line))?;
+        let (fetch, push) = both(
+            fetch,
+            Goal::of(alloc, &config.rewrites.rewrite_push(line, false)),
+        )?;
+        let rules = Rules::of_goals(alloc, config, url, &fetch, &push);
+        drop(push);
+        drop(fetch);
+        rules
+    }
+
+    /// What Git does with what the line is rewritten to.
+    fn of_goals(
+        alloc: Global,
+        config: &Config<'_>,
+        url: Option<&Url>,
+        fetch: &Goal,
+        push: &Goal,
+    ) -> Result<Rules, AllocError> {
+        let routes = both(
+            Route::of(alloc, config, url, fetch)?,
+            Route::of(alloc, config, url, push),
+        )?;
+        let found = both(routes, settings_of(alloc, config, fetch))?;
+        let ((fetch, push), (credential, http)) = found;
+        Ok(Rules {
+            fetch,
+            push,
+            credential,
+            http,
+        })
+    }
+}
+
+/// What a line is rewritten to, and what that is read as.
+#[derive(Drop)]
+struct Goal {
+    text: BString,
+    is_rewritten: bool,
+    /// The location; none where the text is refused.
+    url: Option<Url>,
+}
+
+impl Goal {
+    /// What becomes of a line.
+    fn of(alloc: Global, rewritten: &Rewritten<'_>) -> Result<Goal, AllocError> {
+        let text = rewritten.to_bstring(alloc)?;
+        let (text, url) = both_read(alloc, text)?;
+        Ok(Goal {
+            text,
+            is_rewritten: rewritten.is_rewritten(),
+            url,
+        })
+    }
+}
+
+/// The text, and the location that it is read as, if it is read.
+fn both_read(alloc: Global, text: BString) -> Result<(BString, Option<Url>), AllocError> {
+    let url = match parse(alloc, text.as_bstr()) {
+        Ok(url) => Ok(Some(url)),
+        Err(Error::Memory) => Err(AllocError),
+        Err(error) => {
+            drop(error);
+            Ok(None)
+        }
+    };
+    both(text, url)
+}
+
+impl Route {
+    /// The way to a goal, from a line that is read as this location unless it is refused.
+    fn of(
+        alloc: Global,
+        config: &Config<'_>,
+        line: Option<&Url>,
+        goal: &Goal,
+    ) -> Result<Route, AllocError> {
+        let text = shown_text(alloc, goal)?;
+        let (text, transport) = both(text, transport_to(alloc, config, goal))?;
+        Ok(Route {
+            text,
+            rewritten: goal.is_rewritten,
+            same_host: is_same_host(line, goal),
+            transport,
+        })
+    }
+}
+
+/// Whether a goal names the host of a line, where both are locations.
+fn is_same_host(line: Option<&Url>, goal: &Goal) -> Option<bool> {
+    match (line, &goal.url) {
+        (Some(line), Some(url)) => Some(names_same_host(&line.as_ref(), &url.as_ref())),
+        _ => None,
+    }
+}
+
+/// The text of a goal with its password hidden, unless it may not be shown.
+fn shown_text(alloc: Global, goal: &Goal) -> Result<Option<String>, AllocError> {
+    match shown_cut(goal) {
+        None => Ok(None),
+        Some(cut) => Ok(Some(line::input(alloc, &cut)?)),
+    }
+}
+
+/// The pieces of the text of a goal, unless they may not be shown.
+fn shown_cut(goal: &Goal) -> Option<Cut<'_>> {
+    match &goal.url {
+        Some(url) => line::located(goal.text.as_bytes(), &fields_of(url)),
+        None => Some(line::refused(goal.text.as_bytes())),
+    }
+}
+
+/// The transport to a goal that is a location.
+fn transport_to(
+    alloc: Global,
+    config: &Config<'_>,
+    goal: &Goal,
+) -> Result<Option<Transport>, AllocError> {
+    match &goal.url {
+        None => Ok(None),
+        Some(url) => Ok(Some(Transport::named(
+            alloc,
+            &config.protocols,
+            transport(&url.as_ref()),
+        )?)),
+    }
+}
+
+/// The entries of `credential.*` and of `http.*` that Git uses for a goal of HTTP, and none for another.
+fn settings_of(
+    alloc: Global,
+    config: &Config<'_>,
+    goal: &Goal,
+) -> Result<(Vec<Setting>, Vec<Setting>), AllocError> {
+    if goal.url.as_ref().is_some_and(is_of_web) {
+        settings_for(alloc, config, goal.text.as_bytes())
+    } else {
+        Ok((Vec::new(alloc), Vec::new(alloc)))
+    }
+}
