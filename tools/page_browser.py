@@ -44,17 +44,40 @@ class Browser:
     """A running browser. Its profile is in a folder of the caller's, which is thrown away with it."""
 
     def __init__(self, room):
+        self.room = room
+        # Root has no sandbox, and some containers allow none.
+        if not any(map(self.starts, ([], ["--no-sandbox"])[os.geteuid() == 0:])):
+            with open(f"{room}/browser.log", encoding="utf-8", errors="replace") as it:
+                raise RuntimeError(f"the browser doesn't start: {it.read()[-2000:]}")
+
+    def starts(self, words):
+        """Starts the browser with these words as well. Whether it answers."""
         to_read, self.to = high_pipe()
         self.out, to_write = high_pipe()
-        # Root has no sandbox.
-        words = [command(), f"--user-data-dir={room}/profile", *(["--no-sandbox"] if os.geteuid() == 0 else []), *WORDS]
+        words = [command(), f"--user-data-dir={self.room}/profile", *words, *WORDS]
         streams = [(os.POSIX_SPAWN_DUP2, to_read, 3), (os.POSIX_SPAWN_DUP2, to_write, 4),
                    (os.POSIX_SPAWN_OPEN, 0, os.devnull, os.O_RDONLY, 0)]
-        streams += [(os.POSIX_SPAWN_OPEN, it, f"{room}/browser.log", os.O_WRONLY | os.O_CREAT | os.O_APPEND, 0o600) for it in (1, 2)]
-        self.process = os.posix_spawn(words[0], words, {**os.environ, "HOME": room}, file_actions=streams, setpgroup=0)
+        streams += [(os.POSIX_SPAWN_OPEN, it, f"{self.room}/browser.log", os.O_WRONLY | os.O_CREAT | os.O_APPEND, 0o600) for it in (1, 2)]
+        self.process = os.posix_spawn(words[0], words, {**os.environ, "HOME": self.room}, file_actions=streams, setpgroup=0)
         for it in (to_read, to_write):
             os.close(it)
         self.buffer, self.number, self.replies, self.pages = bytearray(), 0, {}, {}
+        try:
+            self.call("Browser.getVersion")
+            return True
+        except BaseException as fault:
+            self.end()
+            if isinstance(fault, (OSError, EOFError)):
+                return False
+            raise
+
+    def end(self):
+        """Ends the browser and what it started."""
+        with contextlib.suppress(ProcessLookupError):
+            os.killpg(self.process, signal.SIGKILL)
+        os.waitpid(self.process, 0)
+        for it in (self.to, self.out):
+            os.close(it)
 
     def __enter__(self):
         return self
@@ -63,11 +86,7 @@ class Browser:
         with contextlib.suppress(OSError, EOFError, TimeoutError):
             self.call("Browser.close")
             self.read(time.monotonic() + 5)
-        with contextlib.suppress(ProcessLookupError):
-            os.killpg(self.process, signal.SIGKILL)
-        os.waitpid(self.process, 0)
-        for it in (self.to, self.out):
-            os.close(it)
+        self.end()
 
     def read(self, until):
         """Takes in the next messages: replies are kept, events go to their page."""

@@ -27,7 +27,16 @@ BYTES = [
     b"", b"h:\0p", b"\0", b"h:a\nb", b"\n\n\n", b"h:\r\n", b"\r", b"h:\tp", b"h:\x0b\x0c", b"h:\x1b[31mred\x1b[0m", b"h:\x7f", b"h:\x08\x08\x08", b"h:\xc2\x80\xc2\x9f",
     b"h:\xff\xfe", b"\xff", b"h:\xc3", b"h:\xed\xa0\x80", b"h:\xf4\x90\x80\x80", b"h:\xc0\xaf<\xc0\xbc", b"\xef\xbb\xbfhttps://h/p", b"https://h/%00%3Cscript%3E%0A%FF",
     b"ssh://h/%E2%80%AE%22", b"https://u%22:p%3C@h/%26lt;", b"ssh://u:secret\xff@h/\xff", bytes(range(1, 256)), b"/" + bytes(range(256))]
-LONG = [b"h:" + b"a" * 1_000_000, b"https://h/" + b"%3C" * 333_000, b"<" * 1_000_000, "h:".encode() + "\u05d0\u6f22 ".encode() * 160_000, b"ssh://h/" + b"\xff" * 100_000]
+# Of up to a megabyte each. The first two are looked at whole in the sample too: letters, and words of Hebrew and Chinese in
+# turn, which take a browser longest.
+LONG = [
+    b"h:" + b"a" * 1_000_000, "h:".encode() + "\u05d0\u6f22 ".encode() * 160_000, b"https://h/" + b"%3C" * 333_000, b"<" * 1_000_000,
+    b"ssh://h/" + b"\xff" * 100_000, b"/" + b" " * 1_000_000, b"/" + b"\"'" * 500_000, b"https://h/" + b"%41" * 333_000,
+    "h:".encode() + "\u0628".encode() * 500_000, "h:".encode() + "a\u0310".encode() * 333_000, "/".encode() + "\u200f".encode() * 333_000,
+    b"file://h/" + b"p" * 1_000_000, b"h" * 1_000_000 + b":p", b"https://h/?a=" + b"b" * 1_000_000]
+WHOLE = 2
+# A query has a row for each field.
+MANY = b"https://h/?" + b"a=b&" * 20_000
 TITLES = [
     "</title><script>alert(1)</script>", '"><img src=x onerror=alert(1)>', "&lt;b&gt; &amp; <!-- x --> ' \"", "\u202eabc \u200b", "<!-- remotes -->",
     "a\tb\\n\x1b[31m", " ", "\u05e9\u05dc\u05d5\u05dd", "x" * 5_000]

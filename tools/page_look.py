@@ -85,6 +85,14 @@ def layout_faults(page, widths=WIDTHS):
     yield from (f"{it} reorders what is beside it" for it in page.read(ISOLATED))
 
 
+def height_faults(page, most, widths=WIDTHS):
+    """Which articles are higher than so many points, in windows of these widths."""
+    for width in widths:
+        page.look(width)
+        heights = page.read("JSON.stringify([...document.querySelectorAll('article')].map(it => it.offsetHeight))")
+        yield from (f"at {width} columns of pixels an article is {it} high" for it in heights if it > most)
+
+
 def colours(page, media, dark):
     page.look(1280, dark, media)
     return page.read(f"{COLOURS}({json.dumps(media == 'print')})")

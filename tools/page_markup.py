@@ -9,7 +9,7 @@ TAGS = set("html head meta title style body a header h1 h2 h3 h4 p b code main s
            "select option button article dl dt dd ul li i span mark q strong footer script".split())
 ATTRIBUTES = set("lang charset http-equiv content name class id href role hidden for type value autocomplete spellcheck scope colspan width height "
                  "tabindex aria-labelledby aria-label aria-hidden data-f data-v data-d data-m viewBox preserveAspectRatio".split())
-TOP = "A HEADER MAIN FOOTER SCRIPT".split()
+TOP = "A HEADER SCRIPT MAIN FOOTER".split()
 POLICY = r"default-src 'none'; style-src 'sha256-[\w+/=]{44}'; script-src 'sha256-[\w+/=]{44}'; base-uri 'none'; form-action 'none'"
 FOUND = """JSON.stringify({
   tags: [...new Set([...document.querySelectorAll('*')].map(it => it.localName))],

@@ -3,6 +3,7 @@ import filecmp
 import json
 import os
 import tempfile
+import time
 
 import page_answers
 import page_filter
@@ -25,6 +26,10 @@ PICTURE = (1152, 900)
 STEP = 20
 # How many bytes of a long line are looked at without --whole.
 MOST_LONG = 20_000
+# How soon a page with a line of a megabyte has to be seen, on a slow machine that does other work as well, and how many points
+# high its article may be: other lines are beside it.
+MOST_SECONDS = 60
+MOST_HEIGHT = 4_000
 
 
 def texts_that_surprise():
@@ -82,21 +87,40 @@ def answers(browser, room, is_whole):
     return faults, f"{count} lines, read back whole"
 
 
+def long_line(browser, room, line):
+    """What is wrong with a page that has a long line among others, and how many seconds it takes until that is seen."""
+    lines, file = [b"h:p", line, b"h:q"], f"{room}/page.html"
+    page_answers.write_page(file, lines)
+    started = time.monotonic()
+    with Page(browser, file) as page:
+        page.settle()
+        seconds = time.monotonic() - started
+        found = [*page_answers.faults_of(page, lines, page_answers.answers(lines)), *page_markup.faults_of(page)]
+        found += [*page_look.layout_faults(page), *page.found()]
+        if line != page_hostile.MANY:
+            found += page_look.height_faults(page, MOST_HEIGHT)
+    if seconds > MOST_SECONDS:
+        found.append(f"the page is seen after {seconds:.0f} s")
+    return [f"with {line[:12]!r}.. of {len(line)} bytes: {it}" for it in found], seconds
+
+
 def hostile(browser, room, is_whole):
     """Hostile lines: they are what the second reading says, and nothing else happens."""
-    faults, lines = [], page_hostile.lines()
-    long = page_hostile.LONG if is_whole else [it[:MOST_LONG] for it in page_hostile.LONG]
+    faults, lines, slowest = [], page_hostile.lines(), 0.0
+    cut = [it[:MOST_LONG] for it in page_hostile.LONG[page_hostile.WHOLE:]]
+    long = [*page_hostile.LONG, page_hostile.MANY] if is_whole else [*page_hostile.LONG[:page_hostile.WHOLE], *cut]
     with page_of(browser, room, lines, "--null") as page:
         faults += [*page_answers.faults_of(page, lines, second_reading(lines)), *page_markup.faults_of(page)]
         faults += [*page_look.layout_faults(page), *page.found()]
     for line in long:
-        with page_of(browser, room, [b"h:p", line]) as page:
-            faults += [*page_answers.faults_of(page, [b"h:p", line], page_answers.answers([b"h:p", line])), *page_markup.faults_of(page)]
-            faults += [*page_look.layout_faults(page), *page.found()]
+        found, seconds = long_line(browser, room, line)
+        faults, slowest = faults + found, max(slowest, seconds)
     for title in page_hostile.TITLES:
         with page_of(browser, room, [b"h:p"], title=title) as page:
             faults += [*page_markup.faults_of(page, title), *page_look.layout_faults(page), *page.found()]
-    return faults, f"{len(lines)} hostile lines, {len(long)} long ones, {len(page_hostile.TITLES)} titles"
+    count = sum(len(it) > MOST_LONG for it in long)
+    said = f"{len(lines)} hostile lines, {len(long)} long ones, {count} of them of up to a megabyte and seen within {slowest:.1f} s"
+    return faults, f"{said}, {len(page_hostile.TITLES)} titles"
 
 
 def use(browser, room, is_whole):

@@ -26,7 +26,7 @@ pub const PAGE: [Part; 19] = [
         r##"<!DOCTYPE html>
 <html lang="en">
 <meta charset="utf-8">
-<meta http-equiv="Content-Security-Policy" content="default-src 'none'; style-src 'sha256-jrw41txGggOwz+CSG0VsMQNzbf7SSQS2p5ECTsAQzO4='; script-src 'sha256-hi8meVYLgdvk0paQiNKCk6d/f6qb6T66g4LbLcTG+vs='; base-uri 'none'; form-action 'none'">
+<meta http-equiv="Content-Security-Policy" content="default-src 'none'; style-src 'sha256-bDyC9/qKY6gyf8sA01RwItPeiA9Jp7WSiUh7SISwBs4='; script-src 'sha256-Aq8D/a82UDSX3V5M4y7o36nMk6CgYKsLfm6VDE6+Qyg='; base-uri 'none'; form-action 'none'">
 <meta name="viewport" content="width=device-width, initial-scale=1">
 <meta name="color-scheme" content="light dark">
 <meta name="generator" content="explain --html">
@@ -103,7 +103,8 @@ strong, .r { color: var(--alarm); font-weight: 600; }
   font: 1rem/1.4 ui-monospace, monospace; white-space: break-spaces; unicode-bidi: isolate; direction: ltr;
   max-height: 24rem; overflow-y: auto; margin: .5rem 0; background: var(--paper); border-radius: .25rem; padding: .35rem .5rem;
 }
-.t span { display: inline-flex; flex-direction: column; max-width: 100%; min-width: 0; unicode-bidi: isolate; border-bottom: .2rem solid var(--c, transparent); margin-bottom: .25rem; color: var(--c, inherit); }
+.t span[class] { display: inline-flex; flex-direction: column; max-width: 100%; min-width: 0; unicode-bidi: isolate; border-bottom: .2rem solid var(--c, transparent); margin-bottom: .25rem; color: var(--c, inherit); }
+.t span[class]:has(> span), .t span:has(> span) > i { display: block; }
 i { font: .7rem/1.2 system-ui, sans-serif; padding-right: .3rem; user-select: none; -webkit-user-select: none; }
 .s, .e { --c: var(--scheme); } .u { --c: var(--user); } .w { --c: var(--password); } .h { --c: var(--host); } .o { --c: var(--port); }
 .p { --c: var(--path); } .q { --c: var(--query); } .f { --c: var(--fragment); } .a { --c: var(--host); }
@@ -114,6 +115,10 @@ dl { display: grid; grid-template-columns: max-content minmax(0, 1fr); gap: .1re
 dt { color: var(--dim); }
 dd { margin: 0; min-width: 0; max-height: 12rem; overflow-y: auto; }
 dd, td, q { white-space: break-spaces; unicode-bidi: isolate; }
+/* The browser's own quotes take a time that grows as the square of how many there are. */
+q::before { content: "\201c"; }
+q::after { content: "\201d"; }
+q:empty::after { content: none; }
 dd[data-m]:empty::before, td[data-m]:empty::before, q:empty::before { content: "(empty)"; color: var(--dim); font-style: italic; }
 dd b, td b { font-weight: 600; }
 .m { font-family: ui-monospace, monospace; font-size: .95rem; }
@@ -132,6 +137,14 @@ article table.b { table-layout: auto; width: auto; max-width: 100%; font: .95rem
 article .b tr > th:first-child { border: 0; width: auto; padding: 0 .75rem 0 0; white-space: nowrap; }
 footer { margin-top: 2rem; border-top: 1px solid var(--line); padding-top: .5rem; color: var(--dim); font-size: .9rem; }
 
+/* A slice of a long text, as the script cuts it */
+span:not([class]) {
+  display: inline-block; width: 100%; vertical-align: top; content-visibility: auto; contain-intrinsic-size: auto 0 auto 25rem;
+}
+mark > span:not([class]) { background: inherit; text-decoration: inherit; }
+td > div, th > div { max-height: 12rem; overflow-y: auto; }
+.b:has(td > div), .b td:has(> div) { width: 100%; }
+
 @media (max-width: 40rem) {
   body { padding: .5rem; }
   dl { grid-template-columns: 5rem minmax(0, 1fr); gap: .1rem .5rem; }
@@ -148,8 +161,9 @@ footer { margin-top: 2rem; border-top: 1px solid var(--line); padding-top: .5rem
   body { max-width: none; padding: 0; font-size: 10pt; }
   .skip, #filter, #shown { display: none; }
   .g { content-visibility: visible; }
+  span:not([class]) { display: block; content-visibility: visible; }
   article { break-inside: avoid; }
-  .t, dd { max-height: none; overflow: visible; }
+  .t, dd, td > div, th > div { max-height: none; overflow: visible; }
 }
 </style>
 <body>
@@ -166,6 +180,94 @@ footer { margin-top: 2rem; border-top: 1px solid var(--line); padding-top: .5rem
     Part::Text(
         r##"</b>, the dangerous ones first.</p>
 </header>
+<script>
+"use strict";
+(() => {
+  const by = (name) => document.getElementById(name);
+
+  // Laying out a text of a megabyte takes minutes in some scripts. So a long text is cut into slices, before it is first
+  // laid out, and of those only what is seen is laid out.
+  const SLICE = 2000;
+  const texts = document.createTreeWalker(document.body, NodeFilter.SHOW_TEXT);
+  const cut = (text) => {
+    const slices = [];
+    for (let from = 0, to; from < text.data.length; from = to) {
+      to = from + SLICE;
+      to += /[\udc00-\udfff]/.test(text.data.charAt(to));
+      const slice = document.createElement("span");
+      slice.textContent = text.data.slice(from, to);
+      slices.push(slice);
+    }
+    text.replaceWith(...slices);
+    texts.currentNode = slices.at(-1).firstChild;
+  };
+  const cutLong = () => {
+    for (let text = texts.currentNode; text; text = texts.nextNode()) {
+      if (text.length > 2 * SLICE && text.parentNode.nodeName !== "SCRIPT") {
+        cut(text);
+      }
+    }
+  };
+  const eachFrame = () => {
+    cutLong();
+    if (document.readyState === "loading") {
+      requestAnimationFrame(eachFrame);
+    }
+  };
+  eachFrame();
+
+  // A cell can't be scrolled, but a box in it.
+  const boxCells = () => {
+    for (const cell of document.querySelectorAll("td:has(> span), th:has(> span)")) {
+      const box = document.createElement("div");
+      box.append(...cell.childNodes);
+      cell.append(box);
+    }
+  };
+
+  const filter = () => {
+    const form = by("filter");
+    const wanted = { text: by("f-text"), part: by("f-part"), form: by("f-form"), host: by("f-host"), verdict: by("f-verdict"), danger: by("f-danger") };
+    const small = (element) => (element ? element.textContent.toLowerCase() : "");
+    let lines = null;
+
+    // Each line once, and the texts that were looked for in it.
+    const all = () => (lines ??= Array.from(document.querySelectorAll("article"), (element) => ({ element, texts: {} })));
+    const text = (line, part) => (line.texts[part] ??= small(part ? line.element.querySelector(`[data-m=${part}]`) : line.element));
+
+    const isShown = (line) => {
+      const { f, v, d } = line.element.dataset;
+      return (!wanted.form.value || (f ?? "refused") === wanted.form.value)
+        && (!wanted.verdict.value || v === wanted.verdict.value)
+        && (!wanted.danger.checked || d !== undefined)
+        && (!wanted.host.value || text(line, "host").includes(wanted.host.value.toLowerCase()))
+        && (!wanted.text.value || text(line, wanted.part.value).includes(wanted.text.value.toLowerCase()));
+    };
+    const apply = () => {
+      let count = 0;
+      for (const line of all()) {
+        const shown = isShown(line);
+        line.element.hidden = !shown;
+        count += shown;
+      }
+      for (const rank of document.querySelectorAll(".k, .g")) {
+        rank.hidden = !rank.querySelector("article:not([hidden])");
+      }
+      by("shown").textContent = `${count} of ${all().length} lines shown`;
+    };
+    form.addEventListener("input", apply);
+    form.addEventListener("reset", () => setTimeout(apply));
+    form.addEventListener("submit", (event) => event.preventDefault());
+    form.hidden = false;
+  };
+
+  document.addEventListener("DOMContentLoaded", () => {
+    cutLong();
+    boxCells();
+    filter();
+  });
+})();
+</script>
 <main>
 <section id="counts" aria-labelledby="counts-name">
 <h2 id="counts-name">Counts</h2>
@@ -232,45 +334,6 @@ footer { margin-top: 2rem; border-top: 1px solid var(--line); padding-top: .5rem
 <code>\u{200f}</code>, a backslash as <code>\\</code>. A password is written as the word <code>redacted</code>.
 A location is settled if its own text is read as the same location again.</p>
 </footer>
-<script>
-"use strict";
-(() => {
-  const by = (name) => document.getElementById(name);
-  const form = by("filter");
-  const wanted = { text: by("f-text"), part: by("f-part"), form: by("f-form"), host: by("f-host"), verdict: by("f-verdict"), danger: by("f-danger") };
-  const small = (element) => (element ? element.textContent.toLowerCase() : "");
-  let lines = null;
-
-  // Each line once, and the texts that were looked for in it.
-  const all = () => (lines ??= Array.from(document.querySelectorAll("article"), (element) => ({ element, texts: {} })));
-  const text = (line, part) => (line.texts[part] ??= small(part ? line.element.querySelector(`[data-m=${part}]`) : line.element));
-
-  const isShown = (line) => {
-    const { f, v, d } = line.element.dataset;
-    return (!wanted.form.value || (f ?? "refused") === wanted.form.value)
-      && (!wanted.verdict.value || v === wanted.verdict.value)
-      && (!wanted.danger.checked || d !== undefined)
-      && (!wanted.host.value || text(line, "host").includes(wanted.host.value.toLowerCase()))
-      && (!wanted.text.value || text(line, wanted.part.value).includes(wanted.text.value.toLowerCase()));
-  };
-  const apply = () => {
-    let count = 0;
-    for (const line of all()) {
-      const shown = isShown(line);
-      line.element.hidden = !shown;
-      count += shown;
-    }
-    for (const rank of document.querySelectorAll(".k, .g")) {
-      rank.hidden = !rank.querySelector("article:not([hidden])");
-    }
-    by("shown").textContent = `${count} of ${all().length} lines shown`;
-  };
-  form.addEventListener("input", apply);
-  form.addEventListener("reset", () => setTimeout(apply));
-  form.addEventListener("submit", (event) => event.preventDefault());
-  form.hidden = false;
-})();
-</script>
 "##,
     ),
 ];
