@@ -26,7 +26,7 @@ pub const PAGE: [Part; 19] = [
         r##"<!DOCTYPE html>
 <html lang="en">
 <meta charset="utf-8">
-<meta http-equiv="Content-Security-Policy" content="default-src 'none'; style-src 'sha256-bDyC9/qKY6gyf8sA01RwItPeiA9Jp7WSiUh7SISwBs4='; script-src 'sha256-Aq8D/a82UDSX3V5M4y7o36nMk6CgYKsLfm6VDE6+Qyg='; base-uri 'none'; form-action 'none'">
+<meta http-equiv="Content-Security-Policy" content="default-src 'none'; style-src 'sha256-cvbGBqvkkFijvRftOnhsSjmMJKP9uMrHzgsHQ5NCev0='; script-src 'sha256-s0ztrpq2N07TFiro+TitHrvs1jjYqCo6sFnd+OioHY8='; base-uri 'none'; form-action 'none'">
 <meta name="viewport" content="width=device-width, initial-scale=1">
 <meta name="color-scheme" content="light dark">
 <meta name="generator" content="explain --html">
@@ -104,7 +104,7 @@ strong, .r { color: var(--alarm); font-weight: 600; }
   max-height: 24rem; overflow-y: auto; margin: .5rem 0; background: var(--paper); border-radius: .25rem; padding: .35rem .5rem;
 }
 .t span[class] { display: inline-flex; flex-direction: column; max-width: 100%; min-width: 0; unicode-bidi: isolate; border-bottom: .2rem solid var(--c, transparent); margin-bottom: .25rem; color: var(--c, inherit); }
-.t span[class]:has(> span), .t span:has(> span) > i { display: block; }
+.t span.l, .t .l > i { display: block; }
 i { font: .7rem/1.2 system-ui, sans-serif; padding-right: .3rem; user-select: none; -webkit-user-select: none; }
 .s, .e { --c: var(--scheme); } .u { --c: var(--user); } .w { --c: var(--password); } .h { --c: var(--host); } .o { --c: var(--port); }
 .p { --c: var(--path); } .q { --c: var(--query); } .f { --c: var(--fragment); } .a { --c: var(--host); }
@@ -143,7 +143,7 @@ span:not([class]) {
 }
 mark > span:not([class]) { background: inherit; text-decoration: inherit; }
 td > div, th > div { max-height: 12rem; overflow-y: auto; }
-.b:has(td > div), .b td:has(> div) { width: 100%; }
+.b.l, .b.l td:not(.z, [colspan]) { width: 100%; }
 
 @media (max-width: 40rem) {
   body { padding: .5rem; }
@@ -188,10 +188,10 @@ td > div, th > div { max-height: 12rem; overflow-y: auto; }
   // Laying out a text of a megabyte takes minutes in some scripts. So a long text is cut into slices, before it is first
   // laid out, and of those only what is seen is laid out.
   const SLICE = 2000;
-  const texts = document.createTreeWalker(document.body, NodeFilter.SHOW_TEXT);
+  const parents = new Set();
   const cut = (text) => {
-    const slices = [];
-    for (let from = 0, to; from < text.data.length; from = to) {
+    const slices = [], parent = text.parentNode;
+    for (let from = 0, to; from < text.length; from = to) {
       to = from + SLICE;
       to += /[\udc00-\udfff]/.test(text.data.charAt(to));
       const slice = document.createElement("span");
@@ -199,14 +199,30 @@ td > div, th > div { max-height: 12rem; overflow-y: auto; }
       slices.push(slice);
     }
     text.replaceWith(...slices);
-    texts.currentNode = slices.at(-1).firstChild;
+    parents.add(parent);
+    if (parent.nodeName === "SPAN") {
+      parent.classList.add("l");
+    }
   };
-  const cutLong = () => {
-    for (let text = texts.currentNode; text; text = texts.nextNode()) {
-      if (text.length > 2 * SLICE && text.parentNode.nodeName !== "SCRIPT") {
+  const cutIn = (element) => {
+    const texts = document.createTreeWalker(element, NodeFilter.SHOW_TEXT);
+    for (let text = texts.nextNode(), next; text; text = next) {
+      next = texts.nextNode();
+      if (text.length > 2 * SLICE) {
         cut(text);
       }
     }
+  };
+  const articles = document.getElementsByTagName("article");
+  let seen = 0;
+  const cutLong = () => {
+    for (; seen < articles.length; seen++) {
+      if (articles[seen].textContent.length > 2 * SLICE) {
+        cutIn(articles[seen]);
+      }
+    }
+    // The last one may have more to come.
+    seen = Math.max(0, seen - 1);
   };
   const eachFrame = () => {
     cutLong();
@@ -218,10 +234,13 @@ td > div, th > div { max-height: 12rem; overflow-y: auto; }
 
   // A cell can't be scrolled, but a box in it.
   const boxCells = () => {
-    for (const cell of document.querySelectorAll("td:has(> span), th:has(> span)")) {
-      const box = document.createElement("div");
-      box.append(...cell.childNodes);
-      cell.append(box);
+    for (const cell of parents) {
+      if (cell.nodeName === "TD" || cell.nodeName === "TH") {
+        const box = document.createElement("div");
+        box.append(...cell.childNodes);
+        cell.append(box);
+        cell.closest("table").classList.add("l");
+      }
     }
   };
 
@@ -263,6 +282,7 @@ td > div, th > div { max-height: 12rem; overflow-y: auto; }
 
   document.addEventListener("DOMContentLoaded", () => {
     cutLong();
+    cutIn(by("hosts"));
     boxCells();
     filter();
   });
