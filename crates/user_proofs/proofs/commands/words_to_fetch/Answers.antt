@@ -1,5 +1,5 @@
 -- The words are those of a command for the location, which is safe.
-use Rattle.std.proofs.Common.{◌≡◌, ◌∙◌, ℕ, List, [], ◌∷◌, Some, refl, ap, map, subst, Result, Ok, Err, IfOk}
+use Rattle.std.proofs.Common.{◌∙◌, ℕ, List, [], ◌∷◌, Some, refl, ap, map, subst, Result, Ok, Err, IfOk}
 use Rattle.bstr.specs.Owned.{bstring_bytes}
 use Rattle.gix_url.specs.Git.{UserCut}
 use Rattle.gix_url.specs.Location.{Location}
