@@ -1,7 +1,8 @@
-// Makes one call of the libraries for each line of a file, in passes: driver CALL PASSES FILE
+// Makes one call of the libraries for each line of a file, in passes: driver CALL PASSES FILE [CONFIG]
 //
-// CALL is the name of an export of `url_bench` or `call_bench`, without the name of the library. It prints how many calls
-// answered that all is well, so that calls which give up early are seen.
+// CALL is the name of an export of `url_bench` or `call_bench`, without the name of the library. CONFIG is a file with what
+// `git config --list -z` prints, which `rewrite_fetch` takes its rules of. It prints how many calls answered that all is well,
+// so that calls which give up early are seen.
 #include <stdbool.h>
 #include <stdint.h>
 #include <stdio.h>
@@ -15,6 +16,9 @@ struct line {
 
 // Room for as many bytes as a line has.
 static unsigned char room[1 << 16];
+
+// The configuration.
+static struct line config;
 
 bool url_bench_parse(const unsigned char *bytes, size_t length);
 bool url_bench_parse_in(const unsigned char *bytes, size_t length, unsigned char *room, size_t room_length);
@@ -39,6 +43,7 @@ size_t call_bench_to_json(const unsigned char *bytes, size_t length);
 size_t call_bench_from_json(const unsigned char *bytes, size_t length);
 size_t call_bench_reread(const unsigned char *bytes, size_t length);
 size_t call_bench_from_parts(const unsigned char *bytes, size_t length);
+size_t call_bench_rewrite_fetch(const unsigned char *config, size_t config_length, const unsigned char *bytes, size_t length);
 
 // Each call, and whether all is well.
 static bool parse(const struct line *line) { return url_bench_parse(line->bytes, line->length); }
@@ -73,6 +78,9 @@ static bool to_json(const struct line *line) { return call_bench_to_json(line->b
 static bool from_json(const struct line *line) { return call_bench_from_json(line->bytes, line->length) > 0; }
 static bool reread(const struct line *line) { return call_bench_reread(line->bytes, line->length) > 0; }
 static bool from_parts(const struct line *line) { return call_bench_from_parts(line->bytes, line->length) > 0; }
+static bool rewrite_fetch(const struct line *line) {
+    return call_bench_rewrite_fetch(config.bytes, config.length, line->bytes, line->length) > 0;
+}
 
 #define CALL(name) {#name, name}
 static const struct {
@@ -82,6 +90,7 @@ static const struct {
     CALL(parse), CALL(parse_in), CALL(refuse_in), CALL(write), CALL(settled), CALL(text_len), CALL(write_to),
     CALL(to_bstring), CALL(to_string), CALL(is_settled), CALL(agrees_with_git), CALL(path_query_fragment), CALL(expand_path),
     CALL(clone), CALL(eq), CALL(cmp), CALL(hash), CALL(to_stored), CALL(to_json), CALL(from_json), CALL(reread), CALL(from_parts),
+    CALL(rewrite_fetch),
 };
 
 static _Noreturn void fail(const char *why) {
@@ -89,7 +98,7 @@ static _Noreturn void fail(const char *why) {
     exit(2);
 }
 
-// The bytes of a file, which ends with a line end.
+// The bytes of a file.
 static char *contents(const char *name, size_t *size) {
     FILE *file = fopen(name, "rb");
     if (!file || fseek(file, 0, SEEK_END)) fail("the file can't be opened");
@@ -101,7 +110,7 @@ static char *contents(const char *name, size_t *size) {
     return bytes;
 }
 
-// The lines of the bytes, without their ends.
+// The lines of the bytes, each of which has an end, without their ends.
 static struct line *lines_of(const char *bytes, size_t size, size_t *count) {
     struct line *lines = malloc((size + 1) * sizeof *lines);
     if (!lines) fail("no memory");
@@ -112,7 +121,7 @@ static struct line *lines_of(const char *bytes, size_t size, size_t *count) {
 }
 
 int main(int words, char **word) {
-    if (words != 4) fail("usage: driver CALL PASSES FILE");
+    if (words != 4 && words != 5) fail("usage: driver CALL PASSES FILE [CONFIG]");
     bool (*call)(const struct line *) = NULL;
     for (size_t i = 0; i < sizeof calls / sizeof *calls; i++)
         if (!strcmp(word[1], calls[i].name)) call = calls[i].call;
@@ -120,9 +129,12 @@ int main(int words, char **word) {
     size_t size, count, well = 0;
     char *bytes = contents(word[3], &size);
     struct line *lines = lines_of(bytes, size, &count);
+    char *rules = words == 5 ? contents(word[4], &config.length) : NULL;
+    config.bytes = (const unsigned char *)rules;
     for (long pass = strtol(word[2], NULL, 10); pass > 0; pass--)
         for (size_t i = 0; i < count; i++) well += call(&lines[i]);
     printf("%zu\n", well);
+    free(rules);
     free(lines);
     free(bytes);
 }

@@ -1,5 +1,9 @@
 -- What the exports return: numbers, defined by what they say of a location.
 use Rattle.std.specs.Prelude.{◌≡◌, ◌<◌, ℕ, List, Option, IsUtf8, codes, length, None, Some, Ok}
+use Rattle.git_rules.specs.Config.{ConfigEntry}
+use Rattle.git_rules.specs.ConfigItems.{HasEntries}
+use Rattle.git_rules.specs.RewriteEntries.{rules_of}
+use Rattle.git_rules.specs.Rewrites.{IsRewritten, Outcome, Rules, outcome_text}
 use Rattle.gix_url.specs.Components.{Components, ComponentsOf}
 use Rattle.gix_url.specs.Display.{display}
 use Rattle.gix_url.specs.FromParts.{MadeOf}
@@ -64,3 +68,12 @@ IsCompactLength n = (json : List ℕ) × IsCompact json × (length json ≡ n)
 -- the length of the path of a location that a record means
 abbrev pub IsRestoredLength : ℕ → Type 0
 IsRestoredLength n = (stored : StoredUrl) × (length (migrated (recorded_location stored)).path ≡ n)
+
+-- the length of the text that the rules have Git fetch from in place of a text
+abbrev pub IsRewrittenLength : Rules → List ℕ → ℕ → Type 0
+IsRewrittenLength rules t n = (o : Outcome) × IsRewritten rules.fetching t o × (length (outcome_text o) ≡ n)
+
+-- the same by the rules of a configuration
+abbrev pub IsFetchedLength : List ℕ → List ℕ → ℕ → Type 0
+IsFetchedLength config t n = (entries : List ConfigEntry) × HasEntries config entries
+    × IsRewrittenLength (rules_of entries) t n

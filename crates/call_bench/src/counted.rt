@@ -12,9 +12,10 @@ ghost use Rattle.gix_url.specs.GitClass.{AgreesWithGit};
 ghost use Rattle.gix_url.specs.Order.{fed_location, location_cmp, location_eq};
 ghost use Rattle.gix_url.specs.Settled.{IsSettled};
 ghost use Rattle.gix_url.specs.Text as spec;
-ghost use Rattle.call_bench.specs.Answers.{IsCompact, IsCompactLength, IsComponentLength, IsExpansionLength, IsMadeLength, IsPathLength, IsRereadLength, IsRestoredLength, IsShownLength, IsTextLength};
+ghost use Rattle.call_bench.specs.Answers.{IsCompact, IsCompactLength, IsComponentLength, IsExpansionLength, IsMadeLength, IsPathLength, IsRereadLength, IsRestoredLength, IsRewrittenLength, IsShownLength, IsTextLength};
 
 use bstr::BStr;
+use git_rules::rewrite::Rewrites;
 use gix_url::Url;
 use gix_url::expand_path::{self, ForUser};
 use gix_url::stored::StoredUrl;
@@ -212,6 +213,17 @@ pub fn from_parts(alloc: Global, url: Url) -> usize
     );
     match made {
         Ok(made) => made.path.as_bytes().len(),
+        Err(_) => 0,
+    }
+}
+
+/// The length of the text that is fetched from in place of a text; 0 where memory is refused.
+#[inline(never)]
+pub fn rewrite_fetch(alloc: Global, rules: &Rewrites<'_>, text: &[u8]) -> usize
+    ensures { 0 < result → IsRewrittenLength rules.now text.now result }
+{
+    match rules.rewrite_fetch(text).to_bstring(alloc) {
+        Ok(text) => text.as_bytes().len(),
         Err(_) => 0,
     }
 }

@@ -1,5 +1,5 @@
-//! Calls for programs in C, each of which makes one call of the library over a location, so that the instructions of that
-//! call alone can be counted.
+//! Calls for programs in C, each of which makes one call of the library over a location, or over a text and the rules of a
+//! configuration, so that the instructions of that call alone can be counted.
 //!
 //! It is a library beside `url_bench`, whose calls are compiled as in a program that makes no others. `counted` has the
 //! counted calls, and here each is made over what a text is read as. The program that makes the calls is `driver.c` of
@@ -14,11 +14,13 @@ ghost use Rattle.gix_url.specs.Grammar.{Spells};
 ghost use Rattle.gix_url.specs.Order.{fed_location, location_cmp, location_eq};
 ghost use Rattle.gix_url.specs.Settled.{IsSettled};
 ghost use Rattle.gix_url.specs.Location.{Location};
-ghost use Rattle.call_bench.specs.Answers.{IsCompactLength, IsComponentLength, IsExpandedLength, IsMadeLength, IsPathLength, IsRereadLength, IsRestoredLength, IsShownLength, IsTextLength, SaysOf};
+ghost use Rattle.call_bench.specs.Answers.{IsCompactLength, IsComponentLength, IsExpandedLength, IsFetchedLength, IsMadeLength, IsPathLength, IsRereadLength, IsRestoredLength, IsShownLength, IsTextLength, SaysOf};
 
 mod counted;
 
 use bstr::BStr;
+use git_rules::config;
+use git_rules::rewrite::Rewrites;
 use gix_url::{ParseError, Refusal, Url, UrlRef, expand_path};
 use std::alloc::Global;
 use std::cmp::Ordering;
@@ -261,4 +263,18 @@ pub extern "C" fn call_bench_refuse_in(bytes: &[u8], room: &mut [u8]) -> bool
         UrlRef::parse_in(bytes, room),
         Err(ParseError::Refused(Refusal::TooLong { .. }))
     )
+}
+
+/// The length of the text that Git fetches from in place of the bytes, by a configuration.
+#[unsafe(no_mangle)]
+pub extern "C" fn call_bench_rewrite_fetch(alloc: Global, config: &[u8], bytes: &[u8]) -> usize
+    ensures { 0 < result → IsFetchedLength config.now bytes.now result }
+{
+    let Ok(entries) = config::entries(alloc, config) else {
+        return 0;
+    };
+    match Rewrites::from_entries(alloc, &entries) {
+        Ok(rules) => counted::rewrite_fetch(alloc, &rules, bytes),
+        Err(_) => 0,
+    }
 }

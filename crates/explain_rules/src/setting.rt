@@ -1,8 +1,9 @@
 //! Entries of a configuration as they are shown: with their place, and without what may be a password or a token.
 //!
-//! It uses `config` of `git_rules` and the cuts of `git_syntax`. Its contract: what is shown of a text around a secret is what
-//! is before the first `:`, and behind the last `@`.
+//! It uses `config` of `git_rules` and the cuts of `git_syntax`. Its contract: the place of an entry is the entry's own, and
+//! what is shown of a text around a secret is what is before the first `:`, and behind the last `@`.
 
+ghost use Rattle.std.specs.Prelude.{◌≡◌, IfOk};
 ghost use Rattle.explain_rules.specs.Secrets.{SurroundsSecret};
 
 use bstr::BStr;
@@ -26,7 +27,9 @@ pub struct Setting {
 
 impl Setting {
     /// The entry as it is shown.
-    pub fn of(alloc: Global, entry: &Entry<'_>) -> Result<Setting, AllocError> {
+    pub fn of(alloc: Global, entry: &Entry<'_>) -> Result<Setting, AllocError>
+        ensures { IfOk result (λ s. s.at ≡ entry.now.at) }
+    {
         let (key, value) = both(key_of(alloc, entry)?, value_of(alloc, entry))?;
         Ok(Setting {
             at: entry.at,

@@ -1,11 +1,12 @@
 //! A transport, and whether Git uses it by a configuration and the variables of the environment.
 //!
 //! It uses `protocols` of `git_rules`, and `setting` for the entry that decides. Its contract: the verdict is that of what Git
-//! does by the definitions.
+//! does by the definitions, and the entry and the variable that are reported are those that decide.
 
-ghost use Rattle.std.specs.Prelude.{◌≡◌, IfOk};
+ghost use Rattle.std.specs.Prelude.{◌≡◌, ◌↔◌, IfOk, IsTrue, Ok, option_map, string_bytes};
+ghost use Rattle.git_rules.specs.Protocols.{IsLastOf};
 ghost use Rattle.explain_rules.specs.Rules as spec;
-ghost use Rattle.explain_rules.specs.Rules.{HasVerdict};
+ghost use Rattle.explain_rules.specs.Rules.{IsAllowedToUsers, IsEntryAt, IsRefusing, IsVariableOf, ReportsPermission};
 
 use crate::setting::Setting;
 use explain_report::location_report::both;
@@ -45,11 +46,13 @@ impl Transport {
         protocols: &Protocols<'_>,
         name: &str,
     ) -> Result<Transport, AllocError>
-        ensures { IfOk result (λ t. HasVerdict protocols.now name.now t.permission) }
+        ensures name { IfOk result (λ t. string_bytes t.name ≡ name.now) }
+        ensures decides { IfOk result (λ t. ReportsPermission protocols.now name.now t.permission
+            (option_map (λ v. v.now) t.variable) (option_map (λ e. e.at) t.entry)) }
     {
         let permission = protocols.permission(name);
         let entry = entry_at(alloc, protocols.entries, place_of(permission))?;
-        let (entry, own) = both(entry, String::from_str(alloc, name))?;
+        let (entry, own) = with_name(entry, String::from_str(alloc, name))?;
         Ok(Transport {
             name: own,
             permission: verdict_of(permission),
@@ -57,6 +60,16 @@ impl Transport {
             entry,
         })
     }
+}
+
+/// An entry and a name, unless memory was refused for the name.
+fn with_name(
+    entry: Option<Setting>,
+    name: Result<String, AllocError>,
+) -> Result<(Option<Setting>, String), AllocError>
+    ensures { IfOk result (λ both. (both.0 ≡ entry) × (name ≡ Ok both.1)) }
+{
+    Ok((entry, name?))
 }
 
 /// The verdict of a permission.
@@ -72,12 +85,23 @@ fn verdict_of(permission: Permission) -> Verdict
 }
 
 /// The place of the entry that decides, if one does.
-fn place_of(permission: Permission) -> Option<usize> {
+fn place_of(permission: Permission) -> Option<usize>
+    ensures { result ≡ spec.place_of permission }
+{
     match permission {
-        Permission::Allowed(Reason::Entry { at })
-        | Permission::Refused(Reason::Entry { at })
-        | Permission::UnknownAllowance { at } => Some(at),
-        _ => None,
+        Permission::Allowed(by) | Permission::Refused(by) => place_in(by),
+        Permission::UnknownAllowance { at } => Some(at),
+        Permission::UnknownFromUser => None,
+    }
+}
+
+/// The place of the entry that a reason names, if it names one.
+fn place_in(by: Reason) -> Option<usize>
+    ensures { result ≡ spec.place_in by }
+{
+    match by {
+        Reason::Entry { at } => Some(at),
+        Reason::AllowList | Reason::Default => None,
     }
 }
 
@@ -86,19 +110,44 @@ fn variable_of(
     protocols: &Protocols<'_>,
     name: &str,
     permission: Permission,
-) -> Option<&'static str> {
+) -> Option<&'static str>
+    ensures { IsVariableOf protocols.now name.now permission (option_map (λ v. v.now) result) }
+{
     match permission {
-        Permission::Allowed(Reason::AllowList) | Permission::Refused(Reason::AllowList) => {
-            Some("GIT_ALLOW_PROTOCOL")
-        }
+        Permission::Allowed(by) => allowing(by),
+        Permission::Refused(by) => refusing(protocols, name, by),
+        Permission::UnknownAllowance { at: _ } => None,
         Permission::UnknownFromUser => Some("GIT_PROTOCOL_FROM_USER"),
-        Permission::Refused(_) if is_for_users(protocols, name) => Some("GIT_PROTOCOL_FROM_USER"),
-        _ => None,
     }
 }
 
+/// The variable that allows a transport, for this reason.
+fn allowing(by: Reason) -> Option<&'static str>
+    ensures { option_map (λ v. v.now) result ≡ spec.list_variable by }
+{
+    match by {
+        Reason::AllowList => Some("GIT_ALLOW_PROTOCOL"),
+        Reason::Entry { at: _ } | Reason::Default => None,
+    }
+}
+
+/// The variable that refuses a transport, for this reason.
+fn refusing(protocols: &Protocols<'_>, name: &str, by: Reason) -> Option<&'static str>
+    ensures { IsRefusing protocols.now name.now by (option_map (λ v. v.now) result) }
+{
+    if matches!(by, Reason::AllowList) {
+        return Some("GIT_ALLOW_PROTOCOL");
+    }
+    if is_for_users(protocols, name) {
+        return Some("GIT_PROTOCOL_FROM_USER");
+    }
+    None
+}
+
 /// Whether the configuration allows the transport to users.
-fn is_for_users(protocols: &Protocols<'_>, name: &str) -> bool {
+fn is_for_users(protocols: &Protocols<'_>, name: &str) -> bool
+    ensures { IsAllowedToUsers protocols.now name.now result }
+{
     let of_users = Protocols {
         entries: protocols.entries,
         allow_list: None,
@@ -112,12 +161,35 @@ fn entry_at(
     alloc: Global,
     entries: &[Entry<'_>],
     place: Option<usize>,
-) -> Result<Option<Setting>, AllocError> {
+) -> Result<Option<Setting>, AllocError>
+    ensures { IfOk result (λ s. IsEntryAt entries.now place (option_map (λ e. e.at) s)) }
+{
     let Some(place) = place else {
         return Ok(None);
     };
-    match entries.iter().find(|entry| entry.at == place) {
+    match last_at(entries, place) {
         None => Ok(None),
         Some(entry) => Ok(Some(Setting::of(alloc, entry)?)),
     }
+}
+
+/// The last entry that begins at this place, of which there is one at most.
+fn last_at<'b, 'a>(entries: &'b [Entry<'a>], place: usize) -> Option<&'b Entry<'a>>
+    ensures { IsLastOf (λ e. e.at ≡ place) entries.now (option_map (λ e. e.now) result) }
+{
+    let mut front = entries;
+    while let [rest @ .., last] = front {
+        if is_at(last, place) {
+            return Some(last);
+        }
+        front = rest;
+    }
+    None
+}
+
+/// Whether the entry begins at this place.
+fn is_at(entry: &Entry<'_>, place: usize) -> bool
+    ensures { IsTrue result ↔ (entry.now.at ≡ place) }
+{
+    entry.at == place
 }

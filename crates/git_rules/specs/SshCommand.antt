@@ -1,6 +1,6 @@
 -- The command that an `SshCommand` stands for.
 use Rattle.std.specs.Prelude.{option_map}
-use Rattle.git_rules.specs.declared.ssh.SshCommand.TheInside.{Inside}
+use Rattle.git_rules.specs.declared.ssh.command.SshCommand.TheInside.{Inside}
 use Rattle.git_rules.specs.SecureShell.{Command}
 
 -- the parts of an `SshCommand`, as plain values

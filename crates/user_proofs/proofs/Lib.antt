@@ -1,0 +1,2 @@
+-- Lemmas of what users read.
+pub mod PickedLemmas
