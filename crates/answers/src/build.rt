@@ -1,7 +1,7 @@
 //! What calls are over: locations, records, schemes and users, made of orders.
 //!
-//! A location is a text, or an object of its parts, as a record is: `scheme`, `user`, `password`, `host`, `port`,
-//! `alternative`, `path` and `spelling`. A scheme with a name has it behind it, as in `Helper a`.
+//! A location is a text, or an object of its parts, as a record is: `scheme`, `user`, `password`, `host`,
+//! `port`, `alternative`, `path` and `spelling`. A scheme with a name has it behind it, as in `Helper a`.
 
 use crate::bytes::decode;
 use crate::halt::Halt;
@@ -25,7 +25,8 @@ pub fn url(alloc: Global, order: Order<'_>, name: &str) -> Result<Url, Halt> {
     }
 }
 
-/// The location of parts. Its path is put in last: a record whose spelling is its path is one of the older form.
+/// The location of parts. Its path is put in last: a record whose spelling is its path is one of the older
+/// form.
 fn url_of_parts(alloc: Global, parts: Order<'_>) -> Result<Url, Halt> {
     let mut record = record(alloc, parts)?;
     let path = mem::replace(&mut record.path, Vec::new(alloc));

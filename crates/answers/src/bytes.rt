@@ -1,4 +1,5 @@
-//! Bytes as text of JSON, and back: a byte that is no part of UTF-8 is the character U+EF00 with that byte added.
+//! Bytes as text of JSON, and back: a byte that is no part of UTF-8 is the character U+EF00 with that byte
+//! added.
 
 use crate::halt::Halt;
 use crate::report::Out;

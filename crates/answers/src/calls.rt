@@ -1,8 +1,9 @@
 //! The table of calls, a line each, by what they are over.
 //!
-//! The names are those of the public functions of the library; behind a single colon is what a trait gives. Each
-//! function makes what its calls are over, and then makes the call, unless the order ends there. A module below has the
-//! calls over one kind of value; those over errors, and the laws, which are over nothing, are here.
+//! The names are those of the public functions of the library; behind a single colon is what a trait gives.
+//! Each function makes what its calls are over, and then makes the call, unless the order ends there. A
+//! module below has the calls over one kind of value; those over errors, and the laws, which are over
+//! nothing, are here.
 
 mod change;
 mod compare;

@@ -1,11 +1,12 @@
-//! Makes calls of the library and reports how each ended: what `scripts/vectors` asks for the rows of `vectors/`.
+//! Makes calls of the library and reports how each ended: what `scripts/vectors` asks for the rows of
+//! `vectors/`.
 //!
-//! Each line of the standard input is an order, one call as JSON, and is answered by one line of JSON. `order` reads
-//! orders, `build` makes what calls are over, `calls` is the table of calls, `rules` that of calls of `git_rules`,
-//! `report` and `parts` report outcomes.
+//! Each line of the standard input is an order, one call as JSON, and is answered by one line of JSON.
+//! `order` reads orders, `build` makes what calls are over, `calls` is the table of calls, `rules` that of
+//! calls of `git_rules`, `report` and `parts` report outcomes.
 //!
-//! All memory but the call's own is taken before the call is made, and an order can end there: so `scripts/hostile` can
-//! count the requests of a call, and refuse each of them.
+//! All memory but the call's own is taken before the call is made, and an order can end there: so
+//! `scripts/hostile` can count the requests of a call, and refuse each of them.
 #![tactic(auto)]
 
 mod build;

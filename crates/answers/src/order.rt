@@ -1,5 +1,5 @@
-//! Orders: an object of JSON. Its member `call` names the call, `prepare` says that the order ends before the call, and
-//! the others are what the call is over, by their names.
+//! Orders: an object of JSON. Its member `call` names the call, `prepare` says that the order ends before the
+//! call, and the others are what the call is over, by their names.
 
 use crate::bytes::decode;
 use crate::halt::Halt;

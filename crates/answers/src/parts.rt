@@ -1,5 +1,5 @@
-//! Outcomes of the library's own types as JSON: locations and records by their parts, schemes, users, what a path is made
-//! of, and what a part is to a command.
+//! Outcomes of the library's own types as JSON: locations and records by their parts, schemes, users, what a
+//! path is made of, and what a part is to a command.
 
 use crate::halt::Halt;
 use crate::report::{Out, Report, report_member, report_name};
@@ -37,7 +37,8 @@ fn report_named(out: &mut Out, word: &str, name: &[u8]) -> io::Result<()> {
     out.write_all(b"\"")
 }
 
-/// Reports the parts of a location or a record, but its path and its spelling: the texts are user, password and host.
+/// Reports the parts of a location or a record, but its path and its spelling: the texts are user, password
+/// and host.
 fn report_front(
     out: &mut Out,
     scheme: SchemeRef<'_>,

@@ -14,8 +14,8 @@ use git_rules::pattern::{UrlPattern, best};
 use gix_url::UrlRef;
 use std::alloc::Global;
 
-/// A room for a normal form: of as many bytes as the order says, and else as are asked for a text of this length. It isn't
-/// empty: what the library leaves there is none of a place.
+/// A room for a normal form: of as many bytes as the order says, and else as are asked for a text of this
+/// length. It isn't empty: what the library leaves there is none of a place.
 fn room_for(alloc: Global, order: Order<'_>, len: usize) -> Result<Vec<u8>, Halt> {
     let size = match order.number("room") {
         Some(size) => usize::try_from(size).unwrap_or(0),

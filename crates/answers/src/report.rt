@@ -1,5 +1,5 @@
-//! Outcomes as JSON: truths, numbers, texts, what may be missing, pairs, and what is shown of a value. Nothing here takes
-//! memory.
+//! Outcomes as JSON: truths, numbers, texts, what may be missing, pairs, and what is shown of a value.
+//! Nothing here takes memory.
 
 use crate::bytes::{write_inside, write_quoted};
 use crate::halt::Halt;

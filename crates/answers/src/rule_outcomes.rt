@@ -1,4 +1,5 @@
-//! Outcomes of calls of `git_rules` as JSON: entries, normal forms, ranks, permissions and words, and their errors.
+//! Outcomes of calls of `git_rules` as JSON: entries, normal forms, ranks, permissions and words, and their
+//! errors.
 
 use crate::report::{Out, Report, report_member, report_name, report_pair};
 use bstr::{BStr, BString};

@@ -1,7 +1,7 @@
 //! Calls of `git_rules`: what Git does with a location by its configuration.
 //!
-//! `config` is the text that `git config --list -z` writes. Calls that rewrite are in `rewriting`, those over a place in
-//! `places`, those of Secure Shell in `commands`, and `rule_outcomes` reports what calls return.
+//! `config` is the text that `git config --list -z` writes. Calls that rewrite are in `rewriting`, those over
+//! a place in `places`, those of Secure Shell in `commands`, and `rule_outcomes` reports what calls return.
 
 use crate::halt::Halt;
 use crate::order::{Order, unknown};

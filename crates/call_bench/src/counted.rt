@@ -1,7 +1,7 @@
 //! One call of the library in each function, so that the instructions of the call alone can be counted.
 //!
-//! None is compiled into its caller: the count begins where it is entered and ends where it is left. What the call
-//! makes is dropped there, so that it counts too.
+//! None is compiled into its caller: the count begins where it is entered and ends where it is left. What the
+//! call makes is dropped there, so that it counts too.
 
 ghost use Rattle.std.specs.Prelude.{◌≡◌, ◌<◌, ◌↔◌, ◌++◌, ℕ, List, IfSome, IsTrue, Ok, fold, option_map, string_bytes};
 ghost use Rattle.std.specs.Hash.DefaultHasher.{finish, initial, write};
@@ -92,7 +92,8 @@ pub fn path_query_fragment(alloc: Global, url: &Url) -> usize
     }
 }
 
-/// The length of the path of this user, expanded by the home folder `/home/ann` of the current user; 0 where it isn't.
+/// The length of the path of this user, expanded by the home folder `/home/ann` of the current user; 0 where
+/// it isn't.
 #[inline(never)]
 pub fn expand_path(alloc: Global, user: Option<&ForUser>, path: BStr<'_>) -> usize
     ensures { 0 < result → IsExpansionLength (option_map user_of (option_copied user.entry))

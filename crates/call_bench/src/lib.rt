@@ -1,9 +1,9 @@
-//! Calls for programs in C, each of which makes one call of the library over a location, or over a text and the rules of a
-//! configuration, so that the instructions of that call alone can be counted.
+//! Calls for programs in C, each of which makes one call of the library over a location, or over a text and
+//! the rules of a configuration, so that the instructions of that call alone can be counted.
 //!
-//! It is a library beside `url_bench`, whose calls are compiled as in a program that makes no others. `counted` has the
-//! counted calls, and here each is made over what a text is read as. The program that makes the calls is `driver.c` of
-//! `url_bench`, and `scripts/instructions` counts.
+//! It is a library beside `url_bench`, whose calls are compiled as in a program that makes no others.
+//! `counted` has the counted calls, and here each is made over what a text is read as. The program that makes
+//! the calls is `driver.c` of `url_bench`, and `scripts/instructions` counts.
 #![tactic(auto)]
 
 ghost use Rattle.std.specs.Prelude.{◌≡◌, ◌<◌, ◌↔◌, IsTrue, fold};

@@ -1,9 +1,10 @@
 //! The answer to a line: what it is read as or why it is refused, in the layout that is asked for.
 //!
-//! `explain_text` finds what of the line may be shown, `explain_report` what is reported of a location or why a line is refused,
-//! `explain_advice` what people may have got wrong, and `explain_rules` what Git does with it by a configuration. `shown` lays
-//! that out for people, `only` one part of it, and with `--json` it goes out as one object. It has no contract but that it
-//! can't abort: the stored run and `scripts/hostile` show its answers.
+//! `explain_text` finds what of the line may be shown, `explain_report` what is reported of a location or why
+//! a line is refused, `explain_advice` what people may have got wrong, and `explain_rules` what Git does with
+//! it by a configuration. `shown` lays that out for people, `only` one part of it, and with `--json` it goes
+//! out as one object. It has no contract but that it can't abort: the stored run and `scripts/hostile` show
+//! its answers.
 
 use crate::only::{self, Part};
 use crate::shown;
@@ -92,7 +93,8 @@ impl<'l> Line<'l> {
         Ok((answer?, is_settled))
     }
 
-    /// What Git does with the line, which is read as this location unless it is refused, by the configuration that is given.
+    /// What Git does with the line, which is read as this location unless it is refused, by the configuration
+    /// that is given.
     fn rules(self, alloc: Global, url: Option<&Url>) -> Result<Option<Rules>, AllocError> {
         match self.style.config {
             None => Ok(None),
@@ -125,7 +127,8 @@ impl<'l> Line<'l> {
         }
     }
 
-    /// What is reported of a line that is read as no location: that it isn't settled, and why, unless memory is refused.
+    /// What is reported of a line that is read as no location: that it isn't settled, and why, unless memory
+    /// is refused.
     fn error(self, alloc: Global, error: &Error) -> Result<(String, bool), AllocError> {
         let answer = match (error, self.style.layout) {
             (Error::Memory, _) => Err(AllocError),
@@ -188,7 +191,8 @@ fn one_part(alloc: Global, url: &Url, part: Part) -> Result<(String, bool), Allo
     Ok((only::line(alloc, url, part)?, url.is_settled()))
 }
 
-/// The answer as one line of JSON. Each part of an answer has a JSON, so it fails only where memory is refused.
+/// The answer as one line of JSON. Each part of an answer has a JSON, so it fails only where memory is
+/// refused.
 fn json(alloc: Global, answer: &Answer<'_, '_>) -> Result<String, AllocError> {
     match serde_json::to_string(alloc, answer) {
         Ok(mut line) => {

@@ -1,12 +1,12 @@
 //! The program `explain`: reports to a person, or to another program, what texts mean as Git locations.
 //!
-//! It uses the public calls of `gix_url` and `git_rules` alone, by the crates below: `explain_report` finds what is reported
-//! of a line, `explain_advice` its dangers and hints, `explain_rules` what Git does with it by a configuration, and
-//! `explain_page` writes the page. `options` reads the command line, `source` a configuration, `answer` finds the answer to a
-//! line and `style` says how it is laid out; here the lines are read and the answers are written, each as soon as its line is
-//! read, except for a page, which is collected.
-//! The status is 0 where every line is settled, 1 where one is not, and 2 where the run was cut short, a file can't be
-//! opened or the options are wrong.
+//! It uses the public calls of `gix_url` and `git_rules` alone, by the crates below: `explain_report` finds
+//! what is reported of a line, `explain_advice` its dangers and hints, `explain_rules` what Git does with it
+//! by a configuration, and `explain_page` writes the page. `options` reads the command line, `source` a
+//! configuration, `answer` finds the answer to a line and `style` says how it is laid out; here the lines are
+//! read and the answers are written, each as soon as its line is read, except for a page, which is collected.
+//! The status is 0 where every line is settled, 1 where one is not, and 2 where the run was cut short, a file
+//! can't be opened or the options are wrong.
 #![tactic(auto)]
 
 mod answer;
@@ -51,8 +51,8 @@ fn explain(rt: &HostRuntime, given: &ArgMatches<'_>) -> u8 {
     seen.status(&outcome)
 }
 
-/// Answers what the command line names, by the configuration in a file. Where that can't be read it is reported, and nothing
-/// is answered.
+/// Answers what the command line names, by the configuration in a file. Where that can't be read it is
+/// reported, and nothing is answered.
 fn answer_by_file<W: Write>(
     rt: &HostRuntime,
     given: &ArgMatches<'_>,
@@ -171,7 +171,8 @@ fn answer_all<W: Write>(
     Ok(())
 }
 
-/// Answers the lines of a file; `-` is standard input. A file that can't be opened is reported, and the rest goes on.
+/// Answers the lines of a file; `-` is standard input. A file that can't be opened is reported, and the rest
+/// goes on.
 fn answer_file<W: Write>(
     rt: &HostRuntime,
     file: &str,
@@ -288,7 +289,8 @@ fn main(rt: HostRuntime) -> ExitCode {
     })
 }
 
-/// Reports on standard error what cut the run short, except that nobody reads the output any more, as behind `head`.
+/// Reports on standard error what cut the run short, except that nobody reads the output any more, as behind
+/// `head`.
 fn report(rt: &impl Eprint, outcome: &Result<(), RunError>) {
     match outcome {
         Ok(()) => {}

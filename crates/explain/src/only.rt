@@ -1,7 +1,7 @@
 //! One part of each location on a line of its own, for scripts.
 //!
-//! It uses the public calls of `gix_url`, and has no contract but that it can't abort: `scripts/hostile golden` shows its
-//! answers. A password is no part that can be asked for.
+//! It uses the public calls of `gix_url`, and has no contract but that it can't abort: `scripts/hostile
+//! golden` shows its answers. A password is no part that can be asked for.
 
 use bstr::ByteSlice;
 use explain_report::location_report::text_of;
@@ -46,8 +46,8 @@ impl Part {
     }
 }
 
-/// The line with a part of the location, empty where it has none. Control characters, backslashes and bytes that are not
-/// UTF-8 are escaped, so it is one line.
+/// The line with a part of the location, empty where it has none. Control characters, backslashes and bytes
+/// that are not UTF-8 are escaped, so it is one line.
 pub fn line(alloc: Global, url: &Url, part: Part) -> Result<String, AllocError> {
     let mut out = String::new(alloc);
     match part {

@@ -1,7 +1,8 @@
-//! A line shown on a terminal: its pieces, coloured if wanted, with their names underneath, or a caret under what is wrong.
+//! A line shown on a terminal: its pieces, coloured if wanted, with their names underneath, or a caret under
+//! what is wrong.
 //!
-//! A line over 200 columns is shown by the ends of its pieces. It uses `line` and `split`, `names` for what is underneath,
-//! `marks` for carets and `short` for the ends, and has no contract but that it can't abort.
+//! A line over 200 columns is shown by the ends of its pieces. It uses `line` and `split`, `names` for what
+//! is underneath, `marks` for carets and `short` for the ends, and has no contract but that it can't abort.
 
 pub mod marks;
 mod names;
@@ -26,7 +27,8 @@ pub(crate) const PLAIN: &str = "\x1b[0m";
 /// The colour of what is dangerous, and of carets.
 pub(crate) const DANGER: &str = "\x1b[1;31m";
 
-/// Whether colours are shown where nothing is said of them: on a terminal that isn't `dumb`, if `NO_COLOR` is unset or empty.
+/// Whether colours are shown where nothing is said of them: on a terminal that isn't `dumb`, if `NO_COLOR` is
+/// unset or empty.
 pub fn is_colored(is_terminal: bool, no_color: Option<&[u8]>, term: Option<&[u8]>) -> bool {
     let is_wanted = match no_color {
         None => true,
@@ -99,7 +101,8 @@ fn is_program(part: Part) -> bool {
     matches!(part, Part::Scheme | Part::Helper | Part::Address)
 }
 
-/// Appends a text in a colour, in short where it is to be kept in part, and returns the columns that it takes.
+/// Appends a text in a colour, in short where it is to be kept in part, and returns the columns that it
+/// takes.
 fn write_part(
     out: &mut String,
     text: &[u8],

@@ -1,8 +1,8 @@
 //! Answers laid out for people: a heading, and a row for each thing that is reported.
 //!
-//! Texts are in quotes with their control characters escaped, each byte in one way, so that no line of input can speak
-//! to a terminal. It uses what `explain_report` and `explain_advice` found, and has no contract: `scripts/hostile golden`
-//! shows its answers.
+//! Texts are in quotes with their control characters escaped, each byte in one way, so that no line of input
+//! can speak to a terminal. It uses what `explain_report` and `explain_advice` found, and has no contract:
+//! `scripts/hostile golden` shows its answers.
 
 use crate::answer::{Line, Notes};
 use crate::paint::short::is_long;
@@ -179,7 +179,8 @@ fn paths(out: &mut String, url: &Url) -> Result<(), AllocError> {
     row(out, "spelled", Quoted(spelled.as_bytes()))
 }
 
-/// The rows of what Git's credential code asks helpers for in a text of HTTP, where that is not the location's own.
+/// The rows of what Git's credential code asks helpers for in a text of HTTP, where that is not the
+/// location's own.
 fn helpers(out: &mut String, url: &Url, report: &Report<'_>) -> Result<(), AllocError> {
     let Some(asked) = &report.credential else {
         return row(

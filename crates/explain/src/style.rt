@@ -79,8 +79,8 @@ impl Seen {
         }
     }
 
-    /// The status to end with: 0 where every line is settled, 1 where one is not, 2 where something could not be read or
-    /// written.
+    /// The status to end with: 0 where every line is settled, 1 where one is not, 2 where something could not
+    /// be read or written.
     pub fn status(&self, outcome: &Result<(), RunError>) -> u8 {
         if outcome.is_err() || self.lacks_file {
             2

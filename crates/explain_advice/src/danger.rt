@@ -1,7 +1,7 @@
 //! What to look out for before a location is used: each danger in a few words.
 //!
-//! It uses the report of `explain_report` and the public calls of `gix_url`, and has no contract but that it can't abort:
-//! `scripts/hostile golden` shows its words.
+//! It uses the report of `explain_report` and the public calls of `gix_url`, and has no contract but that it
+//! can't abort: `scripts/hostile golden` shows its words.
 
 use explain_report::location_report::{Arguments, Report, Safety};
 use gix_url::{Scheme, Url};

@@ -1,8 +1,8 @@
 //! Slips of those who type or paste a location: a closed list of hints, each with a name and a sentence.
 //!
-//! It decides by the bytes of a line and by what the line is read as, and shows neither. It uses `location_report` for
-//! the form, and has no contract but that it can't abort: the stored run shows which hints are found, and
-//! `scripts/hostile golden` their sentences, and that no plain remote gets one.
+//! It decides by the bytes of a line and by what the line is read as, and shows neither. It uses
+//! `location_report` for the form, and has no contract but that it can't abort: the stored run shows which
+//! hints are found, and `scripts/hostile golden` their sentences, and that no plain remote gets one.
 
 use bstr::ByteSlice;
 use explain_report::location_report::Report;
@@ -13,12 +13,13 @@ use std::alloc::{AllocError, Global};
 
 /// What people may have got wrong. Where several apply they are listed in this order.
 ///
-/// Below, a *name of a host* is two labels or more with a `.` between them; each is of letters, digits and `-`, and the
-/// last one of two letters or more, and not `git`, in which bare repositories end.
+/// Below, a *name of a host* is two labels or more with a `.` between them; each is of letters, digits and
+/// `-`, and the last one of two letters or more, and not `git`, in which bare repositories end.
 #[derive(Clone, Copy, Serialize)]
 #[serde(rename_all = "snake_case")]
 pub enum Hint {
-    /// Refused: a URL of `ssh`, `git`, `http` or `https` with a host without brackets, one `:`, and a letter or `~` behind it.
+    /// Refused: a URL of `ssh`, `git`, `http` or `https` with a host without brackets, one `:`, and a letter
+    /// or `~` behind it.
     ColonForSlash,
     /// A local path that begins with the name of a host, `/` and any byte.
     NoScheme,
@@ -44,9 +45,11 @@ pub enum Hint {
     Unencrypted,
     /// The line begins with `git clone`, `git remote add` or `git submodule add`, and a space.
     PastedCommand,
-    /// HTTP, and the path to a `?` or `#` holds `/-/tree/` or `/-/blob/`, or begins on `github.com` as `/a/b/tree/c` or `/a/b/blob/c`.
+    /// HTTP, and the path to a `?` or `#` holds `/-/tree/` or `/-/blob/`, or begins on `github.com` as
+    /// `/a/b/tree/c` or `/a/b/blob/c`.
     WebPage,
-    /// A local path that begins with a user of letters, digits, `_`, `.` and `-`, `@`, the name of a host, `/` and any byte.
+    /// A local path that begins with a user of letters, digits, `_`, `.` and `-`, `@`, the name of a host,
+    /// `/` and any byte.
     SlashForColon,
     /// The first byte and the last one are `"`, `'` or `` ` `` both, or they are `<` and `>`.
     Quotes,

@@ -1,9 +1,9 @@
 //! A line of the page: an article with the text in named pieces, and what is reported of it.
 //!
-//! Each value that `--json` reports is in an element that names it (`data-m`), except where it equals another one;
-//! `docs/EXPLAIN.md` has the rules. It uses what `location_report`, `danger`, `refusal` and `hint` found, and `readers`
-//! for what other programs read. It has no contract but that it can't abort: that nothing but text is put in is
-//! `markup`'s.
+//! Each value that `--json` reports is in an element that names it (`data-m`), except where it equals another
+//! one; `docs/EXPLAIN.md` has the rules. It uses what `location_report`, `danger`, `refusal` and `hint`
+//! found, and `readers` for what other programs read. It has no contract but that it can't abort: that
+//! nothing but text is put in is `markup`'s.
 
 use crate::markup::Markup;
 use crate::{cuts, pieces, readers};

@@ -1,6 +1,7 @@
 //! How many lines there are of each verdict, form and host, and the tables of that.
 //!
-//! A table has a bar for each row, as long as its share of the longest. It has no contract but that it can't abort.
+//! A table has a bar for each row, as long as its share of the longest. It has no contract but that it can't
+//! abort.
 
 use crate::markup::Markup;
 use explain_report::location_report::Report;
@@ -119,7 +120,8 @@ impl Counts {
         table(out, rows.as_slice())
     }
 
-    /// Appends the rows of the hosts: of those with most lines, then of all others together, and of lines without a host.
+    /// Appends the rows of the hosts: of those with most lines, then of all others together, and of lines
+    /// without a host.
     pub fn hosts(&self, alloc: Global, out: &mut Markup) -> Result<(), AllocError> {
         let mut rows = Vec::new(alloc);
         for (host, lines) in self.hosts.iter() {

@@ -1,8 +1,9 @@
-//! The own text of a location as it is cut by those who read it otherwise: by this library, where the location isn't settled,
-//! and by Git, in a table with a column for each piece that neither cuts, so that both are over the same bytes.
+//! The own text of a location as it is cut by those who read it otherwise: by this library, where the
+//! location isn't settled, and by Git, in a table with a column for each piece that neither cuts, so that
+//! both are over the same bytes.
 //!
-//! Nothing is cut here of a location with a password, which another reading may have in another part. It uses `split` for the
-//! cuts and `git` for what Git reads, and has no contract but that it can't abort.
+//! Nothing is cut here of a location with a password, which another reading may have in another part. It uses
+//! `split` for the cuts and `git` for what Git reads, and has no contract but that it can't abort.
 
 use crate::markup::Markup;
 use crate::pieces;
@@ -53,8 +54,8 @@ fn own_text(out: &mut Markup, cut: &Option<Cut<'_>>) -> Result<(), AllocError> {
     out.push_template("</p>")
 }
 
-/// Appends the table of the location's own text as it is read here and by Git, where Git is known to read other fields and
-/// both readings are pieces of the text. A text with a password has none.
+/// Appends the table of the location's own text as it is read here and by Git, where Git is known to read
+/// other fields and both readings are pieces of the text. A text with a password has none.
 pub fn with_git(
     alloc: Global,
     out: &mut Markup,

@@ -1,8 +1,8 @@
 //! Text of a page in HTML: what the template says, and what is put into it.
 //!
-//! There is no way to add bytes but those below: a template's own text goes in as it is, and it is a constant of this
-//! program; all else goes in as text. It uses `line` for how a text is shown. Its contract: of a text exactly the escaped
-//! text is added, in which no byte begins a tag or ends the value of an attribute.
+//! There is no way to add bytes but those below: a template's own text goes in as it is, and it is a constant
+//! of this program; all else goes in as text. It uses `line` for how a text is shown. Its contract: of a text
+//! exactly the escaped text is added, in which no byte begins a tag or ends the value of an attribute.
 
 ghost use Rattle.std.specs.Prelude.{◌≡◌, List, ℕ, ◌++◌, [], true, OnOk, flat_map};
 ghost use Rattle.explain_page.specs.Markup.{escaped, escaped_byte, has_no_markup};

@@ -1,7 +1,8 @@
 //! The page that `--html` writes: the template, filled in with counts and with an article for each line.
 //!
-//! Articles are kept by rank until all lines are read, so that the most urgent are first and those of one rank in the order
-//! of their lines. It uses `article`, `counts`, `rank` and `template`, and has no contract but that it can't abort.
+//! Articles are kept by rank until all lines are read, so that the most urgent are first and those of one
+//! rank in the order of their lines. It uses `article`, `counts`, `rank` and `template`, and has no contract
+//! but that it can't abort.
 
 use crate::article;
 use crate::counts::Counts;

@@ -1,6 +1,7 @@
 //! A line in named pieces, as the page has it, and the fault of a refused line marked.
 //!
-//! It uses `split` for the pieces and `line` for where characters begin, and has no contract but that it can't abort.
+//! It uses `split` for the pieces and `line` for where characters begin, and has no contract but that it
+//! can't abort.
 
 use crate::markup::Markup;
 use explain_report::refusal::Refusal;

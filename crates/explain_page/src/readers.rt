@@ -1,7 +1,7 @@
 //! What other programs read in the text of a location, as the page has it: Git, its credential code and curl.
 //!
-//! Where one of them reads another place, or may, a table has the readings side by side. It uses what `location_report`
-//! found, and has no contract but that it can't abort.
+//! Where one of them reads another place, or may, a table has the readings side by side. It uses what
+//! `location_report` found, and has no contract but that it can't abort.
 
 use crate::markup::Markup;
 use explain_report::credential::Credential;
@@ -228,7 +228,8 @@ fn credential_column(asked: &Credential) -> Reader<'_> {
     }
 }
 
-/// Whether Git's credential code asks for the location's own fields, for its path without the `/` at its front.
+/// Whether Git's credential code asks for the location's own fields, for its path without the `/` at its
+/// front.
 fn is_own_credential(url: &Url, report: &Report<'_>, asked: &Credential) -> bool {
     let path = report.path.as_str();
     let own = path.strip_prefix('/').unwrap_or(path);

@@ -1,5 +1,5 @@
--- What is reported of a location that isn't read as it is: a public field by its name, as it is and as it is read. Nothing
--- is reported of a password but that there is one.
+-- What is reported of a location that isn't read as it is: a public field by its name, as it is and as it is
+-- read. Nothing is reported of a password but that there is one.
 use Rattle.std.specs.Prelude.{◌≡◌, ℕ, Bool, true, false, List, ◌++◌, codes, decimal, bytes_eq, Option, Some, None, option_map, Ok, string_bytes, if◌then◌else◌}
 use Rattle.gix_url.specs.Location.{Scheme, Location}
 use Rattle.gix_url.specs.Location.Scheme.{file, git, ssh, http, https, ext, helper, helper_url}
@@ -30,7 +30,8 @@ abbrev pub flag_word : Bool → List ℕ
 flag_word true = codes "true"
 flag_word false = codes "false"
 
--- what is reported of the public field of this name, if there is one: its text, where there is something to tell
+-- what is reported of the public field of this name, if there is one: its text, where there is something to
+-- report
 abbrev pub field_text : List ℕ → Location → Option (Option (List ℕ))
 field_text name v =
     if bytes_eq name (codes "scheme") then Some (Some (scheme_words v.scheme))
@@ -42,12 +43,13 @@ field_text name v =
     else (if bytes_eq name (codes "path") then Some (Some (lossy_text v.path))
     else None))))))
 
--- the difference tells a public field, as it is here and as it is in another location
+-- the difference reports a public field, as it is here and as it is in another location
 pub record ReportsField (v other : Location) (report : Difference) : Type 0 where
   pub here : field_text report.field.now v ≡ Some (option_map string_bytes report.here)
   pub instead : field_text report.field.now other ≡ Some (option_map string_bytes report.instead)
 
--- the difference tells a public field, as it is in the location and as it is in the one that its text spells
+-- the difference reports a public field, as it is in the location and as it is in the one that its text
+-- spells
 pub record ReportsReread (v : Location) (report : Difference) : Type 0 where
   pub bytes : List ℕ
   pub other : Location

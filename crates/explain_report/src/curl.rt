@@ -1,10 +1,10 @@
-//! What curl reads in the text of a location of HTTP: the host and the port that it connects to, and the path that it asks
-//! for.
+//! What curl reads in the text of a location of HTTP: the host and the port that it connects to, and the path
+//! that it asks for.
 //!
-//! It uses `bstr`, the addresses of `std::net`, `git` of `explain_text` for escapes and digits, and a location of `gix_url` to
-//! compare with. What libcurl reads has no definition: each function is a step of libcurl 7.88.1, and has no contract but that
-//! it can't abort. The stored run has what `curl_reads` of `tools/web_reads.py` says, a rule by hand that `scripts/web_witness`
-//! compares with libcurl itself.
+//! It uses `bstr`, the addresses of `std::net`, `git` of `explain_text` for escapes and digits, and a
+//! location of `gix_url` to compare with. What libcurl reads has no definition: each function is a step of
+//! libcurl 7.88.1, and has no contract but that it can't abort. The stored run has what `curl_reads` of
+//! `tools/web_reads.py` says, a rule by hand that `scripts/web_witness` compares with libcurl itself.
 
 use crate::location_report::both;
 use bstr::{BStr, ByteSlice};
@@ -51,8 +51,8 @@ impl Curl {
         found
     }
 
-    /// Whether it connects to the host and the port of the location, whose text it reads: how an IPv6 address is spelled
-    /// doesn't count.
+    /// Whether it connects to the host and the port of the location, whose text it reads: how an IPv6 address
+    /// is spelled doesn't count.
     pub fn has_own_host(&self, url: &Url) -> bool {
         let host = url.host().unwrap_or("");
         let is_address = host.starts_with('[') && !host.contains('%');
@@ -83,7 +83,8 @@ fn cut(text: &[u8]) -> Option<Pieces<'_>> {
     })
 }
 
-/// What follows user and password, which the first `@` ends. A user without a password may not have an escape of byte 0.
+/// What follows user and password, which the first `@` ends. A user without a password may not have an escape
+/// of byte 0.
 fn behind_user(authority: &[u8]) -> Option<&[u8]> {
     let Some((information, named)) = authority.split_once_str(b"@") else {
         return Some(authority);
@@ -160,7 +161,8 @@ fn host_of(alloc: Global, host: &[u8], room: &mut Vec<u8>) -> Result<Option<Stri
     }
 }
 
-/// A name, decoded. Each `%` that is left is an escape again, since all of the URL is asked for before a transfer.
+/// A name, decoded. Each `%` that is left is an escape again, since all of the URL is asked for before a
+/// transfer.
 fn name(alloc: Global, host: &[u8], room: &mut Vec<u8>) -> Result<Option<String>, AllocError> {
     room.clear();
     bytes::decode_behind(room, host)?;
@@ -179,7 +181,8 @@ fn is_in_names(byte: u8) -> bool {
     b' ' < byte && !b"\"/:#?!@{}[]\\$'^`*<>=;,+&()".contains(&byte)
 }
 
-/// The address that is written in one to four numbers, as C's `inet_aton` has it: the last fills all bytes that are left.
+/// The address that is written in one to four numbers, as C's `inet_aton` has it: the last fills all bytes
+/// that are left.
 fn ipv4(host: &[u8]) -> Option<Ipv4Addr> {
     let (mut fronts, mut limit, mut rest) = (0u64, 0x1_0000_0000u64, host);
     for _number in 0..3 {

@@ -1,9 +1,9 @@
 //! What the own text of a location is read as, where the location isn't settled.
 //!
-//! It reads the text again by `Url::reread` and looks for the first of the public fields, in declared order, that is
-//! another one. Its contract, memory permitting: there is an answer exactly where the location isn't settled, and a
-//! difference names a public field and reports it of the location and of the one that its text spells, a password as the
-//! word `redacted`. That the field is the first, and the words, are no part of it.
+//! It reads the text again by `Url::reread` and looks for the first of the public fields, in declared order,
+//! that is another one. Its contract, memory permitting: there is an answer exactly where the location isn't
+//! settled, and a difference names a public field and reports it of the location and of the one that its text
+//! spells, a password as the word `redacted`. That the field is the first, and the words, are no part of it.
 
 ghost use Rattle.std.specs.Prelude.{◌≡◌, ◌↔◌, IfOk, IfSome, IsNone, decimal, option_map, string_bytes};
 ghost use Rattle.gix_url.specs.Settled.{IsSettled};
@@ -18,8 +18,8 @@ use gix_url::{Error, Scheme, Url};
 use serde::Serialize;
 use std::alloc::{AllocError, Global};
 
-/// What the own text of a location is read as in place of the location. With neither difference nor refusal it is read
-/// as the same fields, though no promise covers that.
+/// What the own text of a location is read as in place of the location. With neither difference nor refusal
+/// it is read as the same fields, though no promise covers that.
 #[derive(Drop, Serialize)]
 pub struct Reread {
     /// The first field that is another one.

@@ -1,8 +1,8 @@
 //! What Git reads in the own text of a location, where the library doesn't promise that it is the same.
 //!
-//! It uses `git` of `explain_text` for the reading, `web` for what is in doubt of HTTP, and the public calls of `gix_url`. Its
-//! contract: no field is reported of a location that has a password, which Git reads as a part of another one. The stored run
-//! shows what it reports, and `scripts/hostile golden` its words.
+//! It uses `git` of `explain_text` for the reading, `web` for what is in doubt of HTTP, and the public calls
+//! of `gix_url`. Its contract: no field is reported of a location that has a password, which Git reads as a
+//! part of another one. The stored run shows what it reports, and `scripts/hostile golden` its words.
 
 ghost use Rattle.std.specs.Prelude.{◌≡◌, IfOk, IfSome, IsSome, None};
 
@@ -38,8 +38,8 @@ pub struct GitReads {
 }
 
 impl GitReads {
-    /// What Git reads in the text of the location: nothing is reported where that is known to be the same, where the text is
-    /// for a remote helper by its scheme, and where there is no text.
+    /// What Git reads in the text of the location: nothing is reported where that is known to be the same,
+    /// where the text is for a remote helper by its scheme, and where there is no text.
     pub fn of(alloc: Global, url: &Url) -> Result<Option<GitReads>, AllocError>
         ensures hidden { IfOk result (λ reads. IfSome reads (λ it.
             IsSome url.now.password → (it.user ≡ None) × (it.host ≡ None) × (it.path ≡ None))) }

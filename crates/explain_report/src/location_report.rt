@@ -1,9 +1,9 @@
 //! What is reported of a location: its form, its parts, what its path means, and what it may be used for.
 //!
-//! It uses the public calls of `gix_url`, `path` for what the path means, `git_report` for what Git reads, and
-//! `difference` for a location that isn't settled. Its contract: where there is a password `redacted` is reported, and
-//! whether a location is settled and agrees with Git as the definitions of the library have it. Bytes that are no UTF-8
-//! are reported as U+FFFD.
+//! It uses the public calls of `gix_url`, `path` for what the path means, `git_report` for what Git reads,
+//! and `difference` for a location that isn't settled. Its contract: where there is a password `redacted` is
+//! reported, and whether a location is settled and agrees with Git as the definitions of the library have it.
+//! Bytes that are no UTF-8 are reported as U+FFFD.
 
 ghost use Rattle.std.specs.Prelude.{◌≡◌, ◌↔◌, IfOk, IsTrue, codes, option_map};
 ghost use Rattle.gix_url.specs.GitClass.{AgreesWithGit};
@@ -57,8 +57,8 @@ pub struct Report<'a> {
     pub text: Option<String>,
     /// Whether the location comes back from its own text.
     pub settled: bool,
-    /// Whether Git, and of HTTP curl too, is known to read the same protocol, user, host, port and path in the text of the
-    /// location.
+    /// Whether Git, and of HTTP curl too, is known to read the same protocol, user, host, port and path in
+    /// the text of the location.
     pub agrees_with_git: bool,
     /// What Git reads there, where it isn't known to be the same, or why it may be another place.
     pub git_reads: Option<GitReads>,

@@ -1,7 +1,8 @@
-//! What the path of a location means: its components, the home folder that it begins in, and what a shell takes.
+//! What the path of a location means: its components, the home folder that it begins in, and what a shell
+//! takes.
 //!
-//! It uses the public calls of `gix_url`, and has no contract but that it can't abort. Bytes that are no UTF-8 are reported
-//! as U+FFFD.
+//! It uses the public calls of `gix_url`, and has no contract but that it can't abort. Bytes that are no
+//! UTF-8 are reported as U+FFFD.
 
 use crate::location_report::both;
 use bstr::{BStr, BString, ByteSlice};
@@ -132,8 +133,8 @@ fn is_of_files(url: &Url) -> bool {
     matches!(&url.scheme, Scheme::File | Scheme::Ssh | Scheme::Git)
 }
 
-/// Whose home folder the path begins in, at the other side of Secure Shell or of `git://`. A path of this machine begins in
-/// none: Git takes `/~bob/r` as it is.
+/// Whose home folder the path begins in, at the other side of Secure Shell or of `git://`. A path of this
+/// machine begins in none: Git takes `/~bob/r` as it is.
 fn home_of(alloc: Global, url: &Url) -> Result<Option<Home>, AllocError> {
     if !matches!(&url.scheme, Scheme::Ssh | Scheme::Git) {
         return Ok(None);

@@ -1,6 +1,8 @@
-//! Why a line, or the text of a location, is refused: by name, for programs, and in words; and where in a line.
+//! Why a line, or the text of a location, is refused: by name, for programs, and in words; and where in a
+//! line.
 //!
-//! It uses the errors of `gix_url`, and `place` of `explain_text`. It has no contract: the stored run shows its answers.
+//! It uses the errors of `gix_url`, and `place` of `explain_text`. It has no contract: the stored run shows
+//! its answers.
 
 use explain_text::place::{Form, Place, Refused, find_place};
 use gix_url::parse::UrlKind;
@@ -17,7 +19,8 @@ pub struct Refusal {
     pub kind: Option<&'static str>,
     /// The name of what is wrong, where the error reports it.
     pub fault: Option<&'static str>,
-    /// The first byte of the line that is wrong, or where something is missing. A text that is no line has no place.
+    /// The first byte of the line that is wrong, or where something is missing. A text that is no line has no
+    /// place.
     pub at: Option<usize>,
     /// How many bytes are wrong, none where something is missing.
     pub len: Option<usize>,

@@ -1,8 +1,9 @@
-//! Why the readers of a text of HTTP may read different places in it: Git's credential code, curl, and this library.
+//! Why the readers of a text of HTTP may read different places in it: Git's credential code, curl, and this
+//! library.
 //!
-//! It uses the public calls of `gix_url` and `bstr`. What it finds is the first condition of the class of `agrees_with_git`
-//! that a location misses. It has no contract but that it can't abort: `tools/web_plain.py` has the conditions, by which
-//! the stored run is computed, and `scripts/hostile golden` shows the sentences.
+//! It uses the public calls of `gix_url` and `bstr`. What it finds is the first condition of the class of
+//! `agrees_with_git` that a location misses. It has no contract but that it can't abort: `tools/web_plain.py`
+//! has the conditions, by which the stored run is computed, and `scripts/hostile golden` shows the sentences.
 
 use bstr::ByteSlice;
 use gix_url::Url;

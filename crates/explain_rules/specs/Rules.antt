@@ -1,4 +1,5 @@
--- What is reported of the rules of a configuration: of a transport what Git does about it, of settings the best entry.
+-- What is reported of the rules of a configuration: of a transport what Git does about it, of settings the
+-- best entry.
 use Rattle.std.specs.Prelude.{◌≡◌, ◌↔◌, ℕ, Bool, true, false, IsTrue, All, List, Option, Some, None, codes, slice_get}
 use Rattle.git_rules.specs.Config.{ConfigEntry}
 use Rattle.git_rules.specs.Normal.{NormalPlace}

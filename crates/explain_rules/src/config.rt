@@ -1,7 +1,7 @@
 //! The configuration that `--config` names, read once for all lines, and what of it isn't understood.
 //!
-//! It uses `git_rules`, whose rules are filled here; `rules` asks them about a line. It has no contract but that it can't
-//! abort: `scripts/hostile rules` shows its answers.
+//! It uses `git_rules`, whose rules are filled here; `rules` asks them about a line. It has no contract but
+//! that it can't abort: `scripts/hostile rules` shows its answers.
 
 use bstr::ByteSlice;
 use explain_report::location_report::both;

@@ -1,7 +1,9 @@
-//! What Git does with a line by a configuration: where it fetches from and pushes to, by which transport, with which settings.
+//! What Git does with a line by a configuration: where it fetches from and pushes to, by which transport,
+//! with which settings.
 //!
-//! It uses the rules of `git_rules` that `config` filled, and `transports` and `settings` for the answers about what the line
-//! is rewritten to. It has no contract but that it can't abort: `scripts/hostile rules` shows its answers.
+//! It uses the rules of `git_rules` that `config` filled, and `transports` and `settings` for the answers
+//! about what the line is rewritten to. It has no contract but that it can't abort: `scripts/hostile rules`
+//! shows its answers.
 
 use crate::config::Config;
 use crate::setting::Setting;

@@ -1,7 +1,9 @@
-//! Entries of a configuration as they are shown: with their place, and without what may be a password or a token.
+//! Entries of a configuration as they are shown: with their place, and without what may be a password or a
+//! token.
 //!
-//! It uses `config` of `git_rules` and the cuts of `git_syntax`. Its contract: the place of an entry is the entry's own, and
-//! what is shown of a text around a secret is what is before the first `:`, and behind the last `@`.
+//! It uses `config` of `git_rules` and the cuts of `git_syntax`. Its contract: the place of an entry is the
+//! entry's own, and what is shown of a text around a secret is what is before the first `:`, and behind the
+//! last `@`.
 
 ghost use Rattle.std.specs.Prelude.{◌≡◌, IfOk};
 ghost use Rattle.explain_rules.specs.Secrets.{SurroundsSecret};
@@ -65,7 +67,8 @@ fn value_of(alloc: Global, entry: &Entry<'_>) -> Result<Option<String>, AllocErr
     Ok(Some(text))
 }
 
-/// What is shown in place of a value that may be a secret as a whole: a header, or a helper that is a command of a shell.
+/// What is shown in place of a value that may be a secret as a whole: a header, or a helper that is a command
+/// of a shell.
 fn hidden_value(entry: &Entry<'_>, value: &[u8]) -> Option<&'static str> {
     if value.is_empty() {
         None
@@ -78,8 +81,8 @@ fn hidden_value(entry: &Entry<'_>, value: &[u8]) -> Option<&'static str> {
     }
 }
 
-/// Appends a text, with `redacted` for what may be a secret: behind `://`, where that is, all between the first `:` and the
-/// last `@`.
+/// Appends a text, with `redacted` for what may be a secret: behind `://`, where that is, all between the
+/// first `:` and the last `@`.
 fn push_shown(out: &mut String, text: &[u8]) -> Result<(), AllocError> {
     match cut_at_mark(text) {
         Some((scheme, behind)) => {
@@ -103,7 +106,8 @@ fn push_around_secret(out: &mut String, text: &[u8]) -> Result<(), AllocError> {
     }
 }
 
-/// What is before the first `:` and behind the last `@`, where such a `:` is before such an `@`: between them may be a secret.
+/// What is before the first `:` and behind the last `@`, where such a `:` is before such an `@`: between them
+/// may be a secret.
 fn around_secret(text: &[u8]) -> Option<(&[u8], &[u8])>
     ensures { SurroundsSecret text.now result }
 {

@@ -1,7 +1,7 @@
 //! Which entries of `credential.*` and `http.*` Git uses for a text of HTTP.
 //!
-//! It uses the patterns of `git_rules`, and `setting` for what is shown of an entry. Its contract: of the entries of a name of
-//! `http.*` the best one is reported. The rest `scripts/hostile rules` shows.
+//! It uses the patterns of `git_rules`, and `setting` for what is shown of an entry. Its contract: of the
+//! entries of a name of `http.*` the best one is reported. The rest `scripts/hostile rules` shows.
 
 ghost use Rattle.std.specs.Prelude.{IfSome};
 ghost use Rattle.explain_rules.specs.Rules.{IsBestOf};
@@ -47,8 +47,8 @@ fn of_http(
     Ok(found)
 }
 
-/// The entry of a name of `http.*` that Git uses for a place. Where the text has no normal form it is the last one that is
-/// for all places.
+/// The entry of a name of `http.*` that Git uses for a place. Where the text has no normal form it is the
+/// last one that is for all places.
 fn best_of<'b, 'a>(
     variable: &'b Variable<'a>,
     place: Option<&NormalUrl<'_>>,
@@ -79,8 +79,8 @@ fn best_for<'b, 'a>(
     }
 }
 
-/// The entries of `credential.*` that Git uses for a place: of those that apply each helper behind the last empty one, and
-/// the last one of each other name.
+/// The entries of `credential.*` that Git uses for a place: of those that apply each helper behind the last
+/// empty one, and the last one of each other name.
 fn credentials(
     alloc: Global,
     config: &Config<'_>,

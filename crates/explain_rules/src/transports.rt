@@ -1,7 +1,8 @@
 //! A transport, and whether Git uses it by a configuration and the variables of the environment.
 //!
-//! It uses `protocols` of `git_rules`, and `setting` for the entry that decides. Its contract: the verdict is that of what Git
-//! does by the definitions, and the entry and the variable that are reported are those that decide.
+//! It uses `protocols` of `git_rules`, and `setting` for the entry that decides. Its contract: the verdict is
+//! that of what Git does by the definitions, and the entry and the variable that are reported are those that
+//! decide.
 
 ghost use Rattle.std.specs.Prelude.{◌≡◌, ◌↔◌, IfOk, IsTrue, Ok, option_map, string_bytes};
 ghost use Rattle.git_rules.specs.Protocols.{IsLastOf};

@@ -1,9 +1,10 @@
-//! What Git reads in a text that it is given for a place: protocol, user, host, port and path, or why there is no such
-//! reading.
+//! What Git reads in a text that it is given for a place: protocol, user, host, port and path, or why there
+//! is no such reading.
 //!
-//! It uses nothing of `gix_url`. Each function is one relation of `GitReads`, the definition of what
-//! Git 2.39.5 reads on Linux (`specs/Git.antt` of `git_laws`; `docs/GIT.md` has it in words), and has no contract but that
-//! it can't abort: `tools/git_reads.py`, a second reading of the definition, says the same of each text.
+//! It uses nothing of `gix_url`. Each function is one relation of `GitReads`, the definition of what Git
+//! 2.39.5 reads on Linux (`specs/Git.antt` of `git_laws`; `docs/GIT.md` has it in words), and has no contract
+//! but that it can't abort: `tools/git_reads.py`, a second reading of the definition, says the same of each
+//! text.
 //!
 //! `place` cuts the host and the port out of a text, and `bytes` cuts and decodes.
 
@@ -57,7 +58,8 @@ impl From<AllocError> for Unread {
     }
 }
 
-/// The room for what a reading is made of: the text with its escapes decoded, and a host without its brackets.
+/// The room for what a reading is made of: the text with its escapes decoded, and a host without its
+/// brackets.
 #[derive(Drop)]
 pub struct Room {
     decoded: Vec<u8>,
@@ -152,8 +154,8 @@ fn own_protocol(scheme: &[u8]) -> Option<Protocol> {
     }
 }
 
-/// Why a URL isn't read whose scheme is none of Git's own: `rsync` belonged to a transport that is gone, and what isn't a
-/// scheme names no helper.
+/// Why a URL isn't read whose scheme is none of Git's own: `rsync` belonged to a transport that is gone, and
+/// what isn't a scheme names no helper.
 fn without_transport(scheme: &[u8]) -> Unread {
     if is_helper_name(scheme) && scheme != b"rsync".as_slice() {
         Unread::RemoteHelper
@@ -246,7 +248,8 @@ fn own<'a>(
     })
 }
 
-/// The word and the port for Secure Shell: where no port was behind the host, one may be in what was in its brackets.
+/// The word and the port for Secure Shell: where no port was behind the host, one may be in what was in its
+/// brackets.
 fn secure_port(named: &[u8], found: Option<u16>) -> (&[u8], Option<u16>) {
     if found.is_some() {
         return (named, found);
@@ -260,8 +263,8 @@ fn secure_port(named: &[u8], found: Option<u16>) -> (&[u8], Option<u16>) {
     }
 }
 
-/// The user, if there is one, and the host: Secure Shell cuts its word at the last `@`, and refuses a word with nothing
-/// before that.
+/// The user, if there is one, and the host: Secure Shell cuts its word at the last `@`, and refuses a word
+/// with nothing before that.
 fn cut_user(word: &[u8]) -> Option<(Option<&[u8]>, &[u8])> {
     match last_cut(word, b'@') {
         None => Some((None, word)),

@@ -1,10 +1,10 @@
 //! What may be shown of a line, and how its text is spelled for a terminal.
 //!
-//! A line with a password is shown with the word `redacted` in its place, and not at all where it isn't sure which
-//! piece that is. Of a refused line all that may be a password is hidden. Text goes out with `\` doubled and each control
-//! character, each byte that is no UTF-8 and each character that isn't seen or takes no column escaped as `Debug` of a byte
-//! string spells them; quotes are as they are. So what is shown is one text's alone, and speaks to no terminal. It uses
-//! `split` and the crates `bstr` and `unicode_width`.
+//! A line with a password is shown with the word `redacted` in its place, and not at all where it isn't sure
+//! which piece that is. Of a refused line all that may be a password is hidden. Text goes out with `\`
+//! doubled and each control character, each byte that is no UTF-8 and each character that isn't seen or takes
+//! no column escaped as `Debug` of a byte string spells them; quotes are as they are. So what is shown is one
+//! text's alone, and speaks to no terminal. It uses `split` and the crates `bstr` and `unicode_width`.
 
 use crate::split::{Cut, Fields, Part, Piece, split};
 use bstr::{BStr, ByteSlice};
@@ -63,8 +63,8 @@ pub fn located<'a>(line: &'a [u8], fields: &Fields<'_>) -> Option<Cut<'a>> {
     }
 }
 
-/// The pieces of a line that is refused: what is between the first `:` behind its first `://` and its last `@` may
-/// be a password.
+/// The pieces of a line that is refused: what is between the first `:` behind its first `://` and its last
+/// `@` may be a password.
 pub fn refused(line: &[u8]) -> Cut<'_> {
     match around_secret(line) {
         Some(cut) => cut,
@@ -242,7 +242,8 @@ fn between(text: &[u8], from: usize, to: usize) -> &[u8] {
     }
 }
 
-/// The text before a place and from there on. A place inside a character means its beginning, one past the end the end.
+/// The text before a place and from there on. A place inside a character means its beginning, one past the
+/// end the end.
 pub fn halves(text: &[u8], place: usize) -> (&[u8], &[u8]) {
     let mut at = 0usize;
     for (_from, to, _character) in text.char_indices() {

@@ -1,12 +1,14 @@
 //! Where in a refused line the fault is, and which fault it is.
 //!
-//! It looks at the line again by the rules of `docs/GRAMMAR.md`, with `bstr` and std's reader of addresses, and takes
-//! no memory. Of the flaws with the error that the line is refused for it finds the first in the line, and of several
-//! at one place the first in the order of the checks. Its contract: a place lies within the line. Which place and which
-//! reason are found is tested: the stored run has them from a second reading, `tools/second_reading/fault_places.py`.
+//! It looks at the line again by the rules of `docs/GRAMMAR.md`, with `bstr` and std's reader of addresses,
+//! and takes no memory. Of the flaws with the error that the line is refused for it finds the first in the
+//! line, and of several at one place the first in the order of the checks. Its contract: a place lies within
+//! the line. Which place and which reason are found is tested: the stored run has them from a second reading,
+//! `tools/second_reading/fault_places.py`.
 //!
-//! `piece` has the pieces of the line, which know where they are, and `reason` the faults in words. `url` and `scp` look at
-//! the two forms, `authority` and `host` at what names a host, and `characters` and `escapes` for bytes that may not be there.
+//! `piece` has the pieces of the line, which know where they are, and `reason` the faults in words. `url` and
+//! `scp` look at the two forms, `authority` and `host` at what names a host, and `characters` and `escapes`
+//! for bytes that may not be there.
 
 ghost use Rattle.std.specs.Prelude.{List, ℕ};
 ghost use Rattle.explain_text.specs.Places.{LiesIn};

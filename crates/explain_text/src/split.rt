@@ -1,9 +1,9 @@
 //! A line cut into pieces, each of which has a name: what people are shown of how a location is read.
 //!
-//! It looks for the marks of the grammar and holds each piece against the field that the library reads: a cut is
-//! passed on only where every piece stands for its field. It uses the crates `bstr` and `percent_encoding`, asks for no
-//! memory, and has no contract but that it can't abort. What a password is can't be had of a piece: outside of this module
-//! the word stands for it.
+//! It looks for the marks of the grammar and holds each piece against the field that the library reads: a cut
+//! is passed on only where every piece stands for its field. It uses the crates `bstr` and
+//! `percent_encoding`, asks for no memory, and has no contract but that it can't abort. What a password is
+//! can't be had of a piece: outside of this module the word stands for it.
 //!
 //! `url` and `scp` cut the two forms with `authority`, and `spelling` compares a piece with a field.
 
@@ -128,8 +128,8 @@ impl<'a> Cut<'a> {
         Cut { pieces }
     }
 
-    /// A refused line around what may be a password: what is before `://`, from there to the `:` before it, the
-    /// secret, and what follows the `@` behind it.
+    /// A refused line around what may be a password: what is before `://`, from there to the `:` before it,
+    /// the secret, and what follows the `@` behind it.
     pub fn around_secret(
         front: &'a [u8],
         user: &'a [u8],

@@ -1,6 +1,7 @@
--- What Git reads in a text that it is given for a place, on Linux: the place of one of its own transports. A text that Git
--- hands to a remote helper, takes for an option or refuses has no such reading, nor has one of which Secure Shell refuses
--- the user. No proof says that Git keeps to it: `scripts/git_witness` compares a second reading of it with Git.
+-- What Git reads in a text that it is given for a place, on Linux: the place of one of its own transports. A
+-- text that Git hands to a remote helper, takes for an option or refuses has no such reading, nor has one of
+-- which Secure Shell refuses the user. No proof says that Git keeps to it: `scripts/git_witness` compares a
+-- second reading of it with Git.
 use Rattle.std.specs.Prelude.{◌≡◌, ℕ, zero, suc, ◌+◌, ◌*◌, ◌<◌, Bool, false, not, ◌&&◌, ◌||◌, ◌==◌, nat_le, ◌⊎◌, List, [], ◌∷◌, ◌++◌, length, codes, Option, Some, None, if◌then◌else◌}
 use Rattle.std.specs.List.{list_all}
 use Rattle.std.specs.Char.{digit_value, is_ascii_digit}
@@ -163,8 +164,8 @@ pub data UserCut (word : List ℕ) (user : Option (List ℕ)) (host : List ℕ) 
   with_user : (name : List ℕ) → 0 < length name → FreeOf at_sign host → word ≡ name ++ at_sign ∷ host
       → user ≡ Some name → UserCut word user host
 
--- what Secure Shell reaches: it gets a word, a port and a path. Neither word nor path may be an option, and OpenSSH reads
--- a word that begins with `ssh://` as a URL
+-- what Secure Shell reaches: it gets a word, a port and a path. Neither word nor path may be an option, and
+-- OpenSSH reads a word that begins with `ssh://` as a URL
 pub record ReachesSecure (place path : List ℕ) (reading : GitReading) : Type 0 where
   pub named : List ℕ
   pub found : Option ℕ
@@ -230,8 +231,9 @@ abbrev pub IsLocal : List ℕ → Type 0
 IsLocal t = FreeOf colon t
     ⊎ ((front : List ℕ) × (rest : List ℕ) × FreeOf colon front × (t ≡ front ++ slash ∷ rest))
 
--- what Git reads in a text that it gets whole and takes for no option. A local path that begins with `~` has no reading:
--- `git clone` takes it as it is, and `git fetch`, `git push` and `git ls-remote` look below a home folder
+-- what Git reads in a text that it gets whole and takes for no option. A local path that begins with `~` has
+-- no reading: `git clone` takes it as it is, and `git fetch`, `git push` and `git ls-remote` look below a
+-- home folder
 pub data ReadsGiven (t : List ℕ) (reading : GitReading) : Type 0 where
   secure_url : (rest place path : List ℕ) → OwnUrl ssh t rest → CutsPlace slash rest place path
       → ReachesSecure place (from_tilde (slash ∷ path)) reading → ReadsGiven t reading

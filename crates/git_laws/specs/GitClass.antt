@@ -1,4 +1,5 @@
--- The law on the locations that a careful user hands to Git: in the text of each Git reads what this library reads.
+-- The law on the locations that a careful user hands to Git: in the text of each Git reads what this library
+-- reads.
 use Rattle.std.specs.Prelude.{◌≡◌, ℕ, List, Option, Some, None, Ok}
 use Rattle.git_syntax.specs.Location.{Scheme, Location}
 use Rattle.git_syntax.specs.Location.Scheme.{git, http, https}
@@ -31,7 +32,8 @@ pub record ReadsOwnPlace (t : List ℕ) (v : Location) : Type 0 where
   pub own : HostForGit v.scheme v.host host
   pub reads : GitReads t (own_reading v host)
 
--- Git reads the location's own parts in the text, by the scheme: of HTTP its credential code does, and a reader of URIs
+-- Git reads the location's own parts in the text, by the scheme: of HTTP its credential code does, and a
+-- reader of URIs
 abbrev pub ReadsOwnBy : Scheme → List ℕ → Location → Type 0
 ReadsOwnBy http t v = ReadsOwnOverWeb t v
 ReadsOwnBy https t v = ReadsOwnOverWeb t v

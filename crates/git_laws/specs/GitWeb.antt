@@ -1,6 +1,6 @@
--- What two other readers read in the text of a location of HTTP: Git's credential code, which asks helpers for a host, and
--- a reader of URIs as RFC 3986 has them, as libcurl is in texts of the normal form. No proof says that Git and libcurl keep
--- to it: `scripts/web_witness` compares.
+-- What two other readers read in the text of a location of HTTP: Git's credential code, which asks helpers
+-- for a host, and a reader of URIs as RFC 3986 has them, as libcurl is in texts of the normal form. No proof
+-- says that Git and libcurl keep to it: `scripts/web_witness` compares.
 use Rattle.std.specs.Prelude.{◌≡◌, ℕ, ◌<◌, Bool, true, false, ◌||◌, ◌==◌, ◌⊎◌, List, [], ◌∷◌, ◌++◌, length, decimal, codes, Option, Some, None, IfSome, option_map, if◌then◌else◌}
 use Rattle.std.specs.List.{list_all}
 use Rattle.std.specs.Char.{is_ascii_alphanumeric, is_ascii_digit}
@@ -58,7 +58,8 @@ abbrev pub trimmed_path : List ℕ → Option (List ℕ)
 trimmed_path [] = None
 trimmed_path (b ∷ bs) = Some (b ∷ without_last_slashes bs)
 
--- what follows an authority, and the path: without the slashes at its front, decoded, without those at its end
+-- what follows an authority, and the path: without the slashes at its front, decoded, without those at its
+-- end
 pub record CredentialPath (behind : List ℕ) (path : Option (List ℕ)) : Type 0 where
   pub slashes : List ℕ
   pub rest : List ℕ
@@ -173,8 +174,8 @@ pub record UriReads (t : List ℕ) (r : UriReading) : Type 0 where
 abbrev pub OneUriReading : Type 0
 OneUriReading = (t : List ℕ) (r other : UriReading) → UriReads t r → UriReads t other → r ≡ other
 
--- the URI is in the normal form, as far as readers change it: scheme and host in lower case, and no segment `.` or `..`,
--- be it escaped
+-- the URI is in the normal form, as far as readers change it: scheme and host in lower case, and no segment
+-- `.` or `..`, be it escaped
 pub record IsNormalUri (r : UriReading) : Type 0 where
   pub scheme : IsLowercase r.scheme
   pub host : IsLowercase r.host
@@ -188,8 +189,8 @@ abbrev pub below_root : List ℕ → Option (List ℕ)
 below_root [] = None
 below_root (b ∷ bs) = trimmed_path bs
 
--- the location's own parts, as Git's credential code has them: the host with its port, and the path without the slashes
--- around it
+-- the location's own parts, as Git's credential code has them: the host with its port, and the path without
+-- the slashes around it
 abbrev pub own_credential : Location → List ℕ → CredentialReading
 own_credential v host_text = record {
   protocol = scheme_text v.scheme;

@@ -106,7 +106,8 @@ abbrev pub ExactByFields : Type 0
 ExactByFields = (v : Location) → KeepsBytes v → (b : List ℕ) (w : Location) → Spells b w
     → fields w ≡ fields v → IsSettled v
 
--- what a remote helper's form or a local path spells is settled, and is written as the bytes that it was read from
+-- what a remote helper's form or a local path spells is settled, and is written as the bytes that it was read
+-- from
 abbrev pub Unchanged : Type 0
 Unchanged = (b : List ℕ) (v : Location) → SpellsHelper b v ⊎ SpellsLocal b v
     → IsSettled v × (text v ≡ Ok b)

@@ -96,8 +96,8 @@ fed_text = fed_part fed.str
 abbrev pub fed_scheme : Scheme → HashWrites
 fed_scheme p = fed.u8 (rank p) ++ fed_text (held_name p)
 
--- a byte for each of the eight parts: the kind of the scheme, the flag, and whether each other part is there, as the
--- path always is
+-- a byte for each of the eight parts: the kind of the scheme, the flag, and whether each other part is there,
+-- as the path always is
 abbrev pub outline : Location → List ℕ
 outline v =
     rank v.scheme ∷ there v.user ∷ there v.password ∷ there v.host

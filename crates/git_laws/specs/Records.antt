@@ -1,5 +1,5 @@
--- Stored locations. A record of the legacy form has the spelling of the path in place of the path as well, and is
--- migrated: its path is decoded, and spelled again.
+-- Stored locations. A record of the legacy form has the spelling of the path in place of the path as well,
+-- and is migrated: its path is decoded, and spelled again.
 use Rattle.std.specs.Prelude.{◌≡◌, ℕ, ◌+◌, ◌<◌, ◌≤◌, Bool, true, false, ◌&&◌, ◌||◌, ◌==◌, nat_lt, ◌↔◌, List, [], ◌∷◌, ◌++◌, bytes_eq, length, All, Option, Some, None, if◌then◌else◌}
 use Rattle.percent_encoding.specs.Percent.{percent_encode_byte, percent_decode}
 use Rattle.git_syntax.specs.Location.{Location}
@@ -8,7 +8,8 @@ use Rattle.git_syntax.specs.Escapes.{begins_with_digits, is_path_escaped}
 
 -- ---- the new spelling of a legacy path
 
--- a byte as it is written in a path: itself, or an escape where a path isn't written with it or it is past ASCII
+-- a byte as it is written in a path: itself, or an escape where a path isn't written with it or it is past
+-- ASCII
 abbrev pub written_in_path : ℕ → List ℕ
 written_in_path b = if is_path_escaped b || nat_lt 127 b then percent_encode_byte b else b ∷ []
 
@@ -16,7 +17,8 @@ written_in_path b = if is_path_escaped b || nat_lt 127 b then percent_encode_byt
 abbrev pub begins_escape : ℕ → List ℕ → Bool
 begins_escape b behind = b == percent_sign && begins_with_digits behind
 
--- the path is escapes and other bytes, and the spelling has the same escapes, and those bytes as they are written in a path
+-- the path is escapes and other bytes, and the spelling has the same escapes, and those bytes as they are
+-- written in a path
 pub data Respells : List ℕ → List ℕ → Type 0 where
   nothing : Respells [] []
   escape : (high low : ℕ) (path spelling : List ℕ) → is_hexadecimal high ≡ true
@@ -41,7 +43,8 @@ IsLegacy v = v.spelling ≡ Some v.path
 abbrev pub from_legacy : Location → Location
 from_legacy v = record v { path = percent_decode v.path; spelling = Some (new_spelling v.path) }
 
--- the location of a record with this spelling: the record is of the legacy form where the spelling is the path
+-- the location of a record with this spelling: the record is of the legacy form where the spelling is the
+-- path
 abbrev pub migrated_by : Option (List ℕ) → Location → Location
 migrated_by None v = v
 migrated_by (Some spelling) v = if bytes_eq spelling v.path then from_legacy v else v
@@ -69,7 +72,8 @@ abbrev pub KeepsMeaning : Type 0
 KeepsMeaning = (path spelling : List ℕ) → All (λ b. b < 256) path → Respells path spelling
     → percent_decode spelling ≡ percent_decode path
 
--- a record of the legacy form stands for the location with its path decoded and its new spelling, and any other for itself
+-- a record of the legacy form stands for the location with its path decoded and its new spelling, and any
+-- other for itself
 abbrev pub Migrates : Type 0
 Migrates = (v : Location)
     → ((spelling : List ℕ) → IsLegacy v → Respells v.path spelling

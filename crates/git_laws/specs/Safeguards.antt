@@ -1,4 +1,5 @@
--- Laws that keep passwords, options and escapes in their places, and of locations without a password or a spelling.
+-- Laws that keep passwords, options and escapes in their places, and of locations without a password or a
+-- spelling.
 use Rattle.std.specs.Prelude.{◌≡◌, Bool, true, false, not, ◌⊎◌, ◌↔◌, [], Some, None}
 use Rattle.git_syntax.specs.Location.{Scheme, Location, fields}
 use Rattle.git_syntax.specs.Location.Scheme.{git, ssh, helper_url}
@@ -10,7 +11,8 @@ pub use Rattle.git_syntax.specs.Safeguards.{PathSet, PasswordSet, UserSet, Decid
 
 -- ---- settled locations without a part
 
--- a settled location is settled without its password, unless it has one and an empty user, which only a password keeps
+-- a settled location is settled without its password, unless it has one and an empty user, which only a
+-- password keeps
 abbrev pub SettledWithoutPassword : Type 0
 SettledWithoutPassword = (v : Location) → IsValue v → IsSettled v
     → IsSettled (record v { password = None }) ↔ ((v.password ≡ None) ⊎ ¬ (v.user ≡ Some []))
@@ -19,15 +21,16 @@ SettledWithoutPassword = (v : Location) → IsValue v → IsSettled v
 abbrev pub WebSettledWithoutSpelling : Type 0
 WebSettledWithoutSpelling = (v : Location) → IsValue v → IsWeb v → IsSettled v → IsSettled (fields v)
 
--- the kinds whose path is written raw without a spelling, and read as URLs: by scheme and alternative-form flag
+-- the kinds whose path is written raw without a spelling, and read as URLs: by scheme and alternative-form
+-- flag
 abbrev pub is_raw_url : Scheme → Bool → Bool
 is_raw_url git flag = true
 is_raw_url ssh flag = not flag
 is_raw_url (helper_url name) flag = true
 is_raw_url _ flag = false
 
--- a location of such a kind needs no spelling: its path has neither `%` nor white space, and without a host the text
--- of its public fields is short enough
+-- a location of such a kind needs no spelling: its path has neither `%` nor white space, and without a host
+-- the text of its public fields is short enough
 pub record NeedsNoSpelling (v : Location) : Type 0 where
   pub raw : is_raw_url v.scheme v.flag ≡ true
       → (has_percent v.path ≡ false) × LacksWhiteSpace v.path

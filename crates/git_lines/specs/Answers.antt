@@ -120,7 +120,8 @@ AppendsAnswer line old new (Ok good) = (answer : List ℕ) × IsAnswer line answ
     × (new ≡ old ++ answer)
 AppendsAnswer line old new (Err fault) = fault ≡ run.Memory
 
--- the call appended what is reported of the location, and returned whether it is settled, or memory was refused
+-- the call appended what is reported of the location, and returned whether it is settled, or memory was
+-- refused
 abbrev pub Reports : Location → List ℕ → List ℕ → Result Bool RunError → Type 0
 Reports v old new (Ok good) = (answer : List ℕ) × IsReported v answer good × (new ≡ old ++ answer)
 Reports v old new (Err fault) = fault ≡ run.Memory

@@ -1,9 +1,9 @@
 //! The program's work: reads locations, a line each, and answers a line for each.
 //!
-//! It uses reading into a room, the settled test, the writer, and `bytes` to cut lines. Its contract: all of the input is
-//! answered, line by line, as the definitions have it; where memory or the reader fails nothing is written, and a
-//! fault of the writer comes only once all is read. Memory is asked for to hold the input, a room as long as its longest
-//! line, and the answers; no line asks for memory of its own.
+//! It uses reading into a room, the settled test, the writer, and `bytes` to cut lines. Its contract: all of
+//! the input is answered, line by line, as the definitions have it; where memory or the reader fails nothing
+//! is written, and a fault of the writer comes only once all is read. Memory is asked for to hold the input,
+//! a room as long as its longest line, and the answers; no line asks for memory of its own.
 
 ghost use Rattle.std.specs.Prelude.{◌≡◌, ℕ, ◌≤◌, ◌^◌, ◌++◌, List, None, Ok, codes, length, IfErr, IfOk, IfSome, OnOk};
 ghost use Rattle.std.specs.Io.KnownBytes.{IsAtEnd};
@@ -33,7 +33,8 @@ pub enum RunError {
     /// The input can't be read to its end. Nothing was written.
     #[error("cannot read: {0}")]
     Read(io::Error),
-    /// The answer can't be written. All of the input was read; nothing is said of how much of the answer went out.
+    /// The answer can't be written. All of the input was read; nothing is said of how much of the answer went
+    /// out.
     #[error("cannot write: {0}")]
     Write(io::Error),
 }
@@ -51,7 +52,8 @@ impl From<AllocError> for RunError {
 /// How often the input is read at most: a reader that hasn't ended by then is given up.
 const MOST_READS: u64 = 1 << 40;
 
-/// The line, without its end, that the program `locations` says of a fault on standard error. It takes no memory.
+/// The line, without its end, that the program `locations` says of a fault on standard error. It takes no
+/// memory.
 ///
 /// ```
 /// /// What a program of one's own says of a run, and the status that it ends with.
@@ -72,8 +74,8 @@ pub fn fault_line(fault: &RunError) -> &'static str
     }
 }
 
-/// The exit status of the program: 0 where every line was settled, 1 where one was not, 2 for a fault. It takes no
-/// memory. [`fault_line`] has an example.
+/// The exit status of the program: 0 where every line was settled, 1 where one was not, 2 for a fault. It
+/// takes no memory. [`fault_line`] has an example.
 pub fn status(outcome: &Result<bool, RunError>) -> u8
     ensures { result ≡ status_of outcome.now }
 {
@@ -84,17 +86,19 @@ pub fn status(outcome: &Result<bool, RunError>) -> u8
     }
 }
 
-/// Reads all of the input, answers each of its lines by a line, and writes the answers. Byte 10 ends a line and
-/// byte 13 is nothing special; a last line may lack its end, and counts unless it is empty.
+/// Reads all of the input, answers each of its lines by a line, and writes the answers. Byte 10 ends a line
+/// and byte 13 is nothing special; a last line may lack its end, and counts unless it is empty.
 ///
-/// The answer is `settled`, a tab and the location's text, where it is settled; `unsettled`, a tab and its scheme,
-/// where it isn't; `refused`, a tab and the error's name, where the line is no location. What is read always has a
-/// text: [`law_closed`](git_laws::laws::law_closed). Each answer is one line, whatever the location holds:
+/// The answer is `settled`, a tab and the location's text, where it is settled; `unsettled`, a tab and its
+/// scheme, where it isn't; `refused`, a tab and the error's name, where the line is no location. What is read
+/// always has a text: [`law_closed`](git_laws::laws::law_closed). Each answer is one line, whatever the
+/// location holds:
 /// [`law_lines`](git_laws::laws::law_lines).
 ///
-/// `Ok(true)` says that every line was settled. The errors are those of [`RunError`]; a reader that hasn't ended
-/// after 2^40 calls is answered `Read`. The whole answer is built in memory before it is written. Lines ask for no memory
-/// of their own: beside the input and the answer there is one room, as long as the longest line.
+/// `Ok(true)` says that every line was settled. The errors are those of [`RunError`]; a reader that hasn't
+/// ended after 2^40 calls is answered `Read`. The whole answer is built in memory before it is written. Lines
+/// ask for no memory of their own: beside the input and the answer there is one room, as long as the longest
+/// line.
 ///
 /// ```
 /// /// The answers to lines in memory.
@@ -133,8 +137,9 @@ fn read_all<R: Read>(alloc: Global, input: &mut R) -> Result<Vec<u8>, RunError>
     }
 }
 
-/// All bytes of a reader, or none where it hasn't ended after the most reads, each of which gave a byte at least. No
-/// clause outside can say so: what a reader of any type fails by is open, so nothing distinguishes its faults from giving up.
+/// All bytes of a reader, or none where it hasn't ended after the most reads, each of which gave a byte at
+/// least. No clause outside can say so: what a reader of any type fails by is open, so nothing distinguishes
+/// its faults from giving up.
 fn read_to_end<R: Read>(alloc: Global, input: &mut R) -> Result<Option<Vec<u8>>, RunError>
     ensures bytes { IfOk result
         (λ found. IfSome found (λ all. IfSome (R.remaining input.old) (λ b. all.items ≡ b))) }

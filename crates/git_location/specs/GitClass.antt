@@ -15,13 +15,14 @@ use Rattle.git_location.specs.WebClass.{AgreesOverWeb}
 abbrev pub is_contested : ℕ → Bool
 is_contested b = b == 0 || (b == left_bracket || b == right_bracket)
 
--- a user or a host has none of them. Git decodes a URL before it cuts it, so there no byte of it is written as an escape
+-- a user or a host has none of them. Git decodes a URL before it cuts it, so there no byte of it is written
+-- as an escape
 abbrev pub IsPlainPart : Bool → AsciiSet → List ℕ → Type 0
 IsPlainPart true set part = Lacks is_contested part
 IsPlainPart false set part = Lacks (should_percent_encode set) part
 
--- the host of `git://` has brackets of its own: all of it is written as escapes where the location is settled, and they are
--- decoded to an address in its brackets before Git cuts
+-- the host of `git://` has brackets of its own: all of it is written as escapes where the location is
+-- settled, and they are decoded to an address in its brackets before Git cuts
 abbrev pub IsBracketedOfGit : Location → List ℕ → Type 0
 IsBracketedOfGit v host = (v.scheme ≡ git) × (begins_with left_bracket host ≡ true)
 
@@ -29,8 +30,8 @@ IsBracketedOfGit v host = (v.scheme ≡ git) × (begins_with left_bracket host �
 abbrev pub IsPlainHost : Location → List ℕ → Type 0
 IsPlainHost v host = IsPlainPart v.flag password_set host ⊎ IsBracketedOfGit v host
 
--- Git cuts the location's own parts out of its text: of a URL it decodes the path as this library does. The brackets
--- that are written around an address are none of its bytes, and Git takes them off
+-- Git cuts the location's own parts out of its text: of a URL it decodes the path as this library does. The
+-- brackets that are written around an address are none of its bytes, and Git takes them off
 pub record HasPlainParts (v : Location) : Type 0 where
   pub user : IfSome v.user (IsPlainPart v.flag user_set)
   pub host : IfSome v.host (IsPlainHost v)
@@ -48,16 +49,16 @@ is_tilde_second [] = false
 is_tilde_second (a ∷ []) = false
 is_tilde_second (a ∷ b ∷ rest) = b == tilde
 
--- the scp form with the host `rsync` alone: the text of such a settled location of Secure Shell begins with `rsync:`,
--- which Git refuses
+-- the scp form with the host `rsync` alone: the text of such a settled location of Secure Shell begins with
+-- `rsync:`, which Git refuses
 pub record IsRsync (v : Location) : Type 0 where
   pub scp : v.flag ≡ true
   pub no_user : v.user ≡ None
   pub host : v.host ≡ Some (codes "rsync")
 
--- what Git's own transports ask besides: a path and a user of Secure Shell, and not the host `rsync` alone; no user
--- for `git://`, and no end of a line in the path; no host for a file, a path that doesn't begin with `~`, and in a URL
--- no `%`, which Git alone decodes
+-- what Git's own transports ask besides: a path and a user of Secure Shell, and not the host `rsync` alone;
+-- no user for `git://`, and no end of a line in the path; no host for a file, a path that doesn't begin with
+-- `~`, and in a URL no `%`, which Git alone decodes
 abbrev pub SuitsTransport : Scheme → Location → Type 0
 SuitsTransport ssh v = (is_tilde_second v.path ≡ false) × (¬ IsRsync v) × ¬ (v.user ≡ Some [])
 SuitsTransport git v = (v.user ≡ None) × FreeOf newline v.path

@@ -13,8 +13,8 @@ use Rattle.git_location.specs.Text.{text}
 use Rattle.git_location.specs.Settled.{IsSettled}
 use Rattle.git_syntax.specs.Flaws.{NamesFlaw}
 
--- the bytes spell a location, and the room is shorter than they are; or they spell none, and the flaw that the refusal
--- names is in them
+-- the bytes spell a location, and the room is shorter than they are; or they spell none, and the flaw that
+-- the refusal names is in them
 abbrev pub RefusesIn : List ℕ → ℕ → ParseError → Type 0
 RefusesIn b room unread.NoRoom = ((v : Location) × Spells b v) × (room < length b)
 RefusesIn b room (unread.Refused why) = ((v : Location) → ¬ Spells b v) × NamesFlaw b why
@@ -42,8 +42,8 @@ pub record SpellsAgain (v : Location) (b : List ℕ) : Type 0 where
   pub spelled : Spells b back
   pub again : IsAgain v back
 
--- what a call left that wrote a text to a writer: on `Ok` the text is appended; where there is none the fault is
--- reported and the writer is as it was
+-- what a call left that wrote a text to a writer: on `Ok` the text is appended; where there is none the fault
+-- is reported and the writer is as it was
 abbrev pub Written : {W : Type 0} → (W → Option (List ℕ)) → W → W → Result (List ℕ) WriteFault
     → Result (Unit {0}) WriteError → Type 0
 Written contents old new (Ok t) (Ok u) = Appends (contents old) (contents new) t

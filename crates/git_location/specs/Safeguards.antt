@@ -1,4 +1,5 @@
--- Laws that keep passwords, options and escapes in their places, and of locations without a password or a spelling.
+-- Laws that keep passwords, options and escapes in their places, and of locations without a password or a
+-- spelling.
 use Rattle.std.specs.Prelude.{◌≡◌, ℕ, false, List, Option, Some}
 use Rattle.git_syntax.specs.Location.{Location}
 use Rattle.git_location.specs.Arguments.{judgement_of, path_argument, is_option_like}

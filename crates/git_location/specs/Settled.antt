@@ -1,5 +1,5 @@
--- The settled class, one definition for each kind. The text of each location in it is read as the same public fields and
--- is written the same again; some locations outside come back too.
+-- The settled class, one definition for each kind. The text of each location in it is read as the same public
+-- fields and is written the same again; some locations outside come back too.
 use Rattle.std.specs.Prelude.{◌≡◌, ◌≢◌, ℕ, ◌<◌, Bool, true, false, ◌&&◌, ◌==◌, ◌⊎◌, List, [], ◌∷◌, ◌++◌, length, codes, bytes_eq, Option, Some, None, IsSome, IfSome, Ok, IsUtf8, All}
 use Rattle.std.specs.List.{list_all}
 use Rattle.git_syntax.specs.Location.{Scheme, Location}
@@ -225,7 +225,8 @@ pub record IsSettledLocal (v : Location) : Type 0 where
 
 -- ---- the scp form
 
--- a settled name of a host in the scp form; a host is UTF-8 in every value (`IsValue`), so white space means something of it
+-- a settled name of a host in the scp form; a host is UTF-8 in every value (`IsValue`), so white space means
+-- something of it
 pub record IsScpName (host : List ℕ) : Type 0 where
   pub normal : IsNormalName host
   pub no_at : FreeOf at_sign host

@@ -1,4 +1,5 @@
--- The locations of HTTP in whose texts all readers agree: this library, Git's credential code, and a reader of URIs.
+-- The locations of HTTP in whose texts all readers agree: this library, Git's credential code, and a reader
+-- of URIs.
 use Rattle.std.specs.Prelude.{◌≡◌, ℕ, Bool, true, false, ◌||◌, ◌==◌, nat_lt, ◌⊎◌, List, [], ◌∷◌, ◌++◌, codes, Some, IfSome}
 use Rattle.std.specs.List.{list_all}
 use Rattle.std.specs.Char.{is_ascii_alphanumeric, is_ascii_lowercase, is_ascii_digit}
@@ -14,8 +15,8 @@ use Rattle.git_location.specs.Settled.{begins_with_slashes, IsBracketedAddress, 
 abbrev pub is_control : ℕ → Bool
 is_control b = nat_lt b space || b == delete
 
--- Git's credential code decodes the whole of a written piece, because no colon precedes an escape: the piece has none of
--- the one or none of the other
+-- Git's credential code decodes the whole of a written piece, because no colon precedes an escape: the piece
+-- has none of the one or none of the other
 abbrev pub IsDecodedWhole : List ℕ → Type 0
 IsDecodedWhole piece = FreeOf colon piece ⊎ FreeOf percent_sign piece
 
@@ -75,8 +76,8 @@ pub record HasDotSegment (path : List ℕ) : Type 0 where
   pub segment : (dots ≡ codes ".") ⊎ (dots ≡ codes "..")
   pub end : (behind ≡ []) ⊎ (begins_by is_segment_end behind ≡ true)
 
--- a path that all readers cut and decode alike: one `/` begins it, nothing of it is left out or taken out, and it is
--- written in the bytes of a URI
+-- a path that all readers cut and decode alike: one `/` begins it, nothing of it is left out or taken out,
+-- and it is written in the bytes of a URI
 pub record HasUnambiguousPath (v : Location) : Type 0 where
   pub rooted : begins_with slash v.path ≡ true
   pub one_slash : begins_with_slashes v.path ≡ false

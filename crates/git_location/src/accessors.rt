@@ -1,4 +1,5 @@
-//! The parts of a borrowed location that follow from its scheme or its path: the port, and whether the path is the root.
+//! The parts of a borrowed location that follow from its scheme or its path: the port, and whether the path
+//! is the root.
 //!
 //! It uses `url_ref` alone, and takes no memory. Its contract: the answers are those of the fields.
 

@@ -1,9 +1,9 @@
 //! Which parts of a location may be given to a command as arguments.
 //!
-//! A user, a host or a path that begins with `-` is taken for an option by the command that gets it, and options can
-//! run programs: `ssh://-oProxyCommand=..@host/repo` is such an attempt. It uses `bytes`, looks at fields and takes no
-//! memory. Its contract: each answer is the judgement of the definitions, and no text that begins with `-` is ever
-//! returned as usable.
+//! A user, a host or a path that begins with `-` is taken for an option by the command that gets it, and
+//! options can run programs: `ssh://-oProxyCommand=..@host/repo` is such an attempt. It uses `bytes`, looks
+//! at fields and takes no memory. Its contract: each answer is the judgement of the definitions, and no text
+//! that begins with `-` is ever returned as usable.
 
 ghost use Rattle.std.specs.Prelude.{◌≡◌, Some, IfSome, false, option_map};
 ghost use Rattle.bstr.specs.BStr.{bstr_bytes};
@@ -17,8 +17,8 @@ use git_syntax::bytes::{after, starts_with_byte};
 
 /// What a part of a location is to a command line.
 ///
-/// Two are equal where they are the same variant with the same text. It is borrowed from the location, and copies
-/// take no memory.
+/// Two are equal where they are the same variant with the same text. It is borrowed from the location, and
+/// copies take no memory.
 ///
 /// ```
 /// fn ssh_user<'a>(url: &'a Url) -> Result<Option<&'a str>, Refused> {
@@ -33,15 +33,16 @@ use git_syntax::bytes::{after, starts_with_byte};
 pub enum ArgumentSafety<'a> {
     /// The location has no such part.
     Absent,
-    /// The part, which doesn't begin with `-`. Nothing more is said of it: quoting for a shell is another matter.
+    /// The part, which doesn't begin with `-`. Nothing more is said of it: quoting for a shell is another
+    /// matter.
     Usable(&'a str),
     /// The part, which begins with `-`. As an argument it may be taken for an option.
     Dangerous(&'a str),
 }
 
 impl<'a> UrlRef<'a> {
-    /// The user as an argument of a command, as [`Url::user_as_argument`] judges it. It takes no memory, and lives as long
-    /// as what lends the location.
+    /// The user as an argument of a command, as [`Url::user_as_argument`] judges it. It takes no memory, and
+    /// lives as long as what lends the location.
     ///
     /// ```
     /// fn is_refused(url: &UrlRef<'_>) -> bool {
@@ -56,8 +57,8 @@ impl<'a> UrlRef<'a> {
         judge(self.user)
     }
 
-    /// The host as an argument of a command, as [`Url::host_as_argument`] judges it. It takes no memory, and lives as long
-    /// as what lends the location.
+    /// The host as an argument of a command, as [`Url::host_as_argument`] judges it. It takes no memory, and
+    /// lives as long as what lends the location.
     ///
     /// ```
     /// fn is_refused_host(url: &UrlRef<'_>) -> bool {
@@ -72,8 +73,8 @@ impl<'a> UrlRef<'a> {
         judge(self.host)
     }
 
-    /// The user, where there is one that doesn't begin with `-`. It takes no memory, and lives as long as what lends the
-    /// location.
+    /// The user, where there is one that doesn't begin with `-`. It takes no memory, and lives as long as
+    /// what lends the location.
     ///
     /// ```
     /// fn user_or_git<'a>(url: &UrlRef<'a>) -> &'a str {
@@ -88,8 +89,8 @@ impl<'a> UrlRef<'a> {
         usable_text(self.user_as_argument())
     }
 
-    /// The host, where there is one that doesn't begin with `-`. It takes no memory, and lives as long as what lends the
-    /// location.
+    /// The host, where there is one that doesn't begin with `-`. It takes no memory, and lives as long as
+    /// what lends the location.
     ///
     /// ```
     /// fn can_connect(url: &UrlRef<'_>) -> bool {
@@ -104,8 +105,8 @@ impl<'a> UrlRef<'a> {
         usable_text(self.host_as_argument())
     }
 
-    /// The whole path, where it begins with `/` and the byte behind that isn't `-`. It takes no memory, and lives as long
-    /// as what lends the location.
+    /// The whole path, where it begins with `/` and the byte behind that isn't `-`. It takes no memory, and
+    /// lives as long as what lends the location.
     ///
     /// ```
     /// fn served<'a>(url: &UrlRef<'a>) -> Option<BStr<'a>> {
@@ -163,7 +164,8 @@ fn usable_text(part: ArgumentSafety<'_>) -> Option<&str>
 /// - `usable`: what is judged usable is the part itself, and doesn't begin with `-`.
 /// - `path`: the path that is returned is the location's own, and doesn't begin with `-`.
 ///
-/// Users who choose a transport by [`ArgumentSafety`] know by this law that a command gets no option from a location.
+/// Users who choose a transport by [`ArgumentSafety`] know by this law that a command gets no option from a
+/// location.
 pub fn law_arguments()
     ensures usable { UsableIsNoOption }
     ensures path { PathIsNoOption }

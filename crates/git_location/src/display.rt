@@ -1,11 +1,13 @@
 //! Showing a location to people: its text, with the field `password` hidden.
 //!
-//! It uses `writer`. Its contract: where showing succeeds, what was shown is the text with another password in place of
-//! the location's own, whatever width, precision and flags are asked for, so that two locations that differ in nothing
-//! but their passwords look alike; where there is no text it fails, and nothing is shown. It takes no memory.
+//! It uses `writer`. Its contract: where showing succeeds, what was shown is the text with another password
+//! in place of the location's own, whatever width, precision and flags are asked for, so that two locations
+//! that differ in nothing but their passwords look alike; where there is no text it fails, and nothing is
+//! shown. It takes no memory.
 //!
-//! What a formatter was given before it failed is in no contract: `fmt::Write` says what a call of a writer did only
-//! where it returned `Ok`, so no clause can speak of the others. Tests show that it is a front of the right text.
+//! What a formatter was given before it failed is in no contract: `fmt::Write` says what a call of a writer
+//! did only where it returned `Ok`, so no clause can speak of the others. Tests show that it is a front of
+//! the right text.
 
 ghost use Rattle.std.specs.Prelude.{◌≡◌, None, IsErr, option_map};
 ghost use Rattle.std.specs.Fmt.{DisplaysOnOk, DisplaysStyledOnOk};
@@ -57,9 +59,9 @@ pub fn hidden_password(password: Option<&str>) -> Option<&str>
     }
 }
 
-/// Locations that differ in nothing but what their fields `password` hold have the same text to be shown, so nobody learns
-/// what is in that field from what was shown where `Display` returned `Ok`. Of other fields, which may hold a secret too,
-/// it says nothing.
+/// Locations that differ in nothing but what their fields `password` hold have the same text to be shown, so
+/// nobody learns what is in that field from what was shown where `Display` returned `Ok`. Of other fields,
+/// which may hold a secret too, it says nothing.
 pub fn law_hidden_password()
     ensures hidden { HidesPassword }
 {}

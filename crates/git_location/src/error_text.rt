@@ -1,7 +1,7 @@
 //! The words of the faults of writing, as errors say them to people.
 //!
-//! It uses `write_error` alone and takes no memory. Its contract: the words are those of the definitions, whatever width,
-//! precision and flags are asked for, so they depend on nothing but the fault.
+//! It uses `write_error` alone and takes no memory. Its contract: the words are those of the definitions,
+//! whatever width, precision and flags are asked for, so they depend on nothing but the fault.
 
 ghost use Rattle.std.specs.Prelude.{Some};
 ghost use Rattle.git_location.specs.ErrorText.{write_fault_words};

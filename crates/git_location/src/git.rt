@@ -1,8 +1,9 @@
 //! Locations in whose texts Git reads the same place.
 //!
-//! It uses the settled test, the tests of bytes and the sets of escapes, and takes no memory. Inside: `web` decides
-//! the class of HTTP. Its contract: the answer is yes exactly for the class of the definitions, and in the text of each
-//! location of that class Git reads the location's own protocol, user, host, port and path (`law_git`).
+//! It uses the settled test, the tests of bytes and the sets of escapes, and takes no memory. Inside: `web`
+//! decides the class of HTTP. Its contract: the answer is yes exactly for the class of the definitions, and
+//! in the text of each location of that class Git reads the location's own protocol, user, host, port and
+//! path (`law_git`).
 
 ghost use Rattle.std.specs.Prelude.{◌≡◌, ◌↔◌, IsTrue, IfSome, None, Some, false, option_map};
 ghost use Rattle.std.specs.List.{list_any};
@@ -21,8 +22,8 @@ use percent_encoding::AsciiSet;
 use web::agrees_over_web;
 
 impl UrlRef<'_> {
-    /// Whether Git reads this very place in the text of the location, as [`Url::agrees_with_git`] reports. It takes no
-    /// memory.
+    /// Whether Git reads this very place in the text of the location, as [`Url::agrees_with_git`] reports. It
+    /// takes no memory.
     ///
     /// ```
     /// /// Writes the text for Git, if Git reads the same place in it.
@@ -114,7 +115,8 @@ fn is_tilde_second(text: &[u8]) -> bool
     }
 }
 
-/// Whether the location has the scp form and the host `rsync` alone. Of Secure Shell such a text begins with `rsync:`.
+/// Whether the location has the scp form and the host `rsync` alone. Of Secure Shell such a text begins with
+/// `rsync:`.
 fn is_rsync(url: &UrlRef<'_>) -> bool
     ensures { IsTrue result ↔ IsRsync url.now }
 {
@@ -140,7 +142,8 @@ fn has_plain_parts(url: &UrlRef<'_>) -> bool
         && !holds_contested(url.path)
 }
 
-/// Whether the user or host, where there is one, is in the text as it is, without a byte by which Git cuts it.
+/// Whether the user or host, where there is one, is in the text as it is, without a byte by which Git cuts
+/// it.
 fn is_plain_part(part: Option<&str>, is_no_url: bool, escaped: AsciiSet) -> bool
     ensures { IsTrue result
         ↔ IfSome (option_map (λ t. t.now) part.entry) (IsPlainPart is_no_url escaped) }
@@ -157,7 +160,8 @@ fn is_plain_part(part: Option<&str>, is_no_url: bool, escaped: AsciiSet) -> bool
     }
 }
 
-/// Whether the host, where there is one, is such a part, or has brackets of its own, as `git://` alone has them.
+/// Whether the host, where there is one, is such a part, or has brackets of its own, as `git://` alone has
+/// them.
 fn has_plain_host(url: &UrlRef<'_>) -> bool
     ensures { IsTrue result ↔ IfSome url.now.host (IsPlainHost url.now) }
 {

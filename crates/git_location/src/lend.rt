@@ -1,8 +1,8 @@
 //! Lending: the location that found slices mean, in slices of the text and of a room.
 //!
-//! It may use `found`, `room`, `ssh_host`, `home`, `host`, `rules`, `scheme`, `url_syntax`, `text` and the type
-//! of borrowed locations. Its contract: the location is the one that the slices mean. It takes no memory: what has other
-//! bytes than the text is written into the room.
+//! It may use `found`, `room`, `ssh_host`, `home`, `host`, `rules`, `scheme`, `url_syntax`, `text` and the
+//! type of borrowed locations. Its contract: the location is the one that the slices mean. It takes no
+//! memory: what has other bytes than the text is written into the room.
 
 ghost use Rattle.std.specs.Prelude.{◌≡◌, ◌≤◌, List, ℕ, IfSome, IsUtf8, false, length, option_map};
 ghost use Rattle.std.specs.Option.{option_copied};

@@ -1,7 +1,8 @@
 //! Git locations that are borrowed: [`url_ref::UrlRef`], whose parts are slices of whoever lends them.
 //!
-//! What only looks at a location is defined here, once: reading into a room that the caller lends, writing, the settled
-//! class, the class in whose texts Git reads the same, and the judgement of arguments. Nothing here asks for memory.
+//! What only looks at a location is defined here, once: reading into a room that the caller lends, writing,
+//! the settled class, the class in whose texts Git reads the same, and the judgement of arguments. Nothing
+//! here asks for memory.
 #![tactic(auto)]
 
 mod accessors;

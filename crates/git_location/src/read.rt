@@ -1,8 +1,8 @@
 //! Reading into a room that the caller lends: the location that a text spells, without memory.
 //!
-//! It uses `git_syntax::find`, which finds slices of the text, and `lend`, which makes the location of them. Its contract:
-//! the answer is the one location that the definitions spell with the bytes, a refusal comes only where they spell none,
-//! and what a refusal names is in the bytes.
+//! It uses `git_syntax::find`, which finds slices of the text, and `lend`, which makes the location of them.
+//! Its contract: the answer is the one location that the definitions spell with the bytes, a refusal comes
+//! only where they spell none, and what a refusal names is in the bytes.
 
 ghost use Rattle.std.specs.Prelude.{length};
 ghost use Rattle.git_location.specs.Readings.{ReadsIn};
@@ -13,11 +13,12 @@ use crate::url_ref::UrlRef;
 use git_syntax::find::find;
 
 impl<'a> UrlRef<'a> {
-    /// The one location that the bytes spell, read as [`parse`] reads it, but without memory: its parts are slices of the
-    /// text, and where they have other bytes, as an escape or a capital of a host, slices of the room.
+    /// The one location that the bytes spell, read as [`parse`] reads it, but without memory: its parts are
+    /// slices of the text, and where they have other bytes, as an escape or a capital of a host, slices of
+    /// the room.
     ///
-    /// Room for as many bytes as the text has is enough for every text; of less room there is no answer for a text that
-    /// spells a location. A refusal needs no room. What is in the room behind the call is not said.
+    /// Room for as many bytes as the text has is enough for every text; of less room there is no answer for a
+    /// text that spells a location. A refusal needs no room. What is in the room behind the call is not said.
     ///
     /// # Errors
     ///

@@ -1,8 +1,8 @@
 //! Texts in a room: what stands for other bytes than those of the text, in memory that the caller lends.
 //!
-//! It may use `host`, `found`, `bytes` and `escape`. Its contract: each call answers the text that a slice stands for,
-//! which is the slice itself where that has its bytes, and else the front of the room; and it answers the room behind.
-//! It takes no memory.
+//! It may use `host`, `found`, `bytes` and `escape`. Its contract: each call answers the text that a slice
+//! stands for, which is the slice itself where that has its bytes, and else the front of the room; and it
+//! answers the room behind. It takes no memory.
 
 ghost use Rattle.std.specs.Prelude.{◌≡◌, ◌+◌, ◌≤◌, IfSome, length};
 ghost use Rattle.std.specs.Option.{option_copied};

@@ -1,8 +1,9 @@
-//! The settled class, decided. What is in it comes back: its text reads as the same fields and is written the same again.
+//! The settled class, decided. What is in it comes back: its text reads as the same fields and is written the
+//! same again.
 //!
 //! It may use every test of bytes, of addresses, of lengths and of forms, and the pieces of the writer. Its
-//! contract: the answer is yes exactly for the settled class, and so is the answer for each kind of location; and the
-//! location is a value of which the laws speak. It takes no memory.
+//! contract: the answer is yes exactly for the settled class, and so is the answer for each kind of location;
+//! and the location is a value of which the laws speak. It takes no memory.
 
 ghost use Rattle.std.specs.Prelude.{◌↔◌, IsTrue};
 ghost use Rattle.git_syntax.specs.Location.Scheme.{helper};

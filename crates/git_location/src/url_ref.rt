@@ -1,7 +1,8 @@
 //! A location that is borrowed: a [`UrlRef`], whose parts are slices of whoever lends them.
 //!
-//! It uses the schemes of `git_syntax`. Its contract: to all others a borrowed location is one value of eight parts, as
-//! the [`Url`] is that lends it. What only looks at a location is defined on it, and takes no memory.
+//! It uses the schemes of `git_syntax`. Its contract: to all others a borrowed location is one value of eight
+//! parts, as the [`Url`] is that lends it. What only looks at a location is defined on it, and takes no
+//! memory.
 
 ghost use Rattle.std.specs.Prelude.{◌≡◌, ◌↔◌, [], IsTrue, Some};
 
@@ -11,9 +12,10 @@ use std::marker::Model;
 /// A Git location whose parts are borrowed, from a [`Url`] or from texts that a program has.
 ///
 /// Contracts see the same value in it as in a `Url`: eight parts, the retained spelling of its path among
-/// them. The fields are those of `Url`, and may be put together by hand; [`UrlRef::is_settled`] reports whether
-/// the location comes back from its own text. It owns nothing: making one, writing it and asking it takes no
-/// memory. `Display` shows `redacted` in place of the field `password`, as that of `Url` does; it has no `Debug`.
+/// them. The fields are those of `Url`, and may be put together by hand; [`UrlRef::is_settled`] reports
+/// whether the location comes back from its own text. It owns nothing: making one, writing it and asking it
+/// takes no memory. `Display` shows `redacted` in place of the field `password`, as that of `Url` does; it
+/// has no `Debug`.
 ///
 /// ```
 /// /// Writes the location of a repository on a host, without a copy of either.

@@ -1,7 +1,7 @@
 //! Every location is a value of which the laws speak.
 //!
-//! It uses `url_ref`. The functions look at fields and change nothing, and their contracts are what the types of those
-//! fields say: a text is UTF-8, a byte is below 256, and a port is one of 65,536 numbers.
+//! It uses `url_ref`. The functions look at fields and change nothing, and their contracts are what the types
+//! of those fields say: a text is UTF-8, a byte is below 256, and a port is one of 65,536 numbers.
 
 ghost use Rattle.std.specs.Prelude.{◌<◌, All, IfSome, IsUtf8, option_map};
 ghost use Rattle.git_location.specs.Settled.{IsValue};

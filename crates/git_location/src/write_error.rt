@@ -5,8 +5,8 @@
 use std::io;
 use thiserror::Error;
 
-/// Why a location has no text. What is read always has one: it is a location made of parts, or changed by hand, that can
-/// lack it.
+/// Why a location has no text. What is read always has one: it is a location made of parts, or changed by
+/// hand, that can lack it.
 ///
 /// ```
 /// fn lacks_host(error: &WriteError) -> bool {

@@ -1,9 +1,9 @@
 //! Writing: the text of a location, its length, and the spelling of its path.
 //!
 //! The text is laid out once, as pieces: slices of the location with the way that each is written. `form`
-//! chooses the form, `layout` the pieces, `piece` adds up their lengths and puts them into a sink, `unescaped`
-//! finds texts that need no escape, and `sink`, `fill` and `show` are the sinks. The contract of each public
-//! call is the text of the definitions.
+//! chooses the form, `layout` the pieces, `piece` adds up their lengths and puts them into a sink,
+//! `unescaped` finds texts that need no escape, and `sink`, `fill` and `show` are the sinks. The contract of
+//! each public call is the text of the definitions.
 
 ghost use Rattle.std.specs.Prelude.{◌≡◌, [], Ok, Err, IsOk, IfOk, IfErr, length};
 ghost use Rattle.bstr.specs.BStr.{bstr_bytes};
@@ -102,8 +102,8 @@ impl<'a> UrlRef<'a> {
         }
     }
 
-    /// The path as it was spelled, with its escapes: the spelling where it stands for the path, and else the path itself.
-    /// It takes no memory, and lives as long as what lends the location.
+    /// The path as it was spelled, with its escapes: the spelling where it stands for the path, and else the
+    /// path itself. It takes no memory, and lives as long as what lends the location.
     ///
     /// ```
     /// fn spelled<'a>(url: &UrlRef<'a>) -> BStr<'a> {

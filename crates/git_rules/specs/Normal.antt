@@ -1,4 +1,5 @@
--- The normal form of a URL, by which Git compares the places of `http.<url>.*` and `credential.<url>.*` (git-config(1)).
+-- The normal form of a URL, by which Git compares the places of `http.<url>.*` and `credential.<url>.*`
+-- (git-config(1)).
 use Rattle.std.specs.Prelude.{◌≡◌, ℕ, ◌+◌, ◌*◌, Bool, true, false, ◌&&◌, ◌||◌, ◌==◌, nat_le, ◌⊎◌, List, [], ◌∷◌, ◌++◌, map, codes, bytes_eq, Option, Some, None, option_and_then, if◌then◌else◌}
 use Rattle.std.specs.List.{list_all, slice_split}
 use Rattle.std.specs.Char.{is_ascii_alphanumeric, digit_value}
@@ -9,8 +10,8 @@ use Rattle.git_syntax.specs.Grammar.{or_root}
 use Rattle.git_syntax.specs.Hosts.{Number}
 use Rattle.git_syntax.specs.Hosts.HostSyntax.{http_hosts}
 
--- a URL in its normal form, as far as it is compared: no port is the scheme's own one or none, and the path has its query
--- and its fragment
+-- a URL in its normal form, as far as it is compared: no port is the scheme's own one or none, and the path
+-- has its query and its fragment
 pub record NormalPlace : Type 0 where
   pub scheme : List ℕ
   pub user : Option (List ℕ)
@@ -36,7 +37,8 @@ is_sub_delimiter b = is_one_of (codes "!$&'()*+,;=") b
 abbrev pub is_reserved : ℕ → Bool
 is_reserved b = is_one_of (codes ":/?#[]@") b || is_sub_delimiter b
 
--- what a byte becomes, which may have come as an escape: an escape where it is unsafe, or a delimiter that came as one
+-- what a byte becomes, which may have come as an escape: an escape where it is unsafe, or a delimiter that
+-- came as one
 abbrev pub normal_byte : Bool → ℕ → List ℕ
 normal_byte escaped b = if is_unsafe b || (escaped && is_reserved b) then percent_encode_byte b else b ∷ []
 
@@ -87,8 +89,8 @@ abbrev pub lacks_host : List ℕ → Bool
 lacks_host [] = true
 lacks_host (b ∷ bs) = b == colon
 
--- the host in lower case. It may be missing in a URL of `file` alone, without a port, and what precedes a last colon then
--- doesn't count
+-- the host in lower case. It may be missing in a URL of `file` alone, without a port, and what precedes a
+-- last colon then doesn't count
 pub data HostFor (scheme : List ℕ) (text : List ℕ) (name : List ℕ) (port : List ℕ) (host : List ℕ) : Type 0 where
   named : lacks_host text ≡ false → host ≡ lowercase name → HostFor scheme text name port host
   missing : lacks_host text ≡ true → scheme ≡ codes "file" → port ≡ [] → host ≡ []
@@ -141,7 +143,8 @@ put_segment stack segment = if bytes_eq segment (codes ".") then Some stack
     else if bytes_eq segment (codes "..") then without_top stack
     else Some (segment ∷ stack)
 
--- the segments are read one after the other, on top of a stack; there is no outcome where a `..` finds none before it
+-- the segments are read one after the other, on top of a stack; there is no outcome where a `..` finds none
+-- before it
 abbrev pub put_segments : List (List ℕ) → List (List ℕ) → Option (List (List ℕ))
 put_segments [] stack = Some stack
 put_segments (segment ∷ rest) stack = option_and_then (λ left. put_segments rest left) (put_segment stack segment)
@@ -159,7 +162,8 @@ unrooted (b ∷ bs) = if b == slash then bs else b ∷ bs
 abbrev pub normal_segments : List ℕ → List (List ℕ)
 normal_segments text = map normal_text (slice_split (λ b. b == slash) text)
 
--- what follows the authority becomes the path: its segments without `.` and `..` behind a `/`, then query and fragment
+-- what follows the authority becomes the path: its segments without `.` and `..` behind a `/`, then query and
+-- fragment
 pub record NormalPath (behind path : List ℕ) : Type 0 where
   pub segments : List ℕ
   pub rest : List ℕ

@@ -14,8 +14,8 @@ use Rattle.git_rules.specs.NormalPieces.{CutsBefore}
 abbrev pub IsNoPort : List ℕ → Type 0
 IsNoPort text = (¬ (text ≡ [])) × ((port : ℕ) → ¬ Number http_hosts text port)
 
--- what is wrong with a host and its port: no host where the scheme needs one, a byte that no host has, or no number for a
--- port, where a URL of `file` without a host has none
+-- what is wrong with a host and its port: no host where the scheme needs one, a byte that no host has, or no
+-- number for a port, where a URL of `file` without a host has none
 abbrev pub HostFlaw : Bool → List ℕ → List ℕ → NormalError → Type 0
 HostFlaw globs scheme text NoHost = (lacks_host text ≡ true) × ¬ (scheme ≡ codes "file")
 HostFlaw globs scheme text BadHost = (name : List ℕ) × (port : List ℕ) × CutsPort text name port
@@ -49,7 +49,8 @@ HasFlaw globs text NoUrl = (scheme authority behind : List ℕ) → ¬ UrlCut te
 HasFlaw globs text flaw = (scheme : List ℕ) × (authority : List ℕ) × (behind : List ℕ) × UrlCut text scheme authority behind
     × (AuthorityFlaw globs (lowercase scheme) authority flaw ⊎ PathFlaw behind flaw)
 
--- a text read into a room of this length: its normal form, or too short a room for it, or a flaw, and there is no normal form
+-- a text read into a room of this length: its normal form, or too short a room for it, or a flaw, and there
+-- is no normal form
 abbrev pub NormalizesIn : Bool → List ℕ → ℕ → Result NormalPlace NormalError → Type 0
 NormalizesIn globs text room (Ok n) = (3 * length text + 1 ≤ room) × IsNormalOf globs text n
 NormalizesIn globs text room (Err NoRoom) = room < 3 * length text + 1

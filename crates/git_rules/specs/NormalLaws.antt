@@ -29,7 +29,8 @@ pub record IsOwnPlace (v : Location) (n : NormalPlace) : Type 0 where
   pub host : v.host ≡ Some n.host
   pub port : n.port ≡ own_port (scheme_text v.scheme) v.port
 
--- the text of a location of HTTP in whose text all readers agree has the location's own place as its normal form
+-- the text of a location of HTTP in whose text all readers agree has the location's own place as its normal
+-- form
 abbrev pub KeepsPlace : Type 0
 KeepsPlace = (globs : Bool) (v : Location) (t : List ℕ) (n : NormalPlace) → IsWeb v → IsValue v → AgreesOverWeb v
     → text v ≡ Ok t → IsNormalOf globs t n → IsOwnPlace v n

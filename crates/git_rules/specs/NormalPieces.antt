@@ -55,7 +55,8 @@ ShowsOutcome outcome (Some text) = (stack : List (List ℕ)) × (outcome ≡ Som
 abbrev pub ShowsFront : Option (List (List ℕ)) → List ℕ → Option ℕ → Type 0
 ShowsFront outcome room at = ShowsOutcome outcome (option_map (λ n. take n room) at)
 
--- the value has the normal form of these slices: a scheme in lower case, a user, a host, a port, and what follows them
+-- the value has the normal form of these slices: a scheme in lower case, a user, a host, a port, and what
+-- follows them
 pub record HoldsParts (scheme : List ℕ) (user : Option (List ℕ)) (host : List ℕ) (port : Option ℕ) (behind : List ℕ)
     (n : NormalPlace) : Type 0 where
   pub scheme_is : n.scheme ≡ scheme

@@ -1,4 +1,5 @@
--- The law on patterns: what a pattern without `*` picks for a text goes to the scheme, the host and the port of the pattern.
+-- The law on patterns: what a pattern without `*` picks for a text goes to the scheme, the host and the port
+-- of the pattern.
 use Rattle.std.specs.Prelude.{◌≡◌, ℕ, false, ◌⊎◌, List, [], ◌∷◌, ◌++◌, decimal, Option, Some, None, option_map, Ok}
 use Rattle.git_syntax.specs.Location.{Location}
 use Rattle.git_syntax.specs.Bytes.{dot, FreeOf}
@@ -10,8 +11,8 @@ use Rattle.git_laws.specs.GitWeb.{CredentialReading, CredentialReads, UriReading
 use Rattle.git_rules.specs.Normal.{asterisk, NormalPlace, IsNormalOf}
 use Rattle.git_rules.specs.Patterns.{Matches}
 
--- the host is the pattern's own, except for a `.` at the end of that, which Git passes over: a name with it is the same name,
--- written from the root of all names (RFC 1034, section 3.1)
+-- the host is the pattern's own, except for a `.` at the end of that, which Git passes over: a name with it
+-- is the same name, written from the root of all names (RFC 1034, section 3.1)
 abbrev pub IsOwnHost : List ℕ → List ℕ → Type 0
 IsOwnHost own host = (own ≡ host) ⊎ (own ≡ host ++ dot ∷ [])
 
@@ -44,7 +45,8 @@ pub record ReachesOwn (t : List ℕ) (pattern : NormalPlace) : Type 0 where
   pub asked : (r : CredentialReading) → CredentialReads t r → AsksForOwn pattern r
   pub reached : (r : UriReading) → UriReads t r → ConnectsToOwn pattern r
 
--- so it is with the text of each location of HTTP of the class, and a pattern without `*` in its host that stands for it
+-- so it is with the text of each location of HTTP of the class, and a pattern without `*` in its host that
+-- stands for it
 abbrev pub PickedGoesToOwn : Type 0
 PickedGoesToOwn = (v : Location) (t : List ℕ) (place pattern : NormalPlace)
     → IsValue v → IsWeb v → AgreesWithGit v → text v ≡ Ok t

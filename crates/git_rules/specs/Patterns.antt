@@ -11,8 +11,8 @@ abbrev pub in_first_label : ℕ → List (List ℕ) → List (List ℕ)
 in_first_label b [] = (b ∷ []) ∷ []
 in_first_label b (label ∷ labels) = (b ∷ label) ∷ labels
 
--- the labels of a host: each ends at a `.`, or where the host ends. So `a.b` and `a.b.` have the same two, and `a..b` has
--- an empty one in the middle
+-- the labels of a host: each ends at a `.`, or where the host ends. So `a.b` and `a.b.` have the same two,
+-- and `a..b` has an empty one in the middle
 abbrev pub labels_of : List ℕ → List (List ℕ)
 labels_of [] = []
 labels_of (b ∷ bs) = if b == dot then [] ∷ labels_of bs else in_first_label b (labels_of bs)
@@ -95,8 +95,8 @@ RanksNoHigher Ranks rank t = (k : Rank) → Ranks t k → ¬ IsLower rank k
 abbrev pub RanksLower : {T : Type 0} → (T → Rank → Type 0) → Rank → T → Type 0
 RanksLower Ranks rank t = (k : Rank) → Ranks t k → IsLower k rank
 
--- the item in this place is the best of those that have a rank: none before it has a higher one, and each behind it a lower
--- one
+-- the item in this place is the best of those that have a rank: none before it has a higher one, and each
+-- behind it a lower one
 pub record IsBestAt {T : Type 0} (Ranks : T → Rank → Type 0) (items : List T) (i : ℕ) : Type 0 where
   pub before : List T
   pub best : T

@@ -7,7 +7,8 @@ use Rattle.git_rules.specs.declared.pattern.place.PlaceError.TheVariants.{Fault,
 use Rattle.git_rules.specs.Normal.{NormalPlace, IsNormalOf}
 use Rattle.git_rules.specs.NormalFlaws.{HasFlaw}
 
--- the text has this normal form, and there is room for it; or there is too little, or the text has a flaw and no normal form
+-- the text has this normal form, and there is room for it; or there is too little, or the text has a flaw and
+-- no normal form
 abbrev pub FrontPlacesIn : List ℕ → ℕ → Result NormalPlace PlaceError → Type 0
 FrontPlacesIn t room (Ok n) = (4 * length t + 1 ≤ room) × IsNormalOf false t n
 FrontPlacesIn t room (Err (Fault fault)) = ⊥

@@ -198,8 +198,8 @@ abbrev pub command_variable : Command → Option (List ℕ)
 command_variable c =
     if sends_version c.variant c.service c.version then Some (version_value c.version) else None
 
--- no word that comes of the location begins with `-`, nor does the host in the destination, or the path that the
--- service gets
+-- no word that comes of the location begins with `-`, nor does the host in the destination, or the path that
+-- the service gets
 pub record HasNoOptions (c : Command) : Type 0 where
   pub destination : is_option_like (destination c.user c.host) ≡ false
   pub host : is_option_like c.host ≡ false

@@ -1,7 +1,7 @@
 //! Texts that Git takes for a boolean value, as it reads environment variables and configuration.
 //!
-//! It uses nothing of this crate. Its contract: the words and the numbers that Git takes, and no others, have the value
-//! that Git gives them. It takes no memory.
+//! It uses nothing of this crate. Its contract: the words and the numbers that Git takes, and no others, have
+//! the value that Git gives them. It takes no memory.
 
 ghost use Rattle.std.specs.Prelude.{◌≡◌, ◌↔◌, ◌*◌, ◌≤◌, IsTrue, drop};
 ghost use Rattle.std.specs.List.{prefix_len, take_while};
@@ -16,11 +16,12 @@ const GREATEST: u64 = 2_147_483_647;
 
 /// The boolean value of a text, as Git reads one; none where Git stops for it. It takes no memory.
 ///
-/// True are `true`, `yes` and `on`, false are `false`, `no`, `off` and the empty text, all without letter case (ASCII).
-/// A number is true unless it is 0: white space, a sign, digits (hexadecimal behind `0x`, octal behind a `0`, else decimal)
-/// and `k`, `m` or `g` of either case, which multiply it by 2^10, 2^20 and 2^30. Whatever its sign, it may be 2^31 - 1 at
-/// most. Nothing may follow it. This is what git-config(1) says of boolean values and integers, and what Git 2.39 does. A
-/// key without a value, which Git takes as true, has no text: the caller sees to it.
+/// True are `true`, `yes` and `on`, false are `false`, `no`, `off` and the empty text, all without letter
+/// case (ASCII). A number is true unless it is 0: white space, a sign, digits (hexadecimal behind `0x`, octal
+/// behind a `0`, else decimal) and `k`, `m` or `g` of either case, which multiply it by 2^10, 2^20 and 2^30.
+/// Whatever its sign, it may be 2^31 - 1 at most. Nothing may follow it. This is what git-config(1) says of
+/// boolean values and integers, and what Git 2.39 does. A key without a value, which Git takes as true, has
+/// no text: the caller sees to it.
 ///
 /// ```
 /// fn is_on(value: &[u8]) -> bool {

@@ -1,7 +1,7 @@
 //! The entries of a configuration, as `git config --list -z` writes them.
 //!
-//! It uses the cuts of `git_syntax`. Its contract: an entry is one value of five parts, and what is read is reported as a
-//! concatenation: the texts of the entries, each with the byte 0 behind it, are the text.
+//! It uses the cuts of `git_syntax`. Its contract: an entry is one value of five parts, and what is read is
+//! reported as a concatenation: the texts of the entries, each with the byte 0 behind it, are the text.
 
 ghost use Rattle.std.specs.Prelude.{◌≡◌, ◌==◌, ◌↔◌, ◌++◌, ◌∷◌, [], IfOk, IsTrue, OnOk, count_by};
 ghost use Rattle.git_rules.specs.Config.{HasName, IsOfSection, IsSameWord};
@@ -14,8 +14,8 @@ use std::alloc::{AllocError, Global};
 use std::marker::Model;
 use thiserror::Error;
 
-/// An entry of a configuration: `section.subsection.name` and its value. Its parts are slices of the text that was read,
-/// and owning none of them it takes no memory.
+/// An entry of a configuration: `section.subsection.name` and its value. Its parts are slices of the text
+/// that was read, and owning none of them it takes no memory.
 ///
 /// The fields may be put together by hand. Contracts see the five of them as plain values.
 ///
@@ -27,17 +27,17 @@ use thiserror::Error;
 /// ```
 #[derive(Drop)]
 pub struct Entry<'a> {
-    /// What the key holds before its first dot. Git writes it in lower case; [`Entry::is_section`] compares it without
-    /// letter case.
+    /// What the key holds before its first dot. Git writes it in lower case; [`Entry::is_section`] compares
+    /// it without letter case.
     pub section: &'a [u8],
-    /// What the key holds between its first and its last dot, as it is; none where the key has one dot. It may hold
-    /// dots, and may be empty.
+    /// What the key holds between its first and its last dot, as it is; none where the key has one dot. It
+    /// may hold dots, and may be empty.
     pub subsection: Option<&'a [u8]>,
-    /// What the key holds behind its last dot. Git writes it in lower case; [`Entry::is_name`] compares it without letter
-    /// case.
+    /// What the key holds behind its last dot. Git writes it in lower case; [`Entry::is_name`] compares it
+    /// without letter case.
     pub name: &'a [u8],
-    /// The value, as it is; none where the key is without `=`, which Git takes as `true` where it asks for a boolean
-    /// value and refuses elsewhere.
+    /// The value, as it is; none where the key is without `=`, which Git takes as `true` where it asks for a
+    /// boolean value and refuses elsewhere.
     pub value: Option<&'a [u8]>,
     /// The byte offset of the entry in the text that was read.
     pub at: usize,
@@ -54,7 +54,8 @@ impl<'a> Model for Entry<'a> {
 }
 
 impl Entry<'_> {
-    /// Whether the entry is of the section, without letter case (ASCII), as Git compares sections. It takes no memory.
+    /// Whether the entry is of the section, without letter case (ASCII), as Git compares sections. It takes
+    /// no memory.
     /// [`Entry`] has an example.
     pub fn is_section(&self, section: &str) -> bool
         ensures { IsTrue result ↔ IsOfSection section.now self.now }
@@ -62,7 +63,8 @@ impl Entry<'_> {
         is_same_word(self.section, section.as_bytes())
     }
 
-    /// Whether the entry has the name, without letter case (ASCII), as Git compares names. It takes no memory.
+    /// Whether the entry has the name, without letter case (ASCII), as Git compares names. It takes no
+    /// memory.
     /// [`Entry`] has an example.
     pub fn is_name(&self, name: &str) -> bool
         ensures { IsTrue result ↔ HasName name.now self.now }
@@ -81,13 +83,15 @@ fn is_same_word(a: &[u8], b: &[u8]) -> bool
 /// Why what is read is not an entry, and at which byte of the text it begins. [`Reader`] has an example.
 #[derive(Clone, Copy, Debug, Drop, PartialEq, Eq, Error)]
 pub enum EntryError {
-    /// The key has no section or no name: it has no dot, begins with one or ends in one. The next entry is read on.
+    /// The key has no section or no name: it has no dot, begins with one or ends in one. The next entry is
+    /// read on.
     #[error("the key at byte {at} has no section or no name")]
     NoKey {
         /// The byte offset of the key in the text.
         at: usize,
     },
-    /// The text ends without the byte 0 that ends an entry: it isn't whole, and its last entry may be cut off.
+    /// The text ends without the byte 0 that ends an entry: it isn't whole, and its last entry may be cut
+    /// off.
     #[error("the entry at byte {at} has no end")]
     NoEnd {
         /// The byte offset of the entry in the text.
@@ -97,9 +101,9 @@ pub enum EntryError {
 
 /// Reads the entries of a text in turn, and what isn't one. It takes no memory.
 ///
-/// Each entry ends in a byte 0. Its key ends before its first line feed, and the value is all that follows it; without a
-/// line feed there is no value. Where an entry can't be understood the item is an [`EntryError`], and the reader goes on
-/// behind it.
+/// Each entry ends in a byte 0. Its key ends before its first line feed, and the value is all that follows
+/// it; without a line feed there is no value. Where an entry can't be understood the item is an
+/// [`EntryError`], and the reader goes on behind it.
 ///
 /// ```
 /// /// At which bytes of a configuration there is something that is no entry.
@@ -222,10 +226,11 @@ fn cut_name(behind: &[u8]) -> (Option<&[u8]>, &[u8])
     }
 }
 
-/// The entries of a text that `git config --list -z` writes, in its order. What isn't an entry is left out: a [`Reader`]
-/// reports it, with its place, and reads on.
+/// The entries of a text that `git config --list -z` writes, in its order. What isn't an entry is left out: a
+/// [`Reader`] reports it, with its place, and reads on.
 ///
-/// Memory is asked for once, for as many entries as there are bytes 0 in the text. The entries borrow from the text.
+/// Memory is asked for once, for as many entries as there are bytes 0 in the text. The entries borrow from
+/// the text.
 ///
 /// ```
 /// /// The last value of `http.proxy`, which is the one that Git takes.

@@ -1,7 +1,9 @@
-//! What Git does with a location by its configuration: rewriting it, matching it, choosing its transport, running it.
+//! What Git does with a location by its configuration: rewriting it, matching it, choosing its transport,
+//! running it.
 //!
-//! It uses borrowed locations ([`git_location::url_ref::UrlRef`], which a `Url` of `gix_url` lends by `as_ref`), opens no
-//! file and runs no program: the configuration is the text that `git config --list -z` writes.
+//! It uses borrowed locations ([`git_location::url_ref::UrlRef`], which a `Url` of `gix_url` lends by
+//! `as_ref`), opens no file and runs no program: the configuration is the text that `git config --list -z`
+//! writes.
 #![tactic(auto)]
 
 pub mod boolean;

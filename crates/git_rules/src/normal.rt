@@ -1,8 +1,8 @@
 //! The normal form of a URL, by which Git picks settings for a place.
 //!
-//! It uses `authority`, `cuts` and `write`. Its contract: a text has exactly the normal form that the definitions give it, by which
-//! Git compares the places of `http.<url>.*` and `credential.<url>.*`. It takes no memory: what has other bytes than the
-//! text is written into a room that the caller lends.
+//! It uses `authority`, `cuts` and `write`. Its contract: a text has exactly the normal form that the
+//! definitions give it, by which Git compares the places of `http.<url>.*` and `credential.<url>.*`. It takes
+//! no memory: what has other bytes than the text is written into a room that the caller lends.
 
 mod authority;
 mod cuts;
@@ -36,7 +36,8 @@ pub enum NormalError {
     /// No host, which only a URL of `file` may leave out.
     #[error("no host")]
     NoHost,
-    /// A byte that no host has: neither a letter nor a digit nor one of `.-_[:]`, nor `*` where that is allowed.
+    /// A byte that no host has: neither a letter nor a digit nor one of `.-_[:]`, nor `*` where that is
+    /// allowed.
     #[error("a byte that no host has")]
     BadHost,
     /// A port that isn't a number from 1 to 65,535, or any port in a URL of `file` without a host.
@@ -75,10 +76,11 @@ impl<'a> Model for NormalUrl<'a> {
 }
 
 impl<'a> NormalUrl<'a> {
-    /// The normal form of a text, by which Git compares the places of `http.<url>.*` and `credential.<url>.*`.
+    /// The normal form of a text, by which Git compares the places of `http.<url>.*` and
+    /// `credential.<url>.*`.
     ///
-    /// The host of a pattern may hold `*`: then `globs` is true. Room for three times as many bytes as the text has, and one
-    /// more, is asked for; no memory is.
+    /// The host of a pattern may hold `*`: then `globs` is true. Room for three times as many bytes as the
+    /// text has, and one more, is asked for; no memory is.
     ///
     /// # Errors
     ///

@@ -1,9 +1,10 @@
 //! Patterns of places, as in `credential.<url>.*` and `http.<url>.*`, and the best of those that match.
 //!
-//! It uses the normal form of `normal` and the cuts of `git_syntax`. Its contract: a pattern stands for exactly the places
-//! that Git matches with it, the best of several is the one that Git takes, and what a pattern without `*` picks for a text
-//! that all readers agree on goes to the scheme, the host and the port of the pattern. It takes no memory. Inside: `place`
-//! makes the place of a location, `entries` picks among the entries of a configuration.
+//! It uses the normal form of `normal` and the cuts of `git_syntax`. Its contract: a pattern stands for
+//! exactly the places that Git matches with it, the best of several is the one that Git takes, and what a
+//! pattern without `*` picks for a text that all readers agree on goes to the scheme, the host and the port
+//! of the pattern. It takes no memory. Inside: `place` makes the place of a location, `entries` picks among
+//! the entries of a configuration.
 
 ghost use Rattle.std.specs.Prelude.{◌≡◌, ◌<◌, ◌↔◌, ◌∷◌, ◌++◌, ℕ, List, [], IsTrue, MatchOption, true, length, option_map};
 ghost use Rattle.git_rules.specs.NormalFlaws.{NormalizesIn};
@@ -18,18 +19,18 @@ use crate::normal::{NormalError, NormalUrl};
 use git_syntax::bytes::{before, cut, starts_with_byte};
 use std::marker::Model;
 
-/// A pattern of places, as the `<url>` of `credential.<url>.*` and `http.<url>.*` (git-config(1)): a URL in its normal form,
-/// in whose host `*` may be a label.
+/// A pattern of places, as the `<url>` of `credential.<url>.*` and `http.<url>.*` (git-config(1)): a URL in
+/// its normal form, in whose host `*` may be a label.
 ///
 /// It stands for a place exactly where
 ///
 /// - the schemes are equal, and so are the ports, each the scheme's own where none is there;
 /// - the user of the place is that of the pattern, if the pattern has one; the password doesn't count;
-/// - the hosts have as many labels, each ended by a `.` or by the end of the host, and each label of the pattern is `*` or
-///   the label at its place. So `*` stands for one whole label, be it empty, and within a longer label for itself, which no
-///   host has; a `.` at the end of a host makes no label more;
-/// - the path of the place is that of the pattern without one `/` at its end, or follows it with a `/`: whole elements, with
-///   query and fragment as they are.
+/// - the hosts have as many labels, each ended by a `.` or by the end of the host, and each label of the
+///   pattern is `*` or the label at its place. So `*` stands for one whole label, be it empty, and within a
+///   longer label for itself, which no host has; a `.` at the end of a host makes no label more;
+/// - the path of the place is that of the pattern without one `/` at its end, or follows it with a `/`: whole
+///   elements, with query and fragment as they are.
 #[derive(Drop)]
 pub struct UrlPattern<'a> {
     /// The normal form.
@@ -45,10 +46,11 @@ impl<'a> Model for UrlPattern<'a> {
 }
 
 impl<'a> UrlPattern<'a> {
-    /// The pattern that the text spells, as [`NormalUrl::parse_in`] reads it, with `*` among the bytes of a host.
+    /// The pattern that the text spells, as [`NormalUrl::parse_in`] reads it, with `*` among the bytes of a
+    /// host.
     ///
-    /// Room for three times as many bytes as the text has, and one more, is asked for; no memory is. A text that is no URL,
-    /// as `example.com` is, spells none.
+    /// Room for three times as many bytes as the text has, and one more, is asked for; no memory is. A text
+    /// that is no URL, as `example.com` is, spells none.
     ///
     /// # Errors
     ///
@@ -77,7 +79,8 @@ impl<'a> UrlPattern<'a> {
 impl UrlPattern<'_> {
     /// Whether the pattern stands for the place, by the rules of [`UrlPattern`]. It takes no memory.
     ///
-    /// The place is a normal form that is read without `*`, as [`place_in`](place::place_in) makes it of a location.
+    /// The place is a normal form that is read without `*`, as [`place_in`](place::place_in) makes it of a
+    /// location.
     ///
     /// ```
     /// /// Whether a proxy that is set for a URL is used for a place.
@@ -119,13 +122,14 @@ impl UrlPattern<'_> {
     }
 }
 
-/// By what the best of several is chosen: the first number in which two differ decides, and the higher one is better
-/// (git-config(1): the host first, then the path, then the user).
+/// By what the best of several is chosen: the first number in which two differ decides, and the higher one is
+/// better (git-config(1): the host first, then the path, then the user).
 #[derive(Clone, Copy)]
 pub struct Rank {
     /// The length of the host, in bytes.
     pub host: usize,
-    /// The length of the path without one `/` at its end, in bytes, and one more; 0 where there is no pattern.
+    /// The length of the path without one `/` at its end, in bytes, and one more; 0 where there is no
+    /// pattern.
     pub path: usize,
     /// 1 where a user is asked for, else 0.
     pub user: usize,
@@ -146,11 +150,11 @@ impl Rank {
     }
 }
 
-/// The index of the best of the patterns that stand for the place; none where none does. It takes no memory, and looks at
-/// each pattern once.
+/// The index of the best of the patterns that stand for the place; none where none does. It takes no memory,
+/// and looks at each pattern once.
 ///
-/// The one with the longest host is the best, `*` counted as the byte that it is; of these the one with the longest path,
-/// then one with a user before those without, and then the last.
+/// The one with the longest host is the best, `*` counted as the byte that it is; of these the one with the
+/// longest path, then one with a user before those without, and then the last.
 ///
 /// ```
 /// /// The value that is set for a place: the values are as many as the patterns.
@@ -287,10 +291,11 @@ fn behind<'a>(front: &[u8], text: &'a [u8]) -> Option<&'a [u8]>
 ///
 /// Let a pattern without `*` in its host stand for the normal form of the text of a location of HTTP that
 /// [`UrlRef::agrees_with_git`](git_location::url_ref::UrlRef::agrees_with_git) accepts. Then what Git's credential code reads
-/// in that text, and what a reader of URIs as libcurl reads in it, has the scheme, the host and the port of the pattern, each
-/// port the scheme's own where none is there. The host of the pattern may have a `.` at its end that theirs lacks: Git
-/// passes over it, and the name is the same (RFC 1034, section 3.1). So a credential that is picked by the pattern, for a
-/// text that is then given to Git, goes nowhere else. That each of the two readers reads one thing in such a text is
+/// in that text, and what a reader of URIs as libcurl reads in it, has the scheme, the host and the port of
+/// the pattern, each port the scheme's own where none is there. The host of the pattern may have a `.` at its
+/// end that theirs lacks: Git passes over it, and the name is the same (RFC 1034, section 3.1). So a
+/// credential that is picked by the pattern, for a text that is then given to Git, goes nowhere else. That
+/// each of the two readers reads one thing in such a text is
 /// [`law_git`](git_laws::laws::law_git).
 ///
 /// ```

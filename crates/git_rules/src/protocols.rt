@@ -1,8 +1,9 @@
 //! Which transports may be used, and which one a location takes.
 //!
-//! It uses the entries of `config`, over which it decides as they are, without a copy, and the boolean values of `boolean`.
-//! Its contract: the decision is that of Git 2.39, by the list, the last entry of a key or the default, and names what
-//! decided; where Git stops, so does the decision, at the same fault. It reads no environment and takes no memory.
+//! It uses the entries of `config`, over which it decides as they are, without a copy, and the boolean values
+//! of `boolean`. Its contract: the decision is that of Git 2.39, by the list, the last entry of a key or the
+//! default, and names what decided; where Git stops, so does the decision, at the same fault. It reads no
+//! environment and takes no memory.
 
 ghost use Rattle.std.specs.Prelude.{◌≡◌, ◌↔◌, IsTrue, option_map};
 ghost use Rattle.git_syntax.specs.Schemes.{scheme_text};
@@ -14,14 +15,14 @@ use git_location::url_ref::UrlRef;
 use git_syntax::bytes::cut;
 use std::marker::Model;
 
-/// The name of the transport that Git takes for the location, or of the remote helper that it runs: `ssh`, `git`, `file`,
-/// `http`, `https`, `ext`, or the name of another helper.
+/// The name of the transport that Git takes for the location, or of the remote helper that it runs: `ssh`,
+/// `git`, `file`, `http`, `https`, `ext`, or the name of another helper.
 ///
-/// Git looks this name up in `protocol.<name>.allow` and `GIT_ALLOW_PROTOCOL`. It depends on the scheme alone: `ssh` for
-/// `git+ssh://` and the scp form, `file` for paths, `SSH` for `SSH://`, which Git hands to a helper of that name. Before
-/// that, Git refuses each text that begins with `rsync:` but not with `rsync::`. Such a location has a name here all the
-/// same, `rsync` as a URL and `ssh` in scp form. `remote.<name>.vcs`, which names another helper, is not looked at. It takes
-/// no memory.
+/// Git looks this name up in `protocol.<name>.allow` and `GIT_ALLOW_PROTOCOL`. It depends on the scheme
+/// alone: `ssh` for `git+ssh://` and the scp form, `file` for paths, `SSH` for `SSH://`, which Git hands to a
+/// helper of that name. Before that, Git refuses each text that begins with `rsync:` but not with `rsync::`.
+/// Such a location has a name here all the same, `rsync` as a URL and `ssh` in scp form. `remote.<name>.vcs`,
+/// which names another helper, is not looked at. It takes no memory.
 ///
 /// ```
 /// fn is_secure_shell(url: &UrlRef<'_>) -> bool {
@@ -53,10 +54,11 @@ pub fn transport<'a>(url: &UrlRef<'a>) -> &'a str
 pub struct Protocols<'a> {
     /// The entries of the configuration, in their order. Those of other keys count for nothing.
     pub entries: &'a [Entry<'a>],
-    /// The value of `GIT_ALLOW_PROTOCOL`: names with a colon between two. None where it isn't set: the empty text is a list
-    /// that allows no transport but one without a name.
+    /// The value of `GIT_ALLOW_PROTOCOL`: names with a colon between two. None where it isn't set: the empty
+    /// text is a list that allows no transport but one without a name.
     pub allow_list: Option<&'a [u8]>,
-    /// The value of `GIT_PROTOCOL_FROM_USER`, a boolean value. None where it isn't set, which Git takes as true.
+    /// The value of `GIT_PROTOCOL_FROM_USER`, a boolean value. None where it isn't set, which Git takes as
+    /// true.
     pub from_user: Option<&'a [u8]>,
 }
 
@@ -132,17 +134,19 @@ impl Protocols<'_> {
     /// 1. If `GIT_ALLOW_PROTOCOL` is set, it allows the names in it and refuses all others.
     /// 2. Otherwise the last entry of `protocol.<name>.allow` decides, or if there is none the last one of
     ///    `protocol.allow`, by its value: `always`, `never` or `user`, without letter case (ASCII).
-    /// 3. Otherwise `http`, `https`, `git` and `ssh` are as with `always`, `ext` as with `never`, and all others, `file`
-    ///    among them, as with `user`.
+    /// 3. Otherwise `http`, `https`, `git` and `ssh` are as with `always`, `ext` as with `never`, and all
+    ///    others, `file` among them, as with `user`.
     ///
-    /// With `user`, the transport is allowed if `GIT_PROTOCOL_FROM_USER` is true or not set. Names are compared with letter
-    /// case. A value that Git can't understand is reported where Git stops for it, which is where it needs it: the value of
-    /// an entry if that entry decides, and `GIT_PROTOCOL_FROM_USER` with `user`. It looks at each entry twice at most, and
-    /// takes no memory. The rules are those of git(1) and of `protocol.allow` in git-config(1).
+    /// With `user`, the transport is allowed if `GIT_PROTOCOL_FROM_USER` is true or not set. Names are
+    /// compared with letter case. A value that Git can't understand is reported where Git stops for it, which
+    /// is where it needs it: the value of an entry if that entry decides, and `GIT_PROTOCOL_FROM_USER` with
+    /// `user`. It looks at each entry twice at most, and takes no memory. The rules are those of git(1) and
+    /// of `protocol.allow` in git-config(1).
     ///
-    /// Git's helper for HTTP asks again, for `http`, `https`, `ftp` and `ftps`: whether it may use them, and whether it may
-    /// follow redirections to them, as if `GIT_PROTOCOL_FROM_USER` were false. So even if the transport is allowed, Git may
-    /// stop later for an entry of one of the others, or for `GIT_PROTOCOL_FROM_USER`.
+    /// Git's helper for HTTP asks again, for `http`, `https`, `ftp` and `ftps`: whether it may use them, and
+    /// whether it may follow redirections to them, as if `GIT_PROTOCOL_FROM_USER` were false. So even if the
+    /// transport is allowed, Git may stop later for an entry of one of the others, or for
+    /// `GIT_PROTOCOL_FROM_USER`.
     ///
     /// ```
     /// fn refusal_place(protocols: &Protocols<'_>, name: &str) -> Option<usize> {

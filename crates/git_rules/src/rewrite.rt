@@ -1,8 +1,8 @@
 //! Locations rewritten as by `url.<base>.insteadOf` and `pushInsteadOf` of git-config(1).
 //!
-//! It uses `config` for entries. Inside: `table` keeps rules and finds the one that wins, `outcome` is what becomes of a
-//! text. Its contract: a text is rewritten by the rule whose front is the longest that it begins with, of equal fronts by
-//! the one whose base comes first in its table, and is itself where no rule applies.
+//! It uses `config` for entries. Inside: `table` keeps rules and finds the one that wins, `outcome` is what
+//! becomes of a text. Its contract: a text is rewritten by the rule whose front is the longest that it begins
+//! with, of equal fronts by the one whose base comes first in its table, and is itself where no rule applies.
 
 ghost use Rattle.std.specs.Prelude.{◌≡◌, OnErr, OnOk};
 ghost use Rattle.git_rules.specs.Rewrites.{IsRewritten, IsRewrittenToPush, no_rules, with_fetching, with_pushing};
@@ -45,13 +45,13 @@ impl From<AllocError> for RewriteError {
     }
 }
 
-/// Rules that rewrite locations: pairs of a base and the front that it replaces, for fetching and for pushing. They borrow
-/// their texts.
+/// Rules that rewrite locations: pairs of a base and the front that it replaces, for fetching and for
+/// pushing. They borrow their texts.
 ///
-/// A rule applies to a text that begins with its front, byte for byte. Of those that apply the one with the longest front
-/// wins, and of equal fronts the one whose base comes first in the table, be it by another rule: Git keeps the fronts of
-/// a base together. An empty front applies to every text, and an empty base takes a front off. What was rewritten is
-/// not rewritten again.
+/// A rule applies to a text that begins with its front, byte for byte. Of those that apply the one with the
+/// longest front wins, and of equal fronts the one whose base comes first in the table, be it by another
+/// rule: Git keeps the fronts of a base together. An empty front applies to every text, and an empty base
+/// takes a front off. What was rewritten is not rewritten again.
 ///
 /// ```
 /// /// The text that Git fetches from, by a configuration that `git config --list -z` wrote.
@@ -88,15 +88,16 @@ impl<'a> Rewrites<'a> {
         }
     }
 
-    /// The rules of a configuration: `url.<base>.insteadOf` for fetching and `url.<base>.pushInsteadOf` for pushing, in the
-    /// order of the entries. An entry without a subsection is no rule, as to Git. Memory is asked for as the tables grow.
+    /// The rules of a configuration: `url.<base>.insteadOf` for fetching and `url.<base>.pushInsteadOf` for
+    /// pushing, in the order of the entries. An entry without a subsection is no rule, as to Git. Memory is
+    /// asked for as the tables grow.
     /// [`Rewrites`] has an example.
     ///
     /// # Errors
     ///
     /// [`RewriteError::NoValue`] with the place of the first rule that has no value, at which Git stops; a program that
-    /// goes on without it adds the entries one by one, by [`Rewrites::add_entry`]. [`RewriteError::Memory`] where memory
-    /// is refused.
+    /// goes on without it adds the entries one by one, by [`Rewrites::add_entry`]. [`RewriteError::Memory`]
+    /// where memory is refused.
     pub fn from_entries(alloc: Global, entries: &[Entry<'a>]) -> Result<Rewrites<'a>, RewriteError>
         ensures { IsFilled entries.now result }
     {
@@ -107,8 +108,8 @@ impl<'a> Rewrites<'a> {
         Ok(rules)
     }
 
-    /// Adds the rule that an entry is, behind the others; an entry that is no rule changes nothing. Memory is asked for
-    /// where the table has to grow.
+    /// Adds the rule that an entry is, behind the others; an entry that is no rule changes nothing. Memory is
+    /// asked for where the table has to grow.
     ///
     /// ```
     /// /// The rules of a configuration, and how many of them have no value, which Git would have stopped at.
@@ -149,8 +150,8 @@ impl<'a> Rewrites<'a> {
         Ok(())
     }
 
-    /// Adds a rule for fetching behind the others: `url.<base>.insteadOf = <front>`. Memory is asked for where the table
-    /// has to grow.
+    /// Adds a rule for fetching behind the others: `url.<base>.insteadOf = <front>`. Memory is asked for
+    /// where the table has to grow.
     ///
     /// ```
     /// /// A rule by hand: GitHub over HTTPS in place of Secure Shell.
@@ -172,8 +173,8 @@ impl<'a> Rewrites<'a> {
         self.fetch.add(base, front)
     }
 
-    /// Adds a rule for pushing behind the others: `url.<base>.pushInsteadOf = <front>`. Memory is asked for where the
-    /// table has to grow. [`Rewrites::add_fetch`] has an example of its like.
+    /// Adds a rule for pushing behind the others: `url.<base>.pushInsteadOf = <front>`. Memory is asked for
+    /// where the table has to grow. [`Rewrites::add_fetch`] has an example of its like.
     ///
     /// # Errors
     ///
@@ -186,8 +187,8 @@ impl<'a> Rewrites<'a> {
         self.push.add(base, front)
     }
 
-    /// What becomes of a text that Git fetches from. It takes no memory, and one pass over the rules. [`Rewrites`] has an
-    /// example.
+    /// What becomes of a text that Git fetches from. It takes no memory, and one pass over the rules.
+    /// [`Rewrites`] has an example.
     pub fn rewrite_fetch<'t>(&self, text: &'t [u8]) -> Rewritten<'t>
     where
         'a: 't,
@@ -196,9 +197,10 @@ impl<'a> Rewrites<'a> {
         self.fetch.rewrite(text)
     }
 
-    /// What becomes of a text that Git pushes to. Where the remote has a push URL of its own the text is that URL, and is
-    /// rewritten as for fetching. Else it is the remote's URL: a rule for pushing that applies comes before all rules for
-    /// fetching, and where none applies it is rewritten as for fetching. It takes no memory, and one pass over each table.
+    /// What becomes of a text that Git pushes to. Where the remote has a push URL of its own the text is that
+    /// URL, and is rewritten as for fetching. Else it is the remote's URL: a rule for pushing that applies
+    /// comes before all rules for fetching, and where none applies it is rewritten as for fetching. It takes
+    /// no memory, and one pass over each table.
     ///
     /// ```
     /// /// The text that Git pushes to, for a remote with this URL and perhaps this push URL.

@@ -1,10 +1,11 @@
 //! The words with which Git runs Secure Shell for a location.
 //!
-//! It uses borrowed locations. `ssh_command` decides whether there is a command, and takes no memory. Inside: `checks` refuses
-//! the parts that make none, `command` has the parts of one, and `words` writes its words. It runs no program. Its contract:
-//! the words are those of the definitions (`specs/SecureShell.antt`), no word of a location is taken for an option, a shell
-//! reads the service and the path in the remote command (`specs/ShellWords.antt`), and where Git reads the same place in the
-//! location's text the words are Git's own (`law_git_words`).
+//! It uses borrowed locations. `ssh_command` decides whether there is a command, and takes no memory. Inside:
+//! `checks` refuses the parts that make none, `command` has the parts of one, and `words` writes its words.
+//! It runs no program. Its contract: the words are those of the definitions (`specs/SecureShell.antt`), no
+//! word of a location is taken for an option, a shell reads the service and the path in the remote command
+//! (`specs/ShellWords.antt`), and where Git reads the same place in the location's text the words are Git's
+//! own (`law_git_words`).
 
 ghost use Rattle.std.specs.Prelude.{◌≡◌, IfErr, IfOk, None, OnOk, Some, map};
 ghost use Rattle.bstr.specs.Owned.{bstring_bytes};
@@ -44,7 +45,8 @@ pub enum Service {
 
 /// The program that is run for Secure Shell, by the options that it has, as git-config(1) has `ssh.variant`.
 ///
-/// The value `auto` isn't one of them: with it Git finds the variant by the name of the program, or by running it with `-G`.
+/// The value `auto` isn't one of them: with it Git finds the variant by the name of the program, or by
+/// running it with `-G`.
 ///
 /// ```
 /// /// The variant that git-config(1) has for a value of `ssh.variant`; none for `auto`.
@@ -94,7 +96,8 @@ pub enum ProtocolVersion {
     V2,
 }
 
-/// Why a location has no command of Secure Shell. Where there is more than one reason, the first of these is returned.
+/// Why a location has no command of Secure Shell. Where there is more than one reason, the first of these is
+/// returned.
 ///
 /// ```
 /// /// Whether somebody tries to pass an option off as a part of a location.
@@ -110,14 +113,15 @@ pub enum SshRefusal {
     /// The location isn't one of Secure Shell.
     #[error("the location isn't reached by Secure Shell")]
     NotSecureShell,
-    /// The location has a password, for which Secure Shell has no argument. Git takes it for a part of the user.
+    /// The location has a password, for which Secure Shell has no argument. Git takes it for a part of the
+    /// user.
     #[error("Secure Shell takes no password")]
     Password,
     /// The user is empty. OpenSSH refuses a destination that begins with `@`.
     #[error("the user is empty")]
     EmptyUser,
-    /// The user, the host or the path holds byte 0, which no argument of a program can. Of each part it is looked for before
-    /// a `-`, an `@` or `ssh://`.
+    /// The user, the host or the path holds byte 0, which no argument of a program can. Of each part it is
+    /// looked for before a `-`, an `@` or `ssh://`.
     #[error("an argument can't hold byte 0")]
     ByteZero,
     /// The user begins with `-`, so the destination would be taken for an option.
@@ -193,8 +197,9 @@ impl Service {
     }
 }
 
-/// The words with which Git runs Secure Shell for a location, without the name of the program, as [`SshCommand::to_words`] has
-/// them of [`ssh_command`]. Memory is asked for once for the list, and once for each word, and not at all where there are none.
+/// The words with which Git runs Secure Shell for a location, without the name of the program, as
+/// [`SshCommand::to_words`] has them of [`ssh_command`]. Memory is asked for once for the list, and once for
+/// each word, and not at all where there are none.
 ///
 /// ```
 /// /// The words with which Git fetches by OpenSSH.
@@ -223,17 +228,18 @@ pub fn ssh_words(
     }
 }
 
-/// The command with which Git runs Secure Shell for a location, or why there is none. It takes no memory, and lives as long as
-/// what lends the location.
+/// The command with which Git runs Secure Shell for a location, or why there is none. It takes no memory, and
+/// lives as long as what lends the location.
 ///
-/// User, host, port and path are the location's own: no user and no port is made up where it has none, the host has no
-/// brackets around an address, port 0 is a port, and a path is any bytes without byte 0. No word of the location begins with
-/// `-`, OpenSSH reads user and host in the destination, and a POSIX shell reads two words in the remote command: the service and
-/// the path. What a configuration of `ssh` makes of them, as `%r` in `ProxyCommand`, is not said.
+/// User, host, port and path are the location's own: no user and no port is made up where it has none, the
+/// host has no brackets around an address, port 0 is a port, and a path is any bytes without byte 0. No word
+/// of the location begins with `-`, OpenSSH reads user and host in the destination, and a POSIX shell reads
+/// two words in the remote command: the service and the path. What a configuration of `ssh` makes of them, as
+/// `%r` in `ProxyCommand`, is not said.
 ///
-/// It is made for the parts of a location, and not for a text. Where [`UrlRef::agrees_with_git`] is true, the words are those
-/// that Git gives Secure Shell for the location's text, by Git's own rules ([`law_git_words`]). Of other locations Git can refuse
-/// the text, or read other parts in it.
+/// It is made for the parts of a location, and not for a text. Where [`UrlRef::agrees_with_git`] is true, the
+/// words are those that Git gives Secure Shell for the location's text, by Git's own rules
+/// ([`law_git_words`]). Of other locations Git can refuse the text, or read other parts in it.
 ///
 /// ```
 /// /// The port and the host that are connected to, and whether a user is named.
@@ -280,11 +286,12 @@ pub fn ssh_command<'a>(
     Ok(command)
 }
 
-/// Of each location of Secure Shell in whose text Git reads the same place there is a command, and its words are Git's own.
+/// Of each location of Secure Shell in whose text Git reads the same place there is a command, and its words
+/// are Git's own.
 ///
-/// - `own`: where [`UrlRef::agrees_with_git`] is true of a location of Secure Shell, [`ssh_command`] returns a command, but
-///   for a port with the variant `simple`; and its destination, port and path are those that Git gives Secure Shell for
-///   the text of the location.
+/// - `own`: where [`UrlRef::agrees_with_git`] is true of a location of Secure Shell, [`ssh_command`] returns
+///   a command, but for a port with the variant `simple`; and its destination, port and path are those that
+///   Git gives Secure Shell for the text of the location.
 pub fn law_git_words()
     ensures own { GivesOwnWords }
 {

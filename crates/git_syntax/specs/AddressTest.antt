@@ -5,7 +5,8 @@ use Rattle.std.specs.Char.{is_ascii_digit}
 use Rattle.std.specs.Str.Parse.{digits_value}
 use Rattle.git_syntax.specs.Bytes.{dot, digit_zero, colon, begins_with, is_hexadecimal}
 
--- whether the text is some texts before and behind the byte that pass the two tests; the names let what isn't needed wait
+-- whether the text is some texts before and behind the byte that pass the two tests; the names let what isn't
+-- needed wait
 abbrev pub any_cut : ℕ → (List ℕ → Bool) → (List ℕ → Bool) → List ℕ → Bool
 any_cut c before behind [] = false
 any_cut c before behind (b ∷ bs) =

@@ -62,7 +62,8 @@ pub record IsZone (z : List ℕ) : Type 0 where
   pub bytes : list_all is_zone_byte z ≡ true
   pub text : IsUtf8 (percent_decode z)
 
--- a literal and its normal form: an address, or an address, `%25` and a zone; the address is lowercased, the zone stays
+-- a literal and its normal form: an address, or an address, `%25` and a zone; the address is lowercased, the
+-- zone stays
 pub data Literal (t : List ℕ) (normal : List ℕ) : Type 0 where
   address : IsIpv6Text t → normal ≡ lowercase t → Literal t normal
   zoned : (a z : List ℕ) → IsIpv6Text a → IsZone z → t ≡ a ++ (codes "%25" ++ z)

@@ -123,8 +123,8 @@ lowercase bs = map to_ascii_lowercase bs
 abbrev pub IsLowercase : List ℕ → Type 0
 IsLowercase bs = lowercase bs ≡ bs
 
--- no character of the text is white space, as Unicode has it. It means that of UTF-8 alone: what `chars` makes of other
--- bytes is no reading of them, so IsUtf8 has to be asked for beside it
+-- no character of the text is white space, as Unicode has it. It means that of UTF-8 alone: what `chars`
+-- makes of other bytes is no reading of them, so IsUtf8 has to be asked for beside it
 abbrev pub LacksWhiteSpace : List ℕ → Type 0
 LacksWhiteSpace bs = list_any is_whitespace (chars bs) ≡ false
 

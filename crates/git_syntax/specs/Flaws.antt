@@ -1,5 +1,5 @@
--- Flaws: what is in a text that is refused. Each error names one, and the flaw that it names is there. A flaw has
--- its place: it is the `len` bytes behind the first `at`.
+-- Flaws: what is in a text that is refused. Each error names one, and the flaw that it names is there. A flaw
+-- has its place: it is the `len` bytes behind the first `at`.
 use Rattle.std.specs.Prelude.{◌≡◌, ℕ, ◌+◌, ◌<◌, ◌≤◌, Bool, true, false, ◌⊎◌, List, [], ◌∷◌, ◌++◌, length, take, codes, bytes_eq, Option, IsUtf8}
 use Rattle.std.specs.Str.{IsValidUpTo}
 use Rattle.percent_encoding.specs.Percent.{percent_decode}
@@ -171,8 +171,8 @@ pub data UrlFlaw (b : List ℕ) (at len : ℕ) : UrlFault → Type 0 where
 
 -- ---- the scp form
 
--- a host of the scp form names none where each `%` is read as its own escape: the place of the flaw in the host is the one
--- whose text, so read, has the flaw
+-- a host of the scp form names none where each `%` is read as its own escape: the place of the flaw in the
+-- host is the one whose text, so read, has the flaw
 pub record ScpNameFlaw (host : List ℕ) (at len : ℕ) (named : UrlFault) : Type 0 where
   pub before : List ℕ
   pub here : List ℕ
@@ -254,8 +254,8 @@ KindFlaw b kind.Url named at len = UrlFlaw b at len named
 KindFlaw b kind.Scp named at len = ScpFlaw b named at len
 KindFlaw b kind.Local named at len = ⊥
 
--- the flaw that the refusal names is in the bytes, at the place that it reports: a missing path would be at the end,
--- and what is no UTF-8 is reported by its first byte
+-- the flaw that the refusal names is in the bytes, at the place that it reports: a missing path would be at
+-- the end, and what is no UTF-8 is reported by its first byte
 abbrev pub NamesFlaw : List ℕ → Refusal → Type 0
 NamesFlaw b refusal.EmptyLocal = b ≡ []
 NamesFlaw b (refusal.MissingPath kind at) = MissesPath b kind × (at ≡ length b)

@@ -213,8 +213,8 @@ pub data Unbrackets (host inner : List ℕ) : Type 0 where
   brackets : host ≡ left_bracket ∷ (inner ++ right_bracket ∷ []) → Unbrackets host inner
   same : ¬ IsBracketed host → inner ≡ host → Unbrackets host inner
 
--- a host in the scp form stands for another: an escape in it is no escape. It is cut out of a text that is UTF-8, so white
--- space means something of it
+-- a host in the scp form stands for another: an escape in it is no escape. It is cut out of a text that is
+-- UTF-8, so white space means something of it
 pub record ScpHost (host meant : List ℕ) : Type 0 where
   pub named : List ℕ
   pub no_at : FreeOf at_sign host

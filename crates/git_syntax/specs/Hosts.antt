@@ -17,8 +17,8 @@ pub data HostSyntax : Type 0 where
 abbrev pub is_dns_byte : ℕ → Bool
 is_dns_byte b = is_ascii_alphanumeric b || is_one_of (codes "-._*") b
 
--- a byte that the host of an HTTP location may hold: a letter, a digit or one of `-._~!$&'()*+,;=%`, of which those from
--- `$` to `.` are side by side
+-- a byte that the host of an HTTP location may hold: a letter, a digit or one of `-._~!$&'()*+,;=%`, of which
+-- those from `$` to `.` are side by side
 abbrev pub is_http_host_byte : ℕ → Bool
 is_http_host_byte b = is_ascii_alphanumeric b
     || ((nat_le dollar_sign b && nat_le b dot) || is_one_of (codes "!;=_~") b)
@@ -37,7 +37,8 @@ HostText other_hosts text host = IsUtf8 (percent_decode text) × (host ≡ norma
 abbrev pub IsLiteral : List ℕ → Type 0
 IsLiteral text = (normal : List ℕ) × Literal text normal
 
--- a text between brackets stands for another, outside HTTP: a literal for its decoded normal form, any other for its decoding
+-- a text between brackets stands for another, outside HTTP: a literal for its decoded normal form, any other
+-- for its decoding
 pub data Bracketed (text : List ℕ) (inner : List ℕ) : Type 0 where
   literal : (normal : List ℕ) → Literal text normal → inner ≡ percent_decode normal → IsUtf8 inner
       → Bracketed text inner

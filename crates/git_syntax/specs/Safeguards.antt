@@ -1,4 +1,5 @@
--- Laws that keep passwords, options and escapes in their places, and of locations without a password or a spelling.
+-- Laws that keep passwords, options and escapes in their places, and of locations without a password or a
+-- spelling.
 use Rattle.std.specs.Prelude.{◌≡◌, ℕ, ◌↔◌, List, IsTrue}
 use Rattle.git_syntax.specs.declared.escape.TheConstants.{PATH, PASSWORD, USER}
 use Rattle.git_syntax.specs.Escapes.{HoldsExactly, path_set, password_set, user_set, is_path_escaped, is_password_escaped, is_user_escaped}

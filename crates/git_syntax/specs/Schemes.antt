@@ -1,4 +1,5 @@
--- What the scheme of a URL says: which one it is, how its host is read, and whether it needs a host and a path.
+-- What the scheme of a URL says: which one it is, how its host is read, and whether it needs a host and a
+-- path.
 use Rattle.std.specs.Prelude.{ℕ, Bool, true, false, ◌||◌, List, codes, bytes_eq, Option, Some, None, if◌then◌else◌}
 use Rattle.git_syntax.specs.Location.{Scheme}
 use Rattle.git_syntax.specs.Location.Scheme.{file, git, ssh, http, https, ext, helper, helper_url}

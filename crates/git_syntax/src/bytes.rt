@@ -1,8 +1,8 @@
 //! Cuts of a text around a byte or a mark, tests of its bytes, and bytes put where there is room.
 //!
-//! It stands on the searches of `bstr` and `memchr`, asks for no memory and uses nothing else of this crate. What a cut
-//! answers is reported as a concatenation: the pieces joined are the text, and one of them is free of what was
-//! searched for, so that no caller sees an index.
+//! It stands on the searches of `bstr` and `memchr`, asks for no memory and uses nothing else of this crate.
+//! What a cut answers is reported as a concatenation: the pieces joined are the text, and one of them is free
+//! of what was searched for, so that no caller sees an index.
 
 ghost use Rattle.std.specs.Prelude.{◌≡◌, ◌↔◌, ◌+◌, ◌≤◌, ◌++◌, IsTrue, length, take, vec_capacity, vec_len};
 ghost use Rattle.std.specs.List.{list_all};

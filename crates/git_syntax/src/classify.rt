@@ -1,7 +1,7 @@
 //! Which form a text has, and the pieces that it is cut into.
 //!
-//! It may use `bytes` and `ipv6`. Its contract: the answer names the form that the definitions give the text, and
-//! its pieces, joined by the marks of that form, are the text. It takes no memory.
+//! It may use `bytes` and `ipv6`. Its contract: the answer names the form that the definitions give the text,
+//! and its pieces, joined by the marks of that form, are the text. It takes no memory.
 
 ghost use Rattle.std.specs.Prelude.{◌≡◌, ◌<◌, ◌++◌, ◌∷◌, List, ℕ, MatchOption, length};
 ghost use Rattle.git_syntax.specs.Bytes.{FreeOf, colon, left_bracket, right_bracket, slash};
@@ -194,7 +194,8 @@ struct UserCut<'a> {
     behind: &'a [u8],
 }
 
-/// That user: the first colon is one of the address, which holds no `@`, so the user ends at the last `@` before it.
+/// That user: the first colon is one of the address, which holds no `@`, so the user ends at the last `@`
+/// before it.
 fn cut_addressed_user<'a>(bytes: &'a [u8], front: &'a [u8]) -> Option<UserCut<'a>>
     requires { IsColonFront bytes.now front.now }
     ensures { MatchOption result (¬ HasAddressedCut bytes.now)
@@ -258,8 +259,8 @@ fn cut_scp<'a>(bytes: &'a [u8], front: &'a [u8], rest: &'a [u8]) -> Option<(&'a 
     }
 }
 
-/// What is before and behind the first colon, or the first behind a closing bracket, where the text begins with
-/// an opening one.
+/// What is before and behind the first colon, or the first behind a closing bracket, where the text begins
+/// with an opening one.
 fn cut_front<'a>(bytes: &'a [u8], front: &'a [u8], rest: &'a [u8]) -> Option<(&'a [u8], &'a [u8])>
     requires { ColonCut bytes.now front.now rest.now }
     ensures { MatchOption result (¬ HasFrontCut bytes.now)

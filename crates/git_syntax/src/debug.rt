@@ -1,7 +1,7 @@
 //! What a log may hold of a refusal: `Debug`, with the length of a text in place of its bytes.
 //!
-//! It uses `refusal`. Otherwise the shape is the one that a derive gives. It takes no memory. The builders of std have no
-//! contract, so what they write is shown by tests.
+//! It uses `refusal`. Otherwise the shape is the one that a derive gives. It takes no memory. The builders of
+//! std have no contract, so what they write is shown by tests.
 
 ghost use Rattle.std.specs.Prelude.{◌++◌, Some, codes, decimal};
 

@@ -1,7 +1,7 @@
 //! The words of forms and faults, as the errors say them to people.
 //!
-//! It uses `refusal` alone and takes no memory. Its contract: the words are those of the definitions, whatever width,
-//! precision and flags are asked for, so they depend on nothing but the form or the fault.
+//! It uses `refusal` alone and takes no memory. Its contract: the words are those of the definitions,
+//! whatever width, precision and flags are asked for, so they depend on nothing but the form or the fault.
 
 ghost use Rattle.std.specs.Prelude.{Some};
 ghost use Rattle.git_syntax.specs.ErrorText.{kind_words, url_fault_words};

@@ -1,8 +1,9 @@
 //! Percent-encoding: the sets of bytes that are escaped, tests of escaped texts, and decoding.
 //!
-//! It uses the crates `percent_encoding` and `bstr`, `bytes` and `text`. Each test is exactly the definition in
-//! `specs/Escapes.antt` or `specs/Bytes.antt` that it is named after, and asks for no memory. `decoded` and
-//! `decoded_text` ask once, and not at all where the text is empty. A text without `%` is copied as it is.
+//! It uses the crates `percent_encoding` and `bstr`, `bytes` and `text`. Each test is exactly the definition
+//! in `specs/Escapes.antt` or `specs/Bytes.antt` that it is named after, and asks for no memory. `decoded`
+//! and `decoded_text` ask once, and not at all where the text is empty. A text without `%` is copied as it
+//! is.
 
 ghost use Rattle.std.specs.Prelude.{◌≡◌, ◌∷◌, ◌<◌, ◌+◌, ◌≤◌, ◌↔◌, IsTrue, IfOk, IsUtf8, length, take, true, drop, chars, string_bytes};
 ghost use Rattle.std.specs.Char.{is_digit, is_whitespace};
@@ -49,8 +50,8 @@ pub const PASSWORD: AsciiSet = ascii_set!(
 /// The bytes that a user is not written with: those of the password, and `:`.
 pub const USER: AsciiSet = ascii_set!(PASSWORD.add(b':'));
 
-/// Each set of escaped bytes is the documented set, of which the text of a location speaks, and holds exactly these bytes
-/// of ASCII; bytes past ASCII are always escaped.
+/// Each set of escaped bytes is the documented set, of which the text of a location speaks, and holds exactly
+/// these bytes of ASCII; bytes past ASCII are always escaped.
 ///
 /// - `path`: in a path of HTTP, the controls, the space, `"`, `%`, `<`, `>`, `` ` ``, `{` and `}`.
 /// - `password`: in a password, those and `#`, `/`, `?`, `@`, `[`, `\`, `]`, `^` and `|`.

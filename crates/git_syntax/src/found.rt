@@ -1,7 +1,7 @@
 //! What is found in a text: the slices that a location is made of.
 //!
-//! It may use `rules` and `url_syntax`. These are values without a copy of any byte, which `find` makes. Of them
-//! `build` makes a location that owns its bytes, and `lend` one that borrows them. The definitions in
+//! It may use `rules` and `url_syntax`. These are values without a copy of any byte, which `find` makes. Of
+//! them `build` makes a location that owns its bytes, and `lend` one that borrows them. The definitions in
 //! `specs/FoundPieces` say which location they mean.
 
 use crate::rules::Rules;

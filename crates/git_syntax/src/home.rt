@@ -1,6 +1,7 @@
 //! The front of a path: the `/` before a home folder, and the root in place of an empty path.
 //!
-//! It uses `bytes`, and asks for no memory. Its contract: each answer is that of the definition that it is named after.
+//! It uses `bytes`, and asks for no memory. Its contract: each answer is that of the definition that it is
+//! named after.
 
 ghost use Rattle.std.specs.Prelude.{◌≡◌, false, true};
 ghost use Rattle.git_syntax.specs.Grammar as grammar;

@@ -1,9 +1,9 @@
 //! The piece of an authority behind the user information: a host and a port.
 //!
-//! It may use `bytes`, `escape` and `ipv6`. Inside: `port` reads what follows a host, `bytes` tests the bytes of
-//! hosts and zones, `build` makes the text of a host. Its contract: a host and a port are read exactly where the
-//! definitions name them, as slices of the piece, and each refusal has its flaw. It takes no memory except for the text
-//! of a host, when that is built.
+//! It may use `bytes`, `escape` and `ipv6`. Inside: `port` reads what follows a host, `bytes` tests the bytes
+//! of hosts and zones, `build` makes the text of a host. Its contract: a host and a port are read exactly
+//! where the definitions name them, as slices of the piece, and each refusal has its flaw. It takes no memory
+//! except for the text of a host, when that is built.
 
 ghost use Rattle.std.specs.Prelude.{◌≡◌, ℕ, IsUtf8, ◌<◌, ◌↔◌, ◌++◌, ◌∷◌, List, Option, None, IsTrue, IfOk, IfErr, IfSome, MatchOption, false, length};
 ghost use Rattle.git_syntax.specs.Bytes.{FreeOf, begins_with, left_bracket, right_bracket};

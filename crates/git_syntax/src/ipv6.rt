@@ -1,16 +1,16 @@
 //! IPv6 and IPv4 texts, as a host of a location may be one.
 //!
-//! Stands on std's readers of addresses alone and takes no memory. Its tests are true exactly for an IPv6 text, of bytes
-//! or of text, and for an IPv4 text.
+//! Stands on std's readers of addresses alone and takes no memory. Its tests are true exactly for an IPv6
+//! text, of bytes or of text, and for an IPv4 text.
 
 ghost use Rattle.git_syntax.specs.Addresses.{IsIpv4Text, IsIpv6Text};
 ghost use Rattle.std.specs.Prelude.{IsTrue, ◌↔◌};
 
 use std::net::{Ipv4Addr, Ipv6Addr};
 
-/// Whether the text is eight groups of one to four hexadecimal digits joined by `:`, where one `::` may stand for one
-/// or more groups that are zero, and an IPv4 text for the last two (RFC 4291, section 2.2). Brackets and zones are no part
-/// of it. It takes no memory.
+/// Whether the text is eight groups of one to four hexadecimal digits joined by `:`, where one `::` may stand
+/// for one or more groups that are zero, and an IPv4 text for the last two (RFC 4291, section 2.2). Brackets
+/// and zones are no part of it. It takes no memory.
 ///
 /// ```
 /// fn needs_brackets(host: &str) -> bool {

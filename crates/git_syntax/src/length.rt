@@ -1,9 +1,10 @@
 //! The length test of URLs.
 //!
-//! It uses the tests of `bytes` and `scheme`, and asks for no memory. A walk takes what follows the `://` of a URL in any
-//! number of pieces, so that a text can be measured that is nowhere as a whole, and looks at no byte once nothing
-//! changes its outcome. Its contract: what follows the pieces has the outcome that it has behind them, and the outcome is
-//! the one that the definition of the length test says. A text that isn't longer than the limit is short without a walk.
+//! It uses the tests of `bytes` and `scheme`, and asks for no memory. A walk takes what follows the `://` of
+//! a URL in any number of pieces, so that a text can be measured that is nowhere as a whole, and looks at no
+//! byte once nothing changes its outcome. Its contract: what follows the pieces has the outcome that it has
+//! behind them, and the outcome is the one that the definition of the length test says. A text that isn't
+//! longer than the limit is short without a walk.
 
 ghost use Rattle.std.specs.Prelude.{◌≡◌, ◌↔◌, ◌++◌, [], List, ℕ, IsTrue, not};
 ghost use Rattle.std.specs.List.{count_by};

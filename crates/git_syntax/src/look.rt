@@ -1,6 +1,7 @@
 //! A look at a whole text: what is known of its bytes, decided once and passed on.
 //!
-//! It may use `bytes`, `escape` and `text`. Its contract: what is said of a text holds of it. It takes no memory.
+//! It may use `bytes`, `escape` and `text`. Its contract: what is said of a text holds of it. It takes no
+//! memory.
 
 ghost use Rattle.std.specs.Prelude.{◌≡◌, true};
 ghost use Rattle.git_syntax.specs.Escapes.{is_printable};

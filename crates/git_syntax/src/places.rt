@@ -1,7 +1,7 @@
 //! Where a fault is in a text: the first byte of a kind, broken escape or white space.
 //!
-//! It may use `bytes` and `escape`. Each function is called where a text is refused, and only there: it looks again for
-//! what its caller knows to be in the text. Its contract: there it is. It takes no memory.
+//! It may use `bytes` and `escape`. Each function is called where a text is refused, and only there: it looks
+//! again for what its caller knows to be in the text. Its contract: there it is. It takes no memory.
 
 ghost use Rattle.std.specs.Prelude.{◌≡◌, IsUtf8, false};
 ghost use Rattle.std.specs.Str.{IsValidUpTo};

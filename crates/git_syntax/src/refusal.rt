@@ -1,7 +1,7 @@
 //! Refusals: why a text spells no location, the form that it was taken for, and what is wrong with it.
 //!
-//! What these report of a text are numbers, names and a slice of it, so making one takes no memory. `error_text` says
-//! them to people, and `debug` to logs.
+//! What these report of a text are numbers, names and a slice of it, so making one takes no memory.
+//! `error_text` says them to people, and `debug` to logs.
 
 use thiserror::Error;
 
@@ -64,16 +64,17 @@ pub struct Fault {
     pub len: usize,
 }
 
-/// Why a text spells no location, and where: `len` bytes of the text are wrong, behind its first `at`. It borrows from the
-/// text, of which it holds at most a front.
+/// Why a text spells no location, and where: `len` bytes of the text are wrong, behind its first `at`. It
+/// borrows from the text, of which it holds at most a front.
 ///
-/// The place is what is there and should not be: the character that is white space, the `%` of a broken escape, the first
-/// backslash of an authority, the user, the password or the path that decodes to no text, the host that is none, or all of a
-/// piece whose colons mark no port, the text between brackets that is no host, a bracket that is not closed or what follows
-/// a closed one, all that is in a port's place, and what should be a scheme. Where something is missing, it is where that
-/// would be, and no byte long.
+/// The place is what is there and should not be: the character that is white space, the `%` of a broken
+/// escape, the first backslash of an authority, the user, the password or the path that decodes to no text,
+/// the host that is none, or all of a piece whose colons mark no port, the text between brackets that is no
+/// host, a bracket that is not closed or what follows a closed one, all that is in a port's place, and what
+/// should be a scheme. Where something is missing, it is where that would be, and no byte long.
 ///
-/// `Display` says it in words, which show no byte of the text; `Debug` shows the length of a front in place of its bytes.
+/// `Display` says it in words, which show no byte of the text; `Debug` shows the length of a front in place
+/// of its bytes.
 ///
 /// ```
 /// fn has_bad_port(refusal: &Refusal<'_>) -> bool {
@@ -110,7 +111,8 @@ pub enum Refusal<'a> {
     /// The scheme or the authority is too long.
     #[error("the scheme or the authority of the URL is longer than 1024 bytes, in a text of {total} bytes")]
     TooLong {
-        /// The front of the text: the scheme, `://` and the 1,024 bytes behind it, or the whole where it is shorter.
+        /// The front of the text: the scheme, `://` and the 1,024 bytes behind it, or the whole where it is
+        /// shorter.
         shown: &'a [u8],
         /// The length of the text, in bytes.
         total: usize,

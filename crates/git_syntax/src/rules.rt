@@ -1,7 +1,7 @@
 //! What the scheme of a URL says of the rest of it. It is decided once, and passed on.
 //!
-//! It may use `scheme` and the syntaxes of `host`, and asks for no memory. Its contract: each rule is the definition's,
-//! for the text of the scheme.
+//! It may use `scheme` and the syntaxes of `host`, and asks for no memory. Its contract: each rule is the
+//! definition's, for the text of the scheme.
 
 ghost use Rattle.std.specs.Prelude.{◌≡◌, false, true};
 ghost use Rattle.git_syntax.specs.Internal.HostPieces.{host_syntax};

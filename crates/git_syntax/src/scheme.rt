@@ -1,7 +1,7 @@
 //! Schemes: those that have a name of their own, and the others by name.
 //!
-//! It uses nothing of this crate but its errors. Its contract: names and default ports are those of the definitions, and a
-//! scheme's text names it to the letter.
+//! It uses nothing of this crate but its errors. Its contract: names and default ports are those of the
+//! definitions, and a scheme's text names it to the letter.
 
 ghost use Rattle.std.specs.Prelude.{◌≡◌, bytes_eq};
 ghost use Rattle.git_syntax.specs.Internal.SchemeRules.{scheme_named};

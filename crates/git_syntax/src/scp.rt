@@ -1,8 +1,8 @@
 //! The scp form, from the pieces that the classifier cut.
 //!
-//! It may use `bytes`, `text`, `escape`, `ipv6`, `host`, `found` and the errors. Its contract: the slices of a location
-//! are found exactly where the definitions spell one, and each refusal has its flaw. It takes no memory. An escape in
-//! the host is no escape: a `%` in it stands for itself.
+//! It may use `bytes`, `text`, `escape`, `ipv6`, `host`, `found` and the errors. Its contract: the slices of
+//! a location are found exactly where the definitions spell one, and each refusal has its flaw. It takes no
+//! memory. An escape in the host is no escape: a `%` in it stands for itself.
 
 ghost use Rattle.std.specs.Prelude.{◌≡◌, ◌↔◌, ◌∷◌, IfErr, IfOk, IsTrue, IsUtf8, false, length, ◌+◌, ◌<◌, ◌≤◌, true};
 ghost use Rattle.git_syntax.specs.Addresses.{IsZone};
@@ -167,8 +167,8 @@ fn has_no_white_space(plain: bool, text: &[u8]) -> bool
     plain || lacks_white_space(as_text(text))
 }
 
-/// Finds a host that has no bracket in front. Where it holds a colon, a bracket is behind that, so that no port
-/// follows.
+/// Finds a host that has no bracket in front. Where it holds a colon, a bracket is behind that, so that no
+/// port follows.
 fn find_name(host: &[u8]) -> Result<ScpHost<'_>, Fault>
     requires some { 0 < length host.now }
     requires open_front { begins_with left_bracket host.now ≡ false }
@@ -218,7 +218,8 @@ fn find_in_brackets(behind: &[u8]) -> Result<ScpHost<'_>, Fault>
     }
 }
 
-/// Whether the text is an IPv6 literal with its `%` unescaped: an address, or one with a `%` and a zone behind it.
+/// Whether the text is an IPv6 literal with its `%` unescaped: an address, or one with a `%` and a zone
+/// behind it.
 fn is_literal(text: &[u8]) -> bool
     ensures { IsTrue result ↔ IsLiteral (spec.escaped_percents text.now) }
 {

@@ -1,7 +1,7 @@
 //! The host of a URL as Secure Shell takes it: without brackets around it, and without a colon behind it.
 //!
-//! It may use `bytes` and `text`. Its contract: the host is the one that the definitions leave of the one that a URL
-//! names. It is edited in place, and no memory is asked for.
+//! It may use `bytes` and `text`. Its contract: the host is the one that the definitions leave of the one
+//! that a URL names. It is edited in place, and no memory is asked for.
 
 ghost use Rattle.std.specs.Prelude.{◌≡◌, ℕ, List, MatchOption, false, string_bytes, true};
 ghost use Rattle.git_syntax.specs.Bytes.{begins_with, left_bracket};

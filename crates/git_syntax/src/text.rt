@@ -1,13 +1,14 @@
 //! Texts: tests of whole texts, and bytes that are known to be UTF-8 taken as text.
 //!
-//! It uses nothing of this crate and asks for no memory. Its contract: each test is exactly the definition that it is
-//! named after. Where a caller shows that bytes are UTF-8, they become text without another look at them.
+//! It uses nothing of this crate and asks for no memory. Its contract: each test is exactly the definition
+//! that it is named after. Where a caller shows that bytes are UTF-8, they become text without another look
+//! at them.
 
 ghost use Rattle.std.specs.Prelude.{◌≡◌, ◌↔◌, IsTrue, IsUtf8, string_bytes};
 ghost use Rattle.git_syntax.specs.Escapes as spec;
 
-/// Whether each byte is printable ASCII and none is `%`. Such a text is UTF-8, holds no white space, and stands for
-/// itself.
+/// Whether each byte is printable ASCII and none is `%`. Such a text is UTF-8, holds no white space, and
+/// stands for itself.
 pub fn is_plain(text: &[u8]) -> bool
     ensures { result ≡ spec.is_plain text.now }
 {

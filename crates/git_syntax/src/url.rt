@@ -1,8 +1,8 @@
 //! URLs, from the pieces that the classifier cut: file URLs, and those whose scheme gives them a meaning.
 //!
-//! It may use `bytes`, `rules`, `length`, `look`, `text`, `url_syntax`, `found` and the errors. Its contract: the
-//! slices of a location are found exactly where the definitions spell one, and each refusal has its flaw. It takes no
-//! memory. The scheme is looked at once, here, and what it says of the rest is passed on.
+//! It may use `bytes`, `rules`, `length`, `look`, `text`, `url_syntax`, `found` and the errors. Its contract:
+//! the slices of a location are found exactly where the definitions spell one, and each refusal has its flaw.
+//! It takes no memory. The scheme is looked at once, here, and what it says of the rest is passed on.
 
 ghost use Rattle.std.specs.Prelude.{◌≡◌, ◌+◌, ◌<◌, ◌≤◌, ◌↔◌, IfErr, IfOk, IsTrue, codes, length, take};
 ghost use Rattle.git_syntax.specs.Authority.{Fits};

@@ -1,7 +1,8 @@
 //! The reader of URLs: scheme, user information, host, port and path, as slices of the text.
 //!
-//! It may use `bytes`, `escape`, `host`, `look` and `rules`. Its contract: the parts are read exactly where the definitions
-//! spell a URL with them, and each refusal has its flaw. It takes no memory and copies nothing.
+//! It may use `bytes`, `escape`, `host`, `look` and `rules`. Its contract: the parts are read exactly where
+//! the definitions spell a URL with them, and each refusal has its flaw. It takes no memory and copies
+//! nothing.
 
 ghost use Rattle.std.specs.Prelude.{◌≡◌, ◌↔◌, ◌⊎◌, IfErr, IfOk, IsTrue, IsUtf8};
 ghost use Rattle.percent_encoding.specs.Percent.{percent_decode};
@@ -59,8 +60,8 @@ struct CredentialSlices<'a> {
     password: Option<&'a [u8]>,
 }
 
-/// Reads the URL with this scheme, of which these are the rules, and this rest behind `://`. It is no file URL, and
-/// no remote helper. What is known of the text isn't looked for again.
+/// Reads the URL with this scheme, of which these are the rules, and this rest behind `://`. It is no file
+/// URL, and no remote helper. What is known of the text isn't looked for again.
 pub(crate) fn read_url_syntax<'a>(
     text: &'a str,
     look: Look,

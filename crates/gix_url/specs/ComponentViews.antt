@@ -28,7 +28,8 @@ pair_bytes pair = (text_bytes pair.0, text_bytes pair.1)
 abbrev pub pair_lent : QueryText × QueryText → Bool × Bool
 pair_lent pair = (is_borrowed pair.0, is_borrowed pair.1)
 
--- which names and which values of the query are lent, in order, where there is a query; a path and a fragment always are
+-- which names and which values of the query are lent, in order, where there is a query; a path and a fragment
+-- always are
 abbrev pub what_is_lent : PathComponents → Option (List (Bool × Bool))
 what_is_lent parts = option_map (λ pairs. map pair_lent pairs.items) parts.query
 
@@ -40,8 +41,8 @@ components parts = record {
   fragment = option_map bstr_bytes parts.fragment;
 }
 
--- a name or a value of the query: a text of its own exactly where a raw `+` is in the piece that it was cut out as,
--- and else lent, so that its bytes are in the path
+-- a name or a value of the query: a text of its own exactly where a raw `+` is in the piece that it was cut
+-- out as, and else lent, so that its bytes are in the path
 abbrev pub LentTerm : Location → List ℕ → QueryText → Type 0
 LentTerm v piece (Borrowed text) = FreeOf plus_sign piece × Holds (bstr_bytes text) v.path
 LentTerm v piece (Owned text) = ¬ FreeOf plus_sign piece

@@ -1,5 +1,5 @@
--- Flaws: what is in a text that is refused. Each error names one, and the flaw that it names is there. A flaw has
--- its place: it is the `len` bytes behind the first `at`.
+-- Flaws: what is in a text that is refused. Each error names one, and the flaw that it names is there. A flaw
+-- has its place: it is the `len` bytes behind the first `at`.
 use Rattle.std.specs.Prelude.{◌≡◌, ℕ, List, [], length, IsUtf8}
 use Rattle.std.specs.Str.{IsValidUpTo}
 use Rattle.bstr.specs.Owned.{bstring_bytes}
@@ -7,7 +7,8 @@ use Rattle.gix_url.specs.declared.error.Error.{Error}
 use Rattle.gix_url.specs.declared.error.Error.TheVariants as error
 pub use Rattle.git_syntax.specs.Flaws.{IsNoPort, HasBadPort, IsPortPlace, IsNoHost, IsNoInner, BracketsAround, HasBadHost, HostPortFlaw, PieceOf, HasBadUser, AuthorityFlaw, UrlForm, OtherUrlForm, UrlCut, UrlFlaw, ScpNameFlaw, ScpHostFlaw, ScpFlaw, MissesPath, HasForm, TooLongAt, IsTooLong, KindFlaw, NamesFlaw}
 
--- the flaw that the error names is in the bytes, at the place that it reports, and the error holds what it reports of them
+-- the flaw that the error names is in the bytes, at the place that it reports, and the error holds what it
+-- reports of them
 abbrev pub Flaw : List ℕ → Error → Type 0
 Flaw b error.Memory = Unit {0}
 Flaw b error.EmptyLocal = b ≡ []

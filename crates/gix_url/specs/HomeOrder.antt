@@ -1,4 +1,5 @@
--- Equality, order and hash of users of home folders: the current user comes first, others by the bytes of their names.
+-- Equality, order and hash of users of home folders: the current user comes first, others by the bytes of
+-- their names.
 use Rattle.std.specs.Prelude.{◌≡◌, Bool, true, List, ◌++◌, ℕ, Option, Some, None}
 use mathlib.Core.Path.{refl, sym, ap, ◌∙◌}
 use Rattle.std.specs.Bool.{Decides}

@@ -52,7 +52,8 @@ Expansion is_home user path (Err error.Memory) = Unit {0}
 Expansion is_home user path (Err (error.NoHome who)) = is_home None × (user_of who ≡ user)
 Expansion is_home user path (Err _) = ⊥
 
--- what an expansion by the home folder of the current user answers: the expanded path, or that the user has none
+-- what an expansion by the home folder of the current user answers: the expanded path, or that the user has
+-- none
 abbrev pub AnswersExpanded : Option (List ℕ) → Option HomeUser → List ℕ → Result (String Global) Error
     → Type 0
 AnswersExpanded home user path (Ok text) = Expands home user path (Some (string_bytes text))
@@ -68,7 +69,8 @@ IsUnexpanded user path (error.NoHome who) = IsUtf8 path × (user ≡ Some (user_
 IsUnexpanded user path error.Memory = IsUtf8 path
 IsUnexpanded user path _ = ⊥
 
--- why the path of a location wasn't resolved: it is that of a local one, and no text, or the resolver has none for it
+-- why the path of a location wasn't resolved: it is that of a local one, and no text, or the resolver has
+-- none for it
 abbrev pub IsUnresolved : Location → Error → Type 0
 IsUnresolved v error.PathNotUtf8 = (v.scheme ≡ file) × ¬ IsUtf8 v.path
 IsUnresolved v error.Unresolved = (v.scheme ≡ file) × IsUtf8 v.path

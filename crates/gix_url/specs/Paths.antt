@@ -38,7 +38,8 @@ pub record HasPieces (text first : List ℕ) (pieces : List (List ℕ)) : Type 0
   pub each : HoldsPieces pieces behind
   pub whole : text ≡ first ++ behind
 
--- a text without its first component, which is the root or the first segment: the pieces behind, with a `/` between each two
+-- a text without its first component, which is the root or the first segment: the pieces behind, with a `/`
+-- between each two
 abbrev pub WithoutFirst : List ℕ → List ℕ → Type 0
 WithoutFirst text rest = (first : List ℕ) × (pieces : List (List ℕ)) × HasPieces text first pieces
     × (rest ≡ join_with_byte slash pieces)

@@ -1,8 +1,8 @@
 //! The parts of a location: looked at, exchanged, and the location that has none of them.
 //!
-//! It uses `location` and `scheme`, and takes no memory. Its contracts: what is returned is the field, and of the
-//! spelling of the path whether it is retained; what is stored is there from then on, the old value comes back, and no
-//! other part changes.
+//! It uses `location` and `scheme`, and takes no memory. Its contracts: what is returned is the field, and of
+//! the spelling of the path whether it is retained; what is stored is there from then on, the old value comes
+//! back, and no other part changes.
 
 ghost use Rattle.std.specs.Prelude.{◌≡◌, ◌↔◌, IsSome, IsTrue, [], ◌∷◌, false, option_map, string_bytes};
 ghost use Rattle.std.specs.Option.{option_or};
@@ -18,8 +18,8 @@ use std::alloc::Global;
 use std::mem;
 
 impl Url {
-    /// The location with nothing in it: Secure Shell, an empty path, no other part, and the flag not set. It takes no
-    /// memory, since nothing empty does.
+    /// The location with nothing in it: Secure Shell, an empty path, no other part, and the flag not set. It
+    /// takes no memory, since nothing empty does.
     ///
     /// It is a value to put parts into, and not settled as it is: its text is `ssh:///`.
     ///
@@ -62,7 +62,8 @@ impl Url {
 
     /// The password, decoded, if there is one. It takes no memory.
     ///
-    /// Neither `Display` nor `Debug` shows this field. The text of the location does, unless there is no user.
+    /// Neither `Display` nor `Debug` shows this field. The text of the location does, unless there is no
+    /// user.
     ///
     /// ```
     /// fn asks_for_password(url: &Url) -> bool {
@@ -77,8 +78,8 @@ impl Url {
 
     /// The host, if there is one. It takes no memory.
     ///
-    /// Secure Shell has an IPv6 text without its brackets, other schemes with them where the text had them. A host may
-    /// begin with `-`: a command gets it by [`Url::host_as_argument`].
+    /// Secure Shell has an IPv6 text without its brackets, other schemes with them where the text had them. A
+    /// host may begin with `-`: a command gets it by [`Url::host_as_argument`].
     ///
     /// ```
     /// fn is_here(url: &Url) -> bool {
@@ -109,8 +110,8 @@ impl Url {
 
     /// Whether the path is `/`. It takes no memory.
     ///
-    /// So it is of `https://host`, which has no path in its text. Of `https://host/?x` it isn't: an HTTP path holds the
-    /// query and the fragment.
+    /// So it is of `https://host`, which has no path in its text. Of `https://host/?x` it isn't: an HTTP path
+    /// holds the query and the fragment.
     ///
     /// ```
     /// fn names_a_repository(url: &Url) -> bool {
@@ -125,9 +126,10 @@ impl Url {
 
     /// Whether a spelling of the path is retained, with its escapes. It takes no memory.
     ///
-    /// Reading retains the spelling of a path in which an escape is. The spelling is no public field, but equality,
-    /// order and hash see it, and the text of the location has it where it still stands for the path. Where there is
-    /// none, the location is its public fields and nothing else: two such locations with the same fields are equal.
+    /// Reading retains the spelling of a path in which an escape is. The spelling is no public field, but
+    /// equality, order and hash see it, and the text of the location has it where it still stands for the
+    /// path. Where there is none, the location is its public fields and nothing else: two such locations with
+    /// the same fields are equal.
     ///
     /// ```
     /// fn is_plain(alloc: Global, text: &str) -> Result<bool, Error> {
@@ -159,7 +161,8 @@ impl Url {
         mem::replace(&mut self.user, user)
     }
 
-    /// Stores another password, or none, and returns the one before. It takes no memory; no other part changes.
+    /// Stores another password, or none, and returns the one before. It takes no memory; no other part
+    /// changes.
     ///
     /// A password without a user is not written.
     ///
@@ -178,8 +181,8 @@ impl Url {
 
     /// The same location, asked to be written in the form that is no URL, or not to be. It takes no memory.
     ///
-    /// `file:///path` is written as `/path` then, and `ssh://host/path` as `host:/path`. Where a location has no such
-    /// form, as with a port, its text stays.
+    /// `file:///path` is written as `/path` then, and `ssh://host/path` as `host:/path`. Where a location has
+    /// no such form, as with a port, its text stays.
     ///
     /// ```
     /// fn as_path(alloc: Global) -> Result<BString, Error> {

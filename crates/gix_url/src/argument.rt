@@ -29,8 +29,8 @@ impl Url {
 
     /// The host as an argument of a command. It takes no memory.
     ///
-    /// A host may begin with `-`. Secure Shell has an IPv6 text without its brackets, other schemes with them where the
-    /// text had them.
+    /// A host may begin with `-`. Secure Shell has an IPv6 text without its brackets, other schemes with them
+    /// where the text had them.
     ///
     /// ```
     /// fn is_refused_host(url: &Url) -> bool {
@@ -81,8 +81,8 @@ impl Url {
 
     /// The whole path, where it begins with `/` and the byte behind that isn't `-`. It takes no memory.
     ///
-    /// A path that begins with `~` or is relative is not returned. `/` alone is. The path is decoded, may be any bytes,
-    /// and is not quoted for a shell.
+    /// A path that begins with `~` or is relative is not returned. `/` alone is. The path is decoded, may be
+    /// any bytes, and is not quoted for a shell.
     ///
     /// ```
     /// fn served(url: &Url) -> Option<BStr<'_>> {

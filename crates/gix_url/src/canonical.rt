@@ -1,8 +1,8 @@
 //! Canonical paths: a local location with its path resolved.
 //!
-//! It uses `location`, `copy` and `error`. What resolves a path is given as a closure. Its contract: the path of a
-//! local location becomes what the closure answers, and nothing else changes; after an error nothing did, and which
-//! errors come where is said.
+//! It uses `location`, `copy` and `error`. What resolves a path is given as a closure. Its contract: the path
+//! of a local location becomes what the closure answers, and nothing else changes; after an error nothing
+//! did, and which errors come where is said.
 
 ghost use Rattle.std.specs.Prelude.{◌≡◌, ◌⊎◌, Err, IfErr, IfOk, IsUtf8, MatchOption, MatchResult, None, Ok, Some, string_bytes};
 ghost use Rattle.std.specs.Fn.{FnOnceReturnsAt, FnOnceTakesAt};
@@ -20,9 +20,9 @@ use std::alloc::Global;
 impl Url {
     /// Puts what `resolve` answers for the path in its place, if the location is a local one.
     ///
-    /// `resolve` is called once, with the path, where the scheme is `File` and the path is text. Its answer becomes the
-    /// path as it is, without a copy. A location of any other scheme stays as it is, and `resolve` is not called. No other
-    /// part changes. This takes no memory but what `resolve` takes.
+    /// `resolve` is called once, with the path, where the scheme is `File` and the path is text. Its answer
+    /// becomes the path as it is, without a copy. A location of any other scheme stays as it is, and
+    /// `resolve` is not called. No other part changes. This takes no memory but what `resolve` takes.
     ///
     /// # Errors
     ///
@@ -71,7 +71,8 @@ impl Url {
         }
     }
 
-    /// A copy of the location with what `resolve` answers for the path in its place, if the location is a local one:
+    /// A copy of the location with what `resolve` answers for the path in its place, if the location is a
+    /// local one:
     /// [`Url::clone`], and then [`Url::canonicalize`] of the copy. All other parts are those of the location.
     ///
     /// # Errors

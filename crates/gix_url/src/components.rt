@@ -1,9 +1,9 @@
 //! What the path of a location is made of: on the web a path, a query and a fragment, lent without copying.
 //!
-//! It may use `home`, `location`, `scheme`, `url_ref`, the spelling that `writer` finds to match, and the rooms
-//! below: `cuts` cuts a text together with what it stands for, `measure` counts that, `fields` goes over the
-//! fields of a query, and `lend` returns their names and values. Its contract: the answer is what the
-//! definitions cut out of the path, for every location. Pieces are cut first and stand for bytes after,
+//! It may use `home`, `location`, `scheme`, `url_ref`, the spelling that `writer` finds to match, and the
+//! rooms below: `cuts` cuts a text together with what it stands for, `measure` counts that, `fields` goes
+//! over the fields of a query, and `lend` returns their names and values. Its contract: the answer is what
+//! the definitions cut out of the path, for every location. Pieces are cut first and stand for bytes after,
 //! whatever is escaped in them. Memory is asked for once for the list of a query's names and values, where
 //! there is one to hold, and once for each of them that has a raw `+`.
 
@@ -31,8 +31,8 @@ use git_syntax::home::or_root;
 use git_syntax::scheme::SchemeRef;
 use std::alloc::{AllocError, Global};
 
-/// The path of a location with the query and the fragment that are in it, as they are meant: escapes stand for
-/// their bytes, where the location's spelling has them. It is what [`Url::path_query_fragment`] answers.
+/// The path of a location with the query and the fragment that are in it, as they are meant: escapes stand
+/// for their bytes, where the location's spelling has them. It is what [`Url::path_query_fragment`] answers.
 ///
 /// ```
 /// fn fragment_of<'a>(parts: &PathComponents<'a>) -> Option<BStr<'a>> {
@@ -43,7 +43,8 @@ use std::alloc::{AllocError, Global};
 pub struct PathComponents<'a> {
     /// The path before the query and the fragment.
     pub path: BStr<'a>,
-    /// The names and values of the query, in order, if there is a query. A field without `=` has an empty value.
+    /// The names and values of the query, in order, if there is a query. A field without `=` has an empty
+    /// value.
     pub query: Option<Vec<(QueryText<'a>, QueryText<'a>)>>,
     /// The fragment, if there is one.
     pub fragment: Option<BStr<'a>>,
@@ -65,20 +66,21 @@ pub enum QueryText<'a> {
 }
 
 impl Url {
-    /// The path, the query and the fragment of a location of HTTP, whose marks are those of RFC 3986. Any other
-    /// location has its path alone.
+    /// The path, the query and the fragment of a location of HTTP, whose marks are those of RFC 3986. Any
+    /// other location has its path alone.
     ///
-    /// The [original path](Url::original_path) is cut first: the query begins behind the first `?` before any `#`,
-    /// the fragment behind the first `#`; the query has its fields between `&`, and a field its value behind its
-    /// first `=`. Empty fields are left out. What an escape stands for comes after, so `%26` parts nothing; and where
-    /// the original path is no spelling, as in a path that a program assigned, an escape stands for itself. A raw `+`
-    /// in a name or a value is a space, as in forms of HTML. An empty path is `/`.
+    /// The [original path](Url::original_path) is cut first: the query begins behind the first `?` before any
+    /// `#`, the fragment behind the first `#`; the query has its fields between `&`, and a field its value
+    /// behind its first `=`. Empty fields are left out. What an escape stands for comes after, so `%26` parts
+    /// nothing; and where the original path is no spelling, as in a path that a program assigned, an escape
+    /// stands for itself. A raw `+` in a name or a value is a space, as in forms of HTML. An empty path is
+    /// `/`.
     ///
     /// Nothing is checked beyond that: a name may come twice, `..` may be in the path, and any byte may be
     /// anywhere.
     ///
-    /// The parts are lent from the location. Memory is asked for once for the list of names and values, where there
-    /// is one, and once for each name or value with a raw `+`.
+    /// The parts are lent from the location. Memory is asked for once for the list of names and values, where
+    /// there is one, and once for each name or value with a raw `+`.
     ///
     /// # Errors
     ///
@@ -116,8 +118,8 @@ impl Url {
 }
 
 impl<'a> PathComponents<'a> {
-    /// The path, the query and the fragment of a location that is borrowed, as [`Url::path_query_fragment`] has them.
-    /// They are lent from what lends the location, and live as long.
+    /// The path, the query and the fragment of a location that is borrowed, as [`Url::path_query_fragment`]
+    /// has them. They are lent from what lends the location, and live as long.
     ///
     /// # Errors
     ///

@@ -1,7 +1,8 @@
 //! Copies of locations, of schemes, and of the parts that own memory.
 //!
-//! It uses `scheme` and `location`. Its contract: a copy is an equal value that shares nothing with the original, and
-//! only memory can be wanting. Each copy of a part asks for memory once, and not at all where there are no bytes.
+//! It uses `scheme` and `location`. Its contract: a copy is an equal value that shares nothing with the
+//! original, and only memory can be wanting. Each copy of a part asks for memory once, and not at all where
+//! there are no bytes.
 
 ghost use Rattle.std.specs.Prelude.{◌≡◌, None, IfErr, IfOk, IsOk, option_map, string_bytes};
 ghost use Rattle.bstr.specs.Owned.{bstring_bytes};
@@ -15,8 +16,8 @@ use bstr::BString;
 use std::alloc::{AllocError, Global};
 
 impl Scheme {
-    /// A copy of the scheme. It asks for memory once for a name that isn't empty, and not at all for a scheme with a
-    /// name of its own.
+    /// A copy of the scheme. It asks for memory once for a name that isn't empty, and not at all for a scheme
+    /// with a name of its own.
     ///
     /// The copy is equal to the scheme, and neither notices what becomes of the other.
     ///
@@ -49,10 +50,12 @@ impl Scheme {
 }
 
 impl Url {
-    /// A copy of the location, the retained spelling of its path included. It asks for memory once for each text in it
-    /// that isn't empty: a name that the scheme holds, the user, the password, the host, the path and the spelling.
+    /// A copy of the location, the retained spelling of its path included. It asks for memory once for each
+    /// text in it that isn't empty: a name that the scheme holds, the user, the password, the host, the path
+    /// and the spelling.
     ///
-    /// The copy is equal to the location, and neither notices what becomes of the other. It holds the password, too.
+    /// The copy is equal to the location, and neither notices what becomes of the other. It holds the
+    /// password, too.
     ///
     /// # Errors
     ///

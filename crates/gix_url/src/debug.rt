@@ -1,13 +1,15 @@
-//! What a log may hold of a location and of an error: `Debug`, without the field `password` and without refused texts.
+//! What a log may hold of a location and of an error: `Debug`, without the field `password` and without
+//! refused texts.
 //!
-//! It uses the word of Display for what is in place of a password. A location shows every part but that field; an
-//! error shows the length of a text that was refused, and never its bytes. Otherwise the shape is the one that a
-//! derive gives. It takes no memory. The builders of std have no contract, so what they write is shown by tests.
+//! It uses the word of Display for what is in place of a password. A location shows every part but that
+//! field; an error shows the length of a text that was refused, and never its bytes. Otherwise the shape is
+//! the one that a derive gives. It takes no memory. The builders of std have no contract, so what they write
+//! is shown by tests.
 //!
-//! Nothing else is hidden. A secret may also be where the grammar puts no password, and a log shows it there: as the
-//! user of `https://token@h/p`; in the host of `file://u:secret@h/p`, which is `u:secret@h`; in the path of
-//! `u:secret@h:p`, which is `secret@h:p` on the host `u`; in the path of `https://h/?token=secret`, and with escapes in
-//! the retained spelling too; in a local path and in the address of a remote helper.
+//! Nothing else is hidden. A secret may also be where the grammar puts no password, and a log shows it there:
+//! as the user of `https://token@h/p`; in the host of `file://u:secret@h/p`, which is `u:secret@h`; in the
+//! path of `u:secret@h:p`, which is `secret@h:p` on the host `u`; in the path of `https://h/?token=secret`,
+//! and with escapes in the retained spelling too; in a local path and in the address of a remote helper.
 
 ghost use Rattle.std.specs.Prelude.{◌≡◌, length};
 ghost use Rattle.bstr.specs.Owned.{bstring_bytes};

@@ -14,9 +14,10 @@ impl fmt::Display for Url {
 
     ghost styled_output = { λ url _. display url };
 
-    /// Shows the text of the location with `redacted` in place of the field `password`, and U+FFFD in place of what is
-    /// no UTF-8. A secret that is in another field is shown. Width, precision and flags change nothing. It fails
-    /// where there is no such text, and then shows nothing; and where the formatter fails. It takes no memory.
+    /// Shows the text of the location with `redacted` in place of the field `password`, and U+FFFD in place
+    /// of what is no UTF-8. A secret that is in another field is shown. Width, precision and flags change
+    /// nothing. It fails where there is no such text, and then shows nothing; and where the formatter fails.
+    /// It takes no memory.
     ///
     /// ```
     /// fn log_line(alloc: Global, url: &Url) -> Result<String, AllocError> {

@@ -1,7 +1,7 @@
 //! The errors of the library: what a text or a value is refused for.
 //!
-//! No call answers an error whose contract doesn't name it. The words of an error hold no byte of the text that was
-//! refused, in which a password may be; those of `TooLong` report its length.
+//! No call answers an error whose contract doesn't name it. The words of an error hold no byte of the text
+//! that was refused, in which a password may be; those of `TooLong` report its length.
 
 ghost use Rattle.std.specs.Prelude.{◌≡◌, ◌↔◌, IsTrue};
 
@@ -14,11 +14,12 @@ use thiserror::Error;
 
 /// Why a text or a value was refused.
 ///
-/// `Display` says it in words, `Debug` by its fields. Neither shows bytes of a text that was refused, which may hold a
-/// password: `Debug` shows their length, and the user of `NoHome` as it is. The bytes are in the fields.
+/// `Display` says it in words, `Debug` by its fields. Neither shows bytes of a text that was refused, which
+/// may hold a password: `Debug` shows their length, and the user of `NoHome` as it is. The bytes are in the
+/// fields.
 ///
-/// The errors of reading report where the text is wrong, as a [`Refusal`](crate::Refusal) does: `len` bytes of it, behind its
-/// first `at`.
+/// The errors of reading report where the text is wrong, as a [`Refusal`](crate::Refusal) does: `len` bytes
+/// of it, behind its first `at`.
 ///
 /// ```
 /// /// Whether the same text can be read at another time: nothing is wrong with it.
@@ -57,7 +58,8 @@ pub enum Error {
     /// The scheme or the authority is too long.
     #[error("the scheme or the authority of the URL is longer than 1024 bytes, in a text of {total} bytes")]
     TooLong {
-        /// The front of the text: the scheme, `://` and the 1,024 bytes behind it, or the whole where it is shorter.
+        /// The front of the text: the scheme, `://` and the 1,024 bytes behind it, or the whole where it is
+        /// shorter.
         shown: BString,
         /// The length of the text, in bytes.
         total: usize,
@@ -101,8 +103,8 @@ pub enum Error {
 }
 
 impl Error {
-    /// Whether memory was refused. No other error comes for that, and this one says nothing of what was given: the same
-    /// call can succeed later. It takes no memory.
+    /// Whether memory was refused. No other error comes for that, and this one says nothing of what was
+    /// given: the same call can succeed later. It takes no memory.
     ///
     /// ```
     /// /// Whether something is wrong with what was given, and not that memory was refused.

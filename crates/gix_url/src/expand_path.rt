@@ -1,7 +1,7 @@
 //! Home folders: whose folder a path means, and where the path lies then.
 //!
-//! It uses `error`. What the world knows of home folders is given: by a closure or as a text. Its contracts are the
-//! definitions of home folders and of paths as text; besides them only memory can be wanting.
+//! It uses `error`. What the world knows of home folders is given: by a closure or as a text. Its contracts
+//! are the definitions of home folders and of paths as text; besides them only memory can be wanting.
 
 ghost use Rattle.std.specs.Prelude.{◌≡◌, Err, IfErr, IfOk, IfSome, IsOk, IsUtf8, None, Ok, Some, false, option_map, string_bytes};
 ghost use Rattle.std.specs.Fn.{FnOnceReturnsAt};
@@ -28,7 +28,8 @@ use std::alloc::{AllocError, Global};
 use text::path_text;
 
 impl ForUser {
-    /// An equal user. It asks for memory once for a name that isn't empty, and not at all for the current user.
+    /// An equal user. It asks for memory once for a name that isn't empty, and not at all for the current
+    /// user.
     ///
     /// ```
     /// fn two_of(alloc: Global, user: ForUser) -> Result<(ForUser, ForUser), Error> {
@@ -66,8 +67,9 @@ impl From<ForUser> for Option<BString> {
 
 /// The user in whose home folder a path begins, if it begins with `/~`, and the path below that folder.
 ///
-/// `/~` and `/~/rest` mean the current user, `/~name` and `/~name/rest` the user of that name. What is left is `/` and
-/// the rest, in which U+FFFD stands for what is no UTF-8. Any other path has no user, and comes back unchanged.
+/// `/~` and `/~/rest` mean the current user, `/~name` and `/~name/rest` the user of that name. What is left
+/// is `/` and the rest, in which U+FFFD stands for what is no UTF-8. Any other path has no user, and comes
+/// back unchanged.
 ///
 /// # Errors
 ///
@@ -139,14 +141,15 @@ fn shell_path(alloc: Global, path: &[u8]) -> Result<Option<BString>, AllocError>
 
 /// The path, below the home folder that `home` answers for its user.
 ///
-/// Without a user it is the path itself, and `home` is not called. With a user `home` is called once, with that user;
-/// the path without its first component (the `/`, or the first segment) is joined to what it answers, without empty
-/// segments and `.`.
+/// Without a user it is the path itself, and `home` is not called. With a user `home` is called once, with
+/// that user; the path without its first component (the `/`, or the first segment) is joined to what it
+/// answers, without empty segments and `.`.
 ///
 /// # Errors
 ///
 /// [`Error::PathNotUtf8`], where the path is no text; that is tested first, and takes no memory. [`Error::NoHome`], with
-/// the user, where `home` answers none. [`Error::Memory`], where the path can't be appended or the user can't be copied.
+/// the user, where `home` answers none. [`Error::Memory`], where the path can't be appended or the user can't
+/// be copied.
 ///
 /// ```
 /// /// The path, where all users have their home folders in `/home`.
@@ -187,9 +190,10 @@ pub fn with<F: FnOnce(&ForUser) -> Option<String> + Drop>(
 
 /// The path, below the home folder of its user, by that of the current user: others have theirs beside it.
 ///
-/// Without a user it is the path itself. The path of the current user lies below `home`; that of another user below the
-/// folder of that name in the parent of `home`, with U+FFFD for what is no UTF-8 in the name. The path without its
-/// first component (the `/`, or the first segment) is joined to that folder, without empty segments and `.`.
+/// Without a user it is the path itself. The path of the current user lies below `home`; that of another user
+/// below the folder of that name in the parent of `home`, with U+FFFD for what is no UTF-8 in the name. The
+/// path without its first component (the `/`, or the first segment) is joined to that folder, without empty
+/// segments and `.`.
 ///
 /// # Errors
 ///

@@ -1,8 +1,8 @@
 //! A location made of its parts: their text is written once, and what comes out is what that text is read as.
 //!
-//! It uses `reread`, and `bytes` for the names of remote helpers. Its contract: the answer is what is read of the text
-//! of the parts, and HTTP keeps the path that was given; settled parts come back equal; a name that no remote helper can
-//! have and a fault of that text are refused as such.
+//! It uses `reread`, and `bytes` for the names of remote helpers. Its contract: the answer is what is read of
+//! the text of the parts, and HTTP keeps the path that was given; settled parts come back equal; a name that
+//! no remote helper can have and a fault of that text are refused as such.
 
 ghost use Rattle.std.specs.Prelude.{◌≡◌, None, Some, IfErr, IfOk, option_map, string_bytes};
 ghost use Rattle.bstr.specs.Owned.{bstring_bytes};
@@ -19,18 +19,19 @@ use std::alloc::Global;
 impl Url {
     /// The location that the text of these parts means: they are written as one text, and that is read.
     ///
-    /// What comes out may have other parts than were given: a `https` host `h` with the path `repo` is written
-    /// `https://hrepo`, which names the host `hrepo`. Settled parts come back equal: every public field as it was given,
-    /// and no spelling. `Http` and `Https` keep the given path unless it is empty, and no spelling of it; where the text
-    /// meant another path, what comes out may be unsettled, see [`Url::is_settled`]. The last argument asks for the form
-    /// that is no URL, where the scheme has one; what comes out has the form of the text.
+    /// What comes out may have other parts than were given: a `https` host `h` with the path `repo` is
+    /// written `https://hrepo`, which names the host `hrepo`. Settled parts come back equal: every public
+    /// field as it was given, and no spelling. `Http` and `Https` keep the given path unless it is empty, and
+    /// no spelling of it; where the text meant another path, what comes out may be unsettled, see
+    /// [`Url::is_settled`]. The last argument asks for the form that is no URL, where the scheme has one;
+    /// what comes out has the form of the text.
     ///
-    /// What to know of the parts: a path of HTTP holds the query and the fragment; an IPv6 text of Secure Shell is
-    /// without brackets; the port can be 0 outside of HTTP; user and host can begin with `-`, so ask before they go
-    /// into a command line.
+    /// What to know of the parts: a path of HTTP holds the query and the fragment; an IPv6 text of Secure
+    /// Shell is without brackets; the port can be 0 outside of HTTP; user and host can begin with `-`, so ask
+    /// before they go into a command line.
     ///
-    /// Memory is asked for once for the text, and then as [`crate::parse::parse`] does. The arguments are used up,
-    /// also by a refusal.
+    /// Memory is asked for once for the text, and then as [`crate::parse::parse`] does. The arguments are
+    /// used up, also by a refusal.
     ///
     /// ```
     /// /// A remote of a user on this host, by Secure Shell.
@@ -43,8 +44,8 @@ impl Url {
     ///
     /// [`Error::HelperName`] exactly for a remote helper by a name that no helper can have, with that name. Else
     /// [`Error::Unwritable`] exactly where the parts have no text. Both ask for no memory. Where the text spells no
-    /// location, what it is refused with, which reports on the text. [`Error::Memory`] where memory is refused, and for
-    /// settled parts no other.
+    /// location, what it is refused with, which reports on the text. [`Error::Memory`] where memory is
+    /// refused, and for settled parts no other.
     #[allow(clippy::too_many_arguments)]
     pub fn from_parts(
         alloc: Global,

@@ -8,32 +8,35 @@ ghost use Rattle.git_location.specs.GitClass.{AgreesWithGit};
 use crate::location::Url;
 
 impl Url {
-    /// Whether Git reads this very place in the text of the location: the same scheme, user, host, port and path. The
-    /// brackets around an address of IPv6 don't count: of `git://[::1]/p` the host here is `[::1]`, and Git connects to
-    /// `::1`. It takes no memory.
+    /// Whether Git reads this very place in the text of the location: the same scheme, user, host, port and
+    /// path. The brackets around an address of IPv6 don't count: of `git://[::1]/p` the host here is `[::1]`,
+    /// and Git connects to `::1`. It takes no memory.
     ///
-    /// Hand Git the text that [`Url::to_bstring`] writes, and not another one that was read as the location: of
-    /// `ssh://@h/p`, which is written as `ssh://h/p`, the answer is yes, and Git would give Secure Shell the word `@h`, which
-    /// it refuses. What Git reads is a definition, `GitReads`. No proof says that Git keeps to it: a second reading of it
-    /// was compared with git 2.39.5 on Linux, text by text. `docs/GIT.md` has the cases.
+    /// Hand Git the text that [`Url::to_bstring`] writes, and not another one that was read as the location:
+    /// of `ssh://@h/p`, which is written as `ssh://h/p`, the answer is yes, and Git would give Secure Shell
+    /// the word `@h`, which it refuses. What Git reads is a definition, `GitReads`. No proof says that Git
+    /// keeps to it: a second reading of it was compared with git 2.39.5 on Linux, text by text. `docs/GIT.md`
+    /// has the cases.
     ///
-    /// Git hands a text of HTTP to curl, and asks its credential code for a password. Of such a location, yes says that in
-    /// the text this code reads the location's own scheme, user, password, host with port, and path, and that the text is a
-    /// URI of RFC 3986 in the normal form, whose components are the location's own (`ReadsOwnOverWeb`). Such a location is
-    /// settled, and
+    /// Git hands a text of HTTP to curl, and asks its credential code for a password. Of such a location, yes
+    /// says that in the text this code reads the location's own scheme, user, password, host with port, and
+    /// path, and that the text is a URI of RFC 3986 in the normal form, whose components are the location's
+    /// own (`ReadsOwnOverWeb`). Such a location is settled, and
     ///
-    /// - its host is a name of lower-case letters, digits, `-`, `.` and `_` whose last label begins with a letter, an IPv4
-    ///   address, or an IPv6 address in brackets;
+    /// - its host is a name of lower-case letters, digits, `-`, `.` and `_` whose last label begins with a
+    ///   letter, an IPv4 address, or an IPv6 address in brackets;
     /// - neither user, password nor path has a control character, and the user has no `:`;
-    /// - the path begins with one `/`, and has no `#`, no `?` at its end and no segment `.` or `..`, not in the query either;
-    ///   it is written in the bytes that a path and a query of a URI have;
-    /// - neither what is written for the password nor what is written for the path holds both a `:` and an escape.
+    /// - the path begins with one `/`, and has no `#`, no `?` at its end and no segment `.` or `..`, not in
+    ///   the query either; it is written in the bytes that a path and a query of a URI have;
+    /// - neither what is written for the password nor what is written for the path holds both a `:` and an
+    ///   escape.
     ///
-    /// The answer is no for what Git hands to another remote helper, for an empty user of Secure Shell (`@h:p`), for a local
-    /// path that begins with `~`, where `git fetch` and `git push` open a home folder's path and `git clone` this one, and
-    /// for what comes from an unsettled location. It is no for some texts that Git reads alike, too: except for HTTP, with an
-    /// escape before the path, or with brackets that aren't around an address; with a host that begins with `-`, of
-    /// `git://` or behind a user (`u@-h:p`); and with a `~` behind the one that begins the path (`ssh://h/~~a`).
+    /// The answer is no for what Git hands to another remote helper, for an empty user of Secure Shell
+    /// (`@h:p`), for a local path that begins with `~`, where `git fetch` and `git push` open a home folder's
+    /// path and `git clone` this one, and for what comes from an unsettled location. It is no for some texts
+    /// that Git reads alike, too: except for HTTP, with an escape before the path, or with brackets that
+    /// aren't around an address; with a host that begins with `-`, of `git://` or behind a user (`u@-h:p`);
+    /// and with a `~` behind the one that begins the path (`ssh://h/~~a`).
     ///
     /// ```
     /// /// The text for Git, if Git reads the same place in it.

@@ -11,8 +11,8 @@ ghost use Rattle.git_laws.specs.Laws.{EqualIsSame, FedAlike, TiedIsEqual};
 ///
 /// - `split`: a path has one home split, so `expand_path::parse` has no choice in what it answers.
 /// - `shell`: it has one reading for a shell, which `expand_path::for_shell` answers.
-/// - `rest`, `joined`, `parent`: so it is with a path without its first component, with a path joined to a folder, and
-///   with the parent of a path.
+/// - `rest`, `joined`, `parent`: so it is with a path without its first component, with a path joined to a
+///   folder, and with the parent of a path.
 /// - `folder`: a user has one home folder, or none is known. So `NoHome` comes only where there is none.
 /// - `expansion`: a path has one expansion. Callers may keep what `expand_path::expand_path` answered.
 pub fn law_homes()

@@ -1,9 +1,9 @@
 //! Laws of the library, over the definitions of its contracts alone.
 //!
-//! The functions have no code and answer nothing: the contract of each is its laws. (`law_value` looks at the fields of
-//! a location, and changes nothing.) Most are in `git_laws`, and some beside what they are laws of; here are those that
-//! speak of errors that own a text. Users rely on them together with the contracts of `parse`, of the writer, of the
-//! settled test and of `lines`, which name the same definitions.
+//! The functions have no code and answer nothing: the contract of each is its laws. (`law_value` looks at the
+//! fields of a location, and changes nothing.) Most are in `git_laws`, and some beside what they are laws of;
+//! here are those that speak of errors that own a text. Users rely on them together with the contracts of
+//! `parse`, of the writer, of the settled test and of `lines`, which name the same definitions.
 
 ghost use Rattle.gix_url.specs.Laws.{ReadersAgree, SameWithRoom};
 ghost use Rattle.git_syntax.specs.Refusals.{Decided, Flawless, RefusalExclusive, RefusalWithin};
@@ -22,11 +22,11 @@ pub use git_syntax::escape::law_sets;
 
 /// Reading with memory and reading without it are one.
 ///
-/// - `agree`: to the same bytes [`parse`](crate::parse::parse) and [`UrlRef::parse_in`](crate::UrlRef::parse_in) answer the
-///   same location, or both refuse them; else memory was refused to the first, or the room of the second is shorter than
-///   the bytes.
-/// - `same`: with room for as many bytes, the second answers a location exactly where the first does and memory isn't
-///   refused. So a program that has no memory to ask for reads every text as one that has.
+/// - `agree`: to the same bytes [`parse`](crate::parse::parse) and
+///   [`UrlRef::parse_in`](crate::UrlRef::parse_in) answer the same location, or both refuse them; else memory
+///   was refused to the first, or the room of the second is shorter than the bytes.
+/// - `same`: with room for as many bytes, the second answers a location exactly where the first does and
+///   memory isn't refused. So a program that has no memory to ask for reads every text as one that has.
 pub fn law_readers()
     ensures agree { ReadersAgree }
     ensures same { SameWithRoom }
@@ -34,15 +34,15 @@ pub fn law_readers()
 
 /// A refusal is final: what its error names leaves nothing to read.
 ///
-/// - `exclusive`: bytes in which the flaw of an error is spell no location, whichever error it is but lack of memory.
-///   So no reader that keeps to these definitions takes what [`parse`](crate::parse::parse) refuses.
-/// - `refusal`: so it is with the flaw of a [`Refusal`](crate::Refusal), which reading into a room names, and the answer to
-///   a line.
+/// - `exclusive`: bytes in which the flaw of an error is spell no location, whichever error it is but lack of
+///   memory. So no reader that keeps to these definitions takes what [`parse`](crate::parse::parse) refuses.
+/// - `refusal`: so it is with the flaw of a [`Refusal`](crate::Refusal), which reading into a room names, and
+///   the answer to a line.
 /// - `within`: the place that a refusal reports is in its text, so the text can be cut there.
-/// - `flawless`: no flaw is in bytes that spell a location, whether or not there is an error that holds a copy of
-///   them.
-/// - `decided`: bytes spell a location, or one of these flaws is in them. There is no third case, and by `flawless`
-///   none is both: what a text lacks to be read, an error can name.
+/// - `flawless`: no flaw is in bytes that spell a location, whether or not there is an error that holds a
+///   copy of them.
+/// - `decided`: bytes spell a location, or one of these flaws is in them. There is no third case, and by
+///   `flawless` none is both: what a text lacks to be read, an error can name.
 pub fn law_refusals()
     ensures exclusive { Exclusive }
     ensures refusal { RefusalExclusive }

@@ -1,7 +1,7 @@
 //! The location itself: a [`Url`] and its parts, and the same location borrowed.
 //!
-//! It uses `scheme`, and the borrowed location of `git_location`. Its contract: to all others a location is one value of
-//! eight parts, and so it is borrowed.
+//! It uses `scheme`, and the borrowed location of `git_location`. Its contract: to all others a location is
+//! one value of eight parts, and so it is borrowed.
 
 ghost use Rattle.std.specs.Prelude.{◌≡◌};
 ghost use Rattle.git_location.specs.Settled.{IsValue};
@@ -16,7 +16,8 @@ use std::marker::Model;
 ///
 /// Contracts see all eight parts of it as one value, the retained spelling of its path among them.
 ///
-/// The fields may be changed by hand. A location may have no text then, or one that is read as something else:
+/// The fields may be changed by hand. A location may have no text then, or one that is read as something
+/// else:
 /// [`Url::is_settled`] reports. `Debug` and `Display` show `redacted` in place of the field `password`, and hide nothing
 /// else: a secret that is in a path or a query, or in the user's place, is shown.
 ///
@@ -35,21 +36,23 @@ pub struct Url {
     pub user: Option<String>,
     /// The password, decoded. It is not written without a user.
     pub password: Option<String>,
-    /// The host. It may be empty, and may begin with `-`: hand it to a command by [`Url::host_as_argument`]. Secure
-    /// Shell has an IPv6 text without its brackets, other schemes with them where the text had them. A `:` can be at
-    /// its end, where the text had one without a port.
+    /// The host. It may be empty, and may begin with `-`: hand it to a command by [`Url::host_as_argument`].
+    /// Secure Shell has an IPv6 text without its brackets, other schemes with them where the text had them. A
+    /// `:` can be at its end, where the text had one without a port.
     pub host: Option<String>,
-    /// Whether the form that is no URL is asked for: `host:path` of Secure Shell, or a path of local files. With a
-    /// password or a port the text is a URL all the same, a relative path of Secure Shell is only ever written as
-    /// `host:path`, and locations of other schemes have one form.
+    /// Whether the form that is no URL is asked for: `host:path` of Secure Shell, or a path of local files.
+    /// With a password or a port the text is a URL all the same, a relative path of Secure Shell is only ever
+    /// written as `host:path`, and locations of other schemes have one form.
     pub serialize_alternative_form: bool,
     /// The port. It may be 0, which only HTTP's locations are refused with when they are read.
     pub port: Option<u16>,
-    /// The path, decoded. It may be any bytes, and may begin with `-`. The path of an HTTP location holds its query and its
-    /// fragment too, where a decoded `?` or `#` looks like one that separates them: [`Url::path_query_fragment`] keeps them
-    /// apart. A home folder of Secure Shell and Git is at its front without a `/`, as in `~user/repo`.
+    /// The path, decoded. It may be any bytes, and may begin with `-`. The path of an HTTP location holds its
+    /// query and its fragment too, where a decoded `?` or `#` looks like one that separates them:
+    /// [`Url::path_query_fragment`] keeps them apart. A home folder of Secure Shell and Git is at its front
+    /// without a `/`, as in `~user/repo`.
     pub path: BString,
-    /// The escaped spelling of the path, where the text had one. It counts while it still stands for the path.
+    /// The escaped spelling of the path, where the text had one. It counts while it still stands for the
+    /// path.
     pub(crate) spelling: Option<BString>,
 }
 
@@ -94,7 +97,8 @@ impl Url {
     }
 }
 
-/// Every location is a value of which the laws speak: its texts are UTF-8, its bytes are bytes and its port is one.
+/// Every location is a value of which the laws speak: its texts are UTF-8, its bytes are bytes and its port
+/// is one.
 ///
 /// Users of `law_separation` meet that premise by this law, whatever they put into the public fields.
 pub fn law_value(url: &Url)

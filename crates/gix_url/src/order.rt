@@ -1,7 +1,7 @@
 //! Equality, order and hash of schemes and of locations, by their bytes.
 //!
-//! It uses `scheme` and `location`. Its contract: the parts count in declared order, the retained spelling last, so
-//! that equality, order and hash agree, and what is equal is one value. It takes no memory.
+//! It uses `scheme` and `location`. Its contract: the parts count in declared order, the retained spelling
+//! last, so that equality, order and hash agree, and what is equal is one value. It takes no memory.
 
 ghost use Rattle.std.specs.Prelude.{◌≡◌, Some, fold, option_map, refl, string_bytes};
 ghost use Rattle.std.specs.Hash as fed;
@@ -25,8 +25,8 @@ impl PartialEq for Scheme {
 
     /// Whether both schemes are of one kind with one name. It takes no memory.
     ///
-    /// Equal schemes are written alike, but schemes that are written alike can differ: the remote helper `x` isn't the
-    /// scheme `x` of a URL.
+    /// Equal schemes are written alike, but schemes that are written alike can differ: the remote helper `x`
+    /// isn't the scheme `x` of a URL.
     #[inline(always)]
     fn eq(&self, other: &Scheme) -> bool {
         rank(self) == rank(other) && texts_equal(held_name(self), held_name(other))
@@ -56,7 +56,8 @@ impl Ord for Scheme {
 
     ghost matches_eq = { λ s t. scheme_ties (owned_scheme s) (owned_scheme t) };
 
-    /// The order of two schemes: as their kinds are declared, and then by the bytes of their names. It takes no memory.
+    /// The order of two schemes: as their kinds are declared, and then by the bytes of their names. It takes
+    /// no memory.
     fn cmp(&self, other: &Scheme) -> Ordering {
         rank(self)
             .cmp(&rank(other))
@@ -81,11 +82,11 @@ impl PartialEq for Url {
 
     ghost laws = { partial_equiv_from_equiv location_equiv };
 
-    /// Whether all parts are equal, texts by their bytes, the retained spelling of the path among them. It takes no
-    /// memory.
+    /// Whether all parts are equal, texts by their bytes, the retained spelling of the path among them. It
+    /// takes no memory.
     ///
-    /// Equal locations are one value (`law_order`). Locations that name one place can differ: by a default port, or by
-    /// an escape that the path was written with.
+    /// Equal locations are one value (`law_order`). Locations that name one place can differ: by a default
+    /// port, or by an escape that the path was written with.
     ///
     /// ```
     /// /// Whether a remote is among those that are known.
@@ -128,8 +129,8 @@ impl Ord for Url {
 
     ghost matches_eq = { location_ties };
 
-    /// The order of two locations: by the first part that differs, in the order of the fields, the retained spelling
-    /// last. A part that is missing comes first, and `false` before `true`. It takes no memory.
+    /// The order of two locations: by the first part that differs, in the order of the fields, the retained
+    /// spelling last. A part that is missing comes first, and `false` before `true`. It takes no memory.
     ///
     /// ```
     /// /// Puts remotes into order.
@@ -157,8 +158,9 @@ impl Hash for Url {
 
     ghost respects_eq = { locations_alike };
 
-    /// Feeds the hasher a byte for each part, which says what kind of scheme it is and which parts are there, and then
-    /// what the parts hold, in the order of the fields, the retained spelling last. It takes no memory.
+    /// Feeds the hasher a byte for each part, which says what kind of scheme it is and which parts are there,
+    /// and then what the parts hold, in the order of the fields, the retained spelling last. It takes no
+    /// memory.
     fn hash<H: Hasher>(&self, state: &mut H) {
         state.write(&outline(self));
         feed_text(held_name(&self.scheme), state);
@@ -171,7 +173,8 @@ impl Hash for Url {
     }
 }
 
-/// A byte for each part: the kind of the scheme, the flag, and whether each other part is there, as the path always is.
+/// A byte for each part: the kind of the scheme, the flag, and whether each other part is there, as the path
+/// always is.
 fn outline(url: &Url) -> [u8; 8]
     ensures { result ≡ outline url.now }
 {
@@ -256,7 +259,8 @@ pub(crate) fn texts_equal(a: Option<&[u8]>, b: Option<&[u8]>) -> bool
     }
 }
 
-/// The order of two parts. Equality, which takes less than an order, is asked first: all parts but one are equal.
+/// The order of two parts. Equality, which takes less than an order, is asked first: all parts but one are
+/// equal.
 #[inline(always)]
 fn compare<T: Ord>(a: &T, b: &T) -> Ordering
     ensures { result ≡ T.cmp a.now b.now }
@@ -297,8 +301,8 @@ fn compare_bytes(a: &[u8], b: &[u8]) -> Ordering
     }
 }
 
-/// The order of two texts, found without asking first whether they are equal. It is called where they are not, so it
-/// stays out of those that compare.
+/// The order of two texts, found without asking first whether they are equal. It is called where they are
+/// not, so it stays out of those that compare.
 #[inline(never)]
 fn order_texts(a: Option<&[u8]>, b: Option<&[u8]>) -> Ordering
     ensures { result ≡ text_cmp (option_map (λ t. t.now) a.entry)

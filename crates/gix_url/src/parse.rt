@@ -1,8 +1,9 @@
 //! Reading: the location that bytes spell, with bytes of its own.
 //!
-//! It uses `git_syntax::find`, which finds the slices of a text, and here `build`, which copies them, and `refusal`, which
-//! makes an error of a refusal. Its contract: the answer is the one location that the definitions spell with the bytes, a
-//! refusal comes only where they spell none, and what a refusal names is in the bytes.
+//! It uses `git_syntax::find`, which finds the slices of a text, and here `build`, which copies them, and
+//! `refusal`, which makes an error of a refusal. Its contract: the answer is the one location that the
+//! definitions spell with the bytes, a refusal comes only where they spell none, and what a refusal names is
+//! in the bytes.
 
 ghost use Rattle.std.specs.Prelude.{◌≡◌, [], Err, IfErr, IfOk};
 ghost use Rattle.bstr.specs.BStr.{bstr_bytes};
@@ -27,12 +28,12 @@ use std::alloc::Global;
 
 /// The one location that the bytes spell.
 ///
-/// They are a remote helper's address (`name::address`), a URL, the scp form (`user@host:path`) or a local path.
-/// Where they spell no location, the error names a flaw that is in them. `docs/GRAMMAR.md` says which texts are
-/// which, after gitremote-helpers, git-clone's "GIT URLS" and RFC 3986.
+/// They are a remote helper's address (`name::address`), a URL, the scp form (`user@host:path`) or a local
+/// path. Where they spell no location, the error names a flaw that is in them. `docs/GRAMMAR.md` says which
+/// texts are which, after gitremote-helpers, git-clone's "GIT URLS" and RFC 3986.
 ///
-/// Memory is asked for to copy each part. On a refusal it is asked for to copy the bytes into the error, of a text that
-/// is too long its front. The empty text is refused without memory.
+/// Memory is asked for to copy each part. On a refusal it is asked for to copy the bytes into the error, of a
+/// text that is too long its front. The empty text is refused without memory.
 ///
 /// # Errors
 ///

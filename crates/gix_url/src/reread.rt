@@ -1,7 +1,7 @@
 //! Reading a location back: what its own text is read as.
 //!
-//! It uses the writer and `parse`. Its contract: the answer is what `parse` reads from the text of the location; a
-//! settled location comes back with the same public fields and the same text.
+//! It uses the writer and `parse`. Its contract: the answer is what `parse` reads from the text of the
+//! location; a settled location comes back with the same public fields and the same text.
 
 ghost use Rattle.std.specs.Prelude.{◌≡◌, ℕ, List, Ok, Err};
 ghost use Rattle.git_location.specs.declared.write_error.WriteFault.{WriteFault};
@@ -17,11 +17,11 @@ use std::alloc::Global;
 impl Url {
     /// What [`parse`] reads from the text of the location.
     ///
-    /// A settled location, see [`Url::is_settled`], comes back with the same public fields and the same text, and is
-    /// settled again. Any other may come back as another location or not at all: a field that was changed by hand can
-    /// leave a text that names another host, or none. The retained spelling of the path is that of the text, so what
-    /// comes back needn't be equal to the location: `http://h/a<b` is read without a spelling, and its text
-    /// `http://h/a%3Cb` with one.
+    /// A settled location, see [`Url::is_settled`], comes back with the same public fields and the same text,
+    /// and is settled again. Any other may come back as another location or not at all: a field that was
+    /// changed by hand can leave a text that names another host, or none. The retained spelling of the path
+    /// is that of the text, so what comes back needn't be equal to the location: `http://h/a<b` is read
+    /// without a spelling, and its text `http://h/a%3Cb` with one.
     ///
     /// Memory is asked for once for the text, and then as [`parse`] does.
     ///
@@ -36,8 +36,8 @@ impl Url {
     /// # Errors
     ///
     /// [`Error::Unwritable`] exactly where the location has no text, and then no memory is asked for. Where the text
-    /// spells no location, what [`parse`] refuses it with; the error reports on the text. [`Error::Memory`] where memory
-    /// is refused, and for a settled location no other.
+    /// spells no location, what [`parse`] refuses it with; the error reports on the text. [`Error::Memory`]
+    /// where memory is refused, and for a settled location no other.
     pub fn reread(&self, alloc: Global) -> Result<Url, Error>
         ensures read { (t : List ℕ) → text self.now ≡ Ok t → Reads t result }
         ensures fault { (f : WriteFault) → text self.now ≡ Err f → result

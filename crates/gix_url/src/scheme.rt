@@ -1,7 +1,7 @@
 //! Schemes that own their name.
 //!
-//! It uses the borrowed schemes of `git_syntax`, and the errors. Its contract: names and default ports are those of the
-//! definitions, and a scheme's text names it to the letter.
+//! It uses the borrowed schemes of `git_syntax`, and the errors. Its contract: names and default ports are
+//! those of the definitions, and a scheme's text names it to the letter.
 
 ghost use Rattle.std.specs.Prelude.{◌≡◌, IfErr, IfOk, IsOk, true};
 ghost use Rattle.git_syntax.specs.Internal.SchemeRules.{scheme_named};
@@ -43,8 +43,8 @@ pub enum Scheme {
 }
 
 impl Scheme {
-    /// The scheme with this text, to the letter: one with a name of its own, or any other by its text. Letter case
-    /// counts. It takes no memory for a name of its own, and else asks once for the text.
+    /// The scheme with this text, to the letter: one with a name of its own, or any other by its text. Letter
+    /// case counts. It takes no memory for a name of its own, and else asks once for the text.
     ///
     /// # Errors
     ///
@@ -64,8 +64,8 @@ impl Scheme {
         Ok(Scheme::of_known_scheme(alloc, scheme_of(text.as_bytes()), text)?)
     }
 
-    /// The scheme with this text, which names this known one. It asks for memory only for one without a name of its
-    /// own.
+    /// The scheme with this text, which names this known one. It asks for memory only for one without a name
+    /// of its own.
     pub(crate) fn of_known_scheme(
         alloc: Global,
         named: KnownScheme,
@@ -85,7 +85,8 @@ impl Scheme {
         }
     }
 
-    /// The text that the scheme is written with. It takes no memory. `ssh+git` and `git+ssh` are read as `ssh`.
+    /// The text that the scheme is written with. It takes no memory. `ssh+git` and `git+ssh` are read as
+    /// `ssh`.
     ///
     /// ```
     /// fn scheme_of(url: &Url) -> &str {
@@ -98,7 +99,8 @@ impl Scheme {
         self.as_ref().as_str()
     }
 
-    /// The port that the scheme stands for where a location names none: 80, 443, 22 or 9418. It takes no memory.
+    /// The port that the scheme stands for where a location names none: 80, 443, 22 or 9418. It takes no
+    /// memory.
     ///
     /// ```
     /// fn port_of(scheme: &Scheme) -> u16 {

@@ -1,7 +1,8 @@
-//! Stored locations: a record of every part of a location for `serde`, in the format of the Rust crate `gix-url`.
+//! Stored locations: a record of every part of a location for `serde`, in the format of the Rust crate
+//! `gix-url`.
 //!
-//! It uses `location`, `scheme` and `copy`, and hides the password as Display does. Its contract: a
-//! record has every part of the location that it was made of, and a location is made of a record as the definitions
+//! It uses `location`, `scheme` and `copy`, and hides the password as Display does. Its contract: a record
+//! has every part of the location that it was made of, and a location is made of a record as the definitions
 //! say, which migrate the older form of records. Whoever stores what was read gets it back.
 
 ghost use Rattle.std.specs.Prelude.{◌≡◌, ◌↔◌, [], IfErr, IfOk, IsOk, IsTrue, MatchOption, length};
@@ -23,8 +24,8 @@ use std::fmt;
 
 /// Every part of a location, to be stored and restored with `serde`.
 ///
-/// The format is that of the Rust crate `gix-url` with its feature `serde`: the parts by the names below, in this
-/// order, and bytes as lists of numbers. As JSON:
+/// The format is that of the Rust crate `gix-url` with its feature `serde`: the parts by the names below, in
+/// this order, and bytes as lists of numbers. As JSON:
 ///
 /// ```json
 /// {"scheme":"Https","user":null,"password":null,"host":"h","serialize_alternative_form":false,"port":null,
@@ -32,13 +33,13 @@ use std::fmt;
 /// ```
 ///
 /// A scheme is `"File"`, `"Git"`, `"Ssh"`, `"Http"`, `"Https"`, `"Ext"`, `{"Helper":"name"}` or
-/// `{"HelperUrl":"name"}`. A part that a location may lack is `null` then, and a record may leave it out. A part of
-/// another name is passed over. A record that lacks the scheme, the form or the path, that has a part twice, or one of
-/// another type, is refused by the reader of the format, which names the part or its place: no part of such a record is
-/// seen.
+/// `{"HelperUrl":"name"}`. A part that a location may lack is `null` then, and a record may leave it out. A
+/// part of another name is passed over. A record that lacks the scheme, the form or the path, that has a part
+/// twice, or one of another type, is refused by the reader of the format, which names the part or its place:
+/// no part of such a record is seen.
 ///
-/// The password is stored as it is, in the clear. `Debug` shows `redacted` in its place, and hides no other field. All
-/// fields are public, and are not checked: a record may be made by hand.
+/// The password is stored as it is, in the clear. `Debug` shows `redacted` in its place, and hides no other
+/// field. All fields are public, and are not checked: a record may be made by hand.
 #[derive(Drop, Serialize, Deserialize)]
 pub struct StoredUrl {
     /// What the location is reached by.
@@ -55,8 +56,8 @@ pub struct StoredUrl {
     pub port: Option<u16>,
     /// The path, decoded. It may be any bytes. In the older form of records it is the spelling.
     pub path: Vec<u8>,
-    /// The escaped spelling of the path, where the text had one. Records that were stored before there were spellings
-    /// lack it.
+    /// The escaped spelling of the path, where the text had one. Records that were stored before there were
+    /// spellings lack it.
     #[serde(default)]
     pub path_with_percent_escapes: Option<Vec<u8>>,
 }
@@ -83,8 +84,9 @@ impl fmt::Debug for StoredUrl {
 impl Url {
     /// A record of the location, with all of its parts, the retained spelling of its path among them.
     ///
-    /// Each part is copied once: memory is asked for once for each text and each list of bytes that isn't empty, and for
-    /// nothing else. The password is copied as well, so keep the record as secret as the location.
+    /// Each part is copied once: memory is asked for once for each text and each list of bytes that isn't
+    /// empty, and for nothing else. The password is copied as well, so keep the record as secret as the
+    /// location.
     ///
     /// ```
     /// fn json_of(alloc: Global, url: &Url) -> Option<String> {
@@ -116,16 +118,18 @@ impl Url {
         })
     }
 
-    /// The location of a record. What is given is moved into it, as it is: nothing is checked, so a record that was
-    /// edited may give a location without a text.
+    /// The location of a record. What is given is moved into it, as it is: nothing is checked, so a record
+    /// that was edited may give a location without a text.
     ///
-    /// A record whose spelling is its path, byte for byte, is one of the older form, in which the path was kept as it was
-    /// spelled. Its path is decoded. Its new spelling is the old path with its escapes as they are (`%` and two hexadecimal
-    /// digits, RFC 3986 section 2.1) and every other byte as it is written in a path, so that both stand for the same
-    /// bytes: `laws::law_stored`. No location that was read from a text is taken for such a record: what
+    /// A record whose spelling is its path, byte for byte, is one of the older form, in which the path was
+    /// kept as it was spelled. Its path is decoded. Its new spelling is the old path with its escapes as they
+    /// are (`%` and two hexadecimal digits, RFC 3986 section 2.1) and every other byte as it is written in a
+    /// path, so that both stand for the same bytes: `laws::law_stored`. No location that was read from a text
+    /// is taken for such a record: what
     /// [`Url::to_stored`] stored of it comes back as it was.
     ///
-    /// Memory is asked for twice for a record of the older form, once for each of the two, and never for another.
+    /// Memory is asked for twice for a record of the older form, once for each of the two, and never for
+    /// another.
     ///
     /// ```
     /// fn url_of(alloc: Global, json: &str) -> Option<Url> {
@@ -184,8 +188,8 @@ impl Url {
     }
 }
 
-/// The new spelling of a path: its escapes as they are, and every other byte as it is written in a path. Memory is
-/// asked for once, and a length that no memory has counts as refused.
+/// The new spelling of a path: its escapes as they are, and every other byte as it is written in a path.
+/// Memory is asked for once, and a length that no memory has counts as refused.
 fn respell(alloc: Global, path: &[u8]) -> Result<Vec<u8>, AllocError>
     ensures { IfOk result (λ spelling. spelling.items ≡ new_spelling path.now) }
 {

@@ -13,8 +13,8 @@ use bstr::BString;
 
 /// What tests want of a [`Url`] beyond what programs may have.
 pub trait TestUrlExtension {
-    /// The location with these parts and no retained spelling, as they are: nothing is read, nothing is refused,
-    /// and the location may have no text. It takes no memory.
+    /// The location with these parts and no retained spelling, as they are: nothing is read, nothing is
+    /// refused, and the location may have no text. It takes no memory.
     ///
     /// ```
     /// fn without_host(path: BString) -> Url {

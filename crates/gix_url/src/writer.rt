@@ -1,7 +1,8 @@
 //! Writing: the text of a location in memory, and what the borrowed location writes.
 //!
-//! It uses `location`, `error` and the writer of `git_location`, which lays a text out as pieces: here they are collected,
-//! with one request for memory. The contract of each public call is the text of the definitions.
+//! It uses `location`, `error` and the writer of `git_location`, which lays a text out as pieces: here they
+//! are collected, with one request for memory. The contract of each public call is the text of the
+//! definitions.
 
 ghost use Rattle.std.specs.Prelude.{◌≡◌, [], Ok, Err, IsOk, IfOk, IfErr, length};
 ghost use Rattle.bstr.specs.BStr.{bstr_bytes};
@@ -63,10 +64,11 @@ impl Url {
         self.as_ref().text_len()
     }
 
-    /// The text of the location. Memory is asked for once, for the whole text, and not at all where there is none.
+    /// The text of the location. Memory is asked for once, for the whole text, and not at all where there is
+    /// none.
     ///
-    /// The text of a settled location spells a location with the same public fields and the same text. The password
-    /// is in it, with a user: `Display` hides that field.
+    /// The text of a settled location spells a location with the same public fields and the same text. The
+    /// password is in it, with a user: `Display` hides that field.
     ///
     /// ```
     /// /// A text in the form that this library writes.
@@ -90,8 +92,8 @@ impl Url {
         Url::text_of(alloc, &self.as_ref())
     }
 
-    /// The path as it was spelled, with its escapes: the retained spelling where it still stands for the path, and
-    /// else the path itself. It takes no memory.
+    /// The path as it was spelled, with its escapes: the retained spelling where it still stands for the
+    /// path, and else the path itself. It takes no memory.
     ///
     /// ```
     /// fn spelled(url: &Url) -> BStr<'_> {
@@ -104,8 +106,8 @@ impl Url {
         self.as_ref().original_path()
     }
 
-    /// The text of a location that is borrowed, as [`Url::to_bstring`] has it. Memory is asked for once, for the whole
-    /// text, and not at all where there is none.
+    /// The text of a location that is borrowed, as [`Url::to_bstring`] has it. Memory is asked for once, for
+    /// the whole text, and not at all where there is none.
     ///
     /// ```
     /// /// The text of a location without its password, which stays as it is.
@@ -149,7 +151,8 @@ fn collect_in(alloc: Global, url: &UrlRef<'_>, form: Form) -> Result<BString, Er
     }
 }
 
-/// The bytes in this form. Each form is collected by itself, so that the compiler knows which pieces it lacks.
+/// The bytes in this form. Each form is collected by itself, so that the compiler knows which pieces it
+/// lacks.
 #[inline(always)]
 fn collect_form(alloc: Global, url: &UrlRef<'_>, form: Form) -> Result<Vec<u8>, AllocError>
     ensures text { IfOk result (λ s. s.items ≡ text_in (form_of form) url.now) }

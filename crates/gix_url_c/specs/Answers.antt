@@ -43,7 +43,8 @@ ReportsFault f problem code = (code ≡ unwritable) × (problem ≡ problem_numb
 abbrev pub PutsText : List ℕ → List ℕ → List ℕ → ℕ → ℕ → Type 0
 PutsText t old new len code = (len ≡ length t) × Puts t old new code
 
--- a length as it is reported: of one that is no number of C's the largest such number, and no room is so large
+-- a length as it is reported: of one that is no number of C's the largest such number, and no room is so
+-- large
 abbrev pub reported_length : ℕ → ℕ
 reported_length n = min n (2 ^ 64 - 1)
 

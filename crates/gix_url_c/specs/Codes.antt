@@ -75,7 +75,8 @@ problem_numbered kind fault shown total = record { kind = kind; fault = fault; s
 abbrev pub no_problem : Problem
 no_problem = problem_numbered 0 0 0 0
 
--- what is reported of an error: the form, the fault, the length of the front that it shows, and that of the whole
+-- what is reported of an error: the form, the fault, the length of the front that it shows, and that of the
+-- whole
 abbrev pub problem_of : Error → Problem
 problem_of error.Memory = no_problem
 problem_of error.EmptyLocal = no_problem

@@ -19,7 +19,8 @@ pub record IsLent (v : Location) (lent : Given) : Type 0 where
   pub path : lent.path.now ≡ v.path
   pub spelling : lent.spelling.now ≡ or_nothing v.spelling
 
--- an answer is reported: a location that is lent, or by its number why there is none, with what is reported of that
+-- an answer is reported: a location that is lent, or by its number why there is none, with what is reported
+-- of that
 abbrev pub ReportsLent : Result Location ParseError → Given → Problem → ℕ → Type 0
 ReportsLent (Ok v) lent problem code = (code ≡ ok) × (problem ≡ no_problem) × IsLent v lent
 ReportsLent (Err unread.NoRoom) lent problem code = (code ≡ no_room) × (problem ≡ no_problem)

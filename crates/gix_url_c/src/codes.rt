@@ -1,6 +1,7 @@
 //! The numbers that C gets for what a call returns.
 //!
-//! It uses the library's errors alone. Its contract: the numbers are those of the definitions, which the header repeats.
+//! It uses the library's errors alone. Its contract: the numbers are those of the definitions, which the
+//! header repeats.
 
 ghost use Rattle.std.specs.Prelude.{◌≡◌};
 ghost use Rattle.gix_url_c.specs.Codes.{error_code, fault_number, kind_number, no_problem, problem_numbered, problem_of, problem_of_refusal, refusal_code, write_fault_number};

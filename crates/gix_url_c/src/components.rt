@@ -1,7 +1,7 @@
 //! The export that takes the path of a location apart: path, query and fragment.
 //!
-//! It uses `given`. Its contract: what is reported are the components of the location. With an error the room and the lengths
-//! are as they were, and the numbers are, except with 102.
+//! It uses `given`. Its contract: what is reported are the components of the location. With an error the room
+//! and the lengths are as they were, and the numbers are, except with 102.
 
 ghost use Rattle.std.specs.Prelude.{◌≡◌, ◌++◌, ◌⊎◌, IfOk, OnOk, length, map, option_map};
 ghost use Rattle.bstr.specs.BStr.{bstr_bytes};
@@ -35,11 +35,11 @@ pub struct ComponentNumbers {
     pub bytes: usize,
 }
 
-/// Puts the components into the room, the path first, then the fragment, then each name with its value, and the lengths
-/// of names and values in turn into `lengths`: [`gix_url::UrlRef::path_query_fragment`].
+/// Puts the components into the room, the path first, then the fragment, then each name with its value, and
+/// the lengths of names and values in turn into `lengths`: [`gix_url::UrlRef::path_query_fragment`].
 ///
-/// It answers 0; 1 where memory is refused; 101 where the parts are none of a location; 102 where the bytes or the
-/// lengths don't fit, whose numbers are reported.
+/// It answers 0; 1 where memory is refused; 101 where the parts are none of a location; 102 where the bytes
+/// or the lengths don't fit, whose numbers are reported.
 #[unsafe(no_mangle)]
 pub extern "C" fn gix_url_c_components(
     alloc: Global,

@@ -13,8 +13,8 @@ use gix_url::{SchemeRef, UrlRef};
 #[repr(C)]
 #[derive(Clone, Copy)]
 pub struct Front {
-    /// The scheme: 0 `file`, 1 `git`, 2 `ssh`, 3 `http`, 4 `https`, 5 `ext`, 6 a remote helper by its name, 7 another
-    /// URL by its scheme.
+    /// The scheme: 0 `file`, 1 `git`, 2 `ssh`, 3 `http`, 4 `https`, 5 `ext`, 6 a remote helper by its name, 7
+    /// another URL by its scheme.
     pub scheme: u8,
     /// Whether the location is written in the form that is no URL, where it has one.
     pub alternative: bool,
@@ -108,8 +108,8 @@ fn text(is_there: bool, bytes: &[u8]) -> Option<Option<&str>>
     }
 }
 
-/// The slice itself. What a call takes moves as two numbers. A field that is copied moves as one wide value, for which
-/// the processor waits until both numbers, which were written just before, are in the cache.
+/// The slice itself. What a call takes moves as two numbers. A field that is copied moves as one wide value,
+/// for which the processor waits until both numbers, which were written just before, are in the cache.
 #[inline(always)]
 pub(crate) fn reload<T: Copy>(slice: T) -> T
     ensures { result ≡ slice }

@@ -1,7 +1,7 @@
 //! The location that C gets: numbers, and the bytes of all parts one behind the other in the caller's room.
 //!
-//! It uses the library's borrowed locations, `codes` and `room`. Its contract: all parts are returned, or none, and then
-//! their lengths are reported all the same. It takes no memory.
+//! It uses the library's borrowed locations, `codes` and `room`. Its contract: all parts are returned, or
+//! none, and then their lengths are reported all the same. It takes no memory.
 
 ghost use Rattle.std.specs.Prelude.{◌≡◌, ◌≤◌, ◌⊎◌, ◌++◌, drop, length, option_map};
 ghost use Rattle.std.specs.Option.{option_copied};

@@ -1,8 +1,8 @@
-//! The export that reads and lends: each part stays in the text where it has the text's bytes, and is in the caller's
-//! room else, so that a caller who copies the parts copies them once.
+//! The export that reads and lends: each part stays in the text where it has the text's bytes, and is in the
+//! caller's room else, so that a caller who copies the parts copies them once.
 //!
-//! It uses the reader that takes no memory, `codes`, `given` and `handed`. Its contract: what is reported is what that reader
-//! answers; unless it is a location, the parts are as they were. It takes no memory.
+//! It uses the reader that takes no memory, `codes`, `given` and `handed`. Its contract: what is reported is
+//! what that reader answers; unless it is a location, the parts are as they were. It takes no memory.
 
 ghost use Rattle.std.specs.Prelude.{◌≡◌, length};
 ghost use Rattle.gix_url_c.specs.Codes.{memory, no_problem};
@@ -14,11 +14,12 @@ use crate::given::{Given, reload};
 use crate::handed::{name, numbers, part, text};
 use gix_url::{ParseError, UrlRef};
 
-/// Reads the one location that the bytes spell, and lends its parts: [`gix_url::UrlRef::parse_in`]. Room for as many bytes
-/// as the text has is enough. Of what is in the room behind the call nothing is said but where a part is lent from it.
+/// Reads the one location that the bytes spell, and lends its parts: [`gix_url::UrlRef::parse_in`]. Room for
+/// as many bytes as the text has is enough. Of what is in the room behind the call nothing is said but where
+/// a part is lent from it.
 ///
-/// It answers 0, or why there is no location: 2 to 6, with what is reported of it. 102 says that there is a location, and that
-/// the room is shorter than the text. It takes no memory.
+/// It answers 0, or why there is no location: 2 to 6, with what is reported of it. 102 says that there is a
+/// location, and that the room is shorter than the text. It takes no memory.
 #[unsafe(no_mangle)]
 pub extern "C" fn gix_url_c_read_in<'a>(
     input: &'a [u8],

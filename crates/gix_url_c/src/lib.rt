@@ -6,8 +6,9 @@
 //! answer by numbers (`codes`) and bytes (`handed`, `room`); its contract says what that call promises, and
 //! that all else is as it was with an error. The exports of `part` are over one part alone.
 //!
-//! A slice is a pointer and a length to C, and a `Global` is nothing. Pointers aren't null: the C file that is linked
-//! with this library (`bindings/c/gix_url.c`) sees to that, and has the types of `bindings/c/include/gix_url.h`.
+//! A slice is a pointer and a length to C, and a `Global` is nothing. Pointers aren't null: the C file that
+//! is linked with this library (`bindings/c/gix_url.c`) sees to that, and has the types of
+//! `bindings/c/include/gix_url.h`.
 #![tactic(auto)]
 
 pub mod codes;

@@ -1,6 +1,7 @@
 //! The export that looks at a location: what its parts are to a command line, its original path and its port.
 //!
-//! It uses `given`. Its contract: what is reported is what the library's calls return; with an error the answer is as it was.
+//! It uses `given`. Its contract: what is reported is what the library's calls return; with an error the
+//! answer is as it was.
 
 ghost use Rattle.std.specs.Prelude.{◌≡◌, ◌↔◌, IsTrue, if◌then◌else◌};
 ghost use Rattle.gix_url.specs.Views.{judgement};
@@ -19,7 +20,8 @@ use gix_url::{ArgumentSafety, UrlRef};
 #[repr(C)]
 #[derive(Clone, Copy)]
 pub struct Seen {
-    /// The user as an argument of a command: 0 there is none, 1 it may be passed, 2 it may be taken for an option.
+    /// The user as an argument of a command: 0 there is none, 1 it may be passed, 2 it may be taken for an
+    /// option.
     pub user: u8,
     /// The host as an argument of a command, by the same numbers.
     pub host: u8,

@@ -1,6 +1,7 @@
 //! The export that reports where in a refused text the fault is.
 //!
-//! It uses the reader that takes no memory. Its contract: the place is that of the refusal which that reader answers.
+//! It uses the reader that takes no memory. Its contract: the place is that of the refusal which that reader
+//! answers.
 
 ghost use Rattle.std.specs.Prelude.{◌≡◌};
 ghost use Rattle.gix_url_c.specs.Place.{ReportsPlace, place_at, place_of};
@@ -17,8 +18,9 @@ pub struct Place {
     pub len: usize,
 }
 
-/// Tells where in a text the fault is for which it is refused: [`gix_url::UrlRef::parse_in`], and [`gix_url::Refusal`] says
-/// which bytes these are. Of a text that spells a location the place is the front, and no byte long. It takes no memory.
+/// Tells where in a text the fault is for which it is refused: [`gix_url::UrlRef::parse_in`], and
+/// [`gix_url::Refusal`] says which bytes these are. Of a text that spells a location the place is the front,
+/// and no byte long. It takes no memory.
 #[unsafe(no_mangle)]
 pub extern "C" fn gix_url_c_place(text: &[u8], place: &mut Place)
     ensures reported { ReportsPlace text.now place.new }

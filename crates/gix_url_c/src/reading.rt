@@ -1,7 +1,8 @@
 //! The exports that make a location: of bytes that are read, and of parts.
 //!
-//! They use `given` and `handed`. Their contracts: what is reported is what the library's call returns. With an error the room
-//! is as it was, and the numbers are, except with 102; the problem is that of the error, and all 0 where there is none.
+//! They use `given` and `handed`. Their contracts: what is reported is what the library's call returns. With
+//! an error the room is as it was, and the numbers are, except with 102; the problem is that of the error,
+//! and all 0 where there is none.
 
 ghost use Rattle.std.specs.Prelude.{◌≡◌, ◌⊎◌, Err, IfOk, [], option_map, string_bytes};
 ghost use Rattle.gix_url.specs.FromParts.{MadeOf};
@@ -23,11 +24,11 @@ use std::alloc::{AllocError, Global};
 /// How long a text is at most whose location is read without memory.
 const NEAR: usize = 256;
 
-/// Reads the one location that the bytes spell, and hands it out: [`gix_url::parse::parse`]. Memory is only taken where
-/// the text is longer than 256 bytes, or is refused.
+/// Reads the one location that the bytes spell, and hands it out: [`gix_url::parse::parse`]. Memory is only
+/// taken where the text is longer than 256 bytes, or is refused.
 ///
-/// It answers 0, or why there is no location: 1 to 6, with what is reported of it. 102 says that there is a location, and
-/// that its parts don't fit into the room; their lengths are reported.
+/// It answers 0, or why there is no location: 1 to 6, with what is reported of it. 102 says that there is a
+/// location, and that its parts don't fit into the room; their lengths are reported.
 #[unsafe(no_mangle)]
 pub extern "C" fn gix_url_c_read(
     alloc: Global,
@@ -54,8 +55,9 @@ pub extern "C" fn gix_url_c_read(
 /// Makes the location that the text of these parts means, and hands it out: [`gix_url::Url::from_parts`]. The
 /// spelling is not looked at.
 ///
-/// It answers 0, or why there is no location: 1 to 8, with what is reported of it; 101 where the parts are none. 102 says that
-/// there is a location, and that its parts don't fit into the room; their lengths are reported.
+/// It answers 0, or why there is no location: 1 to 8, with what is reported of it; 101 where the parts are
+/// none. 102 says that there is a location, and that its parts don't fit into the room; their lengths are
+/// reported.
 #[unsafe(no_mangle)]
 pub extern "C" fn gix_url_c_from_parts(
     alloc: Global,

@@ -1,7 +1,7 @@
 //! The caller's room for bytes.
 //!
-//! It uses `codes`. Its contract: bytes go to the front of the room, all of them, or the room is as it was; and bytes go
-//! behind what is at the front, where there is room for them.
+//! It uses `codes`. Its contract: bytes go to the front of the room, all of them, or the room is as it was;
+//! and bytes go behind what is at the front, where there is room for them.
 
 ghost use Rattle.std.specs.Prelude.{◌≡◌, ◌≤◌, ◌+◌, ◌++◌, ◌⊎◌, drop, length, take};
 ghost use Rattle.gix_url_c.specs.Answers.{PutsText};

@@ -1,8 +1,9 @@
-//! The exports that look at the text of a location: whether it is settled, whether Git reads the same in it, the text, and
-//! what is shown of it.
+//! The exports that look at the text of a location: whether it is settled, whether Git reads the same in it,
+//! the text, and what is shown of it.
 //!
-//! They use `given` and `room`. Their contracts: what is reported is what the library's call returns. With an error the room
-//! and the answer are as they were, and the length is, except with 102; the problem is the fault with 8, and else all 0.
+//! They use `given` and `room`. Their contracts: what is reported is what the library's call returns. With an
+//! error the room and the answer are as they were, and the length is, except with 102; the problem is the
+//! fault with 8, and else all 0.
 
 ghost use Rattle.std.specs.Prelude.{◌≡◌, if◌then◌else◌, nat_lt};
 ghost use Rattle.gix_url.specs.Text.{text};
@@ -81,10 +82,11 @@ pub extern "C" fn gix_url_c_write(
     }
 }
 
-/// Puts what the location is shown as into the room, and reports its length: the `Display` of [`gix_url::UrlRef`].
+/// Puts what the location is shown as into the room, and reports its length: the `Display` of
+/// [`gix_url::UrlRef`].
 ///
-/// It answers 0; 1 where memory is refused; 8 where the location has no text, with the fault; 101 where the parts are
-/// none of a location; 102 where it doesn't fit.
+/// It answers 0; 1 where memory is refused; 8 where the location has no text, with the fault; 101 where the
+/// parts are none of a location; 102 where it doesn't fit.
 #[unsafe(no_mangle)]
 pub extern "C" fn gix_url_c_display(
     alloc: Global,

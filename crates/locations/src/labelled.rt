@@ -1,7 +1,8 @@
 //! Answers with the number of their line before them, or with the line itself behind them.
 //!
-//! Each answer is that of `git_lines::lines::run` over the one line, and so the proved one; what is put beside it has no
-//! contract, and `scripts/hostile` runs it. Nothing is written before all lines are answered.
+//! Each answer is that of `git_lines::lines::run` over the one line, and so the proved one; what is put
+//! beside it has no contract, and `scripts/hostile` runs it. Nothing is written before all lines are
+//! answered.
 
 use crate::options::Labels;
 use git_lines::lines::{self, RunError};

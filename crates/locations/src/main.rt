@@ -1,8 +1,8 @@
 //! The program `locations`: prints a line for each line of its standard input, a Git location.
 //!
-//! The work is `git_lines::lines`; `options` reads the command line, `labelled` puts the number of a line or the line itself
-//! beside its answer. The status is 0 where every line is settled, 1 where one is not, and 2 where the run was cut short or
-//! the arguments are wrong, which a line on standard error reports.
+//! The work is `git_lines::lines`; `options` reads the command line, `labelled` puts the number of a line or
+//! the line itself beside its answer. The status is 0 where every line is settled, 1 where one is not, and 2
+//! where the run was cut short or the arguments are wrong, which a line on standard error reports.
 #![tactic(auto)]
 
 mod labelled;

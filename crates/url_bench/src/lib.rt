@@ -1,7 +1,8 @@
 //! Calls for programs in C, over one text each, so that the instructions that they take can be counted.
 //!
-//! Glue alone: it stands on `gix_url`, and each call says what the calls beneath it promise. The lines that are counted
-//! are `remotes.txt`, the program that makes the calls is `driver.c`, and `scripts/instructions` counts.
+//! Glue alone: it stands on `gix_url`, and each call says what the calls beneath it promise. The lines that
+//! are counted are `remotes.txt`, the program that makes the calls is `driver.c`, and `scripts/instructions`
+//! counts.
 #![tactic(auto)]
 
 ghost use Rattle.std.specs.Prelude.{◌≡◌, ◌<◌, ℕ, List, IsTrue, Ok, length};

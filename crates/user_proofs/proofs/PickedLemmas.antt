@@ -1,4 +1,4 @@
--- Why no entry is for a location: each step that ends without one tells it.
+-- Why no entry is for a location: each step that ends without one says why.
 use Rattle.std.proofs.Common.{◌≡◌, ◌∙◌, ℕ, zero, suc, ◌+◌, ◌*◌, ◌<◌, ◌≤◌, inl, inr, false, List, ◌∷◌, ◌++◌, length, codes, Option, Some, None, Ok, Err, All, IfNone, refl, sym, subst, arith, if◌then◌else◌, is_some}
 use Rattle.std.proofs.lemmas.List.Elements.{All-append, All-cons, All-same, All-weaker}
 use Rattle.gix_url.specs.Location.{Location}

@@ -49,7 +49,8 @@ fn over_home(
     }
 }
 
-/// Expands a path, and reports how often the home folder of the user was asked for; of another one it would be a hundred.
+/// Expands a path, and reports how often the home folder of the user was asked for; of another one it would
+/// be a hundred.
 fn expand_with(
     alloc: Global,
     user: &Option<ForUser>,

@@ -28,8 +28,8 @@ fn is_in_room(name: &str) -> bool {
     name == "UrlRef::parse_in" || name == "ParseError:fmt" || name == "Refusal:fmt"
 }
 
-/// Calls over a text and a room: of as many bytes as the order says, and else as the text has. It isn't empty: what the
-/// library leaves there is none of a location.
+/// Calls over a text and a room: of as many bytes as the order says, and else as the text has. It isn't
+/// empty: what the library leaves there is none of a location.
 fn over_room(alloc: Global, order: Order<'_>, text: &[u8], out: &mut Out) -> Result<(), Halt> {
     let size = match order.number("room") {
         Some(size) => usize::try_from(size).unwrap_or(0),
@@ -89,8 +89,8 @@ fn read(alloc: Global, order: Order<'_>, bytes: BStr<'_>, out: &mut Out) -> Resu
     }
 }
 
-/// Calls that answer lines. The answers go into memory that is taken before: a line is a byte at the least, and its
-/// answer is at most 40 bytes longer than thrice the line.
+/// Calls that answer lines. The answers go into memory that is taken before: a line is a byte at the least,
+/// and its answer is at most 40 bytes longer than thrice the line.
 pub fn over_lines(alloc: Global, order: Order<'_>, out: &mut Out) -> Result<(), Halt> {
     let bytes = order.bytes(alloc, "text")?;
     let mut answers = Vec::with_capacity(alloc, bytes.len().saturating_mul(44).saturating_add(44))?;

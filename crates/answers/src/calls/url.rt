@@ -50,8 +50,8 @@ fn look_or_copy(alloc: Global, order: Order<'_>, url: &Url, out: &mut Out) -> Re
     }
 }
 
-/// Whether a copy of a location, made of one that is there no more, is equal to it and has its hash: as it is, and with
-/// another path.
+/// Whether a copy of a location, made of one that is there no more, is equal to it and has its hash: as it
+/// is, and with another path.
 fn copy_apart(alloc: Global, url: &Url) -> Result<((bool, bool), (bool, bool)), Error> {
     let original = url.clone(alloc)?;
     let copied = original.clone(alloc);
@@ -127,8 +127,8 @@ fn fill_or_cut(alloc: Global, order: Order<'_>, url: &Url, out: &mut Out) -> Res
     }
 }
 
-/// Puts a location into room that holds these bytes, and reports what the call answers and what the room holds
-/// then.
+/// Puts a location into room that holds these bytes, and reports what the call answers and what the room
+/// holds then.
 fn fill(alloc: Global, order: Order<'_>, url: &UrlRef<'_>, out: &mut Out) -> Result<(), Halt> {
     let mut room = order.bytes(alloc, "room")?;
     let outcome = if order.call().is_empty() {

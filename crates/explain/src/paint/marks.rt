@@ -22,8 +22,8 @@ struct Region {
     len: usize,
 }
 
-/// Appends the line, and below it a caret under the byte `at` with a line under the rest of `len` bytes. A place in what
-/// is hidden is under the word. Nothing is appended for an empty line.
+/// Appends the line, and below it a caret under the byte `at` with a line under the rest of `len` bytes. A
+/// place in what is hidden is under the word. Nothing is appended for an empty line.
 pub fn caret(
     out: &mut String,
     cut: &Cut<'_>,

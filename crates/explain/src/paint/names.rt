@@ -1,7 +1,8 @@
 //! The names of pieces below a line.
 //!
-//! They are laid out as compilers lay them out: each begins at the column of its piece, in the first row where it fits,
-//! with `|` in the rows above. It uses `split` and `short`, and has no contract but that it can't abort.
+//! They are laid out as compilers lay them out: each begins at the column of its piece, in the first row
+//! where it fits, with `|` in the rows above. It uses `split` and `short`, and has no contract but that it
+//! can't abort.
 
 use crate::paint::short::{INDENT, fill};
 use explain_text::split::{PIECES, Part, Piece};

@@ -1,6 +1,7 @@
 //! Texts cut at bytes, with their escapes decoded as Git decodes them, and digits.
 //!
-//! It uses `bstr`. Its contract: what is behind a cut is shorter than the text, and a hexadecimal digit is below 16.
+//! It uses `bstr`. Its contract: what is behind a cut is shorter than the text, and a hexadecimal digit is
+//! below 16.
 
 ghost use Rattle.std.specs.Prelude.{◌<◌, IfSome, length};
 

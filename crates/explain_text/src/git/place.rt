@@ -1,4 +1,5 @@
-//! The host and the port that Git reads in a text: where a host in brackets ends, and which digits are a port.
+//! The host and the port that Git reads in a text: where a host in brackets ends, and which digits are a
+//! port.
 //!
 //! It uses `bytes`, and `bstr`.
 
@@ -84,8 +85,8 @@ fn in_brackets(text: &[u8]) -> Option<Bracketed<'_>>
     })
 }
 
-/// What is before a bracket that opens a host and behind it: it is behind the first `@` that is before one, or
-/// else at the front.
+/// What is before a bracket that opens a host and behind it: it is behind the first `@` that is before one,
+/// or else at the front.
 fn opened_host(text: &[u8]) -> Option<(&[u8], &[u8])>
     ensures { IfSome result (λ it. length it.1.now < length text.now) }
 {

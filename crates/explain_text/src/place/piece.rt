@@ -1,6 +1,8 @@
-//! Pieces of a line, each of which knows where in the line it is, so that a fault in one has its place in the line.
+//! Pieces of a line, each of which knows where in the line it is, so that a fault in one has its place in the
+//! line.
 //!
-//! It uses `bstr`. Its contract: the pieces of a piece are of the same line, and what is found in a piece lies in the line.
+//! It uses `bstr`. Its contract: the pieces of a piece are of the same line, and what is found in a piece
+//! lies in the line.
 
 ghost use Rattle.std.specs.Prelude.{◌≡◌, ◌+◌, ◌≤◌, IfSome, length};
 ghost use Rattle.explain_text.specs.Places.{LiesIn};

@@ -46,8 +46,8 @@ fn split_scp_address<'a>(line: &'a [u8], fields: &Fields<'_>) -> Option<Cut<'a>>
     scp_cut(user, place, path, fields)
 }
 
-/// What is before and behind the colon of the scp form: the first one, or in a text that begins with a bracket the
-/// first one behind the bracket that closes.
+/// What is before and behind the colon of the scp form: the first one, or in a text that begins with a
+/// bracket the first one behind the bracket that closes.
 fn scp_halves(line: &[u8]) -> Option<(&[u8], &[u8])> {
     if !line.starts_with(b"[") {
         return line.split_once_str(b":");

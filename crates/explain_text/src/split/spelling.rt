@@ -1,4 +1,5 @@
-//! How fields are spelled in a text: as they are, or with escapes; and whether a piece is spelled for a field.
+//! How fields are spelled in a text: as they are, or with escapes; and whether a piece is spelled for a
+//! field.
 //!
 //! It uses the crates `bstr` and `percent_encoding`.
 

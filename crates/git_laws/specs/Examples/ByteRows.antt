@@ -1,4 +1,5 @@
--- Rows: each class of bytes, and each set of escaped ones, over all 256 bytes, with its members written out in order.
+-- Rows: each class of bytes, and each set of escaped ones, over all 256 bytes, with its members written out
+-- in order.
 use Rattle.std.specs.Prelude.{◌≡◌, ℕ, Bool, true, false, nat_lt, List, [], ◌∷◌, ◌++◌, filter, length, codes}
 use Rattle.std.specs.List.{range_with_len}
 use Rattle.std.specs.Char.{is_ascii_alphabetic, is_ascii_alphanumeric, is_ascii_digit, is_ascii_whitespace, is_whitespace}
@@ -67,7 +68,8 @@ GitByteRows =
 
 -- ---- escapes
 
--- the bytes that quick tests pass: those of plain text, and those that a path and a user are surely written with
+-- the bytes that quick tests pass: those of plain text, and those that a path and a user are surely written
+-- with
 abbrev pub QuickByteRows : Type 0
 QuickByteRows =
     (members is_plain_byte ≡ codes "!\"#$&'()*+,-./0123456789:;<=>?@ABCDEFGHIJKLMNOPQRSTUVWXYZ[\\]^_`abcdefghijklmnopqrstuvwxyz{|}~")

@@ -1,7 +1,8 @@
--- Rows: what Git reads in texts that are written out, as git 2.39.5 reports it (`git fetch-pack --diag-url`, `git ls-remote`);
--- of the end of a line in `git://`, where that transport is allowed. OpenSSH 9.2 reports that it refuses the word `@h`, and reads
--- `ssh://u@x:22` as user `u`, host `x` and port 22 (`ssh -G`). Of `~/x` `git clone` takes another repository than `git fetch`.
--- A text with byte 0 can't be given to a command. What Git's credential code reads was shown by `git credential fill`.
+-- Rows: what Git reads in texts that are written out, as git 2.39.5 reports it (`git fetch-pack --diag-url`,
+-- `git ls-remote`); of the end of a line in `git://`, where that transport is allowed. OpenSSH 9.2 reports
+-- that it refuses the word `@h`, and reads `ssh://u@x:22` as user `u`, host `x` and port 22 (`ssh -G`). Of
+-- `~/x` `git clone` takes another repository than `git fetch`. A text with byte 0 can't be given to a
+-- command. What Git's credential code reads was shown by `git credential fill`.
 use Rattle.std.specs.Prelude.{ℕ, List, [], ◌∷◌, ◌++◌, codes, Option, Some, None}
 use Rattle.git_syntax.specs.Location.Scheme.{git, ssh}
 use Rattle.git_syntax.specs.Bytes.{tab}

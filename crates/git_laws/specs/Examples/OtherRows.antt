@@ -11,8 +11,8 @@ use Rattle.git_laws.specs.Laws.{IsException}
 abbrev pub at_host : Scheme → List ℕ → List ℕ → Location
 at_host scheme host path = record (path_alone scheme false path) { host = Some host }
 
--- FTP needs a host; in a path without a spelling an escape stands for itself; in a record of the older form a `%`
--- without digits is no escape
+-- FTP needs a host; in a path without a spelling an escape stands for itself; in a record of the older form a
+-- `%` without digits is no escape
 abbrev pub SlipRows : Type 0
 SlipRows =
     (requires_host (codes "ftps") ≡ true)

@@ -1,5 +1,5 @@
--- What a place is after it took a text, for each sink, and that two texts taken are one: a formatter, and the walk of the
--- length test. What is behind the text is any, so that texts join without counting.
+-- What a place is after it took a text, for each sink, and that two texts taken are one: a formatter, and the
+-- walk of the length test. What is behind the text is any, so that texts join without counting.
 use Rattle.std.specs.Prelude.{◌≡◌, ℕ, List, [], ◌∷◌, ◌++◌, refl}
 use Rattle.std.proofs.Common.{sym, ap, subst, ◌∙◌, append_assoc}
 use Rattle.std.specs.List.{FoldsTo}
@@ -13,7 +13,8 @@ use Rattle.git_syntax.specs.Internal.LengthChecks.{is_text_in_time}
 -- ---- a formatter
 
 module _ {W : Type 0} (took : W → List ℕ → W → Type 0) where
-  -- a formatter that indents nothing took a text that is shown as it is, whatever comes behind it, and whatever its options
+  -- a formatter that indents nothing took a text that is shown as it is, whatever comes behind it, and
+  -- whatever its options
   abbrev pub ShowsText : Formatter W → List ℕ → Formatter W → Type 0
   ShowsText old text new =
       ((behind : List ℕ) → lossy_text (text ++ behind) ≡ text ++ lossy_text behind)

@@ -15,7 +15,8 @@ IsRootedOnce path = (begins_with slash path ≡ true) × (begins_with_slashes pa
 abbrev pub LacksEmptyQuery : List ℕ → Type 0
 LacksEmptyQuery path = (front : List ℕ) → ¬ (path ≡ front ++ question_mark ∷ [])
 
--- the path has neither a control character nor a fragment, and what is written for it is of bytes of a URI and decoded whole
+-- the path has neither a control character nor a fragment, and what is written for it is of bytes of a URI
+-- and decoded whole
 pub record IsUriPath (path written : List ℕ) : Type 0 where
   pub no_control : Lacks is_control path
   pub no_fragment : FreeOf number_sign path
@@ -26,7 +27,8 @@ pub record IsUriPath (path written : List ℕ) : Type 0 where
 abbrev pub is_simple_byte : ℕ → Bool
 is_simple_byte b = is_between 45 57 b || is_ascii_lowercase b || is_ascii_uppercase b || b == 95
 
--- a byte from which no path of the class is written: a control, `#`, or one that is written raw and is none of a URI
+-- a byte from which no path of the class is written: a control, `#`, or one that is written raw and is none
+-- of a URI
 abbrev pub is_stray : ℕ → Bool
 is_stray b = is_control b || is_one_of (codes "#[\\]^|") b
 

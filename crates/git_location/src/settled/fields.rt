@@ -1,7 +1,7 @@
 //! Tests of one part of a location.
 //!
-//! It uses bytes, escapes, addresses and the hosts of `git_syntax`. Its contract: each test decides the definition
-//! that it is named for. It takes no memory.
+//! It uses bytes, escapes, addresses and the hosts of `git_syntax`. Its contract: each test decides the
+//! definition that it is named for. It takes no memory.
 
 ghost use Rattle.std.specs.Prelude.{◌≡◌, ◌↔◌, IsTrue, codes};
 ghost use Rattle.git_syntax.specs.Bytes.{Holds};

@@ -1,7 +1,7 @@
 //! The settled hosts of URLs.
 //!
-//! It uses `fields`, and bytes, escapes and the hosts of `git_syntax`. Its contract: the answer is yes exactly for
-//! the hosts that the definitions settle. It takes no memory.
+//! It uses `fields`, and bytes, escapes and the hosts of `git_syntax`. Its contract: the answer is yes
+//! exactly for the hosts that the definitions settle. It takes no memory.
 
 ghost use Rattle.std.specs.Prelude.{◌≡◌, ◌↔◌, IsTrue, Option};
 ghost use Rattle.git_location.specs.Settled.{IsBareHost, IsBracketedAddress, IsBracketedHost, IsWebHost, IsWebName};

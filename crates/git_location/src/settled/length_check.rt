@@ -1,7 +1,8 @@
 //! The length test of a text that is nowhere as a whole: a walk past its pieces.
 //!
-//! It uses the walk of `length`, the pieces of the writer and `value`. Its contract: the answer is yes exactly where
-//! the text of the location is short enough. The lengths of the parts decide for nearly all. It takes no memory.
+//! It uses the walk of `length`, the pieces of the writer and `value`. Its contract: the answer is yes
+//! exactly where the text of the location is short enough. The lengths of the parts decide for nearly all. It
+//! takes no memory.
 
 ghost use Rattle.std.specs.Prelude.{◌≡◌, ◌≤◌, ◌^◌, ◌↔◌, ◌+◌, IsTrue, Ok, drop, length, option_map};
 ghost use Rattle.git_syntax.specs.Bytes.{FreeOf, colon};
@@ -23,8 +24,8 @@ use git_syntax::length::{LIMIT, LengthCheck};
 use itoa::Buffer;
 use std::convert::Infallible;
 
-/// Whether the text of the location, which is that of a URL, is short enough. It is laid out where neither its pieces
-/// are at hand nor its parts are short.
+/// Whether the text of the location, which is that of a URL, is short enough. It is laid out where neither
+/// its pieces are at hand nor its parts are short.
 pub(crate) fn has_fitting_text(url: &UrlRef<'_>, laid: Option<&Pieces<'_>>) -> bool
     requires no_colon { FreeOf colon (scheme_text url.now.scheme) }
     requires canonical { text url.now ≡ Ok (canonical_text url.now) }
@@ -46,8 +47,8 @@ fn has_short_parts(url: &UrlRef<'_>) -> bool
     longest_len(url) <= LIMIT as u128
 }
 
-/// A length that the location's text as a URL is not longer than: an escape has three bytes, and the marks and the port
-/// have at most 14.
+/// A length that the location's text as a URL is not longer than: an escape has three bytes, and the marks
+/// and the port have at most 14.
 fn longest_len(url: &UrlRef<'_>) -> u128
     ensures { length (canonical_text url.now) ≤ result }
 {
@@ -82,8 +83,8 @@ fn spelling_len(spelling: Option<&[u8]>) -> u128
     }
 }
 
-/// Whether the text of the location, which is laid out now, is short enough. Few come here, and the code that all go
-/// through doesn't grow by it.
+/// Whether the text of the location, which is laid out now, is short enough. Few come here, and the code that
+/// all go through doesn't grow by it.
 #[inline(never)]
 fn is_own_short(url: &UrlRef<'_>) -> bool
     requires no_colon { FreeOf colon (scheme_text url.now.scheme) }

@@ -1,7 +1,7 @@
 //! The settled remote helpers, local paths and file URLs.
 //!
-//! It uses `fields`, `bytes`, `escape`, `text`, and `classify` for the form of a path. Its contract: the answer is yes
-//! exactly for those that the definitions settle. It takes no memory.
+//! It uses `fields`, `bytes`, `escape`, `text`, and `classify` for the form of a path. Its contract: the
+//! answer is yes exactly for those that the definitions settle. It takes no memory.
 
 ghost use Rattle.std.specs.Prelude.{◌↔◌, IsTrue, IfSome};
 ghost use Rattle.git_syntax.specs.Grammar.{LocalForm};

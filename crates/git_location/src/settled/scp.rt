@@ -1,7 +1,7 @@
 //! The settled locations in the scp form.
 //!
-//! It uses `fields`, `bytes`, `escape`, `home`, `host` and `text`. Its contract: the answer is yes exactly for those
-//! that the definitions settle. It takes no memory.
+//! It uses `fields`, `bytes`, `escape`, `home`, `host` and `text`. Its contract: the answer is yes exactly
+//! for those that the definitions settle. It takes no memory.
 
 ghost use Rattle.std.specs.Prelude.{◌↔◌, IsTrue, IfSome};
 ghost use Rattle.git_location.specs.Settled.{HasScpHost, IsScpHost, IsScpName, IsScpPath, IsScpUser, IsSettledScp, LooksLikeHelper};

@@ -1,7 +1,7 @@
 //! The settled URLs, except for those of files.
 //!
-//! It uses `host`, `length_check`, `fields`, `bytes`, `escape`, `home`, `scheme` and `text`. Its contract: the answer
-//! is yes exactly for those that the definitions settle. It takes no memory.
+//! It uses `host`, `length_check`, `fields`, `bytes`, `escape`, `home`, `scheme` and `text`. Its contract:
+//! the answer is yes exactly for those that the definitions settle. It takes no memory.
 
 ghost use Rattle.std.specs.Prelude.{◌≡◌, ◌↔◌, IsTrue, IsUtf8, true, IfSome};
 ghost use Rattle.git_syntax.specs.Location.Scheme.{git, helper_url, ssh};

@@ -1,7 +1,7 @@
 //! The form of a text: how a location is written, or why it can't be.
 //!
-//! It uses `bytes` and `url_ref`. Its contract: the form is the one that the definition chooses, and a fault comes
-//! exactly where the definition has it. It takes no memory.
+//! It uses `bytes` and `url_ref`. Its contract: the form is the one that the definition chooses, and a fault
+//! comes exactly where the definition has it. It takes no memory.
 
 ghost use Rattle.std.specs.Prelude.{◌≡◌};
 ghost use Rattle.git_syntax.specs.Bytes.{is_helper_name};

@@ -1,7 +1,7 @@
 //! The layout of a text: which pieces are in it, in which order.
 //!
-//! It uses `bytes`, `escape` and `ipv6`, and the forms and pieces of this module's siblings. Its contract: the
-//! pieces of a location make up its text, and a fault is the location's own. It takes no memory.
+//! It uses `bytes`, `escape` and `ipv6`, and the forms and pieces of this module's siblings. Its contract:
+//! the pieces of a location make up its text, and a fault is the location's own. It takes no memory.
 
 ghost use Rattle.std.specs.Prelude.{◌≡◌, ℕ, List, ◌++◌, option_map, unwrap_or};
 ghost use Rattle.git_syntax.specs.Location.Scheme.{ssh};
@@ -20,8 +20,8 @@ use git_syntax::{bytes, escape, ipv6};
 use itoa::Buffer;
 
 impl<'a> UrlRef<'a> {
-    /// The pieces of the text that the location has with this password in place of its own, or why it has none.
-    /// The digits of the port are in the buffer.
+    /// The pieces of the text that the location has with this password in place of its own, or why it has
+    /// none. The digits of the port are in the buffer.
     pub fn pieces<'b>(
         &'b self,
         password: Option<&'b str>,

@@ -1,8 +1,8 @@
 //! The pieces of a text: what a text is made of, in its order, each slice with the way that it is written.
 //!
-//! It uses the crate `percent_encoding`, the sets of `escape`, and this module's siblings `unescaped` and `sink`. The
-//! pieces are lent from the location. They are the one description of a text: `len` adds them up, and `put` puts them
-//! into any sink. It takes no memory.
+//! It uses the crate `percent_encoding`, the sets of `escape`, and this module's siblings `unescaped` and
+//! `sink`. The pieces are lent from the location. They are the one description of a text: `len` adds them up,
+//! and `put` puts them into any sink. It takes no memory.
 
 ghost use Rattle.std.specs.Prelude.{◌≡◌, ◌≤◌, ◌*◌, ◌^◌, ◌==◌, ◌++◌, IsTrue, OnOk, length, [], count_by};
 ghost use Rattle.percent_encoding.specs.AsciiSet.{should_percent_encode};

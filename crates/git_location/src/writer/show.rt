@@ -1,8 +1,8 @@
 //! The sink that shows a text to people: a formatter.
 //!
-//! It uses `fill`, `piece` and `sink`. Its contract: what is shown is the text as UTF-8, with U+FFFD in place of what is
-//! none, whatever options the formatter has. A text of common length is shown in one call, so that a formatter over memory
-//! that grows has to ask for it once. It takes no memory.
+//! It uses `fill`, `piece` and `sink`. Its contract: what is shown is the text as UTF-8, with U+FFFD in place
+//! of what is none, whatever options the formatter has. A text of common length is shown in one call, so that
+//! a formatter over memory that grows has to ask for it once. It takes no memory.
 
 ghost use Rattle.std.specs.Prelude.{◌≡◌, ◌≤◌, length};
 ghost use Rattle.std.specs.Fmt.{WritesOnOk, WritesStyledOnOk};

@@ -1,9 +1,9 @@
 //! Sinks: the places that a text is put into, slice by slice.
 //!
-//! It uses the crate `percent_encoding` and nothing else of this crate. The contract of a [`Sink`]: a place that took
-//! two slices is one that took them joined, so what puts a text slice by slice puts the whole text. `Output` is a
-//! writer; `fill` adds room that is there, `show` formatters, and `settled` the walk of its length test. It takes no
-//! memory.
+//! It uses the crate `percent_encoding` and nothing else of this crate. The contract of a [`Sink`]: a place
+//! that took two slices is one that took them joined, so what puts a text slice by slice puts the whole text.
+//! `Output` is a writer; `fill` adds room that is there, `show` formatters, and `settled` the walk of its
+//! length test. It takes no memory.
 
 ghost use Rattle.std.specs.Prelude.{ℕ, List, [], ◌++◌, OnOk};
 ghost use Rattle.std.specs.Io.KnownBytes.{Appends};

@@ -1,7 +1,7 @@
 //! Texts that need no escape: quick tests for texts that are written without an escape, as most are.
 //!
-//! It uses nothing of this crate, and asks for no memory. Its contract, in the words of `escape`: a text that passes is
-//! written as it is. One that doesn't pass may be written so too.
+//! It uses nothing of this crate, and asks for no memory. Its contract, in the words of `escape`: a text that
+//! passes is written as it is. One that doesn't pass may be written so too.
 
 ghost use Rattle.std.specs.Prelude.{◌≡◌, IsTrue};
 ghost use Rattle.std.specs.List.{list_all};

@@ -1,5 +1,5 @@
-//! That a configuration is read in one way: what the contracts of [`Reader`](crate::config::Reader) say of its items
-//! determines them.
+//! That a configuration is read in one way: what the contracts of [`Reader`](crate::config::Reader) say of
+//! its items determines them.
 //!
 //! It has no code and uses nothing.
 

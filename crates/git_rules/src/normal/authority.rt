@@ -1,7 +1,8 @@
 //! The authority of a URL, as Git compares it: the user, the host and the port.
 //!
-//! It uses the cuts and the escapes of `git_syntax`, and `host`. Its contract: the parts are found exactly where the definitions
-//! have them, else a flaw; user and host are slices, whose normal form is written later.
+//! It uses the cuts and the escapes of `git_syntax`, and `host`. Its contract: the parts are found exactly
+//! where the definitions have them, else a flaw; user and host are slices, whose normal form is written
+//! later.
 
 ghost use Rattle.std.specs.Prelude.{◌≡◌, ◌≤◌, MatchResult, length};
 ghost use Rattle.std.specs.Option.{option_copied};

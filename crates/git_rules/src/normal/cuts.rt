@@ -1,6 +1,7 @@
 //! Where the parts of a URL begin.
 //!
-//! It uses the cuts and classes of bytes of `git_syntax`. Its contract: each cut is reported as a concatenation.
+//! It uses the cuts and classes of bytes of `git_syntax`. Its contract: each cut is reported as a
+//! concatenation.
 
 ghost use Rattle.std.specs.Prelude.{◌≡◌, List, ℕ, MatchOption, true};
 ghost use Rattle.memchr.specs.Find.{IsFirstByte};

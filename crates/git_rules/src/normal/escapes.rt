@@ -1,4 +1,5 @@
-//! The normal form of escapes: each byte that must be escaped is, in upper case, and no other except for delimiters.
+//! The normal form of escapes: each byte that must be escaped is, in upper case, and no other except for
+//! delimiters.
 //!
 //! It uses the escapes of the crate `percent_encoding`. Its contract: what is written into the
 //! front of a room is the normal form of a text whose escapes are sound.

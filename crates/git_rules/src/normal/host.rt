@@ -1,7 +1,7 @@
 //! The host and the port of a URL, as Git compares them.
 //!
-//! It uses the cuts of `git_syntax`. Its contract: a host and a port are found exactly where the definitions have them, else
-//! a flaw; the host is a slice, to be lowered.
+//! It uses the cuts of `git_syntax`. Its contract: a host and a port are found exactly where the definitions
+//! have them, else a flaw; the host is a slice, to be lowered.
 
 ghost use Rattle.std.specs.Prelude.{◌≡◌, ◌↔◌, ℕ, IsTrue, MatchOption, MatchResult, bytes_eq, codes};
 ghost use Rattle.std.specs.Char.{is_ascii_digit};

@@ -1,8 +1,8 @@
 //! The path of a URL, as Git compares it: without the segments `.` and `..`, with its query and its fragment.
 //!
-//! It uses `cuts` and `escapes`. Its contract: what is written into the front of a room is the path that the definitions have;
-//! a path that has none has a flaw. The room holds the path of a stack of segments all the way: a segment is put behind it,
-//! and taken off again by cutting at the last `/`.
+//! It uses `cuts` and `escapes`. Its contract: what is written into the front of a room is the path that the
+//! definitions have; a path that has none has a flaw. The room holds the path of a stack of segments all the
+//! way: a segment is put behind it, and taken off again by cutting at the last `/`.
 
 ghost use Rattle.std.specs.Prelude.{◌≡◌, ◌++◌, ◌∷◌, ◌+◌, ◌*◌, ◌≤◌, List, [], ℕ, IfSome, MatchResult, length, max, take, true, bytes_eq, codes};
 ghost use Rattle.git_syntax.specs.Bytes.{FreeOf, slash};

@@ -1,6 +1,7 @@
 //! The normal form of a URL written: slices of the text where they have the same bytes, and of a room.
 //!
-//! It uses `escapes` and `path`. Its contract: each part is the normal form of its slice; a path that has none has a flaw.
+//! It uses `escapes` and `path`. Its contract: each part is the normal form of its slice; a path that has
+//! none has a flaw.
 
 ghost use Rattle.std.specs.Prelude.{◌≡◌, ◌+◌, ◌*◌, ◌≤◌, MatchResult, length, option_map};
 ghost use Rattle.std.specs.Option.{option_copied};

@@ -1,8 +1,8 @@
 //! The entries of a configuration that apply to a place, and the best of them.
 //!
-//! It uses `config`, `normal` and the patterns. Its contract: an entry applies with the rank that the definitions give it,
-//! and the best is one of those that apply, by Git's order. It takes no memory: each URL is read into one room that the
-//! caller lends.
+//! It uses `config`, `normal` and the patterns. Its contract: an entry applies with the rank that the
+//! definitions give it, and the best is one of those that apply, by Git's order. It takes no memory: each URL
+//! is read into one room that the caller lends.
 
 ghost use Rattle.std.specs.Prelude.{◌≡◌, ◌↔◌, IsTrue, length};
 ghost use Rattle.git_rules.specs.PatternEntries.{IsBestIn, IsOfVariable, RanksIn, RanksUrlIn};
@@ -20,19 +20,21 @@ const LOWEST: Rank = Rank {
 
 /// The rank with which the entry sets the variable `section.<url>.name` for the place; none where it doesn't.
 ///
-/// It does exactly where its section and its name are these, without letter case, and it has no subsection, or a URL with a
-/// normal form that stands for the place, as a [`UrlPattern`] does. Without a subsection its rank is the lowest: it is for
-/// all places. The room is for the URL: three times as many bytes as that has, and one more. No memory is asked for.
+/// It does exactly where its section and its name are these, without letter case, and it has no subsection,
+/// or a URL with a normal form that stands for the place, as a [`UrlPattern`] does. Without a subsection its
+/// rank is the lowest: it is for all places. The room is for the URL: three times as many bytes as that has,
+/// and one more. No memory is asked for.
 ///
-/// Of `http.*` Git takes the best entry, as [`best_entry`] does. Of `credential.*` it goes through all that apply, in their
-/// order, so ask this of each; two things differ there:
+/// Of `http.*` Git takes the best entry, as [`best_entry`] does. Of `credential.*` it goes through all that
+/// apply, in their order, so ask this of each; two things differ there:
 ///
-/// - Git also takes an entry whose subsection isn't a whole URL, as `credential.example.com.helper`, and compares the parts
-///   that it has with those of the request. This call passes it over, be it a `helper` that is empty, with which Git drops
-///   those before it.
-/// - Git compares with a URL that it makes of the parts of the request: the path is decoded, loses the slashes at its end,
-///   and is escaped again, `?` and `=` too. So a URL with a path may apply there and not here, or here and not there, where
-///   the path of the place has a query, an escaped delimiter or such slashes. A URL without a path knows no difference.
+/// - Git also takes an entry whose subsection isn't a whole URL, as `credential.example.com.helper`, and
+///   compares the parts that it has with those of the request. This call passes it over, be it a `helper`
+///   that is empty, with which Git drops those before it.
+/// - Git compares with a URL that it makes of the parts of the request: the path is decoded, loses the
+///   slashes at its end, and is escaped again, `?` and `=` too. So a URL with a path may apply there and not
+///   here, or here and not there, where the path of the place has a query, an escaped delimiter or such
+///   slashes. A URL without a path knows no difference.
 ///
 /// # Errors
 ///
@@ -98,11 +100,12 @@ fn is_of_room(error: NormalError) -> bool
     }
 }
 
-/// The index of the best of the entries that set the variable `section.<url>.name` for the place; none where none does. It
-/// looks at each entry once, and takes no memory.
+/// The index of the best of the entries that set the variable `section.<url>.name` for the place; none where
+/// none does. It looks at each entry once, and takes no memory.
 ///
-/// The one with the highest [`Rank`] is the best, and of these the last: it is the entry whose value Git takes of `http.*`.
-/// What [`entry_rank`] says of the room, which is used for one URL after the other, holds of each entry.
+/// The one with the highest [`Rank`] is the best, and of these the last: it is the entry whose value Git
+/// takes of `http.*`. What [`entry_rank`] says of the room, which is used for one URL after the other, holds
+/// of each entry.
 ///
 /// # Errors
 ///

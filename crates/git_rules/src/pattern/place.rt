@@ -1,7 +1,7 @@
 //! The normal form of the text of a location, in a room that the caller lends.
 //!
-//! It uses the writer of `git_location` and `normal`. Its contract: the normal form is that of the text that the location has
-//! by the definitions, or it says why there is none. It takes no memory.
+//! It uses the writer of `git_location` and `normal`. Its contract: the normal form is that of the text that
+//! the location has by the definitions, or it says why there is none. It takes no memory.
 
 ghost use Rattle.std.specs.Prelude.{◌≤◌, length, take};
 ghost use Rattle.git_location.specs.Text.{text};
@@ -25,8 +25,8 @@ pub enum PlaceError {
 
 /// The place of the location: the normal form of its text, by which Git picks settings for it.
 ///
-/// The text is written to the front of the room, and its normal form behind it. Room for four times as many bytes as the text
-/// has, and one more, is asked for ([`UrlRef::text_len`] reports its length); no memory is.
+/// The text is written to the front of the room, and its normal form behind it. Room for four times as many
+/// bytes as the text has, and one more, is asked for ([`UrlRef::text_len`] reports its length); no memory is.
 ///
 /// # Errors
 ///

@@ -1,7 +1,7 @@
 //! Whether two locations name the same host, as a rewritten one should.
 //!
-//! It uses borrowed locations and the hosts that Secure Shell takes. Its contract: hosts are compared by their names, and
-//! nothing else of the locations is looked at.
+//! It uses borrowed locations and the hosts that Secure Shell takes. Its contract: hosts are compared by
+//! their names, and nothing else of the locations is looked at.
 
 ghost use Rattle.std.specs.Prelude.{◌≡◌, ◌↔◌, IsTrue, length};
 ghost use Rattle.git_rules.specs.SameHost.{ComparesHosts, HaveSameHost, host_name};
@@ -10,11 +10,13 @@ use git_location::parse_error::ParseError;
 use git_location::url_ref::UrlRef;
 use git_syntax::ssh_host::ssh_host_text;
 
-/// Whether two locations name the same host, so that a program can warn about a remote that a rule moves to another one.
+/// Whether two locations name the same host, so that a program can warn about a remote that a rule moves to
+/// another one.
 ///
-/// Hosts are compared without letter case (ASCII), without brackets around them, and without a lone colon behind
-/// them. Two locations without a host count as the same. Neither scheme nor user nor port is looked at: the same host may
-/// be reached by another protocol, or another service of it. Nor is a name resolved. It takes no memory.
+/// Hosts are compared without letter case (ASCII), without brackets around them, and without a lone colon
+/// behind them. Two locations without a host count as the same. Neither scheme nor user nor port is looked
+/// at: the same host may be reached by another protocol, or another service of it. Nor is a name resolved. It
+/// takes no memory.
 ///
 /// ```
 /// /// Whether a rule moves a location to a host that the user hasn't named.
@@ -34,8 +36,8 @@ pub fn names_same_host(a: &UrlRef<'_>, b: &UrlRef<'_>) -> bool
     }
 }
 
-/// The same of two texts, each of which is read into a buffer of its own. A buffer as long as its text is enough. It takes
-/// no memory.
+/// The same of two texts, each of which is read into a buffer of its own. A buffer as long as its text is
+/// enough. It takes no memory.
 ///
 /// ```
 /// /// Whether both texts name the same host; none where one of them isn't read, or is longer than 1,024 bytes.

@@ -1,5 +1,5 @@
-//! That rules make one outcome of a text, and no other: what the contracts of [`Rewrites`](crate::rewrite::Rewrites) say of
-//! an outcome determines it.
+//! That rules make one outcome of a text, and no other: what the contracts of
+//! [`Rewrites`](crate::rewrite::Rewrites) say of an outcome determines it.
 //!
 //! It has no code and uses nothing.
 

@@ -1,7 +1,7 @@
 //! What becomes of a text that is rewritten: a [`Rewritten`], of two slices.
 //!
-//! It uses `bytes` of `git_syntax` to put them together. Its contract: to all others it is a base, if there is one, and a
-//! rest, and its text is the one before the other.
+//! It uses `bytes` of `git_syntax` to put them together. Its contract: to all others it is a base, if there
+//! is one, and a rest, and its text is the one before the other.
 
 ghost use Rattle.std.specs.Prelude.{◌≡◌, ◌++◌, IfOk, is_some};
 ghost use Rattle.bstr.specs.Owned.{bstring_bytes};
@@ -12,8 +12,8 @@ use git_syntax::bytes::append_within;
 use std::alloc::{AllocError, Global};
 use std::marker::Model;
 
-/// What becomes of a text that is rewritten: the base of the rule that won, and the text behind that rule's front; or no
-/// base and the text itself. It borrows both.
+/// What becomes of a text that is rewritten: the base of the rule that won, and the text behind that rule's
+/// front; or no base and the text itself. It borrows both.
 ///
 /// ```
 /// /// The front that a rule takes off a text, if one wins.
@@ -42,7 +42,8 @@ impl<'a> Model for Rewritten<'a> {
 }
 
 impl Rewritten<'_> {
-    /// Whether a rule won. Its base may be the front that it replaces, and then the text is the same. It takes no memory.
+    /// Whether a rule won. Its base may be the front that it replaces, and then the text is the same. It
+    /// takes no memory.
     ///
     /// ```
     /// /// How many of the locations a configuration rewrites.

@@ -1,7 +1,7 @@
 //! A table of rules, and which of them wins.
 //!
-//! It uses `outcome`. A rule is kept with the number of rules before the first one with its base, so that one pass over
-//! the table finds the rule that wins. To all others a table is a list of rules.
+//! It uses `outcome`. A rule is kept with the number of rules before the first one with its base, so that one
+//! pass over the table finds the rule that wins. To all others a table is a list of rules.
 
 ghost use Rattle.std.specs.Prelude.{◌≡◌, ◌<◌, ◌↔◌, ◌⊎◌, ◌++◌, ◌∷◌, [], List, IsTrue, OnErr, OnOk, length, map};
 ghost use Rattle.git_rules.specs.Rewrites.{Applies, IsRewritten, Rule};
@@ -130,8 +130,8 @@ fn applies(text: &[u8], rule: &Ranked<'_>) -> bool
     text.starts_with(rule.front)
 }
 
-/// The better of two rules that apply: the first, unless the second has the longer front, or one of the same length and the
-/// lower rank.
+/// The better of two rules that apply: the first, unless the second has the longer front, or one of the same
+/// length and the lower rank.
 fn better_of<'a>(first: Ranked<'a>, second: Ranked<'a>) -> Ranked<'a>
     ensures { IsBetterOf first.entry second.entry result }
 {

@@ -1,7 +1,7 @@
 //! Whether the parts of a location make a command: the user, the host, the path and the port.
 //!
-//! It uses the tests of bytes of `git_syntax`, and takes no memory. Its contract: a part is refused exactly where the
-//! definitions refuse it, for their reason.
+//! It uses the tests of bytes of `git_syntax`, and takes no memory. Its contract: a part is refused exactly
+//! where the definitions refuse it, for their reason.
 
 ghost use Rattle.std.specs.Prelude.{◌≡◌, IfErr, IfOk, None, Some, option_map};
 ghost use Rattle.std.specs.Result.{result_err};

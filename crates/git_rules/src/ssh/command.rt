@@ -1,7 +1,7 @@
 //! A command of Secure Shell, by its parts, and the words that it is run with.
 //!
-//! It uses `words`, which writes a word, and asks for memory for the words alone. Its contract: the words are those of the
-//! definitions (`specs/SecureShell.antt`), and each command is safe, wherever it comes from.
+//! It uses `words`, which writes a word, and asks for memory for the words alone. Its contract: the words are
+//! those of the definitions (`specs/SecureShell.antt`), and each command is safe, wherever it comes from.
 
 ghost use Rattle.std.specs.Prelude.{◌≡◌, ◌<◌, IfOk, IfSome, map, option_map};
 ghost use Rattle.bstr.specs.Owned.{bstring_bytes};
@@ -16,11 +16,12 @@ use std::marker::Model;
 /// As many words as a command can have.
 const MOST_WORDS: usize = 6;
 
-/// A command of Secure Shell, by its parts: the program that is run, what it is asked for, and the parts of the location.
+/// A command of Secure Shell, by its parts: the program that is run, what it is asked for, and the parts of
+/// the location.
 ///
-/// A location lends its parts, so making a command takes no memory. [`ssh_command`](super::ssh_command) makes one; by hand
-/// one is made only of parts that it would let by, since each place that makes one has to prove that: contracts know of
-/// each command that it is safe (`IsSafeCommand`), wherever it comes from.
+/// A location lends its parts, so making a command takes no memory. [`ssh_command`](super::ssh_command) makes
+/// one; by hand one is made only of parts that it would let by, since each place that makes one has to prove
+/// that: contracts know of each command that it is safe (`IsSafeCommand`), wherever it comes from.
 ///
 /// ```
 /// /// Whether the command says who logs in.
@@ -59,8 +60,9 @@ impl<'a> Model for SshCommand<'a> {
 }
 
 impl SshCommand<'_> {
-    /// The value that Git gives the variable `GIT_PROTOCOL` in the environment of the program; none where it gives none. The
-    /// word `SendEnv=GIT_PROTOCOL` is there exactly where there is a value. It takes no memory.
+    /// The value that Git gives the variable `GIT_PROTOCOL` in the environment of the program; none where it
+    /// gives none. The word `SendEnv=GIT_PROTOCOL` is there exactly where there is a value. It takes no
+    /// memory.
     ///
     /// ```
     /// fn asks_for_version_2(command: &SshCommand<'_>) -> bool {
@@ -80,13 +82,14 @@ impl SshCommand<'_> {
         }
     }
 
-    /// The words behind the name of the program, which isn't among them. Memory is asked for once for the list, which has
-    /// 2 to 6 words, and once for each of them.
+    /// The words behind the name of the program, which isn't among them. Memory is asked for once for the
+    /// list, which has 2 to 6 words, and once for each of them.
     ///
-    /// First come the options: `-o` and `SendEnv=GIT_PROTOCOL` where a version is sent, `-batch` for `tortoiseplink`, and
-    /// where there is a port `-p` for OpenSSH or else `-P`, and its digits. Then comes the destination, `user@host` or the
-    /// host, and at last the command for the server's shell: the service, a space, and the path in single quotes, in which
-    /// `'` and `!` are written `'\''` and `'\!'`. Each word goes to the program as one argument, with no shell on this side.
+    /// First come the options: `-o` and `SendEnv=GIT_PROTOCOL` where a version is sent, `-batch` for
+    /// `tortoiseplink`, and where there is a port `-p` for OpenSSH or else `-P`, and its digits. Then comes
+    /// the destination, `user@host` or the host, and at last the command for the server's shell: the service,
+    /// a space, and the path in single quotes, in which `'` and `!` are written `'\''` and `'\!'`. Each word
+    /// goes to the program as one argument, with no shell on this side.
     ///
     /// ```
     /// fn last_word(alloc: Global, command: &SshCommand<'_>) -> Result<Option<BString>, AllocError> {

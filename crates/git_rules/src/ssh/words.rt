@@ -1,4 +1,5 @@
-//! The words of a command: the port's option, the destination and the remote command, with the path in Git's quotes.
+//! The words of a command: the port's option, the destination and the remote command, with the path in Git's
+//! quotes.
 //!
 //! It asks for memory once for each word. Its contract: the words are those of the definitions.
 

@@ -1,4 +1,5 @@
--- What the cuts of a text answer: the pieces joined are the text, and where a mark was searched for, one is free of it.
+-- What the cuts of a text answer: the pieces joined are the text, and where a mark was searched for, one is
+-- free of it.
 use Rattle.std.specs.Prelude.{◌≡◌, ℕ, false, List, [], ◌∷◌, ◌++◌, Option, MatchOption, codes}
 use Rattle.std.specs.Borrow.{Bor}
 use Rattle.git_syntax.specs.Bytes.{FreeOf, Holds, begins_with}

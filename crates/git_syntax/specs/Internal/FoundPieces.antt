@@ -1,4 +1,5 @@
--- What is found in a text before anything is copied: the location that the slices mean, and the room that it takes.
+-- What is found in a text before anything is copied: the location that the slices mean, and the room that it
+-- takes.
 use Rattle.std.specs.Prelude.{◌≡◌, ℕ, ◌+◌, true, false, ◌==◌, List, [], ◌∷◌, length, Option, Some, None, option_map, IfSome, IsUtf8, if◌then◌else◌}
 use Rattle.std.specs.Option.{option_copied, unwrap_or}
 use Rattle.std.specs.List.{list_any}
@@ -89,7 +90,8 @@ meant (found.Ext text) = path_alone ext true text.now
 meant (found.Url rules url) = url_location (scheme_of url.scheme.now) (syntax_of url)
 meant (found.Scp user host path) = scp_location (option_copied user) (scp_host_of host) path.now
 
--- the rules of a URL are those of its scheme, what becomes text is UTF-8, and it is known whether its path holds a `%`
+-- the rules of a URL are those of its scheme, what becomes text is UTF-8, and it is known whether its path
+-- holds a `%`
 pub record IsReadyUrl (rules : Rules) (url : ParsedUrl) : Type 0 where
   pub ruled : AreRulesOf url.scheme.now rules
   pub scheme_text : IsUtf8 url.scheme.now
@@ -123,7 +125,8 @@ parts_length parts = optional_length parts.user + optional_length parts.password
     + optional_length parts.host
     + length (percent_decode parts.path)
 
--- room for so many bytes is enough for what has other bytes than the text: parts of a URL, and the host of the scp form
+-- room for so many bytes is enough for what has other bytes than the text: parts of a URL, and the host of
+-- the scp form
 abbrev pub room_for : Found → ℕ
 room_for (found.Url rules url) = parts_length (syntax_of url)
 room_for (found.Scp user host path) = length (scp_slice host)

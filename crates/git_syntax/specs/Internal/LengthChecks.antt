@@ -1,4 +1,5 @@
--- The length test as a walk over what follows the `://` of a URL: whether a path starts before too many bytes count.
+-- The length test as a walk over what follows the `://` of a URL: whether a path starts before too many bytes
+-- count.
 use Rattle.std.specs.Prelude.{ℕ, ◌+◌, length, take, drop, nat_le, ◌||◌, Bool, List, [], ◌∷◌, if◌then◌else◌}
 use Rattle.std.specs.Char.{is_ascii_whitespace}
 use Rattle.std.specs.List.{list_any}

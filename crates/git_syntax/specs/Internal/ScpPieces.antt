@@ -29,8 +29,8 @@ pub record SpellsHost (piece meant : List ℕ) : Type 0 where
   pub names : SpellsHostPort git_hosts piece (Some named) None
   pub unbracketed : Unbrackets named meant
 
--- what is found in a host that isn't empty: what it names where each `%` is read as its own escape, or a flaw of it where it
--- is
+-- what is found in a host that isn't empty: what it names where each `%` is read as its own escape, or a flaw
+-- of it where it is
 abbrev pub ReadsScpPiece : List ℕ → Result rust.ScpHost Fault → Type 0
 ReadsScpPiece host result = MatchResult result
     (λ found. SpellsHost (escaped_percents host) (scp_host_of found))

@@ -54,7 +54,8 @@ pub data HasNoText (information : List ℕ) (at len : ℕ) : Type 0 where
       → ¬ IsUtf8 (percent_decode w) → at ≡ length u + 1 → len ≡ length w
       → HasNoText information at len
 
--- what is read of user information: the user and the password that it holds, or a part of it that decodes to no text
+-- what is read of user information: the user and the password that it holds, or a part of it that decodes to
+-- no text
 abbrev pub ReadsCredentials : List ℕ → Result CredentialSlices Fault → Type 0
 ReadsCredentials information result = MatchResult result
     (λ parts. HoldsCredentials information parts)

@@ -1,7 +1,7 @@
 //! The text of a host, made of the slices that were read of it.
 //!
-//! It may use `bytes`, `escape` and `text`. Its contract: the text is the host that the slices stand for. It is written
-//! into a room that the caller has, or into memory of its own, which is asked for once.
+//! It may use `bytes`, `escape` and `text`. Its contract: the text is the host that the slices stand for. It
+//! is written into a room that the caller has, or into memory of its own, which is asked for once.
 
 ghost use Rattle.std.specs.Prelude.{◌≡◌, ◌+◌, ◌≤◌, ◌++◌, IfOk, IsUtf8, drop, length, string_bytes, take};
 ghost use Rattle.git_syntax.specs.Bytes.{lowercase};
@@ -95,7 +95,8 @@ fn write_shown(room: &mut [u8], piece: HostPiece<'_>) -> usize
     size
 }
 
-/// Writes the text of a piece, decoded where it has to be, into the front of the room, and returns its length.
+/// Writes the text of a piece, decoded where it has to be, into the front of the room, and returns its
+/// length.
 fn write_unescaped(room: &mut [u8], piece: HostPiece<'_>) -> usize
     requires { length (unescaped_host piece) ≤ length room.old }
     ensures size { result ≡ length (unescaped_host piece.entry) }

@@ -1,7 +1,7 @@
 //! Tests of the bytes of a host: those of HTTP, those of a domain name, and IPv6 literals with their zones.
 //!
-//! It may use `bytes`, `escape` and `ipv6`, and asks for no memory. Its contract: each test is exactly the definition
-//! that it is named after.
+//! It may use `bytes`, `escape` and `ipv6`, and asks for no memory. Its contract: each test is exactly the
+//! definition that it is named after.
 
 ghost use Rattle.std.specs.Prelude.{◌≡◌, ◌↔◌, IsTrue};
 ghost use Rattle.std.specs.List.{list_all};

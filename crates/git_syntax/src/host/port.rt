@@ -1,7 +1,7 @@
 //! What follows a host: nothing, a colon that stays with it, or a colon and a port.
 //!
-//! It may use `bytes` and `text`, and asks for no memory. Its contract: a port is read exactly where the definitions
-//! have one, and a host is reported together with what follows it.
+//! It may use `bytes` and `text`, and asks for no memory. Its contract: a port is read exactly where the
+//! definitions have one, and a host is reported together with what follows it.
 
 ghost use Rattle.std.specs.Prelude.{◌≡◌, ◌↔◌, ◌∷◌, ℕ, IsTrue, MatchOption, Some};
 ghost use Rattle.std.specs.Char.{is_ascii_digit};
@@ -40,7 +40,8 @@ pub(super) fn ends_host(rest: &[u8]) -> bool
     rest.is_empty() || starts_with_byte(rest, b':')
 }
 
-/// A host with a colon and this text behind it: the colon stays where the text is empty, else the text is the port.
+/// A host with a colon and this text behind it: the colon stays where the text is empty, else the text is the
+/// port.
 pub(super) fn with_port<'a>(
     syntax: HostSyntax,
     piece: HostPiece<'a>,

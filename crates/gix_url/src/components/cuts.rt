@@ -1,7 +1,7 @@
 //! A text together with what it stands for, and cuts of both at once.
 //!
-//! It uses the cuts of `bytes`, `near` and the counts of `measure`. Its contract: the parts of a text stand for the parts
-//! of what it stands for, so that no part has to be decoded into memory.
+//! It uses the cuts of `bytes`, `near` and the counts of `measure`. Its contract: the parts of a text stand
+//! for the parts of what it stands for, so that no part has to be decoded into memory.
 
 ghost use Rattle.std.specs.Prelude.{◌≡◌, ◌==◌, ◌++◌, [], ◌∷◌, false, true};
 ghost use Rattle.std.specs.Char.{is_digit};

@@ -1,7 +1,9 @@
-//! The fields of a query, in two walks: the first counts them, so that the room for their list is asked for once.
+//! The fields of a query, in two walks: the first counts them, so that the room for their list is asked for
+//! once.
 //!
-//! It uses `cuts`, `near` and `lend`. Its contract: each field between `&` that isn't empty is a name and a value, in
-//! order. A query whose escapes stand for themselves is walked as it is, without what it stands for.
+//! It uses `cuts`, `near` and `lend`. Its contract: each field between `&` that isn't empty is a name and a
+//! value, in order. A query whose escapes stand for themselves is walked as it is, without what it stands
+//! for.
 
 ghost use Rattle.std.specs.Prelude.{◌≡◌, ◌==◌, ◌+◌, ◌≤◌, ◌<◌, ◌++◌, [], ◌∷◌, IfOk, IsTrue, OnOk, false, length, vec_capacity, vec_len};
 ghost use Rattle.git_syntax.specs.Bytes.{FreeOf, ampersand, plus_sign};
@@ -69,8 +71,8 @@ fn lend_raw<'a>(
     Ok(pairs)
 }
 
-/// Puts the name and the value of the field behind the pairs, for which there is room, unless it is empty. Where it is
-/// known that no `+` is in the field, it is not searched for one.
+/// Puts the name and the value of the field behind the pairs, for which there is room, unless it is empty.
+/// Where it is known that no `+` is in the field, it is not searched for one.
 #[inline(always)]
 fn push_field<'a>(
     alloc: Global,
@@ -96,8 +98,8 @@ fn push_field<'a>(
     push_made(alloc, pairs, field)
 }
 
-/// Puts the name and the value of a field behind the pairs, for which there is room. It is apart, so that the walk over
-/// the fields doesn't have the memory of its results to clear.
+/// Puts the name and the value of a field behind the pairs, for which there is room. It is apart, so that the
+/// walk over the fields doesn't have the memory of its results to clear.
 #[inline(never)]
 fn push_made<'a>(
     alloc: Global,
@@ -140,7 +142,8 @@ pub(super) fn push_within<'a>(
     let _ = pushed;
 }
 
-/// How many fields are not empty. They are counted in short pieces of the query, where a number of one byte serves.
+/// How many fields are not empty. They are counted in short pieces of the query, where a number of one byte
+/// serves.
 fn count_fields(query: &[u8]) -> usize
     ensures { result ≡ field_count query.now }
 {

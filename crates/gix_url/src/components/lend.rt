@@ -1,7 +1,7 @@
 //! Names and values of a query: lent as they are in the path, or made where a raw `+` means a space.
 //!
-//! It uses `cuts` and the tests of `bytes`. Its contract: a name or a value is what its piece stands for, with each
-//! raw `+` a space, and memory is asked for only where there is one, and then once.
+//! It uses `cuts` and the tests of `bytes`. Its contract: a name or a value is what its piece stands for,
+//! with each raw `+` a space, and memory is asked for only where there is one, and then once.
 
 ghost use Rattle.std.specs.Prelude.{◌≡◌, ◌==◌, if◌then◌else◌, IfOk};
 ghost use Rattle.git_syntax.specs.Bytes.{FreeOf, plus_sign, space};

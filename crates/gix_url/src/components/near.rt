@@ -1,7 +1,7 @@
 //! Cuts of a text around a byte that is likely to be near, as those of a query are.
 //!
-//! It uses the cuts of `bytes` alone, and its contract is theirs. The first bytes are looked at one by one, which takes
-//! less than to begin a search of a long text.
+//! It uses the cuts of `bytes` alone, and its contract is theirs. The first bytes are looked at one by one,
+//! which takes less than to begin a search of a long text.
 
 ghost use Rattle.std.specs.Prelude.{◌≤◌, length, take};
 ghost use Rattle.git_syntax.specs.Bytes.{FreeOf};

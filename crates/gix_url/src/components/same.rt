@@ -1,9 +1,9 @@
 //! Equality and copies of components: names and values count by their bytes.
 //!
 //! It uses the types of this module's parent, `fields` for the list of a copy, and `error`. Its contract: two
-//! components are equal exactly where their parts are, whether these are lent or not, and a copy is equal to what was
-//! copied, and lends what that lends. Equality takes no memory; a copy asks for it once for the list of a query and
-//! once for each name or value that is not lent.
+//! components are equal exactly where their parts are, whether these are lent or not, and a copy is equal to
+//! what was copied, and lends what that lends. Equality takes no memory; a copy asks for it once for the list
+//! of a query and once for each name or value that is not lent.
 
 ghost use Rattle.std.specs.Prelude.{◌≡◌, ◌+◌, ◌<◌, ◌≤◌, ◌↔◌, ◌++◌, [], ◌∷◌, IfErr, IfOk, IsOk, IsTrue, bytes_eq, length, map, option_map, true};
 ghost use Rattle.std.specs.Cmp.{on_equiv, on_per, partial_equiv_from_equiv};

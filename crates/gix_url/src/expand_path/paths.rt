@@ -1,7 +1,7 @@
 //! Paths as text: their pieces, the parent of a path, and a path below a folder.
 //!
-//! It uses `bytes`. Its contracts speak of pieces and concatenations, so that no caller sees an index. A parent is a
-//! front of the text and takes no memory; what is joined is appended in place.
+//! It uses `bytes`. Its contracts speak of pieces and concatenations, so that no caller sees an index. A
+//! parent is a front of the text and takes no memory; what is joined is appended in place.
 
 ghost use Rattle.std.specs.Prelude.{◌≡◌, ◌++◌, List, ℕ, OnOk, string_bytes};
 ghost use Rattle.std.specs.Option.{option_copied};

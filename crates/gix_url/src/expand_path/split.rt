@@ -13,7 +13,8 @@ use bstr::{BString, ByteSlice};
 use git_syntax::bytes::{after, cut};
 use std::alloc::{AllocError, Global};
 
-/// The name of the user in whose home folder the path begins, which is empty for the current one, and what lies below.
+/// The name of the user in whose home folder the path begins, which is empty for the current one, and what
+/// lies below.
 pub(super) fn cut_home(path: &[u8]) -> Option<(&[u8], &[u8])>
     ensures { CutsHome path.now result }
 {

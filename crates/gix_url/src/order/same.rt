@@ -1,8 +1,8 @@
 //! Equality of bytes, a word at a time.
 //!
-//! It uses nothing of this crate. Its contract: the answer is that of `==`. That costs a call and a search by groups of
-//! 32, which takes longer than a comparison of locations is to take: their hosts and paths have 8 to 32 bytes mostly. It
-//! takes no memory.
+//! It uses nothing of this crate. Its contract: the answer is that of `==`. That costs a call and a search by
+//! groups of 32, which takes longer than a comparison of locations is to take: their hosts and paths have 8
+//! to 32 bytes mostly. It takes no memory.
 
 ghost use Rattle.std.specs.Prelude.{◌≡◌, ◌≤◌, ◌-◌, bytes_eq, drop, length, take};
 ghost use Rattle.std.specs.Int.{from_le_bytes, to_le_bytes, w64};

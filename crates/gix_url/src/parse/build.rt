@@ -1,7 +1,7 @@
 //! Building: the location that found slices mean, with bytes of its own.
 //!
-//! It may use `found`, `bytes`, `copies`, `home`, `host`, `from_fields`, `to_location`, `scheme` and `text`. Its
-//! contract: the location is the one that the slices mean. Memory is asked for once for each part.
+//! It may use `found`, `bytes`, `copies`, `home`, `host`, `from_fields`, `to_location`, `scheme` and `text`.
+//! Its contract: the location is the one that the slices mean. Memory is asked for once for each part.
 
 ghost use Rattle.std.specs.Prelude.{◌≡◌, IfOk, IfSome, IsUtf8, option_map, string_bytes};
 ghost use Rattle.std.specs.Option.{option_copied};

@@ -1,6 +1,7 @@
 //! Copies of pieces of a text.
 //!
-//! It uses nothing of this crate but `text`. Each copy asks for memory once, and not at all where it is empty.
+//! It uses nothing of this crate but `text`. Each copy asks for memory once, and not at all where it is
+//! empty.
 
 ghost use Rattle.std.specs.Prelude.{◌≡◌, IfOk, IsUtf8, option_map, string_bytes};
 ghost use Rattle.bstr.specs.Owned.{bstring_bytes};

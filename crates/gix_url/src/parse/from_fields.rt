@@ -1,7 +1,7 @@
 //! The one place below `parse` that builds a location: a [`Url`] made of its parts.
 //!
-//! It uses the types alone, copies nothing and asks for no memory. Its contract: the location has the parts that are
-//! given, and nothing else.
+//! It uses the types alone, copies nothing and asks for no memory. Its contract: the location has the parts
+//! that are given, and nothing else.
 
 ghost use Rattle.std.specs.Prelude.{◌≡◌, option_map, string_bytes};
 ghost use Rattle.bstr.specs.Owned.{bstring_bytes};

@@ -1,8 +1,8 @@
 //! The location that the parts of a URL stand for.
 //!
-//! It may use `rules`, `url_syntax`, `host`, `ssh_host`, `copies`, `from_fields`, `scheme`, `text` and `escape`. Its
-//! contract: the location is the one that the definitions give the parts. Each part is decoded once, into memory of its
-//! own, and is edited in place.
+//! It may use `rules`, `url_syntax`, `host`, `ssh_host`, `copies`, `from_fields`, `scheme`, `text` and
+//! `escape`. Its contract: the location is the one that the definitions give the parts. Each part is decoded
+//! once, into memory of its own, and is edited in place.
 
 ghost use Rattle.std.specs.Prelude.{◌≡◌, ◌<◌, ◌↔◌, List, ℕ, IsTrue, IfOk, IfSome, IsUtf8, true, length, option_map, string_bytes};
 ghost use Rattle.bstr.specs.Owned.{bstring_bytes};

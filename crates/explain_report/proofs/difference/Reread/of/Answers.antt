@@ -1,4 +1,4 @@
--- The location that is told beside is the one that the own text spells.
+-- The location that is reported beside is the one that the own text spells.
 use Rattle.std.proofs.Common.{◌≡◌, refl, ℕ, List, Option, Some, None, Result, Ok, Err, IfSome}
 use Rattle.gix_url.specs.declared.error.Error.TheVariants as error
 use Rattle.git_location.specs.declared.write_error.WriteFault.{WriteFault}
