@@ -1,8 +1,8 @@
 //! The page that `explain --html` writes.
 //!
-//! [`page::Page`] takes a line after the other, and writes the page when it has all. What it says of a line is what
-//! `explain_report` reports of it; text goes in by [`markup::Markup`] alone, by whose contract it adds no
-//! markup.
+//! [`page::Page`] takes a line after the other, and writes the page when it has all. What it says of a line
+//! is what `explain_report` reports of it; text goes in by [`markup::Markup`] alone, by whose contract it
+//! adds no markup.
 #![tactic(auto)]
 
 mod article;

@@ -42,8 +42,8 @@ impl<'a> UrlRef<'a> {
     ///
     /// # Errors
     ///
-    /// [`WriteError::Fault`] exactly where the location has no text; nothing was written then. [`WriteError::Io`]
-    /// where the writer failed; nothing is said of how much it took.
+    /// [`WriteError::Fault`] exactly where the location has no text; nothing was written then.
+    /// [`WriteError::Io`] where the writer failed; nothing is said of how much it took.
     pub fn write_to<W: Write>(&self, out: &mut W) -> Result<(), WriteError>
         ensures { Written W.contents out.old out.new (text self.now) result }
     {

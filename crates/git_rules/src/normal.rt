@@ -84,8 +84,8 @@ impl<'a> NormalUrl<'a> {
     ///
     /// # Errors
     ///
-    /// [`NormalError::NoRoom`] where the room is shorter than that, and else what the text has no normal form for: then Git
-    /// has no settings for it.
+    /// [`NormalError::NoRoom`] where the room is shorter than that, and else what the text has no normal form
+    /// for: then Git has no settings for it.
     ///
     /// ```
     /// /// The host whose settings apply to a text.
@@ -123,8 +123,8 @@ fn is_enough(text: usize, room: usize) -> bool
 }
 
 /// A text has one normal form at most; and where all readers agree in the text of a location of HTTP, as
-/// [`git_location::url_ref::UrlRef::agrees_with_git`] reports, its normal form has the location's own scheme and host, the
-/// location's port where that isn't the scheme's own, and its user as it is written.
+/// [`git_location::url_ref::UrlRef::agrees_with_git`] reports, its normal form has the location's own scheme
+/// and host, the location's port where that isn't the scheme's own, and its user as it is written.
 pub fn law_normal_form()
     ensures one { OneNormalForm }
     ensures place { KeepsPlace }

@@ -54,8 +54,8 @@ impl<'a> UrlPattern<'a> {
     ///
     /// # Errors
     ///
-    /// [`NormalError::NoRoom`] where the room is shorter than that, and else what the text has no normal form for: then Git
-    /// takes no entry of `http.*` with it.
+    /// [`NormalError::NoRoom`] where the room is shorter than that, and else what the text has no normal form
+    /// for: then Git takes no entry of `http.*` with it.
     ///
     /// ```
     /// /// Whether a pattern stands for a place, each in a room of its own.
@@ -290,12 +290,12 @@ fn behind<'a>(front: &[u8], text: &'a [u8]) -> Option<&'a [u8]>
 /// What a pattern picks goes to the place of the pattern, and to no other.
 ///
 /// Let a pattern without `*` in its host stand for the normal form of the text of a location of HTTP that
-/// [`UrlRef::agrees_with_git`](git_location::url_ref::UrlRef::agrees_with_git) accepts. Then what Git's credential code reads
-/// in that text, and what a reader of URIs as libcurl reads in it, has the scheme, the host and the port of
-/// the pattern, each port the scheme's own where none is there. The host of the pattern may have a `.` at its
-/// end that theirs lacks: Git passes over it, and the name is the same (RFC 1034, section 3.1). So a
-/// credential that is picked by the pattern, for a text that is then given to Git, goes nowhere else. That
-/// each of the two readers reads one thing in such a text is
+/// [`UrlRef::agrees_with_git`](git_location::url_ref::UrlRef::agrees_with_git) accepts. Then what Git's
+/// credential code reads in that text, and what a reader of URIs as libcurl reads in it, has the scheme, the
+/// host and the port of the pattern, each port the scheme's own where none is there. The host of the pattern
+/// may have a `.` at its end that theirs lacks: Git passes over it, and the name is the same (RFC 1034,
+/// section 3.1). So a credential that is picked by the pattern, for a text that is then given to Git, goes
+/// nowhere else. That each of the two readers reads one thing in such a text is
 /// [`law_git`](git_laws::laws::law_git).
 ///
 /// ```

@@ -95,9 +95,9 @@ impl<'a> Rewrites<'a> {
     ///
     /// # Errors
     ///
-    /// [`RewriteError::NoValue`] with the place of the first rule that has no value, at which Git stops; a program that
-    /// goes on without it adds the entries one by one, by [`Rewrites::add_entry`]. [`RewriteError::Memory`]
-    /// where memory is refused.
+    /// [`RewriteError::NoValue`] with the place of the first rule that has no value, at which Git stops; a
+    /// program that goes on without it adds the entries one by one, by [`Rewrites::add_entry`].
+    /// [`RewriteError::Memory`] where memory is refused.
     pub fn from_entries(alloc: Global, entries: &[Entry<'a>]) -> Result<Rewrites<'a>, RewriteError>
         ensures { IsFilled entries.now result }
     {

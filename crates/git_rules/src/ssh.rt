@@ -210,8 +210,8 @@ impl Service {
 ///
 /// # Errors
 ///
-/// [`SshError::Refused`] exactly where [`ssh_command`] refuses the location, for its reason, whatever memory there is;
-/// [`SshError::Memory`] where memory is refused.
+/// [`SshError::Refused`] exactly where [`ssh_command`] refuses the location, for its reason, whatever memory
+/// there is; [`SshError::Memory`] where memory is refused.
 pub fn ssh_words(
     alloc: Global,
     url: &UrlRef<'_>,

@@ -1,8 +1,8 @@
 //! The syntax of Git locations: which form a text has, and the slices of it that a location is made of.
 //!
-//! [`find::find`] finds what a text spells, or names a flaw that is in it. It takes no memory, and what it finds are
-//! slices of the text. What is below it distinguishes texts, bytes, escapes, IPv6 addresses, schemes and
-//! hosts. Nothing here knows the type of a location: its value is that of the definitions
+//! [`find::find`] finds what a text spells, or names a flaw that is in it. It takes no memory, and what it
+//! finds are slices of the text. What is below it distinguishes texts, bytes, escapes, IPv6 addresses,
+//! schemes and hosts. Nothing here knows the type of a location: its value is that of the definitions
 //! ([`specs/Location`]).
 #![tactic(auto)]
 

@@ -77,8 +77,8 @@ impl Url {
     ///
     /// # Errors
     ///
-    /// [`Error::Memory`], where the location can't be copied; then `resolve` is not called. [`Error::PathNotUtf8`] and
-    /// [`Error::Unresolved`] come where `canonicalize` answers them.
+    /// [`Error::Memory`], where the location can't be copied; then `resolve` is not called.
+    /// [`Error::PathNotUtf8`] and [`Error::Unresolved`] come where `canonicalize` answers them.
     ///
     /// ```
     /// /// The same location by the path that the file system has for it.

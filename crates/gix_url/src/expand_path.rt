@@ -147,9 +147,9 @@ fn shell_path(alloc: Global, path: &[u8]) -> Result<Option<BString>, AllocError>
 ///
 /// # Errors
 ///
-/// [`Error::PathNotUtf8`], where the path is no text; that is tested first, and takes no memory. [`Error::NoHome`], with
-/// the user, where `home` answers none. [`Error::Memory`], where the path can't be appended or the user can't
-/// be copied.
+/// [`Error::PathNotUtf8`], where the path is no text; that is tested first, and takes no memory.
+/// [`Error::NoHome`], with the user, where `home` answers none. [`Error::Memory`], where the path can't be
+/// appended or the user can't be copied.
 ///
 /// ```
 /// /// The path, where all users have their home folders in `/home`.
@@ -197,9 +197,9 @@ pub fn with<F: FnOnce(&ForUser) -> Option<String> + Drop>(
 ///
 /// # Errors
 ///
-/// [`Error::PathNotUtf8`], where the path is no text; that is tested first, and takes no memory. [`Error::NoHome`], with
-/// the user, where there is no `home`, or where another user's folder is wanted and `home` has no parent.
-/// [`Error::Memory`], where the answer or the user can't be copied.
+/// [`Error::PathNotUtf8`], where the path is no text; that is tested first, and takes no memory.
+/// [`Error::NoHome`], with the user, where there is no `home`, or where another user's folder is wanted and
+/// `home` has no parent. [`Error::Memory`], where the answer or the user can't be copied.
 ///
 /// ```
 /// /// A path below the home folder of its user, by the home folder that the environment names.

@@ -42,10 +42,10 @@ impl Url {
     ///
     /// # Errors
     ///
-    /// [`Error::HelperName`] exactly for a remote helper by a name that no helper can have, with that name. Else
-    /// [`Error::Unwritable`] exactly where the parts have no text. Both ask for no memory. Where the text spells no
-    /// location, what it is refused with, which reports on the text. [`Error::Memory`] where memory is
-    /// refused, and for settled parts no other.
+    /// [`Error::HelperName`] exactly for a remote helper by a name that no helper can have, with that name.
+    /// Else [`Error::Unwritable`] exactly where the parts have no text. Both ask for no memory. Where the
+    /// text spells no location, what it is refused with, which reports on the text. [`Error::Memory`] where
+    /// memory is refused, and for settled parts no other.
     #[allow(clippy::too_many_arguments)]
     pub fn from_parts(
         alloc: Global,

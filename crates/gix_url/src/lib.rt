@@ -1,9 +1,8 @@
 //! Parses, writes and compares Git locations: remote helpers, URLs, the scp form and local paths.
 //!
-//! [`parse::parse`] reads bytes and [`Url::from_text`] text; [`Url::write_to`] and [`Url::to_bstring`] write a
-//! location, and one that [`Url::is_settled`] accepts comes back with the same public fields and the same
-//! text.
-//! [`Url::user_as_argument`] and its like report which parts a command may get.
+//! [`parse::parse`] reads bytes and [`Url::from_text`] text; [`Url::write_to`] and [`Url::to_bstring`] write
+//! a location, and one that [`Url::is_settled`] accepts comes back with the same public fields and the same
+//! text. [`Url::user_as_argument`] and its like report which parts a command may get.
 //!
 //! What owns bytes is here. What only looks at a location is defined on [`UrlRef`], in the crate
 //! `git_location`, and what finds the parts of a text in `git_syntax`; this crate passes on all that users

@@ -17,9 +17,8 @@ use std::marker::Model;
 /// Contracts see all eight parts of it as one value, the retained spelling of its path among them.
 ///
 /// The fields may be changed by hand. A location may have no text then, or one that is read as something
-/// else:
-/// [`Url::is_settled`] reports. `Debug` and `Display` show `redacted` in place of the field `password`, and hide nothing
-/// else: a secret that is in a path or a query, or in the user's place, is shown.
+/// else: [`Url::is_settled`] reports. `Debug` and `Display` show `redacted` in place of the field `password`,
+/// and hide nothing else: a secret that is in a path or a query, or in the user's place, is shown.
 ///
 /// ```
 /// /// Whether a command of Secure Shell needs the option for a port.

@@ -37,8 +37,8 @@ use std::alloc::Global;
 ///
 /// # Errors
 ///
-/// [`Error::EmptyLocal`], [`Error::MissingPath`], [`Error::NotUtf8`], [`Error::TooLong`] and [`Error::BadUrl`], each where
-/// what it names is in the bytes. [`Error::Memory`] where memory is refused.
+/// [`Error::EmptyLocal`], [`Error::MissingPath`], [`Error::NotUtf8`], [`Error::TooLong`] and
+/// [`Error::BadUrl`], each where what it names is in the bytes. [`Error::Memory`] where memory is refused.
 ///
 /// ```
 /// /// Whether bytes that somebody sent spell a location; where memory is refused there is no answer.

@@ -35,9 +35,9 @@ impl Url {
     ///
     /// # Errors
     ///
-    /// [`Error::Unwritable`] exactly where the location has no text, and then no memory is asked for. Where the text
-    /// spells no location, what [`parse`] refuses it with; the error reports on the text. [`Error::Memory`]
-    /// where memory is refused, and for a settled location no other.
+    /// [`Error::Unwritable`] exactly where the location has no text, and then no memory is asked for. Where
+    /// the text spells no location, what [`parse`] refuses it with; the error reports on the text.
+    /// [`Error::Memory`] where memory is refused, and for a settled location no other.
     pub fn reread(&self, alloc: Global) -> Result<Url, Error>
         ensures read { (t : List ℕ) → text self.now ≡ Ok t → Reads t result }
         ensures fault { (f : WriteFault) → text self.now ≡ Err f → result

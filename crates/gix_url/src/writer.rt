@@ -38,8 +38,8 @@ impl Url {
     ///
     /// # Errors
     ///
-    /// [`WriteError::Fault`] exactly where the location has no text; nothing was written then. [`WriteError::Io`]
-    /// where the writer failed; nothing is said of how much it took.
+    /// [`WriteError::Fault`] exactly where the location has no text; nothing was written then.
+    /// [`WriteError::Io`] where the writer failed; nothing is said of how much it took.
     pub fn write_to<W: Write>(&self, out: &mut W) -> Result<(), WriteError>
         ensures { Written W.contents out.old out.new (text self.now) result }
     {
@@ -79,8 +79,8 @@ impl Url {
     ///
     /// # Errors
     ///
-    /// [`Error::Unwritable`] exactly where the location has no text. [`Error::Memory`] where memory is refused, or
-    /// where the text is longer than any memory; for a settled location no other.
+    /// [`Error::Unwritable`] exactly where the location has no text. [`Error::Memory`] where memory is
+    /// refused, or where the text is longer than any memory; for a settled location no other.
     pub fn to_bstring(&self, alloc: Global) -> Result<BString, Error>
         ensures text { IfOk result (λ s. text self.now ≡ Ok (bstring_bytes s)) }
         ensures fault { (f : WriteFault) → text self.now ≡ Err f → result
@@ -120,8 +120,8 @@ impl Url {
     ///
     /// # Errors
     ///
-    /// [`Error::Unwritable`] exactly where the location has no text. [`Error::Memory`] where memory is refused, or
-    /// where the text is longer than any memory; for a settled location no other.
+    /// [`Error::Unwritable`] exactly where the location has no text. [`Error::Memory`] where memory is
+    /// refused, or where the text is longer than any memory; for a settled location no other.
     pub fn text_of(alloc: Global, url: &UrlRef<'_>) -> Result<BString, Error>
         ensures text { IfOk result (λ s. text url.now ≡ Ok (bstring_bytes s)) }
         ensures fault { (f : WriteFault) → text url.now ≡ Err f → result

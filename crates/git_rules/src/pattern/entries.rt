@@ -38,7 +38,8 @@ const LOWEST: Rank = Rank {
 ///
 /// # Errors
 ///
-/// [`NormalError::NoRoom`] where the entry sets the variable for a URL, and the room is too short for that; no other error.
+/// [`NormalError::NoRoom`] where the entry sets the variable for a URL, and the room is too short for that;
+/// no other error.
 ///
 /// ```
 /// /// The helper that an entry of a configuration names for a place.
@@ -109,8 +110,8 @@ fn is_of_room(error: NormalError) -> bool
 ///
 /// # Errors
 ///
-/// [`NormalError::NoRoom`] where the room is too short for the URL of one of the entries that set the variable; no other
-/// error.
+/// [`NormalError::NoRoom`] where the room is too short for the URL of one of the entries that set the
+/// variable; no other error.
 ///
 /// ```
 /// /// The proxy that Git uses for a place.

@@ -30,9 +30,9 @@ pub enum PlaceError {
 ///
 /// # Errors
 ///
-/// [`PlaceError::Fault`] where the location has no text, [`PlaceError::Normal`] with
-/// [`NormalError::NoRoom`] where the room is shorter than that, and else with what the text has no normal form for: then
-/// Git has no settings for it, but those that are for all places.
+/// [`PlaceError::Fault`] where the location has no text, [`PlaceError::Normal`] with [`NormalError::NoRoom`]
+/// where the room is shorter than that, and else with what the text has no normal form for: then Git has no
+/// settings for it, but those that are for all places.
 ///
 /// ```
 /// /// Whether a pattern stands for a location.

@@ -73,8 +73,8 @@ impl<'a> PathComponents<'a> {
     ///
     /// # Errors
     ///
-    /// [`Error::Memory`] where memory is refused for the list of the query, or for a name or a value that is not lent.
-    /// Components without a query take none.
+    /// [`Error::Memory`] where memory is refused for the list of the query, or for a name or a value that is
+    /// not lent. Components without a query take none.
     pub fn clone(&self, alloc: Global) -> Result<PathComponents<'a>, Error>
         ensures equal { IfOk result (λ copy. components copy ≡ components self.now) }
         ensures alike { IfOk result (λ copy. what_is_lent copy ≡ what_is_lent self.now) }
