@@ -7,7 +7,7 @@ import re
 from rt_api import LAYERS, LIBRARIES, LIBRARY, ROOT, stands_on
 from source_modules import paths_of
 
-CALLS = f"{ROOT}/crates/answers/src/*.rt"
+PROGRAM = "answers"
 # What layers below pass to those above: public by a type or a module that the library passes on, and for no user.
 OF_LAYERS = {
     "SchemeRef::of_known_scheme", "UrlRef::canonical_pieces", "UrlRef::form", "UrlRef::helper_pieces", "UrlRef::is_settled_as",
@@ -66,7 +66,7 @@ def contracts(libraries=LIBRARIES):
 def program_calls():
     """The names of the calls that the program makes."""
     found = set()
-    for file in glob.glob(CALLS):
+    for file in files_of(PROGRAM):
         with open(file, encoding="utf-8") as it:
             found.update(re.findall(r'"(\w+::?\w+)"', it.read()))
     return found
