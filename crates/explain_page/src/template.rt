@@ -26,7 +26,7 @@ pub const PAGE: [Part; 19] = [
         r##"<!DOCTYPE html>
 <html lang="en">
 <meta charset="utf-8">
-<meta http-equiv="Content-Security-Policy" content="default-src 'none'; style-src 'sha256-cvbGBqvkkFijvRftOnhsSjmMJKP9uMrHzgsHQ5NCev0='; script-src 'sha256-s0ztrpq2N07TFiro+TitHrvs1jjYqCo6sFnd+OioHY8='; base-uri 'none'; form-action 'none'">
+<meta http-equiv="Content-Security-Policy" content="default-src 'none'; style-src 'sha256-MyycO7kcTuxlZ5E50F6ZuZqnzDJ94SDUFAdaJ11bG3o='; script-src 'sha256-s0ztrpq2N07TFiro+TitHrvs1jjYqCo6sFnd+OioHY8='; base-uri 'none'; form-action 'none'">
 <meta name="viewport" content="width=device-width, initial-scale=1">
 <meta name="color-scheme" content="light dark">
 <meta name="generator" content="explain --html">
@@ -143,6 +143,7 @@ span:not([class]) {
 }
 mark > span:not([class]) { background: inherit; text-decoration: inherit; }
 td > div, th > div { max-height: 12rem; overflow-y: auto; }
+.counts th > div { contain: inline-size; }
 .b.l, .b.l td:not(.z, [colspan]) { width: 100%; }
 
 @media (max-width: 40rem) {
