@@ -1,4 +1,4 @@
-# Completions of bash for `locations` and `explain`: `source completions/gix_url.bash`
+# Completions of bash for `explain`: `source completions/gix_url.bash`
 
 _gix_url_words() {
   COMPREPLY=($(compgen -W "$1" -- "$2"))
@@ -11,11 +11,6 @@ _gix_url_is_behind_options() {
     [ "$it" = -- ] && return 0
   done
   return 1
-}
-
-_gix_url_locations() {
-  COMPREPLY=()
-  _gix_url_is_behind_options || _gix_url_words "--number --with-input --help --version" "${COMP_WORDS[COMP_CWORD]}"
 }
 
 _gix_url_explain() {
@@ -35,5 +30,4 @@ _gix_url_explain() {
   esac
 }
 
-complete -F _gix_url_locations locations ./locations
 complete -o filenames -F _gix_url_explain explain ./explain

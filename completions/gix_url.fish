@@ -1,10 +1,4 @@
-# Completions of fish for `locations` and `explain`: `source completions/gix_url.fish`
-
-complete -c locations -f
-complete -c locations -s n -l number -d "Print the number of each line before its answer"
-complete -c locations -l with-input -d "Print the line itself behind its answer"
-complete -c locations -s h -l help -d "Print help"
-complete -c locations -s V -l version -d "Print version"
+# Completions of fish for `explain`: `source completions/gix_url.fish`
 
 complete -c explain -f
 complete -c explain -l json -d "Print one JSON object a line"

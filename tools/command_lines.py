@@ -4,22 +4,17 @@ import pty
 import subprocess
 from collections import namedtuple
 
-from rt_api import ROOT, built
+from rt_api import ROOT, program
 
 # A call: the program, its arguments, its input; its status, what it prints, and a part of what it reports as wrong.
 Call = namedtuple("Call", "program words input status shown reported", defaults=(b"", 0, b"", b""))
 LINES = b"h:p\n\nhttp://h:0/\n"
+ANSWERS = b"settled\th:p\nrefused\tEmptyLocal\nrefused\tBadUrl BadPort\n"
 WRONG = {"status": 2, "reported": b"error: "}
 
 CALLS = [
-    Call("locations", ["h:p"], **WRONG),
-    Call("locations", ["remotes.txt"], **WRONG),
-    Call("locations", ["--nonsense"], **WRONG),
-    Call("locations", [], LINES, 1, b"settled\th:p\nrefused\tEmptyLocal\nrefused\tBadUrl BadPort\n"),
-    Call("locations", ["-n"], LINES, 1, b"1\tsettled\th:p\n2\trefused\tEmptyLocal\n3\trefused\tBadUrl BadPort\n"),
-    Call("locations", ["--with-input"], b"h:p\nHTTP://H/ x\na\tb", 1, b"settled\th:p\th:p\nrefused\tBadUrl BadCharacter\tHTTP://H/ x\nsettled\ta\tb\ta\tb\n"),
-    Call("locations", ["--number", "--with-input"], b"ssh://H/p", 0, b"1\tsettled\tssh://h/p\tssh://H/p\n"),
-    Call("locations", ["--number"], b""),
+    *(Call("locations", words, LINES, 1, ANSWERS) for words in ([], ["--nonsense", "x"], ["--help"], ["/no/such/file"], [b"\xff"], [""])),
+    Call("locations", ["-"], b"a::b://c\n/srv/repo.git\n", 0, b"settled\ta::b://c\nsettled\t/srv/repo.git\n"),
     Call("explain", ["--nonsense"], **WRONG),
     Call("explain", ["--only", "password", "h:p"], **WRONG),
     Call("explain", ["--json", "--quiet", "h:p"], **WRONG),
@@ -47,41 +42,40 @@ CALLS = [
     Call("explain", ["--color=always", "http://h:0/"], status=1,
          shown=b"line 1: refused: the port of HTTP must not be 0\n    http://h:0/\n             \x1b[1;31m^\x1b[0m\n"),
 ]
-# The options that print what a program is, and the file of its crate that its launcher prints for them.
+# The options by which `explain` prints what it is, and the files of its crate that hold the same.
 OF_ITSELF = {"--help": "help", "-h": "help", "--version": "version", "-V": "version"}
-PROGRAMS = ("locations", "explain")
 
 
 def fault_of(call):
     """What is wrong with a call, if anything is."""
-    ran = subprocess.run([built(call.program, "run"), *call.words], input=call.input, stdout=subprocess.PIPE, stderr=subprocess.PIPE, timeout=60)
+    ran = subprocess.run([program(call.program), *call.words], input=call.input, stdout=subprocess.PIPE, stderr=subprocess.PIPE, timeout=60)
     reports = call.reported in ran.stderr if call.reported else not ran.stderr
     is_right = ran.returncode == call.status and ran.stdout == call.shown and reports
     return None if is_right else f"{call.program} {call.words}: {ran.returncode}, {ran.stdout!r}, {ran.stderr!r}"
 
 
-def stored(program, file):
-    with open(f"{ROOT}/crates/{program}/{file}", "rb") as it:
+def stored(file):
+    with open(f"{ROOT}/crates/explain/{file}", "rb") as it:
         return it.read()
 
 
-def terminal_faults(program):
-    """On a terminal a program that reads it says so, in one line."""
+def terminal_faults():
+    """Where `explain` reads a terminal it says so, in one line."""
     terminal, streams = pty.openpty()
-    started = subprocess.Popen([built(program, "run")], stdin=streams, stdout=subprocess.DEVNULL, stderr=subprocess.PIPE)
+    started = subprocess.Popen([program("explain")], stdin=streams, stdout=subprocess.DEVNULL, stderr=subprocess.PIPE)
     os.write(terminal, b"\x04")
     said = started.communicate(timeout=20)[1]
     os.close(streams)
     os.close(terminal)
-    if started.returncode or said.count(b"\n") != 1 or not said.startswith(program.encode() + b": reads a location a line"):
-        yield f"{program} on a terminal: {started.returncode}, {said!r}"
+    if started.returncode or said.count(b"\n") != 1 or not said.startswith(b"explain: reads a location a line"):
+        yield f"explain on a terminal: {started.returncode}, {said!r}"
 
 
 def is_coloured(**variables):
     """Whether answers that go to a terminal are coloured, with these variables set."""
     terminal, streams = pty.openpty()
     environment = {name: value for name, value in os.environ.items() if name not in ("NO_COLOR", "TERM")}
-    subprocess.run([built("explain", "run"), "h:p"], stdin=subprocess.DEVNULL, stdout=streams, env={**environment, **variables}, timeout=20)
+    subprocess.run([program("explain"), "h:p"], stdin=subprocess.DEVNULL, stdout=streams, env={**environment, **variables}, timeout=20)
     shown = os.read(terminal, 4096)
     os.close(streams)
     os.close(terminal)
@@ -98,8 +92,6 @@ def colour_faults():
 
 
 def check(_room):
-    of_itself = [Call(it, [option], shown=stored(it, file)) for it in PROGRAMS for option, file in OF_ITSELF.items()]
-    calls = [*CALLS, *of_itself]
+    calls = [*CALLS, *(Call("explain", [option], shown=stored(file)) for option, file in OF_ITSELF.items())]
     faults = [it for it in map(fault_of, calls) if it]
-    faults += [*colour_faults(), *(fault for it in PROGRAMS for fault in terminal_faults(it))]
-    return faults, [f"{len(calls)} command lines, and {len(PROGRAMS)} programs that read a terminal"]
+    return [*faults, *colour_faults(), *terminal_faults()], [f"{len(calls)} command lines, and `explain` that reads a terminal"]

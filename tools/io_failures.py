@@ -6,7 +6,7 @@ import pty
 import subprocess
 import threading
 
-from rt_api import built
+from rt_api import program
 
 
 LINES = b"a::b://c\n/srv/repo.git\nhttp://h:0/\n"
@@ -153,7 +153,7 @@ def check(_room):
     faults = []
     for name, ends in (("locations", ENDS), ("explain", OF_EXPLAIN)):
         for end in ends:
-            got, want = end(built(name, "run"))
+            got, want = end(program(name))
             if got != want:
                 faults.append(f"{name}, {end.__name__.replace('_', ' ')}: {got}, and not {want}")
     return faults, [f"`locations` at {len(ENDS)} real ends, `explain` at {len(OF_EXPLAIN)}"]

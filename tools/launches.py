@@ -1,7 +1,6 @@
 """How `./locations` and `./explain` begin: over a small tree of their own, with a toolchain's command that only notes its calls."""
 import os
 import pty
-import re
 import shutil
 import signal
 import subprocess
@@ -10,48 +9,37 @@ from collections import namedtuple
 
 from rt_api import ROOT
 
-# A command `rt` that notes its calls, takes its time where SLOW is set, and makes a program that prints its arguments.
+# A command `rt` that notes its calls, sleeps where SLOW is set, counts functions, and makes a program that prints its arguments.
 RT = """#!/bin/sh
 echo "$*" >>"$CALLS"
-[ "$1" = version ] && [ -n "${BROKEN:-}" ] && exit 1
-[ "$1" = version ] && echo a-kit && exit
+[ "$1" = version ] && exit ${BROKEN:-0}
 [ -n "${SLOW:-}" ] && sleep 60
-if [ -n "${SHOWN:-}" ]; then
-  sleep 1.2
-  [ "$1" = check ] && for it in 0 1 2 3; do echo "checked crate::call, $it of 3"; sleep 0.7; done
-fi
+echo "checked crate::call, 1 of 3"; sleep 0.1
 mkdir -p out
 [ "$1" = run ] || exit 0
 printf '#!/bin/sh\\necho "$0" "$@"\\n' >"out/$(basename "$PWD")" && chmod +x "out/$(basename "$PWD")"
 """
-# How often a first call of `locations` has the command check, write or build.
-STEPS = 6
-PHASES = [
-    "git_syntax is proved", "git_syntax is written", "git_lines is proved", "git_lines is written",
-    "the libraries are loaded", "the program is proved", "the program is built",
-]
-# The crates of the tree: `locations` stands on two of them, and not on the library.
-CRATES = ("git_syntax", "git_lines", "gix_url", "locations", "explain")
+# How often the first call of `locations` has the command check and build.
+STEPS = 4
+# `locations` uses two of these crates, and not the library.
 LINES = "git_syntax: bstr\ngit_lines: git_syntax\ngix_url: bstr git_syntax\nlocations: git_lines\nexplain: gix_url\n"
+CRATES = [it.partition(":")[0] for it in LINES.splitlines()]
 Tree = namedtuple("Tree", "root calls environment")
 
 
-def planted(room):
+def planted(root):
     """A tree with the launchers, crates of a file each, and the command."""
-    root = f"{room}/tree"
-    of_crates = [f"crates/{it}/{file}" for it in ("locations", "explain") for file in ("help", "version")]
-    for file in ("locations", "explain", "scripts/proved", "scripts/build", "tools/rt_api.py", *of_crates):
+    for file in ("locations", "explain", "scripts/built"):
         os.makedirs(os.path.dirname(f"{root}/{file}"), exist_ok=True)
         shutil.copy2(f"{ROOT}/{file}", f"{root}/{file}")
-    texts = {"crates.txt": LINES, "bin/rt": RT}
-    texts.update({f"crates/{it}/src/lib.rt": "" for it in CRATES})
-    for file, text in texts.items():
+    for file, text in {"crates.txt": LINES, "bin/rt": RT, "calls": "", **{f"crates/{it}/src/lib.rt": "" for it in CRATES}}.items():
         os.makedirs(os.path.dirname(f"{root}/{file}"), exist_ok=True)
         with open(f"{root}/{file}", "w", encoding="utf-8") as it:
             it.write(text)
     os.chmod(f"{root}/bin/rt", 0o755)
-    calls = f"{root}/calls"
-    return Tree(root, calls, {"PATH": f"{root}/bin:{os.environ['PATH']}", "CALLS": calls})
+    # The user `nobody` notes the calls of the command too.
+    os.chmod(f"{root}/calls", 0o666)
+    return Tree(root, f"{root}/calls", {"PATH": f"{root}/bin:{os.environ['PATH']}", "CALLS": f"{root}/calls"})
 
 
 def run(tree, *words, **more):
@@ -61,9 +49,13 @@ def run(tree, *words, **more):
 
 
 def proofs(tree):
-    """How often the command was called to check, to write or to build."""
+    """How often the command was called to check or to build."""
     with open(tree.calls, encoding="utf-8") as it:
         return sum(line.split()[0] != "version" for line in it)
+
+
+def younger(tree, crate):
+    os.utime(f"{tree.root}/crates/{crate}/src/lib.rt", (time.time() + 5,) * 2)
 
 
 def first_call(tree):
@@ -73,141 +65,72 @@ def first_call(tree):
 
 def by_a_link(tree):
     os.symlink(f"{tree.root}/locations", f"{tree.root}/link")
-    status, said = run(tree, f"{tree.root}/link", "a")
-    return (status, said.endswith("locations a\n"), proofs(tree)), (0, True, STEPS)
+    return (run(tree, f"{tree.root}/link", "a"), proofs(tree)), ((0, f"{tree.root}/crates/locations/out/locations a\n"), STEPS)
 
 
-def changed(tree, crate):
-    """Makes the source of a crate another one, which is younger than all that is built."""
-    with open(f"{tree.root}/crates/{crate}/src/lib.rt", "a", encoding="utf-8") as it:
-        it.write("// another\n")
-    os.utime(it.name, (time.time() + 5,) * 2)
-
-
-def other_line_of_crates(tree):
-    """Neither another crate's line or source nor a touched file has the program proved again."""
-    with open(f"{tree.root}/crates.txt", "a", encoding="utf-8") as it:
-        it.write("other: bstr\n")
-    changed(tree, "gix_url")
-    os.utime(f"{tree.root}/crates/git_syntax/src/lib.rt", (time.time() + 5,) * 2)
+def another_crate(tree):
+    """Where only a crate that the program does not use is younger, nothing is proved again."""
+    younger(tree, "gix_url")
     return (run(tree, f"{tree.root}/locations")[0], proofs(tree)), (0, STEPS)
 
 
 def changed_source(tree):
-    changed(tree, "git_syntax")
+    younger(tree, "git_syntax")
     return (run(tree, f"{tree.root}/locations")[0], proofs(tree)), (0, 2 * STEPS)
 
 
-def killed(tree):
+def interrupted(tree):
     """Nothing runs on after a launcher that is ended while it proves."""
-    started = subprocess.Popen([f"{tree.root}/explain"], env={**tree.environment, "SLOW": "1"}, stderr=subprocess.DEVNULL, start_new_session=True)
-    while proofs(tree) <= 2 * STEPS:
-        time.sleep(0.05)
-    started.send_signal(signal.SIGTERM)
-    status = started.wait(30)
-    time.sleep(0.2)
-    left = subprocess.run(["pgrep", "-s", str(started.pid), "rt"], stdout=subprocess.PIPE, text=True).stdout
-    return (status, left), (2, "")
+    before, ends = proofs(tree), []
+    for sent in (signal.SIGTERM, signal.SIGINT):
+        started = subprocess.Popen([f"{tree.root}/explain"], env={**tree.environment, "SLOW": "1"}, stderr=subprocess.DEVNULL, start_new_session=True)
+        while proofs(tree) == before:
+            time.sleep(0.05)
+        os.killpg(started.pid, sent) if sent == signal.SIGINT else started.send_signal(sent)
+        status, before = started.wait(30), proofs(tree)
+        time.sleep(0.3)
+        ends.append((bool(status), subprocess.run(["pgrep", "-s", str(started.pid)], stdout=subprocess.PIPE, text=True).stdout))
+    return ends, [(True, "")] * 2
+
+
+def refused(tree, words, *how, **more):
+    """Whether a launcher ends with 2 and one sentence that has the words, and proves nothing."""
+    before = proofs(tree)
+    status, said = run(tree, *how, f"{tree.root}/explain", **more)
+    return (status, said.count("\n") == 1 and words in said or said, proofs(tree) - before), (2, True, 0)
 
 
 def without_the_command(tree):
-    path = os.environ["PATH"].split(":")
-    bare = ":".join(it for it in path if not os.path.exists(f"{it}/rt"))
-    return run(tree, f"{tree.root}/explain", PATH=bare), (2, "explain: the toolchain's command rt is not on the PATH\n")
-
-
-def fresh(tree, room, *edits):
-    """A tree of its own, where nothing is proved, with edits to `build`."""
-    made = planted(f"{tree.root}-{room}")
-    name = f"{made.root}/scripts/build"
-    with open(name, encoding="utf-8") as it:
-        text = it.read()
-    for old, new in edits:
-        assert text.count(old) == 1, old
-        text = text.replace(old, new)
-    with open(name, "w", encoding="utf-8") as it:
-        it.write(text)
-    return made
-
-
-def files(tree):
-    """What is in a tree, except the notes of the command's calls."""
-    return {f"{at}/{name}" for at, folders, names in os.walk(tree.root) for name in (*folders, *names)} - {tree.calls}
-
-
-def refusing(tree, words, *how, **more):
-    """Runs both launchers. Yields of each whether it ends with 2, one sentence that has the words, no proof, and no file left."""
-    for name in ("locations", "explain"):
-        before = files(tree)
-        status, said = run(tree, *how, f"{tree.root}/{name}", **more)
-        is_one_line = said.startswith(f"{name}: ") and said.count("\n") == 1 and words in said
-        is_proved = os.path.exists(tree.calls) and proofs(tree)
-        yield (status, is_one_line or said, is_proved or 0, files(tree) - before)
-
-
-ONE_SENTENCE: list = [(2, True, 0, set())] * 2
-
-
-def read_only(tree):
-    """In a folder that can't be written to there is one sentence and no proof; root, which can write to any, runs it as
-    `nobody`."""
-    made = fresh(tree, "read-only")
-    # The user `nobody` must be able to note the calls of the command.
-    with open(made.calls, "w", encoding="utf-8"):
-        os.chmod(made.calls, 0o666)
-    if os.geteuid():
-        for name in CRATES:
-            os.chmod(f"{made.root}/crates/{name}", 0o555)
-    how = ["setpriv", "--reuid=65534", "--regid=65534", "--clear-groups"] if not os.geteuid() else []
-    return [*refusing(made, "can't be written to", *how)], ONE_SENTENCE
-
-
-def little_disk(tree):
-    """With too little disk there is one sentence and no proof."""
-    return [*refusing(fresh(tree, "little-disk", ('"git_syntax": 700_000_000', '"git_syntax": 1 << 62')), "GB are free")], ONE_SENTENCE
+    bare = ":".join(it for it in os.environ["PATH"].split(":") if not os.path.exists(f"{it}/rt"))
+    return refused(tree, "rt is not on the PATH", PATH=bare)
 
 
 def broken_command(tree):
-    """A toolchain that doesn't report its version is reported in one sentence."""
-    return [*refusing(fresh(tree, "broken"), "rt version reports no version", BROKEN="1")], ONE_SENTENCE
+    return refused(tree, "or fails", BROKEN="1")
 
 
-def of_itself(tree):
-    """Help and version come with no proof and no call of the command: they are files beside the sources."""
-    made, said, wanted = fresh(tree, "of-itself"), [], []
-    for name in ("locations", "explain"):
-        for option, file in (("--help", "help"), ("-h", "help"), ("--version", "version"), ("-V", "version")):
-            with open(f"{ROOT}/crates/{name}/{file}", encoding="utf-8") as it:
-                wanted.append((0, it.read()))
-            said.append(run(made, f"{made.root}/{name}", option))
-    return (said, os.path.exists(made.calls)), (wanted, False)
+def read_only(tree):
+    """Root, which can write to any folder, runs it as `nobody`."""
+    made = planted(f"{tree.root}-read-only")
+    how = ["setpriv", "--reuid=65534", "--regid=65534", "--clear-groups"] if not os.geteuid() else []
+    for name in CRATES:
+        os.chmod(f"{made.root}/crates/{name}", 0o555)
+    return refused(made, "can't be written to", *how)
 
 
-def judged(text):
-    """Whether the first line has minutes, which phases are named, in order, whether each share is no less than the one
-    before, and whether each line of progress has a share and minutes."""
-    first, *lines = re.split(r"[\r\n]+", text.replace("\x1b[K", "").strip())
-    lines = [it for it in lines if it and "out/locations" not in it]
-    told = [re.fullmatch(r"locations: (\d+) %, about \d+ minutes? left: ([a-z_ ]+)(, \d of 3)?, after \d+:\d+", it) for it in lines]
-    shares = [int(it[1]) for it in told if it]
-    phases = list(dict.fromkeys(it[2] for it in told if it))
-    has_minutes = bool(re.search(r"\d+ processor minutes, or \d+ where the libraries are proved already", first))
-    return has_minutes, phases, shares == sorted(shares) and len({*shares}) > len(PHASES), all(told)
+def little_disk(tree):
+    """A command `df` that reports little is first on the PATH."""
+    made = planted(f"{tree.root}-little-disk")
+    with open(f"{made.root}/bin/df", "w", encoding="utf-8") as it:
+        it.write("#!/bin/sh\necho Avail\necho 5MB\n")
+    os.chmod(it.name, 0o755)
+    return refused(made, "MB of disk")
 
 
-JUDGED = (True, PHASES, True, True)
-
-
-def progress(tree):
-    """Away from a terminal each phase is named by lines with a share that only grows."""
-    made = fresh(tree, "progress", ("EVERY = 30", "EVERY = 0"))
-    return judged(run(made, f"{made.root}/locations", SHOWN="1")[1]), JUDGED
-
-
-def progress_on_a_terminal(tree):
-    """On a terminal all of it is one line, which is gone in the end."""
-    made, (terminal, streams) = fresh(tree, "terminal"), pty.openpty()
-    started = subprocess.Popen([f"{made.root}/locations"], env={**made.environment, "SHOWN": "1"}, stdout=subprocess.DEVNULL, stderr=streams)
+def on_a_terminal(tree):
+    """The phases and the counts are shown in one line, which is removed in the end."""
+    made, (terminal, streams) = planted(f"{tree.root}-terminal"), pty.openpty()
+    started = subprocess.Popen([f"{made.root}/locations"], env=made.environment, stdout=subprocess.DEVNULL, stderr=streams)
     os.close(streams)
     said = b""
     try:
@@ -217,18 +140,16 @@ def progress_on_a_terminal(tree):
         # This is how the end of a terminal is reported.
         os.close(terminal)
     text = said.decode()
-    return (started.wait(60), judged(text), text.count("\n"), text.endswith("\r\x1b[K")), (0, JUDGED, 1, True)
+    shown = [f"{at} of 3: proving {it}, 1 of 3 functions" in text for at, it in enumerate(("git_syntax", "git_lines", "locations"), 1)]
+    return (started.wait(60), shown, "\n" in text, text.endswith("\r\x1b[K")), (0, [True] * 3, False, True)
 
 
-LAUNCHES = [
-    first_call, by_a_link, other_line_of_crates, changed_source, killed, without_the_command, read_only, little_disk, broken_command,
-    of_itself, progress, progress_on_a_terminal,
-]
+LAUNCHES = [first_call, by_a_link, another_crate, changed_source, interrupted, without_the_command, broken_command, read_only, little_disk, on_a_terminal]
 
 
 def check(room):
     os.chmod(room, 0o755)
-    tree, faults = planted(room), []
+    tree, faults = planted(f"{room}/tree"), []
     for launch in LAUNCHES:
         got, want = launch(tree)
         if got != want:

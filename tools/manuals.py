@@ -1,6 +1,6 @@
 #!/usr/bin/env python3
-"""Writes the manual pages: gix_url(3) from the comments of bindings/c/include/gix_url.h, and locations(1) and
-explain(1) from what the programs print for --help.
+"""Writes the manual pages: gix_url(3) from the comments of bindings/c/include/gix_url.h, explain(1) from what the program
+prints for --help, and locations(1) from docs/locations.txt, which has the same layout.
 
 usage: tools/manuals.py FOLDER     below FOLDER, man1 and man3 get the pages; each call has one that leads to gix_url(3)
 """
@@ -11,7 +11,7 @@ import sys
 sys.dont_write_bytecode = True
 from rt_api import ROOT
 
-PROGRAMS = ("locations", "explain")
+PROGRAMS = {"locations": "docs/locations.txt", "explain": "crates/explain/help"}
 # The pages that each page names, with its own left out.
 PAGES = ("locations(1)", "explain(1)", "gix_url(3)")
 LIBRARY = "gix_url \\- parses, writes and compares Git remote locations, by proved code"
@@ -112,8 +112,8 @@ def section(text):
 
 def program_page(name):
     """The page of a program, its lines: its help, with the prose first."""
-    summary, usage, *rest = read(f"crates/{name}/help").rstrip("\n").split("\n\n")
-    version = read(f"crates/{name}/version").split()[-1]
+    summary, usage, *rest = read(PROGRAMS[name]).rstrip("\n").split("\n\n")
+    version = read("crates/explain/version").split()[-1]
     yield from [*heading(name, 1, version), f"{name} \\- {plain(summary)}"]
     yield from [".SH SYNOPSIS", f".B {plain(usage.removeprefix('Usage: '))}", ".SH DESCRIPTION"]
     for text in sorted(rest, key=lambda it: it.startswith(("Arguments:", "Options:", "Examples:", "Exit status:"))):

@@ -13,7 +13,7 @@ import re
 import subprocess
 
 import rows
-from rt_api import ROOT, load_kit, program
+from rt_api import KIT, ROOT, program
 
 # At most so many of the rows that a line stands for are taken.
 OF_A_LINE = 20
@@ -45,7 +45,7 @@ class Ran:
 
 def build_shim(room):
     """Builds the shim before the allocator."""
-    clang, shim = f"{load_kit().rtlib.KIT}/toolchain/bin/clang", f"{room}/refuse.so"
+    clang, shim = f"{KIT}/toolchain/bin/clang", f"{room}/refuse.so"
     flags = ["-O1", "-shared", "-fPIC", "-nostdlib", "-fuse-ld=lld"]
     subprocess.run([clang, *flags, "-o", shim, f"{ROOT}/tools/refuse_memory.c"], check=True)
     return shim

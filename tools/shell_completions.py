@@ -1,4 +1,4 @@
-"""What shells complete of `locations` and `explain`, by the files of `completions/`.
+"""What shells complete of `explain`, by the files of `completions/`.
 
 Bash is asked itself. The files for zsh and fish are read by these shells where they are installed, which is reported.
 Each file has exactly the long options that the program's help names.
@@ -27,17 +27,13 @@ COMPLETED = [
     (("explain", "h"), ""),
     (("explain", "--", "--o"), ""),
     (("explain", "-f", f"{FOLDER}/_e"), f"{FOLDER}/_explain"),
-    (("locations", "--n"), "--number"),
-    (("locations", "--w"), "--with-input"),
-    (("locations", "--"), "--number --with-input --help --version"),
-    (("./locations", "--v"), "--version"),
 ]
-# Prints what the function that bash keeps for the first word makes of all of them.
+# Prints what the function that bash keeps for the first word returns for all of them.
 ASK = """source "$1"; shift; COMP_WORDS=("$@"); COMP_CWORD=$(($# - 1))
 kept=$(complete -p "$1"); call=${kept##*-F }; call=${call%% *}
 "${call:?}" && echo "${COMPREPLY[*]}" """
 # How a shell reads a file and runs nothing of it, and which files it has.
-READ = {"bash": ("bash", "-n", ["gix_url.bash"]), "zsh": ("zsh", "-n", ["_locations", "_explain"]), "fish": ("fish", "--no-execute", ["gix_url.fish"])}
+READ = {"bash": ("bash", "-n", ["gix_url.bash"]), "zsh": ("zsh", "-n", ["_explain"]), "fish": ("fish", "--no-execute", ["gix_url.fish"])}
 
 
 def completed(words):
@@ -51,26 +47,23 @@ def text(name):
         return it.read()
 
 
-def of_help(name):
-    """The long options that the help of a program names."""
-    return {*re.findall(r"(?m)^ +(?:-\w, )?--([\w-]+)", text(f"{ROOT}/crates/{name}/help"))}
+def of_help():
+    """The long options that the help of the program names."""
+    return {*re.findall(r"(?m)^ +(?:-\w, )?--([\w-]+)", text(f"{ROOT}/crates/explain/help"))}
 
 
-def of_files(name):
-    """The long options of a program that each file names."""
-    bash, fish = text(f"{FOLDER}/gix_url.bash"), text(f"{FOLDER}/gix_url.fish")
-    body = re.search(rf"(?ms)^_gix_url_{name}\(\) .*?^}}", bash)[0]
-    listed = " ".join(re.findall(r'_gix_url_words "(--[^"]*)"', body))
+def of_files():
+    """The long options that each file names."""
+    listed = " ".join(re.findall(r'_gix_url_words "(--[^"]*)"', text(f"{FOLDER}/gix_url.bash")))
     yield "bash", {*re.findall(r"--([\w-]+)", listed)}
-    yield "zsh", {*re.findall(r"--([a-z][\w-]*)=?(?:\[|\})", text(f"{FOLDER}/_{name}"))}
-    yield "fish", {*re.findall(rf"(?m)^complete -c {name} .*-l ([\w-]+)", fish)}
+    yield "zsh", {*re.findall(r"--([a-z][\w-]*)=?(?:\[|\})", text(f"{FOLDER}/_explain"))}
+    yield "fish", {*re.findall(r"(?m)^complete -c explain .*-l ([\w-]+)", text(f"{FOLDER}/gix_url.fish"))}
 
 
 def check(_room):
     faults = [f"bash completes {' '.join(words)!r} to {completed(words)!r}, and not {want!r}" for words, want in COMPLETED if completed(words) != want]
-    for name in ("locations", "explain"):
-        wrong = [(shell, found ^ of_help(name)) for shell, found in of_files(name) if found != of_help(name)]
-        faults += [f"{shell} and the help of {name} differ in {', '.join(sorted(them))}" for shell, them in wrong]
+    wrong = [(shell, found ^ of_help()) for shell, found in of_files() if found != of_help()]
+    faults += [f"{shell} and the help of explain differ in {', '.join(sorted(them))}" for shell, them in wrong]
     told = [f"{len(COMPLETED)} command lines that bash completes"]
     for shell, (*how, files) in READ.items():
         if not shutil.which(shell):
