@@ -1,11 +1,8 @@
 """The calls that have no row: public functions of the library, and calls that the program `answers` makes."""
-import glob
-import itertools
-import os
 import re
 
-from rt_api import LAYERS, LIBRARIES, LIBRARY, ROOT, stands_on
-from source_modules import paths_of
+from public_items import files_of, public_items
+from rt_api import LAYERS, LIBRARIES, LIBRARY
 
 PROGRAM = "answers"
 # What layers below pass to those above: public by a type or a module that the library passes on, and for no user.
@@ -15,52 +12,31 @@ OF_LAYERS = {
 }
 
 
-def files_of(crate):
-    return sorted(glob.glob(f"{ROOT}/crates/{crate}/src/**/*.rt", recursive=True))
-
-
-def contracts_of(crate):
-    """The contract of each public function of a crate, by its name; all laws are named as of the module `laws`."""
-    found = {}
-    for file in files_of(crate):
-        owner = module = os.path.basename(file).removesuffix(".rt")
-        with open(file, encoding="utf-8") as it:
-            lines = it.read().split("\n")
-        for at, line in enumerate(lines):
-            around = re.match(r"impl(?:<[^>]*>)? (?:.* for )?(\w+)|(})", line)
-            if around:
-                owner = around[1] or module
-            call = re.match(r"( *)pub fn (\w+)", line)
-            if call:
-                # The body opens on a line of its own, or behind a signature that has no clauses.
-                opens = re.compile(rf"{call[1]}(\{{(\}}| \}})?|\).* \{{|pub fn .* \{{)$")
-                name = f"{'laws' if call[2].startswith('law_') else owner}::{call[2]}"
-                found[name] = "\n".join(itertools.takewhile(lambda it: not opens.match(it), lines[at:])) or line
-    return found
-
-
-def passed_on():
-    """What the library passes on of the layers below it: modules, types, functions and laws, by their last names."""
-    found = set()
-    for file in files_of(LIBRARY):
-        with open(file, encoding="utf-8") as it:
-            paths = [path for words in re.findall(r"(?m)^pub use ([^;]+);", it.read()) for path in paths_of(words)]
-        found |= {path[-1] for path in paths if path[0] in LAYERS}
-    return found
+def calls(found):
+    """The contracts of the calls among items, by the last two words of their paths; all laws are named as of the module `laws`."""
+    named = {}
+    for path, text in found.items():
+        if re.search(r"(?m)^ *pub fn ", text):
+            owner, name = ["crate", *path.split("::")][-2:]
+            named[f"{'laws' if name.startswith('law_') else owner}::{name}"] = text
+    return named
 
 
 def passed_calls():
-    """The contracts of the calls that come with what the library passes on."""
-    passed, below = passed_on(), {}
-    for layer in stands_on(LIBRARY)[:-1]:
-        below.update(contracts_of(layer))
-    return {it: below[it] for it in below if passed & {*it.split("::")}}
+    """The contracts of the calls that come with what the library passes on of the layers below it."""
+    passed = {}
+    for path, text in public_items(LIBRARY).items():
+        below = re.fullmatch(r"pub use (\w+)::(\S+);\n", text)
+        if below and below[1] in LAYERS:
+            found = public_items(below[1])
+            passed.update({path + it.removeprefix(below[2]): found[it] for it in found if f"{it}::".startswith(f"{below[2]}::")})
+    return calls(passed)
 
 
-def contracts(libraries=LIBRARIES):
+def contracts():
     """The contract of each public call of the libraries, by its name: of their own, and of those that are passed on."""
     found = {name: it for name, it in passed_calls().items() if name not in OF_LAYERS}
-    return {**found, **{name: it for library in libraries for name, it in contracts_of(library).items()}}
+    return {**found, **{name: it for library in LIBRARIES for name, it in calls(public_items(library)).items()}}
 
 
 def program_calls():
