@@ -1,6 +1,6 @@
 #!/usr/bin/env python3
-"""Draws the pictures of the documents: a railroad diagram for each row of the grammar in docs/GRAMMAR.md, locations cut into
-their fields, and the layers of the library.
+"""Draws the pictures of the documents: a railroad diagram for each row of the grammar in docs/GRAMMAR.md, and locations cut
+into their fields.
 
 usage: scripts/pictures.py      writes docs/pictures/*.svg
 
@@ -14,7 +14,6 @@ from html import escape
 
 sys.dont_write_bytecode = True
 sys.path.append(f"{sys.path[0]}/../tools")
-import layers_picture
 from rt_api import ROOT
 
 FOLDER = f"{ROOT}/docs/pictures"
@@ -174,7 +173,7 @@ def locations():
 
 
 def pictures():
-    return {"location": locations(), "layers": framed(*layers_picture.drawn()), **{name: diagram(terms) for name, terms in rows().items()}}
+    return {"location": locations(), **{name: diagram(terms) for name, terms in rows().items()}}
 
 
 def faults():
