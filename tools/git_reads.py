@@ -7,18 +7,17 @@ Git reads. `unread` says why a text has no reading, by the names that `explain` 
 import re
 
 from git_classes import Reading
+from second_reading.octets import cuts
 
 PROTOCOLS = {b"ssh": "ssh", b"git+ssh": "ssh", b"ssh+git": "ssh", b"git": "git", b"file": "file"}
-# An escape, except that of byte 0.
-GIT_ESCAPE = re.compile(rb"%(?!00)([0-9A-Fa-f]{2})")
 HELPER_FORM = re.compile(rb"[0-9A-Za-z][0-9A-Za-z+.-]*::")
 HELPER_URL = re.compile(rb"([0-9A-Za-z][0-9A-Za-z+.-]*)://")
 ON_THIS_MACHINE = Reading("file", None, None, None, None, b"")
 
 
-def cuts(text, mark):
-    """The text before a mark and the text behind it, for each mark."""
-    return [(text[:at], text[at + len(mark) :]) for at in range(len(text)) if text.startswith(mark, at)]
+def decoded(text):
+    """A text with its escapes decoded, except that of byte 0, which neither Git nor libcurl decodes."""
+    return re.sub(rb"%(?!00)([0-9A-Fa-f]{2})", lambda it: bytes([int(it[1], 16)]), text)
 
 
 def first_cuts(text, mark):
@@ -27,9 +26,8 @@ def first_cuts(text, mark):
 
 def opens_host(text):
     """The front before a bracket that opens a host, and what follows the bracket."""
-    behind_at = [(user + b"@", rest) for user, rest in cuts(text, b"@[") if b"@[" not in user]
     at_front = [(b"", text[1:])] if text[:1] == b"[" and b"@[" not in text else []
-    return behind_at + at_front
+    return at_front + [(user + b"@", rest) for user, rest in first_cuts(text, b"@[")]
 
 
 def in_brackets(text):
@@ -141,8 +139,7 @@ def reads_other(text):
 
 def own_urls(text):
     """The protocol, and what follows the `://`, decoded, of a URL of a transport."""
-    urls = [(PROTOCOLS[scheme], rest) for scheme, rest in cuts(text, b"://") if scheme in PROTOCOLS]
-    return [(protocol, GIT_ESCAPE.sub(lambda it: bytes([int(it[1], 16)]), rest)) for protocol, rest in urls]
+    return [(PROTOCOLS[scheme], decoded(rest)) for scheme, rest in cuts(text, b"://") if scheme in PROTOCOLS]
 
 
 def git_reads(text):

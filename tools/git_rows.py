@@ -1,9 +1,11 @@
-"""The texts that are written out with what Git reads in them, as Git is asked for them: the rows that are proved of the
-definition (`crates/git_laws/specs/Examples/GitRows.antt`), and the examples of `vectors/git.jsonl`.
+"""The texts that are written out with what others read in them, as Git and libcurl are asked for them: the rows that are proved
+of the definition (`crates/git_laws/specs/Examples/GitRows.antt`), and the examples of `vectors/git.jsonl`.
 
-An example is a row there that reads a text. Its member `class` is the class of `git_classes.py` in which Git and this
-library read different things, or `alike`, and `git` is what Git reads, or the word for why it is refused. Of a text
-that is read here other rows say whether it is settled, what is written, and whether Git is said to agree.
+An example is a row there that reads a text. Its member `class` is the class in which the others and this library read different
+things, or `alike`. For a text of HTTP, whose classes are in `web_classes.py`, `credential` is what Git's credential code reads
+and `curl` what libcurl reads, or `refused`. For another, whose classes are in `git_classes.py`, `git` is what Git reads, or the
+word for why it is refused. Of a text that is read here other rows say whether it is settled, what is written, and whether Git
+is said to agree.
 """
 import re
 from collections import namedtuple
@@ -11,6 +13,7 @@ from collections import namedtuple
 from git_classes import Reading
 from row_text import bytes_of, text_of
 from rt_api import ROOT
+from witness import told
 
 ROWS = f"{ROOT}/crates/git_laws/specs/Examples/GitRows.antt"
 TEXT = r'codes "((?:[^"\\]|\\.)*)"'
@@ -18,8 +21,10 @@ ROW = re.compile(r"GitReads \((codes .*?)\) (?:\((by_ssh|by_git|on_this_machine)
 NAMED = {"tab": 9, "newline": 10}
 # The calls over a text that is read.
 CALLS = ("Url::is_settled", "Url::to_bstring", "Url::agrees_with_git")
-# The place of an example, its class, its text, and what Git and this library read in it.
-Example = namedtuple("Example", "place class_name text git ours")
+# The classes of texts of HTTP that may be let by: another spelling of the same address, and slashes behind a path.
+LET_BY = ("alike", "slashes-of-path", "long-address")
+# The place of an example, its class, its text, and what is read in it: by Git and here, or by the credential code and libcurl.
+Example = namedtuple("Example", "place class_name text said")
 
 
 def text_of_term(term):
@@ -31,29 +36,17 @@ def text_of_term(term):
 def reading_of(kind, parts):
     """The reading that a row names, by the words of the rows."""
     found = [text.encode() if text else int(number) if number else None for text, number in re.findall(rf"{TEXT}|Some (\d+)|None", parts)]
-    if kind == "by_ssh":
-        user, host, port, path = found
-        return Reading("ssh", user, None, host, port, path)
-    host, port, path = found if kind == "by_git" else (None, None, *found)
-    return Reading("git" if kind == "by_git" else "file", None, None, host, port, path)
+    protocol, count = {"by_ssh": ("ssh", 4), "by_git": ("git", 3), "on_this_machine": ("file", 1)}[kind]
+    user, host, port, path = [None] * (4 - count) + found
+    return Reading(protocol, user, None, host, port, path)
 
 
 def git_rows():
     """The texts of the rows, and of each its reading, or none. A text with byte 0 can't be given to a command."""
     with open(ROWS, encoding="utf-8") as it:
-        lines = [line for line in it if re.search(r"GitReads \(codes ", line)]
-    rows = [ROW.search(line) for line in lines]
+        rows = [ROW.search(line) for line in it if re.search(r"GitReads \(codes ", line)]
     found = {text_of_term(row[1]): reading_of(row[2], row[3]) if row[2] else None for row in rows}
     return {text: reading for text, reading in found.items() if 0 not in text}
-
-
-def told(reading):
-    """A reading in one line, as the examples have it."""
-    if not isinstance(reading, Reading):
-        return f"refused {reading}"
-    parts = zip(reading._fields[1:], reading[1:])
-    words = [f" {name}={it if isinstance(it, int) else text_of(it)}" for name, it in parts if it is not None]
-    return reading.protocol + "".join(words)
 
 
 def read_here(outcome):
@@ -68,27 +61,35 @@ def read_here(outcome):
     return Reading(scheme.lower(), user, password, host or None, outcome.get("port"), bytes_of(outcome["path"]))
 
 
-def examples(table):
-    """The examples among rows, with what the rows expect to be read here."""
-    return [
-        Example(it.place, it.class_name, bytes_of(it.members["text"]), it.git, read_here(it.expected))
-        for it in table
-        if it.git is not None
-    ]
+def git_examples(table):
+    found = [it for it in table if it.git is not None]
+    return [Example(it.place, it.class_name, bytes_of(it.members["text"]), (it.git, read_here(it.expected))) for it in found]
+
+
+def web_examples(table):
+    found = [it for it in table if it.curl is not None]
+    return [Example(it.place, it.class_name, bytes_of(it.members["text"]), (it.credential, it.curl)) for it in found]
 
 
 def example_faults(table):
     """What is wrong with the examples among rows.
 
     Where the rows expect the same reading as Git's, and nowhere else, they have the text let by: Git is said to agree,
-    and it is the text that is written. Such an example is in no class but `alike`.
+    and it is the text that is written. Such an example is in no class but `alike`. A text of HTTP that is let by is in one of few.
     """
     expected = {(it.members.get("call"), str(it.members.get("url"))): it.expected for it in table}
-    for it in examples(table):
-        said = [expected.get((call, text_of(it.text))) for call in CALLS]
-        if isinstance(it.ours, Reading) and None in said:
+    said = {it: [expected.get((call, text_of(it.text))) for call in CALLS] for it in (*git_examples(table), *web_examples(table))}
+    for it in git_examples(table):
+        git, ours = it.said
+        if isinstance(ours, Reading) and None in said[it]:
             yield f"{it.place}: over the text that it reads there is no row for one of {', '.join(CALLS)}"
-        is_let_by = said[1:] == [text_of(it.text), True]
-        if len({is_let_by, told(it.ours) == it.git, it.class_name == "alike"}) > 1:
+        is_let_by = said[it][1:] == [text_of(it.text), True]
+        if len({is_let_by, told(ours) == git, it.class_name == "alike"}) > 1:
             words = "let by" if is_let_by else "not let by"
-            yield f"{it.place}: {it.class_name}, {words}: Git reads {it.git!r}, and here is read {told(it.ours)!r}"
+            yield f"{it.place}: {it.class_name}, {words}: Git reads {git!r}, and here is read {told(ours)!r}"
+    for it in web_examples(table):
+        _, written, agrees = said[it]
+        if agrees is None:
+            yield f"{it.place}: over the text that it reads there is no row for Url::agrees_with_git"
+        if agrees and written in (None, text_of(it.text)) and it.class_name not in LET_BY:
+            yield f"{it.place}: a text of {it.class_name} is let by"

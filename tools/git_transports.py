@@ -14,6 +14,7 @@ from concurrent.futures import ThreadPoolExecutor
 
 from git_classes import HOME, SECURE_URL, Reading
 
+OWN = ("ssh", "git", "file")
 # What Git reads, and to which program it passes a text: no transport but `ssh` is allowed.
 ASK_GIT = r"""
 for text; do
@@ -79,6 +80,15 @@ def answers_of(ask, room, environment, words, each=1, answers=1):
         return [it for found in lanes.map(said, parts) for it in found]
 
 
+def ask_loop(ask, words, programs, each=1, answers=1, **more):
+    """What a loop of the shell answers to words, in a repository of its own: files with these texts, which may be scripts that
+    replace programs, are named by variables."""
+    with tempfile.TemporaryDirectory(prefix="witness-") as room:
+        environment = alone(room, **{name: put(f"{room}/{name}", text, 0o700) for name, text in programs.items()}, **more)
+        run(room, environment, "git", "init", "--quiet")
+        return answers_of(ask, room, environment, words, each, answers)
+
+
 def shown(answer):
     """The words that a program has shown in an answer; None where none was started."""
     found = re.search(rb"\x01(.*)\x01\x02", answer, re.S)
@@ -89,21 +99,8 @@ def shown(answer):
 
 def ask_git(texts):
     """What Git says of texts: of each the transport with the words for Secure Shell, and the reading."""
-    with tempfile.TemporaryDirectory(prefix="witness-") as room:
-        show = put(f"{room}/show", SHOW, 0o700)
-        environment = alone(room, GIT_ALLOW_PROTOCOL="ssh", GIT_SSH=show, GIT_SSH_VARIANT="ssh")
-        run(room, environment, "git", "init", "--quiet")
-        said = answers_of(ASK_GIT, room, environment, texts, answers=2)
-        return list(zip(said[::2], said[1::2]))
-
-
-def ask_programs(texts):
-    """What Git answers to texts of `git://` and of this machine, where both are allowed."""
-    with tempfile.TemporaryDirectory(prefix="programs-") as room:
-        show, proxy = put(f"{room}/show", SHOW, 0o700), put(f"{room}/proxy", SHOW_REQUEST, 0o700)
-        environment = alone(room, GIT_ALLOW_PROTOCOL="git:file", GIT_PROXY_COMMAND=proxy, SHOW=show)
-        run(room, environment, "git", "init", "--quiet")
-        return dict(zip(texts, answers_of(ASK_PROGRAMS, room, environment, texts)))
+    said = ask_loop(ASK_GIT, texts, {"GIT_SSH": SHOW}, answers=2, GIT_ALLOW_PROTOCOL="ssh", GIT_SSH_VARIANT="ssh")
+    return list(zip(said[::2], said[1::2]))
 
 
 def quoted(text):
@@ -111,29 +108,28 @@ def quoted(text):
     return b"'" + re.sub(rb"(['!])", rb"'\\\1'", text) + b"'"
 
 
-def secure_words(reading):
-    """What Secure Shell gets for a reading: its last two words, and the port among its options."""
-    user = b"" if reading.user is None else reading.user + b"@"
-    return user + (reading.host or b""), b"git-upload-pack " + quoted(reading.path), reading.port
-
-
 def secure_pair(words):
     """The word that Secure Shell gets, and the port among its options."""
     return words[-2], int(words[words.index(b"-p") + 1]) if b"-p" in words[:-2] else None
 
 
-def has_secure_words(words, reading):
-    """Whether Secure Shell has got these words for the reading."""
-    word, port = secure_pair(words)
-    return (word, words[-1], port) == secure_words(reading)
+def words_got(protocol, words):
+    """What the program of a transport gets: a word for a host, a port and a path, or a path alone."""
+    if protocol == "ssh":
+        return *secure_pair(words), words[-1]
+    if protocol == "git":
+        host, port, request = words
+        path = re.match(rb"\S+ (.*?)\x03host=", request, re.S)
+        return host, int(port), path and path[1]
+    return tuple(words)
 
 
-def has_git_words(words, reading):
-    """Whether the connection of `git://` has got host and port of the reading, and its path in the request."""
-    host, port, request = words
-    asked = re.match(rb"\S+ (.*?)\x03host=", request, re.S)
-    number = GIT_PORT if reading.port is None else reading.port
-    return asked is not None and (host, int(port), asked[1]) == (reading.host or b"", number, reading.path)
+def words_wanted(reading):
+    """What the program of a transport must get for a reading."""
+    host, port, path = reading.host or b"", reading.port, reading.path
+    if reading.protocol == "ssh":
+        return host if reading.user is None else reading.user + b"@" + host, port, b"git-upload-pack " + quoted(path)
+    return (host, GIT_PORT if port is None else port, path) if reading.protocol == "git" else (path,)
 
 
 def is_blocked(text, answer):
@@ -144,54 +140,37 @@ def is_blocked(text, answer):
     return re.match(rb"fatal: strange (hostname|port) '-", answer) is not None
 
 
-def is_past_the_end(text, reading):
-    """Whether the path that Git reads begins with a `~` that it found past the end of a text whose path is empty."""
-    return text.endswith(b":") and reading.path.startswith(b"~")
-
-
 def program_fault(text, answer, reading):
     """What is wrong with the words that a program got for a reading, if anything is. Behind an empty path Git looks at the
-    byte past the text's end, so there the path isn't compared."""
+    byte past the text's end, where it may find a `~`, so there the path isn't compared."""
     words = shown(answer)
     if reading.protocol == "git" and (b"%0a" in text.lower() or words is None):
         return None if words is None and is_blocked(text, answer) else f"Git answers {answer!r}"
     if words is None:
         return f"no program is started: {answer!r}"
-    if reading.path == b"" or is_past_the_end(text, reading):
+    if reading.path == b"" or text.endswith(b":") and reading.path.startswith(b"~"):
         return None
-    if reading.protocol in ("file", HOME):
-        return None if words == [reading.path] else f"git-upload-pack gets {words}"
-    has_words = has_secure_words if reading.protocol == "ssh" else has_git_words
-    return None if has_words(words, reading) else f"the program gets {words}"
+    return None if words_got(reading.protocol, words) == words_wanted(reading) else f"the program gets {words}"
 
 
 def program_faults(readings, answers):
     """The texts for whose readings a program gets other words, each with what is wrong. For Secure Shell the answers have
-    the words; the others are asked again."""
-    own = {text: it for text, it in readings.items() if isinstance(it, Reading) and it.protocol in ("ssh", "git", "file", HOME)}
-    asked = ask_programs([text for text, it in own.items() if it.protocol != "ssh"])
-    faults = ((text, program_fault(text, asked.get(text, answers[text]), it)) for text, it in own.items())
-    return [(text, fault) for text, fault in faults if fault]
+    the words; those of `git://` and of this machine are asked again, where both are allowed."""
+    own = {text: it for text, it in readings.items() if isinstance(it, Reading) and it.protocol in (*OWN, HOME)}
+    others = [text for text, it in own.items() if it.protocol != "ssh"]
+    said = ask_loop(ASK_PROGRAMS, others, {"SHOW": SHOW, "GIT_PROXY_COMMAND": SHOW_REQUEST}, GIT_ALLOW_PROTOCOL="git:file")
+    faults = {text: program_fault(text, it, own[text]) for text, it in {**answers, **dict(zip(others, said))}.items() if text in own}
+    return [(text, fault) for text, fault in faults.items() if fault]
 
 
 # ---- OpenSSH
 
-def ask_secure_shell(pairs):
-    """What OpenSSH answers to words, each with a port or none."""
-    words = [it for word, port in pairs for it in (word, b"" if port is None else b"%d" % port)]
-    with tempfile.TemporaryDirectory(prefix="secure-") as room:
-        settings = put(f"{room}/settings", f"User {NO_USER.decode()}\n")
-        return dict(zip(pairs, answers_of(ASK_SECURE_SHELL, room, alone(room, SETTINGS=settings), words, each=2)))
-
-
-def secure_fault(answer, reading):
-    """What is wrong with what OpenSSH makes of the word for a reading, if anything is. Its host is the one that it gives
-    itself, not the host that it would look for, which is in lower case."""
-    user = NO_USER if reading.user is None else reading.user
-    port = SECURE_PORT if reading.port is None else reading.port
+def is_heard(answer, reading):
+    """Whether OpenSSH makes the reading of a word. Its host is the one that it gives itself, not the host that it would look
+    for, which is in lower case."""
     found = re.search(rb"(?:\A|\n)host (.*?)\nuser (.*?)\nhostname .*?\nport ([0-9]+)\n", answer, re.S)
-    heard = found and (found[1], found[2], int(found[3]))
-    return None if heard == (reading.host or b"", user, port) else f"OpenSSH reads {answer[:200]!r}"
+    user, port = NO_USER if reading.user is None else reading.user, SECURE_PORT if reading.port is None else reading.port
+    return found is not None and (found[1], found[2], int(found[3])) == (reading.host or b"", user, port)
 
 
 def is_refused(answer):
@@ -205,13 +184,8 @@ def heard_fault(answer, reading):
     if reading == "empty user":
         return None if is_refused(answer) else "OpenSSH doesn't refuse it"
     if reading.protocol == SECURE_URL:
-        return None if secure_fault(answer, reading) else "OpenSSH doesn't read the word as a URL"
-    return None if is_refused(answer) else secure_fault(answer, reading)
-
-
-def has_word(reading):
-    """Whether Secure Shell gets a word for what Git reads."""
-    return reading == "empty user" or isinstance(reading, Reading) and reading.protocol in ("ssh", SECURE_URL)
+        return "OpenSSH doesn't read the word as a URL" if is_heard(answer, reading) else None
+    return None if is_refused(answer) or is_heard(answer, reading) else f"OpenSSH reads {answer[:200]!r}"
 
 
 def chosen(pairs):
@@ -225,8 +199,11 @@ def secure_faults(readings, answers):
     if not shutil.which("ssh"):
         print("OpenSSH isn't installed, and isn't asked")
         return []
-    pairs = {text: secure_pair(shown(answers[text])) for text, it in readings.items() if has_word(it)}
-    heard = ask_secure_shell(chosen(dict.fromkeys(pairs.values())))
+    named = [text for text, it in readings.items() if it == "empty user" or isinstance(it, Reading) and it.protocol in ("ssh", SECURE_URL)]
+    pairs = {text: secure_pair(shown(answers[text])) for text in named}
+    asked = chosen(dict.fromkeys(pairs.values()))
+    words = [it for word, port in asked for it in (word, b"" if port is None else b"%d" % port)]
+    heard = dict(zip(asked, ask_loop(ASK_SECURE_SHELL, words, {"SETTINGS": f"User {NO_USER.decode()}\n"}, each=2)))
     print(f"{len(heard):,} words were given to OpenSSH, which refuses {sum(map(is_refused, heard.values())):,} of them")
     faults = ((text, heard_fault(heard[pair], readings[text])) for text, pair in pairs.items() if pair in heard)
     return [(text, fault) for text, fault in faults if fault]
@@ -234,7 +211,6 @@ def secure_faults(readings, answers):
 
 # ---- repositories
 
-HERE, HOMES = "here", "home"
 # The repositories, below the folder.
 REPOSITORIES = ("home/x", "here/x", "here/~/x", "here/~no-such-user/x", "here/a:b", "here/]/c", "here/a@[b]/c")
 # A text, with the folder's path for `{}`; the repository that `git ls-remote`, `git fetch` and `git push` open, and
@@ -258,10 +234,10 @@ class Room:
     """Repositories in a folder, each with a commit of its own, by which it is known."""
 
     def __init__(self, room):
-        self.room, self.here = room, f"{room}/{HERE}"
+        self.room, self.here = room, f"{room}/here"
         people = {f"GIT_{it}_{part}": "x" for it in ("AUTHOR", "COMMITTER") for part in ("NAME", "EMAIL")}
         self.environment = alone(room, GIT_ALLOW_PROTOCOL="file", **people)
-        os.makedirs(f"{room}/{HOMES}")
+        os.makedirs(f"{room}/home")
         run(room, self.environment, "git", "init", "--quiet", self.here)
         self.tree = self.said("write-tree")
         self.known = {self.made(it): it for it in REPOSITORIES}
@@ -269,6 +245,11 @@ class Room:
 
     def said(self, *words):
         return run(self.here, self.environment, "git", *words).stdout.decode().strip()
+
+    def name(self, path):
+        """The repository at a path; None where none is there."""
+        found = os.path.relpath(os.path.realpath(os.path.join(self.here, path.decode())), self.room)
+        return found if found in REPOSITORIES else None
 
     def made(self, name):
         """The commit of a repository, which is made."""
@@ -279,11 +260,9 @@ class Room:
         return commit
 
     def pushed(self, text):
-        """The repository into which Git pushes."""
+        """The repository into which Git pushes: a branch is taken out of it again, which Git reports."""
         self.said("push", "--quiet", text, f"{self.commit}:refs/heads/pushed")
-        found = [it for it in REPOSITORIES if self.said("--git-dir", f"{self.room}/{it}", "branch", "--list", "pushed")]
-        for it in found:
-            self.said("--git-dir", f"{self.room}/{it}", "branch", "--quiet", "-D", "pushed")
+        found = [it for it in REPOSITORIES if self.said("--git-dir", f"{self.room}/{it}", "branch", "-D", "pushed")]
         return found[0] if len(found) == 1 else None
 
     def opened(self, text):
@@ -312,13 +291,7 @@ def opened_faults(agreeing):
             if found != {"ls-remote": fetched, "fetch": fetched, "push": fetched, "clone": cloned}:
                 yield f"{name}: Git opens {found}"
             path = paths[text.encode()]
-            if path is not None and set(found.values()) != {room_name(room, path)}:
+            if path is not None and {*found.values()} != {room.name(path)}:
                 yield f"{name}: agrees_with_git lets it through with the path {path!r}, and Git opens {found}"
         if not any(paths.values()) or all(paths.values()):
             yield "agrees_with_git says the same of all texts"
-
-
-def room_name(room, path):
-    """The repository at a path, by its name; None where none is there."""
-    found = os.path.relpath(os.path.realpath(os.path.join(room.here, path.decode())), room.room)
-    return found if found in REPOSITORIES else None

@@ -6,8 +6,8 @@ line spells long texts, and `row_expansion.py` how it stands for many rows.
 
 Of JSON that is refused a row may expect less than the whole: `{"refused": true}`, whatever the words are; words that end
 in `…`, which are the front of those that are returned; and a `column` of two numbers, between which that column lies.
-The rows of `vectors/git.jsonl` that read a text have `class` and `git` (`git_rows.py`), or of HTTP `class`,
-`credential` and `curl` (`web_rows.py`).
+The rows of `vectors/git.jsonl` that read a text have `class` and `git`, or of HTTP `class`, `credential` and `curl`
+(`git_rows.py`).
 """
 import glob
 import json

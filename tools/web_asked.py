@@ -11,15 +11,15 @@ beside the URL.
 import ctypes
 import re
 import subprocess
-import tempfile
 
-from git_transports import alone, answers_of, put
-from web_reads import Web, decoded, escaped, host_and_port
+from git_reads import decoded
+from git_transports import ask_loop
+from web_reads import Web, escaped, host_and_port
 
 # The helper reports what it is asked for between byte 1 and byte 2, and does nothing for `store` and `erase`.
 SETTINGS = r"""[credential]
 useHttpPath = true
-helper = "!f() { test \"$1\" = get || exit 0; printf '\\1' >&2; while IFS= read -r line; do printf '%s\\n' \"$line\" >&2; done; printf '\\2' >&2; echo username=x; echo password=y; }; f"
+helper = "!f() { test \"$1\" = get || exit 0; printf '\\1' >&2; cat >&2; printf '\\2' >&2; echo username=x; echo password=y; }; f"
 """
 # Where Git refuses to write a part it ends before the helper does, so the end of both is waited for.
 ASK_CREDENTIAL = r"""
@@ -39,13 +39,9 @@ def asked(answer):
     if refusal:
         return refusal
     found = re.search(rb"\x01(.*?\n)\x02", answer, re.S)
-    said = lines_of(found[1] if found else answer)
+    said = dict(it.split(b"=", 1) for it in (found[1] if found else answer).split(b"\n") if it)
     host, port = host_and_port(said.get(b"host"))
     return Web(said[b"protocol"], said.get(b"username"), said.get(b"password"), host, port, said.get(b"path", b""))
-
-
-def lines_of(answer):
-    return dict(it.split(b"=", 1) for it in answer.split(b"\n") if it)
 
 
 def can_be_asked(text):
@@ -55,9 +51,7 @@ def can_be_asked(text):
 
 def ask_credential(texts):
     """What Git's credential code makes of each text."""
-    with tempfile.TemporaryDirectory(prefix="credential-") as room:
-        environment = alone(room, GIT_CONFIG_GLOBAL=put(f"{room}/settings", SETTINGS), GIT_TERMINAL_PROMPT="0")
-        return [asked(it) for it in answers_of(ASK_CREDENTIAL, room, environment, texts)]
+    return [*map(asked, ask_loop(ASK_CREDENTIAL, texts, {"GIT_CONFIG_GLOBAL": SETTINGS}, GIT_TERMINAL_PROMPT="0"))]
 
 
 # ---- libcurl
@@ -66,7 +60,7 @@ def library_of_git():
     """The libcurl that `git-remote-http` is linked to; None where there is none."""
     try:
         folder = subprocess.run(["git", "--exec-path"], stdout=subprocess.PIPE, check=True, text=True).stdout.strip()
-        said = subprocess.run(["ldd", f"{folder}/git-remote-http"], stdout=subprocess.PIPE, stderr=subprocess.DEVNULL, check=True, text=True).stdout
+        said = subprocess.run(["ldd", f"{folder}/git-remote-http"], capture_output=True, check=True, text=True).stdout
     except (OSError, subprocess.CalledProcessError):
         return None
     found = re.search(r"libcurl\S* => (/\S+)", said)
@@ -104,20 +98,13 @@ class Curl:
         finally:
             self.calls.curl_url_cleanup(url)
 
-    def whole(self, text):
-        return self.parts(text)[0]
-
     def reads(self, text):
         """What libcurl reads for a transfer; None where it refuses."""
         parts = self.parts(text)
-        return parts and transferred(*parts[1:])
-
-
-def transferred(scheme, user, password, host, port, path, query, zone):
-    """What a transfer makes of the parts of a URL."""
-    if user and password is None and b"%00" in user:
-        return None
-    if zone is not None:
-        host = host[:-1] + b"%" + zone + b"]"
-    user, password = (it if it is None else decoded(it) for it in (user, password))
-    return Web(scheme, user, password, host, port, path + (b"?" + escaped(query) if query else b""))
+        _, scheme, user, password, host, port, path, query, zone = parts or [None] * len(ALL)
+        if parts is None or user and password is None and b"%00" in user:
+            return None
+        if zone is not None:
+            host = host[:-1] + b"%" + zone + b"]"
+        user, password = (it if it is None else decoded(it) for it in (user, password))
+        return Web(scheme, user, password, host, port, path + (b"?" + escaped(query) if query else b""))

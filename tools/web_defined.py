@@ -4,9 +4,10 @@ in the text of a location of HTTP (`crates/git_laws/specs/GitWeb.antt`).
 Each function is a relation of the definitions, and answers all that it relates to what is given: every cut of a text is
 tried, and what each case asks is asked of it. It asks Git and libcurl nothing: `scripts/web_witness` compares.
 """
+import re
 from collections import namedtuple
 
-from git_reads import GIT_ESCAPE, cuts, first_cuts
+from git_reads import cuts, decoded, first_cuts
 from second_reading import git_class, grammar, hosts, octets
 from web_reads import Web, escaped
 
@@ -25,13 +26,9 @@ def pieces(rest):
 
 # ---- Git's credential code
 
-def git_decode(text):
-    return GIT_ESCAPE.sub(lambda it: bytes([int(it[1], 16)]), text)
-
-
 def credential_decodes(piece):
-    whole = [git_decode(piece)] if b":" not in piece else []
-    return whole + [front + b":" + git_decode(rest) for front, rest in first_cuts(piece, b":")]
+    whole = [decoded(piece)] if b":" not in piece else []
+    return whole + [front + b":" + decoded(rest) for front, rest in first_cuts(piece, b":")]
 
 
 def credential_cuts(authority):
@@ -54,10 +51,6 @@ def credential_paths(behind):
     return [trimmed_path(it) for rest in rests for it in credential_decodes(rest)]
 
 
-def is_one_line(part):
-    return part is None or (b"\n" not in part and b"\r" not in part)
-
-
 def credential_readings(text):
     """All readings of Git's credential code."""
     found = [
@@ -68,7 +61,7 @@ def credential_readings(text):
         for host in credential_decodes(named)
         for path in credential_paths(behind)
     ]
-    return {it for it in found if all(map(is_one_line, it))}
+    return {it for it in found if not any(re.search(rb"[\n\r]", part or b"") for part in it)}
 
 
 # ---- URIs
@@ -138,7 +131,7 @@ def with_query(uri):
 
 def is_own_information(v, information):
     if v.user is None or information is None:
-        return v.user is None and information is None
+        return v.user is information
     if v.password is None:
         return b":" not in information and octets.dec(information) == v.user
     return any((octets.dec(a), octets.dec(b)) == (v.user, v.password) for a, b in first_cuts(information, b":"))

@@ -27,11 +27,6 @@ def path_of(location):
     return writing.canonical_path(location)
 
 
-def front_of(path):
-    """A path without query and fragment."""
-    return re.match(rb"[^?#]*", path)[0]
-
-
 def name_of(location):
     """The host without a colon behind it, None of one in brackets."""
     return None if location.host.startswith(b"[") else location.host.removesuffix(b":")
@@ -65,7 +60,7 @@ def is_whole_password(location):
 
 
 def has_written_dots(location):
-    return DOT_SEGMENT.search(front_of(path_of(location))) is not None
+    return DOT_SEGMENT.search(re.match(rb"[^?#]*", path_of(location))[0]) is not None
 
 
 def is_empty_query(location):

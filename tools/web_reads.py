@@ -9,23 +9,17 @@ import ipaddress
 import re
 from collections import namedtuple
 
+from git_reads import decoded
 from second_reading import grammar, writing
 
 # What a reader reads. A port is its digits, and the path includes the query; for libcurl it is what the request asks for.
 Web = namedtuple("Web", "scheme user password host port path")
-PARTS = Web._fields
 HTTP = (("Http",), ("Https",))
 HOST_AND_PORT = re.compile(rb"(.*?)(?::([0-9]+))?", re.S)
-# An escape, except that of byte 0, which neither Git nor libcurl decodes.
-ESCAPE = re.compile(rb"%(?!00)([0-9A-Fa-f]{2})")
 # What libcurl refuses in each part of a URL, and in a decoded host.
 CONTROL = re.compile(rb"[\x01-\x20\x7f]")
 NO_HOST = re.compile(rb"[\x01-\x1f \"/:#?!@{}\[\]\\$'^`*<>=;,+&()]")
 LONGEST_ZONE = 15
-
-
-def decoded(text):
-    return ESCAPE.sub(lambda it: bytes([int(it[1], 16)]), text)
 
 
 def escaped(text):
@@ -36,17 +30,12 @@ def escaped(text):
 def cut(text):
     """The scheme, the authority between `://` and the first of `/?#`, and the rest."""
     scheme, _, rest = text.partition(b"://")
-    at = next((at for at, byte in enumerate(rest) if byte in b"/?#"), len(rest))
-    return scheme, rest[:at], rest[at:]
+    return scheme, *re.fullmatch(rb"([^/?#]*)(.*)", rest, re.S).groups()
 
 
 def cut_at_first(authority):
     """User, password and host of an authority that the first `@` cuts; the first colon before it ends the user."""
-    information, at, named = authority.partition(b"@")
-    if not at:
-        return None, None, authority
-    user, colon, password = information.partition(b":")
-    return user, password if colon else None, named
+    return re.fullmatch(rb"(?:([^:@]*)(?::([^@]*))?@)?(.*)", authority, re.S).groups()
 
 
 # ---- this library
@@ -112,15 +101,9 @@ def credential_reads(text):
 # ---- libcurl
 
 def number(digits):
-    """A number as C's `strtoul` reads it with base 0, None where it doesn't read all of it."""
-    found = re.fullmatch(rb"(0[xX](?=[0-9a-fA-F]))?([0-9a-fA-F]+)", digits)
-    if found is None:
-        return None
-    base = 16 if found[1] else 8 if found[2].startswith(b"0") else 10
-    try:
-        return int(found[2], base)
-    except ValueError:
-        return None
+    """A number as C's `strtoul` reads it with base 0, None where it doesn't read all of it. One of more digits is no address."""
+    found = re.fullmatch(rb"0[xX]([0-9a-fA-F]+)|(0[0-7]*)|([1-9][0-9]{,9})", digits)
+    return found and int(found[found.lastindex], (16, 8, 10)[found.lastindex - 1])
 
 
 def address(host):
@@ -140,14 +123,12 @@ def literal(host):
     inside, mark, zone = host[1:-1].partition(b"%")
     if not re.fullmatch(rb"[0-9A-Fa-f:.]+", inside) or (mark and not zone):
         return None
-    if zone.startswith(b"25") and len(zone) > 2:
-        zone = zone[2:]
+    zone = re.sub(rb"\A25(?=.)", b"", zone, flags=re.S)
     try:
-        found = ipaddress.IPv6Address(inside.decode())
+        shorter = shortest(ipaddress.IPv6Address(inside.decode()))
     except ValueError:
         return None
-    shorter = shortest(found)
-    kept = shorter if len(shorter) < len(inside) else inside
+    kept = min(inside, shorter, key=len)
     return None if len(zone) > LONGEST_ZONE else b"[" + kept + (b"%" + zone if zone else b"") + b"]"
 
 
@@ -165,10 +146,8 @@ def curl_host(host):
     """A host as libcurl has it, None where it is none."""
     if CONTROL.search(host):
         return None
-    if host.startswith(b"["):
-        return literal(host)
-    if address(host):
-        return address(host)
+    if host.startswith(b"[") or address(host):
+        return address(host) or literal(host)
     name = decoded(host)
     if not name or b"%00" in host or NO_HOST.search(name):
         return None
