@@ -29,7 +29,7 @@ class Case:
         self.text, self.git, self.ours = text, git, ours
         self.is_settled, self.agrees, self.written = is_settled, agrees, written
         self.is_same = is_settled and written == text
-        self.readings = {"Git": git, "here": ours}
+        self.readings, self.said = {"Git": git, "here": ours}, (told(git), ours)
         # The protocols that Git and this library read, None where there is no reading.
         self.git_protocol, self.protocol = (it.protocol if isinstance(it, Reading) else None for it in (git, ours))
         url = URL.fullmatch(text)
@@ -37,10 +37,6 @@ class Case:
         self.rest, self.authority = url and url[1], url and url[1].partition(b"/")[0]
         # The bytes that Git cuts: the rest of a URL with its escapes decoded, or any other text as it is.
         self.cut = ESCAPE.sub(lambda it: bytes([int(it[1], 16)]), url[1]) if url else text
-
-    @property
-    def said(self):
-        return told(self.git), self.ours
 
     @cached_property
     def differing(self):
@@ -51,11 +47,6 @@ class Case:
         if self.git_protocol != self.protocol:
             return frozenset(["protocol"])
         return frozenset(it for it in ALL.split() if getattr(self.git, it) != getattr(self.ours, it))
-
-    @cached_property
-    def is_cut_otherwise(self):
-        """Both sides read the same user, password, host and port one behind the other, and cut them at other places."""
-        return spelled(self.git) == spelled(self.ours)
 
 
 def spelled(reading):
@@ -99,7 +90,8 @@ def is_same_place(case):
 
 
 def is_cut(is_there):
-    return lambda case: case.is_cut_otherwise and is_there(case)
+    """Whether both sides read the same user, password, host and port one behind the other, cut at other places, of such a case."""
+    return lambda case: is_there(case) and spelled(case.git) == spelled(case.ours)
 
 
 CLASSES = {
@@ -126,17 +118,10 @@ CLASSES = {
     "colon-of-host": of("host", is_cut(lambda it: (it.ours.host or b"").endswith(b":"))),
     "case-of-host": of("host", lambda it: (it.ours.host or b"").lower() == (it.git.host or b"").lower() != it.git.host),
     # Refused by Git alone, and by this library alone.
-    "option": of("option"),
-    "dash-path": of("strange-pathname"),
-    "dash-host": of("strange-hostname"),
-    "empty-user": of("empty-user"),
-    "rsync": of("rsync"),
-    "character": of("BadCharacter"),
-    "port": of("BadPort"),
-    "no-host": of("HostRequired"),
-    "no-path": of("MissingPath"),
-    "no-utf8": of("NotUtf8"),
-    "no-scheme": of("NoScheme"),
+    "option": of("option"), "dash-path": of("strange-pathname"), "dash-host": of("strange-hostname"),
+    "empty-user": of("empty-user"), "rsync": of("rsync"),
+    "character": of("BadCharacter"), "port": of("BadPort"), "no-host": of("HostRequired"), "no-path": of("MissingPath"),
+    "no-utf8": of("NotUtf8"), "no-scheme": of("NoScheme"),
 }
 
 

@@ -31,19 +31,13 @@ def opens_host(text):
 
 
 def in_brackets(text):
-    """The front, what is in the brackets, and what follows them."""
+    """The front, what is in the brackets of a host, and what follows them: nothing of a text that lacks them."""
     return [(front, inside, behind) for front, rest in opens_host(text) for inside, behind in first_cuts(rest, b"]")]
-
-
-def lacks_host_brackets(text):
-    is_unopened = b"@[" not in text and text[:1] != b"["
-    return is_unopened or any(b"]" not in rest for _, rest in opens_host(text))
 
 
 def host_ends(text):
     """What is passed over, and what is left."""
-    brackets = [(front + b"[" + inside, b"]" + behind) for front, inside, behind in in_brackets(text)]
-    return brackets + ([(b"", text)] if lacks_host_brackets(text) else [])
+    return [(front + b"[" + inside, b"]" + behind) for front, inside, behind in in_brackets(text)] or [(b"", text)]
 
 
 def places(mark, text):
@@ -53,9 +47,8 @@ def places(mark, text):
 
 def git_port(text):
     """The port that a text writes for C's `strtol`, None where it writes none."""
-    found = re.fullmatch(rb"[\t-\r ]*([+-]?)([0-9]+)", text)
-    number = int(found[2]) if found else None
-    return None if found is None or number > 65535 or (found[1] == b"-" and number) else number
+    is_number = re.fullmatch(rb"[\t-\r ]*[+-]?[0-9]+", text)
+    return int(text) if is_number and 0 <= int(text) < 65536 else None
 
 
 def before_ports(text):
@@ -70,7 +63,7 @@ def before_ports(text):
 
 def hosts_and_ports(place):
     brackets = [(front + inside, port) for front, inside, behind in in_brackets(place) for _, port in before_ports(behind)]
-    return brackets + (before_ports(place) if lacks_host_brackets(place) else [])
+    return brackets or before_ports(place)
 
 
 def secure_ports(named, found):

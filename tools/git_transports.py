@@ -51,8 +51,8 @@ GIT_PORT, SECURE_PORT = 9418, 22
 
 def alone(room, **more):
     """An environment with a home folder of its own, which sees no settings but these."""
-    words = {"HOME": f"{room}/home", "PATH": os.environ["PATH"], "LC_ALL": "C", "GIT_CONFIG_NOSYSTEM": "1"}
-    return {**words, "GIT_CONFIG_GLOBAL": os.devnull, **more}
+    return {"HOME": f"{room}/home", "PATH": os.environ["PATH"], "LC_ALL": "C", "GIT_CONFIG_NOSYSTEM": "1",
+            "GIT_CONFIG_GLOBAL": os.devnull, **more}
 
 
 def run(folder, environment, *words):
@@ -108,15 +108,10 @@ def quoted(text):
     return b"'" + re.sub(rb"(['!])", rb"'\\\1'", text) + b"'"
 
 
-def secure_pair(words):
-    """The word that Secure Shell gets, and the port among its options."""
-    return words[-2], int(words[words.index(b"-p") + 1]) if b"-p" in words[:-2] else None
-
-
 def words_got(protocol, words):
     """What the program of a transport gets: a word for a host, a port and a path, or a path alone."""
     if protocol == "ssh":
-        return *secure_pair(words), words[-1]
+        return words[-2], int(words[words.index(b"-p") + 1]) if b"-p" in words[:-2] else None, words[-1]
     if protocol == "git":
         host, port, request = words
         path = re.match(rb"\S+ (.*?)\x03host=", request, re.S)
@@ -200,7 +195,7 @@ def secure_faults(readings, answers):
         print("OpenSSH isn't installed, and isn't asked")
         return []
     named = [text for text, it in readings.items() if it == "empty user" or isinstance(it, Reading) and it.protocol in ("ssh", SECURE_URL)]
-    pairs = {text: secure_pair(shown(answers[text])) for text in named}
+    pairs = {text: words_got("ssh", shown(answers[text]))[:2] for text in named}
     asked = chosen(dict.fromkeys(pairs.values()))
     words = [it for word, port in asked for it in (word, b"" if port is None else b"%d" % port)]
     heard = dict(zip(asked, ask_loop(ASK_SECURE_SHELL, words, {"SETTINGS": f"User {NO_USER.decode()}\n"}, each=2)))

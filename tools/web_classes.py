@@ -21,6 +21,7 @@ class WebCase:
         self.text, self.location, self.host = text, location, location.host
         self.credential, self.curl = credential_reads(text), curl_reads(text)
         self.readings = {"credential code": self.credential, "libcurl": self.curl}
+        self.said = told(self.credential), told(self.curl)
         # The location as Git's credential code has it.
         self.own = for_credential(location)
         # What comes before the last `@`, None where there is none.
@@ -30,10 +31,6 @@ class WebCase:
         self.name, self.is_literal = self.host.removesuffix(b":"), self.host.startswith(b"[")
         self.spelled = spelled_path(location)
         self.path = re.match(rb"[^?#]*", self.spelled)[0]
-
-    @property
-    def said(self):
-        return told(self.credential), told(self.curl)
 
     @cached_property
     def differing(self):

@@ -24,6 +24,10 @@ def pieces(rest):
             if (back == b"" or back[0] in PATH_STARTS) and not any(it in front for it in PATH_STARTS)]
 
 
+def splits_at(mark, text):
+    return [(text, None)] if mark not in text else first_cuts(text, mark)
+
+
 # ---- Git's credential code
 
 def credential_decodes(piece):
@@ -33,13 +37,10 @@ def credential_decodes(piece):
 
 def credential_cuts(authority):
     """All of user, password and what names a host."""
-    found = [(None, None, authority)] if b"@" not in authority else []
-    for information, named in first_cuts(authority, b"@"):
-        if b":" not in information:
-            found += [(user, None, named) for user in credential_decodes(information)]
-        for u, w in first_cuts(information, b":"):
-            found += [(user, password, named) for user in credential_decodes(u) for password in credential_decodes(w)]
-    return found
+    alone = [(None, None, authority)] if b"@" not in authority else []
+    front = [(u, w, named) for information, named in first_cuts(authority, b"@") for u, w in splits_at(b":", information)]
+    return alone + [(user, password, named) for u, w, named in front for user in credential_decodes(u)
+                    for password in ([None] if w is None else credential_decodes(w))]
 
 
 def trimmed_path(path):
@@ -65,10 +66,6 @@ def credential_readings(text):
 
 
 # ---- URIs
-
-def splits_at(mark, text):
-    return [(text, None)] if mark not in text else first_cuts(text, mark)
-
 
 def uri_authorities(authority):
     alone = [(None, authority)] if b"@" not in authority else []
@@ -132,9 +129,7 @@ def with_query(uri):
 def is_own_information(v, information):
     if v.user is None or information is None:
         return v.user is information
-    if v.password is None:
-        return b":" not in information and octets.dec(information) == v.user
-    return any((octets.dec(a), octets.dec(b)) == (v.user, v.password) for a, b in first_cuts(information, b":"))
+    return any((octets.dec(a), b if b is None else octets.dec(b)) == (v.user, v.password) for a, b in splits_at(b":", information))
 
 
 def is_own_uri(v, uri):

@@ -13,7 +13,6 @@ from second_reading import git_class, hosts, octets, settled_class, writing
 from web_reads import CONTROL
 
 NAME_BYTES = re.compile(rb"[a-z0-9._-]+")
-LAST_LABEL = re.compile(rb"(?:.*\.)?([^.]*)", re.S)
 DOT_SEGMENT = re.compile(rb"/\.\.?(/|$)")
 LINE_ENDS = re.compile(rb"[\0\n\r]")
 OTHER_CONTROL = re.compile(rb"[\x01-\x09\x0b\x0c\x0e-\x1f\x7f]")
@@ -27,27 +26,13 @@ def path_of(location):
     return writing.canonical_path(location)
 
 
-def name_of(location):
-    """The host without a colon behind it, None of one in brackets."""
-    return None if location.host.startswith(b"[") else location.host.removesuffix(b":")
+def named(is_met):
+    """The condition on a host that isn't in brackets, without a colon behind it."""
+    return lambda it: it.host.startswith(b"[") or is_met(it.host.removesuffix(b":"))
 
 
-def has_name_bytes(location):
-    return name_of(location) is None or NAME_BYTES.fullmatch(name_of(location)) is not None
-
-
-def first_of_last_label(location):
-    return LAST_LABEL.fullmatch(name_of(location))[1][:1]
-
-
-def is_usual_number(location):
-    """Whether the host is in brackets, its last label doesn't begin with a digit, or it is four decimal numbers."""
-    name = name_of(location)
-    return name is None or not first_of_last_label(location).isdigit() or hosts.is_ip4(name)
-
-
-def ends_in_letters(location):
-    return name_of(location) is None or first_of_last_label(location).isalnum()
+def first_of_last_label(name):
+    return name.rpartition(b".")[2][:1]
 
 
 def lacks(part, refused):
@@ -69,9 +54,9 @@ def is_empty_query(location):
 
 CONDITIONS = {
     "the location is settled": settled_class.settled,
-    "host: lower case, digits, `-`, `.`, `_`, or in brackets": has_name_bytes,
-    "host: a number only as four decimal numbers": is_usual_number,
-    "host: no last label that is empty or begins with `-` or `_`": ends_in_letters,
+    "host: lower case, digits, `-`, `.`, `_`, or in brackets": named(NAME_BYTES.fullmatch),
+    "host: a number only as four decimal numbers": named(lambda it: not first_of_last_label(it).isdigit() or hosts.is_ip4(it)),
+    "host: no last label that is empty or begins with `-` or `_`": named(lambda it: first_of_last_label(it).isalnum()),
     "host: no zone": lambda it: not it.host.startswith(b"[") or b"%" not in it.host,
     "host: no `:` behind it": lambda it: not it.host.endswith(b":"),
     "user: no byte 0, line feed, carriage return": lacks("user", LINE_ENDS),

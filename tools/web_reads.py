@@ -56,19 +56,16 @@ def spelled_path(location):
     return location.path if writing.matching(location) is None else writing.matching(location)
 
 
-def here(location, path):
-    port = None if location.port is None else b"%d" % location.port
-    return Web(grammar.as_str(location.scheme), location.user, location.password, location.host, port, path)
-
-
 def for_credential(location):
     """A location as Git's credential code has it: a decoded path without its first `/`."""
-    return here(location, location.path.removeprefix(b"/"))
+    port = None if location.port is None else b"%d" % location.port
+    scheme, path = grammar.as_str(location.scheme), location.path.removeprefix(b"/")
+    return Web(scheme, location.user, location.password, location.host, port, path)
 
 
 def for_curl(location):
     """A location as libcurl has it: the path as the text has it."""
-    return here(location, escaped(spelled_path(location)))
+    return for_credential(location)._replace(path=escaped(spelled_path(location)))
 
 
 # ---- Git's credential code
@@ -91,11 +88,8 @@ def credential_cut(text):
 
 def credential_reads(text):
     """What Git's credential code asks helpers for, or why it asks none."""
-    found = credential_cut(text)
-    for byte, name in ((b"\n", "line end"), (b"\r", "carriage return")):
-        if any(byte in it for it in found if it):
-            return name
-    return found
+    found, refused = credential_cut(text), {"line end": b"\n", "carriage return": b"\r"}
+    return next((name for name, byte in refused.items() if any(byte in it for it in found if it)), found)
 
 
 # ---- libcurl
