@@ -95,7 +95,7 @@ def credential_reads(text):
 # ---- libcurl
 
 def number(digits):
-    """A number as C's `strtoul` reads it with base 0, None where it doesn't read all of it. One of more digits is no address."""
+    """A number as C's `strtoul` reads it with base 0, None where it doesn't read all of it. More digits make no address."""
     found = re.fullmatch(rb"0[xX]([0-9a-fA-F]+)|(0[0-7]*)|([1-9][0-9]{,9})", digits)
     return found and int(found[found.lastindex], (16, 8, 10)[found.lastindex - 1])
 
