@@ -12,7 +12,11 @@ pub mod commands;
 mod components;
 pub mod credentials;
 #[cfg(test)]
+mod failing;
+#[cfg(test)]
 mod reading;
+#[cfg(test)]
+mod refusals;
 #[cfg(test)]
 mod stored;
 #[cfg(test)]

@@ -1,13 +1,13 @@
-//! The examples of the documents and of the doc comments, each as it is there, and tests that run them.
+//! The examples of the documents and of the doc comments, letter by letter. Each is proved to be safe and to end.
 //!
 //! `scripts/documents` refuses a block of code in a document that is in no such file; those of `docs/CALLING.md`
 //! are in `crates/user_proofs`.
+#![tactic(auto)]
 
 mod borrowed;
-mod coming;
 mod copies;
-mod from_arguments;
-mod from_input;
+mod differences;
+mod first_hour;
 mod in_room;
 mod parts;
 mod paths;

@@ -1,12 +1,11 @@
 //! Examples of locations that Git rewrites by its configuration.
 
-use bstr::{BStr, BString};
+use bstr::BString;
 use git_rules::config::{self, Entry};
 use git_rules::rewrite::host::{names_same_host, texts_name_same_host};
 use git_rules::rewrite::{RewriteError, Rewrites};
-use gix_url::{Url, UrlRef};
+use gix_url::UrlRef;
 use std::alloc::{AllocError, Global};
-use std::test::Fail;
 
 /// The text that Git fetches from, by a configuration that `git config --list -z` wrote.
 fn fetched_from(alloc: Global, text: &[u8], location: &[u8]) -> Result<BString, RewriteError> {
@@ -80,51 +79,4 @@ fn rewritten(rules: &Rewrites<'_>, locations: &[&[u8]]) -> usize {
         }
     }
     count
-}
-
-/// A configuration with rules for fetching and pushing.
-const CONFIGURATION: &[u8] = b"url.https://h/.insteadof\nh:\0url.ssh://h/.pushinsteadof\nh:\0";
-
-#[test]
-fn locations_are_rewritten(rt: HostRuntime) -> Result<(), Fail> {
-    let text = fetched_from(rt.alloc(), CONFIGURATION, b"h:repo").map_err(|_| AllocError)?;
-    assert_eq!(rt; text.as_bstr(), BStr::from("https://h/repo"));
-    let entries = config::entries(rt.alloc(), CONFIGURATION)?;
-    let rules = Rewrites::from_entries(rt.alloc(), &entries).map_err(|_| AllocError)?;
-    let pushed = pushed_to(rt.alloc(), &rules, b"h:repo", None)?;
-    assert_eq!(rt; pushed.as_bstr(), BStr::from("ssh://h/repo"));
-    let pushed = pushed_to(rt.alloc(), &rules, b"x", Some(b"h:p"))?;
-    assert_eq!(rt; pushed.as_bstr(), BStr::from("https://h/p"));
-    assert_eq!(rt; front(&rules, b"h:repo"), Some(b"h:".as_slice()));
-    assert_eq!(rt; front(&rules, b"x:repo"), None);
-    Ok(())
-}
-
-#[test]
-fn rules_are_added(rt: HostRuntime) -> Result<(), Fail> {
-    let entries = config::entries(rt.alloc(), b"url.b.insteadof\0url.b.insteadof\nf\0")?;
-    let (rules, bad) = lenient(rt.alloc(), &entries).map_err(|_| AllocError)?;
-    assert_eq!(rt; bad, 1);
-    assert_eq!(rt; rewritten(&rules, &[b"f", b"g"]), 1);
-    let rules = over_https(rt.alloc())?;
-    let text = rules
-        .rewrite_fetch(b"git@github.com:a/b")
-        .to_bstring(rt.alloc())?;
-    assert_eq!(rt; text.as_bstr(), BStr::from("https://github.com/a/b"));
-    Ok(())
-}
-
-#[test]
-fn hosts_are_compared(rt: HostRuntime) -> Result<(), Fail> {
-    let one = Url::from_text(rt.alloc(), "git@Host:repo")?;
-    let other = Url::from_text(rt.alloc(), "https://host/repo")?;
-    let third = Url::from_text(rt.alloc(), "https://else/repo")?;
-    assert!(rt; !is_moved(&one.as_ref(), &other.as_ref()));
-    assert!(rt; is_moved(&one.as_ref(), &third.as_ref()));
-    assert_eq!(rt;
-        keeps_host(b"git@host:repo", b"https://host/repo"),
-        Some(true)
-    );
-    assert_eq!(rt; keeps_host(b"git@host:repo", b"http://h:0/"), None);
-    Ok(())
 }

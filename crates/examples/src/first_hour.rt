@@ -1,9 +1,8 @@
-//! Prints the host that each line of standard input names: an example of docs/FIRST_HOUR.md.
+//! Programs that print the host that each line of standard input names, and each argument: examples of `docs/FIRST_HOUR.md`.
 
 use gix_url::{Error, Url};
 use std::alloc::Global;
 use std::io::{self, BufRead, BufReader};
-use std::test::Fail;
 
 /// The host that a text names, if the location can be written and read again.
 fn host_of(alloc: Global, text: &str) -> Result<Option<String>, Error> {
@@ -25,8 +24,19 @@ fn main(rt: HostRuntime) -> io::Result<()> {
     Ok(())
 }
 
-#[test]
-fn no_lines_have_no_hosts(rt: HostRuntime) -> Result<(), Fail> {
-    main(rt)?;
-    Ok(())
+/// The program of arguments.
+mod of_arguments {
+    use super::host_of;
+    use std::{env, io};
+
+    fn main(rt: HostRuntime) -> io::Result<()> {
+        for text in env::args(&rt)?.skip(1) {
+            match host_of(rt.alloc(), &text) {
+                Ok(Some(host)) => println!(rt; "{host}")?,
+                Ok(None) => println!(rt; "no host to rely on")?,
+                Err(error) => println!(rt; "refused: {error}")?,
+            }
+        }
+        Ok(())
+    }
 }

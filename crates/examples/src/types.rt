@@ -7,7 +7,6 @@ use gix_url::lines::{self, RunError};
 use gix_url::parse::UrlKind;
 use gix_url::{Error, PathComponents, QueryText, Scheme, Url, UrlFault, WriteError, WriteFault};
 use std::alloc::Global;
-use std::test::Fail;
 
 /// Whether the same text can be read at another time: nothing is wrong with it.
 fn is_passing(error: &Error) -> bool {
@@ -100,63 +99,4 @@ fn is_empty(value: &QueryText<'_>) -> bool {
 
 fn fragment_of<'a>(parts: &PathComponents<'a>) -> Option<BStr<'a>> {
     parts.fragment
-}
-
-#[test]
-fn errors_are_told_apart(rt: HostRuntime) -> Result<(), Fail> {
-    // Whether what a text is refused for is a bad port, and whether it is an scp form without a path.
-    for (text, port, scp) in [
-        ("http://h:x/", true, false),
-        ("h:", false, true),
-        ("ssh://h", false, false),
-    ] {
-        let Err(error) = Url::from_text(rt.alloc(), text) else {
-            return Err(Fail::from(text));
-        };
-        assert_eq!(rt; has_bad_port(&error), port, "{text}");
-        assert_eq!(rt; is_scp(&error), scp, "{text}");
-        assert!(rt; is_refusal(&error) && !is_passing(&error), "{text}");
-    }
-    assert!(rt; !is_refusal(&Error::Memory));
-    let mut url = Url::from_text(rt.alloc(), "https://u@h/p")?;
-    url.host = None;
-    let outcome = url.write_to(&mut Vec::new(rt.alloc()));
-    assert!(rt; matches!(&outcome, Err(error) if lacks_host(error)));
-    assert_eq!(rt; ended(&rt, &Ok(false)), 1);
-    Ok(())
-}
-
-#[test]
-fn schemes_and_hosts_are_told_apart(rt: HostRuntime) -> Result<(), Fail> {
-    assert!(rt; is_encrypted(&Scheme::Ssh) && !is_encrypted(&Scheme::Http));
-    assert!(rt; is_web(rt.alloc(), "https")? && !is_web(rt.alloc(), "HTTPS")?);
-    assert_eq!(rt; port_of(&Scheme::Git), 9418);
-    assert_eq!(rt; port_of(&Scheme::File), 0);
-    for text in ["git@host:repo", "ssh+git://host/repo"] {
-        let url = Url::from_text(rt.alloc(), text)?;
-        assert_eq!(rt; scheme_of(&url), "ssh", "{text}");
-    }
-    for (text, is) in [("ssh://h:22/p", true), ("h:22/p", false)] {
-        let url = Url::from_text(rt.alloc(), text)?;
-        assert_eq!(rt; names_port(&url), is, "{text}");
-    }
-    for (host, is) in [("::1", true), ("[::1]", false), ("fe80::1%eth0", false)] {
-        assert_eq!(rt; needs_brackets(host), is, "{host}");
-    }
-    Ok(())
-}
-
-#[test]
-fn users_and_components_are_copied(rt: HostRuntime) -> Result<(), Fail> {
-    assert!(rt; is_current(&ForUser::Current));
-    let (one, other) = two_of(rt.alloc(), ForUser::Current)?;
-    assert!(rt; one == other);
-    let url = Url::from_text(rt.alloc(), "http://h/?a+b#c")?;
-    let parts = url.path_query_fragment(rt.alloc())?;
-    assert!(rt; both(rt.alloc(), &parts)? == parts);
-    assert_eq!(rt; fragment_of(&parts), Some(BStr::from("c")));
-    let (name, value) = &parts.query.as_ref().ok_or("it has a query")?[0];
-    assert!(rt; kept(rt.alloc(), name)? == *name);
-    assert!(rt; is_empty(value) && !is_empty(name));
-    Ok(())
 }

@@ -4,9 +4,8 @@ use git_rules::boolean::read_boolean;
 use git_rules::config::{self, Entry, EntryError, Reader};
 use git_rules::normal::NormalUrl;
 use git_rules::protocols::{Permission, Protocols, Reason, transport};
-use gix_url::{Url, UrlRef};
+use gix_url::UrlRef;
 use std::alloc::{AllocError, Global};
-use std::test::Fail;
 
 fn is_on(value: &[u8]) -> bool {
     read_boolean(value) == Some(true) // of `Yes`, `1`, `-0x10` and `2k`, but not of `off`, `00`, `2g` and `1 `
@@ -71,58 +70,4 @@ fn host_of<'a>(text: &'a [u8], room: &'a mut [u8]) -> Option<&'a [u8]> {
         Ok(place) => Some(place.host), // `example.com` of `https://me@Example.com:443/a/../b`
         Err(_) => None,
     }
-}
-
-#[test]
-fn booleans_are_read(rt: HostRuntime) {
-    for (value, is) in [("Yes", true), ("1", true), ("-0x10", true), ("2k", true)] {
-        assert_eq!(rt; is_on(value.as_bytes()), is, "{value}");
-    }
-    for value in ["off", "00", "2g", "1 "] {
-        assert!(rt; !is_on(value.as_bytes()), "{value}");
-    }
-}
-
-#[test]
-fn entries_are_read(rt: HostRuntime) -> Result<(), Fail> {
-    let text = b"http.proxy\na\0url.ssh://h/.insteadof\nx:\0nokey\0http.proxy\nb\0cut";
-    assert_eq!(rt; proxy(rt.alloc(), text)?, Some(b"b".as_slice()));
-    let entries = config::entries(rt.alloc(), text)?;
-    assert_eq!(rt; entries.iter().filter(|it| is_rewrite(it)).count(), 1);
-    let places = bad_places(rt.alloc(), text)?;
-    assert_eq!(rt; places.as_slice(), [39, 58].as_slice());
-    Ok(())
-}
-
-#[test]
-fn transports_are_chosen(rt: HostRuntime) -> Result<(), Fail> {
-    let text = b"protocol.ext.allow\nnever\0";
-    let entries = config::entries(rt.alloc(), text)?;
-    for (text, is_ssh, follows) in [
-        ("git@host:repo", true, true),
-        ("ssh://host/repo", true, true),
-        ("/repo", false, false),
-        ("ext::sh", false, false),
-    ] {
-        let url = Url::from_text(rt.alloc(), text)?;
-        assert_eq!(rt; is_secure_shell(&url.as_ref()), is_ssh, "{text}");
-        assert_eq!(rt; may_follow(&url.as_ref(), &entries), follows, "{text}");
-    }
-    let protocols = Protocols {
-        entries: &entries,
-        allow_list: None,
-        from_user: None,
-    };
-    assert!(rt; !is_helper_allowed(&protocols));
-    assert_eq!(rt; refusal_place(&protocols, "ext"), Some(0));
-    assert_eq!(rt; refusal_place(&protocols, "ssh"), None);
-    Ok(())
-}
-
-#[test]
-fn settings_are_those_of_a_host(rt: HostRuntime) {
-    let mut room = [0u8; 256];
-    let host = host_of(b"https://me@Example.com:443/a/../b", &mut room);
-    assert_eq!(rt; host, Some(b"example.com".as_slice()));
-    assert_eq!(rt; host_of(b"git@host:repo", &mut room), None);
 }

@@ -1,0 +1,67 @@
+//! Examples of patterns of places, by which Git picks settings and credentials.
+
+use git_rules::config::{self, Entry};
+use git_rules::normal::{NormalError, NormalUrl};
+use git_rules::pattern::entries::{best_entry, entry_rank};
+use git_rules::pattern::place::place_in;
+use git_rules::pattern::{UrlPattern, best};
+use gix_url::UrlRef;
+
+/// Whether a pattern stands for a place, each in a room of its own.
+fn stands_for(pattern: &[u8], room: &mut [u8], place: &NormalUrl<'_>) -> bool {
+    match UrlPattern::parse_in(pattern, room) {
+        Ok(pattern) => pattern.matches(place), // `https://*.example.com` for `https://git.example.com/a`
+        Err(_) => false,
+    }
+}
+
+/// Whether a proxy that is set for a URL is used for a place.
+fn is_used(pattern: &UrlPattern<'_>, place: &NormalUrl<'_>) -> bool {
+    pattern.matches(place)
+}
+
+/// The value that is set for a place: the values are as many as the patterns.
+fn picked<'a>(
+    patterns: &[UrlPattern<'_>],
+    values: &[&'a str],
+    place: &NormalUrl<'_>,
+) -> Option<&'a str> {
+    values.get(best(patterns, place)?).copied()
+}
+
+/// Whether the secret that is kept for a URL may be sent where a location leads. Then it goes to that URL's host.
+fn may_be_sent(url: &UrlRef<'_>, kept_for: &UrlPattern<'_>, place: &NormalUrl<'_>) -> bool {
+    url.agrees_with_git() && kept_for.matches(place)
+}
+
+/// The helper that an entry of a configuration names for a place.
+fn helper<'a>(
+    entry: &Entry<'a>,
+    place: &NormalUrl<'_>,
+    room: &mut [u8],
+) -> Result<Option<&'a [u8]>, NormalError> {
+    match entry_rank(entry, "credential", "helper", place, room)? {
+        None => Ok(None),
+        Some(_) => Ok(entry.value),
+    }
+}
+
+/// The proxy that Git uses for a place.
+fn proxy<'a>(
+    entries: &[Entry<'a>],
+    place: &NormalUrl<'_>,
+    room: &mut [u8],
+) -> Result<Option<&'a [u8]>, NormalError> {
+    match best_entry(entries, "http", "proxy", place, room)? {
+        None => Ok(None),
+        Some(i) => Ok(entries.get(i).and_then(|entry| entry.value)),
+    }
+}
+
+/// Whether a pattern stands for a location.
+fn is_for(pattern: &UrlPattern<'_>, url: &UrlRef<'_>, room: &mut [u8]) -> bool {
+    match place_in(url, room) {
+        Ok(place) => pattern.matches(&place),
+        Err(_) => false,
+    }
+}

@@ -1,0 +1,33 @@
+//! Examples of texts and bytes that are read, of what is read again, and of a location made of parts.
+
+use bstr::{BStr, BString};
+use gix_url::{Error, Scheme, Url};
+use std::alloc::Global;
+
+/// Whether others who read the text of the location reach the same host.
+fn names_the_same_host(alloc: Global, url: &Url) -> Result<bool, Error> {
+    let read = url.reread(alloc)?;
+    Ok(read.host.as_deref() == url.host.as_deref())
+}
+
+/// A remote of a user on this host, by Secure Shell.
+fn remote(alloc: Global, user: String, host: String, path: BString) -> Result<Url, Error> {
+    Url::from_parts(
+        alloc,
+        Scheme::Ssh,
+        Some(user),
+        None,
+        Some(host),
+        None,
+        path,
+        false,
+    )
+}
+
+fn of_line(alloc: Global, line: &[u8]) -> Result<Url, Error> {
+    Url::from_bytes(alloc, BStr::new(line))
+}
+
+fn port_of(alloc: Global, text: &str) -> Result<Option<u16>, Error> {
+    Ok(Url::from_text(alloc, text)?.port) // 22 of `ssh://h:22/p`, none of `h:22/p`
+}

@@ -1,0 +1,65 @@
+//! Examples of locations written, and shown to people.
+
+use bstr::{BStr, BString};
+use gix_url::lines::{self, RunError};
+use gix_url::testing::TestUrlExtension;
+use gix_url::{Error, Scheme, Url, WriteError};
+use std::alloc::{AllocError, Global};
+
+fn append(out: &mut Vec<u8>, url: &Url) -> Result<(), WriteError> {
+    url.write_to(out)
+}
+
+/// Whether the text fits into a field of so many bytes.
+fn fits(url: &Url, room: u128) -> bool {
+    url.text_len().is_ok_and(|length| length <= room)
+}
+
+/// A text in the form that this library writes.
+fn rewritten(alloc: Global, text: &str) -> Result<BString, Error> {
+    Url::from_text(alloc, text)?.to_bstring(alloc) // `ssh://h/p` of `ssh://H:/p`
+}
+
+fn spelled(url: &Url) -> BStr<'_> {
+    url.original_path() // `/my%20repo` of `https://host/my%20repo`, whose path is `/my repo`
+}
+
+/// The text to store for a location, if others read it as the same.
+fn to_store(alloc: Global, url: &Url) -> Result<Option<BString>, Error> {
+    if !url.is_settled() {
+        return Ok(None);
+    }
+    Ok(Some(url.to_bstring(alloc)?))
+}
+
+/// The text for Git, if Git reads the same place in it.
+fn for_git(alloc: Global, url: &Url) -> Result<Option<BString>, Error> {
+    if !url.agrees_with_git() {
+        return Ok(None); // `ssh://u:p@h/p`, in which Git reads the user `u:p`
+    }
+    Ok(Some(url.to_bstring(alloc)?))
+}
+
+fn log_line(alloc: Global, url: &Url) -> Result<String, AllocError> {
+    format!(in alloc; "fetching {url}") // `fetching ssh://u:redacted@h/p`
+}
+
+/// The answers to lines in memory.
+fn answers(alloc: Global, input: &[u8]) -> Result<Vec<u8>, RunError> {
+    let mut input = input;
+    let mut output = Vec::new(alloc);
+    lines::run(alloc, &mut input, &mut output)?;
+    Ok(output)
+}
+
+fn without_host(path: BString) -> Url {
+    <Url as TestUrlExtension>::from_parts_unchecked(
+        Scheme::Https,
+        None,
+        None,
+        None,
+        None,
+        path,
+        false,
+    )
+}
