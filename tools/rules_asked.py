@@ -16,6 +16,13 @@ from git_transports import alone, answers_of
 Entry = namedtuple("Entry", "section place name value")
 
 
+def entry_of(key, value=None):
+    """An entry by its key: the section ends at the first `.`, and the name begins behind the last."""
+    section, _, rest = key.partition(b".")
+    place, dot, name = rest.rpartition(b".")
+    return Entry(section, place if dot else None, name, value)
+
+
 def quoted(text):
     return b'"' + re.sub(rb'(["\\])', rb"\\\1", text) + b'"'
 

@@ -1,38 +1,37 @@
-"""What `./explain --config` reports of lines: a second reading by the rules by hand, and command lines.
+"""What `./explain --config` reports of lines, beside what the library answers by the program `answers`; and command lines.
 
-What a line is rewritten to, which settings apply to that and whether its transport may be used is asked of the rules by hand
-(`rules_rewrite.py`, `rules_match.py`, `rules_transport.py`), which `rules_witness` compares with Git; what a text is read as,
-of `second_reading`. Of each case all JSON is compared, and what is reported on standard error. Configurations are
-written by hand, and taken from those that Git is asked about. The text output was written by hand
-(`crates/explain/golden/by_config`).
+What a line is rewritten to, which entries apply to that and whether its transport may be used is asked of the library, which
+`rules_witness` compares with Git; what a text is read as, of `second_reading`. Of each case all JSON is compared, and what is
+reported on standard error. Configurations are written by hand, and taken from those that Git is asked about. The text output
+was written by hand (`crates/explain/golden/by_config`).
 """
 import json
 import os
 import re
 import subprocess
 from collections import namedtuple
+from itertools import accumulate, zip_longest
 
 import rules_match
 import rules_rewrite
-import rules_transport
+from row_text import bytes_of, text_of
 from rt_api import ROOT, program
-from rules_asked import Entry, is_named, listed
-from rules_boolean import is_true
-from rules_normal import normal
+from rules_asked import entry_of as entry, is_named, listed
+from rules_library import together
 from second_reading import grammar
 from second_reading.explain import lossy, shown_line
 
 STORED = f"{ROOT}/crates/explain/golden/by_config"
 # How many of the configurations that Git is asked about are taken of each kind.
 TAKEN = 40
-PERMISSIONS = {True: "allowed", False: "refused", "unknown policy": "unknown_allowance", "no value": "unknown_allowance", "no truth value": "unknown_from_user"}
+PERMISSIONS = {"Allowed": "allowed", "Refused": "refused", "UnknownAllowance": "unknown_allowance", "UnknownFromUser": "unknown_from_user"}
 BOOLEANS = (b"usehttppath", b"sslverify", b"ssltry", b"savecookies", b"sslcertpasswordprotected", b"proxysslcertpasswordprotected",
             b"schannelcheckrevoke", b"schannelusesslcainfo")
 # A configuration, both variables (None where they aren't set), and the lines.
 Case = namedtuple("Case", "entries lines allow_list from_user", defaults=(None, None))
 
 
-# ---- the second reading
+# ---- what is expected; a generator yields orders, and is sent what the library answers
 
 def hidden(text):
     """A text without what may be a secret: behind `://`, where that is, from the first `:` to the last `@`."""
@@ -50,12 +49,15 @@ def shown_value(entry):
     return None if entry.value is None else lossy(hidden(entry.value))
 
 
-def setting(entries, entry):
-    """An entry, which is one of these, as it is shown."""
-    at = next(at for at, it in enumerate(entries) if it is entry)
-    place = b"" if entry.place is None else hidden(entry.place) + b"."
-    key = entry.section.lower() + b"." + place + entry.name.lower()
-    return {"at": len(listed(entries[:at])), "key": lossy(key), "value": shown_value(entry)}
+def placed(entries):
+    """The entries, each behind the byte at which it begins."""
+    return [*zip(accumulate((len(listed([it])) for it in entries), initial=0), entries)]
+
+
+def setting(at, it):
+    """An entry as it is shown."""
+    place = b"" if it.place is None else hidden(it.place) + b"."
+    return {"at": at, "key": lossy(it.section.lower() + b"." + place + it.name.lower()), "value": shown_value(it)}
 
 
 def host_name(v):
@@ -63,92 +65,84 @@ def host_name(v):
     return None if v.host is None else grammar.peel(v.host).lower()
 
 
-def transport(case, text):
-    name = rules_transport.transport(text)
-    found = rules_transport.allowed(case.entries, case.allow_list, case.from_user, name)
-    by_list, by_user = case.allow_list is not None, rules_transport.allowed(case.entries, None, None, name)
-    entry = None if by_list or found == "no truth value" else rules_transport.entry_of(case.entries, name)
-    decides = found == "no truth value" or (found is False and by_user is True)
-    variable = "GIT_ALLOW_PROTOCOL" if by_list else "GIT_PROTOCOL_FROM_USER" if decides else None
-    return {"name": lossy(name), "permission": PERMISSIONS[found], "variable": variable, "entry": entry and setting(case.entries, entry)}
+def transport(case, name):
+    """A transport: whether it is allowed, and the variable and the entry that decide."""
+    variables = {"allow_list": case.allow_list, "from_user": case.from_user}
+    order = {"call": "Protocols::permission", "config": text_of(listed(case.entries)), "name": name, "style": "{:?}"}
+    said = yield [{**order, **{key: text_of(it) for key, it in variables.items() if it is not None}}, order]
+    shown, by_entries = (it["shown"] for it in said)
+    variable = "GIT_ALLOW_PROTOCOL" if case.allow_list is not None else "GIT_PROTOCOL_FROM_USER" if shown != by_entries else None
+    decides = next((setting(*it) for it in placed(case.entries) if f"at: {it[0]} " in shown), None)
+    return {"name": name, "permission": PERMISSIONS[re.findall(r"\w+", shown)[0]], "variable": variable, "entry": decides}
 
 
-def route(case, line, text, is_rewritten):
+def route(case, line, text, *names):
+    """Where a line goes, by the rules with these names."""
     own, goal = grammar.spells(line), grammar.spells(text)
+    fronts = [it.value for it in case.entries if is_named(it, b"url", *names) and it.place is not None and it.value is not None]
     same_host = None if own is None or goal is None else host_name(own) == host_name(goal)
-    found = None if goal is None else transport(case, text)
-    return {"text": shown_line(text), "rewritten": is_rewritten, "same_host": same_host, "transport": found}
+    found = None if goal is None else (yield from transport(case, lossy(grammar.as_str(goal.scheme))))
+    return {"text": shown_line(text), "rewritten": line.startswith(tuple(fronts)), "same_host": same_host, "transport": found}
 
 
-def applies(entry, url):
-    return entry.place is None or rules_match.applies(normal(entry.place, with_any=True), url)
+def applying(case, section, text):
+    """The entries of a section that apply to a text, each behind its rank and its place: those without a URL always do."""
+    own = [it for it in placed(case.entries) if it[1].section.lower() == section]
+    about = {"call": "entries::entry_rank", "section": text_of(section), "text": text_of(text)}
+    said = yield [{**about, "config": text_of(listed([it])), "name": text_of(it.name)} for _, it in own]
+    ranked = [([0, [0, 0]] if it.place is None else rank, at, it) for (at, it), rank in zip(own, said)]
+    return [it for it in ranked if isinstance(it[0], list)]
 
 
-def credentials(entries, url):
+def credentials(found):
     """The entries of credentials that Git uses: the helpers behind the last empty one, and the last one of each other name."""
-    found = [it for it in entries if it.section.lower() == b"credential" and applies(it, url)]
-    ends = [at for at, it in enumerate(found) if it.name.lower() == b"helper" and it.value == b""]
-    for at, it in enumerate(found):
-        is_helper = it.name.lower() == b"helper"
-        if at > max(ends, default=-1) if is_helper else it.name.lower() not in [other.name.lower() for other in found[at + 1 :]]:
-            yield it
+    ends = [at for at, (*_, it) in enumerate(found) if it.name.lower() == b"helper" and it.value == b""]
+    for at, (_, place, it) in enumerate(found):
+        behind = [other.name.lower() for *_, other in found[at + 1 :]]
+        if at > max(ends, default=-1) if it.name.lower() == b"helper" else it.name.lower() not in behind:
+            yield setting(place, it)
 
 
-def of_http(entries, url):
+def of_http(entries, found):
     """The best entry of each name, in the order in which the names come first."""
-    named = {}
-    for it in entries:
-        if it.section.lower() == b"http":
-            named.setdefault(it.name.lower(), []).append(it)
-    for some in named.values():
-        at = rules_match.best([it.place if it.place is None else normal(it.place, with_any=True) for it in some], url)
-        if at is not None:
-            yield some[at]
+    for name in dict.fromkeys(it.name.lower() for it in entries if it.section.lower() == b"http"):
+        some = [it for it in found if it[2].name.lower() == name]
+        if some:
+            yield setting(*max(some)[1:])
 
 
 def rules(case, line):
     """What is reported of a line."""
-    entries = case.entries
-    fetched, pushed = rules_rewrite.fetched(entries, line), rules_rewrite.pushed(entries, line)
-    is_fetch = bool(rules_rewrite.matching(line, entries, b"insteadof"))
-    is_push = is_fetch or bool(rules_rewrite.matching(line, entries, b"pushinsteadof"))
-    goal, url = grammar.spells(fetched), normal(fetched)
-    is_of_web = goal is not None and goal.scheme in grammar.HTTP_SCHEMES
-    found = (credentials(entries, url), of_http(entries, url)) if is_of_web else ((), ())
-    credential, http = ([setting(entries, it) for it in some] for some in found)
-    return {"fetch": route(case, line, fetched, is_fetch), "push": route(case, line, pushed, is_push), "credential": credential, "http": http}
+    texts = yield [{"call": "Rewrites::add_entry", "config": text_of(listed(case.entries)), "text": text_of(line)}]
+    fetched, pushed = map(bytes_of, texts[0])
+    fetch = yield from route(case, line, fetched, b"insteadof")
+    push = yield from route(case, line, pushed, b"insteadof", b"pushinsteadof")
+    goal, credential, http = grammar.spells(fetched), [], []
+    if goal is not None and goal.scheme in grammar.HTTP_SCHEMES:
+        credential = [*credentials((yield from applying(case, b"credential", fetched)))]
+        http = [*of_http(case.entries, (yield from applying(case, b"http", fetched)))]
+    return {"fetch": fetch, "push": push, "credential": credential, "http": http}
 
 
-def fault(entry):
+def fault(it):
     """What isn't understood of an entry, in words."""
-    is_credential = entry.section.lower() == b"credential"
-    if is_credential or entry.section.lower() == b"http":
-        if entry.place is not None and isinstance(normal(entry.place, with_any=True), str):
-            return "has no whole URL: Git compares the parts of it, which isn't done here" if is_credential else "has no URL that Git takes: it is for no location"
-        if entry.value is None:
-            return "has no value: Git stops at it" if is_credential else None
-        return "is no boolean value: Git stops at it" if entry.name.lower() in BOOLEANS and is_true(entry.value) is None else None
-    if is_named(entry, b"url", b"insteadof", b"pushinsteadof") and entry.place is not None and entry.value is None:
+    is_credential = it.section.lower() == b"credential"
+    if is_credential or it.section.lower() == b"http":
+        said = yield [{"call": "UrlPattern::parse_in", "text": text_of(it.place)}] if it.place is not None else []
+        if said not in ([], [True]):
+            of_credential = "has no whole URL: Git compares the parts of it, which isn't done here"
+            return of_credential if is_credential else "has no URL that Git takes: it is for no location"
+        if it.value is not None and it.name.lower() in BOOLEANS:
+            said = yield [{"call": "boolean::read_boolean", "text": text_of(it.value)}]
+            return "is no boolean value: Git stops at it" if said == [None] else None
+    if rules_rewrite.lacks_value(it) or is_credential and it.value is None:
         return "has no value: Git stops at it"
-    if is_named(entry, b"protocol", b"allow") and (entry.value or b"").lower() not in (b"always", b"user", b"never"):
+    if is_named(it, b"protocol", b"allow") and (it.value or b"").lower() not in (b"always", b"user", b"never"):
         return "is none of always, user and never: Git stops where it decides"
     return None
 
 
-def reports(entries):
-    """What is reported of a configuration on standard error."""
-    found = [(len(listed(entries[:at])), fault(it)) for at, it in enumerate(entries)]
-    return "".join(f"explain: the entry at byte {at} of the configuration {words}\n" for at, words in found if words)
-
-
 # ---- cases
-
-def entry(key, value=None):
-    """An entry by its key: its section ends at the first dot, its name begins behind the last one."""
-    section, _, rest = key.partition(b".")
-    place, dot, name = rest.rpartition(b".")
-    return Entry(section, place if dot else None, name, value)
-
 
 HUB = b"https://github.com/"
 BY_HAND = [
@@ -210,34 +204,37 @@ def run(case, *words):
     return ran.returncode, ran.stdout, ran.stderr
 
 
-def case_faults(case, file):
-    """Where the program reports otherwise of a case."""
+def case_faults(case, words, wanted, file):
+    """Where the program reports otherwise of a case than these words of its entries, and this of its lines."""
+    pairs = zip(placed(case.entries), words)
+    reported = "".join(f"explain: the entry at byte {at} of the configuration {it}\n" for (at, _), it in pairs if it)
     with open(file, "wb") as it:
         it.write(listed(case.entries))
     _, shown, said = run(case, "--json", "--config", file)
     found = [json.loads(it) for it in shown.splitlines()]
-    if said.decode() != reports(case.entries):
-        yield f"of {case.entries} {said.decode()!r} is reported, and not {reports(case.entries)!r}"
+    if said.decode() != reported:
+        yield f"of {case.entries} {said.decode()!r} is reported, and not {reported!r}"
     if len(found) != len(case.lines):
         yield f"{len(case.lines)} lines have {len(found)} answers"
     if b"secret" in shown + said + run(case, "--config", file)[1]:
         yield f"by {case.entries} a secret is shown"
-    for line, it in zip(case.lines, found):
-        wanted = rules(case, line)
-        if json.loads(json.dumps(wanted)) != it["rules"] or list(wanted) != list(it["rules"]):
-            yield f"of {line!r} by {case} {it['rules']} is reported, and not {wanted}"
+    for line, it, rules_of in zip(case.lines, found, wanted):
+        if json.loads(json.dumps(rules_of)) != it["rules"] or list(rules_of) != list(it["rules"]):
+            yield f"of {line!r} by {case} {it['rules']} is reported, and not {rules_of}"
 
 
 def command_faults(folder):
     """Where a command line has another outcome than the one written by hand: no lines of `explain` except these."""
-    file, line = f"{folder}/given", b"gh:p\n"
+    file, nothing, rest = f"{folder}/given", Case([], []), Case([], [b"gh:p"])
     with open(file, "wb") as it:
         it.write(b"url.https://h/.insteadof\ngh:\0")
-    nothing, rest = Case([], []), Case([], [b"gh:p"])
-    for case, words, status, is_rewritten, reported in (
-        (rest, ["--config", file], 0, True, b""),
-        (rest, ["--config", os.devnull], 0, False, b""),
-        (nothing, ["--config", file, "gh:p"], 0, True, b""),
+    broken = Case([], [b"url.https://h/.insteadof", b"gh:\0x\0a.b", b"c"])
+    said_of_broken = b"explain: the entry at byte 29 of the configuration has no section or no name\nexplain: the entry at byte 31"
+    for case, words, status, fetched, reported in (
+        (rest, ["--config", file], 0, b"https://h/p", b""),
+        (rest, ["--config", os.devnull], 0, b"gh:p", b""),
+        (nothing, ["--config", file, "gh:p"], 0, b"https://h/p", b""),
+        (broken, ["--config", "-", "gh:p"], 0, b"https://h/p", said_of_broken + b" of the configuration has no end\n"),
         (rest, ["--config", f"{folder}/none"], 2, None, b"explain: cannot read "),
         (rest, ["--config", folder], 2, None, b"explain: cannot read "),
         (rest, ["--config", "-"], 2, None, b"explain: --config - needs the lines"),
@@ -246,16 +243,11 @@ def command_faults(folder):
         (rest, ["--config", file, "--quiet"], 2, None, b"error: "),
     ):
         found, shown, said = run(case, *words)
-        row = re.search(rb'(?m)^    fetches     ("[^"]*")', shown)
-        right = shown == b"" if is_rewritten is None else row and row[1] == (b'"https://h/p"' if is_rewritten else b'"gh:p"')
-        if found != status or not right or not said.startswith(reported) or bool(said) != bool(reported):
+        row = re.search(rb'(?m)^    fetches     "([^"]*)"', shown)
+        is_said = said.startswith(reported) if status else said == reported
+        if found != status or not is_said or (row[1] if row else shown or None) != fetched:
             yield f"{words}: {found}, {shown!r}, {said!r}"
-    ran = subprocess.run([program("explain"), "--config", "-", "gh:p"], input=b"url.https://h/.insteadof\ngh:\0x\0a.b\nc", stdout=subprocess.PIPE,
-                         stderr=subprocess.PIPE, timeout=60)
-    wanted = b"explain: the entry at byte 29 of the configuration has no section or no name\nexplain: the entry at byte 31 of the configuration has no end\n"
-    if ran.returncode or b'    fetches     "https://h/p"' not in ran.stdout or ran.stderr != wanted:
-        yield f"--config -: {ran.returncode}, {ran.stdout!r}, {ran.stderr!r}"
-    if b'"rules":null}' not in subprocess.run([program("explain"), "--json"], input=line, stdout=subprocess.PIPE, timeout=60).stdout:
+    if b'"rules":null}' not in run(rest, "--json")[1]:
         yield "without --config there are rules"
 
 
@@ -268,15 +260,16 @@ def people_faults():
     """Where the text output differs from the one written by hand."""
     shown = run(Case([], stored("stdin").splitlines()), "--config", f"{STORED}/config")[1]
     rows = [it for it in shown.splitlines() if re.match(rb"line |    (fetches|pushes|credential|http|transport) ", it)]
-    wanted = stored("stdout").splitlines()
-    yield from (f"explain prints {got!r}, and not {want!r}" for got, want in zip(rows, wanted) if got != want)
-    if len(rows) != len(wanted):
-        yield f"explain prints {len(rows)} rows, and not {len(wanted)}"
+    pairs = zip_longest(rows, stored("stdout").splitlines())
+    yield from (f"explain prints {got!r}, and not {wanted!r}" for got, wanted in pairs if got != wanted)
 
 
 def check(folder):
     cases = [*BY_HAND, *made()]
-    faults = [it for case in cases for it in case_faults(case, f"{folder}/config")]
-    faults += [*command_faults(folder), *people_faults()]
+    words = iter(together([fault(it) for case in cases for it in case.entries]))
+    wanted = iter(together([rules(case, line) for case in cases for line in case.lines]))
+    faults = [*command_faults(folder), *people_faults()]
+    for case in cases:
+        faults += case_faults(case, [next(words) for _ in case.entries], [next(wanted) for _ in case.lines], f"{folder}/config")
     lines = sum(len(it.lines) for it in cases)
-    return faults, [f"{lines} lines by {len(cases)} configurations, as the rules by hand have it"]
+    return faults, [f"{lines} lines by {len(cases)} configurations, as the library's calls have it"]

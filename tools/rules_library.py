@@ -1,8 +1,7 @@
-"""The library's own answers to what `rules_witness` asks Git, by the program `answers`.
+"""What the proved library answers, by the program `answers`.
 
-Each module of rules gives orders, as the rows of `docs/VECTORS.md` have them, each with the outcome that Git has for it. They
-are carried out where the gate has built the program of these sources, or where the environment names it (`ANSWERS`), and
-must have those outcomes. Without a program it is said that they are left out.
+An order is a call and what it is over, as the rows of `docs/VECTORS.md` have it. Where an order comes with what Git says, the
+library must say so too.
 """
 import functools
 import json
@@ -10,22 +9,15 @@ import subprocess
 from itertools import groupby
 
 import rows
-from rt_api import ready_program
+from rt_api import program
 
-
-@functools.cache
-def program():
-    """The program, where the gate has built it; that there is none is said once."""
-    found = ready_program("answers")
-    if found is None:
-        print("rules_witness: the library itself is left out, since the gate has not built it of these sources")
-    return found
+ready = functools.cache(program)
 
 
 def answers(orders):
-    """The outcomes of orders, each a line of the program."""
+    """The outcomes of orders, all by one run of the program."""
     given = "".join(json.dumps(it) + "\n" for it in orders).encode()
-    said = subprocess.run([program()], input=given, stdout=subprocess.PIPE, check=True).stdout.split(b"\n")[:-1]
+    said = subprocess.run([ready("answers")], input=given, stdout=subprocess.PIPE, check=True).stdout.split(b"\n")[:-1]
     if len(said) != len(orders):
         raise ValueError("the program answers doesn't answer each order")
     return [json.loads(it) for it in said]
@@ -33,8 +25,6 @@ def answers(orders):
 
 def library_faults(expected):
     """The orders that the library answers otherwise than Git, of pairs of an order and an outcome."""
-    if program() is None:
-        return
     by_call = sorted(expected, key=lambda it: it[0]["call"])
     for call, pairs in groupby(by_call, key=lambda it: it[0]["call"]):
         orders, wanted = zip(*pairs)
@@ -43,3 +33,18 @@ def library_faults(expected):
         for order, is_so, outcome in zip(orders, wanted, found):
             if not rows.fits(is_so, outcome):
                 yield f"{json.dumps(order)}\n  expected {json.dumps(is_so)}\n  returned {json.dumps(outcome)}"
+
+
+def together(readings):
+    """What generators return, each of which yields lists of orders and is sent their outcomes. One run answers all that wait."""
+    waiting, ended = [(it, None) for it in readings], {}
+    while waiting:
+        asked = []
+        for it, outcomes in waiting:
+            try:
+                asked.append((it, it.send(outcomes)))
+            except StopIteration as end:
+                ended[it] = end.value
+        found = iter(answers([order for _, orders in asked for order in orders]))
+        waiting = [(it, [next(found) for _ in orders]) for it, orders in asked]
+    return [ended[it] for it in readings]

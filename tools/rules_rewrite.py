@@ -65,12 +65,12 @@ def pushed(entries, text, push_url=None):
 
 # ---- classes of differences
 
-def has_no_value(entries):
-    """Git ends at an entry without a value, whatever the text is; by the rule the entry is left out."""
-    return any(is_named(it, b"url", b"insteadof", b"pushinsteadof") and it.place is not None and it.value is None for it in entries)
+def lacks_value(entry):
+    """Whether Git ends at an entry, whatever the text is; by the rule the entry is left out."""
+    return is_named(entry, b"url", b"insteadof", b"pushinsteadof") and entry.place is not None and entry.value is None
 
 
-CLASSES = {"entry-without-value": lambda case: case.fetch is None and case.push is None and has_no_value(case.entries)}
+CLASSES = {"entry-without-value": lambda case: case.fetch is None and case.push is None and any(map(lacks_value, case.entries))}
 
 
 # ---- cases

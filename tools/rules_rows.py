@@ -13,22 +13,15 @@ import rules_ssh
 import rules_transport
 from row_text import bytes_of, text_of
 from rt_api import ROOT
-from rules_asked import Entry
+from rules_asked import Entry, entry_of
 from second_reading import grammar
 
 FILE = f"{ROOT}/vectors/rules/git.jsonl"
 REFUSED = {"refused": True}
 
 
-def entry_of(key, value=None):
-    """An entry: the section ends at the first `.`, and the name begins behind the last."""
-    section, _, rest = bytes_of(key).partition(b".")
-    place, dot, name = rest.rpartition(b".")
-    return Entry(section, place if dot else None, name, value if value is None else bytes_of(value))
-
-
 def entries_of(row):
-    return [entry_of(*it) for it in row.get("config", {"entries": []})["entries"]]
+    return [entry_of(*map(bytes_of, it)) for it in row.get("config", {"entries": []})["entries"]]
 
 
 # ---- Git's outcomes of the rows of a call
