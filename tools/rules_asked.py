@@ -11,6 +11,7 @@ from collections import namedtuple
 from contextlib import contextmanager
 
 from git_transports import alone, answers_of
+from rt_api import ROOT
 
 # The subsection is `place`, None where the section has none; the value is None where the key is alone.
 Entry = namedtuple("Entry", "section place name value")
@@ -83,3 +84,9 @@ def listing_faults(configurations):
         for entries, said in zip(configurations, answers_of(LISTED, room, environment, folders)):
             if said.replace(b"\1", b"\0") != listed(entries):
                 yield f"git config --list -z writes {said!r}, and not {listed(entries)!r}"
+
+
+def remotes():
+    """Remotes as people write them."""
+    with open(f"{ROOT}/crates/url_bench/remotes.txt", "rb") as it:
+        return it.read().splitlines()

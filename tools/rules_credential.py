@@ -1,21 +1,22 @@
 """Settings of credentials, `credential.<url>.*`: a rule by hand for which entries apply to a URL, and what Git says.
 
 gitcredentials(7): the context of a credential is a URL, and entries are compared with it as those of `http.<url>.*`. All that
-apply are taken, in their order, and not the best alone. What is compared isn't the URL that was given: Git's credential code
-cuts that into protocol, user, host and path, decodes them, and writes a URL of them, in which every byte that could be a
-delimiter is an escape. And an entry whose URL has no normal form may lack parts, `example.com` or `https://`: those that it
-has must be equal to the decoded ones, byte for byte.
+apply are taken, in their order. What is compared isn't the URL that was given: Git's credential code cuts that into protocol,
+user, host and path, decodes them, and writes a URL of them, in which every byte that could be a delimiter is an escape. And
+an entry whose URL has no normal form may lack parts, `example.com` or `https://`: those that it has must be equal to the
+decoded ones, byte for byte. The classes below name how that differs from the library's patterns, asked of the URL alone.
 
-Git is asked by `git credential fill`: each entry is a helper that reports its number, or a name for the user. The page
-`docs/RULES.md` says which entries a caller takes for the location alone (`rules_match.applies`): the classes below name how
-Git's differ from those.
+Git is asked by `git credential fill`: each entry is a helper that reports its number, or a name for the user.
 """
 import re
 from collections import namedtuple
+from urllib.parse import quote
 
+from row_text import text_of
 from rules_asked import Entry, answers_of, rooms
-from rules_match import Places, applies, joined
-from rules_normal import UNSAFE, normal
+from rules_library import answers
+from rules_match import Places, joined
+from rules_normal import applies, normal
 from web_asked import can_be_asked
 from web_reads import cut, cut_at_first, decoded_by_git
 
@@ -30,9 +31,8 @@ done
 """
 # A helper reports its number between byte 1 and byte 2, and gives nothing. The last one shows the user that it is asked for.
 REPORT, SHOW_USER = b"!printf '\\001%d\\002' >&2; cat >/dev/null; :", b"!sed -n 's/^username=/\x03/p' >&2; :"
-# What bytes of a user or a path are written as escapes, beside those of URLs; and what bytes of a host aren't.
-DELIMITERS = frozenset(b":?#[]@!$&'()*+,;=")
-HOST_BYTES = frozenset(b"abcdefghijklmnopqrstuvwxyzABCDEFGHIJKLMNOPQRSTUVWXYZ0123456789-.:[]")
+# What bytes of a host are written as escapes.
+NOT_OF_HOST = re.compile(rb"[^A-Za-z0-9.:\[\]-]")
 # What Git's credential code reads; None for what is missing.
 Context = namedtuple("Context", "protocol user host path")
 # The entries, the URL, and the numbers of the helpers that Git asks, in order, with the user that it has then; or the word
@@ -51,15 +51,12 @@ def context(text, is_partial=False):
     return Context(protocol or None, user, host, path.rstrip(b"/") or path[:1] or None)
 
 
-def escapes(text, is_raw):
-    return b"".join(bytes([it]) if is_raw(it) else b"%%%02X" % it for it in text)
-
-
 def written(it):
     """The URL that is written for a context."""
-    user = escapes(it.user, lambda byte: byte not in UNSAFE | DELIMITERS | {0x2F}) + b"@" if it.user else b""
-    path = b"" if it.path is None else b"/" + escapes(it.path, lambda byte: byte not in UNSAFE | DELIMITERS)
-    return it.protocol + b"://" + user + escapes(it.host, HOST_BYTES.__contains__) + path
+    user = quote(it.user, safe="").encode() + b"@" if it.user else b""
+    host = NOT_OF_HOST.sub(lambda byte: b"%%%02X" % byte[0][0], it.host)
+    path = b"" if it.path is None else b"/" + quote(it.path).encode()
+    return it.protocol + b"://" + user + host + path
 
 
 def fits(wanted, found):
@@ -70,9 +67,7 @@ def fits(wanted, found):
 def entry_applies(place, found, url):
     """Whether an entry applies to a context, whose URL has this normal form."""
     pattern = normal(place, with_any=True)
-    if not isinstance(pattern, str):
-        return applies(pattern, url)
-    return fits(context(place, is_partial=True), found)
+    return applies(pattern, url) if pattern else fits(context(place, is_partial=True), found)
 
 
 def is_refused(it):
@@ -99,53 +94,6 @@ def asked(entries, text):
         else:
             helpers = [*helpers, at] if it.value else []
     return helpers, found.user
-
-
-# ---- classes of differences from the rule for `http.<url>.*`
-
-def is_partial_pattern(text, place):
-    """The entry's URL has no normal form, so that it lacks parts."""
-    return isinstance(normal(place, with_any=True), str)
-
-
-def differs(part):
-    """Whether the URL that Git writes and the one that was given differ in a part of their normal forms."""
-    def is_there(text, place):
-        ours, its = normal(text), normal(written(context(text)))
-        return not isinstance(ours, str) and not isinstance(its, str) and getattr(ours, part) != getattr(its, part)
-
-    return is_there
-
-
-def is_refused_as_written(text, place):
-    return not isinstance(normal(text), str) and isinstance(normal(written(context(text))), str)
-
-
-def is_refused_as_given(text, place):
-    return isinstance(normal(text), str)
-
-
-CLASSES = {
-    "partial-entry": is_partial_pattern,
-    "byte-of-host": is_refused_as_written,
-    "no-normal-form": is_refused_as_given,
-    "user-as-decoded": differs("user"),
-    "path-as-decoded": differs("path"),
-}
-
-
-def by_url(cases):
-    """The URLs and entries for which Git and the rule for `http.<url>.*` say different things, each with its class, or None,
-    and with whether Git's credential code takes the entry."""
-    for it in cases:
-        found, url = context(it.url), normal(it.url)
-        if isinstance(it.asked, str):
-            continue
-        for place in dict.fromkeys(one.place for one in it.entries if one.place is not None):
-            is_taken = entry_applies(place, found, normal(written(found)))
-            if is_taken != applies(normal(place, with_any=True), url):
-                name = next((name for name, is_in in CLASSES.items() if is_in(it.url, place)), None)
-                yield it.url, place, name, is_taken
 
 
 # ---- cases
@@ -211,9 +159,43 @@ def cases_of(configurations):
     return [Case(entries, url, answer(found)) for (entries, url), found in zip(asked_for, said)]
 
 
+# ---- differences
+
+# The classes of differences from the library's patterns. Each is asked of three normal forms, None where there is none: the
+# entry's, and those of the URL as it is given and as Git writes it.
+CLASSES = {
+    "partial-entry": lambda pattern, given, own: pattern is None,
+    "byte-of-host": lambda pattern, given, own: given and own is None,
+    "no-normal-form": lambda pattern, given, own: given is None,
+    "user-as-decoded": lambda pattern, given, own: given.user != own.user,
+    "path-as-decoded": lambda pattern, given, own: given.path != own.path,
+}
+
+
+def summary(cases):
+    return f"settings of credentials: {len(cases):,} URLs and {sum(len(it.entries) for it in cases):,} entries for them"
+
+
+def by_url(cases):
+    """The URLs and entries for which Git's credential code and the library's patterns say different things, each with its
+    class, or None, and with what Git says."""
+    pairs = [(it.url, place) for it in cases if not isinstance(it.asked, str)
+             for place in dict.fromkeys(one.place for one in it.entries if one.place is not None)]
+    said = answers([{"call": "UrlPattern::matches", "pattern": text_of(place), "text": text_of(url)} for url, place in pairs])
+    for (url, place), is_here in zip(pairs, said):
+        found = context(url)
+        forms = normal(place, with_any=True), normal(url), normal(written(found))
+        is_taken = entry_applies(place, found, forms[-1])
+        if is_taken != (is_here is True):
+            yield url, place, next((name for name, is_in in CLASSES.items() if is_in(*forms)), None), is_taken
+
+
 def differences(cases):
-    """The cases that the rule answers otherwise than Git."""
+    """How Git's credential code differs from the library's patterns, and the cases that the rule answers otherwise."""
+    for url, place, name, is_taken in by_url(cases):
+        yield name, f"{place!r} {'is' if is_taken else 'isn’t'} taken for {url!r}"
     for it in cases:
         found = asked(it.entries, it.url)
         if found != it.asked:
-            yield it, f"of {[(one.place, one.name, one.value[:20]) for one in it.entries]} {found!r} are asked for {it.url!r}, and by Git {it.asked!r}"
+            entries = [(one.place, one.name, one.value[:20]) for one in it.entries]
+            yield None, f"of {entries} {found!r} are asked for {it.url!r}, and by Git {it.asked!r}"

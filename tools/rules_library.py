@@ -6,16 +6,19 @@ library must say so too.
 import functools
 import json
 import subprocess
-from itertools import groupby
+from collections import Counter
 
 import rows
 from rt_api import program
 
+# How often each call was made.
+ASKED: Counter[str] = Counter()
 ready = functools.cache(program)
 
 
 def answers(orders):
     """The outcomes of orders, all by one run of the program."""
+    ASKED.update(it["call"] for it in orders)
     given = "".join(json.dumps(it) + "\n" for it in orders).encode()
     said = subprocess.run([ready("answers")], input=given, stdout=subprocess.PIPE, check=True).stdout.split(b"\n")[:-1]
     if len(said) != len(orders):
@@ -24,15 +27,11 @@ def answers(orders):
 
 
 def library_faults(expected):
-    """The orders that the library answers otherwise than Git, of pairs of an order and an outcome."""
-    by_call = sorted(expected, key=lambda it: it[0]["call"])
-    for call, pairs in groupby(by_call, key=lambda it: it[0]["call"]):
-        orders, wanted = zip(*pairs)
-        found = answers(orders)
-        print(f"the library's {call} was asked {len(orders):,} times")
-        for order, is_so, outcome in zip(orders, wanted, found):
-            if not rows.fits(is_so, outcome):
-                yield f"{json.dumps(order)}\n  expected {json.dumps(is_so)}\n  returned {json.dumps(outcome)}"
+    """The orders that the library answers otherwise than Git, of pairs of an order and Git's outcome."""
+    pairs = [*expected]
+    for (order, is_so), outcome in zip(pairs, answers([it for it, _ in pairs])):
+        if not rows.fits(is_so, outcome):
+            yield f"{json.dumps(order)}\n  expected {json.dumps(is_so)}\n  returned {json.dumps(outcome)}"
 
 
 def together(readings):

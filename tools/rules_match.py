@@ -1,19 +1,15 @@
-"""Settings of places, `http.<url>.*`: a rule by hand for which entries apply to a URL and which is used, and what Git says.
-
-git-config(1) compares an entry's URL with the URL that is asked for by scheme, host, port, path and user, in that order, with a
-`*` in the host for one label, the path by whole elements, and the user only where the entry has one. The best entry has the
-longest host, then the longest path, then a user; of equal ones the last is used. It doesn't say that a `.` at the end of a host is passed over.
+"""Settings of a URL, `http.<url>.*`.
 
 Git is asked by `git config --get-urlmatch SECTION URL`, which reports for each name the entry that is used. So one question
-asks for as many sets of entries as a configuration has names.
+asks for as many sets of entries as a configuration has names. A normal form it doesn't print.
 """
 import re
 from collections import namedtuple
 
+import rules_normal
 from git_texts import Maker
 from row_text import text_of
 from rules_asked import Entry, answers_of, listed, rooms
-from rules_normal import normal
 
 NUMBER, WHOLE, SAMPLE = 20_261_127, 240, 80
 # How many names a configuration has, and how many URLs are asked for.
@@ -21,71 +17,12 @@ NAMES, EACH = 25, 20
 ASK = r"""
 while [ $# -gt 0 ]; do GIT_DIR="$1" git config --get-urlmatch http "$2" 2>&1; printf '\0'; shift 2; done
 """
-# What Git says of URLs that it refuses, and the words of `rules_normal` for it.
-REFUSALS = {
-    b"invalid URL scheme name": "scheme",
-    b"invalid %XX escape sequence": "escape",
-    b"missing host": "host",
-    b"invalid characters in host name": "host",
-    b"a 'file:' URL may not have a port": "port of file",
-    b"invalid port number": "port",
-    b"port number not in range": "port",
-    b"invalid '..' path segment": "dots",
-}
-# The entries of a name, the URL, and the value that Git uses: None without one, or the word for why the URL is refused.
-Case = namedtuple("Case", "entries url used")
-
-
-# ---- the rule by hand
-
-def labels(host):
-    """The labels of a host; a `.` at its end is passed over."""
-    return host.removesuffix(b".").split(b".") if host else []
-
-
-def has_host(pattern, host):
-    """Whether each label of the pattern is `*` or the label at its place."""
-    wanted, found = labels(pattern), labels(host)
-    return len(wanted) == len(found) and all(a in (b"*", b) for a, b in zip(wanted, found))
-
-
-def has_path(pattern, path):
-    """Whether the pattern's path, without one `/` at its end, is the path or is followed by a `/` there."""
-    front = pattern.removesuffix(b"/")
-    return path == front or path.startswith(front + b"/")
-
-
-def applies(pattern, url):
-    """Whether a pattern applies to a URL, both in normal form."""
-    if isinstance(pattern, str) or isinstance(url, str):
-        return False
-    is_user = pattern.user in (None, url.user)
-    return (pattern.scheme, pattern.port) == (url.scheme, url.port) and is_user and has_host(pattern.host, url.host) and has_path(pattern.path, url.path)
-
-
-def rank(pattern):
-    """What a better entry has more of; an entry without a URL has nothing."""
-    if pattern is None:
-        return 0, 0, False
-    return len(pattern.host), len(pattern.path.removesuffix(b"/")) + 1, pattern.user is not None
-
-
-def best(patterns, url):
-    """The place of the best of the patterns that apply to a URL, None without one; None among the patterns applies to all."""
-    found = [(rank(it), at) for at, it in enumerate(patterns) if it is None or applies(it, url)]
-    return max(found, default=(None, None))[1]
-
-
-def used(entries, text):
-    """The value that is used for a URL, or the word for why it is refused."""
-    url = normal(text)
-    if isinstance(url, str):
-        return url
-    at = best([it.place if it.place is None else normal(it.place, with_any=True) for it in entries], url)
-    return None if at is None else entries[at].value
-
-
-# ---- cases
+# What Git says of URLs that it refuses.
+REFUSALS = (b"invalid URL scheme name", b"invalid %XX escape sequence", b"missing host", b"invalid characters in host name",
+            b"may not have a port", b"invalid port number", b"port number not in range", b"invalid '..' path segment")
+REFUSED = {"refused": True}
+# The entries of a name, the URL, and the value that Git uses as a text: None without one, and `REFUSED` where it refuses the URL.
+Case = namedtuple("Case", "entries url outcome")
 
 SCHEMES = (*(b"https", b"http") * 8, b"HTTPS", b"ssh", b"file", b"file", b"x+y", b"1x", b"x_y", b"")
 USERS = (*(None,) * 8, b"", b"u", b"v", b"U", b"u:p", b"u:q", b":", b"u%40v", b"u@v", b"%75", b"u%3Ap", b"u%zz", b"u+v", b"u%2bv", b"u v")
@@ -187,10 +124,12 @@ def made(count):
 
 
 def answer(said):
-    """The value that is used of each name, or the word for why the URL is refused."""
-    if said.startswith(b"fatal: "):
-        return next((word for words, word in REFUSALS.items() if words in said), said.decode("latin-1"))
-    return dict(re.findall(rb"^http\.(\S+) (.*)$", said, re.M))
+    """The value that is used of each name, None where the URL is refused."""
+    if not said.startswith(b"fatal: "):
+        return {name: text_of(value) for name, value in re.findall(rb"^http\.(\S+) (.*)$", said, re.M)}
+    if not any(it in said for it in REFUSALS):
+        raise ValueError(f"Git says {said!r} of a URL")
+    return None
 
 
 def cases_of(configurations):
@@ -199,47 +138,24 @@ def cases_of(configurations):
         words = [word for folder, (_, urls) in zip(folders, configurations) for url in urls for word in (folder, url)]
         said = answers_of(ASK, room, environment, words, each=2)
     asked = [(sets, url) for sets, urls in configurations for url in urls]
-    for (sets, url), found in zip(asked, map(answer, said)):
-        for entries in sets:
-            own = [it for it in entries if it.section.lower() == b"http"]
-            yield Case(own, url, found if isinstance(found, str) else found.get(entries[0].name))
+    return [Case([it for it in entries if it.section.lower() == b"http"], url, REFUSED if found is None else found.get(entries[0].name))
+            for (sets, url), found in zip(asked, map(answer, said)) for entries in sets]
 
 
-def differences(cases):
-    """The cases that the rule answers otherwise than Git."""
-    for it in cases:
-        found = used(it.entries, it.url)
-        if found != it.used:
-            yield it, f"of {[(one.place, one.value) for one in it.entries]} {found!r} is used for {it.url!r}, and by Git {it.used!r}"
+def summary(cases):
+    refused, chosen = sum(it.outcome == REFUSED for it in cases), sum(isinstance(it.outcome, str) for it in cases)
+    return f"settings of a URL: {len(cases):,} sets of entries and URLs: {chosen:,} have an entry that is used, and of {refused:,} the URL is refused"
 
 
 def orders(cases):
-    """The calls of the library for the cases, each with Git's outcome; a URL that Git refuses is refused."""
+    """The calls of the library for the cases, each with Git's outcome, and for the normal forms of the URLs."""
     for it in cases:
+        text = {"text": text_of(it.url)}
         if it.entries:
-            text, refused = {"text": text_of(it.url)}, {"refused": True} if isinstance(it.used, str) else None
             config = {"config": text_of(listed(it.entries)), "section": "http", "name": text_of(it.entries[0].name)}
-            yield {"call": "entries::best_entry", **config, **text}, refused or (it.used and text_of(it.used))
-            yield from pattern_orders([one.place for one in it.entries], text, it.used, refused)
-    yield from normal_orders({it.url for it in cases})
-
-
-def pattern_orders(places, text, value, refused):
-    """The calls for one entry: whether it applies, and which is used."""
-    if len(places) == 1 and places[0] is not None:
-        pattern = {"pattern": text_of(places[0]), **text}
-        yield {"call": "UrlPattern::matches", **pattern}, refused or value is not None
-        yield {"call": "pattern::best", **pattern}, refused or (None if value is None else 0)
-
-
-def normal_orders(texts):
-    """The calls for normal forms, of which Git reports only what follows from them: the outcomes are those of the rule."""
-    for it in sorted(texts):
-        found = normal(it)
-        if isinstance(found, str):
-            outcome = {"refused": True}
-        else:
-            port = None if found.port is None else int(found.port)
-            given = {"scheme": found.scheme, "user": found.user, "host": found.host, "path": found.path}
-            outcome = {**{name: text_of(one) for name, one in given.items() if one is not None}, **({} if port is None else {"port": port})}
-        yield {"call": "NormalUrl::parse_in", "text": text_of(it)}, outcome
+            yield {"call": "entries::best_entry", **config, **text}, it.outcome
+        if len(it.entries) == 1 and it.entries[0].place is not None:
+            pattern, is_used = {"pattern": text_of(it.entries[0].place), **text}, it.outcome is not None
+            yield {"call": "UrlPattern::matches", **pattern}, REFUSED if it.outcome == REFUSED else is_used
+            yield {"call": "pattern::best", **pattern}, REFUSED if it.outcome == REFUSED else 0 if is_used else None
+    yield from rules_normal.orders({it.url for it in cases})

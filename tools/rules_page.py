@@ -7,7 +7,6 @@ import rules_rewrite
 import rules_ssh
 from rt_api import ROOT
 from rules_asked import Entry
-from second_reading import grammar
 
 PAGE, OTHER = "docs/RULES.md", "docs/GIT.md"
 # A class, and the cells behind it; a class may have more rows, which name it in the first one alone.
@@ -15,7 +14,7 @@ ROW = re.compile(r"^\| (?:`([a-z0-9-]+)` )?\| (.*) \|$", re.M)
 CODE = re.compile(r"`([^`]*)`")
 # The class for which another variant is asked than `ssh`.
 OF_SIMPLE = "port-of-simple"
-CLASSES = {*rules_rewrite.CLASSES, *rules_credential.CLASSES, *rules_ssh.REASONS, *rules_ssh.OF_WORDS}
+CLASSES = {*rules_rewrite.CLASSES, *rules_credential.CLASSES, *rules_ssh.CLASSES}
 
 
 def read(name):
@@ -63,12 +62,11 @@ def credential_faults():
 
 def word_faults():
     """The examples of words for Secure Shell that are in another class."""
-    texts = [(name, CODE.findall(cells[0])[0].encode()) for name, cells in rows_of(read(PAGE)) if name in (*rules_ssh.REASONS, *rules_ssh.OF_WORDS)]
-    runs = [rules_ssh.Run("simple" if name == OF_SIMPLE else "ssh", 2, rules_ssh.SERVICES[0]) for name, _ in texts]
-    for (name, text), case in zip(texts, rules_ssh.ask([(text, run) for (_, text), run in zip(texts, runs)])):
-        location = grammar.spells(text)
-        found = None if rules_ssh.is_alike(case, location) else rules_ssh.class_of_words(case, location)
-        if found != name:
+    named = [(name, CODE.findall(cells[0])[0].encode()) for name, cells in rows_of(read(PAGE)) if name in rules_ssh.CLASSES]
+    asked = [(text, rules_ssh.Run("simple" if name == OF_SIMPLE else "ssh", 2, rules_ssh.SERVICES[0])) for name, text in named]
+    for (name, text), case in zip(named, rules_ssh.cases_of(asked)):
+        found = [it for it, _ in rules_ssh.judged([case])]
+        if found != [name]:
             yield f"{PAGE}: {text.decode()} is an example of {found}, and not of {name}"
 
 

@@ -1,9 +1,4 @@
-"""Rewriting by `url.<base>.insteadOf` and `url.<base>.pushInsteadOf`: a rule by hand, and what Git says.
-
-git-config(1): a URL that starts with the value is rewritten to start with the base instead, and of several values that match
-the longest is used. It leaves open which of two equal values is used: Git takes the base that appears first among the entries
-of that name. For pushing, `pushInsteadOf` is looked at first, and `insteadOf` where none of it matches; a remote with a push
-URL of its own has that rewritten by `insteadOf`.
+"""Rewriting by `url.<base>.insteadOf` and `url.<base>.pushInsteadOf`.
 
 Git is asked by `git ls-remote --get-url` for fetching, and by `git remote get-url --push` for pushing.
 """
@@ -11,7 +6,8 @@ from collections import namedtuple
 
 from git_texts import Maker
 from row_text import text_of
-from rules_asked import Entry, answers_of, is_named, listed, rooms
+from rules_asked import Entry, answers_of, is_named, listed, listing_faults, rooms
+from rules_library import library_faults
 
 NUMBER, WHOLE, SAMPLE = 20_261_126, 1_200, 150
 # How many texts each configuration is asked for.
@@ -24,56 +20,9 @@ while [ $# -gt 0 ]; do
 done
 """
 NO_VALUE = b"bad config variable"
+CLASSES = ("entry-without-value",)
 # Entries, a text, the push URL of its remote or None, and what Git rewrites them to: None where it ends.
 Case = namedtuple("Case", "entries text push_url fetch push")
-
-
-# ---- the rule by hand
-
-def bases(entries, name):
-    """The bases in the order in which they appear among entries of a name, each with its values. An entry without a base or
-    without a value is none."""
-    found = {}
-    for it in entries:
-        if is_named(it, b"url", name) and it.place is not None and it.value is not None:
-            found.setdefault(it.place, []).append(it.value)
-    return found
-
-
-def matching(text, entries, name):
-    """All values with which the text starts, each with its base."""
-    return [(value, base) for base, values in bases(entries, name).items() for value in values if text.startswith(value)]
-
-
-def instead(text, found):
-    """The text with the longest of the values replaced by its base: of equal ones the first."""
-    value, base = max(found, key=lambda it: len(it[0]), default=(b"", b""))
-    return base + text[len(value) :]
-
-
-def fetched(entries, text):
-    return instead(text, matching(text, entries, b"insteadof"))
-
-
-def pushed(entries, text, push_url=None):
-    """Where a push goes; a remote with a push URL goes there, as if it were fetched from."""
-    if push_url is not None:
-        return fetched(entries, push_url)
-    own = matching(text, entries, b"pushinsteadof")
-    return instead(text, own) if own else fetched(entries, text)
-
-
-# ---- classes of differences
-
-def lacks_value(entry):
-    """Whether Git ends at an entry, whatever the text is; by the rule the entry is left out."""
-    return is_named(entry, b"url", b"insteadof", b"pushinsteadof") and entry.place is not None and entry.value is None
-
-
-CLASSES = {"entry-without-value": lambda case: case.fetch is None and case.push is None and any(map(lacks_value, case.entries))}
-
-
-# ---- cases
 
 NAMES = (*("insteadOf", "pushInsteadOf") * 8, "insteadof", "INSTEADOF", "PushInsteadOf", "insteadOf2", "pushUrl")
 SECTIONS = (*("url",) * 12, "URL", "uRl", "urls")
@@ -121,6 +70,11 @@ def remotes(asked):
             yield Entry(b"remote", b"r%d" % at, b"pushurl", push_url)
 
 
+def lacks_value(entry):
+    """Whether Git ends at an entry, whatever the text is; the library can leave it out."""
+    return is_named(entry, b"url", b"insteadof", b"pushinsteadof") and entry.place is not None and entry.value is None
+
+
 def answer(said):
     """A line of Git's, None where it ends for an entry without a value."""
     return None if NO_VALUE in said else said.removesuffix(b"\n")
@@ -137,19 +91,34 @@ def cases_of(configurations):
     return [Case(*it, answer(fetch), answer(push)) for it, fetch, push in zip(asked, said[::2], said[1::2])]
 
 
+def summary(cases):
+    configurations, changed = {id(it.entries) for it in cases}, sum(it.fetch != it.text or it.push != it.text for it in cases)
+    return f"rewriting: {len(cases):,} texts by {len(configurations):,} configurations, of which {changed:,} are rewritten"
+
+
 def differences(cases):
-    """The cases that the rule answers otherwise than Git."""
+    """The cases in which Git ends, each with its class; and, without one, how the library differs from Git, and how Git lists entries."""
     for it in cases:
-        found = fetched(it.entries, it.text), pushed(it.entries, it.text, it.push_url)
-        if found != (it.fetch, it.push):
-            yield it, f"{it.text!r} by {it.entries} is rewritten to {found}, and by Git to {(it.fetch, it.push)}"
+        if None in (it.fetch, it.push):
+            is_in = it.fetch is it.push is None and any(map(lacks_value, it.entries))
+            yield CLASSES[0] if is_in else None, f"{it.text!r} by {it.entries} is rewritten to {(it.fetch, it.push)}"
+    configurations = {id(it.entries): it.entries for it in cases}
+    yield from ((None, it) for it in [*listing_faults([*configurations.values()]), *library_faults(orders(cases))])
+
+
+def outcome(text):
+    return {"refused": True} if text is None else text_of(text)
 
 
 def orders(cases):
-    """The calls of the library for the cases, each with Git's outcome: where Git ends, no rules are made of the entries."""
+    """The calls of the library for the cases, each with Git's outcome. Where Git ends, no rules are made of the entries; one by
+    one those are added at which it doesn't."""
     for it in cases:
-        config, push_url = {"config": text_of(listed(it.entries))}, it.push_url
-        fetch, push = ({"refused": True} if one is None else text_of(one) for one in (it.fetch, it.push))
-        yield {"call": "Rewrites::rewrite_fetch", **config, "text": text_of(it.text)}, fetch
-        pushed_text = it.text if push_url is None else push_url
-        yield {"call": "Rewrites::rewrite_push", **config, "text": text_of(pushed_text), "has_push_url": push_url is not None}, push
+        config, is_own = {"config": text_of(listed(it.entries))}, it.push_url is not None
+        yield {"call": "Rewrites::rewrite_fetch", **config, "text": text_of(it.text)}, outcome(it.fetch)
+        pushed = text_of(it.push_url if is_own else it.text)
+        yield {"call": "Rewrites::rewrite_push", **config, "text": pushed, "has_push_url": is_own}, outcome(it.push)
+    ended = [it for it in cases if it.fetch is None and it.push_url is None]
+    for it, found in zip(ended, cases_of([([one for one in it.entries if not lacks_value(one)], [(it.text, None)]) for it in ended])):
+        order = {"call": "Rewrites::add_entry", "config": text_of(listed(it.entries)), "text": text_of(it.text)}
+        yield order, [outcome(found.fetch), outcome(found.push)]
