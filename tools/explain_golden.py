@@ -5,8 +5,8 @@ not reach a terminal. Each line of the file `alarms` raises an alarm, and no pla
 """
 import re
 import subprocess
-import sys
 
+import make_remotes
 from rt_api import ROOT, program
 
 STORED = f"{ROOT}/crates/explain/golden"
@@ -60,8 +60,7 @@ def false_alarms(lines):
 
 
 def check(_room):
-    made = subprocess.run([sys.executable, f"{ROOT}/tools/make_remotes.py"], stdout=subprocess.PIPE, check=True, timeout=60).stdout
-    plain = [it for it in made.splitlines() if PLAIN.fullmatch(it) and not OPTION.search(it) and not DOTS.match(it)]
+    plain = [it for it in make_remotes.remotes() if PLAIN.fullmatch(it) and not OPTION.search(it) and not DOTS.match(it)]
     bad = stored("alarms").splitlines()
     faults = [*written_by_hand(), *in_colours(), *(f"a false alarm about {it!r}" for it in false_alarms(plain))]
     faults += [f"no alarm about {it!r}" for it in sorted({*bad} - {*false_alarms(bad)})]

@@ -10,10 +10,10 @@ import json
 import random
 import re
 import subprocess
-import sys
 import unicodedata
 
-from rt_api import ROOT, program
+import make_remotes
+from rt_api import program
 from second_reading import explain, grammar, octets, records, short_inputs
 
 SECRET = b"S3cr3tZ"
@@ -42,10 +42,9 @@ def changed(line, chance):
 
 def lines(count, seed=1):
     chance = random.Random(seed)
-    made = subprocess.run([sys.executable, f"{ROOT}/tools/make_remotes.py"], stdout=subprocess.PIPE, check=True, timeout=60).stdout
     secrets = (SECRET, SECRET, SECRET + b"%40x", b"%41" + SECRET, b"\xc3\xbc" + SECRET)
     changes = [changed(chance.choice(SEEDS) % chance.choice(secrets), chance) for _ in range(count)]
-    return list(dict.fromkeys([*short_inputs.short_inputs(), *made.split(b"\n")[:-1], *changes]))
+    return list(dict.fromkeys([*short_inputs.short_inputs(), *make_remotes.remotes(), *changes]))
 
 
 def answers(given, *words):

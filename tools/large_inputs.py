@@ -1,17 +1,18 @@
-"""Size: lines of 100 MB and millions of lines, answered rightly, in linear time, with few reads and with little memory; and
-calls over texts of some MB, by the program `answers`, in linear time.
+"""Size: lines of 100 MB and millions of lines, answered rightly, in linear time, with few reads and with little memory; calls
+over texts of some MB, by the program `answers`, and the page of `explain --html` over 100,000 lines, in linear time.
 
 Time is that of the processor. What looks at each byte again for each byte takes ten times as long for each byte of a
 text that is ten times as long; four times is let pass, for a machine that does other work as well.
 """
 import contextlib
+import filecmp
 import json
 import os
 import re
 import resource
 
+import make_remotes
 from rt_api import program
-
 
 LARGE = 100_000_000
 SMALL = LARGE // 10
@@ -48,6 +49,9 @@ SHAPES = [
 # A line of a byte, and its answer.
 LINE, LINE_ANSWER = b"a\n", b"settled\ta\n"
 LINES = 5_000_000
+# A page, which has many bytes for each byte of the remotes, and the memory for that.
+REMOTES = 100_000
+MOST_PAGE_BYTES = 40
 CHUNK = 1 << 20
 
 # Calls over texts of some MB: what is repeated in what the call is over, the order by that text, and the outcome by how
@@ -88,47 +92,32 @@ def chunks(begin, repeated, count, end):
 
 def put(path, pieces):
     with open(path, "wb") as it:
-        size = sum(map(it.write, pieces))
-    return size
+        return sum(map(it.write, pieces))
 
 
-def are_equal(one, other):
-    with open(one, "rb") as first, open(other, "rb") as second:
-        while True:
-            piece = first.read(CHUNK)
-            if piece != second.read(CHUNK):
-                return False
-            if not piece:
-                return True
+class Ran:
+    """A run of a program over a text: its seconds, its bytes of memory, its calls of the system that read, and whether it
+    answers rightly, where an answer is given."""
 
-
-def starts_with(path, front):
-    with open(path, "rb") as it:
-        return it.read(len(front)) == front
-
-
-def reads_of(process):
-    """How many calls of the system that read a process has made, which has ended and is still known."""
-    with open(f"/proc/{process}/io", encoding="ascii") as it:
-        return int(re.search(r"(?m)^syscr: (\d+)", it.read())[1])
-
-
-class Answered:
-    """One answer of a program to a text: its seconds, its bytes of memory, its reads, and whether it is the right one."""
-
-    def __init__(self, path, room, text, answer):
-        given, right, out = (f"{room}/{it}" for it in ("given", "right", "out"))
+    def __init__(self, words, folder, text, answer=None):
+        given, right, out = (f"{folder}/{it}" for it in ("given", "right", "out"))
         self.size = put(given, text)
-        put(right, answer)
-        actions = [(os.POSIX_SPAWN_OPEN, 0, given, os.O_RDONLY, 0), (os.POSIX_SPAWN_OPEN, 1, out, os.O_WRONLY | os.O_CREAT | os.O_TRUNC, 0o600)]
-        process = os.posix_spawn(path, [path], {}, file_actions=actions)
+        actions = [(os.POSIX_SPAWN_OPEN, 0, given, os.O_RDONLY, 0),
+                   (os.POSIX_SPAWN_OPEN, 1, out, os.O_WRONLY | os.O_CREAT | os.O_TRUNC, 0o600)]
+        process = os.posix_spawn(words[0], words, {}, file_actions=actions)
         os.waitid(os.P_PID, process, os.WEXITED | os.WNOWAIT)
-        self.reads = reads_of(process)
+        with open(f"/proc/{process}/io", encoding="ascii") as it:
+            self.reads = int(re.search(r"(?m)^syscr: (\d+)", it.read())[1])
         _, status, used = os.wait4(process, 0)
-        self.seconds, self.bytes = used.ru_utime + used.ru_stime, used.ru_maxrss * 1024
-        # Each line is answered alike, so the front of the answer says what the status has to be.
-        wanted = 1 if starts_with(right, REFUSED) else 0
-        self.is_right = os.waitstatus_to_exitcode(status) == wanted and are_equal(out, right)
+        self.status, self.seconds, self.bytes = os.waitstatus_to_exitcode(status), used.ru_utime + used.ru_stime, used.ru_maxrss * 1024
+        if answer is None:
+            self.is_right = self.status in (0, 1)
+            return
+        put(right, answer)
+        with open(right, "rb") as it:
+            # Each line is answered alike, so the front of the answer says what the status has to be.
+            wanted = 1 if it.read(len(REFUSED)) == REFUSED else 0
+        self.is_right = self.status == wanted and filecmp.cmp(out, right, shallow=False)
 
 
 def line_of(shape, size):
@@ -144,44 +133,36 @@ def order_of(call, size):
     """The pieces of an order over a text of a size, and of its outcome."""
     repeated, order, outcome = call
     count = size // len(repeated)
-    pieces = (order(repeated * count), outcome(count))
-    return tuple([json.dumps(it, separators=(",", ":")).encode() + b"\n"] for it in pieces)
+    return tuple([json.dumps(it, separators=(",", ":")).encode() + b"\n"] for it in (order(repeated * count), outcome(count)))
+
+
+def remotes_of(size):
+    """So many remotes, each with another number, of which each tenth has a host of its own."""
+    remotes = make_remotes.remotes()
+    named = (remotes[n % len(remotes)] if n % 10 else b"https://host%d.example/p" % n for n in range(size))
+    return [b"%b%d\n" % (it, n // len(remotes)) for n, it in enumerate(named)], None
 
 
 class Compared:
-    """The answers to two sizes of a shape: the smaller one twice, and the larger one."""
+    """The runs over two sizes of what is made, the smaller one twice; the memory for each byte may be limited."""
 
-    def __init__(self, name, small, large):
-        self.name, self.is_right, self.seconds = name, all(it.is_right for it in (*small, large)), large.seconds
-        self.reads, self.most_reads = large.reads, OWN_READS + large.size // LEAST_READ
+    def __init__(self, name, words, folder, make, small, large, most_bytes=None):
+        tenths, whole = [Ran(words, folder, *make(small)) for _ in range(2)], Ran(words, folder, *make(large))
+        self.name, self.is_right, self.most_bytes = name, all(it.is_right for it in (*tenths, whole)), most_bytes
+        self.seconds, self.reads, self.most_reads = whole.seconds, whole.reads, OWN_READS + whole.size // LEAST_READ
         # How much longer a byte takes in the larger size, and how much memory it takes there.
-        least = max(0.001, min(it.seconds for it in small))
-        self.growth, self.bytes = large.seconds / least / (large.size / small[0].size), (large.bytes - OWN_BYTES) / large.size
+        least = max(0.001, min(it.seconds for it in tenths))
+        self.growth, self.bytes = whole.seconds / least / (whole.size / tenths[0].size), (whole.bytes - OWN_BYTES) / whole.size
 
     def faults(self):
         if not self.is_right:
             yield f"{self.name} is answered otherwise"
         if self.growth > MOST_GROWTH:
             yield f"{self.name} takes {self.growth:.1f} times as long for each byte as a tenth of it: that isn't linear"
-
-
-class Lines(Compared):
-    """The answers of the program `locations`, of which memory and reads are limited as well."""
-
-    def faults(self):
-        yield from super().faults()
-        if self.bytes > MOST_BYTES:
+        if self.most_bytes and self.bytes > self.most_bytes:
             yield f"{self.name} takes {self.bytes:.2f} bytes of memory for each byte"
         if self.reads > self.most_reads:
             yield f"{self.name} is read by {self.reads} calls of the system, and may be by {self.most_reads}"
-
-
-def runs():
-    """The name of each run, what makes a text and its answer for a size, and the two sizes."""
-    for shape in SHAPES:
-        begin, repeated, end, _ = shape
-        yield b"".join([begin, repeated, b"..", end]).decode(), lambda size, it=shape: line_of(it, size), SMALL, LARGE
-    yield "lines of a byte", lambda count: (chunks(b"", LINE, count, b""), chunks(b"", LINE_ANSWER, count, b"")), LINES // 10, LINES
 
 
 @contextlib.contextmanager
@@ -195,34 +176,37 @@ def limited(seconds):
         resource.setrlimit(resource.RLIMIT_CPU, before)
 
 
-def compared(kind, path, room, name, make, small, large):
-    """What a program answers to two sizes of what is made."""
-    tenths = [Answered(path, room, *make(small)) for _ in range(2)]
-    return kind(name, tenths, Answered(path, room, *make(large)))
+def compared_lines(folder):
+    words = [program("locations")]
+    for shape in SHAPES:
+        begin, repeated, end, _ = shape
+        name = b"".join([begin, repeated, b"..", end]).decode()
+        yield Compared(name, words, folder, lambda size, it=shape: line_of(it, size), SMALL, LARGE, MOST_BYTES)
+    yield Compared("lines of a byte", words, folder, lambda count: (chunks(b"", LINE, count, b""), chunks(b"", LINE_ANSWER, count, b"")),
+                   LINES // 10, LINES, MOST_BYTES)
 
 
-def compared_lines(room):
-    """The runs of the program `locations`, and what is reported of them."""
-    path = program("locations")
-    found = [compared(Lines, path, room, *it) for it in runs()]
-    most = [max(getattr(it, of) for it in found) for of in ("seconds", "growth", "bytes", "reads")]
-    told = "at most {:.1f} s, {:.2f} times as long for each byte as a tenth of it, {:.2f} bytes of memory for each byte, {} reads".format(*most)
-    return found, f"{len(SHAPES)} shapes of a line of {LARGE // 10**6} MB, {LINES // 10**6} million lines: {told}"
-
-
-def compared_calls(room):
-    """The runs of the program `answers`, and what is reported of them."""
-    path, found = program("answers"), []
+def compared_calls(folder):
     for call in CALLS:
         name = f"{call[1]('')['call']} over {call[0]}.."
-        found.append(compared(Compared, path, room, name, lambda size, it=call: order_of(it, size), SMALL_ORDER, LARGE_ORDER))
-    most = [max(getattr(it, of) for it in found) for of in ("seconds", "growth")]
-    told = "at most {:.1f} s, {:.2f} times as long for each byte as a tenth of it".format(*most)
-    return found, f"{len(CALLS)} calls over {LARGE_ORDER // 10**6} MB: {told}"
+        yield Compared(name, [program("answers")], folder, lambda size, it=call: order_of(it, size), SMALL_ORDER, LARGE_ORDER)
 
 
-def check(room):
+def compared_page(folder):
+    words = [program("explain"), "--html"]
+    yield Compared(f"a page of {REMOTES} remotes", words, folder, remotes_of, REMOTES // 10, REMOTES, MOST_PAGE_BYTES)
+
+
+def check(folder):
+    """The faults, and what was measured."""
+    parts = {f"{len(SHAPES)} shapes of a line of {LARGE // 10**6} MB, {LINES // 10**6} million lines": compared_lines,
+             f"{len(CALLS)} calls over {LARGE_ORDER // 10**6} MB": compared_calls, f"a page of {REMOTES} remotes": compared_page}
+    faults, said = [], []
     with limited(MOST_SECONDS):
-        lines, told_lines = compared_lines(room)
-        calls, told_calls = compared_calls(room)
-    return [fault for it in (*lines, *calls) for fault in it.faults()], [told_lines, told_calls]
+        for name, compare in parts.items():
+            found = [*compare(folder)]
+            faults += [fault for it in found for fault in it.faults()]
+            most = [max(getattr(it, of) for it in found) for of in ("seconds", "growth", "bytes", "reads")]
+            said.append(f"{name}: at most {most[0]:.1f} s, {most[1]:.2f} times as long for each byte as a tenth of it, "
+                        f"{most[2]:.2f} bytes of memory for each byte, {most[3]} reads")
+    return faults, said

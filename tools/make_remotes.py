@@ -10,7 +10,12 @@ FORMS = ["https://{u}{h}{o}/{p}", "ssh://{u}{h}{o}/{p}", "{u}{h}:{p}", "git://{h
          "file:///srv/{p}", "./{p}", "/srv/{h}/{p}", "ext::ssh {u}{h} {p}", "codecommit::eu-central-1://{p}",
          "git+ssh://{u}{h}{o}/{p}", "ftp://{h}{o}/{p}", "{h}:~alice/{p}"]
 
-for n in range(10_000):
-    parts = {"u": USERS[n % 8], "h": HOSTS[n % 11], "o": PORTS[n // 3 % 8], "p": PATHS[n // 5 % 12]}
-    line = FORMS[n % 13].format(**parts)
-    print(f"{line}{n}")
+
+def remotes():
+    """The remotes, as bytes."""
+    made = (FORMS[n % 13].format(u=USERS[n % 8], h=HOSTS[n % 11], o=PORTS[n // 3 % 8], p=PATHS[n // 5 % 12]) for n in range(10_000))
+    return [f"{it}{n}".encode() for n, it in enumerate(made)]
+
+
+if __name__ == "__main__":
+    print(b"\n".join(remotes()).decode())

@@ -3,8 +3,8 @@ import collections
 import json
 import subprocess
 
-import explain_secrets
-from page_read import articles
+from explain_secrets import is_of_fields, unescaped
+from page_read import ARTICLES, Article, text_of
 from rt_api import program
 from second_reading import explain, grammar
 
@@ -15,8 +15,10 @@ MOST_HOSTS = 20
 MOST_READ = 10_000
 # A user of HTTP of so many bytes may be a token.
 TOKEN = 20
-ROWS = """(id => JSON.stringify([...document.querySelectorAll(`#${id} tr`)].filter(it => it.querySelector('td')).map(it =>
-  [it.querySelector('th').className, it.querySelector('th').textContent, it.querySelector('td').textContent])))"""
+# The number of lines at the top, and of each row of a table there its name, its count and its class.
+COUNTS = """[+document.querySelector('#lines b').textContent.replaceAll(',', ''), ...['verdicts', 'forms', 'hosts'].map(id =>
+  [...document.querySelectorAll(`#${id} tr`)].map(it => [it.querySelector('th'), it.querySelector('td')]).map(([name, count]) =>
+    [name.textContent, +count.textContent.replaceAll(',', ''), name.className]))]"""
 
 
 def run(words, lines, end=b"\n"):
@@ -27,15 +29,13 @@ def run(words, lines, end=b"\n"):
     return ran.stdout
 
 
-def answers(lines, *words):
+def answers(lines):
     """What `explain --json` answers, an object for each line."""
-    return [json.loads(it) for it in run(["--json", *words], lines, b"\0" if "--null" in words else b"\n").split(b"\n")[:-1]]
+    return [json.loads(it) for it in run(["--json"], lines).split(b"\n")[:-1]]
 
 
-def write_page(file, lines, *words, title=None):
-    how = "--html" if title is None else f"--html={title}"
-    with open(file, "wb") as it:
-        it.write(run([how, *words], lines, b"\0" if "--null" in words else b"\n"))
+def form(answer):
+    return (answer["location"] or {"form": None})["form"]
 
 
 def verdict(answer):
@@ -58,86 +58,80 @@ def piece_faults(article, answer, line):
         return
     v = grammar.spells(line)
     if v is None:
-        at, size, whole = answer["refusal"]["at"], answer["refusal"]["len"], explain.secret_of_refused(line) is None
-        marks = [tuple(len(explain_secrets.unescaped(it)) for it in mark) for mark in article.marks]
-        if whole and marks != [(at, size)]:
-            yield f"{marks} is marked, and not {at, size}"
+        at, size = answer["refusal"]["at"], answer["refusal"]["len"]
+        marked = [len(unescaped(it)) for it in article.marked.split("\0")[:-1]]
+        if explain.secret_of_refused(line) is None and marked != [at, size]:
+            yield f"{marked} is marked, and not {at, size}"
         return
-    names = {it[2]: explain_secrets.unescaped(it[1]) for it in article.pieces if it[0]}
-    if names and not explain_secrets.is_of_fields(v, names, line):
+    names = {name: unescaped(shown) for classes, shown, name in article.pieces if classes}
+    if names and not is_of_fields(v, names, line):
         yield f"the pieces {names} are not those of {v}"
+
+
+def flat(answer):
+    """The members of an object, with those of its location among them."""
+    return {**answer, "location": answer["location"] is not None, **(answer["location"] or {})}
 
 
 def article_faults(article, answer, line):
     """What an article shows otherwise than the object of its line."""
-    found = article.whole()
-    others = sorted({*found, *answer} - {"location"})
-    yield from (f"{name} is {found.get(name)!r}, and not {answer.get(name)!r}" for name in others if found.get(name) != answer.get(name))
-    one, other = found["location"] or {}, answer["location"] or {}
-    yield from (f"location.{name} is {one.get(name)!r}, and not {other.get(name)!r}" for name in sorted({*one, *other})
-                if name not in one or name not in other or one[name] != other[name])
+    found, wanted, none = flat(article.whole()), flat(answer), object()
+    yield from (f"{name} is {found.get(name)!r}, and not {wanted.get(name)!r}" for name in sorted({*found, *wanted})
+                if found.get(name, none) != wanted.get(name, none))
     if (article.danger is not None) != is_dangerous(answer):
         yield f"it has data-d={article.danger}"
     yield from piece_faults(article, answer, line)
 
 
-def faults_of_articles(page, lines, wanted):
-    """What the articles of a page show otherwise; a line without an article, or with two."""
-    seen: collections.Counter[int] = collections.Counter()
-    for it in articles(page):
-        number = int(it.named.removeprefix("l"))
-        seen[number] += 1
-        if not 0 < number <= len(lines):
-            yield f"there is a line {number}"
-            continue
+def faults_of_articles(articles, lines, wanted):
+    """What articles show otherwise; a line without an article, or with two."""
+    if sorted(it.number for it in articles) != [*range(1, len(lines) + 1)]:
+        yield f"the lines that are shown are {collections.Counter(it.number for it in articles)}"[:400]
+        return
+    for it in articles:
+        line, answer = lines[it.number - 1], wanted[it.number - 1]
         try:
-            yield from (f"line {number} {lines[number - 1][:80]!r}: {fault}" for fault in article_faults(it, wanted[number - 1], lines[number - 1]))
+            yield from (f"line {it.number} {line[:80]!r}: {fault}" for fault in article_faults(it, answer, line))
         except (ValueError, KeyError, TypeError, AttributeError) as fault:
-            yield f"line {number} {lines[number - 1][:80]!r} can't be read back: {fault!r}"
-    yield from (f"line {it} is shown {seen[it]} times" for it in range(1, len(lines) + 1) if seen[it] != 1)
+            yield f"line {it.number} {line[:80]!r} can't be read back: {fault!r}"
 
 
 def host_rows(wanted):
     """The rows of the hosts: the most frequent ones, the others together, and the lines without one. Each is UTF-8."""
-    hosts = [it["location"]["host"] for it in wanted if it["location"]]
-    counts = collections.Counter(it for it in hosts if it is not None)
+    counts = collections.Counter(it["location"]["host"] for it in wanted if it["location"] and it["location"]["host"] is not None)
     ordered = sorted(counts.items(), key=lambda it: (-it[1], it[0].encode()))
-    rows, others = ordered[:MOST_HOSTS], ordered[MOST_HOSTS:]
-    named = [(f"{len(others)} other hosts" if len(others) != 1 else "1 other host", sum(it[1] for it in others))] if others else []
-    none = len(wanted) - sum(counts.values())
-    return rows, [*named, *([("no host", none)] if none else [])]
+    others, none = ordered[MOST_HOSTS:], len(wanted) - sum(counts.values())
+    yield from ([*it, ""] for it in ordered[:MOST_HOSTS])
+    if others:
+        yield [f"{len(others)} other host{'s' * (len(others) != 1)}", sum(it[1] for it in others), "n"]
+    if none:
+        yield ["no host", none, "n"]
 
 
-def faults_of_counts(page, lines, wanted):
+def faults_of_counts(page, wanted):
     """What the counts at the top say otherwise."""
-    said = page.ask("document.querySelector('#lines b').textContent")
-    if said.replace(",", "") != str(len(lines)):
-        yield f"there are {said} lines, and not {len(lines)}"
-    verdicts, forms = collections.Counter(map(verdict, wanted)), collections.Counter((it["location"] or {"form": None})["form"] for it in wanted)
-    tables = {"verdicts": {**{name: verdicts[it] for it, name in VERDICTS.items()}, "dangerous": sum(map(is_dangerous, wanted))},
-              "forms": {name: forms[it] for it, name in FORMS.items()}}
-    for name, counts in tables.items():
-        found = {row[1]: int(row[2].replace(",", "")) for row in page.read(f"{ROWS}('{name}')")}
-        if found != counts:
-            yield f"the table {name} has {found}, and not {counts}"
-    rows, named = host_rows(wanted)
-    found_rows = [(explain_secrets.unescaped(name).decode("utf-8", "replace") if classes != "n" else name, int(count.replace(",", "")), classes)
-                  for classes, name, count in page.read(f"{ROWS}('hosts')")]
-    if [it[:2] for it in found_rows] != [*rows, *named] or [it[2] for it in found_rows] != [""] * len(rows) + ["n"] * len(named):
-        yield f"the table of hosts has {found_rows}, and not {[*rows, *named]}"
+    verdicts, forms = collections.Counter(map(verdict, wanted)), collections.Counter(map(form, wanted))
+    size, *found = page.ask(COUNTS)
+    found[2] = [[name if classes == "n" else text_of(name), count, classes] for name, count, classes in found[2]]
+    rows = [[*([name, verdicts[it], ""] for it, name in VERDICTS.items()), ["dangerous", sum(map(is_dangerous, wanted)), ""]],
+            [[name, forms[it], ""] for it, name in FORMS.items()], [*host_rows(wanted)]]
+    yield from (f"at the top is {it}, and not {other}" for it, other in zip([size, *found], [len(wanted), *rows]) if it != other)
 
 
-def faults_of_order(page):
-    """Which ranks have their lines in another order, and which are empty; and whether dangerous lines come first."""
-    ranks = page.read("""JSON.stringify([...document.querySelectorAll('#remotes > section.k')].map(rank =>
-      [...rank.querySelectorAll('article')].map(it => [+it.getAttribute('aria-labelledby').slice(1), it.dataset.d ?? ''])))""")
-    yield from ("a rank has its lines in another order" for rank in ranks if [it[0] for it in rank] != sorted(it[0] for it in rank))
-    yield from ("a rank is empty" for rank in ranks if not rank)
-    dangers = [bool(it[1]) for rank in ranks for it in rank]
+def faults_of_order(articles, ranks):
+    """Whether lines of a rank are in another order, a rank is empty, or dangerous lines are not first."""
+    places = [(it.rank, it.number) for it in articles]
+    if places != sorted(places):
+        yield "a rank has its lines in another order"
+    if {it.rank for it in articles} != {*range(ranks)}:
+        yield "a rank is empty, or a line is in none"
+    dangers = [it.danger is not None for it in articles]
     if dangers != sorted(dangers, reverse=True):
         yield "dangerous lines are not first"
 
 
 def faults_of(page, lines, wanted):
     """What a page shows otherwise than these answers."""
-    return [*faults_of_articles(page, lines, wanted), *faults_of_counts(page, lines, wanted), *faults_of_order(page)]
+    ranks, read = json.loads(page.ask(ARTICLES))
+    articles = [Article(it) for it in read]
+    return [*faults_of_articles(articles, lines, wanted), *faults_of_counts(page, wanted), *faults_of_order(articles, ranks)]

@@ -1,14 +1,19 @@
-"""The filter of a page, used by the keyboard alone: the counts that are shown are those of the answers."""
+"""The filter of a page, used by the keyboard alone: the lines that are shown are those of the answers."""
 import time
 
-from page_answers import is_dangerous, verdict
-from page_look import shown_lines
+from page_answers import form, is_dangerous, verdict
+from selenium.webdriver import Keys
 
 MOST_TABS = 40
 # What a filter of 10,000 lines may take, from the top of the page: a dozen keys.
 MOST_SECONDS = 10
-PARTS = ("scheme", "user", "host", "port", "path")
 FOCUSED = "document.activeElement?.id || document.activeElement?.type || document.activeElement?.nodeName"
+TO_TOP = "document.activeElement.blur(); getSelection().removeAllRanges(); scrollTo(0, 0)"
+# Whether a rank is seen without a line.
+EMPTY = "[...document.querySelectorAll('.k')].some(it => it.checkVisibility() && !it.querySelector('article:not([hidden])'))"
+# The lines that are seen, in order, and what the page says of that.
+SHOWN = """[[...document.querySelectorAll('article')].filter(it => it.checkVisibility())
+  .map(it => +it.getAttribute('aria-labelledby').slice(1)).sort((a, b) => a - b), document.querySelector('#shown').textContent]"""
 
 
 def reach(page, name):
@@ -16,18 +21,8 @@ def reach(page, name):
     for _ in range(MOST_TABS):
         if page.ask(FOCUSED) == name:
             return
-        page.press("Tab")
+        page.press(Keys.TAB)
     raise ValueError(f"the control {name} is not reached by the keyboard")
-
-
-def choose(page, name, value):
-    """Goes down in a list of choices until this one is chosen."""
-    page.press("Home")
-    for _ in range(10):
-        if page.ask(f"document.querySelector('#{name}').value") == value:
-            return
-        page.press("ArrowDown")
-    raise ValueError(f"{value} can't be chosen of {name}")
 
 
 def part_of(answer, part):
@@ -37,84 +32,75 @@ def part_of(answer, part):
 
 
 def cases(wanted):
-    """What is done to the controls, by name and value, and which lines are shown then. The texts are in no word of the program."""
-    location = [it["location"] or {} for it in wanted]
+    """What is typed into the controls, in their order, and which lines are shown then: a choice by its first word. The texts are
+    in no word of the program; which lines have one in any part is not known."""
     hosts = [part_of(it, "host") for it in wanted]
     host = max({it for it in hosts if len(it) > 5}, key=lambda it: (hosts.count(it), it))
-    some = host[1:-1]
-    yield {"f-text": some.upper()}, None
+    yield {"f-text": host[1:-1].upper()}, None
     yield {"f-host": host.upper()}, [host in it for it in hosts]
-    for part, text in (("host", some), ("path", "p"), ("scheme", "ssh"), ("port", "2"), ("user", "git")):
+    for part, text in (("host", host[1:-1]), ("path", "p"), ("scheme", "ssh"), ("port", "2"), ("user", "git")):
         yield {"f-text": text, "f-part": part}, [text in part_of(it, part) for it in wanted]
-    for form in ("url", "scp", "local", "remote_helper"):
-        yield {"f-form": form}, [it.get("form") == form for it in location]
-    yield {"f-form": "refused"}, [not it for it in location]
-    for word in ("settled", "unsettled", "refused"):
-        yield {"f-verdict": word}, [verdict(it) == word for it in wanted]
-    yield {"f-danger": True}, [is_dangerous(it) for it in wanted]
-    yield {"f-form": "url", "f-verdict": "settled", "f-danger": True}, [
-        it.get("form") == "url" and verdict(answer) == "settled" and is_dangerous(answer) for it, answer in zip(location, wanted)]
+    for word, kind in (("URL", "url"), ("scp", "scp"), ("local", "local"), ("remote", "remote_helper"), ("none:", None)):
+        yield {"f-form": word}, [form(it) == kind for it in wanted]
+    for word, kind in (("settled", "settled"), ("not", "unsettled"), ("refused", "refused")):
+        yield {"f-verdict": word}, [verdict(it) == kind for it in wanted]
+    yield {"f-danger": " "}, [*map(is_dangerous, wanted)]
+    yield {"f-form": "URL", "f-verdict": "settled", "f-danger": " "}, [
+        form(it) == "url" and verdict(it) == "settled" and is_dangerous(it) for it in wanted]
     yield {"f-text": "no line has this text"}, [False] * len(wanted)
 
 
 def use(page, controls):
-    """Sets the controls, each reached by Tab from the top of the page."""
-    page.ask("document.activeElement.blur(); getSelection().removeAllRanges(); scrollTo(0, 0)")
-    for name in sorted(controls, key=["f-text", "f-part", "f-form", "f-host", "f-verdict", "f-danger"].index):
+    """Types into the controls, each reached by Tab from the top of the page."""
+    page.execute_script(TO_TOP)
+    for name, keys in controls.items():
         reach(page, name)
-        value = controls[name]
-        if value is True:
-            page.press(" ", "Space")
-        elif name in ("f-text", "f-host"):
-            page.type(value)
-        else:
-            choose(page, name, value)
+        page.press(keys)
     page.settle()
-
-
-def numbers_shown(page):
-    return page.read("""JSON.stringify([...document.querySelectorAll('article')].filter(it => it.checkVisibility())
-      .map(it => +it.getAttribute('aria-labelledby').slice(1)).sort((a, b) => a - b))""")
 
 
 def faults_of(page, wanted):
     """What the filter shows otherwise; that it shows all again when it is reset; and that an empty rank isn't seen."""
-    tried = 0
     for controls, are_shown in cases(wanted):
-        tried += 1
         use(page, controls)
-        shown, said = shown_lines(page)
-        numbers = numbers_shown(page)
-        if are_shown is None:
-            if not 0 < shown < len(wanted):
-                yield f"by {controls} {shown} lines are shown"
-        elif numbers != [n for n, it in enumerate(are_shown, 1) if it]:
-            yield f"by {controls} {shown} lines are shown, and not {sum(are_shown)}: {numbers[:5]}"
-        if said != f"{shown} of {len(wanted)} lines shown":
-            yield f"by {controls} {shown} lines are shown, and it says {said!r}"
-        if page.ask("[...document.querySelectorAll('.k')].some(it => it.checkVisibility() && !it.querySelector('article:not([hidden])'))"):
+        numbers, said = page.ask(SHOWN)
+        if not 0 < len(numbers) < len(wanted) if are_shown is None else numbers != [n for n, it in enumerate(are_shown, 1) if it]:
+            yield f"by {controls} {len(numbers)} lines are shown: {numbers[:5]}"
+        if said != f"{len(numbers)} of {len(wanted)} lines shown":
+            yield f"by {controls} {len(numbers)} lines are shown, and it says {said!r}"
+        if page.ask(EMPTY):
             yield f"by {controls} a rank is shown that has no line"
         reach(page, "reset")
-        page.press("Enter")
+        page.press(Keys.ENTER)
         page.settle()
-        if shown_lines(page) != [len(wanted), f"{len(wanted)} of {len(wanted)} lines shown"]:
-            yield f"after {controls} not all lines come back"
-    if tried < 15:
-        yield f"only {tried} filters were tried"
+        yield from (f"after {controls}: {it}" for it in hidden_faults(page, len(wanted)))
+
+
+def hidden_faults(page, lines):
+    """Whether a line isn't shown."""
+    shown = page.ask(SHOWN)
+    if shown != [[*range(1, lines + 1)], f"{lines} of {lines} lines shown"]:
+        yield f"{len(shown[0])} of {lines} lines are shown, and it says {shown[1]!r}"
+
+
+def plain_faults(page, lines):
+    """What of a page without scripts can't be read, or can't be used and is there."""
+    yield from hidden_faults(page, lines)
+    if page.ask("document.querySelector('#filter').checkVisibility()"):
+        yield "without scripts there is a filter that does nothing"
 
 
 def skip_faults(page):
     """Whether the first Tab reaches the link to the lines, which Enter follows."""
-    page.ask("document.activeElement.blur(); getSelection().removeAllRanges(); scrollTo(0, 0)")
-    page.press("Tab")
-    page.press("Enter")
+    page.execute_script(TO_TOP)
+    page.press(Keys.TAB + Keys.ENTER)
     page.settle()
     if page.ask(FOCUSED) != "remotes":
         yield "the first Tab and Enter do not lead to the lines"
 
 
 def seconds_of(page, controls):
-    """How long it takes to set the controls by the keyboard, until what is left is drawn."""
+    """How long it takes to type into the controls, until what is left is drawn."""
     started = time.monotonic()
     use(page, controls)
     return time.monotonic() - started
