@@ -178,15 +178,17 @@ def summary(cases):
 
 def by_url(cases):
     """The URLs and entries for which Git's credential code and the library's patterns say different things, each with its
-    class, or None, and with what Git says."""
+    class, and with what Git says; without a class also those for which the library and the rule by hand do."""
     pairs = [(it.url, place) for it in cases if not isinstance(it.asked, str)
              for place in dict.fromkeys(one.place for one in it.entries if one.place is not None)]
     said = answers([{"call": "UrlPattern::matches", "pattern": text_of(place), "text": text_of(url)} for url, place in pairs])
-    for (url, place), is_here in zip(pairs, said):
-        found = context(url)
+    for (url, place), outcome in zip(pairs, said):
+        found, is_here = context(url), outcome is True
         forms = normal(place, with_any=True), normal(url), normal(written(found))
         is_taken = entry_applies(place, found, forms[-1])
-        if is_taken != (is_here is True):
+        if is_here != applies(*forms[:2]):
+            yield url, place, None, is_taken
+        elif is_taken != is_here:
             yield url, place, next((name for name, is_in in CLASSES.items() if is_in(*forms)), None), is_taken
 
 
