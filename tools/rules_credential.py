@@ -167,8 +167,8 @@ CLASSES = {
     "partial-entry": lambda pattern, given, own: pattern is None,
     "byte-of-host": lambda pattern, given, own: given and own is None,
     "no-normal-form": lambda pattern, given, own: given is None,
-    "user-as-decoded": lambda pattern, given, own: given.user != own.user,
-    "path-as-decoded": lambda pattern, given, own: given.path != own.path,
+    "user-as-decoded": lambda pattern, given, own: own and given.user != own.user,
+    "path-as-decoded": lambda pattern, given, own: own and given.path != own.path,
 }
 
 

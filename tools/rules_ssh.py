@@ -97,7 +97,7 @@ def asked_of_library(asked):
     """What the library gives for the locations in texts, None where it gives nothing."""
     read = [(text, run) for text, run in asked if grammar.spells(text) is not None]
     said = answers([{"call": call, "url": text_of(text), **run._asdict()} for call in CALLS for text, run in read])
-    found = {it: None if isinstance(words, dict) else [bytes_of(word) for word in (variable or "", *words)]
+    found = {it: None if isinstance(words, dict) else [bytes_of(word) for word in (str(variable or ""), *words)]
              for it, words, variable in zip(read, said, said[len(read) :])}
     return map(found.get, asked)
 
