@@ -1,12 +1,7 @@
 """The filter of a page, used by the keyboard alone: the lines that are shown are those of the answers."""
-import time
-
 from page_answers import form, is_dangerous, verdict
 from selenium.webdriver import Keys
 
-MOST_TABS = 40
-# What a filter of 10,000 lines may take, from the top of the page: a dozen keys.
-MOST_SECONDS = 10
 FOCUSED = "document.activeElement?.id || document.activeElement?.type || document.activeElement?.nodeName"
 TO_TOP = "document.activeElement.blur(); getSelection().removeAllRanges(); scrollTo(0, 0)"
 # Whether a rank is seen without a line.
@@ -18,7 +13,7 @@ SHOWN = """[[...document.querySelectorAll('article')].filter(it => it.checkVisib
 
 def reach(page, name):
     """Presses Tab until the control has the focus."""
-    for _ in range(MOST_TABS):
+    for _ in range(40):
         if page.ask(FOCUSED) == name:
             return
         page.press(Keys.TAB)
@@ -97,10 +92,3 @@ def skip_faults(page):
     page.settle()
     if page.ask(FOCUSED) != "remotes":
         yield "the first Tab and Enter do not lead to the lines"
-
-
-def seconds_of(page, controls):
-    """How long it takes to type into the controls, until what is left is drawn."""
-    started = time.monotonic()
-    use(page, controls)
-    return time.monotonic() - started
