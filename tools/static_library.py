@@ -23,10 +23,11 @@ def load_kit():
 
 
 def is_current(crate):
-    """Whether the crate's library is there and younger than its sources."""
-    made = f"{crate.rlib}/format"
+    """Whether the crate's library is there, and its folder younger than the sources: `rt ci` makes the folder, and may
+    take older files that it kept."""
     files = [it for part in ("src", "specs", "proofs") for it in glob.glob(f"{crate.folder}/{part}/**", recursive=True)]
-    return os.path.isfile(made) and all(os.stat(it).st_mtime <= os.stat(made).st_mtime for it in files)
+    made = os.path.dirname(crate.rlib)
+    return os.path.isfile(f"{crate.rlib}/format") and all(os.stat(it).st_mtime <= os.stat(made).st_mtime for it in files)
 
 
 def main():
